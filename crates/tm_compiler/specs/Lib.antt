@@ -1,0 +1,4 @@
+pub mod Syntax
+pub mod Tree
+pub mod Code
+pub mod Streams

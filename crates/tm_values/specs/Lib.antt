@@ -1,0 +1,6 @@
+pub mod Chain
+pub mod Cause
+pub mod Val
+pub mod Code
+pub mod View
+pub mod Falls

@@ -1,0 +1,155 @@
+//! Errors: a kind, and the error that it came from.
+ghost use Rattle.std.specs.Prelude.{◌≡◌, [], ◌∷◌, MatchResult, MatchOption};
+ghost use Rattle.tm_values.specs.Chain.{kind_of, causes_of};
+
+use std::alloc::{AllocError, AllocFailed, Global};
+use std::fmt;
+use std::marker::Model;
+
+/// What went wrong.
+#[derive(Clone, Copy, PartialEq, Eq, Debug)]
+pub enum ErrorKind {
+    /// An operation that its operands, or the state, do not allow.
+    InvalidOperation,
+    /// A source that spells no template.
+    SyntaxError,
+    /// Delimiters that are empty or begin alike.
+    InvalidDelimiter,
+    /// A name without a template.
+    TemplateNotFound,
+    /// More arguments than a callable takes.
+    TooManyArguments,
+    /// An argument that a callable needs.
+    MissingArgument,
+    /// A name without a filter.
+    UnknownFilter,
+    /// A name without a test.
+    UnknownTest,
+    /// A name without a function.
+    UnknownFunction,
+    /// A name that is no method of the value.
+    UnknownMethod,
+    /// A name without a block.
+    UnknownBlock,
+    /// An undefined value where a defined one is needed.
+    UndefinedError,
+    /// A value that does not unpack into the targets.
+    CannotUnpack,
+    /// A value that has no JSON.
+    BadSerialization,
+    /// A fault in a block that `super()` ran.
+    EvalBlock,
+    /// A fault in a template that was included.
+    BadInclude,
+    /// A writer that failed, or took nothing.
+    WriteFailure,
+    /// The fuel of the state is spent.
+    OutOfFuel,
+    /// No memory was found.
+    OutOfMemory,
+    /// A stream of instructions that no compiler writes.
+    BadStream,
+}
+
+impl fmt::Display for ErrorKind {
+    fn fmt<W: fmt::Write>(&self, f: &mut fmt::Formatter<W>) -> fmt::Result {
+        fmt::Debug::fmt(self, f)
+    }
+}
+
+/// An error. A contract sees it as its chain of kinds: its own, and then the kind of each cause.
+#[derive(Debug, Drop)]
+pub struct Error {
+    kind: ErrorKind,
+    cause: Option<Box<Error>>,
+}
+
+impl Model for Error {
+    ghost use Rattle.std.specs.Prelude.{List, ◌∷◌, length};
+    ghost use Rattle.tm_values.specs.declared.error.ErrorKind.{ErrorKind};
+
+    ghost Value = { List ErrorKind };
+
+    ghost use Rattle.tm_values.specs.Cause.{chain_of};
+    ghost use Rattle.std.proofs.Common.{arith};
+
+    ghost view = { λ a. a.kind ∷ chain_of a.cause };
+
+    ghost size = { length };
+
+    ghost size_decreases = { λ a h. Prim.grind arith };
+}
+
+impl From<ErrorKind> for Error {
+    ghost use Rattle.std.specs.Prelude.{◌≡◌, [], ◌∷◌};
+
+    ghost from_gives = { λ kind e. e ≡ kind ∷ [] };
+
+    /// An error of this kind, without a cause.
+    fn from(kind: ErrorKind) -> Error {
+        Error { kind, cause: None }
+    }
+}
+
+impl From<AllocError> for Error {
+    ghost use Rattle.std.specs.Prelude.{◌≡◌, [], ◌∷◌};
+    ghost use Rattle.tm_values.specs.declared.error.ErrorKind.TheVariants.{OutOfMemory};
+
+    ghost from_gives = { λ _ e. e ≡ OutOfMemory ∷ [] };
+
+    fn from(_error: AllocError) -> Error {
+        Error::from(ErrorKind::OutOfMemory)
+    }
+}
+
+impl<T: Drop> From<AllocFailed<T>> for Error {
+    ghost use Rattle.std.specs.Prelude.{◌≡◌, [], ◌∷◌};
+    ghost use Rattle.tm_values.specs.declared.error.ErrorKind.TheVariants.{OutOfMemory};
+
+    ghost from_gives = { λ _ e. e ≡ OutOfMemory ∷ [] };
+
+    fn from(_error: AllocFailed<T>) -> Error {
+        Error::from(ErrorKind::OutOfMemory)
+    }
+}
+
+impl Error {
+    /// The kind of this error.
+    pub fn kind(&self) -> ErrorKind
+        ensures { result ≡ kind_of self.now }
+    {
+        self.kind
+    }
+
+    /// The error that this one came from, where there is one.
+    pub fn cause(&self) -> Option<&Error>
+        ensures { MatchOption result (causes_of self.now ≡ []) (λ e. e.now ≡ causes_of self.now) }
+    {
+        match &self.cause {
+            None => None,
+            Some(error) => Some(error),
+        }
+    }
+
+    /// This error with the cause in place of its own; OutOfMemory where there is no memory for it.
+    pub fn with_source(self, alloc: Global, cause: Error) -> Result<Error, Error>
+        ensures { MatchResult result (λ e. e ≡ kind_of self ∷ cause) (λ e. e ≡ ErrorKind.OutOfMemory ∷ []) }
+    {
+        let Error { kind, cause: _old } = self;
+        match Box::new(alloc, cause) {
+            Ok(cause) => Ok(Error {
+                kind,
+                cause: Some(cause),
+            }),
+            Err(_lost) => Err(Error::from(ErrorKind::OutOfMemory)),
+        }
+    }
+}
+
+impl fmt::Display for Error {
+    fn fmt<W: fmt::Write>(&self, f: &mut fmt::Formatter<W>) -> fmt::Result {
+        fmt::Display::fmt(&self.kind, f)
+    }
+}
+
+impl std::error::Error for Error {}
