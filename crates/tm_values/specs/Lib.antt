@@ -4,3 +4,5 @@ pub mod Val
 pub mod Code
 pub mod View
 pub mod Falls
+pub mod Map
+pub mod Print

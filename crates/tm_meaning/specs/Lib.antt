@@ -1,0 +1,6 @@
+pub mod Texts
+pub mod World
+pub mod Machine
+pub mod Instructions
+pub mod Steps
+pub mod Runs
