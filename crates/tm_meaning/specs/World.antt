@@ -1,15 +1,13 @@
 -- What a state is to the meaning and to the machine, and what both do to it.
-use Rattle.std.specs.Prelude.{ℕ, ◌+◌, ◌-◌, List, [], ◌∷◌, length, Option, Some, None, Bool, nat_eq, nat_lt, nat_le, if◌then◌else◌}
-use Rattle.std.specs.Cmp.Lexicographic.{pointwise}
+use Rattle.std.specs.Prelude.{ℕ, ◌+◌, ◌-◌, List, [], ◌∷◌, length, Option, Some, None, nat_lt, if◌then◌else◌}
 use Rattle.tm_values.specs.Val.{Val, undefined}
 use Rattle.tm_values.specs.Map.{attribute}
 use Rattle.tm_values.specs.Print.{printed}
 use Rattle.tm_values.specs.declared.error.ErrorKind.{ErrorKind}
 use Rattle.tm_values.specs.declared.error.ErrorKind.TheVariants.{InvalidOperation, OutOfFuel}
 
--- Names with their values, each name once, and the value whose attributes are names too.
+-- A scope: the value whose attributes are its names.
 pub record Scope : Type 0 where
-  pub locals : List (List ℕ × Val)
   pub context : Val
 
 -- The scopes, innermost first, and the depth at which the outermost stands.
@@ -47,26 +45,13 @@ tick w =
     then Good tt (record w { fuel = w.fuel - 1 })
     else Bad (OutOfFuel ∷ []) (record w { fuel = 0 })
 
-abbrev pub same_text : List ℕ → List ℕ → Bool
-same_text a b = pointwise nat_eq a b
-
--- the value of a name among names
-abbrev pub found : List ℕ → List (List ℕ × Val) → Option Val
-found name [] = None
-found name (local ∷ locals) = if same_text local.0 name then Some local.1 else found name locals
-
--- the names with this one's value put, in place where it is there, and else at the end
-abbrev pub put_local : List ℕ → Val → List (List ℕ × Val) → List (List ℕ × Val)
-put_local name v [] = (name, v) ∷ []
-put_local name v (local ∷ locals) = if same_text local.0 name then (local.0, v) ∷ locals else local ∷ put_local name v locals
-
 abbrev pub or_else : Option Val → Option Val → Option Val
 or_else (Some v) other = Some v
 or_else None other = other
 
--- A scope gives its own names before its context value's.
+-- A scope gives the attributes of its context value.
 abbrev pub in_scope : List ℕ → Scope → Option Val
-in_scope name scope = or_else (found name scope.locals) (attribute name scope.context)
+in_scope name scope = attribute name scope.context
 
 -- An inner scope gives before an outer one.
 abbrev pub in_frames : List ℕ → List Scope → Option Val
@@ -86,7 +71,7 @@ abbrev pub depth : Scopes → ℕ
 depth scopes = length scopes.frames + scopes.outer_depth
 
 abbrev pub plain : Val → Scope
-plain context = record { locals = []; context = context }
+plain context = record { context = context }
 
 -- One scope more, unless it would lie deeper than the limit.
 abbrev pub push_scope : ℕ → Scope → Scopes → Option Scopes
@@ -100,14 +85,6 @@ without_first (scope ∷ scopes) = scopes
 -- The innermost scope is left.
 abbrev pub pop_scope : Scopes → Scopes
 pop_scope scopes = record scopes { frames = without_first scopes.frames }
-
-abbrev pub store_in : List ℕ → Val → List Scope → List Scope
-store_in name v [] = []
-store_in name v (scope ∷ scopes) = record scope { locals = put_local name v scope.locals } ∷ scopes
-
--- A store goes to the innermost scope.
-abbrev pub store_name : List ℕ → Val → Scopes → Scopes
-store_name name v scopes = record scopes { frames = store_in name v scopes.frames }
 
 -- What a value is written as.
 abbrev pub emitted : Val → World → Res (List ℕ)

@@ -2,5 +2,5 @@
 use Rattle.std.specs.Prelude.{ℕ, List, Option, None}
 use Rattle.tm_values.specs.Val.{Val}
 
-unfoldable pub attribute : List ℕ → Val → Option Val
+abbrev pub attribute : List ℕ → Val → Option Val
 attribute name v = None

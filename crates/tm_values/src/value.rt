@@ -1,6 +1,9 @@
 //! Values: undefined, texts and maps. A contract sees plain data; what is shared never shows.
 ghost use Rattle.std.specs.Prelude.{◌≡◌, [], ◌∷◌, IfOk, MatchResult, MatchOption};
 ghost use Rattle.tm_values.specs.Val.{Val, undefined, text, text_in};
+ghost use Rattle.tm_values.specs.Map.{attribute};
+ghost use Rattle.tm_values.specs.Print.{printed};
+ghost use Rattle.std.specs.Prelude.{OnOk, IfErr, ◌++◌, string_bytes};
 
 use crate::error::{Error, ErrorKind};
 use std::alloc::Global;
@@ -87,5 +90,18 @@ impl Value {
             Node::Text(content) => Some(content.as_str()),
             _ => None,
         }
+    }
+
+    pub fn attribute(&self, name: &str) -> Option<&Value>
+        ensures { MatchOption result (attribute name.now self.now ≡ None) (λ v. attribute name.now self.now ≡ Some v.now) }
+    {
+        None
+    }
+
+    pub fn print(&self, out: &mut String) -> Result<(), Error>
+        ensures ok { OnOk result (string_bytes out.new ≡ string_bytes out.old ++ printed self.now) }
+        ensures err { IfErr result (λ e. e ≡ ErrorKind.OutOfMemory ∷ []) }
+    {
+        Err(Error::from(ErrorKind::OutOfMemory))
     }
 }

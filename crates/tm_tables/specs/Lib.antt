@@ -1,0 +1,4 @@
+pub mod Scopes
+pub mod Coded
+pub mod Templates
+pub mod Names
