@@ -1,5 +1,5 @@
 -- What a state is to the meaning and to the machine, and what both do to it.
-use Rattle.std.specs.Prelude.{ℕ, ◌+◌, ◌-◌, List, [], ◌∷◌, length, Option, Some, None, nat_lt, if◌then◌else◌}
+use Rattle.std.specs.Prelude.{ℕ, ◌+◌, ◌-◌, ◌^◌, List, [], ◌∷◌, length, Option, Some, None, nat_lt, if◌then◌else◌}
 use Rattle.tm_values.specs.Val.{Val, undefined}
 use Rattle.tm_values.specs.Map.{attribute}
 use Rattle.tm_values.specs.Print.{printed}
@@ -89,3 +89,26 @@ pop_scope scopes = record scopes { frames = without_first scopes.frames }
 -- What a value is written as.
 abbrev pub emitted : Val → World → Res (List ℕ)
 emitted v w = Good (printed v) w
+
+-- the fuel that a render starts with: what was set, else the greatest u64
+abbrev pub first_fuel : Option ℕ → ℕ
+first_fuel None = 2 ^ 64 - 1
+first_fuel (Some fuel) = fuel
+
+-- What a render starts from: one scope over the context value, and the fuel that was set.
+abbrev pub first_world : ℕ → List ℕ → Option ℕ → Val → World
+first_world id name fuel context = record {
+  id = id;
+  scopes = record { frames = plain context ∷ []; outer_depth = 0 };
+  temps = [];
+  name = name;
+  fuel_set = fuel;
+  fuel = first_fuel fuel }
+
+abbrev pub levels_of : Option ℕ → ℕ → Option (ℕ × ℕ)
+levels_of None left = None
+levels_of (Some set) left = Some (set - left, left)
+
+-- The fuel consumed and the fuel left, where fuel was set.
+abbrev pub fuel_levels : World → Option (ℕ × ℕ)
+fuel_levels w = levels_of w.fuel_set w.fuel

@@ -1,0 +1,202 @@
+//! What no clause says: that calls succeed, and what becomes of a writer that fails.
+use super::*;
+use std::alloc::Global;
+use std::io::{self, Write};
+use std::process::Abort;
+use std::rc::RcStr;
+use std::test::Fail;
+use tm_compiler::Instruction;
+use tm_values::{Error, ErrorKind};
+
+/// A writer that takes at most `step` bytes a call until `room` is spent, and then fails, or takes nothing where it has no error.
+#[derive(Drop)]
+struct Fake {
+    bytes: Vec<u8>,
+    calls: u64,
+    step: usize,
+    room: usize,
+    error: Option<io::ErrorKind>,
+}
+
+impl Fake {
+    fn new(alloc: Global, step: usize, room: usize, error: Option<io::ErrorKind>) -> Fake {
+        Fake {
+            bytes: Vec::new(alloc),
+            calls: 0,
+            step,
+            room,
+            error,
+        }
+    }
+}
+
+impl Write for Fake {
+    fn write(&mut self, bytes: &[u8]) -> io::Result<usize> {
+        self.calls = self.calls.saturating_add(1);
+        let taken = bytes.len().min(self.step).min(self.room);
+        if taken == 0 {
+            return match self.error {
+                None => Ok(0),
+                Some(kind) => Err(io::Error::from(kind)),
+            };
+        }
+        self.bytes.extend_from_slice(&bytes[..taken])?;
+        self.room -= taken;
+        Ok(taken)
+    }
+
+    fn flush(&mut self) -> io::Result<()> {
+        Ok(())
+    }
+}
+
+fn kind_of(answer: &Result<(), Error>) -> Option<ErrorKind> {
+    match answer {
+        Ok(()) => None,
+        Err(error) => Some(error.kind()),
+    }
+}
+
+#[test]
+fn fuel_of_two(rt: HostRuntime) {
+    let mut tracker = FuelTracker::new(2);
+    assert_eq!(rt; kind_of(&tracker.track(&Instruction::Emit)), None);
+    assert_eq!(rt; (tracker.consumed(), tracker.remaining()), (1, 1));
+    assert_eq!(rt;
+        kind_of(&tracker.track(&Instruction::Emit)),
+        Some(ErrorKind::OutOfFuel)
+    );
+    assert_eq!(rt; (tracker.consumed(), tracker.remaining()), (2, 0));
+    assert_eq!(rt; tracker.initial(), 2);
+}
+
+#[test]
+fn no_fuel(rt: HostRuntime) {
+    let mut tracker = FuelTracker::new(0);
+    assert_eq!(rt;
+        kind_of(&tracker.track(&Instruction::Emit)),
+        Some(ErrorKind::OutOfFuel)
+    );
+    assert_eq!(rt; (tracker.consumed(), tracker.remaining()), (0, 0));
+}
+
+#[test]
+fn text_and_a_lookup_are_charged(rt: HostRuntime) -> Result<(), Fail> {
+    let mut tracker = FuelTracker::new(9);
+    let text = RcStr::from_str(rt.alloc(), "a")?;
+    tracker.track(&Instruction::EmitRaw(text.clone()?))?;
+    tracker.track(&Instruction::Lookup(text))?;
+    assert_eq!(rt; tracker.consumed(), 2);
+    Ok(())
+}
+
+/// Writes `Hello!` to an output over the fake, and compares what comes of it.
+fn hello(
+    rt: &impl Abort,
+    alloc: Global,
+    fake: Fake,
+    expected: (Option<ErrorKind>, &[u8], u64, u64),
+) {
+    let (kind, bytes, calls, failures) = expected;
+    let mut output = Output::new(alloc, Counted::new(fake));
+    let result = output.write_str("Hello!");
+    assert_eq!(rt; kind_of(&result), kind);
+    assert_eq!(rt; output.writer().failures(), failures);
+    let fake = output.into_writer().into_inner();
+    assert_eq!(rt; fake.bytes.as_slice(), bytes);
+    assert_eq!(rt; fake.calls, calls);
+}
+
+#[test]
+fn failing_writers(rt: HostRuntime) {
+    let alloc = rt.alloc();
+    let failed = Some(ErrorKind::WriteFailure);
+    let broken = Some(io::ErrorKind::BrokenPipe);
+    let interrupted = Some(io::ErrorKind::Interrupted);
+    hello(
+        &rt,
+        alloc,
+        Fake::new(alloc, 3, 3, broken),
+        (failed, b"Hel", 2, 1),
+    );
+    hello(
+        &rt,
+        alloc,
+        Fake::new(alloc, 9, 0, None),
+        (failed, b"", 1, 1),
+    );
+    hello(
+        &rt,
+        alloc,
+        Fake::new(alloc, 9, 0, interrupted),
+        (failed, b"", 1, 1),
+    );
+    hello(
+        &rt,
+        alloc,
+        Fake::new(alloc, 1, 9, broken),
+        (None, b"Hello!", 6, 0),
+    );
+}
+
+#[test]
+fn an_empty_text_makes_no_call(rt: HostRuntime) {
+    let alloc = rt.alloc();
+    let fake = Fake::new(alloc, 9, 0, Some(io::ErrorKind::BrokenPipe));
+    let mut output = Output::new(alloc, Counted::new(fake));
+    assert_eq!(rt; kind_of(&output.write_str("")), None);
+    assert_eq!(rt; output.writer().inner().calls, 0);
+}
+
+#[test]
+fn an_output_over_a_vector(rt: HostRuntime) -> Result<(), Fail> {
+    let alloc = rt.alloc();
+    let mut output = Output::new(alloc, Counted::new(Vec::<u8>::new(alloc)));
+    output.write_str("Hello ")?;
+    output.write_str("Ada!")?;
+    assert_eq!(rt;
+        output.writer().inner().as_slice(),
+        b"Hello Ada!".as_slice()
+    );
+    Ok(())
+}
+
+#[test]
+fn a_capture_takes_the_text(rt: HostRuntime) -> Result<(), Fail> {
+    let alloc = rt.alloc();
+    let mut sink = Counted::new(Vec::<u8>::new(alloc));
+    let mut captures = Captures::new(alloc);
+    assert_eq!(rt; captures.depth(), 0);
+    captures.texts.push(b"a".to_vec(alloc)?)?;
+    captures.texts.push(b"b".to_vec(alloc)?)?;
+    captures.write_str(&mut sink, "cd")?;
+    assert_eq!(rt; captures.depth(), 2);
+    let mut texts = captures.texts.iter();
+    assert_eq!(rt; texts.next().ok_or("outer")?.as_slice(), b"a".as_slice());
+    assert_eq!(rt; texts.next().ok_or("inner")?.as_slice(), b"bcd".as_slice());
+    assert_eq!(rt; sink.inner().as_slice(), b"".as_slice());
+    Ok(())
+}
+
+#[test]
+fn a_wrapper_keeps_the_error(rt: HostRuntime) {
+    let alloc = rt.alloc();
+    let fake = Fake::new(alloc, 9, 2, Some(io::ErrorKind::BrokenPipe));
+    let mut wrapper = WriteWrapper::new(Counted::new(fake));
+    assert_eq!(rt;
+        kind_of(&wrapper.write_str("Hello!")),
+        Some(ErrorKind::WriteFailure)
+    );
+    assert_eq!(rt;
+        wrapper.err.as_ref().map(|error| error.kind()),
+        Some(io::ErrorKind::BrokenPipe)
+    );
+    let original = Error::from(ErrorKind::InvalidOperation);
+    assert_eq!(rt; wrapper.take_err(original).kind(), ErrorKind::WriteFailure);
+    assert!(rt; wrapper.err.is_none());
+    let original = Error::from(ErrorKind::InvalidOperation);
+    assert_eq!(rt;
+        wrapper.take_err(original).kind(),
+        ErrorKind::InvalidOperation
+    );
+}

@@ -1,0 +1,10 @@
+//! The machine: the state's data, one method for each instruction, and the loop.
+#![tactic(auto)]
+
+mod ids;
+mod machine;
+mod state;
+
+pub use ids::StateIds;
+pub use machine::{run, step};
+pub use state::StateData;
