@@ -4,3 +4,4 @@ pub mod Machine
 pub mod Instructions
 pub mod Steps
 pub mod Runs
+pub mod Meaning

@@ -7,14 +7,14 @@ use Rattle.tm_compiler.specs.Code.{Ins}
 use Rattle.tm_meaning.specs.World.{World, Res, Good, Bad}
 
 -- What is a run's own: its stream, the place in it, its operands, the topmost first.
-pub record Run : Type 0 where
+pub record Activation : Type 0 where
   pub stream : List Ins
   pub place : ℕ
   pub operands : List Val
 
 -- Where the machine stands: the run, the texts of the open captures, innermost first, and the world.
 pub record Config : Type 0 where
-  pub run : Run
+  pub run : Activation
   pub captures : List (List ℕ)
   pub world : World
 
@@ -34,7 +34,7 @@ pub record Final : Type 0 where
 
 -- Where to go on behind a nested run, and the kind that is put before its fault, if one is.
 pub record Back : Type 0 where
-  pub run : Run
+  pub run : Activation
   pub wrap : Option ErrorKind
 
 -- A step goes on and writes a text, or ends the run, or first needs a run of its own.
@@ -71,5 +71,5 @@ on_top [] w f = stuck w
 on_top (v ∷ operands) w f = f v operands
 
 -- the next place, with these operands
-abbrev pub onward : Run → List Val → Run
+abbrev pub onward : Activation → List Val → Activation
 onward run operands = record run { place = run.place + 1; operands = operands }

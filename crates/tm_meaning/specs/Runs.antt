@@ -2,7 +2,7 @@
 use Rattle.std.specs.Prelude.{◌≡◌, ℕ, List, [], ◌∷◌, ◌++◌}
 use Rattle.tm_compiler.specs.Code.{Ins}
 use Rattle.tm_meaning.specs.World.{World, Host}
-use Rattle.tm_meaning.specs.Machine.{Run, Config, Frame, End, Final, Back, back_to, Next, More, Over, Nest}
+use Rattle.tm_meaning.specs.Machine.{Config, Frame, End, Final, Back, back_to, Next, More, Over, Nest}
 use Rattle.tm_meaning.specs.Steps.{step}
 
 abbrev pub final : List ℕ → End → Final

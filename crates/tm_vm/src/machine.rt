@@ -7,7 +7,7 @@ ghost use Rattle.std.specs.Rc.{rc_str_bytes};
 ghost use Rattle.tm_compiler.specs.Code.{Ins, ins_of};
 ghost use Rattle.tm_meaning.specs.Texts.{put_in, put_out};
 ghost use Rattle.tm_meaning.specs.World.{World};
-ghost use Rattle.tm_meaning.specs.Machine.{Run, Config, Frame, Final};
+ghost use Rattle.tm_meaning.specs.Machine.{Config, Frame, Final};
 ghost use Rattle.tm_meaning.specs.Instructions.{emit_raw_of, lookup_of, emit_of};
 ghost use Rattle.tm_meaning.specs.Steps.{act};
 ghost use Rattle.tm_meaning.specs.Runs.{Reaches, start, final};

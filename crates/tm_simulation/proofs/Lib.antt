@@ -1,0 +1,4 @@
+pub mod Place
+pub mod Keeps
+pub mod Follow
+pub mod Simulation
