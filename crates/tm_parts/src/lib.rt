@@ -5,7 +5,7 @@ mod fuel;
 mod output;
 
 pub use fuel::FuelTracker;
-pub use output::{Captures, Counted, Output, Sink, WriteWrapper, write_text};
+pub use output::{Captures, Counted, NullWriter, Output, Sink, WriteWrapper, write_text};
 
 #[cfg(test)]
 mod tests;

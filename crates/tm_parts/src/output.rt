@@ -1,5 +1,5 @@
 //! Output: writers whose faults are counted, and captures that take a text before the writer does.
-ghost use Rattle.std.specs.Prelude.{◌≡◌, ◌≢◌, ◌⊎◌, ◌<◌, ℕ, List, [], ◌∷◌, length, Option, Some, None, Err, IsOk, IsSome, OnOk, OnErr, IfErr};
+ghost use Rattle.std.specs.Prelude.{◌≡◌, ◌≢◌, ◌⊎◌, ◌<◌, ℕ, List, [], ◌∷◌, length, Option, Some, None, Err, IsOk, IsSome, OnOk, OnErr, IfErr, MatchOption, string_bytes};
 ghost use Rattle.std.specs.Io.{WritesAtMost};
 ghost use Rattle.std.specs.Io.KnownBytes.{WriteAppends, Appends};
 ghost use Rattle.tm_values.specs.declared.error.ErrorKind.TheVariants.{WriteFailure, OutOfMemory};
@@ -61,7 +61,7 @@ impl<W: Write + Drop> Counted<W> {
     pub fn into_inner(self) -> W
         ensures { result ≡ self.writer }
     {
-        let Counted { inner, failures: _ } = self;
+        let Counted { inner, .. } = self;
         inner
     }
 
@@ -85,6 +85,20 @@ impl<W: Write + Drop> Sink for Counted<W> {
             Ok(_) => {}
         }
         answer
+    }
+}
+
+/// A writer that takes all and keeps nothing.
+#[derive(Clone, Copy, Debug)]
+pub struct NullWriter;
+
+impl Sink for NullWriter {
+    ghost told = { λ _. None };
+
+    ghost faults = { λ _. 0 };
+
+    fn write(&mut self, bytes: &[u8]) -> io::Result<usize> {
+        Ok(bytes.len())
     }
 }
 
@@ -114,15 +128,15 @@ pub fn write_text<W: Sink>(sink: &mut W, text: &[u8]) -> Result<(), io::Error>
 /// The texts of the open captures. A contract sees them innermost first.
 #[derive(Drop)]
 pub struct Captures {
-    pub(crate) texts: Vec<Vec<u8>>,
+    texts: Vec<String>,
 }
 
 impl Model for Captures {
-    ghost use Rattle.std.specs.Prelude.{ℕ, List, reverse, map, vec_items};
+    ghost use Rattle.std.specs.Prelude.{ℕ, List, reverse, map, string_bytes};
 
     ghost Value = { List (List ℕ) };
 
-    ghost view = { λ captures. reverse (map vec_items captures.texts.items) };
+    ghost view = { λ captures. reverse (map string_bytes captures.texts.items) };
 }
 
 impl Captures {
@@ -142,19 +156,38 @@ impl Captures {
         self.texts.len()
     }
 
+    /// Opens a capture without text; where there is no memory, OutOfMemory, and all stays as it was.
+    pub fn begin(&mut self, alloc: Global) -> Result<(), Error>
+        ensures ok { OnOk result (self.new ≡ [] ∷ self.old) }
+        ensures kind { IfErr result (λ e. e ≡ OutOfMemory ∷ []) }
+        ensures err { OnErr result (self.new ≡ self.old) }
+    {
+        self.texts.push(String::new(alloc))?;
+        Ok(())
+    }
+
+    /// Closes the innermost capture and gives its text, where one is open.
+    pub fn end(&mut self) -> Option<String>
+        ensures { MatchOption result ((self.old ≡ []) × (self.new ≡ [])) (λ text. self.old ≡ string_bytes text ∷ self.new) }
+    {
+        self.texts.pop()
+    }
+
     /// Puts a text into the innermost capture, and writes it where none is open; WriteFailure where the writer fails or takes nothing, OutOfMemory where a capture finds no memory.
     pub fn write_str<W: Sink>(&mut self, writer: &mut W, text: &str) -> Result<(), Error>
         ensures captured { OnOk result (self.new ≡ put_in self.old text.now) }
-        ensures written { OnOk result
-            (Appends (W.told writer.old) (W.told writer.new) (put_out self.old text.now)) }
+        ensures written { OnOk result (Appends (W.told writer.old) (W.told writer.new)
+            (put_out self.old text.now)) }
         ensures no_fault { OnOk result (W.faults writer.new ≡ W.faults writer.old) }
-        ensures beginning { AppendsBeginning (W.told writer.old) (W.told writer.new) (put_out self.old text.now) }
+        ensures beginning { AppendsBeginning (W.told writer.old) (W.told writer.new)
+            (put_out self.old text.now) }
         ensures kind { IfErr result (λ e. (e ≡ WriteFailure ∷ []) ⊎ (e ≡ OutOfMemory ∷ [])) }
         ensures unchanged { OnErr result (self.new ≡ self.old) }
         ensures failed { result ≡ Err (WriteFailure ∷ []) →
             (self.old ≡ []) × (W.faults writer.new ≡ one_more (W.faults writer.old)) }
-        ensures memory { result ≡ Err (OutOfMemory ∷ []) →
-            (self.old ≢ []) × (W.told writer.new ≡ W.told writer.old) × (W.faults writer.new ≡ W.faults writer.old) }
+        ensures memory { result ≡ Err (OutOfMemory ∷ []) → (self.old ≢ [])
+            × (W.told writer.new ≡ W.told writer.old)
+            × (W.faults writer.new ≡ W.faults writer.old) }
         ensures empty { text.now ≡ [] → IsOk result }
     {
         let Some(mut innermost) = self.texts.pop() else {
@@ -163,7 +196,7 @@ impl Captures {
                 Err(_error) => Err(Error::from(ErrorKind::WriteFailure)),
             };
         };
-        let appended = innermost.extend_from_slice(text.as_bytes());
+        let appended = innermost.push_str(text);
         // The pop left room for it.
         self.texts.push_reserved(innermost);
         match appended {
@@ -230,10 +263,7 @@ impl<W: Sink> Output<W> {
     pub fn into_writer(self) -> W
         ensures { result ≡ self.writer }
     {
-        let Output {
-            writer,
-            captures: _,
-        } = self;
+        let Output { writer, .. } = self;
         writer
     }
 }

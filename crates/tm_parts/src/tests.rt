@@ -1,4 +1,8 @@
 //! What no clause says: that calls succeed, and what becomes of a writer that fails.
+ghost use Rattle.std.specs.Prelude.{◌≡◌, [], ◌++◌, OnOk};
+ghost use Rattle.std.specs.Io.KnownBytes.{Appends};
+ghost use Rattle.tm_parts.specs.Counts.{AppendsBeginning};
+
 use super::*;
 use std::alloc::Global;
 use std::io::{self, Write};
@@ -148,12 +152,49 @@ fn an_empty_text_makes_no_call(rt: HostRuntime) {
     assert_eq!(rt; output.writer().inner().calls, 0);
 }
 
+/// The error of a text to a writer that takes nothing, or fails with this error.
+fn fault_of(alloc: Global, error: Option<io::ErrorKind>) -> Option<io::ErrorKind> {
+    let mut sink = Counted::new(Fake::new(alloc, 9, 0, error));
+    match write_text(&mut sink, b"a") {
+        Ok(()) => None,
+        Err(error) => Some(error.kind()),
+    }
+}
+
+#[test]
+fn the_error_of_a_fault(rt: HostRuntime) {
+    let interrupted = Some(io::ErrorKind::Interrupted);
+    assert_eq!(rt; fault_of(rt.alloc(), None), Some(io::ErrorKind::WriteZero));
+    assert_eq!(rt; fault_of(rt.alloc(), interrupted), interrupted);
+}
+
+#[test]
+fn an_empty_text_makes_no_call(rt: HostRuntime) {
+    let alloc = rt.alloc();
+    let fake = Fake::new(alloc, 9, 0, Some(io::ErrorKind::BrokenPipe));
+    let mut output = Output::new(alloc, Counted::new(fake));
+    assert_eq!(rt; kind_of(&output.write_str("")), None);
+    assert_eq!(rt; output.writer().inner().calls, 0);
+}
+
+/// Two texts through a bound, as a caller proves it with the lemmas of proofs/Pieces.antt.
+fn write_both<W: Sink>(output: &mut Output<W>, first: &str, second: &str) -> Result<(), Error>
+    ensures written { output.old.captures ≡ [] → OnOk result
+        (Appends (W.told output.old.writer) (W.told output.new.writer) (first.now ++ second.now)) }
+    ensures beginning { output.old.captures ≡ [] → AppendsBeginning
+        (W.told output.old.writer) (W.told output.new.writer) (first.now ++ second.now) }
+{
+    match output.write_str(first) {
+        Ok(()) => output.write_str(second),
+        Err(error) => Err(error),
+    }
+}
+
 #[test]
 fn an_output_over_a_vector(rt: HostRuntime) -> Result<(), Fail> {
     let alloc = rt.alloc();
     let mut output = Output::new(alloc, Counted::new(Vec::<u8>::new(alloc)));
-    output.write_str("Hello ")?;
-    output.write_str("Ada!")?;
+    write_both(&mut output, "Hello ", "Ada!")?;
     assert_eq!(rt;
         output.writer().inner().as_slice(),
         b"Hello Ada!".as_slice()
@@ -167,13 +208,16 @@ fn a_capture_takes_the_text(rt: HostRuntime) -> Result<(), Fail> {
     let mut sink = Counted::new(Vec::<u8>::new(alloc));
     let mut captures = Captures::new(alloc);
     assert_eq!(rt; captures.depth(), 0);
-    captures.texts.push(b"a".to_vec(alloc)?)?;
-    captures.texts.push(b"b".to_vec(alloc)?)?;
+    captures.begin(alloc)?;
+    captures.write_str(&mut sink, "a")?;
+    captures.begin(alloc)?;
+    captures.write_str(&mut sink, "b")?;
     captures.write_str(&mut sink, "cd")?;
     assert_eq!(rt; captures.depth(), 2);
-    let mut texts = captures.texts.iter();
-    assert_eq!(rt; texts.next().ok_or("outer")?.as_slice(), b"a".as_slice());
-    assert_eq!(rt; texts.next().ok_or("inner")?.as_slice(), b"bcd".as_slice());
+    assert_eq!(rt; captures.end().ok_or("inner")?.as_str(), "bcd");
+    assert_eq!(rt; captures.end().ok_or("outer")?.as_str(), "a");
+    assert!(rt; captures.end().is_none());
+    assert!(rt; captures.write_str(&mut NullWriter, "e").is_ok());
     assert_eq!(rt; sink.inner().as_slice(), b"".as_slice());
     Ok(())
 }

@@ -2,3 +2,4 @@ pub mod Place
 pub mod Keeps
 pub mod Follow
 pub mod Simulation
+pub mod Faults

@@ -2,6 +2,7 @@
 ghost use Rattle.std.specs.Prelude.{◌≡◌, ◌⊎◌, [], ◌∷◌, map, IfOk, IfErr, MatchResult};
 ghost use Rattle.std.specs.Rc.{rc_str_bytes};
 ghost use Rattle.std.specs.Str.{chars};
+ghost use Rattle.tm_compiler.specs.Syntax.{default_syntax};
 ghost use Rattle.tm_compiler.specs.Tree.{Sts};
 ghost use Rattle.tm_compiler.specs.Code.{codes, ins_of};
 ghost use Rattle.tm_compiler.specs.Spells.{Spells};
@@ -22,7 +23,9 @@ pub struct TemplateConfig {
 
 impl Default for TemplateConfig {
     /// The default delimiters.
-    fn default() -> TemplateConfig {
+    fn default() -> TemplateConfig
+        ensures { result.syntax_config ≡ default_syntax }
+    {
         TemplateConfig {
             syntax_config: SyntaxConfig::default(),
         }

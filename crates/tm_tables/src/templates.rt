@@ -45,7 +45,7 @@ impl<'source> Templates<'source> {
     }
 
     /// Puts a template at its name, in place of one that is there. Where there is no memory, OutOfMemory, and all stays as it was.
-    pub fn insert(&mut self, alloc: Global, template: CompiledTemplate<'source>) -> Result<(), Error>
+    pub fn insert(&mut self, template: CompiledTemplate<'source>) -> Result<(), Error>
         ensures ok { OnOk result (self.new ≡ put_template template.entry.name template.entry self.old) }
         ensures kind { IfErr result (λ e. e ≡ ErrorKind.OutOfMemory ∷ []) }
         ensures err { OnErr result (self.new ≡ self.old) }

@@ -1,0 +1,4 @@
+pub mod Lists
+pub mod Sizes
+pub mod Maps
+pub mod Runs

@@ -1,5 +1,5 @@
 -- The chain of a cause, where there is one.
-use Rattle.std.specs.Prelude.{List, [], ◌∷◌, Option, None, Some}
+use Rattle.std.specs.Prelude.{List, [], Option, None, Some}
 use Rattle.std.specs.declared.boxed.Box.{Box}
 use Rattle.std.specs.declared.alloc.Global.{Global}
 use Rattle.tm_values.specs.declared.error.ErrorKind.{ErrorKind}

@@ -1,8 +1,10 @@
 pub mod Chain
 pub mod Cause
 pub mod Val
+pub mod Order
+pub mod Total
+pub mod Map
+pub mod Print
 pub mod Code
 pub mod View
 pub mod Falls
-pub mod Map
-pub mod Print

@@ -1,6 +1,41 @@
--- What stands at a name.
-use Rattle.std.specs.Prelude.{ℕ, List, Option, None}
-use Rattle.tm_values.specs.Val.{Val}
+-- Maps: pairs whose keys ascend.
+use Rattle.std.specs.Prelude.{◌≡◌, ℕ, ◌<◌, ◌≤◌, List, [], ◌∷◌, length, Option, None, Some, slice_index_or}
+use Rattle.std.specs.Ordering.{match_ordering}
+use Rattle.std.specs.declared.cmp.Ordering.TheVariants.{Less, Equal, Greater}
+use Rattle.tm_values.specs.Order.{val_cmp}
+use Rattle.tm_values.specs.Val.{Val, text, entries_in}
 
+-- the pairs with the value at the key; a key that is there keeps its spelling
+abbrev pub put : Val → Val → List (Val × Val) → List (Val × Val)
+put k v [] = (k, v) ∷ []
+put k v (p ∷ ps) = match_ordering (val_cmp k p.0) ((k, v) ∷ p ∷ ps) ((p.0, v) ∷ ps) (p ∷ put k v ps)
+
+-- the value at the key
+abbrev pub find : Val → List (Val × Val) → Option Val
+find k [] = None
+find k (p ∷ ps) = match_ordering (val_cmp k p.0) None (Some p.1) (find k ps)
+
+-- the value that a map has at a text; no other value has any
 abbrev pub attribute : List ℕ → Val → Option Val
-attribute name v = None
+attribute name v = find (text name) (entries_in v)
+
+-- each key is above k
+abbrev pub IsAbove : Val → List (Val × Val) → Type 0
+IsAbove k [] = Unit {0}
+IsAbove k (p ∷ ps) = (val_cmp k p.0 ≡ Less) × IsAbove k ps
+
+-- the keys strictly ascend
+abbrev pub IsMap : List (Val × Val) → Type 0
+IsMap [] = Unit {0}
+IsMap (p ∷ ps) = IsAbove p.0 ps × IsMap ps
+
+-- the key stands at i
+pub record IsThere (k : Val) (ps : List (Val × Val)) (i : ℕ) : Type 0 where
+  pub in_range : i < length ps
+  pub same_key : (d : Val × Val) → val_cmp (slice_index_or ps i d).0 k ≡ Equal
+
+-- the key would stand at i: lower keys before it, higher ones from it on
+pub record IsGapFor (k : Val) (ps : List (Val × Val)) (i : ℕ) : Type 0 where
+  pub in_range : i ≤ length ps
+  pub lower_before : (j : ℕ) (d : Val × Val) → j < i → val_cmp (slice_index_or ps j d).0 k ≡ Less
+  pub higher_after : (j : ℕ) (d : Val × Val) → i ≤ j → j < length ps → val_cmp (slice_index_or ps j d).0 k ≡ Greater

@@ -1,9 +1,7 @@
 //! Values: undefined, texts and maps. A contract sees plain data; what is shared never shows.
 ghost use Rattle.std.specs.Prelude.{◌≡◌, [], ◌∷◌, IfOk, MatchResult, MatchOption};
-ghost use Rattle.tm_values.specs.Val.{Val, undefined, text, text_in};
-ghost use Rattle.tm_values.specs.Map.{attribute};
-ghost use Rattle.tm_values.specs.Print.{printed};
-ghost use Rattle.std.specs.Prelude.{OnOk, IfErr, ◌++◌, string_bytes};
+ghost use Rattle.tm_values.specs.Order.{rank, bytes_in, pairs_in};
+ghost use Rattle.tm_values.specs.Val.{Val, undefined, text, text_in, entries_of};
 
 use crate::error::{Error, ErrorKind};
 use std::alloc::Global;
@@ -14,12 +12,12 @@ use std::rc::{Rc, RcStr};
 #[derive(Drop)]
 #[cycle(value)]
 pub struct Value {
-    node: Node,
+    pub(crate) node: Node,
 }
 
 #[derive(Drop)]
 #[cycle(value)]
-enum Node {
+pub(crate) enum Node {
     Undefined,
     Text(RcStr),
     Map(Rc<Vec<(Value, Value)>>),
@@ -33,10 +31,12 @@ impl Model for Value {
 
     ghost coded = { coded_Val };
 
-    ghost use Rattle.tm_values.specs.View.{node_view};
+    ghost use Rattle.tm_values.specs.View.{node_view, HasOrder};
     ghost use Rattle.tm_values.specs.Val.{val_size};
 
     ghost view = { λ a. node_view a.node };
+
+    ghost invariant = { λ a. HasOrder a.node };
 
     ghost size = { val_size };
 
@@ -91,17 +91,34 @@ impl Value {
             _ => None,
         }
     }
-
-    pub fn attribute(&self, name: &str) -> Option<&Value>
-        ensures { MatchOption result (attribute name.now self.now ≡ None) (λ v. attribute name.now self.now ≡ Some v.now) }
+    // The place of the kind among the kinds.
+    pub(crate) fn rank(&self) -> u8
+        ensures { result ≡ rank self.now }
     {
-        None
+        match &self.node {
+            Node::Undefined => 0,
+            Node::Text(_) => 1,
+            Node::Map(_) => 2,
+        }
     }
 
-    pub fn print(&self, out: &mut String) -> Result<(), Error>
-        ensures ok { OnOk result (string_bytes out.new ≡ string_bytes out.old ++ printed self.now) }
-        ensures err { IfErr result (λ e. e ≡ ErrorKind.OutOfMemory ∷ []) }
+    // The text, or an empty one.
+    pub(crate) fn text_or_empty(&self) -> &str
+        ensures { result.now ≡ bytes_in self.now }
     {
-        Err(Error::from(ErrorKind::OutOfMemory))
+        match &self.node {
+            Node::Text(content) => content.as_str(),
+            _ => "",
+        }
+    }
+
+    // The pairs of a map, or none.
+    pub(crate) fn pairs(&self) -> &[(Value, Value)]
+        ensures { result.now ≡ entries_of (pairs_in self.now) }
+    {
+        match &self.node {
+            Node::Map(pairs) => pairs.as_slice(),
+            _ => &[],
+        }
     }
 }

@@ -28,7 +28,7 @@ abbrev pub is_excused : List ErrorKind → Bool
 is_excused chain = is_writers chain || ends_in_memory chain
 
 -- the writer's count of faults after an answer
-abbrev pub faults_after : Answer → ℕ → ℕ
+abbrev pub faults_after : {A : Type 0} → Result A (List ErrorKind) → ℕ → ℕ
 faults_after (Ok _) faults = faults
 faults_after (Err chain) faults = if is_writers chain then one_more faults else faults
 
@@ -43,7 +43,7 @@ end_of (Ok _) captures w = Finished captures w
 end_of (Err chain) captures w = Failed w chain
 
 -- Neither the writer nor the memory made the answer.
-abbrev pub IsOwn : Answer → Type 0
+abbrev pub IsOwn : {A : Type 0} → Result A (List ErrorKind) → Type 0
 IsOwn (Ok _) = Unit {0}
 IsOwn (Err chain) = is_excused chain ≡ false
 

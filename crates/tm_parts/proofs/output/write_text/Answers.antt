@@ -1,4 +1,4 @@
-use Rattle.std.proofs.Common.{◌≡◌, ◌≤◌, ◌<◌, arith, ℕ, ◌∙◌, length-take, length-drop}
+use Rattle.std.proofs.Common.{arith, ℕ, ◌∙◌, length-take, length-drop}
 use Rattle.tm_parts.proofs.Pieces.{appends_piece, taken_no_fault}
 use Rattle.tm_parts.proofs.output.write_text.Goals as goal
 

@@ -1,0 +1,137 @@
+//! Templates of an environment.
+ghost use Rattle.std.specs.Prelude.{◌≡◌, ◌≢◌, ◌+◌, ◌<◌, [], ◌∷◌, Err, IfOk, IfErr};
+ghost use Rattle.tm_meaning.specs.World.{first_world};
+ghost use Rattle.std.specs.Io.KnownBytes.{Appends};
+ghost use Rattle.tm_meaning.specs.Meaning.{text_of, rendered};
+ghost use Rattle.tm_meaning.specs.Texts.{put_out};
+ghost use Rattle.tm_parts.specs.Counts.{AppendsBeginning};
+ghost use Rattle.tm_vm.specs.Answers.{IsOwn, faults_after};
+ghost use Rattle.template_machine.specs.Renders.{meaning, greatest, FoundMemory, IsEnd, IsText, IsRun};
+ghost use Rattle.template_machine.specs.Environment.{host_of};
+
+use crate::environment::Environment;
+use crate::state::{Captured, State};
+use std::marker::Model;
+use tm_parts::{Captures, NullWriter, Sink};
+use tm_tables::CompiledTemplate;
+use tm_values::{Error, ErrorKind, Value};
+use tm_vm::{StateData, StateIds, run};
+
+/// A template of an environment.
+#[derive(Drop)]
+pub struct Template<'env, 'source> {
+    environment: &'env Environment<'source>,
+    compiled: &'env CompiledTemplate<'source>,
+}
+
+impl<'env, 'source> Model for Template<'env, 'source> {
+    ghost use Rattle.template_machine.specs.Environment.{TemplateValue, coded_TemplateValue};
+
+    ghost Value = { TemplateValue };
+
+    ghost coded = { coded_TemplateValue };
+
+    ghost view = { λ t. record { environment = t.environment.now; template = t.compiled.now } };
+}
+
+impl<'env, 'source> Template<'env, 'source> {
+    /// A template of an environment.
+    pub(crate) fn new(environment: &'env Environment<'source>, compiled: &'env CompiledTemplate<'source>) -> Template<'env, 'source>
+        ensures { result ≡ record { environment = environment.entry.now; template = compiled.entry.now } }
+    {
+        Template {
+            environment,
+            compiled,
+        }
+    }
+
+    /// The name under which it was added.
+    pub fn name(&self) -> &'env str
+        ensures { result.now ≡ self.now.template.name }
+    {
+        self.compiled.name()
+    }
+
+    /// The source that it was compiled from.
+    pub fn source(&self) -> &'source str
+        ensures { result.now ≡ self.now.template.source }
+    {
+        self.compiled.source()
+    }
+
+    /// Renders the template over a context value, as the next state of the counter, and gives the text. InvalidOperation, and nothing runs, where the counter is full.
+    pub fn render(&self, ids: &mut StateIds, context: Value) -> Result<String, Error>
+        ensures full { ids.old ≡ greatest → (result ≡ Err (ErrorKind.InvalidOperation ∷ [])) × (ids.new ≡ ids.old) }
+        ensures next { ids.old < greatest → ids.new ≡ ids.old + 1 }
+        ensures text { ids.old < greatest → FoundMemory result → IsText result (meaning self.now ids.old context) }
+        ensures sound { result ≢ Err (ErrorKind.BadStream ∷ []) }
+    {
+        let alloc = self.environment.allocator();
+        let mut state = match self.first_state(ids, context) {
+            Ok(state) => state,
+            Err(error) => return Err(error),
+        };
+        let mut captures = Captures::new(alloc);
+        captures.begin(alloc)?;
+        if let Err(error) = self.run_over(&mut state, &mut captures, &mut NullWriter) {
+            return Err(error);
+        }
+        match captures.end() {
+            Some(text) => Ok(text),
+            None => unreachable!(),
+        }
+    }
+
+    /// Renders the template over a context value, as the next state of the counter, into a writer. InvalidOperation, and nothing runs, where the counter is full; WriteFailure where the writer fails.
+    pub fn render_captured_to<W: Sink>(&self, ids: &mut StateIds, context: Value, writer: &mut W) -> Result<Captured<'env, 'source>, Error>
+        ensures full { ids.old ≡ greatest → (result ≡ Err (ErrorKind.InvalidOperation ∷ [])) × (ids.new ≡ ids.old)
+            × (W.told writer.new ≡ W.told writer.old) × (W.faults writer.new ≡ W.faults writer.old) }
+        ensures next { ids.old < greatest → ids.new ≡ ids.old + 1 }
+        ensures end { ids.old < greatest → W.faults writer.old < greatest → W.faults writer.new ≡ W.faults writer.old → FoundMemory result
+            → Appends (W.told writer.old) (W.told writer.new) (text_of (meaning self.now ids.old context)) × IsEnd result (meaning self.now ids.old context) }
+        ensures failed { W.faults writer.new ≢ W.faults writer.old → result ≡ Err (ErrorKind.WriteFailure ∷ []) }
+        ensures beginning { AppendsBeginning (W.told writer.old) (W.told writer.new) (text_of (meaning self.now ids.old context)) }
+        ensures sound { result ≢ Err (ErrorKind.BadStream ∷ []) }
+    {
+        let mut state = match self.first_state(ids, context) {
+            Ok(state) => state,
+            Err(error) => return Err(error),
+        };
+        let alloc = self.environment.allocator();
+        let mut captures = Captures::new(alloc);
+        match self.run_over(&mut state, &mut captures, writer) {
+            Ok(()) => Ok(Captured::new(String::new(alloc), State::new(self.environment, state))),
+            Err(error) => Err(error),
+        }
+    }
+
+    /// The state that a render starts from. InvalidOperation where the counter is full, OutOfMemory where there is no memory.
+    fn first_state(&self, ids: &mut StateIds, context: Value) -> Result<StateData<'env>, Error>
+        ensures full { ids.old ≡ greatest → (result ≡ Err (ErrorKind.InvalidOperation ∷ [])) × (ids.new ≡ ids.old) }
+        ensures next { ids.old < greatest → ids.new ≡ ids.old + 1 }
+        ensures state { IfOk result (λ s. s ≡ first_world ids.old self.now.template.name self.now.environment.fuel context) }
+        ensures kind { ids.old < greatest → IfErr result (λ e. e ≡ ErrorKind.OutOfMemory ∷ []) }
+        ensures sound { result ≢ Err (ErrorKind.BadStream ∷ []) }
+    {
+        let id = match ids.next() {
+            Ok(id) => id,
+            Err(error) => return Err(error),
+        };
+        let environment = self.environment;
+        StateData::new(environment.allocator(), id, self.compiled.name(), environment.fuel(), context)
+    }
+
+    /// Runs the template's code over captures and a writer.
+    fn run_over<W: Sink>(&self, state: &mut StateData<'env>, captures: &mut Captures, writer: &mut W) -> Result<(), Error>
+        ensures run { let m = rendered (host_of self.now.environment) self.now.template.tree state.old in
+            IsOwn result → Appends (W.told writer.old) (W.told writer.new) (put_out captures.old (text_of m))
+            × IsRun result state.new captures.old captures.new m }
+        ensures beginning { let m = rendered (host_of self.now.environment) self.now.template.tree state.old in
+            AppendsBeginning (W.told writer.old) (W.told writer.new) (put_out captures.old (text_of m)) }
+        ensures faults { W.faults writer.new ≡ faults_after result (W.faults writer.old) }
+        ensures sound { result ≢ Err (ErrorKind.BadStream ∷ []) }
+    {
+        let environment = self.environment;
+        run(environment.allocator(), environment, self.compiled.instructions(), state, captures, writer)
+    }
+}

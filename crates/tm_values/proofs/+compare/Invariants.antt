@@ -1,0 +1,15 @@
+use Rattle.std.proofs.Common.{◌≡◌, ◌≤◌, length, drop}
+use Rattle.tm_values.specs.Order.{pairs_cmp}
+use Rattle.tm_values.specs.Val.{val_size, pairs_size, pairs_of}
+use Rattle.tm_values.proofs.+compare.Given as goal
+
+abbrev pub decreases-value::Value::compare : goal.decreases-value::Value::compare
+decreases-value::Value::compare l = val_size l.self.now
+
+abbrev pub decreases-order::compare_pairs : goal.decreases-order::compare_pairs
+decreases-order::compare_pairs l = pairs_size (pairs_of l.left.now)
+
+-- the pairs from i on compare as all of them do
+abbrev pub invariant-order::compare_pairs-loop-i : goal.invariant-order::compare_pairs-loop-i
+invariant-order::compare_pairs-loop-i l =
+    record { within : l.i ≤ length l.right; rest : pairs_cmp (pairs_of (drop l.i l.left)) (pairs_of (drop l.i l.right)) ≡ pairs_cmp (pairs_of l.left) (pairs_of l.right) }

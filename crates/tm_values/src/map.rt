@@ -1,0 +1,145 @@
+//! Maps: one that is being made, and what a value has at a name.
+ghost use Rattle.std.specs.Prelude.{◌≡◌, [], ◌∷◌, ◌==◌, None, Some, length, IfErr, MatchOption, MatchResult};
+ghost use Rattle.tm_values.specs.Map.{put, find, attribute, IsMap, IsThere, IsGapFor};
+ghost use Rattle.tm_values.specs.Order.{val_cmp};
+ghost use Rattle.tm_values.specs.Val.{Val, text, map, pairs_of};
+
+use crate::error::{Error, ErrorKind};
+use crate::value::{Node, Value};
+use std::alloc::Global;
+use std::marker::Model;
+use std::rc::Rc;
+
+/// A map that is being made. A contract sees it as its pairs, whose keys ascend.
+#[derive(Drop)]
+pub struct ValueMap {
+    pairs: Vec<(Value, Value)>,
+}
+
+impl Model for ValueMap {
+    ghost use Rattle.std.specs.Prelude.{List};
+    ghost use Rattle.std.specs.Coded.{coded_list, coded×};
+    ghost use Rattle.tm_values.specs.Val.{Val};
+    ghost use Rattle.tm_values.specs.Code.{coded_Val};
+
+    ghost Value = { List (Val × Val) };
+
+    ghost coded = { coded_list (coded× coded_Val coded_Val) };
+
+    ghost use Rattle.tm_values.specs.Map.{IsMap};
+
+    ghost view = { λ a. a.pairs.items };
+
+    ghost invariant = { λ a. IsMap a.pairs.items };
+}
+
+impl ValueMap {
+    /// A map without pairs.
+    pub fn new(alloc: Global) -> ValueMap
+        ensures { result ≡ [] }
+    {
+        ValueMap {
+            pairs: Vec::new(alloc),
+        }
+    }
+
+    /// Puts the value at the key, in place of one that is there. Fails, by OutOfMemory, with the map unchanged.
+    pub fn insert(&mut self, key: Value, value: Value) -> Result<(), Error>
+        ensures outcome { MatchResult result (λ _. self.new ≡ put key value self.old) (λ e. e ≡ ErrorKind.OutOfMemory ∷ []) }
+        ensures unchanged { IfErr result (λ _. self.new ≡ self.old) }
+    {
+        put_pair(&mut self.pairs, key, value)
+    }
+
+    /// How many pairs there are.
+    pub fn len(&self) -> usize
+        ensures { result ≡ length self.now }
+    {
+        self.pairs.len()
+    }
+
+    /// Whether there are no pairs.
+    pub fn is_empty(&self) -> bool
+        ensures { result ≡ (length self.now == 0) }
+    {
+        self.pairs.is_empty()
+    }
+
+    /// The value at the key, where it is there.
+    pub fn get(&self, key: &Value) -> Option<&Value>
+        ensures { MatchOption result (find key.now self.now ≡ None) (λ v. find key.now self.now ≡ Some v.now) }
+    {
+        match place(&self.pairs, key) {
+            Ok(at) => Some(&self.pairs[at].1),
+            Err(_) => None,
+        }
+    }
+}
+
+impl Value {
+    /// The map of these pairs. Fails by OutOfMemory alone.
+    pub fn from_map(alloc: Global, entries: ValueMap) -> Result<Value, Error>
+        ensures { MatchResult result (λ v. v ≡ map (pairs_of entries)) (λ e. e ≡ ErrorKind.OutOfMemory ∷ []) }
+    {
+        let ValueMap { pairs } = entries;
+        Ok(Value {
+            node: Node::Map(Rc::new(alloc, pairs)?),
+        })
+    }
+
+    /// What a map has at the text, found without memory; nothing of other values.
+    pub fn attribute(&self, name: &str) -> Option<&Value>
+        ensures { MatchOption result (attribute name.now self.now ≡ None) (λ v. attribute name.now self.now ≡ Some v.now) }
+    {
+        match &self.node {
+            Node::Map(pairs) => match place_of_text(pairs.as_slice(), name) {
+                Ok(at) => Some(&pairs[at].1),
+                Err(_) => None,
+            },
+            _ => None,
+        }
+    }
+}
+
+// Puts the value at the key, and keeps the order.
+fn put_pair(pairs: &mut Vec<(Value, Value)>, key: Value, value: Value) -> Result<(), Error>
+    requires { IsMap pairs.old.items }
+    ensures outcome { MatchResult result (λ _. pairs.new.items ≡ put key value pairs.old.items) (λ e. e ≡ ErrorKind.OutOfMemory ∷ []) }
+    ensures unchanged { IfErr result (λ _. pairs.new.items ≡ pairs.old.items) }
+    ensures ordered { IsMap pairs.new.items }
+{
+    match place(pairs, &key) {
+        Ok(at) => {
+            pairs[at].1 = value;
+            Ok(())
+        }
+        Err(at) => {
+            pairs.insert(at, (key, value))?;
+            Ok(())
+        }
+    }
+}
+
+// Where the key stands, or where it would stand.
+fn place(pairs: &[(Value, Value)], key: &Value) -> Result<usize, usize>
+    requires { IsMap pairs.now }
+    ensures { MatchResult result (IsThere key.now pairs.now) (IsGapFor key.now pairs.now) }
+{
+    pairs.binary_search_by(
+        |pair|
+            ensures { result ≡ val_cmp pair.now.0 key.entry.now }
+        { pair.0.compare(key) },
+    )
+}
+
+// The same of a text, which needs no value of its own.
+fn place_of_text(pairs: &[(Value, Value)], name: &str) -> Result<usize, usize>
+    requires { IsMap pairs.now }
+    ensures { MatchResult result (IsThere (text name.now) pairs.now) (IsGapFor (text name.now) pairs.now) }
+{
+    pairs.binary_search_by(
+        |pair|
+            ensures { result ≡ val_cmp pair.now.0 (text name.entry.now) }
+        { pair.0.compare_text(name) },
+    )
+}
