@@ -1,5 +1,5 @@
 -- The default delimiters.
-use Rattle.std.proofs.Common.{◌≡◌, ◌≢◌, ◌<◌, ℕ, List, [], ◌∷◌, lit<, refl, ap, ◌∙◌, subst, sym}
+use Rattle.std.proofs.Common.{◌≡◌, ◌<◌, ℕ, [], ◌∷◌, lit<, refl, subst, sym}
 use Rattle.std.specs.Str.{chars}
 use Rattle.std.proofs.lemmas.Str.{chars-IsAscii}
 use Rattle.std.proofs.lemmas.Str.Ascii.{IsAscii-nil, IsAscii-cons}
@@ -16,15 +16,21 @@ spelled = record {
   variable_start = chars (123 ∷ 123 ∷ []);
   variable_end = chars (125 ∷ 125 ∷ []);
   comment_start = chars (123 ∷ 35 ∷ []);
-  comment_end = chars (35 ∷ 125 ∷ []) }
+  comment_end = chars (35 ∷ 125 ∷ []);
+}
 
 pub spelled_is : spelled ≡ default_syntax
 spelled_is = rw (chars-two 123 37 (lit< tt) (lit< tt), chars-two 37 125 (lit< tt) (lit< tt), chars-two 123 123 (lit< tt) (lit< tt), chars-two 125 125 (lit< tt) (lit< tt), chars-two 123 35 (lit< tt) (lit< tt), chars-two 35 125 (lit< tt) (lit< tt)) refl
 
 default_usable : IsUsable default_syntax
 default_usable = record {
-  block_start = λ e. cc; block_end = λ e. cc; variable_start = λ e. cc;
-  variable_end = λ e. cc; comment_start = λ e. cc; comment_end = λ e. cc }
+  block_start = λ e. cc;
+  block_end = λ e. cc;
+  variable_start = λ e. cc;
+  variable_end = λ e. cc;
+  comment_start = λ e. cc;
+  comment_end = λ e. cc;
+}
 
 pub spelled_usable : IsUsable spelled
 spelled_usable = subst IsUsable (sym spelled_is) default_usable

@@ -25,4 +25,5 @@ default_syntax = record {
   variable_start = codes "{{";
   variable_end = codes "}}";
   comment_start = codes "{#";
-  comment_end = codes "#}" }
+  comment_end = codes "#}";
+}

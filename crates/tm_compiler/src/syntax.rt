@@ -1,9 +1,18 @@
 //! Delimiters.
 ghost use Rattle.std.specs.Prelude.{◌≡◌};
 ghost use Rattle.std.specs.Str.{chars};
-ghost use Rattle.tm_compiler.specs.Syntax.{default_syntax};
+ghost use Rattle.tm_compiler.specs.Pieces as pieces;
+ghost use Rattle.tm_compiler.specs.Syntax.{IsUsable, default_syntax};
 
 use std::marker::Model;
+
+/// What a tag is, by its delimiters.
+#[derive(Clone, Copy)]
+pub(crate) enum Kind {
+    Block,
+    Variable,
+    Comment,
+}
 
 /// The delimiters of templates. A contract sees each as its characters.
 #[derive(Drop)]
@@ -39,6 +48,37 @@ impl Default for SyntaxConfig {
             variable_end: "}}",
             comment_start: "{#",
             comment_end: "#}",
+        }
+    }
+}
+
+impl SyntaxConfig {
+    /// Tells a proof that no delimiter is empty; when it runs it does nothing.
+    pub(crate) fn note_usable(&self)
+        ensures { IsUsable self.now }
+    {
+        let _ = &self.block_start;
+    }
+
+    /// The delimiter that begins a tag of the kind.
+    pub(crate) fn start(&self, kind: Kind) -> &'static str
+        ensures { chars result.now ≡ pieces.start_of self.now kind }
+    {
+        match kind {
+            Kind::Block => self.block_start,
+            Kind::Variable => self.variable_start,
+            Kind::Comment => self.comment_start,
+        }
+    }
+
+    /// The delimiter that ends a tag of the kind.
+    pub(crate) fn end(&self, kind: Kind) -> &'static str
+        ensures { chars result.now ≡ pieces.end_of self.now kind }
+    {
+        match kind {
+            Kind::Block => self.block_end,
+            Kind::Variable => self.variable_end,
+            Kind::Comment => self.comment_end,
         }
     }
 }
