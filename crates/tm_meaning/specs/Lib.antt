@@ -5,3 +5,4 @@ pub mod Instructions
 pub mod Steps
 pub mod Runs
 pub mod Meaning
+pub mod Rows

@@ -13,7 +13,7 @@ pub data Leads (host : Host) : Frame → List ℕ → Next → Final → Type 0 
   over : {f : Frame} {t : List ℕ} {n : Next} {e : End} {o : Final} → n ≡ Over e → o ≡ final t e → Leads host f t n o
   more : {f : Frame} {t d : List ℕ} {n : Next} {c : Config} {o : Final} → n ≡ More d c → Leads host f (t ++ d) (step host f c) o → Leads host f t n o
   nest : {f g : Frame} {t : List ℕ} {n : Next} {c : Config} {back : Back} {e o : Final} →
-    n ≡ Nest g c back → Leads host g t (step host g c) e → Leads host f e.text (back_to back e.end) o → Leads host f t n o
+      n ≡ Nest g c back → Leads host g t (step host g c) e → Leads host f e.text (back_to back e.end) o → Leads host f t n o
 
 -- From a configuration, once the writer has got this text, the machine comes to an end.
 abbrev pub Reaches : Host → Frame → List ℕ → Config → Final → Type 0

@@ -103,7 +103,8 @@ first_world id name fuel context = record {
   temps = [];
   name = name;
   fuel_set = fuel;
-  fuel = first_fuel fuel }
+  fuel = first_fuel fuel;
+}
 
 abbrev pub levels_of : Option ℕ → ℕ → Option (ℕ × ℕ)
 levels_of None left = None
