@@ -168,15 +168,6 @@ fn the_error_of_a_fault(rt: HostRuntime) {
     assert_eq!(rt; fault_of(rt.alloc(), interrupted), interrupted);
 }
 
-#[test]
-fn an_empty_text_makes_no_call(rt: HostRuntime) {
-    let alloc = rt.alloc();
-    let fake = Fake::new(alloc, 9, 0, Some(io::ErrorKind::BrokenPipe));
-    let mut output = Output::new(alloc, Counted::new(fake));
-    assert_eq!(rt; kind_of(&output.write_str("")), None);
-    assert_eq!(rt; output.writer().inner().calls, 0);
-}
-
 /// Two texts through a bound, as a caller proves it with the lemmas of proofs/Pieces.antt.
 fn write_both<W: Sink>(output: &mut Output<W>, first: &str, second: &str) -> Result<(), Error>
     ensures written { output.old.captures ≡ [] → OnOk result

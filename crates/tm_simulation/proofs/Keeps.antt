@@ -1,10 +1,9 @@
 -- What statements keep: of a world all but the fuel, and whether the run is heard.
-use Rattle.std.proofs.Common.{◌≡◌, ℕ, ◌+◌, ◌-◌, ◌<◌, ◌≤◌, List, [], ◌∷◌, Bool, true, false, refl, sym, ◌∙◌, ap, subst, arith}
+use Rattle.std.proofs.Common.{◌≡◌, ℕ, ◌-◌, List, [], ◌∷◌, true, false, refl, sym, ◌∙◌, ap, subst}
 use Rattle.std.specs.Prelude.{nat_lt, if◌then◌else◌}
-use Rattle.tm_values.specs.declared.error.ErrorKind.{ErrorKind}
 use Rattle.tm_values.specs.declared.error.ErrorKind.TheVariants.{OutOfFuel}
 use Rattle.tm_compiler.specs.Tree.{Ex, name, St, raw, emit, Sts, no_sts, st}
-use Rattle.tm_meaning.specs.World.{World, Host, Res, Good, Bad, bind, tick, lookup}
+use Rattle.tm_meaning.specs.World.{World, Host, Res, Good, Bad, bind, tick}
 use Rattle.tm_meaning.specs.Meaning.{Run, Outcome, Done, Fault, Nests, use_it, then_do, ev, ex, exs, heard, nests_of, rendered, world_of}
 
 -- all but the fuel is as it was

@@ -1,5 +1,5 @@
 -- The end of a run, of what its tree means.
-use Rattle.std.specs.Prelude.{ℕ, List, [], ◌∷◌, ◌++◌}
+use Rattle.std.specs.Prelude.{ℕ, List, ◌++◌}
 use Rattle.tm_meaning.specs.Texts.{put_in, put_out}
 use Rattle.tm_meaning.specs.Machine.{Final, Finished, Failed}
 use Rattle.tm_meaning.specs.Meaning.{Outcome, Done, Fault}

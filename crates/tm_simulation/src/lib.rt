@@ -14,18 +14,15 @@ ghost use Rattle.tm_simulation.specs.Reached.{final_of};
 pub fn code_reaches_meaning()
     ensures { (host : Host) (tree : Sts) (captures : List (List ℕ)) (text : List ℕ) (w : World) →
         Reaches host (record { floor = length captures }) text (start (codes 0 tree) captures w) (final_of captures text (rendered host tree w)) }
-{
-}
+{}
 
 /// A render keeps all of its world but the fuel.
 pub fn render_keeps_world()
     ensures { (host : Host) (tree : Sts) (w : World) → world_of (rendered host tree w) ≡ record w { fuel = (world_of (rendered host tree w)).fuel } }
-{
-}
+{}
 
 /// A render is done or out of fuel: no template of the language so far meets another fault.
 pub fn render_ends()
     ensures { (host : Host) (tree : Sts) (w : World) →
         (chain_of (rendered host tree w) ≡ []) ⊎ (chain_of (rendered host tree w) ≡ OutOfFuel ∷ []) }
-{
-}
+{}

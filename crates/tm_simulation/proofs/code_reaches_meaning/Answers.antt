@@ -1,4 +1,3 @@
-use Rattle.tm_meaning.specs.World.{Host}
 use Rattle.tm_meaning.specs.Meaning.{nests_of}
 use Rattle.tm_simulation.proofs.Simulation.{reaches_meaning}
 use Rattle.tm_simulation.proofs.code_reaches_meaning.Goals as goal
