@@ -20,14 +20,14 @@ use Rattle.template_machine.specs.Renders.{IsRun}
 
 -- the code of a tree comes to the end that the tree means
 reached : (h : Host) (tree : Sts) (code : List Ins) (captures : List (List ℕ)) (w : World) → code ≡ codes 0 tree →
-  Reaches h (frame captures) [] (start code captures w) (final_of captures [] (rendered h tree w))
+    Reaches h (frame captures) [] (start code captures w) (final_of captures [] (rendered h tree w))
 reached h tree code captures w e =
     subst (λ is. Reaches h (frame captures) [] (start is captures w) (final_of captures [] (rendered h tree w))) (sym e)
-      (reaches_meaning h (nests_of h h.limit) tree captures [] w)
+    (reaches_meaning h (nests_of h h.limit) tree captures [] w)
 
 -- an end that is the meant one
 same_end : (r : Answer) (captures new : List (List ℕ)) (text : List ℕ) (left : World) (m : Outcome) →
-  final text (end_of r new left) ≡ final_of captures [] m → (text ≡ put_out captures (text_of m)) × IsRun r left captures new m
+    final text (end_of r new left) ≡ final_of captures [] m → (text ≡ put_out captures (text_of m)) × IsRun r left captures new m
 same_end (Ok _) captures new text left (Done run out w) e =
     let ends : Finished new left ≡ Finished (put_in captures out) w = ap (λ (o : Final). o.end) e in
     (ap (λ (o : Final). o.text) e, (let a : left ≡ w = cc in a, let b : new ≡ put_in captures out = cc in b))
@@ -45,15 +45,15 @@ final_text captures (Done run out w) = refl
 final_text captures (Fault out w chain) = refl
 
 pub run_is : (h : Host) (tree : Sts) (code : List Ins) (r : Answer) (captures new : List (List ℕ)) (w left : World) (told now : Option (List ℕ)) → code ≡ codes 0 tree →
-  (text : List ℕ) × Appends told now text × Reaches h (frame captures) [] (start code captures w) (final text (end_of r new left)) →
-  Appends told now (put_out captures (text_of (rendered h tree w))) × IsRun r left captures new (rendered h tree w)
+    (text : List ℕ) × Appends told now text × Reaches h (frame captures) [] (start code captures w) (final text (end_of r new left)) →
+    Appends told now (put_out captures (text_of (rendered h tree w))) × IsRun r left captures new (rendered h tree w)
 run_is h tree code r captures new w left told now e (text, appended, reaches) =
     let same = same_end r captures new text left (rendered h tree w) (one_end reaches (reached h tree code captures w e)) in
     (subst (λ t. Appends told now t) same.0 appended, same.1)
 
 pub run_begins : (h : Host) (tree : Sts) (code : List Ins) (captures : List (List ℕ)) (w : World) (told now : Option (List ℕ)) → code ≡ codes 0 tree →
-  ((o : Final) → Reaches h (frame captures) [] (start code captures w) o → AppendsBeginning told now o.text) →
-  AppendsBeginning told now (put_out captures (text_of (rendered h tree w)))
+    ((o : Final) → Reaches h (frame captures) [] (start code captures w) o → AppendsBeginning told now o.text) →
+    AppendsBeginning told now (put_out captures (text_of (rendered h tree w)))
 run_begins h tree code captures w told now e k =
     subst (λ t. AppendsBeginning told now t) (final_text captures (rendered h tree w)) (k _ (reached h tree code captures w e))
 
@@ -64,9 +64,9 @@ not_stuck (Fault out w chain) left captures new (inl e) h = let bad : BadStream 
 not_stuck (Fault out w chain) left captures new (inr e) h = let bad : BadStream ∷ [] ≡ OutOfFuel ∷ [] = h ∙ e in cc
 
 pub run_sound : (h : Host) (tree : Sts) (r : Answer) (captures new : List (List ℕ)) (w left : World) →
-  (IsOwn r → IsRun r left captures new (rendered h tree w)) → r ≢ Err (BadStream ∷ [])
+    (IsOwn r → IsRun r left captures new (rendered h tree w)) → r ≢ Err (BadStream ∷ [])
 run_sound h tree (Ok _) captures new w left k e = cc
 run_sound h tree (Err chain) captures new w left k e =
     let same : chain ≡ BadStream ∷ [] = cc in
     not_stuck (rendered h tree w) left captures new (render_ends h tree w)
-      (subst (λ ch. IsOwn {A = Unit {0}} (Err ch) → IsRun (Err ch) left captures new (rendered h tree w)) same k refl)
+    (subst (λ ch. IsOwn {A = Unit {0}} (Err ch) → IsRun (Err ch) left captures new (rendered h tree w)) same k refl)

@@ -4,6 +4,8 @@
 mod environment;
 mod state;
 mod template;
+#[cfg(test)]
+mod tests;
 
 pub use environment::Environment;
 pub use state::{Captured, State};
@@ -11,5 +13,5 @@ pub use template::Template;
 pub use tm_compiler::{Expr, Instruction, Stmt, Streams, SyntaxConfig, Tree, generate, parse};
 pub use tm_parts::{Counted, FuelTracker, NullWriter, Output, Sink, WriteWrapper};
 pub use tm_tables::{CompiledTemplate, TemplateConfig};
-pub use tm_values::{Error, ErrorKind, Value};
+pub use tm_values::{Error, ErrorKind, Value, ValueMap};
 pub use tm_vm::StateIds;

@@ -26,7 +26,10 @@ impl<'env, 'source> Model for State<'env, 'source> {
 
 impl<'env, 'source> State<'env, 'source> {
     /// A state of an environment.
-    pub(crate) fn new(environment: &'env Environment<'source>, kept: StateData<'env>) -> State<'env, 'source>
+    pub(crate) fn new(
+        environment: &'env Environment<'source>,
+        kept: StateData<'env>,
+    ) -> State<'env, 'source>
         ensures { result ≡ kept.entry }
     {
         State { environment, kept }

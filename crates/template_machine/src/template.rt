@@ -36,7 +36,10 @@ impl<'env, 'source> Model for Template<'env, 'source> {
 
 impl<'env, 'source> Template<'env, 'source> {
     /// A template of an environment.
-    pub(crate) fn new(environment: &'env Environment<'source>, compiled: &'env CompiledTemplate<'source>) -> Template<'env, 'source>
+    pub(crate) fn new(
+        environment: &'env Environment<'source>,
+        compiled: &'env CompiledTemplate<'source>,
+    ) -> Template<'env, 'source>
         ensures { result ≡ record { environment = environment.entry.now; template = compiled.entry.now } }
     {
         Template {
@@ -83,7 +86,12 @@ impl<'env, 'source> Template<'env, 'source> {
     }
 
     /// Renders the template over a context value, as the next state of the counter, into a writer. InvalidOperation, and nothing runs, where the counter is full; WriteFailure where the writer fails.
-    pub fn render_captured_to<W: Sink>(&self, ids: &mut StateIds, context: Value, writer: &mut W) -> Result<Captured<'env, 'source>, Error>
+    pub fn render_captured_to<W: Sink>(
+        &self,
+        ids: &mut StateIds,
+        context: Value,
+        writer: &mut W,
+    ) -> Result<Captured<'env, 'source>, Error>
         ensures full { ids.old ≡ greatest → (result ≡ Err (ErrorKind.InvalidOperation ∷ [])) × (ids.new ≡ ids.old)
             × (W.told writer.new ≡ W.told writer.old) × (W.faults writer.new ≡ W.faults writer.old) }
         ensures next { ids.old < greatest → ids.new ≡ ids.old + 1 }
@@ -118,11 +126,22 @@ impl<'env, 'source> Template<'env, 'source> {
             Err(error) => return Err(error),
         };
         let environment = self.environment;
-        StateData::new(environment.allocator(), id, self.compiled.name(), environment.fuel(), context)
+        StateData::new(
+            environment.allocator(),
+            id,
+            self.compiled.name(),
+            environment.fuel(),
+            context,
+        )
     }
 
     /// Runs the template's code over captures and a writer.
-    fn run_over<W: Sink>(&self, state: &mut StateData<'env>, captures: &mut Captures, writer: &mut W) -> Result<(), Error>
+    fn run_over<W: Sink>(
+        &self,
+        state: &mut StateData<'env>,
+        captures: &mut Captures,
+        writer: &mut W,
+    ) -> Result<(), Error>
         ensures run { let m = rendered (host_of self.now.environment) self.now.template.tree state.old in
             IsOwn result → Appends (W.told writer.old) (W.told writer.new) (put_out captures.old (text_of m))
             × IsRun result state.new captures.old captures.new m }
@@ -132,6 +151,13 @@ impl<'env, 'source> Template<'env, 'source> {
         ensures sound { result ≢ Err (ErrorKind.BadStream ∷ []) }
     {
         let environment = self.environment;
-        run(environment.allocator(), environment, self.compiled.instructions(), state, captures, writer)
+        run(
+            environment.allocator(),
+            environment,
+            self.compiled.instructions(),
+            state,
+            captures,
+            writer,
+        )
     }
 }

@@ -11,10 +11,10 @@ one_end (over {e = a} x y) (over {e = b} z u) = let s : a ≡ b = cc in cc
 one_end (over x y) (more z u) = cc
 one_end (over x y) (nest z u v) = cc
 one_end (more x y) (over z u) = cc
-one_end {host = host} {f = f} {t = t} {q = q} (more {d = d1} {c = c1} x y) (more {d = d2} {c = c2} z u) =
-    let kd : d2 ≡ d1 = cc in
+one_end {host = host} {f = f} {t = t} {q = q} (more {d = d'} {c = c1} x y) (more {d = d''} {c = c2} z u) =
+    let kd : d'' ≡ d' = cc in
     let kc : c2 ≡ c1 = cc in
-    one_end y (subst (λ d. Leads host f (t ++ d) (step host f c1) q) kd (subst (λ c. Leads host f (t ++ d2) (step host f c) q) kc u))
+    one_end y (subst (λ d. Leads host f (t ++ d) (step host f c1) q) kd (subst (λ c. Leads host f (t ++ d'') (step host f c) q) kc u))
 one_end (more x y) (nest z u v) = cc
 one_end (nest x y w) (over z u) = cc
 one_end (nest x y w) (more z u) = cc
@@ -40,8 +40,8 @@ text_grows {t = t} (nest x y z) =
 -- a step that goes on leads where the next place leads
 pub more_only : {host : Host} {f : Frame} {t d : List ℕ} {n : Next} {c : Config} {o : Final} → n ≡ More d c → Leads host f t n o → Leads host f (t ++ d) (step host f c) o
 more_only e (over x y) = cc
-more_only {host = host} {f = f} {t = t} {d = d} {c = c} {o = o} e (more {d = d2} {c = c2} x y) =
-    let kd : d2 ≡ d = cc in
+more_only {host = host} {f = f} {t = t} {d = d} {c = c} {o = o} e (more {d = d''} {c = c2} x y) =
+    let kd : d'' ≡ d = cc in
     let kc : c2 ≡ c = cc in
-    subst (λ d. Leads host f (t ++ d) (step host f c) o) kd (subst (λ c. Leads host f (t ++ d2) (step host f c) o) kc y)
+    subst (λ d. Leads host f (t ++ d) (step host f c) o) kd (subst (λ c. Leads host f (t ++ d'') (step host f c) o) kc y)
 more_only e (nest x y z) = cc

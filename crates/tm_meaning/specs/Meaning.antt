@@ -37,20 +37,20 @@ say run text out = if run.heard then out ++ text else out
 
 -- A name is charged 1, and is then what look-up gives.
 abbrev pub ev : Host → Nests → Ex → World → Res Val
-ev host nests (name x) w = bind (tick w) (λ _ w1. Good (lookup host x w1) w1)
+ev host nests (name x) w = bind (tick w) (λ _ w'. Good (lookup host x w') w')
 
 -- Raw text is charged 1, and is then heard. An emission is its expression, a charge of 1, and then the whole text of the value, or at a fault nothing.
 abbrev pub ex : Host → Nests → St → Run → List ℕ → World → Outcome
-ex host nests (raw text) run out w = use_it (tick w) out (λ _ w1. Done run (say run text out) w1)
+ex host nests (raw text) run out w = use_it (tick w) out (λ _ w'. Done run (say run text out) w')
 ex host nests (emit e) run out w =
-    use_it (ev host nests e w) out (λ v w1.
-    use_it (tick w1) out (λ _ w2.
-    use_it (emitted v w2) out (λ text w3. Done run (say run text out) w3)))
+    use_it (ev host nests e w) out (λ v w'.
+    use_it (tick w') out (λ _ w''.
+    use_it (emitted v w'') out (λ text w'''. Done run (say run text out) w''')))
 
 -- Statements run one after the other; a fault ends them all, and takes nothing back.
 abbrev pub exs : Host → Nests → Sts → Run → List ℕ → World → Outcome
 exs host nests no_sts run out w = Done run out w
-exs host nests (st s ss) run out w = then_do (ex host nests s run out w) (λ run1 out1 w1. exs host nests ss run1 out1 w1)
+exs host nests (st s ss) run out w = then_do (ex host nests s run out w) (λ run1 out1 w'. exs host nests ss run1 out1 w')
 
 -- What nests, over as many levels. There is no callee yet.
 abbrev pub nests_of : Host → ℕ → Nests

@@ -32,17 +32,17 @@ ends_do (Done run out w) f h k = k run out w
 ends_do (Fault out w chain) f h k = h
 
 ev_fails : (host : Host) (nests : Nests) (e : Ex) (w : World) → Fails (ev host nests e w)
-ev_fails host nests (name x) w = fails_bind (tick w) _ (tick_fails w) (λ _ w1. tt)
+ev_fails host nests (name x) w = fails_bind (tick w) _ (tick_fails w) (λ _ w'. tt)
 
 ex_ends : (host : Host) (nests : Nests) (s : St) (run : Run) (out : List ℕ) (w : World) → IsFuel (chain_of (ex host nests s run out w))
-ex_ends host nests (raw t) run out w = ends_use (tick w) out _ (tick_fails w) (λ _ w1. inl refl)
+ex_ends host nests (raw t) run out w = ends_use (tick w) out _ (tick_fails w) (λ _ w'. inl refl)
 ex_ends host nests (emit e) run out w =
-    ends_use (ev host nests e w) out _ (ev_fails host nests e w) (λ v w1. ends_use (tick w1) out _ (tick_fails w1) (λ _ w2. inl refl))
+    ends_use (ev host nests e w) out _ (ev_fails host nests e w) (λ v w'. ends_use (tick w') out _ (tick_fails w') (λ _ w''. inl refl))
 
 exs_end : (host : Host) (nests : Nests) (ss : Sts) (run : Run) (out : List ℕ) (w : World) → IsFuel (chain_of (exs host nests ss run out w))
 exs_end host nests no_sts run out w = inl refl
 exs_end host nests (st s ss) run out w =
-    ends_do (ex host nests s run out w) _ (ex_ends host nests s run out w) (λ run1 out1 w1. exs_end host nests ss run1 out1 w1)
+    ends_do (ex host nests s run out w) _ (ex_ends host nests s run out w) (λ run1 out1 w'. exs_end host nests ss run1 out1 w')
 
 pub render_ends : (host : Host) (tree : Sts) (w : World) → IsFuel (chain_of (rendered host tree w))
 render_ends host tree w = exs_end host (nests_of host host.limit) tree heard [] w

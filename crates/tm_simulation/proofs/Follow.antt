@@ -73,10 +73,10 @@ module _ (host : Host) (f : Frame) (stream : List Ins) (captures : List (List �
 
   -- the same where the statements keep their run
   pub do_kept : (run : Run) (w : World) (m : Outcome) (g : Run → List ℕ → World → Outcome) (K : Run → List ℕ → World → Type 0) (L : Run → List ℕ → World → Type 0) →
-      Kept.Ends run w m → Ends (then_do m g) K → ((out : List ℕ) (w1 : World) → Ends (g run out w1) K → L run out w1) → Ends m L
-  do_kept run w (Done run1 out w1) g K L kept h k =
-      subst (λ r. L r out w1) (sym kept.0) (k out w1 (subst (λ r. Ends (g r out w1) K) kept.0 h))
-  do_kept run w (Fault out w1 chain) g K L kept h k = h
+      Kept.Ends run w m → Ends (then_do m g) K → ((out : List ℕ) (w' : World) → Ends (g run out w') K → L run out w') → Ends m L
+  do_kept run w (Done run1 out w') g K L kept h k =
+      subst (λ r. L r out w') (sym kept.0) (k out w' (subst (λ r. Ends (g r out w') K) kept.0 h))
+  do_kept run w (Fault out w' chain) g K L kept h k = h
 
   -- what follows, in other words
   pub ends_as : (m : Outcome) (K L : Run → List ℕ → World → Type 0) → Ends m K → ((run : Run) (out : List ℕ) (w : World) → K run out w → L run out w) → Ends m L

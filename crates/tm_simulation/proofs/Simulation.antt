@@ -29,39 +29,39 @@ module _ (host : Host) (nests : Nests) (f : Frame) (stream : List Ins) (captures
 
   -- the code of an expression, at any place, over any operands
   ev_runs : (e : Ex) (pc : ℕ) (operands : List Val) (out : List ℕ) (w : World) → HasAt stream pc (ex_code e) →
-      Follows host f stream captures text o (ev host nests e w) out (λ v w1. Goes (pc + ex_size e) (v ∷ operands) out w1) → Goes pc operands out w
+      Follows host f stream captures text o (ev host nests e w) out (λ v w'. Goes (pc + ex_size e) (v ∷ operands) out w') → Goes pc operands out w
   ev_runs (name x) pc operands out w has h =
       at host f stream captures text o (Lookup x) pc operands out w has.0
-      (lands_after host f stream captures text o (tick w) _ out (bind_then host f stream captures text o (tick w) _ out _ _ h (λ _ w1 k.
+      (lands_after host f stream captures text o (tick w) _ out (bind_then host f stream captures text o (tick w) _ out _ _ h (λ _ w' k.
       lands_more host f stream captures text o _ out k)))
 
   -- the code of a statement
   ex_runs : (s : St) (run : Run) (pc : ℕ) (operands : List Val) (out : List ℕ) (w : World) → run.heard ≡ true → HasAt stream pc (code pc s) →
-      Ends host f stream captures text o (ex host nests s run out w) (λ run1 out1 w1. Goes (pc + size s) operands out1 w1) → Goes pc operands out w
+      Ends host f stream captures text o (ex host nests s run out w) (λ run1 out1 w'. Goes (pc + size s) operands out1 w') → Goes pc operands out w
   ex_runs (raw t) run pc operands out w loud has h =
       at host f stream captures text o (EmitRaw t) pc operands out w has.0
-      (lands_after host f stream captures text o (tick w) _ out (use_then host f stream captures text o (tick w) out _ _ _ h (λ _ w1 k.
-      lands_put host f stream captures text o (pc + 1) operands out t w1 (subst (λ x. Goes (pc + 1) operands x w1) (say_heard run t out loud) k))))
+      (lands_after host f stream captures text o (tick w) _ out (use_then host f stream captures text o (tick w) out _ _ _ h (λ _ w' k.
+      lands_put host f stream captures text o (pc + 1) operands out t w' (subst (λ x. Goes (pc + 1) operands x w') (say_heard run t out loud) k))))
   ex_runs (emit e) run pc operands out w loud has h =
       let back = has_back stream pc (ex_code e) _ (ex_size e) (ex_length e) has in
       let place : pc + (ex_size e + 1) ≡ pc + ex_size e + 1 = omega arith in
-      ev_runs e pc operands out w (has_front stream pc (ex_code e) _ has) (use_then host f stream captures text o (ev host nests e w) out _ _ _ h (λ v w1 h1.
-      at host f stream captures text o Emit (pc + ex_size e) (v ∷ operands) out w1 back.0
-      (lands_after host f stream captures text o (tick w1) _ out (use_then host f stream captures text o (tick w1) out _ _ _ h1 (λ _ w2 h2.
-      lands_put host f stream captures text o (pc + ex_size e + 1) operands out (printed v) w2
-      (subst (λ n. Goes n operands (out ++ printed v) w2) place (subst (λ x. Goes (pc + (ex_size e + 1)) operands x w2) (say_heard run (printed v) out loud) h2)))))))
+      ev_runs e pc operands out w (has_front stream pc (ex_code e) _ has) (use_then host f stream captures text o (ev host nests e w) out _ _ _ h (λ v w' h1.
+      at host f stream captures text o Emit (pc + ex_size e) (v ∷ operands) out w' back.0
+      (lands_after host f stream captures text o (tick w') _ out (use_then host f stream captures text o (tick w') out _ _ _ h1 (λ _ w'' h2.
+      lands_put host f stream captures text o (pc + ex_size e + 1) operands out (printed v) w''
+      (subst (λ n. Goes n operands (out ++ printed v) w'') place (subst (λ x. Goes (pc + (ex_size e + 1)) operands x w'') (say_heard run (printed v) out loud) h2)))))))
 
   -- the code of statements, of a run that is heard
   exs_runs : (ss : Sts) (run : Run) (pc : ℕ) (operands : List Val) (out : List ℕ) (w : World) → run.heard ≡ true → HasAt stream pc (codes pc ss) →
-      Ends host f stream captures text o (exs host nests ss run out w) (λ run1 out1 w1. Goes (pc + sizes ss) operands out1 w1) → Goes pc operands out w
+      Ends host f stream captures text o (exs host nests ss run out w) (λ run1 out1 w'. Goes (pc + sizes ss) operands out1 w') → Goes pc operands out w
   exs_runs no_sts run pc operands out w loud has h = let e : pc + 0 ≡ pc = omega arith in subst (λ n. Goes n operands out w) e h
   exs_runs (st s ss) run pc operands out w loud has h =
       let place : pc + (size s + sizes ss) ≡ pc + size s + sizes ss = omega arith in
       let rest : HasAt stream (pc + size s) (codes (pc + size s) ss) = has_back stream pc (code pc s) _ (size s) (length-code s pc) has in
       ex_runs s run pc operands out w loud (has_front stream pc (code pc s) _ has)
-      (do_kept host f stream captures text o run w (ex host nests s run out w) _ _ _ (ex_ends host nests s run out w) h (λ out1 w1 k.
-      exs_runs ss run (pc + size s) operands out1 w1 loud rest
-      (ends_as host f stream captures text o (exs host nests ss run out1 w1) _ _ k (λ run2 out2 w2 g. subst (λ n. Goes n operands out2 w2) place g))))
+      (do_kept host f stream captures text o run w (ex host nests s run out w) _ _ _ (ex_ends host nests s run out w) h (λ out1 w' k.
+      exs_runs ss run (pc + size s) operands out1 w' loud rest
+      (ends_as host f stream captures text o (exs host nests ss run out1 w') _ _ k (λ run2 out2 w'' g. subst (λ n. Goes n operands out2 w'') place g))))
 
 -- behind the last instruction of a stream
 at_end : (host : Host) (ss : Sts) (captures : List (List ℕ)) (text : List ℕ) (m : Outcome) →

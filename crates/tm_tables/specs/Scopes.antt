@@ -1,13 +1,8 @@
 -- Words on stacks and scopes.
-use Rattle.std.specs.Prelude.{◌≡◌, ◌⊎◌, ℕ, List, [], ◌∷◌, Bool, true, false, Option, None}
+use Rattle.std.specs.Prelude.{◌≡◌, ◌⊎◌, ℕ, List, [], ◌∷◌, Option, None}
 use Rattle.tm_values.specs.declared.error.ErrorKind.{ErrorKind}
 use Rattle.tm_values.specs.declared.error.ErrorKind.TheVariants.{InvalidOperation, OutOfMemory}
 use Rattle.tm_meaning.specs.World.{Scope, Scopes}
-
--- whether a list is empty
-abbrev pub is_first : {A : Type 0} → List A → Bool
-is_first [] = true
-is_first (x ∷ xs) = false
 
 -- one scope, at the outermost depth
 abbrev pub one_scope : Scope → Scopes

@@ -60,7 +60,12 @@ impl<'source> Model for CompiledTemplate<'source> {
 
 impl<'source> CompiledTemplate<'source> {
     /// Compiles a source under a name. SyntaxError where the source spells no template, OutOfMemory where there is no memory.
-    pub fn new(alloc: Global, name: &str, source: &'source str, config: &TemplateConfig) -> Result<CompiledTemplate<'source>, Error>
+    pub fn new(
+        alloc: Global,
+        name: &str,
+        source: &'source str,
+        config: &TemplateConfig,
+    ) -> Result<CompiledTemplate<'source>, Error>
         ensures compiled { IfOk result (λ t. IsTemplate config.now.syntax_config name.now source.now t) }
         ensures refused { IfErr result (IsRefused config.now.syntax_config source.now) }
     {

@@ -109,7 +109,8 @@ impl Context {
 
     /// Leaves the innermost scope, and gives it, where there is one.
     pub fn pop_frame(&mut self) -> Option<Frame>
-        ensures { self.new ≡ pop_scope self.old }
+        ensures left { self.new ≡ pop_scope self.old }
+        ensures given { MatchOption result (self.old.frames ≡ []) (λ frame. self.old.frames ≡ frame ∷ self.new.frames) }
     {
         self.frames.pop()
     }

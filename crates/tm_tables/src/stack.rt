@@ -1,6 +1,5 @@
 //! The operand stack.
-ghost use Rattle.std.specs.Prelude.{◌≡◌, [], ◌∷◌, length, OnOk, OnErr, IfErr, MatchOption};
-ghost use Rattle.tm_tables.specs.Scopes.{is_first};
+ghost use Rattle.std.specs.Prelude.{◌≡◌, [], ◌∷◌, length, ◌↔◌, IsTrue, OnOk, OnErr, IfErr, MatchOption};
 
 use std::alloc::Global;
 use std::marker::Model;
@@ -44,7 +43,7 @@ impl Stack {
 
     /// Whether there are no operands.
     pub fn is_empty(&self) -> bool
-        ensures { result ≡ is_first self.now }
+        ensures { IsTrue result ↔ (self.now ≡ []) }
     {
         self.values.is_empty()
     }

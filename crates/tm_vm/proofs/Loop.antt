@@ -31,21 +31,22 @@ stands_first h f a told = record { text = []; appended = appends_nothing told; o
 
 -- the step at a place of the stream
 pub step_at : (h : Host) (f : Frame) (stream : List Instruction) (place : ℕ) (i : Instruction) (operands : List Val) (captures : List (List ℕ)) (w : World) →
-  place < length stream → i ≡ get_or stream place i →
-  step h f (config (map ins_of stream) place operands captures w) ≡ act h f (Some (ins_of i)) (config (map ins_of stream) place operands captures w)
+    place < length stream → i ≡ get_or stream place i →
+    step h f (config (map ins_of stream) place operands captures w) ≡ act h f (Some (ins_of i)) (config (map ins_of stream) place operands captures w)
 step_at h f stream place i operands captures w lt e =
     let there : slice_get (map ins_of stream) place ≡ Some (ins_of i) =
-          slice_get-map ins_of stream place ∙ ap (option_map ins_of) (slice_get-get_or stream place i lt ∙ ap Some (sym e)) in
+    slice_get-map ins_of stream place ∙ ap (option_map ins_of) (slice_get-get_or stream place i lt ∙ ap Some (sym e)) in
     ap (λ o. act h f o (config (map ins_of stream) place operands captures w)) there
 
 -- one instruction more
 pub stands_next : {h : Host} {f : Frame} {a c d : Config} {told now new : Option (List ℕ)} {n : Next} → Stands h f a told now c →
-  step h f c ≡ n → (n ≡ More (output n) d) × Appends now new (output n) → Stands h f a told new d
+    step h f c ≡ n → (n ≡ More (output n) d) × Appends now new (output n) → Stands h f a told new d
 stands_next {told = told} {now = now} {new = new} {n = n} s e did = record {
   text = s.text ++ output n;
   appended = appends_then told now new s.text (output n) s.appended did.1;
   onward = λ o r. s.onward o (more (e ∙ did.0) r);
-  back = λ o r. more_only (e ∙ did.0) (s.back o r) }
+  back = λ o r. more_only (e ∙ did.0) (s.back o r);
+}
 
 -- what the writer has got at an answer that stopped the loop is a beginning of what it gets at the end
 output_first : {h : Host} {f : Frame} {t : List ℕ} {n : Next} {o : Final} → Leads h f t n o → (rest : List ℕ) × (o.text ≡ t ++ (output n ++ rest))
@@ -55,12 +56,12 @@ output_first {h = h} {f = f} {t = t} {n = More d c} {o = o} l =
 output_first {h = h} {f = f} {t = t} {n = Rattle.tm_meaning.specs.Machine.Nest g c b} {o = o} l = text_grows l
 
 pub beginning_at : {h : Host} {f : Frame} {a c : Config} {told now : Option (List ℕ)} (new : Option (List ℕ)) {n : Next} → Stands h f a told now c →
-  step h f c ≡ n → AppendsBeginning now new (output n) → (o : Final) → Reaches h f [] a o → AppendsBeginning told new o.text
+    step h f c ≡ n → AppendsBeginning now new (output n) → (o : Final) → Reaches h f [] a o → AppendsBeginning told new o.text
 beginning_at {h = h} {f = f} {told = told} {now = now} new {n = n} s e begun o r =
     let l : Leads h f s.text n o = subst (λ m. Leads h f s.text m o) e (s.back o r) in
     let first = output_first l in
     subst (λ t. AppendsBeginning told new t) (sym first.1)
-      (appends_then_beginning_longer told now new s.text (output n) first.0 s.appended begun)
+    (appends_then_beginning_longer told now new s.text (output n) first.0 s.appended begun)
 
 take-nil : (n : ℕ) → take {A = ℕ} n [] ≡ []
 take-nil zero = refl
@@ -73,16 +74,16 @@ nothing_more a b c t first begun =
 
 -- the end of a run that an instruction failed
 pub ended_at : {h : Host} {f : Frame} {a c : Config} {told now : Option (List ℕ)} (new : Option (List ℕ)) {n : Next} {chain : List ErrorKind} {w : World} → Stands h f a told now c →
-  step h f c ≡ n → (is_excused chain ≡ false → n ≡ Over (Failed w chain)) → AppendsBeginning now new (output n) → is_excused chain ≡ false →
-  (text : List ℕ) × Appends told new text × Reaches h f [] a (final text (Failed w chain))
+    step h f c ≡ n → (is_excused chain ≡ false → n ≡ Over (Failed w chain)) → AppendsBeginning now new (output n) → is_excused chain ≡ false →
+    (text : List ℕ) × Appends told new text × Reaches h f [] a (final text (Failed w chain))
 ended_at {told = told} {now = now} new {n = n} s e fails begun own =
     let same : output n ≡ [] = ap output (fails own) in
     (s.text, nothing_more told now new s.text s.appended (subst (λ t. AppendsBeginning now new t) same begun), s.onward _ (over (e ∙ fails own) refl))
 
 -- behind the last instruction
 pub step_end : (h : Host) (captures0 : List (List ℕ)) (stream : List Instruction) (place : ℕ) (operands : List Val) (captures : List (List ℕ)) (w : World) →
-  length stream ≤ place → place ≤ length stream →
-  step h (frame captures0) (config (map ins_of stream) place operands captures w)
+    length stream ≤ place → place ≤ length stream →
+    step h (frame captures0) (config (map ins_of stream) place operands captures w)
     ≡ (if nat_eq (length captures) (length captures0) then Over (Finished captures w) else stuck w)
 step_end h captures0 stream place operands captures w le ge =
     let past : slice_get (map ins_of stream) place ≡ None = slice_get-map ins_of stream place ∙ ap (option_map ins_of) (slice_get_past stream place le) in
@@ -93,28 +94,28 @@ step_end h captures0 stream place operands captures w le ge =
 
 -- the run's end
 pub ended_all : {h : Host} {f : Frame} {a c : Config} {told now : Option (List ℕ)} {e : End} → Stands h f a told now c → step h f c ≡ Over e →
-  (text : List ℕ) × Appends told now text × Reaches h f [] a (final text e)
+    (text : List ℕ) × Appends told now text × Reaches h f [] a (final text e)
 ended_all s at = (s.text, s.appended, s.onward _ (over at refl))
 
 -- at its end the writer has got the whole text
 pub whole_at : {h : Host} {f : Frame} {a c : Config} {told now : Option (List ℕ)} → Stands h f a told now c →
-  (o : Final) → Reaches h f [] a o → AppendsBeginning told now o.text
+    (o : Final) → Reaches h f [] a o → AppendsBeginning told now o.text
 whole_at {told = told} {now = now} s o r =
     let grown = text_grows (s.back o r) in
     subst (λ t. AppendsBeginning told now t) (sym grown.1) (appends_beginning told now s.text grown.0 s.appended)
 
 -- the end of a run that opened no capture which it left open
 pub ended_good : (h : Host) (captures0 : List (List ℕ)) {a : Config} {told now : Option (List ℕ)} (stream : List Instruction) {place : ℕ} {operands : List Val} {captures : List (List ℕ)} {w : World} →
-  Stands h (frame captures0) a told now (config (map ins_of stream) place operands captures w) → length stream ≤ place → place ≤ length stream → length captures ≡ length captures0 →
-  (text : List ℕ) × Appends told now text × Reaches h (frame captures0) [] a (final text (Finished captures w))
+    Stands h (frame captures0) a told now (config (map ins_of stream) place operands captures w) → length stream ≤ place → place ≤ length stream → length captures ≡ length captures0 →
+    (text : List ℕ) × Appends told now text × Reaches h (frame captures0) [] a (final text (Finished captures w))
 ended_good h captures0 stream {place = place} {operands = operands} {captures = captures} {w = w} s le ge same =
     ended_all s (step_end h captures0 stream place operands captures w le ge ∙ ap (λ b. if b then Over (Finished captures w) else stuck w) (eq-eqb (length captures) (length captures0) same))
 
 -- the end of a run that left a capture open, or closed one that isn't its own
 pub ended_bad : (h : Host) (captures0 : List (List ℕ)) {a : Config} {told now : Option (List ℕ)} (stream : List Instruction) {place : ℕ} {operands : List Val} {captures : List (List ℕ)} {w : World} {chain : List ErrorKind} →
-  Stands h (frame captures0) a told now (config (map ins_of stream) place operands captures w) → length stream ≤ place → place ≤ length stream → length captures ≢ length captures0 → chain ≡ BadStream ∷ [] →
-  (text : List ℕ) × Appends told now text × Reaches h (frame captures0) [] a (final text (Failed w chain))
+    Stands h (frame captures0) a told now (config (map ins_of stream) place operands captures w) → length stream ≤ place → place ≤ length stream → length captures ≢ length captures0 → chain ≡ BadStream ∷ [] →
+    (text : List ℕ) × Appends told now text × Reaches h (frame captures0) [] a (final text (Failed w chain))
 ended_bad h captures0 stream {place = place} {operands = operands} {captures = captures} {w = w} s le ge other e =
     ended_all s (step_end h captures0 stream place operands captures w le ge
-      ∙ ap (λ b. if b then Over (Finished captures w) else stuck w) (ne_eqb (length captures) (length captures0) other)
-      ∙ ap (λ ch. Over (Failed w ch)) (sym e))
+    ∙ ap (λ b. if b then Over (Finished captures w) else stuck w) (ne_eqb (length captures) (length captures0) other)
+    ∙ ap (λ ch. Over (Failed w ch)) (sym e))

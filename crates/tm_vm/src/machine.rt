@@ -26,17 +26,22 @@ use tm_values::{Error, ErrorKind, Value};
 fn do_emit_raw<W: Sink>(text: &RcStr, captures: &mut Captures, writer: &mut W) -> Result<(), Error>
     ensures did { (stream : List Ins) (place : ℕ) (operands : List Val) (w : World) →
         Did result (W.told writer.old) (W.told writer.new) (config stream (place + 1) operands captures.new w)
-            (emit_raw_of (rc_str_bytes text.now) (config stream place operands captures.old w)) }
+        (emit_raw_of (rc_str_bytes text.now) (config stream place operands captures.old w)) }
     ensures faults { W.faults writer.new ≡ faults_after result (W.faults writer.old) }
 {
     captures.write_str(writer, text.as_str())
 }
 
 /// Pushes the value of a name, undefined where there is none.
-fn do_lookup<H: Host>(host: &H, name: &RcStr, state: &StateData<'_>, operands: &mut Stack) -> Result<(), Error>
+fn do_lookup<H: Host>(
+    host: &H,
+    name: &RcStr,
+    state: &StateData<'_>,
+    operands: &mut Stack,
+) -> Result<(), Error>
     ensures did { (stream : List Ins) (place : ℕ) (captures : List (List ℕ)) (told : Option (List ℕ)) →
         Did result told told (config stream (place + 1) operands.new captures state.now)
-            (lookup_of (H.meaning host.now) (rc_str_bytes name.now) (config stream place operands.old captures state.now)) }
+        (lookup_of (H.meaning host.now) (rc_str_bytes name.now) (config stream place operands.old captures state.now)) }
     ensures kind { IfErr result (λ e. e ≡ ErrorKind.OutOfMemory ∷ []) }
 {
     let value = match state.find(name.as_str()) {
@@ -50,10 +55,15 @@ fn do_lookup<H: Host>(host: &H, name: &RcStr, state: &StateData<'_>, operands: &
 }
 
 /// Writes what a value is printed as.
-fn write_value<W: Sink>(alloc: Global, value: &Value, captures: &mut Captures, writer: &mut W) -> Result<(), Error>
+fn write_value<W: Sink>(
+    alloc: Global,
+    value: &Value,
+    captures: &mut Captures,
+    writer: &mut W,
+) -> Result<(), Error>
     ensures did { (stream : List Ins) (place : ℕ) (operands : List Val) (w : World) →
         Did result (W.told writer.old) (W.told writer.new) (config stream (place + 1) operands captures.new w)
-            (emit_of (config stream place (value.now ∷ operands) captures.old w)) }
+        (emit_of (config stream place (value.now ∷ operands) captures.old w)) }
     ensures faults { W.faults writer.new ≡ faults_after result (W.faults writer.old) }
 {
     if let Some(text) = value.as_str() {
@@ -67,10 +77,15 @@ fn write_value<W: Sink>(alloc: Global, value: &Value, captures: &mut Captures, w
 }
 
 /// Pops a value and writes what it is printed as.
-fn do_emit<W: Sink>(alloc: Global, operands: &mut Stack, captures: &mut Captures, writer: &mut W) -> Result<(), Error>
+fn do_emit<W: Sink>(
+    alloc: Global,
+    operands: &mut Stack,
+    captures: &mut Captures,
+    writer: &mut W,
+) -> Result<(), Error>
     ensures did { (stream : List Ins) (place : ℕ) (w : World) →
         Did result (W.told writer.old) (W.told writer.new) (config stream (place + 1) operands.new captures.new w)
-            (emit_of (config stream place operands.old captures.old w)) }
+        (emit_of (config stream place operands.old captures.old w)) }
     ensures faults { W.faults writer.new ≡ faults_after result (W.faults writer.old) }
 {
     match operands.pop() {
@@ -92,7 +107,7 @@ pub fn step<H: Host, W: Sink>(
 ) -> Result<(), Error>
     ensures did { (f : Frame) (stream : List Ins) (place : ℕ) →
         Did result (W.told writer.old) (W.told writer.new) (config stream (place + 1) operands.new captures.new state.new)
-            (act (H.meaning host.now) f (Some (ins_of instruction.now)) (config stream place operands.old captures.old state.old)) }
+        (act (H.meaning host.now) f (Some (ins_of instruction.now)) (config stream place operands.old captures.old state.old)) }
     ensures faults { W.faults writer.new ≡ faults_after result (W.faults writer.old) }
 {
     if let Err(error) = state.charge(instruction) {
@@ -116,7 +131,7 @@ pub fn run<H: Host, W: Sink>(
 ) -> Result<(), Error>
     ensures ended { IsOwn result → (text : List ℕ) × Appends (W.told writer.old) (W.told writer.new) text
         × Reaches (H.meaning host.now) (frame captures.old) [] (start (map ins_of stream.now) captures.old state.old)
-            (final text (end_of result captures.new state.new)) }
+        (final text (end_of result captures.new state.new)) }
     ensures beginning { (o : Final) → Reaches (H.meaning host.now) (frame captures.old) [] (start (map ins_of stream.now) captures.old state.old) o
         → AppendsBeginning (W.told writer.old) (W.told writer.new) o.text }
     ensures faults { W.faults writer.new ≡ faults_after result (W.faults writer.old) }
@@ -125,7 +140,15 @@ pub fn run<H: Host, W: Sink>(
     let mut operands = Stack::new(alloc);
     let mut place = 0;
     while place < stream.len() {
-        if let Err(error) = step(alloc, host, &stream[place], state, &mut operands, captures, writer) {
+        if let Err(error) = step(
+            alloc,
+            host,
+            &stream[place],
+            state,
+            &mut operands,
+            captures,
+            writer,
+        ) {
             return Err(error);
         }
         place += 1;

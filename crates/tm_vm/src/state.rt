@@ -37,7 +37,13 @@ impl<'env> Model for StateData<'env> {
 
 impl<'env> StateData<'env> {
     /// The state that a render starts from: one scope over the context value, and the fuel, or the greatest u64 where none is set. Fails by OutOfMemory alone.
-    pub fn new(alloc: Global, id: u64, name: &'env str, fuel: Option<u64>, context: Value) -> Result<StateData<'env>, Error>
+    pub fn new(
+        alloc: Global,
+        id: u64,
+        name: &'env str,
+        fuel: Option<u64>,
+        context: Value,
+    ) -> Result<StateData<'env>, Error>
         ensures { MatchResult result (λ s. s ≡ first_world id name.entry.now fuel context) (λ e. e ≡ ErrorKind.OutOfMemory ∷ []) }
     {
         let context = match Context::new_with_frame(alloc, Frame::new(context)) {

@@ -15,7 +15,8 @@ loop-place-init g c =
     record {
       within = omega arith;
       faults = refl;
-      stands = subst (λ os. Stands h f a told told (config stream 0 os c.args.captures.now c.args.state.now)) (sym c.new-operands.ensures) (stands_first h f a told) }
+      stands = subst (λ os. Stands h f a told told (config stream 0 os c.args.captures.now c.args.state.now)) (sym c.new-operands.ensures) (stands_first h f a told);
+    }
 
 pub loop-place-preserved : goal.loop-place-preserved
 loop-place-preserved g c =
@@ -26,8 +27,9 @@ loop-place-preserved g c =
       within = omega arith;
       faults = c.in_default.ensures.faults ∙ p.invariant.faults;
       stands = stands_next p.invariant.stands
-        (step_at h f c.args.stream.now p.place c.index-stream-place.result p.operands p.captures p.state (omega arith) c.index-stream-place.is)
-        (c.in_default.ensures.did f (map ins_of c.args.stream.now) p.place) }
+          (step_at h f c.args.stream.now p.place c.index-stream-place.result p.operands p.captures p.state (omega arith) c.index-stream-place.is)
+          (c.in_default.ensures.did f (map ins_of c.args.stream.now) p.place);
+    }
 
 pub returns-in-Err-clause-ended : goal.returns-in-Err-clause-ended
 returns-in-Err-clause-ended g c =
@@ -36,8 +38,8 @@ returns-in-Err-clause-ended g c =
     let p = c.loop-place in
     let did = c.in-Err.ensures.did f (map ins_of c.args.stream.now) p.place in
     ended_at _ p.invariant.stands
-        (step_at h f c.args.stream.now p.place c.index-stream-place.result p.operands p.captures p.state (omega arith) c.index-stream-place.is)
-        did.0 did.1
+    (step_at h f c.args.stream.now p.place c.index-stream-place.result p.operands p.captures p.state (omega arith) c.index-stream-place.is)
+    did.0 did.1
 
 pub returns-in-Err-clause-beginning : goal.returns-in-Err-clause-beginning
 returns-in-Err-clause-beginning g c =
@@ -46,13 +48,13 @@ returns-in-Err-clause-beginning g c =
     let p = c.loop-place in
     let did = c.in-Err.ensures.did f (map ins_of c.args.stream.now) p.place in
     beginning_at _ p.invariant.stands
-        (step_at h f c.args.stream.now p.place c.index-stream-place.result p.operands p.captures p.state (omega arith) c.index-stream-place.is)
-        did.1
+    (step_at h f c.args.stream.now p.place c.index-stream-place.result p.operands p.captures p.state (omega arith) c.index-stream-place.is)
+    did.1
 
 pub returns-then-depth-floor-clause-ended : goal.returns-then-depth-floor-clause-ended
 returns-then-depth-floor-clause-ended g c = λ own.
     let other : length c.loop-place.captures ≢ length c.args.captures.now =
-          λ e. c.if-depth-floor.true (c.depth.ensures ∙ e ∙ sym c.depth-floor.ensures) in
+    λ e. c.if-depth-floor.true (c.depth.ensures ∙ e ∙ sym c.depth-floor.ensures) in
     ended_bad (g.H.Host.meaning c.args.host.now) c.args.captures.now c.args.stream.now c.loop-place.invariant.stands (omega arith) (omega arith) other c.from.ensures
 
 pub returns-then-depth-floor-clause-beginning : goal.returns-then-depth-floor-clause-beginning

@@ -10,8 +10,8 @@ invariant-loop-place g l = record {
   within : l.place ≤ length l.stream;
   faults : g.W.Sink.faults l.writer ≡ g.W.Sink.faults l.initial.writer;
   stands : Stands (g.H.Host.meaning l.host) (frame l.initial.captures) (start (map ins_of l.stream) l.initial.captures l.initial.state)
-    (g.W.Sink.told l.initial.writer) (g.W.Sink.told l.writer)
-    (config (map ins_of l.stream) l.place l.operands l.captures l.state);
+      (g.W.Sink.told l.initial.writer) (g.W.Sink.told l.writer)
+      (config (map ins_of l.stream) l.place l.operands l.captures l.state);
 }
 
 abbrev pub decreases-loop-place : goal.decreases-loop-place
