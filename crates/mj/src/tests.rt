@@ -1,0 +1,211 @@
+//! What no clause says: which words serve, what is written, and in which order faults are told.
+
+use crate::run::{Texts, run};
+use std::alloc::Global;
+use std::io::{self, Write};
+use std::process::Abort;
+use std::test::Fail;
+
+const USAGE_LINE: &str = "usage: mj [-D name=text].. [--json FILE] [--fuel N] [--limit N] FILE..\n";
+
+/// A few files, and a standard input.
+#[derive(Drop)]
+struct Shelf {
+    alloc: Global,
+}
+
+impl Texts for Shelf {
+    fn file(&mut self, path: &str) -> io::Result<Vec<u8>> {
+        let bytes: &[u8] = match path {
+            "hello.txt" => b"Hello {{ name }}!\n",
+            "tag.txt" => b"{% x %}",
+            "bytes.bin" => b"\xff\xfe",
+            "-x" => b"never read",
+            _ => return Err(io::Error::from(io::ErrorKind::NotFound)),
+        };
+        Ok(bytes.to_vec(self.alloc)?)
+    }
+
+    fn standard_input(&mut self) -> io::Result<Vec<u8>> {
+        let bytes: &[u8] = b"Hello {{ name }}!";
+        Ok(bytes.to_vec(self.alloc)?)
+    }
+}
+
+/// A writer that fails on demand, and counts its flushes.
+#[derive(Drop)]
+struct Page {
+    bytes: Vec<u8>,
+    flushes: u64,
+    room: usize,
+    flush_fails: bool,
+}
+
+impl Page {
+    fn new(alloc: Global) -> Page {
+        Page {
+            bytes: Vec::new(alloc),
+            flushes: 0,
+            room: 1000,
+            flush_fails: false,
+        }
+    }
+}
+
+impl Write for Page {
+    fn write(&mut self, bytes: &[u8]) -> io::Result<usize> {
+        let taken = bytes.len().min(self.room);
+        if taken == 0 {
+            return Err(io::Error::from(io::ErrorKind::StorageFull));
+        }
+        self.bytes.extend_from_slice(&bytes[..taken])?;
+        self.room -= taken;
+        Ok(taken)
+    }
+
+    fn flush(&mut self) -> io::Result<()> {
+        self.flushes = self.flushes.saturating_add(1);
+        if self.flush_fails {
+            return Err(io::Error::from(io::ErrorKind::StorageFull));
+        }
+        Ok(())
+    }
+}
+
+/// Runs the program over these words, onto this page, and compares its status and what it wrote.
+fn expect(
+    rt: &impl Abort,
+    mut page: Page,
+    words: &[&str],
+    wanted: (u8, &str, &str),
+) -> Result<Page, Fail> {
+    let alloc = *page.bytes.allocator();
+    let mut owned = Vec::new(alloc);
+    for word in words {
+        owned.push(String::from_str(alloc, word)?)?;
+    }
+    let mut err = Vec::<u8>::new(alloc);
+    let status = run(
+        alloc,
+        owned.as_slice(),
+        &mut Shelf { alloc },
+        &mut page,
+        &mut err,
+    );
+    let (wanted_status, wanted_out, wanted_err) = wanted;
+    assert_eq!(rt;
+        std::str::from_utf8(err.as_slice())?,
+        wanted_err,
+        "told of {words:?}"
+    );
+    assert_eq!(rt; status, wanted_status, "status of {words:?}");
+    assert_eq!(rt;
+        page.bytes.as_slice(),
+        wanted_out.as_bytes(),
+        "written of {words:?}"
+    );
+    Ok(page)
+}
+
+#[test]
+fn words_that_serve(rt: HostRuntime) -> Result<(), Fail> {
+    let alloc = rt.alloc();
+    let rows: [(&[&str], &str); 8] = [
+        (&["-D", "name=World", "-"], "Hello World!"),
+        (&["-D", "name=World", "hello.txt"], "Hello World!"),
+        (
+            &["--fuel", "5", "-D", "name=World", "hello.txt"],
+            "Hello World!",
+        ),
+        (&["-Dname=A", "-D", "name=B", "hello.txt"], "Hello B!"),
+        (&["-D", "name=a=b=c", "hello.txt"], "Hello a=b=c!"),
+        (&["-Dname=", "hello.txt"], "Hello !"),
+        (&["-Dname=x", "--fuel", "1", "--fuel", "5", "-"], "Hello x!"),
+        (
+            &["-Dname=x", "--fuel", "18446744073709551615", "-"],
+            "Hello x!",
+        ),
+    ];
+    for (words, written) in rows {
+        let page = expect(&rt, Page::new(alloc), words, (0, written, ""))?;
+        assert_eq!(rt; page.flushes, 1);
+    }
+    Ok(())
+}
+
+#[test]
+fn words_that_do_not_serve(rt: HostRuntime) -> Result<(), Fail> {
+    let alloc = rt.alloc();
+    let rows: [&[&str]; 21] = [
+        &[],
+        &["--json", "a.json", "hello.txt"],
+        &["--limit", "5", "hello.txt"],
+        &["--other", "hello.txt"],
+        &["-x"],
+        &["--", "hello.txt"],
+        &["hello.txt", "hello.txt"],
+        &["-", "-"],
+        &["hello.txt", "-D", "name=World"],
+        &["-D", "x", "hello.txt"],
+        &["-Dx", "hello.txt"],
+        &["-D"],
+        &["-D", "name=World"],
+        &["--fuel"],
+        &["--fuel", "hello.txt"],
+        &["--fuel", "", "hello.txt"],
+        &["--fuel", "-1", "hello.txt"],
+        &["--fuel", "+1", "hello.txt"],
+        &["--fuel", "18446744073709551616", "hello.txt"],
+        &["missing.txt"],
+        &["bytes.bin"],
+    ];
+    for words in rows {
+        let page = expect(&rt, Page::new(alloc), words, (2, "", USAGE_LINE))?;
+        assert_eq!(rt; page.flushes, 0);
+    }
+    Ok(())
+}
+
+#[test]
+fn faults_of_renders(rt: HostRuntime) -> Result<(), Fail> {
+    let alloc = rt.alloc();
+    let words: &[&str] = &["--fuel", "4", "-Dname=World", "hello.txt"];
+    let wanted = (1, "Hello World", "error: OutOfFuel\n");
+    let page = expect(&rt, Page::new(alloc), words, wanted)?;
+    assert_eq!(rt; page.flushes, 1);
+    expect(
+        &rt,
+        Page::new(alloc),
+        &["tag.txt"],
+        (1, "", "error: SyntaxError\n"),
+    )?;
+    Ok(())
+}
+
+#[test]
+fn faults_of_the_writer(rt: HostRuntime) -> Result<(), Fail> {
+    let alloc = rt.alloc();
+    let words: &[&str] = &["-Dname=World", "hello.txt"];
+    let failed = "error: WriteFailure\n";
+    let full = Page {
+        room: 8,
+        ..Page::new(alloc)
+    };
+    expect(&rt, full, words, (1, "Hello Wo", failed))?;
+    let unflushed = Page {
+        flush_fails: true,
+        ..Page::new(alloc)
+    };
+    expect(&rt, unflushed, words, (1, "Hello World!", failed))?;
+    let both = Page {
+        flush_fails: true,
+        ..Page::new(alloc)
+    };
+    expect(
+        &rt,
+        both,
+        &["--fuel", "1", "-"],
+        (1, "", "error: OutOfFuel\n"),
+    )?;
+    Ok(())
+}

@@ -1,0 +1,20 @@
+#!/usr/bin/env bash
+# Renders each example by ./mj, with the names that its .names file gives, and compares the output with its .expected file.
+set -euo pipefail
+cd "$(dirname "${BASH_SOURCE[0]}")"
+
+failed=0
+for input in hello.txt mail.txt server.conf page.html; do
+    base=${input%.*}
+    words=()
+    while IFS= read -r line; do
+        words+=(-D "$line")
+    done <"$base.names"
+    if ../mj "${words[@]}" "$input" | cmp - "$base.expected"; then
+        echo "$input: as expected"
+    else
+        echo "$input: failed" >&2
+        failed=1
+    fi
+done
+exit "$failed"
