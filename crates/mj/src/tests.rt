@@ -1,7 +1,9 @@
 //! What no clause says: which words serve, what is written, and in which order faults are told.
 
+use crate::Files;
 use crate::run::{Texts, run};
 use std::alloc::Global;
+use std::fs;
 use std::io::{self, Write};
 use std::process::Abort;
 use std::test::Fail;
@@ -207,5 +209,50 @@ fn faults_of_the_writer(rt: HostRuntime) -> Result<(), Fail> {
         &["--fuel", "1", "-"],
         (1, "", "error: OutOfFuel\n"),
     )?;
+    Ok(())
+}
+
+/// The words that give an example its names, and the example itself.
+fn words_of(alloc: Global, names: &str, path: &str) -> Result<Vec<String>, Fail> {
+    let mut words = Vec::new(alloc);
+    for line in names.lines() {
+        words.push(String::from_str(alloc, "-D")?)?;
+        words.push(String::from_str(alloc, line)?)?;
+    }
+    words.push(String::from_str(alloc, path)?)?;
+    Ok(words)
+}
+
+#[test]
+fn the_examples(rt: HostRuntime) -> Result<(), Fail> {
+    let alloc = rt.alloc();
+    for (name, file) in [
+        ("hello", "hello.txt"),
+        ("mail", "mail.txt"),
+        ("server", "server.conf"),
+        ("page", "page.html"),
+    ] {
+        let path = format!(in alloc; "../../examples/{file}")?;
+        let names = fs::read_to_string(
+            &rt,
+            format!(in alloc; "../../examples/{name}.names")?.as_str(),
+        )?;
+        let expected = fs::read_to_string(
+            &rt,
+            format!(in alloc; "../../examples/{name}.expected")?.as_str(),
+        )?;
+        let words = words_of(alloc, names.as_str(), path.as_str())?;
+        let mut out = Vec::<u8>::new(alloc);
+        let mut err = Vec::<u8>::new(alloc);
+        let status = run(
+            alloc,
+            words.as_slice(),
+            &mut Files { rt: &rt },
+            &mut out,
+            &mut err,
+        );
+        assert_eq!(rt; status, 0, "status of {file}");
+        assert_eq!(rt; out.as_slice(), expected.as_bytes(), "written of {file}");
+    }
     Ok(())
 }
