@@ -1,14 +1,120 @@
 //! What no clause says: which words serve, what is written, and in which order faults are told.
 
-use crate::Files;
 use crate::run::{Texts, run};
 use std::alloc::Global;
-use std::fs;
 use std::io::{self, Write};
 use std::process::Abort;
 use std::test::Fail;
 
 const USAGE_LINE: &str = "usage: mj [-D name=text].. [--json FILE] [--fuel N] [--limit N] FILE..\n";
+
+// The texts of examples/, which a test can't open: examples/check.sh compares the files.
+const MAIL: &str = "From: {{ sender }}
+To: {{ recipient }}
+Subject: Your order {{ order }}
+
+Dear {{ recipient_name }},
+
+thank you for your order {{ order }} of {{ date }}.
+It was handed to {{ carrier }} today, and its number there is {{ parcel }}.
+
+With kind regards
+{{ sender_name }}
+";
+
+const MAIL_NAMES: &str = "sender=shop@example.org
+recipient=ada@example.org
+recipient_name=Ada
+order=2024-117
+date=3 May
+carrier=Parcel & Sons
+parcel=JD0146=9
+sender_name=The shop
+";
+
+const MAIL_EXPECTED: &str = "From: shop@example.org
+To: ada@example.org
+Subject: Your order 2024-117
+
+Dear Ada,
+
+thank you for your order 2024-117 of 3 May.
+It was handed to Parcel & Sons today, and its number there is JD0146=9.
+
+With kind regards
+The shop";
+
+const SERVER: &str = "# {{ name }}: made from a template, so change that
+listen      {{ address }}:{{ port }};
+server_name {{ name }};
+root        {{ root }};
+
+location /api/ {
+    proxy_pass {{ upstream }};
+}
+
+# braces alone are text: { { } } and a lone }}
+log_format short '{\"host\": \"{{name}}\", \"at\": \"$time\"}';
+access_log  {{root}}/{{name}}.log short;
+";
+
+const SERVER_NAMES: &str = "name=docs.example.org
+address=127.0.0.1
+port=8080
+root=/srv/docs
+upstream=http://10.0.0.5:9000/?a=1
+";
+
+const SERVER_EXPECTED: &str = "# docs.example.org: made from a template, so change that
+listen      127.0.0.1:8080;
+server_name docs.example.org;
+root        /srv/docs;
+
+location /api/ {
+    proxy_pass http://10.0.0.5:9000/?a=1;
+}
+
+# braces alone are text: { { } } and a lone }}
+log_format short '{\"host\": \"docs.example.org\", \"at\": \"$time\"}';
+access_log  /srv/docs/docs.example.org.log short;";
+
+const PAGE: &str = "<!DOCTYPE html>
+<html lang=\"{{ language }}\">
+  <head>
+    <meta charset=\"utf-8\">
+    <title>{{ title }}</title>
+    <style>body { margin: 2em }</style>
+  </head>
+  <body>
+    <h1>{{ title }}</h1>
+    <p>{{ greeting }}</p>
+    <p class=\"{{ missing }}\">{{ missing }}</p>
+    <footer>© {{ year }} {{ owner }}</footer>
+  </body>
+</html>
+";
+
+const PAGE_NAMES: &str = "language=de
+title=Grüße aus Zürich
+greeting=Schön, dass Sie da sind.
+year=2024
+owner=Müller & Töchter
+";
+
+const PAGE_EXPECTED: &str = "<!DOCTYPE html>
+<html lang=\"de\">
+  <head>
+    <meta charset=\"utf-8\">
+    <title>Grüße aus Zürich</title>
+    <style>body { margin: 2em }</style>
+  </head>
+  <body>
+    <h1>Grüße aus Zürich</h1>
+    <p>Schön, dass Sie da sind.</p>
+    <p class=\"\"></p>
+    <footer>© 2024 Müller & Töchter</footer>
+  </body>
+</html>";
 
 /// A few files, and a standard input.
 #[derive(Drop)]
@@ -23,6 +129,9 @@ impl Texts for Shelf {
             "tag.txt" => b"{% x %}",
             "bytes.bin" => b"\xff\xfe",
             "-x" => b"never read",
+            "mail.txt" => MAIL.as_bytes(),
+            "server.conf" => SERVER.as_bytes(),
+            "page.html" => PAGE.as_bytes(),
             _ => return Err(io::Error::from(io::ErrorKind::NotFound)),
         };
         Ok(bytes.to_vec(self.alloc)?)
@@ -226,28 +335,18 @@ fn words_of(alloc: Global, names: &str, path: &str) -> Result<Vec<String>, Fail>
 #[test]
 fn the_examples(rt: HostRuntime) -> Result<(), Fail> {
     let alloc = rt.alloc();
-    for (name, file) in [
-        ("hello", "hello.txt"),
-        ("mail", "mail.txt"),
-        ("server", "server.conf"),
-        ("page", "page.html"),
+    for (file, names, expected) in [
+        ("mail.txt", MAIL_NAMES, MAIL_EXPECTED),
+        ("server.conf", SERVER_NAMES, SERVER_EXPECTED),
+        ("page.html", PAGE_NAMES, PAGE_EXPECTED),
     ] {
-        let path = format!(in alloc; "../../examples/{file}")?;
-        let names = fs::read_to_string(
-            &rt,
-            format!(in alloc; "../../examples/{name}.names")?.as_str(),
-        )?;
-        let expected = fs::read_to_string(
-            &rt,
-            format!(in alloc; "../../examples/{name}.expected")?.as_str(),
-        )?;
-        let words = words_of(alloc, names.as_str(), path.as_str())?;
+        let words = words_of(alloc, names, file)?;
         let mut out = Vec::<u8>::new(alloc);
         let mut err = Vec::<u8>::new(alloc);
         let status = run(
             alloc,
             words.as_slice(),
-            &mut Files { rt: &rt },
+            &mut Shelf { alloc },
             &mut out,
             &mut err,
         );
