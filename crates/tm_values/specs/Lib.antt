@@ -1,5 +1,6 @@
 pub mod Chain
 pub mod Cause
+pub mod Name
 pub mod Val
 pub mod Order
 pub mod Total

@@ -1,6 +1,7 @@
 //! Errors: a kind, and the error that it came from.
-ghost use Rattle.std.specs.Prelude.{◌≡◌, [], ◌∷◌, MatchResult, MatchOption};
+ghost use Rattle.std.specs.Prelude.{◌≡◌, ◌<◌, [], ◌∷◌, length, Some, MatchResult, MatchOption};
 ghost use Rattle.tm_values.specs.Chain.{kind_of, causes_of};
+ghost use Rattle.tm_values.specs.Name.{kind_name};
 
 use std::alloc::{AllocError, AllocFailed, Global};
 use std::fmt;
@@ -51,9 +52,42 @@ pub enum ErrorKind {
     BadStream,
 }
 
+impl ErrorKind {
+    // The name of the variant.
+    fn name(self) -> &'static str
+        ensures { result.now ≡ kind_name self }
+    {
+        match self {
+            ErrorKind::InvalidOperation => "InvalidOperation",
+            ErrorKind::SyntaxError => "SyntaxError",
+            ErrorKind::InvalidDelimiter => "InvalidDelimiter",
+            ErrorKind::TemplateNotFound => "TemplateNotFound",
+            ErrorKind::TooManyArguments => "TooManyArguments",
+            ErrorKind::MissingArgument => "MissingArgument",
+            ErrorKind::UnknownFilter => "UnknownFilter",
+            ErrorKind::UnknownTest => "UnknownTest",
+            ErrorKind::UnknownFunction => "UnknownFunction",
+            ErrorKind::UnknownMethod => "UnknownMethod",
+            ErrorKind::UnknownBlock => "UnknownBlock",
+            ErrorKind::UndefinedError => "UndefinedError",
+            ErrorKind::CannotUnpack => "CannotUnpack",
+            ErrorKind::BadSerialization => "BadSerialization",
+            ErrorKind::EvalBlock => "EvalBlock",
+            ErrorKind::BadInclude => "BadInclude",
+            ErrorKind::WriteFailure => "WriteFailure",
+            ErrorKind::OutOfFuel => "OutOfFuel",
+            ErrorKind::OutOfMemory => "OutOfMemory",
+            ErrorKind::BadStream => "BadStream",
+        }
+    }
+}
+
 impl fmt::Display for ErrorKind {
+    ghost output = { λ kind. Some (kind_name kind) };
+
+    /// The kind's name, as `OutOfFuel`.
     fn fmt<W: fmt::Write>(&self, f: &mut fmt::Formatter<W>) -> fmt::Result {
-        fmt::Debug::fmt(self, f)
+        f.write_str(self.name())
     }
 }
 
@@ -121,9 +155,10 @@ impl Error {
         self.kind
     }
 
-    /// The error that this one came from, where there is one.
+    /// The error that this one came from, where there is one. Its chain is shorter, so a loop over causes ends.
     pub fn cause(&self) -> Option<&Error>
-        ensures { MatchOption result (causes_of self.now ≡ []) (λ e. e.now ≡ causes_of self.now) }
+        ensures { MatchOption result (causes_of self.now ≡ [])
+            (λ e. (e.now ≡ causes_of self.now) × (length e.now < length self.now)) }
     {
         match &self.cause {
             None => None,
@@ -147,6 +182,9 @@ impl Error {
 }
 
 impl fmt::Display for Error {
+    ghost output = { λ e. Some (kind_name (kind_of e)) };
+
+    /// The name of the error's own kind. Its causes are not told.
     fn fmt<W: fmt::Write>(&self, f: &mut fmt::Formatter<W>) -> fmt::Result {
         fmt::Display::fmt(&self.kind, f)
     }

@@ -5,7 +5,6 @@ mod error;
 mod map;
 mod order;
 mod print;
-mod show;
 #[cfg(test)]
 mod tests;
 mod value;

@@ -145,3 +145,26 @@ fn errors_have_a_kind_and_a_cause(rt: HostRuntime) -> Result<(), Fail> {
     assert_eq!(rt; format!(in rt.alloc(); "{error}")?.as_str(), "BadInclude");
     Ok(())
 }
+
+#[test]
+fn kinds_errors_and_maps_make_texts(rt: HostRuntime) -> Result<(), Fail> {
+    let kind = ErrorKind::OutOfFuel;
+    assert_eq!(rt; kind.to_string(rt.alloc())?.as_str(), "OutOfFuel");
+    assert_eq!(rt; format!(in rt.alloc(); "{kind:?}")?.as_str(), "OutOfFuel");
+    let error = Error::from(ErrorKind::EvalBlock).with_source(rt.alloc(), Error::from(kind))?;
+    assert_eq!(rt; error.to_string(rt.alloc())?.as_str(), "EvalBlock");
+    assert_eq!(rt;
+        format!(in rt.alloc(); "error: {error}")?.as_str(),
+        "error: EvalBlock"
+    );
+    let map = map_of(rt.alloc(), &[("key", "a\"b")])?;
+    assert_eq!(rt;
+        map.to_string(rt.alloc())?.as_str(),
+        "{\"key\": \"a\\\"b\"}"
+    );
+    assert_eq!(rt;
+        format!(in rt.alloc(); "<{map}>")?.as_str(),
+        "<{\"key\": \"a\\\"b\"}>"
+    );
+    Ok(())
+}
