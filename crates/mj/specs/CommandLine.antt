@@ -1,9 +1,10 @@
 -- What the words of a command line ask for.
-use Rattle.std.specs.Prelude.{ℕ, ◌^◌, List, codes, [], ◌∷◌, ◌++◌, length, drop, slice_index, Option, None, Some, Bool, ◌&&◌, ◌==◌, nat_lt, if◌then◌else◌}
+use Rattle.std.specs.Prelude.{ℕ, ◌^◌, List, codes, [], ◌∷◌, ◌++◌, length, map, drop, slice_index, Option, None, Some, Bool, ◌&&◌, ◌==◌, nat_lt, if◌then◌else◌}
 use Rattle.std.specs.Borrow.{Bor}
 use Rattle.std.specs.List.{before_first, after_first, position_or_len}
 use Rattle.std.specs.Str.{all_ascii_digits, bytes_eq}
 use Rattle.std.specs.Str.Parse.{digits_value}
+use Rattle.mj.specs.declared.arguments.Arguments.{Arguments}
 
 abbrev pub Text : Type 0
 Text = List ℕ
@@ -68,3 +69,7 @@ abbrev mutual
 -- the texts as plain data
 abbrev pub plain : Bor Text × Bor Text → Text × Text
 plain p = (p.0.now, p.1.now)
+
+-- what arguments ask for
+abbrev pub asked_of : Arguments → Asked
+asked_of a = record { texts = map plain a.texts.items; fuel = a.fuel; file = a.file.now }

@@ -1,8 +1,10 @@
 //! The words of a command line.
-ghost use Rattle.std.specs.Prelude.{◌≡◌, ◌<◌, ◌⊎◌, [], ◌∷◌, None, Some, false, true, drop, length, map, string_bytes, MatchOption, MatchResult};
+ghost use Rattle.std.specs.Prelude.{◌≡◌, ◌<◌, ◌⊎◌, ◌↔◌, [], ◌∷◌, None, Some, false, true, drop, length, map, string_bytes, MatchOption, MatchResult};
+ghost use Rattle.std.specs.IoError.{error_kind};
 ghost use Rattle.mj.specs.CommandLine as spec;
 
 use std::alloc::{AllocError, AllocFailed, Global};
+use std::io::{self, ErrorKind};
 
 /// What a command line asks for.
 #[derive(Drop)]
@@ -22,6 +24,19 @@ pub enum Refusal {
     Usage,
     /// No memory was found.
     OutOfMemory,
+}
+
+impl Refusal {
+    /// Why a read that failed gives nothing to run. Want of memory says nothing of what was read.
+    pub fn of_read(error: &io::Error) -> Refusal
+        ensures { (result ≡ Refusal.OutOfMemory) ↔ (error_kind error.now ≡ ErrorKind.OutOfMemory) }
+    {
+        if error.kind() == ErrorKind::OutOfMemory {
+            Refusal::OutOfMemory
+        } else {
+            Refusal::Usage
+        }
+    }
 }
 
 impl From<AllocError> for Refusal {
@@ -49,7 +64,7 @@ impl<T: Drop> From<AllocFailed<T>> for Refusal {
 /// Reads the words after the program's name: options, and then one file.
 pub fn parse(alloc: Global, words: &[String]) -> Result<Arguments<'_>, Refusal>
     ensures { let asked = spec.asked [] None (map string_bytes words.now) in MatchResult result
-        (λ a. asked ≡ Some (record { texts = map spec.plain a.texts.items; fuel = a.fuel; file = a.file.now }))
+        (λ a. asked ≡ Some (spec.asked_of a))
         (λ e. (e ≡ Refusal.OutOfMemory) ⊎ ((e ≡ Refusal.Usage) × (asked ≡ None))) }
 {
     let mut texts = Vec::new(alloc);

@@ -2,14 +2,19 @@
 #![tactic(auto)]
 
 mod arguments;
+mod render;
 mod run;
+mod tell;
 #[cfg(test)]
 mod tests;
 
-use run::{Texts, run, tell_unread};
+use arguments::Refusal;
+use run::{Texts, run};
 use std::io::{self, BufWriter, Read};
 use std::process::ExitCode;
 use std::{env, fs};
+use tell::tell_refusal;
+use template_machine::Counted;
 
 /// The files of the system, and its standard input.
 #[derive(Drop)]
@@ -36,15 +41,15 @@ fn main(rt: HostRuntime) -> ExitCode {
 /// Gathers the words and the streams, and runs the program over them.
 fn status(rt: &HostRuntime) -> u8 {
     let alloc = rt.alloc();
-    let mut err = rt.stderr();
+    let mut err = Counted::new(rt.stderr());
     let words = match words(rt) {
         Ok(words) => words,
-        Err(error) => return tell_unread(&mut err, &error),
+        Err(error) => return tell_refusal(&mut err, Refusal::of_read(&error)),
     };
     // Each piece of a render would else be a call of the system.
     let mut out = match BufWriter::new(alloc, rt.stdout()) {
-        Ok(out) => out,
-        Err(error) => return tell_unread(&mut err, &error),
+        Ok(out) => Counted::new(out),
+        Err(error) => return tell_refusal(&mut err, Refusal::of_read(&error)),
     };
     run(alloc, &words, &mut Files { rt }, &mut out, &mut err)
 }

@@ -5,6 +5,7 @@ use std::alloc::Global;
 use std::io::{self, Write};
 use std::process::Abort;
 use std::test::Fail;
+use template_machine::Counted;
 
 const USAGE_LINE: &str = "usage: mj [-D name=text].. [--json FILE] [--fuel N] [--limit N] FILE..\n";
 
@@ -186,26 +187,28 @@ impl Write for Page {
 /// Runs the program over these words, onto this page, and compares its status and what it wrote.
 fn expect(
     rt: &impl Abort,
-    mut page: Page,
+    page: Page,
     words: &[&str],
     wanted: (u8, &str, &str),
 ) -> Result<Page, Fail> {
     let alloc = *page.bytes.allocator();
+    let mut out = Counted::new(page);
     let mut owned = Vec::new(alloc);
     for word in words {
         owned.push(String::from_str(alloc, word)?)?;
     }
-    let mut err = Vec::<u8>::new(alloc);
+    let mut err = Counted::new(Vec::<u8>::new(alloc));
     let status = run(
         alloc,
         owned.as_slice(),
         &mut Shelf { alloc },
-        &mut page,
+        &mut out,
         &mut err,
     );
+    let page = out.into_inner();
     let (wanted_status, wanted_out, wanted_err) = wanted;
     assert_eq!(rt;
-        std::str::from_utf8(err.as_slice())?,
+        std::str::from_utf8(err.inner().as_slice())?,
         wanted_err,
         "told of {words:?}"
     );
@@ -341,8 +344,8 @@ fn the_examples(rt: HostRuntime) -> Result<(), Fail> {
         ("page.html", PAGE_NAMES, PAGE_EXPECTED),
     ] {
         let words = words_of(alloc, names, file)?;
-        let mut out = Vec::<u8>::new(alloc);
-        let mut err = Vec::<u8>::new(alloc);
+        let mut out = Counted::new(Vec::<u8>::new(alloc));
+        let mut err = Counted::new(Vec::<u8>::new(alloc));
         let status = run(
             alloc,
             words.as_slice(),
@@ -351,7 +354,11 @@ fn the_examples(rt: HostRuntime) -> Result<(), Fail> {
             &mut err,
         );
         assert_eq!(rt; status, 0, "status of {file}");
-        assert_eq!(rt; out.as_slice(), expected.as_bytes(), "written of {file}");
+        assert_eq!(rt;
+            out.inner().as_slice(),
+            expected.as_bytes(),
+            "written of {file}"
+        );
     }
     Ok(())
 }

@@ -1,10 +1,10 @@
 //! Templates of an environment.
-ghost use Rattle.std.specs.Prelude.{◌≡◌, ◌≢◌, ◌+◌, ◌<◌, [], ◌∷◌, Err, IfOk, IfErr};
+ghost use Rattle.std.specs.Prelude.{◌≡◌, ◌≢◌, ◌⊎◌, ◌+◌, ◌<◌, [], ◌∷◌, Err, IfOk, IfErr};
 ghost use Rattle.tm_meaning.specs.World.{first_world};
 ghost use Rattle.std.specs.Io.KnownBytes.{Appends};
 ghost use Rattle.tm_meaning.specs.Meaning.{text_of, rendered};
 ghost use Rattle.tm_meaning.specs.Texts.{put_out};
-ghost use Rattle.tm_parts.specs.Counts.{AppendsBeginning};
+ghost use Rattle.tm_parts.specs.Counts.{one_more, AppendsBeginning};
 ghost use Rattle.tm_vm.specs.Answers.{IsOwn, faults_after};
 ghost use Rattle.template_machine.specs.Renders.{meaning, greatest, FoundMemory, IsEnd, IsText, IsRun};
 ghost use Rattle.template_machine.specs.Environment.{host_of};
@@ -95,9 +95,10 @@ impl<'env, 'source> Template<'env, 'source> {
         ensures full { ids.old ≡ greatest → (result ≡ Err (ErrorKind.InvalidOperation ∷ [])) × (ids.new ≡ ids.old)
             × (W.told writer.new ≡ W.told writer.old) × (W.faults writer.new ≡ W.faults writer.old) }
         ensures next { ids.old < greatest → ids.new ≡ ids.old + 1 }
-        ensures end { ids.old < greatest → W.faults writer.old < greatest → W.faults writer.new ≡ W.faults writer.old → FoundMemory result
+        ensures end { ids.old < greatest → IsOwn result
             → Appends (W.told writer.old) (W.told writer.new) (text_of (meaning self.now ids.old context)) × IsEnd result (meaning self.now ids.old context) }
         ensures failed { W.faults writer.new ≢ W.faults writer.old → result ≡ Err (ErrorKind.WriteFailure ∷ []) }
+        ensures raised { result ≡ Err (ErrorKind.WriteFailure ∷ []) → W.faults writer.new ≡ one_more (W.faults writer.old) }
         ensures beginning { AppendsBeginning (W.told writer.old) (W.told writer.new) (text_of (meaning self.now ids.old context)) }
         ensures sound { result ≢ Err (ErrorKind.BadStream ∷ []) }
     {
@@ -118,8 +119,8 @@ impl<'env, 'source> Template<'env, 'source> {
         ensures full { ids.old ≡ greatest → (result ≡ Err (ErrorKind.InvalidOperation ∷ [])) × (ids.new ≡ ids.old) }
         ensures next { ids.old < greatest → ids.new ≡ ids.old + 1 }
         ensures state { IfOk result (λ s. s ≡ first_world ids.old self.now.template.name self.now.environment.fuel context) }
-        ensures kind { ids.old < greatest → IfErr result (λ e. e ≡ ErrorKind.OutOfMemory ∷ []) }
-        ensures sound { result ≢ Err (ErrorKind.BadStream ∷ []) }
+        ensures memory { ids.old < greatest → IfErr result (λ e. e ≡ ErrorKind.OutOfMemory ∷ []) }
+        ensures kind { IfErr result (λ e. (e ≡ ErrorKind.InvalidOperation ∷ []) ⊎ (e ≡ ErrorKind.OutOfMemory ∷ [])) }
     {
         let id = match ids.next() {
             Ok(id) => id,

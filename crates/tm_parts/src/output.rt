@@ -1,7 +1,7 @@
 //! Output: writers whose faults are counted, and captures that take a text before the writer does.
 ghost use Rattle.std.specs.Prelude.{◌≡◌, ◌≢◌, ◌⊎◌, ◌<◌, ℕ, List, [], ◌∷◌, length, Option, Some, None, Err, IsOk, IsSome, OnOk, OnErr, IfErr, MatchOption, string_bytes};
 ghost use Rattle.std.specs.Io.{WritesAtMost};
-ghost use Rattle.std.specs.Io.KnownBytes.{WriteAppends, Appends};
+ghost use Rattle.std.specs.Io.KnownBytes.{Keeps, WriteAppends, Appends};
 ghost use Rattle.tm_values.specs.declared.error.ErrorKind.TheVariants.{WriteFailure, OutOfMemory};
 ghost use Rattle.tm_meaning.specs.Texts.{put_in, put_out};
 ghost use Rattle.tm_parts.specs.Counts.{fault_count, one_more, AppendsBeginning};
@@ -63,6 +63,14 @@ impl<W: Write + Drop> Counted<W> {
     {
         let Counted { inner, .. } = self;
         inner
+    }
+
+    /// Passes on what the writer holds back; the writer's error where it can't, which is no write that failed.
+    pub fn flush(&mut self) -> io::Result<()>
+        ensures bytes { Keeps (W.contents self.old.writer) (W.contents self.new.writer) }
+        ensures count { self.new.failures ≡ self.old.failures }
+    {
+        self.inner.flush()
     }
 
     /// How many calls failed or took nothing; it stays at the greatest u64.

@@ -53,8 +53,8 @@ pub enum ErrorKind {
 }
 
 impl ErrorKind {
-    // The name of the variant.
-    fn name(self) -> &'static str
+    /// The kind's name, as `OutOfFuel`.
+    pub fn name(self) -> &'static str
         ensures { result.now ≡ kind_name self }
     {
         match self {
@@ -85,7 +85,7 @@ impl ErrorKind {
 impl fmt::Display for ErrorKind {
     ghost output = { λ kind. Some (kind_name kind) };
 
-    /// The kind's name, as `OutOfFuel`.
+    /// The kind's name.
     fn fmt<W: fmt::Write>(&self, f: &mut fmt::Formatter<W>) -> fmt::Result {
         f.write_str(self.name())
     }
@@ -150,7 +150,7 @@ impl<T: Drop> From<AllocFailed<T>> for Error {
 impl Error {
     /// The kind of this error.
     pub fn kind(&self) -> ErrorKind
-        ensures { result ≡ kind_of self.now }
+        ensures { self.now ≡ result ∷ causes_of self.now }
     {
         self.kind
     }

@@ -1,7 +1,0 @@
-use Rattle.std.proofs.Common.{◌≡◌, [], drop}
-use Rattle.mj.specs.Program.{put_texts}
-use Rattle.mj.proofs.run.context.Given as goal
-
--- the texts that are left still lead to the whole map
-abbrev pub invariant-loop-name : goal.invariant-loop-name
-invariant-loop-name l = put_texts (drop l.name-index l.texts) l.entries ≡ put_texts l.texts []
