@@ -1,5 +1,5 @@
 -- What the program gives to a template, what its render means, and how the program ends.
-use Rattle.std.specs.Prelude.{◌≡◌, ◌⊎◌, ℕ, List, [], ◌∷◌, codes, Option, Bool, true, false}
+use Rattle.std.specs.Prelude.{◌≡◌, ◌⊎◌, ℕ, List, [], ◌∷◌, codes, Option, None, Some, Bool, true, false}
 use Rattle.std.specs.Io.KnownBytes.{Keeps, Appends}
 use Rattle.std.specs.Str.{chars, bytes_eq}
 use Rattle.tm_values.specs.Val.{Val, text, map, pairs_of}
@@ -14,7 +14,7 @@ use Rattle.tm_meaning.specs.Meaning.{Outcome, rendered, text_of, chain_of}
 use Rattle.tm_parts.specs.Counts.{AppendsBeginning}
 use Rattle.tm_vm.specs.Answers.{is_excused}
 use Rattle.template_machine.specs.Environment.{empty_environment, host_of}
-use Rattle.mj.specs.CommandLine.{Text, Asked}
+use Rattle.mj.specs.CommandLine.{Text, Asked, asked}
 use Rattle.mj.specs.declared.arguments.Refusal.{Refusal}
 use Rattle.mj.specs.declared.arguments.Refusal.TheVariants.{Usage, OutOfMemory}
 
@@ -38,6 +38,10 @@ either false A B = B
 -- what is read of a file, or of standard input, which is `-`
 abbrev pub IsSource : {T : Type 0} → (T → Text → Text → Type 0) → (T → Text → Type 0) → T → Text → Text → Type 0
 IsSource file_is input_is texts file source = either (bytes_eq file (codes "-")) (input_is texts source) (file_is texts file source)
+
+-- The words ask for these, and the source is what is read of their file.
+abbrev pub IsInput : {T : Type 0} → (T → Text → Text → Type 0) → (T → Text → Type 0) → T → List Text → Asked → Text → Type 0
+IsInput file_is input_is texts words a source = (asked [] None words ≡ Some a) × IsSource file_is input_is texts a.file source
 
 -- The source spells a tree whose render is done, and the writer got its text.
 abbrev pub IsRendered : Asked → Text → Option Text → Option Text → Type 0

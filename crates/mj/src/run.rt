@@ -3,7 +3,7 @@ ghost use Rattle.std.specs.Prelude.{◌≡◌, ◌≢◌, ◌≤◌, ◌⊎◌, 
 ghost use Rattle.tm_values.specs.declared.error.ErrorKind.{ErrorKind as Kind};
 ghost use Rattle.tm_values.specs.Chain.{ends_in_memory};
 ghost use Rattle.mj.specs.CommandLine.{Text, Asked, asked};
-ghost use Rattle.mj.specs.Program.{IsSource, IsRendered, IsFault};
+ghost use Rattle.mj.specs.Program.{IsSource, IsInput, IsRendered, IsFault};
 ghost use Rattle.mj.specs.Told.{IsTold, message, usage};
 
 use crate::arguments::{Refusal, parse};
@@ -42,15 +42,12 @@ pub fn run<T: Texts, O: Write + Drop, E: Write + Drop>(
     err: &mut Counted<E>,
 ) -> u8
     ensures status { result ≤ 2 }
-    ensures rendered { result ≡ 0 → (a : Asked) × (source : Text)
-        × (asked [] None (map string_bytes words.now) ≡ Some a)
-        × IsSource T.file_is T.input_is texts.old a.file source
-        × IsRendered a source (O.contents out.old.writer) (O.contents out.new.writer)
-        × (err.new ≡ err.old) }
+    ensures rendered { result ≡ 0 → (err.new ≡ err.old) × (a : Asked) × (source : Text)
+        × IsInput T.file_is T.input_is texts.old (map string_bytes words.now) a source
+        × IsRendered a source (O.contents out.old.writer) (O.contents out.new.writer) }
     ensures fault { result ≡ 1 → (kind : Kind) × (kinds : List Kind) × IsTold E.contents err.old err.new (message kind kinds)
         × (((ends_in_memory (kind ∷ kinds) ≡ true) × (out.new ≡ out.old)) ⊎ ((a : Asked) × (source : Text)
-        × (asked [] None (map string_bytes words.now) ≡ Some a)
-        × IsSource T.file_is T.input_is texts.old a.file source
+        × IsInput T.file_is T.input_is texts.old (map string_bytes words.now) a source
         × IsFault a source (kind ∷ kinds) (O.contents out.old.writer) (O.contents out.new.writer))) }
     ensures wrong_use { result ≡ 2 → (out.new ≡ out.old) × IsTold E.contents err.old err.new usage }
     ensures refused { asked [] None (map string_bytes words.now) ≡ None → (result ≢ 0) × (out.new ≡ out.old) }

@@ -12,7 +12,7 @@ use std::test::Fail;
 use tm_compiler::Instruction;
 use tm_values::{Error, ErrorKind};
 
-/// A writer that takes at most `step` bytes a call until `room` is spent, and then fails, or takes nothing where it has no error.
+/// A writer that takes at most `step` bytes a call until `room` is spent, and then fails, also at a flush, or takes nothing where it has no error.
 #[derive(Drop)]
 struct Fake {
     bytes: Vec<u8>,
@@ -50,7 +50,10 @@ impl Write for Fake {
     }
 
     fn flush(&mut self) -> io::Result<()> {
-        Ok(())
+        match self.error {
+            Some(kind) if self.room == 0 => Err(io::Error::from(kind)),
+            _ => Ok(()),
+        }
     }
 }
 
@@ -150,6 +153,19 @@ fn an_empty_text_makes_no_call(rt: HostRuntime) {
     let mut output = Output::new(alloc, Counted::new(fake));
     assert_eq!(rt; kind_of(&output.write_str("")), None);
     assert_eq!(rt; output.writer().inner().calls, 0);
+}
+
+#[test]
+fn a_flush_is_no_write(rt: HostRuntime) -> Result<(), Fail> {
+    let alloc = rt.alloc();
+    let full = Some(io::ErrorKind::StorageFull);
+    let mut counted = Counted::new(Fake::new(alloc, 9, 1, full));
+    counted.flush()?;
+    write_text(&mut counted, b"a")?;
+    assert_eq!(rt; counted.flush().map_err(|error| error.kind()).err(), full);
+    assert_eq!(rt; counted.failures(), 0);
+    assert_eq!(rt; counted.inner().bytes.as_slice(), b"a".as_slice());
+    Ok(())
 }
 
 /// The error of a text to a writer that takes nothing, or fails with this error.

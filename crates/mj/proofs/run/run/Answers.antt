@@ -22,4 +22,4 @@ returns-clause-fault g c = λ one.
     let t = c.tell_error.ensures.told in
     let read = subst (λ (x : Text). IsSource g.T.Texts.file_is g.T.Texts.input_is c.args.texts.now a.file x) (sym c.as_str.ensures.value) c.in-Ok-read_source.ensures in
     let fault = subst (λ chain. IsFault a source chain (g.O.Write.contents c.args.out.now.writer) (g.O.Write.contents c.render.new.out.writer)) t.2 c.in-Err-render.ensures in
-    (t.0, t.1, t.3, inr (a, source, c.in-Ok.ensures, read, fault))
+    (t.0, t.1, t.3, inr (a, source, (c.in-Ok.ensures, read), fault))
