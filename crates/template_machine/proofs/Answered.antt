@@ -1,13 +1,12 @@
 -- What a run of a tree's code answered is what the tree means.
-use Rattle.std.proofs.Common.{◌≡◌, ◌≢◌, ◌⊎◌, inl, inr, ℕ, List, [], ◌∷◌, ◌++◌, length, map, true, false, Option, Result, Ok, Err, refl, sym, ◌∙◌, ap, subst}
+use Rattle.std.proofs.Common.{◌≡◌, ◌≢◌, inl, inr, ℕ, List, [], ◌∷◌, Option, Ok, Err, refl, sym, ◌∙◌, ap, subst}
 use Rattle.std.specs.Io.KnownBytes.{Appends}
-use Rattle.tm_values.specs.declared.error.ErrorKind.{ErrorKind}
 use Rattle.tm_values.specs.declared.error.ErrorKind.TheVariants.{BadStream, OutOfFuel}
 use Rattle.tm_compiler.specs.Tree.{Sts}
 use Rattle.tm_compiler.specs.Code.{Ins, codes}
 use Rattle.tm_meaning.specs.Texts.{put_in, put_out}
 use Rattle.tm_meaning.specs.World.{World, Host}
-use Rattle.tm_meaning.specs.Machine.{Final, End, Finished, Failed}
+use Rattle.tm_meaning.specs.Machine.{Final, Finished, Failed}
 use Rattle.tm_meaning.specs.Meaning.{Outcome, Done, Fault, rendered, text_of, chain_of, nests_of}
 use Rattle.tm_meaning.specs.Runs.{Reaches, start, final}
 use Rattle.tm_meaning.proofs.Ends.{one_end}

@@ -1,4 +1,4 @@
-use Rattle.std.proofs.Common.{◌≡◌, subst}
+use Rattle.std.proofs.Common.{subst}
 use Rattle.tm_tables.specs.Templates.{IsRefused}
 use Rattle.template_machine.specs.Environment.{EnvironmentValue}
 use Rattle.template_machine.proofs.environment.Environment.add_template.Goals as goal
