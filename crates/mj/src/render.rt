@@ -1,8 +1,8 @@
 //! The render that the words ask for.
-ghost use Rattle.std.specs.Prelude.{◌≡◌, [], ◌∷◌, map, false, OnOk, IfErr, MatchResult};
+ghost use Rattle.std.specs.Prelude.{◌≡◌, [], ◌∷◌, map, false, Err, OnOk, IfErr, MatchResult};
 ghost use Rattle.std.specs.Io.KnownBytes.{Appends};
 ghost use Rattle.tm_meaning.specs.Meaning.{text_of, chain_of};
-ghost use Rattle.tm_parts.specs.Counts.{AppendsBeginning};
+ghost use Rattle.tm_parts.specs.Counts.{one_more, AppendsBeginning};
 ghost use Rattle.tm_vm.specs.Answers.{is_excused};
 ghost use Rattle.template_machine.specs.Renders.{meaning};
 ghost use Rattle.mj.specs.CommandLine.{asked_of, plain};
@@ -24,7 +24,7 @@ pub fn render<O: Write + Drop>(
 ) -> Result<(), Error>
     ensures { MatchResult result
         (λ _. IsRendered (asked_of arguments.now) source.now (O.contents out.old.writer) (O.contents out.new.writer))
-        (λ e. IsFault (asked_of arguments.now) source.now e (O.contents out.old.writer) (O.contents out.new.writer)) }
+        (λ e. IsFault O.contents (asked_of arguments.now) source.now e out.old out.new) }
 {
     let rendered = render_unflushed(alloc, arguments, source, out);
     let flushed = out.flush();
@@ -46,7 +46,7 @@ fn render_unflushed<O: Write + Drop>(
 ) -> Result<(), Error>
     ensures { MatchResult result
         (λ _. IsRendered (asked_of arguments.now) source.now (O.contents out.old.writer) (O.contents out.new.writer))
-        (λ e. IsFault (asked_of arguments.now) source.now e (O.contents out.old.writer) (O.contents out.new.writer)) }
+        (λ e. IsFault O.contents (asked_of arguments.now) source.now e out.old out.new) }
 {
     let mut environment = Environment::new(alloc)?;
     environment.set_fuel(arguments.fuel);
@@ -68,6 +68,7 @@ fn render_template<O: Write + Drop>(
         × Appends (O.contents out.old.writer) (O.contents out.new.writer) (text_of (meaning template.now 0 context))) }
     ensures fault { IfErr result (λ e. is_excused e ≡ false → (chain_of (meaning template.now 0 context) ≡ e)
         × Appends (O.contents out.old.writer) (O.contents out.new.writer) (text_of (meaning template.now 0 context))) }
+    ensures raised { result ≡ Err (ErrorKind.WriteFailure ∷ []) → out.new.failures ≡ one_more out.old.failures }
     ensures begun { AppendsBeginning (O.contents out.old.writer) (O.contents out.new.writer) (text_of (meaning template.now 0 context)) }
 {
     let mut ids = StateIds::new();

@@ -1,9 +1,9 @@
 //! The program over words, files and streams that it is given.
-ghost use Rattle.std.specs.Prelude.{◌≡◌, ◌≢◌, ◌≤◌, ◌⊎◌, List, [], ◌∷◌, ⊤, true, None, Some, map, string_bytes, IfOk};
+ghost use Rattle.std.specs.Prelude.{◌≡◌, ◌≢◌, ◌≤◌, ◌⊎◌, List, [], ◌∷◌, ⊤, true, Option, None, Some, map, string_bytes, MatchResult};
 ghost use Rattle.tm_values.specs.declared.error.ErrorKind.{ErrorKind as Kind};
 ghost use Rattle.tm_values.specs.Chain.{ends_in_memory};
 ghost use Rattle.mj.specs.CommandLine.{Text, Asked, asked};
-ghost use Rattle.mj.specs.Program.{IsSource, IsInput, IsRendered, IsFault};
+ghost use Rattle.mj.specs.Program.{IsRead, IsInput, IsUnread, IsWrongUse, IsRendered, IsFault};
 ghost use Rattle.mj.specs.Told.{IsTold, message, usage};
 
 use crate::arguments::{Refusal, parse};
@@ -18,19 +18,19 @@ const SUCCESS: u8 = 0;
 
 /// Where templates are read from.
 pub trait Texts {
-    // What may be read of a path. The default says nothing.
-    ghost file_is: { Self → Text → Text → Type 0 } = { λ _ _ _. ⊤ };
+    // What may be read of a path: bytes, or none. The default says nothing.
+    ghost of_file: { Self → Text → Option Text → Type 0 } = { λ _ _ _. ⊤ };
 
-    // What may be read of standard input. The default says nothing.
-    ghost input_is: { Self → Text → Type 0 } = { λ _ _. ⊤ };
+    // The same of standard input.
+    ghost of_input: { Self → Option Text → Type 0 } = { λ _ _. ⊤ };
 
     /// The bytes of a file.
     fn file(&mut self, path: &str) -> io::Result<Vec<u8>>
-        ensures { IfOk result (λ bytes. file_is self.old path.now bytes.items) };
+        ensures { MatchResult result (λ bytes. of_file self.old path.now (Some bytes.items)) (λ _. of_file self.old path.now None) };
 
     /// The bytes of standard input.
     fn standard_input(&mut self) -> io::Result<Vec<u8>>
-        ensures { IfOk result (λ bytes. input_is self.old bytes.items) };
+        ensures { MatchResult result (λ bytes. of_input self.old (Some bytes.items)) (λ _. of_input self.old None) };
 }
 
 /// Renders what the words ask for to `out` as it goes, tells faults to `err`, and gives the exit status.
@@ -43,13 +43,14 @@ pub fn run<T: Texts, O: Write + Drop, E: Write + Drop>(
 ) -> u8
     ensures status { result ≤ 2 }
     ensures rendered { result ≡ 0 → (err.new ≡ err.old) × (a : Asked) × (source : Text)
-        × IsInput T.file_is T.input_is texts.old (map string_bytes words.now) a source
+        × IsInput T.of_file T.of_input texts.old (map string_bytes words.now) a source
         × IsRendered a source (O.contents out.old.writer) (O.contents out.new.writer) }
     ensures fault { result ≡ 1 → (kind : Kind) × (kinds : List Kind) × IsTold E.contents err.old err.new (message kind kinds)
         × (((ends_in_memory (kind ∷ kinds) ≡ true) × (out.new ≡ out.old)) ⊎ ((a : Asked) × (source : Text)
-        × IsInput T.file_is T.input_is texts.old (map string_bytes words.now) a source
-        × IsFault a source (kind ∷ kinds) (O.contents out.old.writer) (O.contents out.new.writer))) }
-    ensures wrong_use { result ≡ 2 → (out.new ≡ out.old) × IsTold E.contents err.old err.new usage }
+        × IsInput T.of_file T.of_input texts.old (map string_bytes words.now) a source
+        × IsFault O.contents a source (kind ∷ kinds) out.old out.new)) }
+    ensures wrong_use { result ≡ 2 → (out.new ≡ out.old) × IsTold E.contents err.old err.new usage
+        × IsWrongUse T.of_file T.of_input texts.old (map string_bytes words.now) }
     ensures refused { asked [] None (map string_bytes words.now) ≡ None → (result ≢ 0) × (out.new ≡ out.old) }
 {
     let arguments = match parse(alloc, words) {
@@ -66,17 +67,28 @@ pub fn run<T: Texts, O: Write + Drop, E: Write + Drop>(
     }
 }
 
-/// The source of a template; `-` is standard input.
+/// The source of a template. OutOfMemory where a read finds no memory, and else Usage where nothing is read, or no UTF-8.
 fn read_source<T: Texts>(texts: &mut T, file: &str) -> Result<String, Refusal>
-    ensures { IfOk result (λ source. IsSource T.file_is T.input_is texts.old file.now (string_bytes source)) }
+    ensures { MatchResult result (λ source. IsRead T.of_file T.of_input texts.old file.now (Some (string_bytes source)))
+        (λ _. IsUnread T.of_file T.of_input texts.old file.now) }
 {
-    let bytes = if file == "-" {
+    match read_bytes(texts, file) {
+        Ok(bytes) => match String::from_utf8(bytes) {
+            Ok(source) => Ok(source),
+            Err(_error) => Err(Refusal::Usage),
+        },
+        Err(error) => Err(Refusal::of_read(&error)),
+    }
+}
+
+/// The bytes of a file; `-` is standard input.
+fn read_bytes<T: Texts>(texts: &mut T, file: &str) -> io::Result<Vec<u8>>
+    ensures { MatchResult result (λ bytes. IsRead T.of_file T.of_input texts.old file.now (Some bytes.items))
+        (λ _. IsRead T.of_file T.of_input texts.old file.now None) }
+{
+    if file == "-" {
         texts.standard_input()
     } else {
         texts.file(file)
-    };
-    match bytes {
-        Ok(bytes) => String::from_utf8(bytes).map_err(|_| Refusal::Usage),
-        Err(error) => Err(Refusal::of_read(&error)),
     }
 }

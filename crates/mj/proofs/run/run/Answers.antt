@@ -1,6 +1,6 @@
-use Rattle.std.proofs.Common.{inl, inr, refl, sym, subst}
+use Rattle.std.proofs.Common.{inl, inr, Some, refl, sym, subst}
 use Rattle.mj.specs.CommandLine.{Text, asked_of}
-use Rattle.mj.specs.Program.{IsSource, IsFault}
+use Rattle.mj.specs.Program.{IsRead, IsFault}
 use Rattle.mj.proofs.Told.{refused_memory}
 use Rattle.mj.proofs.run.run.Goals as goal
 
@@ -20,6 +20,6 @@ returns-clause-fault g c = λ one.
     let a = asked_of c.in-Ok.arguments in
     let source = c.as_str.result.now in
     let t = c.tell_error.ensures.told in
-    let read = subst (λ (x : Text). IsSource g.T.Texts.file_is g.T.Texts.input_is c.args.texts.now a.file x) (sym c.as_str.ensures.value) c.in-Ok-read_source.ensures in
-    let fault = subst (λ chain. IsFault a source chain (g.O.Write.contents c.args.out.now.writer) (g.O.Write.contents c.render.new.out.writer)) t.2 c.in-Err-render.ensures in
+    let read = subst (λ (x : Text). IsRead g.T.Texts.of_file g.T.Texts.of_input c.args.texts.now a.file (Some x)) (sym c.as_str.ensures.value) c.in-Ok-read_source.ensures in
+    let fault = subst (λ chain. IsFault g.O.Write.contents a source chain c.args.out.now c.render.new.out) t.2 c.in-Err-render.ensures in
     (t.0, t.1, t.3, inr (a, source, (c.in-Ok.ensures, read), fault))
