@@ -130,6 +130,7 @@ impl Texts for Shelf {
             "tag.txt" => b"{% x %}",
             "bytes.bin" => b"\xff\xfe",
             "-x" => b"never read",
+            "vast.txt" => return Err(io::Error::from(io::ErrorKind::OutOfMemory)),
             "mail.txt" => MAIL.as_bytes(),
             "server.conf" => SERVER.as_bytes(),
             "page.html" => PAGE.as_bytes(),
@@ -293,6 +294,8 @@ fn faults_of_renders(rt: HostRuntime) -> Result<(), Fail> {
         &["tag.txt"],
         (1, "", "error: SyntaxError\n"),
     )?;
+    let wanted = (1, "", "error: OutOfMemory\n");
+    expect(&rt, Page::new(alloc), &["vast.txt"], wanted)?;
     Ok(())
 }
 
