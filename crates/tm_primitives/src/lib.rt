@@ -1,0 +1,6 @@
+//! Whole numbers, the places that slices take, and texts by their characters.
+#![tactic(auto)]
+
+#[cfg(test)]
+mod tests;
+pub mod whole;
