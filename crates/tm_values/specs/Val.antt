@@ -75,7 +75,12 @@ pairs_in _ = no_pairs
 abbrev pub entries_in : Val → List (Val × Val)
 entries_in v = entries_of (pairs_in v)
 
--- the items of a list
+-- the items of a list, where the value is one
+abbrev pub list_in : Val → Option (List Val)
+list_in (list vs) = Some (list_of vs)
+list_in _ = None
+
+-- the items of a list; none of other values
 abbrev pub vals_in : Val → Vals
 vals_in (list vs) = vs
 vals_in _ = no_vals

@@ -213,7 +213,10 @@ impl Error {
         let Error { kind, more } = self;
         let detail = match more {
             Some(more) => {
-                let More { detail, cause: _old } = Box::into_inner(more);
+                let More {
+                    detail,
+                    cause: _old,
+                } = Box::into_inner(more);
                 detail
             }
             None => None,

@@ -46,8 +46,15 @@ impl Macro {
         entry: usize,
         closure: Option<usize>,
     ) -> Macro
-        ensures { result ≡ record { state = state; stream = stream; entry = entry; closure = closure;
-            name = rc_str_bytes name; arguments = each rc_str_bytes arguments.items; caller = takes_caller } }
+        ensures { result ≡ record {
+          state = state;
+          stream = stream;
+          entry = entry;
+          closure = closure;
+          name = rc_str_bytes name;
+          arguments = each rc_str_bytes arguments.items;
+          caller = takes_caller;
+        } }
     {
         Macro {
             name,

@@ -25,9 +25,13 @@ impl Value {
             Node::Boolean(_) | Node::Number(_) => self.whole_or_zero().cmp(&other.whole_or_zero()),
             Node::Text(content, _) => content.as_str().cmp(other.text_or_empty()),
             Node::List(items) => compare_items(items.as_slice(), other.items()),
-            Node::Map(pairs) | Node::Keywords(pairs) => compare_pairs(pairs.as_slice(), other.pairs()),
-            Node::Exports(pairs, content) => compare_pairs(pairs.as_slice(), other.pairs())
-                .then(content.as_str().cmp(other.text_or_empty())),
+            Node::Map(pairs) | Node::Keywords(pairs) => compare_pairs(
+                pairs.as_slice(),
+                other.pairs(),
+            ),
+            Node::Exports(pairs, content) => compare_pairs(pairs.as_slice(), other.pairs()).then(
+                content.as_str().cmp(other.text_or_empty()),
+            ),
             Node::Function(index) => index.cmp(&other.function_or_zero()),
             Node::Macro(declared) => compare_macro(declared, other),
             Node::Loop(_, _) | Node::Namespace(_, _) => self.compare_record(other),

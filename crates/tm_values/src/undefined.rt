@@ -58,7 +58,9 @@ impl UndefinedBehavior {
             | (UndefinedUse::Truth, Self::Strict)
             | (UndefinedUse::Comparison, Self::Strict)
             | (UndefinedUse::Slice, Self::Strict) => Some(ErrorKind::UndefinedError),
-            (UndefinedUse::KeywordSpread | UndefinedUse::Arithmetic, _) => Some(ErrorKind::InvalidOperation),
+            (UndefinedUse::KeywordSpread | UndefinedUse::Arithmetic, _) => Some(
+                ErrorKind::InvalidOperation,
+            ),
             _ => None,
         }
     }

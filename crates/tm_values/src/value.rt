@@ -4,7 +4,7 @@ ghost use Rattle.std.specs.Rc.{rc_str_bytes};
 ghost use Rattle.tm_values.specs.Map.{IsMap};
 ghost use Rattle.tm_values.specs.Order.{rank, bytes_in, whole_or_zero};
 ghost use Rattle.tm_values.specs.declared.error.ErrorKind.{ErrorKind};
-ghost use Rattle.tm_values.specs.Val.{Val, undefined, none, boolean, number, text, list, function, macro, loop, namespace, vals_of, text_in, entries_in, items_in, whole_in, pairs_in, entries_of};
+ghost use Rattle.tm_values.specs.Val.{Val, undefined, none, boolean, number, text, list, function, macro, loop, namespace, vals_of, text_in, list_in, entries_in, items_in, whole_in};
 
 use crate::error::Error;
 use crate::macros::Macro;
@@ -228,6 +228,16 @@ impl Value {
             Node::Boolean(false) => Some(0),
             Node::Boolean(true) => Some(1),
             Node::Number(whole) => Some(*whole),
+            _ => None,
+        }
+    }
+
+    /// The items of a list, where the value is one.
+    pub fn as_list(&self) -> Option<&[Value]>
+        ensures { MatchOption result (list_in self.now ≡ None) (λ vs. list_in self.now ≡ Some vs.now) }
+    {
+        match &self.node {
+            Node::List(items) => Some(items.as_slice()),
             _ => None,
         }
     }
