@@ -2,3 +2,4 @@ pub mod Undefined
 pub mod Truth
 pub mod Arithmetic
 pub mod Comparison
+pub mod Members

@@ -4,9 +4,11 @@
 mod arithmetic;
 mod comparisons;
 mod condition;
+mod members;
 mod undefined;
 
 pub use arithmetic::{add, divide, floor_divide, multiply, negate, power, remainder, subtract};
 pub use comparisons::{Comparison, compare};
 pub use condition::{is_true, truth};
+pub use members::{LoopAttribute, attribute, check_settable, is_callable, item};
 pub use undefined::check_defined;

@@ -3,7 +3,7 @@ ghost use Rattle.std.specs.Prelude.{◌≡◌, [], ◌∷◌, ◌==◌, None, So
 ghost use Rattle.std.specs.Rc.{rc_str_bytes};
 ghost use Rattle.tm_values.specs.Map.{put, find, member, IsMap, IsThere, IsGapFor};
 ghost use Rattle.tm_values.specs.Order.{val_cmp};
-ghost use Rattle.tm_values.specs.Val.{Val, text, map, keywords, exports, pairs_of};
+ghost use Rattle.tm_values.specs.Val.{Val, text, map, keywords, exports, pairs_of, entries_in};
 
 use crate::error::{Error, ErrorKind};
 use crate::value::{Node, Value};
@@ -75,6 +75,17 @@ impl ValueMap {
             Err(_) => None,
         }
     }
+
+    /// The value at the text, found without memory, where it is there.
+    pub fn member(&self, name: &str) -> Option<&Value>
+        ensures { MatchOption result (find (text name.now false) self.now ≡ None)
+            (λ v. find (text name.now false) self.now ≡ Some v.now) }
+    {
+        match place_of_text(&self.pairs, name) {
+            Ok(at) => Some(&self.pairs[at].1),
+            Err(_) => None,
+        }
+    }
 }
 
 impl Value {
@@ -115,6 +126,18 @@ impl Value {
     {
         let pairs = self.pairs();
         match place_of_text(pairs, name) {
+            Ok(at) => Some(&pairs[at].1),
+            Err(_) => None,
+        }
+    }
+
+    /// What a map, a keyword map or a module has at the key; nothing of other values.
+    pub fn at_key(&self, key: &Value) -> Option<&Value>
+        ensures { MatchOption result (find key.now (entries_in self.now) ≡ None)
+            (λ v. find key.now (entries_in self.now) ≡ Some v.now) }
+    {
+        let pairs = self.pairs();
+        match place(pairs, key) {
             Ok(at) => Some(&pairs[at].1),
             Err(_) => None,
         }
