@@ -3,6 +3,7 @@ use Rattle.std.proofs.Common.{◌≡◌, ◌≢◌, ◌<◌, ◌≤◌, ◌+◌,
 use Rattle.std.proofs.lemmas.Int.{ints, by_lt_z}
 use Rattle.std.proofs.lemmas.Grind.{div_ceil_times}
 use Rattle.std.proofs.Math.Nat.{suc-mul}
+use Rattle.std.specs.List.{range_with_len}
 use Rattle.std.specs.Int.RustNames.{FitsSigned}
 use Rattle.std.specs.Int.{w128, div_ceil, is_negative}
 use Rattle.tm_primitives.specs.Places.{places_from, Within, lowest, highest, cut, bound_of, start_of, stop_of, distance, count_before, from_start}
@@ -133,3 +134,17 @@ bounds_near n start stop z h = near_if (is_negative z) refl
 pub slice_inside : (n : ℕ) (start stop : Option ℤ) (z x y : ℤ) (count : ℕ) → z ≢ pos 0 → n < 2 ^ 64
     → x ≡ start_of n z start → y ≡ stop_of n z stop → count ≡ count_before z x y → Within (2 ^ 64) x z count
 slice_inside n start stop z x y count h l ex ey ec = rw (ec, ex, ey) (within_more n (2 ^ 64) (start_of n z start) z (count_before z (start_of n z start) (stop_of n z stop)) (omega (arith, l)) (slice_within n start stop z h))
+
+-- places one by one
+pub run_is : (x : ℤ) (m : ℕ) → Within (2 ^ 64) x (pos 1) m → 0 < m → places_from x (pos 1) m ≡ range_with_len (unsigned_abs x) m
+run_is x m w h = by_ones x m (first_at_least x m w h)
+  where
+    first_at_least : (x : ℤ) (m : ℕ) → Within (2 ^ 64) x (pos 1) m → 0 < m → pos 0 ≤ℤ x
+    first_at_least x zero w h = absurd (omega arith)
+    first_at_least x (suc m) w h = w.0
+    after : (x : ℤ) → pos 0 ≤ℤ x → unsigned_abs (x +ℤ pos 1) ≡ unsigned_abs x + 1
+    after (pos n) h = refl
+    after (negsuc n) h = absurd (omega (arith, ints, h))
+    by_ones : (x : ℤ) (m : ℕ) → pos 0 ≤ℤ x → places_from x (pos 1) m ≡ range_with_len (unsigned_abs x) m
+    by_ones x zero h = refl
+    by_ones x (suc m) h = ap (λ (l : List ℕ). unsigned_abs x ∷ l) (by_ones (x +ℤ pos 1) m (omega (arith, ints, h)) ∙ ap (λ (a : ℕ). range_with_len a m) (after x h))

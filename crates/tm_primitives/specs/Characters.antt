@@ -1,7 +1,6 @@
 -- Texts by their characters.
 use Rattle.std.specs.Prelude.{◌≡◌, ◌<◌, ◌||◌, ℕ, Bool, nat_lt, List, length, map, slice_index}
 use Rattle.std.specs.Char.{encode_utf8}
-use Rattle.std.specs.List.{range_with_len}
 use Rattle.std.specs.Str.{chars}
 
 -- the byte begins a character: it is ASCII, or the first of several
@@ -15,7 +14,3 @@ IsCharacterAt place text bytes = (place < length (chars text)) × (bytes ≡ enc
 -- the characters of the text at these places
 abbrev pub picked : List ℕ → List ℕ → List ℕ
 picked text places = map (slice_index (chars text)) places
-
--- n places from the one at p on, each next to the one before
-abbrev pub IsRun : ℕ × ℕ → List ℕ → Type 0
-IsRun r places = places ≡ range_with_len r.0 r.1

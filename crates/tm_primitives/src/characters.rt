@@ -1,8 +1,8 @@
 //! Texts by their characters.
-ghost use Rattle.std.specs.Prelude.{◌≡◌, ◌<◌, ◌≤◌, ⊤, length, take, drop, MatchOption, IfOk, All};
-ghost use Rattle.std.specs.Str.{chars};
+ghost use Rattle.std.specs.Prelude.{◌≡◌, ◌<◌, ◌≤◌, length, take, drop, map, slice_index, MatchOption, IfOk, All};
+ghost use Rattle.std.specs.Str.{chars, encode_utf8_all, IsAscii};
 ghost use Rattle.std.specs.String.{string_bytes};
-ghost use Rattle.tm_primitives.specs.Characters.{starts_character, IsCharacterAt, picked, IsRun};
+ghost use Rattle.tm_primitives.specs.Characters.{starts_character, IsCharacterAt, picked};
 
 use crate::places::Places;
 use std::alloc::{AllocError, Global};
@@ -60,4 +60,52 @@ pub fn character(text: &str, place: usize) -> Option<&str>
     let rest = skip(text, place);
     let character = rest.chars().next()?;
     Some(&rest[..character.len_utf8()])
+}
+
+/// The characters of the text at these places, in their order. Each place must have a character.
+/// Fails where no memory is found, and only so.
+pub fn pick(alloc: Global, text: &str, places: Places) -> Result<String, AllocError>
+    requires inside { All (λ p. p < length (chars text.now)) places }
+    ensures { IfOk result (λ s. string_bytes s ≡ encode_utf8_all (picked text.now places)) }
+{
+    if let Some((start, count)) = places.run() {
+        return String::from_str(alloc, first(skip(text, start), count));
+    }
+    if text.is_ascii() {
+        return pick_bytes(alloc, text.as_bytes(), places);
+    }
+    let table = table_of(alloc, text)?;
+    pick_chars(alloc, &table, places)
+}
+
+// The characters of the text, for reading at any place.
+fn table_of(alloc: Global, text: &str) -> Result<Vec<char>, AllocError>
+    ensures { IfOk result (λ table. table.items ≡ chars text.now) }
+{
+    text.chars().collect(alloc)
+}
+
+// The characters of a table at these places.
+fn pick_chars(alloc: Global, table: &[char], mut places: Places) -> Result<String, AllocError>
+    requires inside { All (λ p. p < length table.now) places }
+    ensures { IfOk result (λ s. string_bytes s ≡ encode_utf8_all (map (slice_index table.now) places)) }
+{
+    let mut out = String::with_capacity(alloc, places.len())?;
+    while let Some(place) = places.next() {
+        out.push(table[place])?;
+    }
+    Ok(out)
+}
+
+// The same of a text of ASCII, whose bytes are its characters.
+fn pick_bytes(alloc: Global, text: &[u8], mut places: Places) -> Result<String, AllocError>
+    requires ascii { IsAscii text.now }
+    requires inside { All (λ p. p < length text.now) places }
+    ensures { IfOk result (λ s. string_bytes s ≡ encode_utf8_all (map (slice_index text.now) places)) }
+{
+    let mut out = String::with_capacity(alloc, places.len())?;
+    while let Some(place) = places.next() {
+        out.push(text[place] as char)?;
+    }
+    Ok(out)
 }

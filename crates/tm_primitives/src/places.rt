@@ -1,5 +1,6 @@
 //! Which places of a sequence an index and a slice take.
-ghost use Rattle.std.specs.Prelude.{◌≡◌, ◌≢◌, ◌<◌, ◌<ℤ◌, ◌-ℤ◌, ◌∷◌, [], pos, unsigned_abs, length, MatchOption, ◌^◌, All};
+ghost use Rattle.std.specs.Prelude.{◌≡◌, ◌≢◌, ◌<◌, ◌<ℤ◌, ◌-ℤ◌, ◌∷◌, [], pos, unsigned_abs, length, MatchOption, IfSome, ◌^◌, All};
+ghost use Rattle.std.specs.List.{range_with_len};
 ghost use Rattle.std.specs.Int.{div_ceil, is_negative};
 ghost use Rattle.tm_primitives.specs.Places.{from_start, place_of, lowest, highest, bound_of, start_of, stop_of, distance, count_before, places_of, AreSpaced, AreBefore, IsDone, GoTheWay};
 
@@ -61,6 +62,17 @@ impl Places {
         ensures { result ≡ length self.now }
     {
         self.left
+    }
+
+    /// Where the places go up one by one: the first, and how many they are.
+    pub fn run(&self) -> Option<(usize, usize)>
+        ensures { IfSome result (λ r. self.now ≡ range_with_len r.0 r.1) }
+    {
+        if self.step == 1 && self.left > 0 {
+            Some((self.next as usize, self.left))
+        } else {
+            None
+        }
     }
 
     /// Takes the next place; none where no place is left.
