@@ -5,6 +5,7 @@ use Rattle.std.specs.List.{All, range_with_len}
 use Rattle.std.proofs.lemmas.Str.{encodes-chars}
 use Rattle.std.specs.Str.{chars, IsUtf8, encode_utf8_all}
 use Rattle.std.specs.String.{string_bytes}
+use Rattle.tm_primitives.specs.Characters.{picked}
 use Rattle.std.specs.declared.string.String.{String}
 
 pub inside_first : (n p : ℕ) (ps qs : List ℕ) → ps ≡ p ∷ qs → All (λ q. q < n) ps → p < n
@@ -19,10 +20,10 @@ inside_more n p ps qs e h k d l =
 
 -- one more character
 pub picked_more : (table ps qs out new whole : List ℕ) (p : ℕ) → ps ≡ p ∷ qs → new ≡ out ++ encode_utf8 (slice_index table p)
-    → out ++ encode_utf8_all (map (slice_index table) ps) ≡ whole → new ++ encode_utf8_all (map (slice_index table) qs) ≡ whole
+    → out ++ picked table ps ≡ whole → new ++ picked table qs ≡ whole
 picked_more table ps qs out new whole p e f h =
-    let step : out ++ (encode_utf8 (slice_index table p) ++ encode_utf8_all (map (slice_index table) qs)) ≡ whole = rw e at h in
-    ap (λ (s : List ℕ). s ++ encode_utf8_all (map (slice_index table) qs)) f ∙ (append_assoc out (encode_utf8 (slice_index table p)) (encode_utf8_all (map (slice_index table) qs)) ∙ step)
+    let step : out ++ (encode_utf8 (slice_index table p) ++ picked table qs) ≡ whole = rw e at h in
+    ap (λ (s : List ℕ). s ++ picked table qs) f ∙ (append_assoc out (encode_utf8 (slice_index table p)) (picked table qs) ∙ step)
 
 -- a run of places takes a part of the list
 run_picked : (cs : List ℕ) (a n : ℕ) → All (λ q. q < length cs) (range_with_len a n) → map (slice_index cs) (range_with_len a n) ≡ take n (drop a cs)
@@ -34,7 +35,7 @@ run_picked cs a (suc n) h =
     ap (λ (l : List ℕ). slice_index cs a ∷ l) (more ∙ ap (take n) next) ∙ ap (take (suc n)) (sym here)
 
 pub part_picked : (cs ps part rest : List ℕ) (a n : ℕ) → All (λ q. q < length cs) ps → ps ≡ range_with_len a n → IsUtf8 part
-    → chars part ≡ take n (chars rest) → chars rest ≡ drop a cs → part ≡ encode_utf8_all (map (slice_index cs) ps)
+    → chars part ≡ take n (chars rest) → chars rest ≡ drop a cs → part ≡ picked cs ps
 part_picked cs ps part rest a n h e u f g =
     let inside : All (λ q. q < length cs) (range_with_len a n) = subst (All (λ q. q < length cs)) e h in
     let taken : chars part ≡ map (slice_index cs) ps = f ∙ (ap (take n) g ∙ (sym (run_picked cs a n inside) ∙ ap (map (slice_index cs)) (sym e))) in
@@ -44,8 +45,8 @@ part_picked cs ps part rest a n h e u f g =
 pub table_inside : (table cs ps : List ℕ) → table ≡ cs → All (λ q. q < length cs) ps → All (λ q. q < length table) ps
 table_inside table cs ps e h = subst (λ (t : List ℕ). All (λ q. q < length t) ps) (sym e) h
 
-pub table_picked : {E Z : Type 0} (r : Result (String Z) E) (table cs ps : List ℕ) → table ≡ cs → IfOk r (λ s. string_bytes s ≡ encode_utf8_all (map (slice_index table) ps)) → IfOk r (λ s. string_bytes s ≡ encode_utf8_all (map (slice_index cs) ps))
-table_picked (Ok s) table cs ps e h = h ∙ ap (λ (t : List ℕ). encode_utf8_all (map (slice_index t) ps)) e
+pub table_picked : {E Z : Type 0} (r : Result (String Z) E) (table cs ps : List ℕ) → table ≡ cs → IfOk r (λ s. string_bytes s ≡ picked table ps) → IfOk r (λ s. string_bytes s ≡ picked cs ps)
+table_picked (Ok s) table cs ps e h = h ∙ ap (λ (t : List ℕ). picked t ps) e
 table_picked (Err x) table cs ps e h = tt
 
 pub copied : {E Z : Type 0} (r : Result (String Z) E) (bs cs : List ℕ) → bs ≡ cs → IfOk r (λ s. string_bytes s ≡ bs) → IfOk r (λ s. string_bytes s ≡ cs)

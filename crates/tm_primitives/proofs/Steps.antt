@@ -142,9 +142,24 @@ run_is x m w h = by_ones x m (first_at_least x m w h)
     first_at_least : (x : ℤ) (m : ℕ) → Within (2 ^ 64) x (pos 1) m → 0 < m → pos 0 ≤ℤ x
     first_at_least x zero w h = absurd (omega arith)
     first_at_least x (suc m) w h = w.0
+
     after : (x : ℤ) → pos 0 ≤ℤ x → unsigned_abs (x +ℤ pos 1) ≡ unsigned_abs x + 1
     after (pos n) h = refl
     after (negsuc n) h = absurd (omega (arith, ints, h))
+
     by_ones : (x : ℤ) (m : ℕ) → pos 0 ≤ℤ x → places_from x (pos 1) m ≡ range_with_len (unsigned_abs x) m
     by_ones x zero h = refl
     by_ones x (suc m) h = ap (λ (l : List ℕ). unsigned_abs x ∷ l) (by_ones (x +ℤ pos 1) m (omega (arith, ints, h)) ∙ ap (λ (a : ℕ). range_with_len a m) (after x h))
+
+-- places of which the second is not next to the first
+pub no_run : (x z : ℤ) (m : ℕ) → Within (2 ^ 64) x z m → m ≢ 0 → m ≢ 1 → z ≢ pos 1 → (p n : ℕ) → places_from x z m ≢ range_with_len p n
+no_run x z zero w h k l p n e = h refl
+no_run x z (suc zero) w h k l p n e = k refl
+no_run x z (suc (suc m)) w h k l p zero e = let lengths : suc (length (places_from (x +ℤ z) z (suc m))) ≡ 0 = ap length e in absurd (omega (arith, lengths))
+no_run x z (suc (suc m)) w h k l p (suc zero) e = let lengths : suc (suc (length (places_from (x +ℤ z +ℤ z) z m))) ≡ 1 = ap length e in absurd (omega (arith, lengths))
+no_run x z (suc (suc m)) w h k l p (suc (suc n)) e =
+    let first : unsigned_abs x ≡ p = ap (λ (ps : List ℕ). get_or ps 0 0) e in
+    let second : unsigned_abs (x +ℤ z) ≡ p + 1 = ap (λ (ps : List ℕ). get_or ps 1 0) e in
+    let here : pos (unsigned_abs x) ≡ x = abs_is x w.0 in
+    let there : pos (unsigned_abs (x +ℤ z)) ≡ x +ℤ z = abs_is (x +ℤ z) w.2.0 in
+    l (omega (arith, ints, first, second, here, there))

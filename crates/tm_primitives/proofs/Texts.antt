@@ -18,7 +18,7 @@ use Rattle.tm_primitives.specs.Characters.{starts_character}
 seam : (bs r : List ℕ) (n : ℕ) → IsUtf8 bs → IsUtf8 r → chars r ≡ drop n (chars bs) → bs ≡ encode_utf8_all (take n (chars bs)) ++ r
 seam bs r n u v e =
     sym (encodes-chars bs u) ∙ (ap encode_utf8_all (sym (take-append-drop n (chars bs))) ∙ (encodes-append (take n (chars bs)) (drop n (chars bs))
-      ∙ ap (λ (s : List ℕ). encode_utf8_all (take n (chars bs)) ++ s) (ap encode_utf8_all (sym e) ∙ encodes-chars r v)))
+    ∙ ap (λ (s : List ℕ). encode_utf8_all (take n (chars bs)) ++ s) (ap encode_utf8_all (sym e) ∙ encodes-chars r v)))
 
 cut_at : (bs xs r : List ℕ) → bs ≡ xs ++ r → length bs ≡ length xs + length r
 cut_at bs xs r s = ap length s ∙ length-append xs r
@@ -52,8 +52,8 @@ pub after_ascii : (bs r : List ℕ) (n : ℕ) → n ≤ length bs → IsAscii (t
 after_ascii bs r n h a e =
     let front = take n bs in
     let whole : chars bs ≡ front ++ chars r =
-      ap chars (sym (take-append-drop n bs)) ∙ (chars-append front (drop n bs) (IsUtf8-from_ascii front a)
-        ∙ (ap (λ (s : List ℕ). s ++ chars (drop n bs)) (chars-IsAscii front a) ∙ ap (λ (s : List ℕ). front ++ chars s) (sym e))) in
+    ap chars (sym (take-append-drop n bs)) ∙ (chars-append front (drop n bs) (IsUtf8-from_ascii front a)
+    ∙ (ap (λ (s : List ℕ). s ++ chars (drop n bs)) (chars-IsAscii front a) ∙ ap (λ (s : List ℕ). front ++ chars s) (sym e))) in
     sym (ap (drop n) whole ∙ (ap (λ (k : ℕ). drop k (front ++ chars r)) (sym (length-take-le n bs h)) ∙ drop-append_seam front (chars r)))
 
 -- ---- steps over one character

@@ -1,7 +1,7 @@
 -- Texts by their characters.
 use Rattle.std.specs.Prelude.{◌≡◌, ◌<◌, ◌||◌, ℕ, Bool, nat_lt, List, length, map, slice_index}
 use Rattle.std.specs.Char.{encode_utf8}
-use Rattle.std.specs.Str.{chars}
+use Rattle.std.specs.Str.{chars, encode_utf8_all}
 
 -- the byte begins a character: it is ASCII, or the first of several
 abbrev pub starts_character : ℕ → Bool
@@ -11,6 +11,6 @@ starts_character b = nat_lt b 128 || nat_lt 191 b
 abbrev pub IsCharacterAt : ℕ → List ℕ → List ℕ → Type 0
 IsCharacterAt place text bytes = (place < length (chars text)) × (bytes ≡ encode_utf8 (slice_index (chars text) place))
 
--- the characters of the text at these places
+-- the bytes of those of the characters that stand at these places
 abbrev pub picked : List ℕ → List ℕ → List ℕ
-picked text places = map (slice_index (chars text)) places
+picked cs places = encode_utf8_all (map (slice_index cs) places)

@@ -1,6 +1,6 @@
 //! Texts by their characters.
-ghost use Rattle.std.specs.Prelude.{◌≡◌, ◌<◌, ◌≤◌, length, take, drop, map, slice_index, MatchOption, IfOk, All};
-ghost use Rattle.std.specs.Str.{chars, encode_utf8_all, IsAscii};
+ghost use Rattle.std.specs.Prelude.{◌≡◌, ◌<◌, ◌≤◌, length, take, drop, IfSome, IfNone, IfOk, All};
+ghost use Rattle.std.specs.Str.{chars, IsAscii};
 ghost use Rattle.std.specs.String.{string_bytes};
 ghost use Rattle.tm_primitives.specs.Characters.{starts_character, IsCharacterAt, picked};
 
@@ -55,7 +55,8 @@ pub fn first(text: &str, count: usize) -> &str
 
 /// The character at the place, as a piece of the text; none past the end.
 pub fn character(text: &str, place: usize) -> Option<&str>
-    ensures { MatchOption result (length (chars text.now) ≤ place) (λ piece. IsCharacterAt place text.now piece.now) }
+    ensures some { IfSome result (λ piece. IsCharacterAt place text.now piece.now) }
+    ensures none { IfNone result (length (chars text.now) ≤ place) }
 {
     let rest = skip(text, place);
     let character = rest.chars().next()?;
@@ -66,7 +67,7 @@ pub fn character(text: &str, place: usize) -> Option<&str>
 /// Fails where no memory is found, and only so.
 pub fn pick(alloc: Global, text: &str, places: Places) -> Result<String, AllocError>
     requires inside { All (λ p. p < length (chars text.now)) places }
-    ensures { IfOk result (λ s. string_bytes s ≡ encode_utf8_all (picked text.now places)) }
+    ensures { IfOk result (λ s. string_bytes s ≡ picked (chars text.now) places) }
 {
     if let Some((start, count)) = places.run() {
         return String::from_str(alloc, first(skip(text, start), count));
@@ -88,7 +89,7 @@ fn table_of(alloc: Global, text: &str) -> Result<Vec<char>, AllocError>
 // The characters of a table at these places.
 fn pick_chars(alloc: Global, table: &[char], mut places: Places) -> Result<String, AllocError>
     requires inside { All (λ p. p < length table.now) places }
-    ensures { IfOk result (λ s. string_bytes s ≡ encode_utf8_all (map (slice_index table.now) places)) }
+    ensures { IfOk result (λ s. string_bytes s ≡ picked table.now places) }
 {
     let mut out = String::with_capacity(alloc, places.len())?;
     while let Some(place) = places.next() {
@@ -101,7 +102,7 @@ fn pick_chars(alloc: Global, table: &[char], mut places: Places) -> Result<Strin
 fn pick_bytes(alloc: Global, text: &[u8], mut places: Places) -> Result<String, AllocError>
     requires ascii { IsAscii text.now }
     requires inside { All (λ p. p < length text.now) places }
-    ensures { IfOk result (λ s. string_bytes s ≡ encode_utf8_all (map (slice_index text.now) places)) }
+    ensures { IfOk result (λ s. string_bytes s ≡ picked text.now places) }
 {
     let mut out = String::with_capacity(alloc, places.len())?;
     while let Some(place) = places.next() {

@@ -11,4 +11,4 @@ range-requires-clause-end_boundary c = cut_boundary c.args.text.now c.skip.resul
 pub returns : goal.returns
 returns c =
     first_is c.args.text.now c.skip.result.now c.range.result.now c.args.count c.utf8.text c.skip.utf8 c.range.utf8 c.skip.ensures
-      (c.range.ensures.value ∙ ap (λ (k : ℕ). take k c.args.text.now) (omega arith))
+    (c.range.ensures.value ∙ ap (λ (k : ℕ). take k c.args.text.now) (omega arith))

@@ -5,7 +5,7 @@ use Rattle.tm_primitives.proofs.characters.pick_bytes.Goals as goal
 
 pub loop-place-preserved : goal.loop-place-preserved
 loop-place-preserved c =
-    let next = c.in-Some.ensures in
+    let next = c.in-Some.ensures.some in
     let pushed = c.in_ok-push.ensures.bytes in
     record {
       inside = inside_more (length c.args.text.now) c.in-Some.place c.loop-place.places c.next.new.self next c.loop-place.invariant.inside;
