@@ -112,7 +112,7 @@ falling x a j k p q h ep eq =
     let same : suc j * suc a ≡ j * suc a + suc a = suc-mul j (suc a) in
     omega (arith, ints, le, same, ep, eq, down_to x a j, down_to x a k)
 
-go_the_way : (z x : ℤ) (ps : List ℕ) → z ≢ pos 0 → AreSpaced x z ps → GoTheWay z ps
+go_the_way : (z x : ℤ) (ps : List ℕ) → z ≢ pos 0 → ((k d : ℕ) → k < length ps → pos (get_or ps k d) ≡ step_to x z k) → GoTheWay z ps
 go_the_way (pos zero) x ps h s = absurd (h refl)
 go_the_way (pos (suc a)) x ps h s = λ j k d l m. rising x a j k (get_or ps j d) (get_or ps k d) l (s j d (omega (arith, l, m))) (s k d m)
 go_the_way (negsuc a) x ps h s = λ j k d l m. falling x a j k (get_or ps j d) (get_or ps k d) l (s j d (omega (arith, l, m))) (s k d m)
@@ -122,14 +122,14 @@ go_the_way (negsuc a) x ps h s = λ j k d l m. falling x a j k (get_or ps j d) (
 pub within : (n : ℕ) (start stop : Option ℤ) (z : ℤ) → z ≢ pos 0 → All (λ p. p < n) (places_of n start stop z)
 within n start stop z h k d l = all_within n (start_of n z start) z (count_before z (start_of n z start) (stop_of n z stop)) k d (slice_within n start stop z h) (rw length-places_from at l)
 
-pub spaced : (n : ℕ) (start stop : Option ℤ) (z : ℤ) → z ≢ pos 0 → AreSpaced (start_of n z start) z (places_of n start stop z)
+pub spaced : (n : ℕ) (start stop : Option ℤ) (z : ℤ) → z ≢ pos 0 → AreSpaced n start z (places_of n start stop z)
 spaced n start stop z h k d l =
     at_step n (start_of n z start) z (count_before z (start_of n z start) (stop_of n z stop)) k d (slice_within n start stop z h) (rw length-places_from at l)
 
-pub before : (n : ℕ) (start stop : Option ℤ) (z : ℤ) → z ≢ pos 0 → AreBefore z (stop_of n z stop) (places_of n start stop z)
+pub before : (n : ℕ) (start stop : Option ℤ) (z : ℤ) → z ≢ pos 0 → AreBefore n stop z (places_of n start stop z)
 before n start stop z h k d l = rw (spaced n start stop z h k d l) (before_at z (start_of n z start) (stop_of n z stop) k h (rw length-places_from at l))
 
-pub done : (n : ℕ) (start stop : Option ℤ) (z : ℤ) → z ≢ pos 0 → IsDone z (start_of n z start) (stop_of n z stop) (places_of n start stop z)
+pub done : (n : ℕ) (start stop : Option ℤ) (z : ℤ) → z ≢ pos 0 → IsDone n start stop z (places_of n start stop z)
 done n start stop z h l = past_at z (start_of n z start) (stop_of n z stop) h (rw length-places_from at l)
 
 pub strict : (n : ℕ) (start stop : Option ℤ) (z : ℤ) → z ≢ pos 0 → GoTheWay z (places_of n start stop z)
