@@ -1,8 +1,7 @@
 -- Attributes and items of values.
-use Rattle.std.specs.Prelude.{ℕ, ◌+◌, ◌-◌, ◌==◌, ℤ, pos, Bool, true, false, cond, List, [], ◌∷◌, length, Option, None, Some, Ok, option_and_then, slice_get, slice_index_or, codes}
+use Rattle.std.specs.Prelude.{ℕ, ◌+◌, ◌-◌, ◌==◌, ℤ, pos, Bool, true, false, cond, List, [], ◌∷◌, length, Option, None, Some, Ok, nat_eq, slice_index_or, codes}
 use Rattle.std.specs.Char.{encode_utf8}
 use Rattle.std.specs.Cmp.Lexicographic.{pointwise}
-use Rattle.std.specs.Ordering.{nat_eq}
 use Rattle.std.specs.Str.{chars}
 use Rattle.tm_operations.specs.Undefined.{unless}
 use Rattle.tm_operations.specs.declared.members.LoopAttribute.{LoopAttribute}
