@@ -3,3 +3,4 @@ pub mod Truth
 pub mod Arithmetic
 pub mod Comparison
 pub mod Members
+pub mod Containment

@@ -4,11 +4,13 @@
 mod arithmetic;
 mod comparisons;
 mod condition;
+mod containment;
 mod members;
 mod undefined;
 
 pub use arithmetic::{add, divide, floor_divide, multiply, negate, power, remainder, subtract};
 pub use comparisons::{Comparison, compare};
 pub use condition::{is_true, truth};
+pub use containment::contains;
 pub use members::{LoopAttribute, attribute, check_settable, is_callable, item};
 pub use undefined::check_defined;
