@@ -1,18 +1,14 @@
 //! Templates of an environment.
-ghost use Rattle.std.specs.Prelude.{◌≡◌, ◌≢◌, ◌⊎◌, ◌+◌, ◌<◌, [], ◌∷◌, Err, IfOk, IfErr};
+ghost use Rattle.std.specs.Prelude.{◌≡◌, ◌+◌, ◌<◌, [], ◌∷◌, Err, IfOk, IfErr};
 ghost use Rattle.tm_meaning.specs.World.{first_world};
-ghost use Rattle.std.specs.Io.KnownBytes.{Appends};
-ghost use Rattle.tm_meaning.specs.Meaning.{text_of, rendered};
-ghost use Rattle.tm_meaning.specs.Texts.{put_out};
-ghost use Rattle.tm_parts.specs.Counts.{one_more, AppendsBeginning};
-ghost use Rattle.tm_vm.specs.Answers.{IsOwn, faults_after};
-ghost use Rattle.template_machine.specs.Renders.{meaning, greatest, FoundMemory, IsEnd, IsText, IsRun};
+ghost use Rattle.tm_meaning.specs.Meaning.{rendered};
+ghost use Rattle.template_machine.specs.Renders.{meaning, greatest, Rendered, RenderedText, Ran};
 ghost use Rattle.template_machine.specs.Environment.{host_of};
 
 use crate::environment::Environment;
 use crate::state::{Captured, State};
 use std::marker::Model;
-use tm_parts::{Captures, NullWriter, Sink};
+use tm_parts::{Captures, Halt, NullWriter, Sink};
 use tm_tables::CompiledTemplate;
 use tm_values::{Error, ErrorKind, Value};
 use tm_vm::{StateData, StateIds, run};
@@ -62,30 +58,24 @@ impl<'env, 'source> Template<'env, 'source> {
         self.compiled.source()
     }
 
-    /// Renders the template over a context value, as the next state of the counter, and gives the text. InvalidOperation, and nothing runs, where the counter is full.
+    /// Renders the template over a context value, as the next state of the counter, and gives the text. InvalidOperation, and nothing runs, where the counter is full; OutOfMemory where there is no memory; else the fault that was meant.
     pub fn render(&self, ids: &mut StateIds, context: Value) -> Result<String, Error>
         ensures full { ids.old ≡ greatest → (result ≡ Err (ErrorKind.InvalidOperation ∷ [])) × (ids.new ≡ ids.old) }
         ensures next { ids.old < greatest → ids.new ≡ ids.old + 1 }
-        ensures text { ids.old < greatest → FoundMemory result → IsText result (meaning self.now ids.old context) }
-        ensures sound { result ≢ Err (ErrorKind.BadStream ∷ []) }
+        ensures rendered { ids.old < greatest → RenderedText (meaning self.now ids.old context) result }
     {
         let alloc = self.environment.allocator();
-        let mut state = match self.first_state(ids, context) {
-            Ok(state) => state,
-            Err(error) => return Err(error),
-        };
+        let mut state = self.first_state(ids, context)?;
         let mut captures = Captures::new(alloc);
         captures.begin(alloc)?;
-        if let Err(error) = self.run_over(&mut state, &mut captures, &mut NullWriter) {
-            return Err(error);
-        }
+        self.run_over(&mut state, &mut captures, &mut NullWriter)?;
         match captures.end() {
             Some(text) => Ok(text),
             None => unreachable!(),
         }
     }
 
-    /// Renders the template over a context value, as the next state of the counter, into a writer. InvalidOperation, and nothing runs, where the counter is full; WriteFailure where the writer fails.
+    /// Renders the template over a context value, as the next state of the counter, into a writer. InvalidOperation, and nothing runs, where the counter is full; WriteFailure where the writer fails or takes nothing; OutOfMemory where there is no memory; else the fault that was meant.
     pub fn render_captured_to<W: Sink>(
         &self,
         ids: &mut StateIds,
@@ -95,23 +85,14 @@ impl<'env, 'source> Template<'env, 'source> {
         ensures full { ids.old ≡ greatest → (result ≡ Err (ErrorKind.InvalidOperation ∷ [])) × (ids.new ≡ ids.old)
             × (W.told writer.new ≡ W.told writer.old) × (W.faults writer.new ≡ W.faults writer.old) }
         ensures next { ids.old < greatest → ids.new ≡ ids.old + 1 }
-        ensures end { ids.old < greatest → IsOwn result
-            → Appends (W.told writer.old) (W.told writer.new) (text_of (meaning self.now ids.old context)) × IsEnd result (meaning self.now ids.old context) }
-        ensures failed { W.faults writer.new ≢ W.faults writer.old → result ≡ Err (ErrorKind.WriteFailure ∷ []) }
-        ensures raised { result ≡ Err (ErrorKind.WriteFailure ∷ []) → W.faults writer.new ≡ one_more (W.faults writer.old) }
-        ensures beginning { AppendsBeginning (W.told writer.old) (W.told writer.new) (text_of (meaning self.now ids.old context)) }
-        ensures sound { result ≢ Err (ErrorKind.BadStream ∷ []) }
+        ensures rendered { ids.old < greatest → Rendered (meaning self.now ids.old context) result
+            (W.told writer.old) (W.told writer.new) (W.faults writer.old) (W.faults writer.new) }
     {
-        let mut state = match self.first_state(ids, context) {
-            Ok(state) => state,
-            Err(error) => return Err(error),
-        };
+        let mut state = self.first_state(ids, context)?;
         let alloc = self.environment.allocator();
         let mut captures = Captures::new(alloc);
-        match self.run_over(&mut state, &mut captures, writer) {
-            Ok(()) => Ok(Captured::new(String::new(alloc), State::new(self.environment, state))),
-            Err(error) => Err(error),
-        }
+        self.run_over(&mut state, &mut captures, writer)?;
+        Ok(Captured::new(String::new(alloc), State::new(self.environment, state)))
     }
 
     /// The state that a render starts from. InvalidOperation where the counter is full, OutOfMemory where there is no memory.
@@ -120,12 +101,8 @@ impl<'env, 'source> Template<'env, 'source> {
         ensures next { ids.old < greatest → ids.new ≡ ids.old + 1 }
         ensures state { IfOk result (λ s. s ≡ first_world ids.old self.now.template.name self.now.environment.fuel context) }
         ensures memory { ids.old < greatest → IfErr result (λ e. e ≡ ErrorKind.OutOfMemory ∷ []) }
-        ensures kind { IfErr result (λ e. (e ≡ ErrorKind.InvalidOperation ∷ []) ⊎ (e ≡ ErrorKind.OutOfMemory ∷ [])) }
     {
-        let id = match ids.next() {
-            Ok(id) => id,
-            Err(error) => return Err(error),
-        };
+        let id = ids.next()?;
         let environment = self.environment;
         StateData::new(
             environment.allocator(),
@@ -142,14 +119,9 @@ impl<'env, 'source> Template<'env, 'source> {
         state: &mut StateData<'env>,
         captures: &mut Captures,
         writer: &mut W,
-    ) -> Result<(), Error>
-        ensures run { let m = rendered (host_of self.now.environment) self.now.template.tree state.old in
-            IsOwn result → Appends (W.told writer.old) (W.told writer.new) (put_out captures.old (text_of m))
-            × IsRun result state.new captures.old captures.new m }
-        ensures beginning { let m = rendered (host_of self.now.environment) self.now.template.tree state.old in
-            AppendsBeginning (W.told writer.old) (W.told writer.new) (put_out captures.old (text_of m)) }
-        ensures faults { W.faults writer.new ≡ faults_after result (W.faults writer.old) }
-        ensures sound { result ≢ Err (ErrorKind.BadStream ∷ []) }
+    ) -> Result<(), Halt>
+        ensures { Ran (rendered (host_of self.now.environment) self.now.template.tree state.old) result state.new captures.old captures.new
+            (W.told writer.old) (W.told writer.new) (W.faults writer.old) (W.faults writer.new) }
     {
         let environment = self.environment;
         run(

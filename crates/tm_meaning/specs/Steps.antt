@@ -1,5 +1,5 @@
 -- A step of the machine.
-use Rattle.std.specs.Prelude.{ℕ, List, [], ◌∷◌, length, Option, Some, None, slice_get, nat_eq, ◌&&◌, if◌then◌else◌}
+use Rattle.std.specs.Prelude.{length, Option, Some, None, slice_get, nat_eq, ◌&&◌, if◌then◌else◌}
 use Rattle.tm_compiler.specs.Code.{Ins, EmitRaw, Lookup, Emit}
 use Rattle.tm_meaning.specs.World.{World, Host, Res, tick}
 use Rattle.tm_meaning.specs.Machine.{Config, Frame, Next, Over, Finished, after, stuck}

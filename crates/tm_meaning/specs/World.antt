@@ -4,7 +4,7 @@ use Rattle.tm_values.specs.Val.{Val, undefined}
 use Rattle.tm_values.specs.Map.{attribute}
 use Rattle.tm_values.specs.Print.{printed}
 use Rattle.tm_values.specs.declared.error.ErrorKind.{ErrorKind}
-use Rattle.tm_values.specs.declared.error.ErrorKind.TheVariants.{InvalidOperation, OutOfFuel}
+use Rattle.tm_values.specs.declared.error.ErrorKind.TheVariants.{OutOfFuel}
 
 -- A scope: the value whose attributes are its names.
 pub record Scope : Type 0 where

@@ -1,23 +1,23 @@
 -- Where the loop stands in a run, and what it answers there.
-use Rattle.std.proofs.Common.{◌≡◌, ◌≢◌, ℕ, ◌+◌, ◌<◌, ◌≤◌, List, [], ◌∷◌, ◌++◌, length, map, get_or, take, zero, suc, Option, Some, None, Bool, true, false, cond, Result, Ok, Err, refl, sym, ◌∙◌, ap, subst, arith, append_assoc, option_map, nat_eq}
+use Rattle.std.proofs.Common.{◌≡◌, ◌≢◌, ℕ, ◌<◌, ◌≤◌, List, [], ◌++◌, length, map, get_or, take, zero, suc, Option, Some, None, Err, refl, sym, ◌∙◌, ap, subst, arith, append_assoc, option_map, nat_eq}
 use Rattle.std.specs.Prelude.{slice_get, ◌&&◌, if◌then◌else◌}
 use Rattle.std.specs.Io.KnownBytes.{Appends}
 use Rattle.std.proofs.lemmas.Option.{slice_get-map, slice_get-get_or, slice_get_past}
 use Rattle.std.proofs.lemmas.Bool.{eq-eqb, ne_eqb}
 use Rattle.std.proofs.lemmas.List.{append-nil, length-map}
 use Rattle.tm_values.specs.Val.{Val}
-use Rattle.tm_values.specs.declared.error.ErrorKind.{ErrorKind}
-use Rattle.tm_values.specs.declared.error.ErrorKind.TheVariants.{BadStream}
-use Rattle.tm_compiler.specs.Code.{Ins, ins_of}
+use Rattle.tm_compiler.specs.Code.{ins_of}
 use Rattle.tm_compiler.specs.declared.instruction.Instruction.{Instruction}
 use Rattle.tm_meaning.specs.World.{Host, World}
-use Rattle.tm_meaning.specs.Machine.{Config, Frame, Final, End, Finished, Failed, Next, More, Over, output, stuck}
-use Rattle.tm_meaning.specs.Steps.{act, step, finish}
-use Rattle.tm_meaning.specs.Runs.{Leads, Reaches, over, more, start, final}
+use Rattle.tm_meaning.specs.Machine.{Config, Frame, Final, End, Finished, Failed, Stuck, Next, More, Over, output, stuck}
+use Rattle.tm_meaning.specs.Steps.{act, step}
+use Rattle.tm_meaning.specs.Runs.{Leads, Reaches, over, more}
 use Rattle.tm_meaning.proofs.Ends.{text_grows, more_only}
 use Rattle.tm_parts.specs.Counts.{AppendsBeginning}
 use Rattle.tm_parts.proofs.Pieces.{appends_then, appends_nothing, appends_beginning, appends_then_beginning_longer}
-use Rattle.tm_vm.specs.Answers.{Answer, Did, IsOwn, is_excused, end_of, config, frame}
+use Rattle.tm_parts.specs.declared.halt.Halt.{Halt}
+use Rattle.tm_parts.specs.declared.halt.Halt.TheVariants as halt
+use Rattle.tm_vm.specs.Answers.{EndsAs, Comes, config, frame}
 
 -- The writer has got a text since the run began at a, and the machine has come from a to c.
 pub record Stands (h : Host) (f : Frame) (a : Config) (told now : Option (List ℕ)) (c : Config) : Type 0 where
@@ -72,13 +72,21 @@ nothing_more : (a b c : Option (List ℕ)) (t : List ℕ) → Appends a b t → 
 nothing_more a b c t first begun =
     subst (λ w. Appends a c w) (append-nil t) (appends_then a b c t [] first (subst (λ w. Appends b c w) (take-nil begun.0) begun.1))
 
--- the end of a run that an instruction failed
-pub ended_at : {h : Host} {f : Frame} {a c : Config} {told now : Option (List ℕ)} (new : Option (List ℕ)) {n : Next} {chain : List ErrorKind} {w : World} → Stands h f a told now c →
-    step h f c ≡ n → (is_excused chain ≡ false → n ≡ Over (Failed w chain)) → AppendsBeginning now new (output n) → is_excused chain ≡ false →
-    (text : List ℕ) × Appends told new text × Reaches h f [] a (final text (Failed w chain))
-ended_at {told = told} {now = now} new {n = n} s e fails begun own =
-    let same : output n ≡ [] = ap output (fails own) in
-    (s.text, nothing_more told now new s.text s.appended (subst (λ t. AppendsBeginning now new t) same begun), s.onward _ (over (e ∙ fails own) refl))
+-- the end of a run that an instruction stopped
+pub ended_at : {h : Host} {a c : Config} {told now : Option (List ℕ)} (new : Option (List ℕ)) {n : Next} (halt : Halt) (captures : List (List ℕ)) (w : World) →
+    Stands h (frame a.captures) a told now c → step h (frame a.captures) c ≡ n → EndsAs (Err halt) captures w (λ e. n ≡ Over e) → AppendsBeginning now new (output n) →
+    EndsAs (Err halt) captures w (Comes h a told new)
+ended_at {h = h} {a = a} {told = told} {now = now} new {n = n} why captures w s e ends begun = by_halt why ends
+  where
+    comes : (end : End) → n ≡ Over end → Comes h a told new end
+    comes end over_now =
+        let same : output n ≡ [] = ap output over_now in
+        (s.text, nothing_more told now new s.text s.appended (subst (λ t. AppendsBeginning now new t) same begun), s.onward _ (over (e ∙ over_now) refl))
+
+    by_halt : (why : Halt) → EndsAs (Err why) captures w (λ e. n ≡ Over e) → EndsAs (Err why) captures w (Comes h a told new)
+    by_halt halt.Writer ends = tt
+    by_halt halt.Stuck ends = comes (Stuck w) ends
+    by_halt (halt.Fault chain) ends = λ own. comes (Failed w chain) (ends own)
 
 -- behind the last instruction
 pub step_end : (h : Host) (captures0 : List (List ℕ)) (stream : List Instruction) (place : ℕ) (operands : List Val) (captures : List (List ℕ)) (w : World) →
@@ -93,8 +101,8 @@ step_end h captures0 stream place operands captures w le ge =
     ∙ ap (λ b. if b && nat_eq (length captures) (length captures0) then Over (Finished captures w) else stuck w) (eq-eqb place (length (map ins_of stream)) len)
 
 -- the run's end
-pub ended_all : {h : Host} {f : Frame} {a c : Config} {told now : Option (List ℕ)} {e : End} → Stands h f a told now c → step h f c ≡ Over e →
-    (text : List ℕ) × Appends told now text × Reaches h f [] a (final text e)
+ended_all : {h : Host} {a c : Config} {told now : Option (List ℕ)} {e : End} → Stands h (frame a.captures) a told now c → step h (frame a.captures) c ≡ Over e →
+    Comes h a told now e
 ended_all s at = (s.text, s.appended, s.onward _ (over at refl))
 
 -- at its end the writer has got the whole text
@@ -105,17 +113,15 @@ whole_at {told = told} {now = now} s o r =
     subst (λ t. AppendsBeginning told now t) (sym grown.1) (appends_beginning told now s.text grown.0 s.appended)
 
 -- the end of a run that opened no capture which it left open
-pub ended_good : (h : Host) (captures0 : List (List ℕ)) {a : Config} {told now : Option (List ℕ)} (stream : List Instruction) {place : ℕ} {operands : List Val} {captures : List (List ℕ)} {w : World} →
-    Stands h (frame captures0) a told now (config (map ins_of stream) place operands captures w) → length stream ≤ place → place ≤ length stream → length captures ≡ length captures0 →
-    (text : List ℕ) × Appends told now text × Reaches h (frame captures0) [] a (final text (Finished captures w))
-ended_good h captures0 stream {place = place} {operands = operands} {captures = captures} {w = w} s le ge same =
-    ended_all s (step_end h captures0 stream place operands captures w le ge ∙ ap (λ b. if b then Over (Finished captures w) else stuck w) (eq-eqb (length captures) (length captures0) same))
+pub ended_good : (h : Host) {a : Config} {told now : Option (List ℕ)} (stream : List Instruction) {place : ℕ} {operands : List Val} {captures : List (List ℕ)} {w : World} →
+    Stands h (frame a.captures) a told now (config (map ins_of stream) place operands captures w) → length stream ≤ place → place ≤ length stream → length captures ≡ length a.captures →
+    Comes h a told now (Finished captures w)
+ended_good h {a = a} stream {place = place} {operands = operands} {captures = captures} {w = w} s le ge same =
+    ended_all s (step_end h a.captures stream place operands captures w le ge ∙ ap (λ b. if b then Over (Finished captures w) else stuck w) (eq-eqb (length captures) (length a.captures) same))
 
 -- the end of a run that left a capture open, or closed one that isn't its own
-pub ended_bad : (h : Host) (captures0 : List (List ℕ)) {a : Config} {told now : Option (List ℕ)} (stream : List Instruction) {place : ℕ} {operands : List Val} {captures : List (List ℕ)} {w : World} {chain : List ErrorKind} →
-    Stands h (frame captures0) a told now (config (map ins_of stream) place operands captures w) → length stream ≤ place → place ≤ length stream → length captures ≢ length captures0 → chain ≡ BadStream ∷ [] →
-    (text : List ℕ) × Appends told now text × Reaches h (frame captures0) [] a (final text (Failed w chain))
-ended_bad h captures0 stream {place = place} {operands = operands} {captures = captures} {w = w} s le ge other e =
-    ended_all s (step_end h captures0 stream place operands captures w le ge
-    ∙ ap (λ b. if b then Over (Finished captures w) else stuck w) (ne_eqb (length captures) (length captures0) other)
-    ∙ ap (λ ch. Over (Failed w ch)) (sym e))
+pub ended_bad : (h : Host) {a : Config} {told now : Option (List ℕ)} (stream : List Instruction) {place : ℕ} {operands : List Val} {captures : List (List ℕ)} {w : World} →
+    Stands h (frame a.captures) a told now (config (map ins_of stream) place operands captures w) → length stream ≤ place → place ≤ length stream → length captures ≢ length a.captures →
+    Comes h a told now (Stuck w)
+ended_bad h {a = a} stream {place = place} {operands = operands} {captures = captures} {w = w} s le ge other =
+    ended_all s (step_end h a.captures stream place operands captures w le ge ∙ ap (λ b. if b then Over (Finished captures w) else stuck w) (ne_eqb (length captures) (length a.captures) other))

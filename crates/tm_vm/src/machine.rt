@@ -11,19 +11,20 @@ ghost use Rattle.tm_meaning.specs.Machine.{Config, Frame, Final};
 ghost use Rattle.tm_meaning.specs.Instructions.{emit_raw_of, lookup_of, emit_of};
 ghost use Rattle.tm_meaning.specs.Steps.{act};
 ghost use Rattle.tm_meaning.specs.Runs.{Reaches, start, final};
-ghost use Rattle.tm_parts.specs.Counts.{one_more, AppendsBeginning};
-ghost use Rattle.tm_vm.specs.Answers.{Did, IsOwn, end_of, faults_after, config, frame};
+ghost use Rattle.tm_parts.specs.Counts.{AppendsBeginning};
+ghost use Rattle.tm_parts.specs.Halts.{faults_after};
+ghost use Rattle.tm_vm.specs.Answers.{Did, EndsAs, Comes, config, frame};
 
 use crate::state::StateData;
 use std::alloc::Global;
 use std::rc::RcStr;
 use tm_compiler::Instruction;
-use tm_parts::{Captures, Sink};
+use tm_parts::{Captures, Halt, Sink};
 use tm_tables::{Host, Stack};
-use tm_values::{Error, ErrorKind, Value};
+use tm_values::{ErrorKind, Value};
 
 /// Writes a text as it stands.
-fn do_emit_raw<W: Sink>(text: &RcStr, captures: &mut Captures, writer: &mut W) -> Result<(), Error>
+fn do_emit_raw<W: Sink>(text: &RcStr, captures: &mut Captures, writer: &mut W) -> Result<(), Halt>
     ensures did { (stream : List Ins) (place : ℕ) (operands : List Val) (w : World) →
         Did result (W.told writer.old) (W.told writer.new) (config stream (place + 1) operands captures.new w)
         (emit_raw_of (rc_str_bytes text.now) (config stream place operands captures.old w)) }
@@ -38,11 +39,11 @@ fn do_lookup<H: Host>(
     name: &RcStr,
     state: &StateData<'_>,
     operands: &mut Stack,
-) -> Result<(), Error>
+) -> Result<(), Halt>
     ensures did { (stream : List Ins) (place : ℕ) (captures : List (List ℕ)) (told : Option (List ℕ)) →
         Did result told told (config stream (place + 1) operands.new captures state.now)
         (lookup_of (H.meaning host.now) (rc_str_bytes name.now) (config stream place operands.old captures state.now)) }
-    ensures kind { IfErr result (λ e. e ≡ ErrorKind.OutOfMemory ∷ []) }
+    ensures kind { IfErr result (λ halt. halt ≡ Halt.Fault (ErrorKind.OutOfMemory ∷ [])) }
 {
     let value = match state.find(name.as_str()) {
         Some(value) => value.share()?,
@@ -51,7 +52,7 @@ fn do_lookup<H: Host>(
             None => Value::undefined(),
         },
     };
-    operands.push(value)
+    Ok(operands.push(value)?)
 }
 
 /// Writes what a value is printed as.
@@ -60,7 +61,7 @@ fn write_value<W: Sink>(
     value: &Value,
     captures: &mut Captures,
     writer: &mut W,
-) -> Result<(), Error>
+) -> Result<(), Halt>
     ensures did { (stream : List Ins) (place : ℕ) (operands : List Val) (w : World) →
         Did result (W.told writer.old) (W.told writer.new) (config stream (place + 1) operands captures.new w)
         (emit_of (config stream place (value.now ∷ operands) captures.old w)) }
@@ -69,11 +70,9 @@ fn write_value<W: Sink>(
     if let Some(text) = value.as_str() {
         return captures.write_str(writer, text);
     }
-    let mut text = String::new(alloc);
-    match value.print(&mut text) {
-        Ok(()) => captures.write_str(writer, text.as_str()),
-        Err(error) => Err(error),
-    }
+    let mut printed = String::new(alloc);
+    value.print(&mut printed)?;
+    captures.write_str(writer, printed.as_str())
 }
 
 /// Pops a value and writes what it is printed as.
@@ -82,7 +81,7 @@ fn do_emit<W: Sink>(
     operands: &mut Stack,
     captures: &mut Captures,
     writer: &mut W,
-) -> Result<(), Error>
+) -> Result<(), Halt>
     ensures did { (stream : List Ins) (place : ℕ) (w : World) →
         Did result (W.told writer.old) (W.told writer.new) (config stream (place + 1) operands.new captures.new w)
         (emit_of (config stream place operands.old captures.old w)) }
@@ -90,7 +89,7 @@ fn do_emit<W: Sink>(
 {
     match operands.pop() {
         Some(value) => write_value(alloc, &value, captures, writer),
-        None => Err(Error::from(ErrorKind::BadStream)),
+        None => Err(Halt::Stuck),
     }
 }
 
@@ -104,15 +103,13 @@ pub fn step<H: Host, W: Sink>(
     operands: &mut Stack,
     captures: &mut Captures,
     writer: &mut W,
-) -> Result<(), Error>
+) -> Result<(), Halt>
     ensures did { (f : Frame) (stream : List Ins) (place : ℕ) →
         Did result (W.told writer.old) (W.told writer.new) (config stream (place + 1) operands.new captures.new state.new)
         (act (H.meaning host.now) f (Some (ins_of instruction.now)) (config stream place operands.old captures.old state.old)) }
     ensures faults { W.faults writer.new ≡ faults_after result (W.faults writer.old) }
 {
-    if let Err(error) = state.charge(instruction) {
-        return Err(error);
-    }
+    state.charge(instruction)?;
     match instruction {
         Instruction::EmitRaw(text) => do_emit_raw(text, captures, writer),
         Instruction::Lookup(name) => do_lookup(host, name, state, operands),
@@ -128,10 +125,9 @@ pub fn run<H: Host, W: Sink>(
     state: &mut StateData<'_>,
     captures: &mut Captures,
     writer: &mut W,
-) -> Result<(), Error>
-    ensures ended { IsOwn result → (text : List ℕ) × Appends (W.told writer.old) (W.told writer.new) text
-        × Reaches (H.meaning host.now) (frame captures.old) [] (start (map ins_of stream.now) captures.old state.old)
-        (final text (end_of result captures.new state.new)) }
+) -> Result<(), Halt>
+    ensures ended { EndsAs result captures.new state.new (Comes (H.meaning host.now)
+        (start (map ins_of stream.now) captures.old state.old) (W.told writer.old) (W.told writer.new)) }
     ensures beginning { (o : Final) → Reaches (H.meaning host.now) (frame captures.old) [] (start (map ins_of stream.now) captures.old state.old) o
         → AppendsBeginning (W.told writer.old) (W.told writer.new) o.text }
     ensures faults { W.faults writer.new ≡ faults_after result (W.faults writer.old) }
@@ -140,7 +136,7 @@ pub fn run<H: Host, W: Sink>(
     let mut operands = Stack::new(alloc);
     let mut place = 0;
     while place < stream.len() {
-        if let Err(error) = step(
+        if let Err(halt) = step(
             alloc,
             host,
             &stream[place],
@@ -149,12 +145,12 @@ pub fn run<H: Host, W: Sink>(
             captures,
             writer,
         ) {
-            return Err(error);
+            return Err(halt);
         }
         place += 1;
     }
     if captures.depth() != floor {
-        return Err(Error::from(ErrorKind::BadStream));
+        return Err(Halt::Stuck);
     }
     Ok(())
 }

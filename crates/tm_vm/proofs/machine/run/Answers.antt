@@ -1,4 +1,4 @@
-use Rattle.std.proofs.Common.{◌≡◌, ◌≢◌, ℕ, ◌≤◌, [], length, map, Ok, Err, arith, refl, sym, ◌∙◌, ap, subst, nat_eq}
+use Rattle.std.proofs.Common.{◌≢◌, length, map, arith, refl, sym, ◌∙◌, subst}
 use Rattle.tm_compiler.specs.Code.{ins_of}
 use Rattle.tm_meaning.specs.Runs.{start}
 use Rattle.tm_vm.specs.Answers.{config, frame}
@@ -37,7 +37,7 @@ returns-in-Err-clause-ended g c =
     let f = frame c.args.captures.now in
     let p = c.loop-place in
     let did = c.in-Err.ensures.did f (map ins_of c.args.stream.now) p.place in
-    ended_at _ p.invariant.stands
+    ended_at _ c.in-Err.halt c.step.new.captures c.step.new.state p.invariant.stands
     (step_at h f c.args.stream.now p.place c.index-stream-place.result p.operands p.captures p.state (omega arith) c.index-stream-place.is)
     did.0 did.1
 
@@ -52,17 +52,17 @@ returns-in-Err-clause-beginning g c =
     did.1
 
 pub returns-then-depth-floor-clause-ended : goal.returns-then-depth-floor-clause-ended
-returns-then-depth-floor-clause-ended g c = λ own.
+returns-then-depth-floor-clause-ended g c =
     let other : length c.loop-place.captures ≢ length c.args.captures.now =
     λ e. c.if-depth-floor.true (c.depth.ensures ∙ e ∙ sym c.depth-floor.ensures) in
-    ended_bad (g.H.Host.meaning c.args.host.now) c.args.captures.now c.args.stream.now c.loop-place.invariant.stands (omega arith) (omega arith) other c.from.ensures
+    ended_bad (g.H.Host.meaning c.args.host.now) c.args.stream.now c.loop-place.invariant.stands (omega arith) (omega arith) other
 
 pub returns-then-depth-floor-clause-beginning : goal.returns-then-depth-floor-clause-beginning
 returns-then-depth-floor-clause-beginning g c = whole_at c.loop-place.invariant.stands
 
 pub returns-clause-ended : goal.returns-clause-ended
-returns-clause-ended g c = λ own.
-    ended_good (g.H.Host.meaning c.args.host.now) c.args.captures.now c.args.stream.now c.loop-place.invariant.stands (omega arith) (omega arith) (sym c.depth.ensures ∙ c.if-depth-floor.false ∙ c.depth-floor.ensures)
+returns-clause-ended g c =
+    ended_good (g.H.Host.meaning c.args.host.now) c.args.stream.now c.loop-place.invariant.stands (omega arith) (omega arith) (sym c.depth.ensures ∙ c.if-depth-floor.false ∙ c.depth-floor.ensures)
 
 pub returns-clause-beginning : goal.returns-clause-beginning
 returns-clause-beginning g c = whole_at c.loop-place.invariant.stands
