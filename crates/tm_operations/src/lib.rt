@@ -6,6 +6,8 @@ mod comparisons;
 mod condition;
 mod containment;
 mod members;
+#[cfg(test)]
+mod tests;
 mod undefined;
 
 pub use arithmetic::{add, divide, floor_divide, multiply, negate, power, remainder, subtract};
