@@ -11,6 +11,9 @@ use std::alloc::{AllocError, Global};
 pub fn count(text: &str) -> usize
     ensures { result ≡ length (chars text.now) }
 {
+    if text.is_ascii() {
+        return text.len();
+    }
     let mut count = 0;
     for byte in text.as_bytes() {
         count += starts_character(*byte) as usize;
