@@ -1,12 +1,12 @@
 -- The laws of the places that a slice takes.
-use Rattle.std.proofs.Common.{◌≡◌, ◌≢◌, ◌<◌, ◌≤◌, ◌+◌, ◌*◌, ◌<ℤ◌, ◌≤ℤ◌, ◌+ℤ◌, ◌-ℤ◌, ◌*ℤ◌, ℕ, ℤ, pos, negsuc, neg_ℤ, Option, List, [], ◌∷◌, length, get_or, inl, inr, refl, sym, ap, ◌∙◌, arith, zero, suc, unsigned_abs}
+use Rattle.std.proofs.Common.{◌≡◌, ◌≢◌, ◌<◌, ◌≤◌, ◌+◌, ◌*◌, ◌<ℤ◌, ◌≤ℤ◌, ◌+ℤ◌, ◌-ℤ◌, ◌*ℤ◌, ℕ, ℤ, pos, negsuc, neg_ℤ, Option, List, length, get_or, inl, inr, refl, sym, ap, ◌∙◌, arith, zero, suc, unsigned_abs}
 use Rattle.std.proofs.lemmas.Int.{ints}
 use Rattle.std.proofs.lemmas.Grind.{div_ceil_times}
 use Rattle.std.proofs.lemmas.Nat.{mul-le}
 use Rattle.std.proofs.Math.Nat.{suc-mul}
 use Rattle.std.proofs.Math.IntN.{pos-*ℤ-pos, pos-*ℤ-negsuc}
 use Rattle.std.specs.List.{All}
-use Rattle.std.specs.Int.{div_ceil, is_negative}
+use Rattle.std.specs.Int.{div_ceil}
 use Rattle.tm_primitives.proofs.Steps.{length-places_from, slice_within, abs_is, distance_is, count_up, not_negative}
 use Rattle.tm_primitives.specs.Places.{places_from, places_of, Within, start_of, stop_of, distance, count_before, IsBefore, step_to, AreSpaced, AreBefore, IsDone, GoTheWay}
 
@@ -134,3 +134,8 @@ done n start stop z h l = past_at z (start_of n z start) (stop_of n z stop) h (r
 
 pub strict : (n : ℕ) (start stop : Option ℤ) (z : ℤ) → z ≢ pos 0 → GoTheWay z (places_of n start stop z)
 strict n start stop z h = go_the_way z (start_of n z start) (places_of n start stop z) h (spaced n start stop z h)
+
+-- the same of a start and a number that were computed
+pub below : (n : ℕ) (start stop : Option ℤ) (z x y : ℤ) (count : ℕ) → z ≢ pos 0 → x ≡ start_of n z start → y ≡ stop_of n z stop
+    → count ≡ count_before z x y → All (λ p. p < n) (places_from x z count)
+below n start stop z x y count h ex ey ec = rw (ec, ex, ey) (within n start stop z h)

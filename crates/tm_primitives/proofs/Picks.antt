@@ -1,5 +1,5 @@
 -- What picking characters writes.
-use Rattle.std.proofs.Common.{◌≡◌, ◌<◌, ◌≤◌, ◌+◌, ℕ, List, [], ◌∷◌, ◌++◌, length, take, drop, map, slice_index, refl, sym, ap, ◌∙◌, arith, zero, suc, subst, append_assoc, drop-cons, add-one, Result, Ok, Err, IfOk}
+use Rattle.std.proofs.Common.{◌≡◌, ◌<◌, ◌+◌, ℕ, List, ◌∷◌, ◌++◌, length, take, drop, map, slice_index, refl, sym, ap, ◌∙◌, arith, zero, suc, subst, append_assoc, drop-cons, add-one, Result, Ok, Err, IfOk}
 use Rattle.std.specs.Char.{encode_utf8}
 use Rattle.std.specs.List.{All, range_with_len}
 use Rattle.std.proofs.lemmas.Str.{encodes-chars}

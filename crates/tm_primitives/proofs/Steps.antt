@@ -1,12 +1,12 @@
 -- Numbers by steps: that those before the stop are places, and where they stand.
-use Rattle.std.proofs.Common.{◌≡◌, ◌≢◌, ◌<◌, ◌≤◌, ◌+◌, ◌*◌, ◌<ℤ◌, ◌≤ℤ◌, ◌+ℤ◌, ◌-ℤ◌, ◌*ℤ◌, ℕ, ℤ, pos, negsuc, neg_ℤ, int_lt, ◌⊎◌, ◌^◌, Bool, true, false, cond, Option, Some, None, List, [], ◌∷◌, length, get_or, inl, inr, refl, sym, ap, ◌∙◌, arith, zero, suc, unsigned_abs}
-use Rattle.std.proofs.lemmas.Int.{ints, by_lt_z}
+use Rattle.std.proofs.Common.{◌≡◌, ◌≢◌, ◌<◌, ◌≤◌, ◌+◌, ◌*◌, ◌<ℤ◌, ◌≤ℤ◌, ◌+ℤ◌, ◌-ℤ◌, ℕ, ℤ, pos, negsuc, neg_ℤ, int_lt, ◌⊎◌, ◌^◌, Bool, true, false, cond, Option, Some, None, List, ◌∷◌, length, get_or, inl, inr, refl, ap, ◌∙◌, arith, zero, suc, unsigned_abs}
+use Rattle.std.proofs.lemmas.Int.{ints}
 use Rattle.std.proofs.lemmas.Grind.{div_ceil_times}
 use Rattle.std.proofs.Math.Nat.{suc-mul}
 use Rattle.std.specs.List.{range_with_len}
 use Rattle.std.specs.Int.RustNames.{FitsSigned}
 use Rattle.std.specs.Int.{w128, div_ceil, is_negative}
-use Rattle.tm_primitives.specs.Places.{places_from, Within, lowest, highest, cut, bound_of, start_of, stop_of, distance, count_before, from_start}
+use Rattle.tm_primitives.specs.Places.{places_from, Within, cut, start_of, stop_of, distance, count_before, from_start}
 
 pub length-places_from : (x z : ℤ) (m : ℕ) → length (places_from x z m) ≡ m
 length-places_from x z zero = refl

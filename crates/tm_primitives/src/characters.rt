@@ -1,8 +1,8 @@
 //! Texts by their characters.
-ghost use Rattle.std.specs.Prelude.{◌≡◌, ◌<◌, ◌≤◌, length, take, drop, IfSome, IfNone, IfOk, All};
+ghost use Rattle.std.specs.Prelude.{◌≡◌, ◌≢◌, pos, ◌<◌, ◌≤◌, length, take, drop, IfSome, IfNone, IfOk, All};
 ghost use Rattle.std.specs.Str.{chars, IsAscii};
 ghost use Rattle.std.specs.String.{string_bytes};
-ghost use Rattle.tm_primitives.specs.Characters.{starts_character, IsCharacterAt, picked};
+ghost use Rattle.tm_primitives.specs.Characters.{starts_character, IsCharacterAt, picked, sliced};
 
 use crate::places::Places;
 use std::alloc::{AllocError, Global};
@@ -11,6 +11,9 @@ use std::alloc::{AllocError, Global};
 pub fn count(text: &str) -> usize
     ensures { result ≡ length (chars text.now) }
 {
+    if text.is_ascii() {
+        return text.len();
+    }
     let mut count = 0;
     for byte in text.as_bytes() {
         count += starts_character(*byte) as usize;
@@ -84,6 +87,21 @@ fn table_of(alloc: Global, text: &str) -> Result<Vec<char>, AllocError>
     ensures { IfOk result (λ table. table.items ≡ chars text.now) }
 {
     text.chars().collect(alloc)
+}
+
+/// The characters that the slice `start:stop:step` takes of the text; places and bounds are as in
+/// `Places::of`. The step is not 0. Fails where no memory is found, and only so.
+pub fn slice(
+    alloc: Global,
+    text: &str,
+    start: Option<i128>,
+    stop: Option<i128>,
+    step: i128,
+) -> Result<String, AllocError>
+    requires nonzero { step ≢ pos 0 }
+    ensures { IfOk result (λ s. string_bytes s ≡ sliced (chars text.now) start stop step) }
+{
+    pick(alloc, text, Places::of(count(text), start, stop, step))
 }
 
 // The characters of a table at these places.

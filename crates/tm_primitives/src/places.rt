@@ -9,7 +9,8 @@ use std::marker::Model;
 /// The place among `length` of an index, which counts from the end where it is negative; none where
 /// there is no such place.
 pub fn place(length: usize, index: i128) -> Option<usize>
-    ensures { result ≡ place_of length index }
+    ensures exact { result ≡ place_of length index }
+    ensures inside { IfSome result (λ place. place < length) }
 {
     let place = from_start(length, index);
     if place < 0 {
@@ -47,7 +48,8 @@ impl Places {
     /// end is cut. Where a bound is not given, the slice goes from end to end. The step is not 0.
     pub fn of(length: usize, start: Option<i128>, stop: Option<i128>, step: i128) -> Places
         requires nonzero { step ≢ pos 0 }
-        ensures { result ≡ places_of length start stop step }
+        ensures exact { result ≡ places_of length start stop step }
+        ensures inside { All (λ place. place < length) result }
     {
         let start = first_bound(length, step, start);
         let stop = last_bound(length, step, stop);

@@ -2,7 +2,6 @@ ghost use Rattle.std.specs.Prelude.{◌≢◌, pos};
 
 use crate::places::{Places, place};
 use crate::{characters, whole};
-use std::alloc::{AllocError, Global};
 use std::test::Fail;
 
 #[test]
@@ -71,19 +70,6 @@ fn slices(rt: HostRuntime) -> Result<(), Fail> {
     Ok(())
 }
 
-// The characters that the slice takes of the text.
-fn sliced(
-    alloc: Global,
-    text: &str,
-    bounds: (Option<i128>, Option<i128>),
-    step: i128,
-) -> Result<String, AllocError>
-    requires { step ≢ pos 0 }
-{
-    let places = Places::of(characters::count(text), bounds.0, bounds.1, step);
-    characters::pick(alloc, text, places)
-}
-
 #[test]
 fn texts(rt: HostRuntime) -> Result<(), Fail> {
     let text = "größe";
@@ -92,15 +78,15 @@ fn texts(rt: HostRuntime) -> Result<(), Fail> {
     assert_eq!(rt; characters::character(text, 4), Some("e"));
     assert_eq!(rt; characters::character("abc", 5), None);
     assert_eq!(rt;
-        sliced(rt.alloc(), "abc", (None, None), -1)?.as_str(),
+        characters::slice(rt.alloc(), "abc", None, None, -1)?.as_str(),
         "cba"
     );
     assert_eq!(rt;
-        sliced(rt.alloc(), text, (None, None), -1)?.as_str(),
+        characters::slice(rt.alloc(), text, None, None, -1)?.as_str(),
         "eßörg"
     );
     assert_eq!(rt;
-        sliced(rt.alloc(), text, (Some(1), Some(-1)), 1)?.as_str(),
+        characters::slice(rt.alloc(), text, Some(1), Some(-1), 1)?.as_str(),
         "röß"
     );
     Ok(())

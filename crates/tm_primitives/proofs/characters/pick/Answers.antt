@@ -1,6 +1,6 @@
-use Rattle.std.proofs.Common.{◌≡◌, ◌∙◌, sym, subst, List, ℕ}
+use Rattle.std.proofs.Common.{◌∙◌, sym}
 use Rattle.std.proofs.lemmas.Str.{chars-IsAscii}
-use Rattle.std.specs.Str.{chars, IsAscii}
+use Rattle.std.specs.Str.{chars}
 use Rattle.tm_primitives.proofs.Picks.{part_picked, table_inside, table_picked, copied}
 use Rattle.tm_primitives.proofs.characters.pick.Goals as goal
 
