@@ -4,3 +4,4 @@ pub mod Arithmetic
 pub mod Comparison
 pub mod Members
 pub mod Containment
+pub mod Slices

@@ -8,6 +8,7 @@ mod containment;
 mod members;
 #[cfg(test)]
 mod tests;
+mod slices;
 mod undefined;
 
 pub use arithmetic::{add, divide, floor_divide, multiply, negate, power, remainder, subtract};
@@ -15,4 +16,5 @@ pub use comparisons::{Comparison, compare};
 pub use condition::{is_true, truth};
 pub use containment::contains;
 pub use members::{LoopAttribute, attribute, check_settable, is_callable, item};
+pub use slices::slice;
 pub use undefined::check_defined;
