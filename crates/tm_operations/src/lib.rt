@@ -6,9 +6,9 @@ mod comparisons;
 mod condition;
 mod containment;
 mod members;
+mod slices;
 #[cfg(test)]
 mod tests;
-mod slices;
 mod undefined;
 
 pub use arithmetic::{add, divide, floor_divide, multiply, negate, power, remainder, subtract};
