@@ -6,3 +6,6 @@ mod text;
 
 pub use spelling::{Escape, Html, HtmlQuoted, Json, Quoted, Spelling, Verbatim};
 pub use text::{write_json_text, write_number, write_quoted, write_spelled};
+
+#[cfg(test)]
+mod tests;
