@@ -1,5 +1,3 @@
 pub mod Lists
 pub mod Sizes
 pub mod Maps
-pub mod Runs
-pub mod Written

@@ -1,6 +1,11 @@
--- A key and a value are smaller than the pairs that they stand in.
+-- An item is smaller than the items that it stands among; a key and a value are smaller than their pairs.
 use Rattle.std.proofs.Common.{arith, ◌<◌, ℕ, zero, suc, List, [], ◌∷◌, length, get_or}
-use Rattle.tm_values.specs.Val.{Val, val_size, pairs_size, pairs_of}
+use Rattle.tm_values.specs.Val.{Val, val_size, vals_size, vals_of, pairs_size, pairs_of}
+
+pub item-smaller : (vs : List Val) (i : ℕ) (d : Val) → i < length vs → val_size (get_or vs i d) < vals_size (vals_of vs)
+item-smaller [] i d h = absurd (omega arith)
+item-smaller (v ∷ vs) zero d h = omega arith
+item-smaller (v ∷ vs) (suc i) d h = omega (arith, item-smaller vs i d (omega arith))
 
 pub key-smaller : (ps : List (Val × Val)) (i : ℕ) (d : Val × Val) → i < length ps → val_size (get_or ps i d).0 < pairs_size (pairs_of ps)
 key-smaller [] i d h = absurd (omega arith)

@@ -1,51 +1,158 @@
 -- A value as the steps that build it on stacks, so that values can be told apart.
-use Rattle.std.specs.Prelude.{◌≡◌, ℕ, List, [], ◌∷◌, ◌⊎◌, refl}
-use Rattle.std.proofs.Common.{inl, inr, ◌∙◌}
-use Rattle.std.specs.Coded.{Coded, code_by, coded⊎, coded_ℕ, coded_list}
-use base.Stored.{coded_unit}
-use Rattle.tm_values.specs.Val.{Val, undefined, text, map, Pairs, no_pairs, pair}
+use Rattle.std.specs.Prelude.{◌≡◌, ◌==◌, cond, ℕ, ℤ, pos, Bool, true, false, List, [], ◌∷◌, Option, None, refl}
+use Rattle.std.proofs.Common.{◌∙◌}
+use Rattle.std.specs.Coded.{Coded, code_by, coded×, coded_ℕ, coded_ℤ, coded_bool, coded_list, coded_option}
+use Rattle.tm_values.specs.Val.{MacroData, Val, undefined, none, boolean, number, text, list, map, keywords, exports, function, macro, loop, namespace, Vals, no_vals, val, Pairs, no_pairs, pair}
 
--- a text, or: undefined, a map of the last pairs, no pairs, a pair more
-abbrev pub Step : Type 0
-Step = List ℕ ⊎ (Unit {0} ⊎ (Unit {0} ⊎ (Unit {0} ⊎ Unit {0})))
+abbrev pub coded_Macro : Coded MacroData
+coded_Macro =
+    code_by (ℕ × (ℕ × (ℕ × (Option ℕ × (List ℕ × (List (List ℕ) × Bool))))))
+    (coded× coded_ℕ (coded× coded_ℕ (coded× coded_ℕ (coded× (coded_option coded_ℕ) (coded× (coded_list coded_ℕ) (coded× (coded_list (coded_list coded_ℕ)) coded_bool))))))
+    (λ m. (m.state, (m.stream, (m.entry, (m.closure, (m.name, (m.arguments, m.caller)))))))
+    (λ t. record { state = t.0; stream = t.1.0; entry = t.1.1.0; closure = t.1.1.1.0; name = t.1.1.1.1.0; arguments = t.1.1.1.1.1.0; caller = t.1.1.1.1.1.1 })
+    (λ _. refl)
+
+-- A step: its tag says what it builds, of the parts that it has and of what lies on the stacks.
+pub record Step : Type 0 where
+  pub tag : ℕ
+  pub flag : Bool
+  pub whole : ℤ
+  pub bytes : List ℕ
+  pub first : ℕ
+  pub second : ℕ
+  pub declared : List MacroData
+
+abbrev plain : ℕ → Step
+plain tag = record { tag = tag; flag = false; whole = pos 0; bytes = []; first = 0; second = 0; declared = [] }
+
+abbrev pub coded_Step : Coded Step
+coded_Step =
+    code_by (ℕ × (Bool × (ℤ × (List ℕ × (ℕ × (ℕ × List MacroData))))))
+    (coded× coded_ℕ (coded× coded_bool (coded× coded_ℤ (coded× (coded_list coded_ℕ) (coded× coded_ℕ (coded× coded_ℕ (coded_list coded_Macro)))))))
+    (λ s. (s.tag, (s.flag, (s.whole, (s.bytes, (s.first, (s.second, s.declared)))))))
+    (λ t. record { tag = t.0; flag = t.1.0; whole = t.1.1.0; bytes = t.1.1.1.0; first = t.1.1.1.1.0; second = t.1.1.1.1.1.0; declared = t.1.1.1.1.1.1 })
+    (λ _. refl)
+
+-- what was built and is not part of something yet, the last first
+pub record Stacks : Type 0 where
+  pub values : List Val
+  pub items : List Vals
+  pub pairs : List Pairs
+
+abbrev macro_or_none : List MacroData → Val
+macro_or_none [] = none
+macro_or_none (m ∷ ms) = macro m
+
+-- what a step without parts on the stacks builds
+abbrev leaf_of : Step → Val
+leaf_of s =
+    cond (s.tag == 0) (undefined s.flag)
+    (cond (s.tag == 1) none
+    (cond (s.tag == 2) (boolean s.flag)
+    (cond (s.tag == 3) (number s.whole)
+    (cond (s.tag == 4) (text s.bytes s.flag)
+    (cond (s.tag == 5) (function s.first)
+    (cond (s.tag == 6) (macro_or_none s.declared) (cond (s.tag == 7) (loop s.first s.second) (namespace s.first s.second))))))))
+
+abbrev push : Val → Stacks → Stacks
+push v k = record k { values = v ∷ k.values }
+
+abbrev items_closed : List Vals → Stacks → Stacks
+items_closed [] k = k
+items_closed (l ∷ ls) k = record { values = list l ∷ k.values; items = ls; pairs = k.pairs }
+
+abbrev item_put : List Val → List Vals → Stacks → Stacks
+item_put [] ls k = k
+item_put (v ∷ vs) [] k = k
+item_put (v ∷ vs) (l ∷ ls) k = record { values = vs; items = val v l ∷ ls; pairs = k.pairs }
+
+abbrev pairs_closed : (Pairs → Val) → List Pairs → Stacks → Stacks
+pairs_closed of [] k = k
+pairs_closed of (p ∷ ps) k = record { values = of p ∷ k.values; items = k.items; pairs = ps }
+
+abbrev pair_put : List Val → List Pairs → Stacks → Stacks
+pair_put [] ps k = k
+pair_put (v ∷ []) ps k = k
+pair_put (v ∷ w ∷ vs) [] k = k
+pair_put (v ∷ w ∷ vs) (p ∷ ps) k = record { values = vs; items = k.items; pairs = pair w v p ∷ ps }
+
+abbrev stepped : Step → Stacks → Stacks
+stepped s k =
+    cond (s.tag == 9) (record k { items = no_vals ∷ k.items })
+    (cond (s.tag == 10) (item_put k.values k.items k)
+    (cond (s.tag == 11) (items_closed k.items k)
+    (cond (s.tag == 12) (record k { pairs = no_pairs ∷ k.pairs })
+    (cond (s.tag == 13) (pair_put k.values k.pairs k)
+    (cond (s.tag == 14) (pairs_closed map k.pairs k)
+    (cond (s.tag == 15) (pairs_closed keywords k.pairs k)
+    (cond (s.tag == 16) (pairs_closed (λ ps. exports ps s.bytes) k.pairs k)
+    (push (leaf_of s) k))))))))
+
+abbrev pub built : List Step → Stacks → Stacks
+built [] k = k
+built (s ∷ xs) k = built xs (stepped s k)
 
 abbrev mutual
   pub steps : Val → List Step → List Step
-  steps undefined rest = inr (inl tt) ∷ rest
-  steps (text s) rest = inl s ∷ rest
-  steps (map ps) rest = pairs_steps ps (inr (inr (inl tt)) ∷ rest)
+  steps (undefined s) rest = record (plain 0) { flag = s } ∷ rest
+  steps none rest = plain 1 ∷ rest
+  steps (boolean b) rest = record (plain 2) { flag = b } ∷ rest
+  steps (number z) rest = record (plain 3) { whole = z } ∷ rest
+  steps (text s m) rest = record (plain 4) { bytes = s; flag = m } ∷ rest
+  steps (list vs) rest = vals_steps vs (plain 11 ∷ rest)
+  steps (map ps) rest = pairs_steps ps (plain 14 ∷ rest)
+  steps (keywords ps) rest = pairs_steps ps (plain 15 ∷ rest)
+  steps (exports ps s) rest = pairs_steps ps (record (plain 16) { bytes = s } ∷ rest)
+  steps (function n) rest = record (plain 5) { first = n } ∷ rest
+  steps (macro m) rest = record (plain 6) { declared = m ∷ [] } ∷ rest
+  steps (loop i n) rest = record (plain 7) { first = i; second = n } ∷ rest
+  steps (namespace i n) rest = record (plain 8) { first = i; second = n } ∷ rest
+
+  pub vals_steps : Vals → List Step → List Step
+  vals_steps no_vals rest = plain 9 ∷ rest
+  vals_steps (val v vs) rest = vals_steps vs (steps v (plain 10 ∷ rest))
 
   pub pairs_steps : Pairs → List Step → List Step
-  pairs_steps no_pairs rest = inr (inr (inr (inl tt))) ∷ rest
-  pairs_steps (pair k v ps) rest = pairs_steps ps (steps k (steps v (inr (inr (inr (inr tt))) ∷ rest)))
-
-abbrev pub built : List Step → List Val → List Pairs → Val
-built [] [] ps = undefined
-built [] (v ∷ vs) ps = v
-built (inl s ∷ xs) vs ps = built xs (text s ∷ vs) ps
-built (inr (inl _) ∷ xs) vs ps = built xs (undefined ∷ vs) ps
-built (inr (inr (inl _)) ∷ xs) vs [] = undefined
-built (inr (inr (inl _)) ∷ xs) vs (p ∷ ps) = built xs (map p ∷ vs) ps
-built (inr (inr (inr (inl _))) ∷ xs) vs ps = built xs vs (no_pairs ∷ ps)
-built (inr (inr (inr (inr _))) ∷ xs) [] ps = undefined
-built (inr (inr (inr (inr _))) ∷ xs) (v ∷ []) ps = undefined
-built (inr (inr (inr (inr _))) ∷ xs) (v ∷ k ∷ vs) [] = undefined
-built (inr (inr (inr (inr _))) ∷ xs) (v ∷ k ∷ vs) (p ∷ ps) = built xs vs (pair k v p ∷ ps)
+  pairs_steps no_pairs rest = plain 12 ∷ rest
+  pairs_steps (pair k v ps) rest = pairs_steps ps (steps k (steps v (plain 13 ∷ rest)))
 
 mutual
-  pub built-steps : (x : Val) (rest : List Step) (vs : List Val) (ps : List Pairs) → built (steps x rest) vs ps ≡ built rest (x ∷ vs) ps
-  built-steps undefined rest vs ps = refl
-  built-steps (text s) rest vs ps = refl
-  built-steps (map p) rest vs ps = built-pairs_steps p (inr (inr (inl tt)) ∷ rest) vs ps
+  built-steps : (x : Val) (rest : List Step) (k : Stacks) → built (steps x rest) k ≡ built rest (push x k)
+  built-steps (undefined s) rest k = refl
+  built-steps none rest k = refl
+  built-steps (boolean b) rest k = refl
+  built-steps (number z) rest k = refl
+  built-steps (text s m) rest k = refl
+  built-steps (list vs) rest k = built-vals_steps vs (plain 11 ∷ rest) k
+  built-steps (map ps) rest k = built-pairs_steps ps (plain 14 ∷ rest) k
+  built-steps (keywords ps) rest k = built-pairs_steps ps (plain 15 ∷ rest) k
+  built-steps (exports ps s) rest k = built-pairs_steps ps (record (plain 16) { bytes = s } ∷ rest) k
+  built-steps (function n) rest k = refl
+  built-steps (macro m) rest k = refl
+  built-steps (loop i n) rest k = refl
+  built-steps (namespace i n) rest k = refl
 
-  pub built-pairs_steps : (x : Pairs) (rest : List Step) (vs : List Val) (ps : List Pairs) → built (pairs_steps x rest) vs ps ≡ built rest vs (x ∷ ps)
-  built-pairs_steps no_pairs rest vs ps = refl
-  built-pairs_steps (pair k x p) rest vs ps =
-      let last : List Step = inr (inr (inr (inr tt))) ∷ rest in
-      built-pairs_steps p (steps k (steps x last)) vs ps ∙ (built-steps k (steps x last) vs (p ∷ ps) ∙ built-steps x last (k ∷ vs) (p ∷ ps))
+  built-vals_steps : (x : Vals) (rest : List Step) (k : Stacks) → built (vals_steps x rest) k ≡ built rest (record k { items = x ∷ k.items })
+  built-vals_steps no_vals rest k = refl
+  built-vals_steps (val v vs) rest k =
+      built-vals_steps vs (steps v (plain 10 ∷ rest)) k ∙ built-steps v (plain 10 ∷ rest) (record k { items = vs ∷ k.items })
 
-abbrev pub coded_Step : Coded Step
-coded_Step = coded⊎ (coded_list coded_ℕ) (coded⊎ coded_unit (coded⊎ coded_unit (coded⊎ coded_unit coded_unit)))
+  built-pairs_steps : (x : Pairs) (rest : List Step) (k : Stacks) → built (pairs_steps x rest) k ≡ built rest (record k { pairs = x ∷ k.pairs })
+  built-pairs_steps no_pairs rest k = refl
+  built-pairs_steps (pair w v ps) rest k =
+      let last : List Step = plain 13 ∷ rest in
+      let below : Stacks = record k { pairs = ps ∷ k.pairs } in
+      built-pairs_steps ps (steps w (steps v last)) k ∙ (built-steps w (steps v last) below ∙ built-steps v last (push w below))
+
+abbrev empty : Stacks
+empty = record { values = []; items = []; pairs = [] }
+
+abbrev top : List Val → Val
+top [] = none
+top (v ∷ vs) = v
+
+pub built-back : (v : Val) → top (built (steps v []) empty).values ≡ v
+built-back v = rw (built-steps v [] empty) refl
 
 abbrev pub coded_Val : Coded Val
-coded_Val = code_by (List Step) (coded_list coded_Step) (λ v. steps v []) (λ s. built s [] []) (λ v. built-steps v [] [] [])
+coded_Val = code_by (List Step) (coded_list coded_Step) (λ v. steps v []) (λ s. top (built s empty).values) built-back

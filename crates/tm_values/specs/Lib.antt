@@ -5,7 +5,11 @@ pub mod Val
 pub mod Order
 pub mod Total
 pub mod Map
-pub mod Print
 pub mod Code
+pub mod MacroView
 pub mod View
 pub mod Falls
+pub mod Undefined
+pub mod Records
+pub mod Position
+pub mod Answer

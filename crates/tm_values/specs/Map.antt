@@ -1,5 +1,5 @@
 -- Maps: pairs whose keys ascend.
-use Rattle.std.specs.Prelude.{◌≡◌, ℕ, ◌<◌, ◌≤◌, List, [], ◌∷◌, length, Option, None, Some, slice_index_or}
+use Rattle.std.specs.Prelude.{◌≡◌, ℕ, ◌<◌, ◌≤◌, false, List, [], ◌∷◌, length, Option, None, Some, slice_index_or}
 use Rattle.std.specs.Ordering.{match_ordering}
 use Rattle.std.specs.declared.cmp.Ordering.TheVariants.{Less, Equal, Greater}
 use Rattle.tm_values.specs.Order.{val_cmp}
@@ -15,9 +15,9 @@ abbrev pub find : Val → List (Val × Val) → Option Val
 find k [] = None
 find k (p ∷ ps) = match_ordering (val_cmp k p.0) None (Some p.1) (find k ps)
 
--- the value that a map has at a text; no other value has any
-abbrev pub attribute : List ℕ → Val → Option Val
-attribute name v = find (text name) (entries_in v)
+-- the value that a map, a keyword map or a module has at a text; no other value has any
+abbrev pub member : List ℕ → Val → Option Val
+member name v = find (text name false) (entries_in v)
 
 -- each key is above k
 abbrev pub IsAbove : Val → List (Val × Val) → Type 0

@@ -93,9 +93,18 @@ impl fmt::Display for ErrorKind {
 
 /// An error. A contract sees it as its chain of kinds: its own, and then the kind of each cause.
 #[derive(Debug, Drop)]
+#[cycle(error)]
 pub struct Error {
     kind: ErrorKind,
-    cause: Option<Box<Error>>,
+    more: Option<Box<More>>,
+}
+
+// What few errors have; it stands apart, so that an error is small.
+#[derive(Debug, Drop)]
+#[cycle(error)]
+struct More {
+    detail: Option<String>,
+    cause: Option<Error>,
 }
 
 impl Model for Error {
@@ -107,7 +116,7 @@ impl Model for Error {
     ghost use Rattle.tm_values.specs.Cause.{chain_of};
     ghost use Rattle.std.proofs.Common.{arith};
 
-    ghost view = { λ a. a.kind ∷ chain_of a.cause };
+    ghost view = { λ a. a.kind ∷ chain_of a.more };
 
     ghost size = { length };
 
@@ -119,9 +128,9 @@ impl From<ErrorKind> for Error {
 
     ghost from_gives = { λ kind e. e ≡ kind ∷ [] };
 
-    /// An error of this kind, without a cause.
+    /// An error of this kind, without detail and cause.
     fn from(kind: ErrorKind) -> Error {
-        Error { kind, cause: None }
+        Error { kind, more: None }
     }
 }
 
@@ -148,6 +157,23 @@ impl<T: Drop> From<AllocFailed<T>> for Error {
 }
 
 impl Error {
+    /// An error of this kind with a detail and without a cause. A detail that finds no memory is missing.
+    pub fn new(alloc: Global, kind: ErrorKind, detail: &str) -> Error
+        ensures { result ≡ kind ∷ [] }
+    {
+        let Ok(detail) = String::from_str(alloc, detail) else {
+            return Error::from(kind);
+        };
+        let more = More {
+            detail: Some(detail),
+            cause: None,
+        };
+        Error {
+            kind,
+            more: Box::new(alloc, more).ok(),
+        }
+    }
+
     /// The kind of this error.
     pub fn kind(&self) -> ErrorKind
         ensures { self.now ≡ result ∷ causes_of self.now }
@@ -155,14 +181,28 @@ impl Error {
         self.kind
     }
 
+    /// What it says beside its kind, where it says something.
+    pub fn detail(&self) -> Option<&str> {
+        match &self.more {
+            Some(more) => match &more.detail {
+                Some(detail) => Some(detail.as_str()),
+                None => None,
+            },
+            None => None,
+        }
+    }
+
     /// The error that this one came from, where there is one. Its chain is shorter, so a loop over causes ends.
     pub fn cause(&self) -> Option<&Error>
         ensures { MatchOption result (causes_of self.now ≡ [])
             (λ e. (e.now ≡ causes_of self.now) × (length e.now < length self.now)) }
     {
-        match &self.cause {
+        match &self.more {
+            Some(more) => match &more.cause {
+                Some(cause) => Some(cause),
+                None => None,
+            },
             None => None,
-            Some(error) => Some(error),
         }
     }
 
@@ -170,11 +210,25 @@ impl Error {
     pub fn with_source(self, alloc: Global, cause: Error) -> Result<Error, Error>
         ensures { MatchResult result (λ e. e ≡ kind_of self ∷ cause) (λ e. e ≡ ErrorKind.OutOfMemory ∷ []) }
     {
-        let Error { kind, cause: _old } = self;
-        match Box::new(alloc, cause) {
-            Ok(cause) => Ok(Error {
+        let Error { kind, more } = self;
+        let detail = match more {
+            Some(more) => {
+                let More {
+                    detail,
+                    cause: _old,
+                } = Box::into_inner(more);
+                detail
+            }
+            None => None,
+        };
+        let more = More {
+            detail,
+            cause: Some(cause),
+        };
+        match Box::new(alloc, more) {
+            Ok(more) => Ok(Error {
                 kind,
-                cause: Some(cause),
+                more: Some(more),
             }),
             Err(_lost) => Err(Error::from(ErrorKind::OutOfMemory)),
         }
@@ -184,7 +238,7 @@ impl Error {
 impl fmt::Display for Error {
     ghost output = { λ e. Some (kind_name (kind_of e)) };
 
-    /// The name of the error's own kind. Its causes are not told.
+    /// The name of the error's own kind. Its detail and its causes are not told.
     fn fmt<W: fmt::Write>(&self, f: &mut fmt::Formatter<W>) -> fmt::Result {
         fmt::Display::fmt(&self.kind, f)
     }

@@ -2,14 +2,21 @@
 #![tactic(auto, using(crate::proofs::Lists::round_trips))]
 
 mod error;
+mod escape;
+mod macros;
 mod map;
 mod order;
-mod print;
+mod records;
 #[cfg(test)]
 mod tests;
+mod undefined;
 mod value;
 
 pub use error::{Error, ErrorKind};
+pub use escape::AutoEscape;
+pub use macros::Macro;
 pub use map::ValueMap;
 pub use order::order_law;
-pub use value::Value;
+pub use records::{LoopPosition, NoRecords, Records, find_loop, find_namespace};
+pub use undefined::{UndefinedBehavior, UndefinedUse};
+pub use value::{Node, Value};

@@ -1,14 +1,15 @@
 //! Maps: one that is being made, and what a value has at a name.
-ghost use Rattle.std.specs.Prelude.{◌≡◌, [], ◌∷◌, ◌==◌, None, Some, length, IfErr, MatchOption, MatchResult};
-ghost use Rattle.tm_values.specs.Map.{put, find, attribute, IsMap, IsThere, IsGapFor};
+ghost use Rattle.std.specs.Prelude.{◌≡◌, [], ◌∷◌, ◌==◌, None, Some, false, length, IfErr, MatchOption, MatchResult};
+ghost use Rattle.std.specs.Rc.{rc_str_bytes};
+ghost use Rattle.tm_values.specs.Map.{put, find, member, IsMap, IsThere, IsGapFor};
 ghost use Rattle.tm_values.specs.Order.{val_cmp};
-ghost use Rattle.tm_values.specs.Val.{Val, text, map, pairs_of};
+ghost use Rattle.tm_values.specs.Val.{Val, text, map, keywords, exports, pairs_of};
 
 use crate::error::{Error, ErrorKind};
 use crate::value::{Node, Value};
 use std::alloc::Global;
 use std::marker::Model;
-use std::rc::Rc;
+use std::rc::{Rc, RcStr};
 
 /// A map that is being made. A contract sees it as its pairs, whose keys ascend.
 #[derive(Drop)]
@@ -87,16 +88,35 @@ impl Value {
         })
     }
 
-    /// What a map has at the text, found without memory; nothing of other values.
-    pub fn attribute(&self, name: &str) -> Option<&Value>
-        ensures { MatchOption result (attribute name.now self.now ≡ None) (λ v. attribute name.now self.now ≡ Some v.now) }
+    /// The keyword map of these pairs. Fails by OutOfMemory alone.
+    pub fn keywords(alloc: Global, entries: ValueMap) -> Result<Value, Error>
+        ensures { MatchResult result (λ v. v ≡ keywords (pairs_of entries)) (λ e. e ≡ ErrorKind.OutOfMemory ∷ []) }
     {
-        match &self.node {
-            Node::Map(pairs) => match place_of_text(pairs.as_slice(), name) {
-                Ok(at) => Some(&pairs[at].1),
-                Err(_) => None,
-            },
-            _ => None,
+        let ValueMap { pairs } = entries;
+        Ok(Value {
+            node: Node::Keywords(Rc::new(alloc, pairs)?),
+        })
+    }
+
+    /// The module that exports these pairs and wrote this text. Fails by OutOfMemory alone.
+    pub fn module(alloc: Global, entries: ValueMap, content: RcStr) -> Result<Value, Error>
+        ensures { MatchResult result (λ v. v ≡ exports (pairs_of entries) (rc_str_bytes content))
+            (λ e. e ≡ ErrorKind.OutOfMemory ∷ []) }
+    {
+        let ValueMap { pairs } = entries;
+        Ok(Value {
+            node: Node::Exports(Rc::new(alloc, pairs)?, content),
+        })
+    }
+
+    /// What a map, a keyword map or a module has at the text, found without memory; nothing of other values.
+    pub fn member(&self, name: &str) -> Option<&Value>
+        ensures { MatchOption result (member name.now self.now ≡ None) (λ v. member name.now self.now ≡ Some v.now) }
+    {
+        let pairs = self.pairs();
+        match place_of_text(pairs, name) {
+            Ok(at) => Some(&pairs[at].1),
+            Err(_) => None,
         }
     }
 }
@@ -135,11 +155,11 @@ fn place(pairs: &[(Value, Value)], key: &Value) -> Result<usize, usize>
 // The same of a text, which needs no value of its own.
 fn place_of_text(pairs: &[(Value, Value)], name: &str) -> Result<usize, usize>
     requires { IsMap pairs.now }
-    ensures { MatchResult result (IsThere (text name.now) pairs.now) (IsGapFor (text name.now) pairs.now) }
+    ensures { MatchResult result (IsThere (text name.now false) pairs.now) (IsGapFor (text name.now false) pairs.now) }
 {
     pairs.binary_search_by(
         |pair|
-            ensures { result ≡ val_cmp pair.now.0 (text name.entry.now) }
+            ensures { result ≡ val_cmp pair.now.0 (text name.entry.now false) }
         { pair.0.compare_text(name) },
     )
 }

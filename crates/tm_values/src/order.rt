@@ -1,14 +1,17 @@
 //! The order of values.
 ghost use Rattle.std.specs.Cmp.{IsTotalOrder};
-ghost use Rattle.std.specs.Prelude.{◌≡◌};
-ghost use Rattle.tm_values.specs.Order.{val_cmp, pairs_cmp};
-ghost use Rattle.tm_values.specs.Val.{text, pairs_of};
+ghost use Rattle.std.specs.Prelude.{◌≡◌, false};
+ghost use Rattle.tm_values.specs.Order.{val_cmp, vals_cmp, pairs_cmp, macro_against, record_cmp, function_in, state_in, record_in};
+ghost use Rattle.tm_values.specs.Val.{text, vals_of, pairs_of};
 
+use crate::macros::Macro;
 use crate::value::{Node, Value};
 use std::cmp::Ordering;
 
 impl Value {
-    /// Where this value stands to the other: undefined is below texts, texts are below maps.
+    /// Where this value stands to the other: by kind, then by content. The kinds ascend: undefined,
+    /// none, numbers (truth values among them, as 0 and 1), texts, lists, maps, keyword maps,
+    /// modules, functions, macros, loops, namespaces.
     #[cycle(compare)]
     pub fn compare(&self, other: &Value) -> Ordering
         ensures { result ≡ val_cmp self.now other.now }
@@ -18,21 +21,90 @@ impl Value {
             return kinds;
         }
         match &self.node {
-            Node::Undefined => Ordering::Equal,
-            Node::Text(content) => content.as_str().cmp(other.text_or_empty()),
-            Node::Map(pairs) => compare_pairs(pairs.as_slice(), other.pairs()),
+            Node::Undefined(_) | Node::None => Ordering::Equal,
+            Node::Boolean(_) | Node::Number(_) => self.whole_or_zero().cmp(&other.whole_or_zero()),
+            Node::Text(content, _) => content.as_str().cmp(other.text_or_empty()),
+            Node::List(items) => compare_items(items.as_slice(), other.items()),
+            Node::Map(pairs) | Node::Keywords(pairs) => compare_pairs(
+                pairs.as_slice(),
+                other.pairs(),
+            ),
+            Node::Exports(pairs, content) => compare_pairs(pairs.as_slice(), other.pairs()).then(
+                content.as_str().cmp(other.text_or_empty()),
+            ),
+            Node::Function(index) => index.cmp(&other.function_or_zero()),
+            Node::Macro(declared) => compare_macro(declared, other),
+            Node::Loop(_, _) | Node::Namespace(_, _) => self.compare_record(other),
         }
     }
 
     // Where this value stands to a text.
     pub(crate) fn compare_text(&self, content: &str) -> Ordering
-        ensures { result ≡ val_cmp self.now (text content.now) }
+        ensures { result ≡ val_cmp self.now (text content.now false) }
     {
         match &self.node {
-            Node::Undefined => Ordering::Less,
-            Node::Text(own) => own.as_str().cmp(content),
-            Node::Map(_) => Ordering::Greater,
+            Node::Text(own, _) => own.as_str().cmp(content),
+            _ => self.rank().cmp(&3),
         }
+    }
+
+    // Where this loop or namespace stands to another one.
+    fn compare_record(&self, other: &Value) -> Ordering
+        ensures { result ≡ record_cmp self.now other.now }
+    {
+        let (state, index) = self.record();
+        let (other_state, other_index) = other.record();
+        state.cmp(&other_state).then(index.cmp(&other_index))
+    }
+
+    // The state's id and the number of a loop or a namespace.
+    fn record(&self) -> (u64, usize)
+        ensures { result ≡ (state_in self.now, record_in self.now) }
+    {
+        match &self.node {
+            Node::Loop(state, index) | Node::Namespace(state, index) => (*state, *index),
+            _ => (0, 0),
+        }
+    }
+
+    // A function's number.
+    fn function_or_zero(&self) -> usize
+        ensures { result ≡ function_in self.now }
+    {
+        match &self.node {
+            Node::Function(index) => *index,
+            _ => 0,
+        }
+    }
+}
+
+// Where a macro stands to a value, which is one too.
+fn compare_macro(left: &Macro, right: &Value) -> Ordering
+    ensures { result ≡ macro_against left.now right.now }
+{
+    match &right.node {
+        Node::Macro(declared) => left.compare(declared),
+        _ => Ordering::Equal,
+    }
+}
+
+#[cycle(compare)]
+fn compare_items(left: &[Value], right: &[Value]) -> Ordering
+    ensures { result ≡ vals_cmp (vals_of left.now) (vals_of right.now) }
+{
+    for (i, item) in left.iter().enumerate() {
+        if i >= right.len() {
+            return Ordering::Greater;
+        }
+        let items = item.compare(&right[i]);
+        if items != Ordering::Equal {
+            return items;
+        }
+    }
+    if left.len() < right.len() {
+        Ordering::Less
+    } else {
+        Ordering::Equal
     }
 }
 

@@ -1,9 +1,13 @@
-//! Values: undefined, texts and maps. A contract sees plain data; what is shared never shows.
-ghost use Rattle.std.specs.Prelude.{◌≡◌, [], ◌∷◌, IfOk, MatchResult, MatchOption};
-ghost use Rattle.tm_values.specs.Order.{rank, bytes_in, pairs_in};
-ghost use Rattle.tm_values.specs.Val.{Val, undefined, text, text_in, entries_of};
+//! Values. A contract sees plain data; what is shared never shows.
+ghost use Rattle.std.specs.Prelude.{◌≡◌, [], ◌∷◌, List, Some, None, true, false, IfOk, MatchResult, MatchOption, string_bytes};
+ghost use Rattle.std.specs.Rc.{rc_str_bytes};
+ghost use Rattle.tm_values.specs.Map.{IsMap};
+ghost use Rattle.tm_values.specs.Order.{rank, bytes_in, whole_or_zero};
+ghost use Rattle.tm_values.specs.declared.error.ErrorKind.{ErrorKind};
+ghost use Rattle.tm_values.specs.Val.{Val, undefined, none, boolean, number, text, list, function, macro, loop, namespace, vals_of, text_in, list_in, entries_in, items_in, whole_in};
 
-use crate::error::{Error, ErrorKind};
+use crate::error::Error;
+use crate::macros::Macro;
 use std::alloc::Global;
 use std::marker::Model;
 use std::rc::{Rc, RcStr};
@@ -12,15 +16,40 @@ use std::rc::{Rc, RcStr};
 #[derive(Drop)]
 #[cycle(value)]
 pub struct Value {
-    pub(crate) node: Node,
+    /// What it is made of, for the crates of the engine.
+    pub node: Node,
 }
 
+/// What a value is made of. The keys of maps, keyword maps and modules ascend.
 #[derive(Drop)]
 #[cycle(value)]
-pub(crate) enum Node {
-    Undefined,
-    Text(RcStr),
+pub enum Node {
+    /// No value, and whether it is silent: the missing else of an `if` expression.
+    Undefined(bool),
+    /// The value `none`.
+    None,
+    /// A truth value; it counts as 0 or 1 wherever a number does.
+    Boolean(bool),
+    /// A whole number.
+    Number(i128),
+    /// A text, and whether it is safe: no escape changes it.
+    Text(RcStr, bool),
+    /// Values in order.
+    List(Rc<Vec<Value>>),
+    /// Pairs in the order of their keys.
     Map(Rc<Vec<(Value, Value)>>),
+    /// The keyword arguments of a call.
+    Keywords(Rc<Vec<(Value, Value)>>),
+    /// A module: what an import exports, and the text that it wrote.
+    Exports(Rc<Vec<(Value, Value)>>, RcStr),
+    /// A function, by its number.
+    Function(usize),
+    /// A macro.
+    Macro(Rc<Macro>),
+    /// A loop of the state of this id, by the number of its record there.
+    Loop(u64, usize),
+    /// A namespace of the state of this id, by the number of its record there.
+    Namespace(u64, usize),
 }
 
 impl Model for Value {
@@ -48,38 +77,137 @@ impl Model for Value {
 impl Value {
     /// The undefined value.
     pub fn undefined() -> Value
-        ensures { result ≡ undefined }
+        ensures { result ≡ undefined false }
     {
         Value {
-            node: Node::Undefined,
+            node: Node::Undefined(false),
         }
     }
 
-    /// A text of these bytes. Fails by OutOfMemory alone.
+    /// The undefined value that is silent: emitting it and asking its truth never fail.
+    pub fn silent_undefined() -> Value
+        ensures { result ≡ undefined true }
+    {
+        Value {
+            node: Node::Undefined(true),
+        }
+    }
+
+    /// The value `none`.
+    pub fn none() -> Value
+        ensures { result ≡ none }
+    {
+        Value { node: Node::None }
+    }
+
+    /// A truth value.
+    pub fn boolean(truth: bool) -> Value
+        ensures { result ≡ boolean truth }
+    {
+        Value {
+            node: Node::Boolean(truth),
+        }
+    }
+
+    /// A whole number.
+    pub fn number(whole: i128) -> Value
+        ensures { result ≡ number whole }
+    {
+        Value {
+            node: Node::Number(whole),
+        }
+    }
+
+    /// A text of these bytes, which isn't safe. Fails by OutOfMemory alone.
     pub fn text(alloc: Global, content: &str) -> Result<Value, Error>
-        ensures { MatchResult result (λ v. v ≡ text content.now) (λ e. e ≡ ErrorKind.OutOfMemory ∷ []) }
+        ensures { MatchResult result (λ v. v ≡ text content.now false) (λ e. e ≡ ErrorKind.OutOfMemory ∷ []) }
     {
         let content = RcStr::from_str(alloc, content)?;
+        Ok(Value::shared_text(content, false))
+    }
+
+    /// A text of these bytes that no escape changes. Fails by OutOfMemory alone.
+    pub fn safe_text(alloc: Global, content: &str) -> Result<Value, Error>
+        ensures { MatchResult result (λ v. v ≡ text content.now true) (λ e. e ≡ ErrorKind.OutOfMemory ∷ []) }
+    {
+        let content = RcStr::from_str(alloc, content)?;
+        Ok(Value::shared_text(content, true))
+    }
+
+    /// The text that is shared here, and whether it is safe.
+    pub fn shared_text(content: RcStr, safe: bool) -> Value
+        ensures { result ≡ text (rc_str_bytes content) safe }
+    {
+        Value {
+            node: Node::Text(content, safe),
+        }
+    }
+
+    /// The list of these values. Fails by OutOfMemory alone.
+    pub fn list(alloc: Global, items: Vec<Value>) -> Result<Value, Error>
+        ensures { MatchResult result (λ v. v ≡ list (vals_of items.items)) (λ e. e ≡ ErrorKind.OutOfMemory ∷ []) }
+    {
         Ok(Value {
-            node: Node::Text(content),
+            node: Node::List(Rc::new(alloc, items)?),
         })
+    }
+
+    /// The function of this number.
+    pub fn function(index: usize) -> Value
+        ensures { result ≡ function index }
+    {
+        Value {
+            node: Node::Function(index),
+        }
+    }
+
+    /// A macro as a value. Fails by OutOfMemory alone.
+    pub fn declared(alloc: Global, declared: Macro) -> Result<Value, Error>
+        ensures { MatchResult result (λ v. v ≡ macro declared) (λ e. e ≡ ErrorKind.OutOfMemory ∷ []) }
+    {
+        Ok(Value {
+            node: Node::Macro(Rc::new(alloc, declared)?),
+        })
+    }
+
+    /// The loop of this number in the state of this id.
+    pub fn loop_record(state: u64, index: usize) -> Value
+        ensures { result ≡ loop state index }
+    {
+        Value {
+            node: Node::Loop(state, index),
+        }
+    }
+
+    /// The namespace of this number in the state of this id.
+    pub fn namespace(state: u64, index: usize) -> Value
+        ensures { result ≡ namespace state index }
+    {
+        Value {
+            node: Node::Namespace(state, index),
+        }
     }
 
     /// A second owner of the same contents. Fails, by OutOfMemory, only where the owners can't be counted.
     pub fn share(&self) -> Result<Value, Error>
         ensures { MatchResult result (λ v. v ≡ self.now) (λ e. e ≡ ErrorKind.OutOfMemory ∷ []) }
     {
-        match &self.node {
-            Node::Undefined => Ok(Value {
-                node: Node::Undefined,
-            }),
-            Node::Text(content) => Ok(Value {
-                node: Node::Text(content.clone()?),
-            }),
-            Node::Map(pairs) => Ok(Value {
-                node: Node::Map(pairs.clone()?),
-            }),
-        }
+        let node = match &self.node {
+            Node::Undefined(silent) => Node::Undefined(*silent),
+            Node::None => Node::None,
+            Node::Boolean(truth) => Node::Boolean(*truth),
+            Node::Number(whole) => Node::Number(*whole),
+            Node::Text(content, safe) => Node::Text(content.clone()?, *safe),
+            Node::List(items) => Node::List(items.clone()?),
+            Node::Map(pairs) => Node::Map(pairs.clone()?),
+            Node::Keywords(pairs) => Node::Keywords(pairs.clone()?),
+            Node::Exports(pairs, content) => Node::Exports(pairs.clone()?, content.clone()?),
+            Node::Function(index) => Node::Function(*index),
+            Node::Macro(declared) => Node::Macro(declared.clone()?),
+            Node::Loop(state, index) => Node::Loop(*state, *index),
+            Node::Namespace(state, index) => Node::Namespace(*state, *index),
+        };
+        Ok(Value { node })
     }
 
     /// The text, where the value is one.
@@ -87,38 +215,92 @@ impl Value {
         ensures { MatchOption result (text_in self.now ≡ None) (λ s. text_in self.now ≡ Some s.now) }
     {
         match &self.node {
-            Node::Text(content) => Some(content.as_str()),
+            Node::Text(content, _) => Some(content.as_str()),
             _ => None,
         }
     }
+
+    /// The whole number that a number or a truth value counts as, where the value is one.
+    pub fn as_whole(&self) -> Option<i128>
+        ensures { result ≡ whole_in self.now }
+    {
+        match &self.node {
+            Node::Boolean(false) => Some(0),
+            Node::Boolean(true) => Some(1),
+            Node::Number(whole) => Some(*whole),
+            _ => None,
+        }
+    }
+
+    /// The items of a list, where the value is one.
+    pub fn as_list(&self) -> Option<&[Value]>
+        ensures { MatchOption result (list_in self.now ≡ None) (λ vs. list_in self.now ≡ Some vs.now) }
+    {
+        match &self.node {
+            Node::List(items) => Some(items.as_slice()),
+            _ => None,
+        }
+    }
+
+    /// The items of a list; none of other values.
+    pub fn items(&self) -> &[Value]
+        ensures { result.now ≡ items_in self.now }
+    {
+        match &self.node {
+            Node::List(items) => items.as_slice(),
+            _ => &[],
+        }
+    }
+
+    /// The pairs of a map, a keyword map or a module; none of other values.
+    pub fn pairs(&self) -> &[(Value, Value)]
+        ensures pairs { result.now ≡ entries_in self.now }
+        ensures ordered { IsMap result.now }
+    {
+        match &self.node {
+            Node::Map(pairs) | Node::Keywords(pairs) | Node::Exports(pairs, _) => pairs.as_slice(),
+            _ => &[],
+        }
+    }
+
     // The place of the kind among the kinds.
     pub(crate) fn rank(&self) -> u8
         ensures { result ≡ rank self.now }
     {
         match &self.node {
-            Node::Undefined => 0,
-            Node::Text(_) => 1,
-            Node::Map(_) => 2,
+            Node::Undefined(_) => 0,
+            Node::None => 1,
+            Node::Boolean(_) | Node::Number(_) => 2,
+            Node::Text(_, _) => 3,
+            Node::List(_) => 4,
+            Node::Map(_) => 5,
+            Node::Keywords(_) => 6,
+            Node::Exports(_, _) => 7,
+            Node::Function(_) => 8,
+            Node::Macro(_) => 9,
+            Node::Loop(_, _) => 10,
+            Node::Namespace(_, _) => 11,
         }
     }
 
-    // The text, or an empty one.
+    // The text of a text or a module, or an empty one.
     pub(crate) fn text_or_empty(&self) -> &str
         ensures { result.now ≡ bytes_in self.now }
     {
         match &self.node {
-            Node::Text(content) => content.as_str(),
+            Node::Text(content, _) | Node::Exports(_, content) => content.as_str(),
             _ => "",
         }
     }
 
-    // The pairs of a map, or none.
-    pub(crate) fn pairs(&self) -> &[(Value, Value)]
-        ensures { result.now ≡ entries_of (pairs_in self.now) }
+    // The whole number, or zero.
+    pub(crate) fn whole_or_zero(&self) -> i128
+        ensures { result ≡ whole_or_zero self.now }
     {
         match &self.node {
-            Node::Map(pairs) => pairs.as_slice(),
-            _ => &[],
+            Node::Boolean(true) => 1,
+            Node::Number(whole) => *whole,
+            _ => 0,
         }
     }
 }

@@ -1,8 +1,19 @@
 use Rattle.std.proofs.Common.{arith, ◌≡◌, get_or, ap, ◌∙◌}
-use Rattle.tm_values.proofs.Lists.{less-at_end}
-use Rattle.tm_values.proofs.Sizes.{key-smaller, value-smaller}
+use Rattle.tm_values.proofs.Lists.{fewer-items, fewer-pairs}
+use Rattle.tm_values.proofs.Sizes.{item-smaller, key-smaller, value-smaller}
 use Rattle.tm_values.specs.Val.{Val, val_size}
 use Rattle.tm_values.proofs.+compare.Goals as goal
+
+pub order::compare_items-compare-items-requires : goal.order::compare_items-compare-items-requires
+order::compare_items-compare-items-requires t c =
+    let x = c.index-left-i.result in
+    let smaller = item-smaller c.args.left.now c.loop-i.i x (omega arith) in
+    let same : val_size x ≡ val_size (get_or c.args.left.now c.loop-i.i x) = ap val_size c.index-left-i.is in
+    (omega arith, tt)
+
+pub order::compare_items-returns-then-left-right : goal.order::compare_items-returns-then-left-right
+order::compare_items-returns-then-left-right t c =
+    fewer-items c.args.left.now c.args.right.now c.loop-i.i (omega arith) (omega arith) ∙ c.loop-i.invariant.rest
 
 pub order::compare_pairs-compare-keys-requires : goal.order::compare_pairs-compare-keys-requires
 order::compare_pairs-compare-keys-requires t c =
@@ -20,4 +31,4 @@ order::compare_pairs-compare-values-requires t c =
 
 pub order::compare_pairs-returns-then-left-right : goal.order::compare_pairs-returns-then-left-right
 order::compare_pairs-returns-then-left-right t c =
-    less-at_end c.args.left.now c.args.right.now c.loop-i.i (omega arith) (omega arith) ∙ c.loop-i.invariant.rest
+    fewer-pairs c.args.left.now c.args.right.now c.loop-i.i (omega arith) (omega arith) ∙ c.loop-i.invariant.rest

@@ -1,0 +1,4 @@
+pub mod Undefined
+pub mod Truth
+pub mod Arithmetic
+pub mod Comparison

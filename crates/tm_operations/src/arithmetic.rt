@@ -1,0 +1,170 @@
+//! Arithmetic.
+ghost use Rattle.std.specs.Prelude.{◌≡◌, ◌++◌, ◌∷◌, [], OnOk, IfErr, MatchOption, string_bytes};
+ghost use Rattle.tm_operations.specs.Arithmetic.{both, number_answer, added, subtracted, multiplied, floor_divided, remaining, raised, negated, divided, text_added, list_added};
+ghost use Rattle.tm_values.specs.Answer.{IsAnswer};
+ghost use Rattle.tm_values.specs.Val.{whole_in, text_in, list_in};
+
+use std::alloc::Global;
+use std::rc::RcStr;
+use tm_primitives::whole;
+use tm_values::{Error, ErrorKind, Node, Value};
+
+/// The sum of two numbers, truth values counted as 0 and 1; or two texts or two lists, one after
+/// another, not safe. InvalidOperation for other values and a sum out of range.
+pub fn add(alloc: Global, left: &Value, right: &Value) -> Result<Value, Error>
+    ensures { IsAnswer result (added left.now right.now) }
+{
+    match &left.node {
+        Node::Text(content, _) => add_text(alloc, content.as_str(), right),
+        Node::List(items) => add_list(alloc, items.as_slice(), right),
+        _ => match whole_operands(left, right) {
+            Some((a, b)) => number_or_invalid(alloc, whole::add(a, b)),
+            None => Err(not_numbers(alloc)),
+        },
+    }
+}
+
+/// The difference of two numbers; InvalidOperation for other values and a result out of range.
+pub fn subtract(alloc: Global, left: &Value, right: &Value) -> Result<Value, Error>
+    ensures { IsAnswer result (subtracted left.now right.now) }
+{
+    match whole_operands(left, right) {
+        Some((a, b)) => number_or_invalid(alloc, whole::subtract(a, b)),
+        None => Err(not_numbers(alloc)),
+    }
+}
+
+/// The product of two numbers; InvalidOperation for other values and a result out of range.
+pub fn multiply(alloc: Global, left: &Value, right: &Value) -> Result<Value, Error>
+    ensures { IsAnswer result (multiplied left.now right.now) }
+{
+    match whole_operands(left, right) {
+        Some((a, b)) => number_or_invalid(alloc, whole::multiply(a, b)),
+        None => Err(not_numbers(alloc)),
+    }
+}
+
+/// The quotient `//` of two numbers, whose remainder is not negative; InvalidOperation for other
+/// values, a zero divisor and a result out of range.
+pub fn floor_divide(alloc: Global, left: &Value, right: &Value) -> Result<Value, Error>
+    ensures { IsAnswer result (floor_divided left.now right.now) }
+{
+    match whole_operands(left, right) {
+        Some((a, b)) => number_or_invalid(alloc, whole::divide(a, b)),
+        None => Err(not_numbers(alloc)),
+    }
+}
+
+/// The remainder `%` of two numbers, which is not negative; InvalidOperation for other values and a
+/// zero divisor.
+pub fn remainder(alloc: Global, left: &Value, right: &Value) -> Result<Value, Error>
+    ensures { IsAnswer result (remaining left.now right.now) }
+{
+    match whole_operands(left, right) {
+        Some((a, b)) => number_or_invalid(alloc, whole::remainder(a, b)),
+        None => Err(not_numbers(alloc)),
+    }
+}
+
+/// A number raised to another; InvalidOperation for other values, a negative exponent and a result
+/// out of range.
+pub fn power(alloc: Global, left: &Value, right: &Value) -> Result<Value, Error>
+    ensures { IsAnswer result (raised left.now right.now) }
+{
+    match whole_operands(left, right) {
+        Some((a, b)) => number_or_invalid(alloc, whole::power(a, b)),
+        None => Err(not_numbers(alloc)),
+    }
+}
+
+/// The number with the other sign; InvalidOperation for other values and the least number.
+pub fn negate(alloc: Global, value: &Value) -> Result<Value, Error>
+    ensures { IsAnswer result (negated value.now) }
+{
+    match value.as_whole() {
+        Some(whole) => number_or_invalid(alloc, whole::negate(whole)),
+        None => Err(not_numbers(alloc)),
+    }
+}
+
+/// `/` has no answer, since there are no fractions: always InvalidOperation.
+pub fn divide(alloc: Global, _left: &Value, _right: &Value) -> Result<Value, Error>
+    ensures { IsAnswer result (divided _left.now _right.now) }
+{
+    Err(Error::new(
+        alloc,
+        ErrorKind::InvalidOperation,
+        "there are no fractions; // gives the whole quotient",
+    ))
+}
+
+// Two numbers, where both values are.
+fn whole_operands(left: &Value, right: &Value) -> Option<(i128, i128)>
+    ensures { result ≡ both (whole_in left.now) (whole_in right.now) }
+{
+    match (left.as_whole(), right.as_whole()) {
+        (Some(a), Some(b)) => Some((a, b)),
+        _ => None,
+    }
+}
+
+fn number_or_invalid(alloc: Global, whole: Option<i128>) -> Result<Value, Error>
+    ensures { IsAnswer result (number_answer whole) }
+{
+    match whole {
+        Some(whole) => Ok(Value::number(whole)),
+        None => Err(Error::new(
+            alloc,
+            ErrorKind::InvalidOperation,
+            "the result is out of range, or there is none",
+        )),
+    }
+}
+
+#[cold]
+#[inline(never)]
+fn not_numbers(alloc: Global) -> Error
+    ensures { result ≡ ErrorKind.InvalidOperation ∷ [] }
+{
+    Error::new(
+        alloc,
+        ErrorKind::InvalidOperation,
+        "arithmetic needs two numbers; + also takes two texts or two lists",
+    )
+}
+
+fn add_text(alloc: Global, content: &str, right: &Value) -> Result<Value, Error>
+    ensures { IsAnswer result (text_added content.now (text_in right.now)) }
+{
+    let Some(behind) = right.as_str() else {
+        return Err(not_numbers(alloc));
+    };
+    let mut joined = String::with_capacity(alloc, content.len())?;
+    joined.push_str(content)?;
+    joined.push_str(behind)?;
+    Ok(Value::shared_text(RcStr::from_string(joined)?, false))
+}
+
+fn add_list(alloc: Global, items: &[Value], right: &Value) -> Result<Value, Error>
+    ensures { IsAnswer result (list_added items.now (list_in right.now)) }
+{
+    let Some(behind) = right.as_list() else {
+        return Err(not_numbers(alloc));
+    };
+    let mut joined = Vec::with_capacity(alloc, items.len())?;
+    share_all(items, &mut joined)?;
+    share_all(behind, &mut joined)?;
+    Value::list(alloc, joined)
+}
+
+// Puts a second owner of each value behind those that are there.
+pub(crate) fn share_all(values: &[Value], out: &mut Vec<Value>) -> Result<(), Error>
+    ensures items { OnOk result (out.new.items ≡ out.old.items ++ values.now) }
+    ensures memory { IfErr result (λ e. e ≡ ErrorKind.OutOfMemory ∷ []) }
+{
+    out.reserve(values.len())?;
+    for value in values {
+        out.push(value.share()?)?;
+    }
+    Ok(())
+}

@@ -1,0 +1,23 @@
+//! Undefined values as operands.
+ghost use Rattle.std.specs.Prelude.{◌≡◌, Ok};
+ghost use Rattle.tm_operations.specs.Undefined.{refusal_of, unless};
+
+use tm_values::{Error, Node, UndefinedBehavior, UndefinedUse, Value};
+
+/// Whether the value may be used so: UndefinedError or InvalidOperation where it is undefined and
+/// the behaviour refuses that use.
+pub fn check_defined(
+    value: &Value,
+    behavior: UndefinedBehavior,
+    purpose: UndefinedUse,
+) -> Result<(), Error>
+    ensures { result ≡ unless (refusal_of behavior purpose value.now) (Ok tt) }
+{
+    match &value.node {
+        Node::Undefined(silent) => match behavior.refusal(purpose, *silent) {
+            Some(kind) => Err(Error::from(kind)),
+            None => Ok(()),
+        },
+        _ => Ok(()),
+    }
+}

@@ -1,0 +1,135 @@
+-- Numbers by steps: that those before the stop are places, and where they stand.
+use Rattle.std.proofs.Common.{◌≡◌, ◌≢◌, ◌<◌, ◌≤◌, ◌+◌, ◌*◌, ◌<ℤ◌, ◌≤ℤ◌, ◌+ℤ◌, ◌-ℤ◌, ◌*ℤ◌, ℕ, ℤ, pos, negsuc, neg_ℤ, int_lt, ◌⊎◌, ◌^◌, Bool, true, false, cond, Option, Some, None, List, [], ◌∷◌, length, get_or, inl, inr, refl, sym, ap, ◌∙◌, arith, zero, suc, unsigned_abs}
+use Rattle.std.proofs.lemmas.Int.{ints, by_lt_z}
+use Rattle.std.proofs.lemmas.Grind.{div_ceil_times}
+use Rattle.std.proofs.Math.Nat.{suc-mul}
+use Rattle.std.specs.Int.RustNames.{FitsSigned}
+use Rattle.std.specs.Int.{w128, div_ceil, is_negative}
+use Rattle.tm_primitives.specs.Places.{places_from, Within, lowest, highest, cut, bound_of, start_of, stop_of, distance, count_before, from_start}
+
+pub length-places_from : (x z : ℤ) (m : ℕ) → length (places_from x z m) ≡ m
+length-places_from x z zero = refl
+length-places_from x z (suc m) = ap suc (length-places_from (x +ℤ z) z m)
+
+place_fits : (x : ℤ) → pos 0 ≤ℤ x → x <ℤ pos (2 ^ 64) → FitsSigned w128 x
+place_fits (pos n) low high = record { sfits = omega (arith, ints, high) }
+place_fits (negsuc n) low high = absurd (omega (arith, ints, low))
+
+-- where another place follows, it is a number of the type
+pub next_fits : (x z : ℤ) (m : ℕ) → Within (2 ^ 64) x z m → 1 < m → FitsSigned w128 (x +ℤ z)
+next_fits x z zero h l = absurd (omega arith)
+next_fits x z (suc zero) h l = absurd (omega arith)
+next_fits x z (suc (suc m)) h l = place_fits (x +ℤ z) h.2.0 h.2.1
+
+-- going up from x, while k steps stay below n + one step
+up_within : (n k m : ℕ) (x : ℤ) → pos 0 ≤ℤ x → (x +ℤ pos (m * k)) <ℤ pos (n + k) → Within n x (pos k) m
+up_within n k zero x low h = tt
+up_within n k (suc m) x low h =
+    let e : suc m * k ≡ m * k + k = suc-mul m k in
+    (low, omega (arith, ints, low, h, e), up_within n k m (x +ℤ pos k) (omega (arith, ints, low)) (omega (arith, ints, low, h, e)))
+
+-- going down from x, while k + 1 steps stay above -1 less one step
+down_within : (n k m : ℕ) (x : ℤ) → x <ℤ pos n → pos (m * suc k) <ℤ (x +ℤ pos (suc (suc k))) → Within n x (negsuc k) m
+down_within n k zero x high h = tt
+down_within n k (suc m) x high h =
+    let e : suc m * suc k ≡ m * suc k + suc k = suc-mul m (suc k) in
+    (omega (arith, ints, h, e), high, down_within n k m (x +ℤ negsuc k) (omega (arith, ints, high)) (omega (arith, ints, h, e)))
+
+-- ---- a slice's bounds
+
+cut_in : (low high x : ℤ) → low ≤ℤ high → (low ≤ℤ cut low high x) × (cut low high x ≤ℤ high)
+cut_in low high x h = grind (arith, ints)
+
+-- bounds of a slice that goes up, or down
+pub start_up : (n : ℕ) (z : ℤ) (s : Option ℤ) → is_negative z ≡ false → (pos 0 ≤ℤ start_of n z s) × (start_of n z s ≤ℤ pos n)
+start_up n z None e = rw e (omega (arith, ints), omega (arith, ints))
+start_up n z (Some i) e = rw e (cut_in (pos 0) (pos n) (from_start n i) (omega (arith, ints)))
+
+pub stop_up : (n : ℕ) (z : ℤ) (s : Option ℤ) → is_negative z ≡ false → (pos 0 ≤ℤ stop_of n z s) × (stop_of n z s ≤ℤ pos n)
+stop_up n z None e = rw e (omega (arith, ints), omega (arith, ints))
+stop_up n z (Some i) e = rw e (cut_in (pos 0) (pos n) (from_start n i) (omega (arith, ints)))
+
+pub start_down : (n : ℕ) (z : ℤ) (s : Option ℤ) → is_negative z ≡ true → (negsuc 0 ≤ℤ start_of n z s) × (start_of n z s ≤ℤ (pos n -ℤ pos 1))
+start_down n z None e = rw e (omega (arith, ints), omega (arith, ints))
+start_down n z (Some i) e = rw e (cut_in (negsuc 0) (pos n -ℤ pos 1) (from_start n i) (omega (arith, ints)))
+
+pub stop_down : (n : ℕ) (z : ℤ) (s : Option ℤ) → is_negative z ≡ true → (negsuc 0 ≤ℤ stop_of n z s) × (stop_of n z s ≤ℤ (pos n -ℤ pos 1))
+stop_down n z None e = rw e (omega (arith, ints), omega (arith, ints))
+stop_down n z (Some i) e = rw e (cut_in (negsuc 0) (pos n -ℤ pos 1) (from_start n i) (omega (arith, ints)))
+
+pub abs_is : (z : ℤ) → pos 0 ≤ℤ z → pos (unsigned_abs z) ≡ z
+abs_is (pos n) h = refl
+abs_is (negsuc n) h = absurd (omega (arith, ints, h))
+
+distance_if : (b : Bool) (x y : ℤ) → int_lt x y ≡ b → ((x <ℤ y) × (pos (cond b (unsigned_abs (y -ℤ x)) 0) ≡ y -ℤ x)) ⊎ ((y ≤ℤ x) × (cond b (unsigned_abs (y -ℤ x)) 0 ≡ 0))
+distance_if true x y e =
+    let h : x <ℤ y = grind (arith, ints) in
+    inl (h, abs_is (y -ℤ x) (omega (arith, ints, h)))
+distance_if false x y e = inr (grind (arith, ints), refl)
+
+pub distance_is : (x y : ℤ) → ((x <ℤ y) × (pos (distance x y) ≡ y -ℤ x)) ⊎ ((y ≤ℤ x) × (distance x y ≡ 0))
+distance_is x y = distance_if (int_lt x y) x y refl
+
+-- the number of steps goes past the stop by less than a step
+up_short : (n k m : ℕ) (x y : ℤ) → 0 < k → m ≡ div_ceil (distance x y) k → x ≤ℤ pos n → y ≤ℤ pos n → (x +ℤ pos (m * k)) <ℤ pos (n + k)
+up_short n k m x y p e hx hy =
+    rw e
+    (let b : div_ceil (distance x y) k * k < distance x y + k = (div_ceil_times (distance x y) k p).1 in
+    elim (distance_is x y) [
+      | inl d ↦ omega (arith, ints, b, hx, hy, d.0, d.1)
+      | inr d ↦ omega (arith, ints, b, hx, hy, d.0, d.1)
+    ])
+
+down_short : (k : ℕ) (x y : ℤ) → negsuc 0 ≤ℤ x → negsuc 0 ≤ℤ y → pos (div_ceil (distance y x) (suc k) * suc k) <ℤ (x +ℤ pos (suc (suc k)))
+down_short k x y hx hy =
+    let b : div_ceil (distance y x) (suc k) * suc k < distance y x + suc k = (div_ceil_times (distance y x) (suc k) (omega arith)).1 in
+    elim (distance_is y x) [
+      | inl d ↦ omega (arith, ints, b, hx, hy, d.0, d.1)
+      | inr d ↦ omega (arith, ints, b, hx, hy, d.0, d.1)
+    ]
+
+pub not_negative : (k : ℕ) → is_negative (pos k) ≡ false
+not_negative k = grind (arith, ints)
+
+pub count_up : (z x y : ℤ) → is_negative z ≡ false → count_before z x y ≡ div_ceil (distance x y) (unsigned_abs z)
+count_up z x y e = rw e
+
+-- each place that a slice takes is one
+pub slice_within : (n : ℕ) (start stop : Option ℤ) (z : ℤ) → z ≢ pos 0 → Within n (start_of n z start) z (count_before z (start_of n z start) (stop_of n z stop))
+slice_within n start stop (pos zero) h = absurd (h refl)
+slice_within n start stop (pos (suc k)) h =
+    let e = not_negative (suc k) in
+    let s = start_up n (pos (suc k)) start e in
+    let t = stop_up n (pos (suc k)) stop e in
+    up_within n (suc k) (count_before (pos (suc k)) (start_of n (pos (suc k)) start) (stop_of n (pos (suc k)) stop)) (start_of n (pos (suc k)) start) s.0
+    (up_short n (suc k) (count_before (pos (suc k)) (start_of n (pos (suc k)) start) (stop_of n (pos (suc k)) stop)) (start_of n (pos (suc k)) start) (stop_of n (pos (suc k)) stop) (omega arith) (count_up (pos (suc k)) (start_of n (pos (suc k)) start) (stop_of n (pos (suc k)) stop) e) s.1 t.1)
+slice_within n start stop (negsuc k) h =
+    let s = start_down n (negsuc k) start refl in
+    let t = stop_down n (negsuc k) stop refl in
+    down_within n k (count_before (negsuc k) (start_of n (negsuc k) start) (stop_of n (negsuc k) stop)) (start_of n (negsuc k) start) (omega (arith, ints, s.1))
+    (down_short k (start_of n (negsuc k) start) (stop_of n (negsuc k) stop) s.0 t.0)
+
+pub within_more : (n m : ℕ) (x z : ℤ) (count : ℕ) → n ≤ m → Within n x z count → Within m x z count
+within_more n m x z zero h w = tt
+within_more n m x z (suc count) h w = (w.0, omega (arith, ints, h, w.1), within_more n m (x +ℤ z) z count h w.2)
+
+pub bounds_near : (n : ℕ) (start stop : Option ℤ) (z : ℤ) → n < 2 ^ 64 → unsigned_abs (stop_of n z stop -ℤ start_of n z start) < 2 ^ 64
+bounds_near n start stop z h = near_if (is_negative z) refl
+  where
+    small : (d : ℤ) → neg_ℤ (pos n) ≤ℤ d → d ≤ℤ pos n → unsigned_abs d < 2 ^ 64
+    small (pos m) low high = omega (arith, ints, low, high, h)
+    small (negsuc m) low high = omega (arith, ints, low, high, h)
+
+    near_if : (b : Bool) → is_negative z ≡ b → unsigned_abs (stop_of n z stop -ℤ start_of n z start) < 2 ^ 64
+    near_if true e =
+        let s = start_down n z start e in
+        let t = stop_down n z stop e in
+        small (stop_of n z stop -ℤ start_of n z start) (omega (arith, ints, s.0, s.1, t.0, t.1)) (omega (arith, ints, s.0, s.1, t.0, t.1))
+    near_if false e =
+        let s = start_up n z start e in
+        let t = stop_up n z stop e in
+        small (stop_of n z stop -ℤ start_of n z start) (omega (arith, ints, s.0, s.1, t.0, t.1)) (omega (arith, ints, s.0, s.1, t.0, t.1))
+
+pub slice_inside : (n : ℕ) (start stop : Option ℤ) (z x y : ℤ) (count : ℕ) → z ≢ pos 0 → n < 2 ^ 64
+    → x ≡ start_of n z start → y ≡ stop_of n z stop → count ≡ count_before z x y → Within (2 ^ 64) x z count
+slice_inside n start stop z x y count h l ex ey ec = rw (ec, ex, ey) (within_more n (2 ^ 64) (start_of n z start) z (count_before z (start_of n z start) (stop_of n z stop)) (omega (arith, l)) (slice_within n start stop z h))

@@ -1,0 +1,7 @@
+//! Whole numbers, the places that slices take, and texts by their characters.
+#![tactic(auto)]
+
+pub mod places;
+#[cfg(test)]
+mod tests;
+pub mod whole;

@@ -1,0 +1,27 @@
+-- What operations answer: what their definition states, or that no memory was found.
+use Rattle.std.specs.Prelude.{◌≡◌, List, [], ◌∷◌, Bool, true, false, Result, Ok, Err}
+use Rattle.tm_values.specs.Chain.{is_memory}
+use Rattle.tm_values.specs.declared.error.ErrorKind.{ErrorKind}
+use Rattle.tm_values.specs.declared.error.ErrorKind.TheVariants.{InvalidOperation}
+
+-- a value, or the chain of an error
+abbrev pub Answer : Type 0 → Type 0
+Answer A = Result A (List ErrorKind)
+
+-- an error of this kind without a cause
+abbrev pub refused : {A : Type 0} → ErrorKind → Answer A
+refused kind = Err (kind ∷ [])
+
+abbrev pub invalid : {A : Type 0} → Answer A
+invalid = refused InvalidOperation
+
+-- the chain is OutOfMemory without a cause
+abbrev pub is_memory_alone : List ErrorKind → Bool
+is_memory_alone [] = false
+is_memory_alone (kind ∷ []) = is_memory kind
+is_memory_alone (kind ∷ cause ∷ causes) = false
+
+-- The answer is what was stated, unless it is OutOfMemory.
+abbrev pub IsAnswer : {A : Type 0} → Answer A → Answer A → Type 0
+IsAnswer (Ok v) stated = stated ≡ Ok v
+IsAnswer (Err chain) stated = is_memory_alone chain ≡ false → stated ≡ Err chain

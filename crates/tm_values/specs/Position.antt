@@ -1,0 +1,6 @@
+-- Where a loop stands, of its record.
+use Rattle.tm_values.specs.Records.{LoopData}
+use Rattle.tm_values.specs.declared.records.LoopPosition.{LoopPosition}
+
+abbrev pub position_of : LoopData → LoopPosition
+position_of l = record { place = l.place; count = l.count; depth = l.depth }

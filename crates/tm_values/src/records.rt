@@ -1,0 +1,107 @@
+//! What stands in the loops and namespaces of a state, which their values only name.
+ghost use Rattle.std.specs.Prelude.{◌≡◌, ℕ, List, Option, None, Some, [], length, MatchOption, option_map, slice_get};
+ghost use Rattle.tm_values.specs.Val.{Val};
+ghost use Rattle.tm_values.specs.Records.{RecordData, namespace_at, loop_at, previous_at, following_at, no_records};
+ghost use Rattle.tm_values.specs.Position.{position_of};
+
+use crate::map::ValueMap;
+use crate::value::Value;
+
+/// Where a loop stands.
+#[derive(Clone, Copy)]
+pub struct LoopPosition {
+    /// The place of its item, counted from 0; none before the first item, the number of items after the last.
+    pub place: Option<usize>,
+    /// How many items it has.
+    pub count: usize,
+    /// How many recursive loops lie around it.
+    pub depth: usize,
+}
+
+/// The records of a state: its loops and namespaces, by number.
+pub trait Records {
+    // The records as plain data.
+    ghost records: { Self → RecordData };
+
+    /// The id of the state.
+    fn state(&self) -> u64
+        ensures { result ≡ (records self.now).state };
+
+    /// How many namespaces there are.
+    fn namespace_count(&self) -> usize
+        ensures { result ≡ length (records self.now).namespaces };
+
+    /// What a namespace holds.
+    fn namespace(&self, index: usize) -> Option<&ValueMap>
+        ensures { MatchOption result (slice_get (records self.now).namespaces index ≡ None)
+            (λ m. slice_get (records self.now).namespaces index ≡ Some m.now) };
+
+    /// Where a loop stands.
+    fn loop_position(&self, index: usize) -> Option<LoopPosition>
+        ensures { result ≡ option_map position_of (slice_get (records self.now).loops index) };
+
+    /// The item before a loop's own, where there is one.
+    fn previous_item(&self, index: usize) -> Option<&Value>
+        ensures { MatchOption result (previous_at (records self.now) index ≡ None)
+            (λ v. previous_at (records self.now) index ≡ Some v.now) };
+
+    /// The item behind a loop's own, where there is one.
+    fn following_item(&self, index: usize) -> Option<&Value>
+        ensures { MatchOption result (following_at (records self.now) index ≡ None)
+            (λ v. following_at (records self.now) index ≡ Some v.now) };
+}
+
+/// The records of no state: of an id that no state has, without loops and namespaces.
+#[derive(Clone, Copy, Debug)]
+pub struct NoRecords;
+
+impl Records for NoRecords {
+    ghost records = { λ _. no_records };
+
+    fn state(&self) -> u64 {
+        u64::MAX
+    }
+
+    fn namespace_count(&self) -> usize {
+        0
+    }
+
+    fn namespace(&self, _index: usize) -> Option<&ValueMap> {
+        None
+    }
+
+    fn loop_position(&self, _index: usize) -> Option<LoopPosition> {
+        None
+    }
+
+    fn previous_item(&self, _index: usize) -> Option<&Value> {
+        None
+    }
+
+    fn following_item(&self, _index: usize) -> Option<&Value> {
+        None
+    }
+}
+
+/// What a namespace holds, where its state is that of the records and its number is known there.
+pub fn find_namespace<R: Records>(records: &R, state: u64, index: usize) -> Option<&ValueMap>
+    ensures { MatchOption result (namespace_at (R.records records.now) state index ≡ None)
+        (λ m. namespace_at (R.records records.now) state index ≡ Some m.now) }
+{
+    if records.state() == state {
+        records.namespace(index)
+    } else {
+        None
+    }
+}
+
+/// Where a loop stands, where its state is that of the records and its number is known there.
+pub fn find_loop<R: Records>(records: &R, state: u64, index: usize) -> Option<LoopPosition>
+    ensures { result ≡ option_map position_of (loop_at (R.records records.now) state index) }
+{
+    if records.state() == state {
+        records.loop_position(index)
+    } else {
+        None
+    }
+}
