@@ -1,2 +1,4 @@
+pub mod Parts
 pub mod Runs
 pub mod Spelled
+pub mod Weights

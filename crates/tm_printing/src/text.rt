@@ -41,10 +41,10 @@ pub fn write_json_text<T: Target>(text: &str, target: &mut T) -> Result<(), Targ
     target.take_text("\"")
 }
 
-/// Writes the number in decimal.
-pub fn write_number<T: Target>(number: i128, target: &mut T) -> Result<(), TargetFailed>
-    ensures { Takes T.took T.stopped result target.old (signed_decimal number) target.new }
+/// Writes the number in decimal, escaped.
+pub fn write_number<E: Escape, T: Target>(number: i128, target: &mut T) -> Result<(), TargetFailed>
+    ensures { Takes T.took T.stopped result target.old (flat_map E.spelled (signed_decimal number)) target.new }
 {
     let mut buffer = itoa::Buffer::new();
-    target.take_text(buffer.format(number))
+    write_spelled::<E, T>(buffer.format(number), target)
 }
