@@ -55,3 +55,9 @@ module _ {T : Type 0} {took stopped : T → List ℕ → T → Type 0} where
   closed {a = a} {b = b} {c = c} r d opening body closing laws opened written answer =
       let ahead : Ahead took stopped a (opening ++ (body ++ closing)) b (body ++ closing) = past laws all_ahead opened in
       last r d (past laws ahead written) answer
+
+  -- two pieces are taken, and the rest is left
+  pub past_two : {a b c : T} {first second : List ℕ} (rest : List ℕ) → Laws took stopped → took a first b → took b second c → Ahead took stopped a (first ++ (second ++ rest)) c rest
+  past_two {a} {b} {c} {first} {second} rest laws taken then =
+      let ahead : Ahead took stopped a (first ++ (second ++ rest)) b (second ++ rest) = past laws all_ahead taken in
+      past laws ahead then

@@ -1,3 +1,4 @@
+pub mod Members
 pub mod Parts
 pub mod Runs
 pub mod Spelled
