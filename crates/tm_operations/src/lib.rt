@@ -3,6 +3,7 @@
 
 mod arithmetic;
 mod comparisons;
+mod concatenation;
 mod condition;
 mod containment;
 mod members;
@@ -13,6 +14,7 @@ mod undefined;
 
 pub use arithmetic::{add, divide, floor_divide, multiply, negate, power, remainder, subtract};
 pub use comparisons::{Comparison, compare};
+pub use concatenation::concatenate;
 pub use condition::{is_true, truth};
 pub use containment::contains;
 pub use members::{LoopAttribute, attribute, check_settable, is_callable, item};
