@@ -1,8 +1,7 @@
 -- What renders mean, leave and answer.
-use Rattle.std.specs.Prelude.{◌≡◌, ◌-◌, ◌^◌, ℕ, List, [], ◌∷◌, true, Option, Result, Ok, Err, String, string_bytes, refl}
+use Rattle.std.specs.Prelude.{◌≡◌, ◌-◌, ◌^◌, ℕ, List, [], ◌∷◌, true, Option, Result, Ok, Err, String, string_bytes}
 use Rattle.std.specs.Io.KnownBytes.{Appends}
 use Rattle.std.specs.declared.alloc.Global.{Global}
-use Rattle.std.specs.Coded.{Coded, code_by, coded×, coded_ℕ, coded_list}
 use Rattle.tm_values.specs.Val.{Val}
 use Rattle.tm_values.specs.Chain.{ends_in_memory}
 use Rattle.tm_values.specs.declared.error.ErrorKind.{ErrorKind}
@@ -11,19 +10,14 @@ use Rattle.tm_meaning.specs.World.{World, first_world}
 use Rattle.tm_meaning.specs.Meaning.{Outcome, Done, Fault, rendered, text_of}
 use Rattle.tm_meaning.specs.Texts.{put_in, put_out}
 use Rattle.tm_parts.specs.Counts.{one_more, AppendsBeginning}
+use Rattle.tm_parts.specs.declared.halt.Halt.{Halt}
 use Rattle.tm_parts.specs.declared.halt.Halt.TheVariants as halt
-use Rattle.tm_vm.specs.Answers.{Answer}
-use Rattle.tm_vm.specs.Coded.{coded_World}
 use Rattle.template_machine.specs.Environment.{TemplateValue, host_of}
 
 -- a text that went to no writer, and the world that is left
 pub record CapturedValue : Type 0 where
   pub output : List ℕ
   pub world : World
-
-abbrev pub coded_CapturedValue : Coded CapturedValue
-coded_CapturedValue =
-    code_by (List ℕ × World) (coded× (coded_list coded_ℕ) coded_World) (λ c. (c.output, c.world)) (λ p. record { output = p.0; world = p.1 }) (λ _. refl)
 
 -- What a template means, rendered as the state of this number over this context value: its tree, under what its environment gives, from the environment's fuel.
 abbrev pub meaning : TemplateValue → ℕ → Val → Outcome
@@ -66,15 +60,15 @@ pub data RenderedText (m : Outcome) (result : Result (String Global) (List Error
   text_as_meant : IsText result m → RenderedText m result
   text_by_memory : IsMemory result → RenderedText m result
 
--- The answer of a run over captures: done, with the world that is left and the text put, or a fault of the chain.
-abbrev pub IsRun : Answer → World → List (List ℕ) → List (List ℕ) → Outcome → Type 0
-IsRun (Ok _) left old new (Done run out w) = (left ≡ w) × (new ≡ put_in old out)
-IsRun (Err (halt.Fault answer)) left old new (Fault out w chain) = answer ≡ chain
-IsRun _ left old new _ = ⊥
+-- The answer of a run over captures: done, with the text put and the world that is left, or a fault of the chain.
+abbrev pub IsRun : Result (List (List ℕ) × World) Halt → List (List ℕ) → Outcome → Type 0
+IsRun (Ok (new, left)) old (Done run out w) = (left ≡ w) × (new ≡ put_in old out)
+IsRun (Err (halt.Fault answer)) old (Fault out w chain) = answer ≡ chain
+IsRun _ old _ = ⊥
 
 -- How a run over captures ended, in the same three ways.
-pub data Ran (m : Outcome) (result : Answer) (left : World) (old new : List (List ℕ)) (told now : Option (List ℕ)) (faults count : ℕ) : Type 0 where
-  run_as_meant : IsRun result left old new m → Appends told now (put_out old (text_of m)) → count ≡ faults → Ran m result left old new told now faults count
-  run_by_writer : result ≡ Err halt.Writer → AppendsBeginning told now (put_out old (text_of m)) → count ≡ one_more faults → Ran m result left old new told now faults count
+pub data Ran (m : Outcome) (result : Result (List (List ℕ) × World) Halt) (old : List (List ℕ)) (told now : Option (List ℕ)) (faults count : ℕ) : Type 0 where
+  run_as_meant : IsRun result old m → Appends told now (put_out old (text_of m)) → count ≡ faults → Ran m result old told now faults count
+  run_by_writer : result ≡ Err halt.Writer → AppendsBeginning told now (put_out old (text_of m)) → count ≡ one_more faults → Ran m result old told now faults count
   run_by_memory : (chain : List ErrorKind) → result ≡ Err (halt.Fault chain) → ends_in_memory chain ≡ true →
-      AppendsBeginning told now (put_out old (text_of m)) → count ≡ faults → Ran m result left old new told now faults count
+      AppendsBeginning told now (put_out old (text_of m)) → count ≡ faults → Ran m result old told now faults count

@@ -11,7 +11,7 @@ use std::marker::Model;
 use tm_parts::{Captures, Halt, NullWriter, Sink};
 use tm_tables::CompiledTemplate;
 use tm_values::{Error, ErrorKind, Value};
-use tm_vm::{StateData, StateIds, run};
+use tm_vm::{Machine, StateData, StateIds};
 
 /// A template of an environment.
 #[derive(Drop)]
@@ -21,11 +21,13 @@ pub struct Template<'env, 'source> {
 }
 
 impl<'env, 'source> Model for Template<'env, 'source> {
-    ghost use Rattle.template_machine.specs.Environment.{TemplateValue, coded_TemplateValue};
+    ghost use Rattle.std.specs.Coded.{codes};
+    ghost use Rattle.tm_tables.specs.Templates.{coded_Sts};
+    ghost use Rattle.template_machine.specs.Environment.{TemplateValue};
 
     ghost Value = { TemplateValue };
 
-    ghost coded = { coded_TemplateValue };
+    ghost coded = { Prim.hlevel (codes, coded_Sts) };
 
     ghost view = { λ t. record { environment = t.environment.now; template = t.compiled.now } };
 }
@@ -36,7 +38,10 @@ impl<'env, 'source> Template<'env, 'source> {
         environment: &'env Environment<'source>,
         compiled: &'env CompiledTemplate<'source>,
     ) -> Template<'env, 'source>
-        ensures { result ≡ record { environment = environment.entry.now; template = compiled.entry.now } }
+        ensures { result ≡ record {
+          environment = environment.entry.now;
+          template = compiled.entry.now;
+        } }
     {
         Template {
             environment,
@@ -60,15 +65,17 @@ impl<'env, 'source> Template<'env, 'source> {
 
     /// Renders the template over a context value, as the next state of the counter, and gives the text. InvalidOperation, and nothing runs, where the counter is full; OutOfMemory where there is no memory; else the fault that was meant.
     pub fn render(&self, ids: &mut StateIds, context: Value) -> Result<String, Error>
-        ensures full { ids.old ≡ greatest → (result ≡ Err (ErrorKind.InvalidOperation ∷ [])) × (ids.new ≡ ids.old) }
+        ensures full { ids.old ≡ greatest →
+            (result ≡ Err (ErrorKind.InvalidOperation ∷ [])) × (ids.new ≡ ids.old) }
         ensures next { ids.old < greatest → ids.new ≡ ids.old + 1 }
-        ensures rendered { ids.old < greatest → RenderedText (meaning self.now ids.old context) result }
+        ensures rendered { ids.old < greatest →
+            RenderedText (meaning self.now ids.old context) result }
     {
         let alloc = self.environment.allocator();
-        let mut state = self.first_state(ids, context)?;
+        let state = self.first_state(ids, context)?;
         let mut captures = Captures::new(alloc);
         captures.begin(alloc)?;
-        self.run_over(&mut state, &mut captures, &mut NullWriter)?;
+        let (mut captures, _state) = self.run_over(state, captures, &mut NullWriter)?;
         match captures.end() {
             Some(text) => Ok(text),
             None => unreachable!(),
@@ -82,24 +89,27 @@ impl<'env, 'source> Template<'env, 'source> {
         context: Value,
         writer: &mut W,
     ) -> Result<Captured<'env, 'source>, Error>
-        ensures full { ids.old ≡ greatest → (result ≡ Err (ErrorKind.InvalidOperation ∷ [])) × (ids.new ≡ ids.old)
-            × (W.told writer.new ≡ W.told writer.old) × (W.faults writer.new ≡ W.faults writer.old) }
+        ensures full { ids.old ≡ greatest →
+            (result ≡ Err (ErrorKind.InvalidOperation ∷ [])) × (ids.new ≡ ids.old)
+            × (W.told writer.new ≡ W.told writer.old)
+            × (W.faults writer.new ≡ W.faults writer.old) }
         ensures next { ids.old < greatest → ids.new ≡ ids.old + 1 }
         ensures rendered { ids.old < greatest → Rendered (meaning self.now ids.old context) result
             (W.told writer.old) (W.told writer.new) (W.faults writer.old) (W.faults writer.new) }
     {
-        let mut state = self.first_state(ids, context)?;
+        let state = self.first_state(ids, context)?;
         let alloc = self.environment.allocator();
-        let mut captures = Captures::new(alloc);
-        self.run_over(&mut state, &mut captures, writer)?;
+        let (_captures, state) = self.run_over(state, Captures::new(alloc), writer)?;
         Ok(Captured::new(String::new(alloc), State::new(self.environment, state)))
     }
 
     /// The state that a render starts from. InvalidOperation where the counter is full, OutOfMemory where there is no memory.
     fn first_state(&self, ids: &mut StateIds, context: Value) -> Result<StateData<'env>, Error>
-        ensures full { ids.old ≡ greatest → (result ≡ Err (ErrorKind.InvalidOperation ∷ [])) × (ids.new ≡ ids.old) }
+        ensures full { ids.old ≡ greatest →
+            (result ≡ Err (ErrorKind.InvalidOperation ∷ [])) × (ids.new ≡ ids.old) }
         ensures next { ids.old < greatest → ids.new ≡ ids.old + 1 }
-        ensures state { IfOk result (λ s. s ≡ first_world ids.old self.now.template.name self.now.environment.fuel context) }
+        ensures state { IfOk result (λ s. s ≡ first_world ids.old
+            self.now.template.name self.now.environment.fuel context) }
         ensures memory { ids.old < greatest → IfErr result (λ e. e ≡ ErrorKind.OutOfMemory ∷ []) }
     {
         let id = ids.next()?;
@@ -113,24 +123,22 @@ impl<'env, 'source> Template<'env, 'source> {
         )
     }
 
-    /// Runs the template's code over captures and a writer.
+    /// Runs the template's code over a state, captures and a writer, and gives the captures and the state that are left.
     fn run_over<W: Sink>(
         &self,
-        state: &mut StateData<'env>,
-        captures: &mut Captures,
+        state: StateData<'env>,
+        captures: Captures,
         writer: &mut W,
-    ) -> Result<(), Halt>
-        ensures { Ran (rendered (host_of self.now.environment) self.now.template.tree state.old) result state.new captures.old captures.new
-            (W.told writer.old) (W.told writer.new) (W.faults writer.old) (W.faults writer.new) }
+    ) -> Result<(Captures, StateData<'env>), Halt>
+        ensures { Ran
+            (rendered (host_of self.now.environment) self.now.template.tree state.entry)
+            result captures (W.told writer.old) (W.told writer.new)
+            (W.faults writer.old) (W.faults writer.new) }
     {
         let environment = self.environment;
-        run(
-            environment.allocator(),
-            environment,
-            self.compiled.instructions(),
-            state,
-            captures,
-            writer,
-        )
+        let alloc = environment.allocator();
+        let mut machine = Machine::new(alloc, self.compiled.instructions(), captures, state);
+        machine.run(alloc, environment, writer)?;
+        Ok(machine.into_parts())
     }
 }

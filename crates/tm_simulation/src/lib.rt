@@ -19,8 +19,9 @@ pub fn code_reaches_meaning()
 
 /// The code of a tree, run from its start over any captures, is never stuck.
 pub fn code_is_never_stuck()
-    ensures { (host : Host) (tree : Sts) (captures : List (List ℕ)) (text got : List ℕ) (w left : World) →
-        Reaches host (record { floor = length captures }) text (start (codes 0 tree) captures w) (final got (Stuck left)) → ⊥ }
+    ensures { (host : Host) (tree : Sts) (captures : List (List ℕ)) (text got : List ℕ)
+        (w left : World) → Reaches host (record { floor = length captures }) text
+        (start (codes 0 tree) captures w) (final got (Stuck left)) → ⊥ }
 {}
 
 /// A render keeps all of its world but the fuel.
