@@ -1,4 +1,5 @@
 -- Verdicts part by part, and the way through namespaces.
+use mathlib.Core.Path.{fun_ext}
 use Rattle.std.proofs.Common.{◌≡◌, ◌<◌, ◌+◌, ℕ, suc, Bool, true, false, cond, nat_eq, List, [], ◌∷◌, length, drop, get_or, ap, sym, ◌∙◌, subst, refl, not, Option, Some, Ok, Err}
 use Rattle.std.proofs.lemmas.Bool.{eqb-true}
 use Rattle.std.proofs.lemmas.List.{drop_more}
@@ -8,7 +9,7 @@ use Rattle.tm_values.specs.Records.{RecordData, namespace_at}
 use Rattle.tm_values.specs.Val.{Val, Pairs, vals_of, pairs_of}
 use Rattle.tm_values.specs.declared.error.ErrorKind.{ErrorKind}
 use Rattle.tm_printing.specs.Printed.{entered}
-use Rattle.tm_printing.specs.Refused.{Inside, Way, and_then, verdict, pair_verdict, items_verdict, pairs_verdict, through, namespace_verdict}
+use Rattle.tm_printing.specs.Refused.{Inside, Way, and_then, verdict, pair_verdict, items_verdict, pairs_verdict, through, nowhere, namespace_verdict, verdict_within}
 use Rattle.tm_printing.specs.declared.check.Form.{Form}
 
 -- an error that a part of the walk answers is the answer of the whole
@@ -44,3 +45,8 @@ restored way n q fresh = by_test (nat_eq n q) refl where
 pub not_there : (added there : Bool) → added ≡ not there → added ≡ true → there ≡ false
 not_there added true is new = absurd (cc (is, new))
 not_there added false is new = refl
+
+-- at the start no namespace is on the way
+pub at_start : (form : Form) (r : RecordData) (levels : ℕ) (way : Way) (v : Val) → levels ≡ length r.namespaces → ((q : ℕ) → way q ≡ false) → verdict_within form r levels way v ≡ verdict_within form r (length r.namespaces) nowhere v
+at_start form r levels way v all none =
+    ap (λ (l : ℕ). verdict_within form r l way v) all ∙ ap (λ (w : Way). verdict_within form r (length r.namespaces) w v) (fun_ext none)
