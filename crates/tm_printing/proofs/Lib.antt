@@ -2,4 +2,5 @@ pub mod Members
 pub mod Parts
 pub mod Runs
 pub mod Spelled
+pub mod Verdicts
 pub mod Weights

@@ -1,6 +1,7 @@
 -- What an emitted value is written as, under an escape.
 use Rattle.std.specs.Prelude.{ℕ, true, false, List, [], flat_map}
-use Rattle.tm_values.specs.Answer.{invalid}
+use Rattle.std.specs.Result.{result_map_both}
+use Rattle.tm_values.specs.Answer.{Answer, invalid}
 use Rattle.tm_values.specs.Records.{RecordData}
 use Rattle.tm_values.specs.Val.{Val, text}
 use Rattle.tm_values.specs.declared.escape.AutoEscape.{AutoEscape}
@@ -33,3 +34,11 @@ escaped_text (escape.Custom name) r v = []
 abbrev pub emitted_text : AutoEscape → RecordData → Val → List ℕ
 emitted_text e r (text s true) = s
 emitted_text e r v = escaped_text e r v
+
+-- an answer with its value seen another way
+abbrev pub map_ok : {A B : Type 0} → (A → B) → Answer A → Answer B
+map_ok f answer = result_map_both f (λ e. e) answer
+
+-- the text that a value is printed as, or what refuses to be printed
+abbrev pub text_answer : RecordData → Val → Answer (List ℕ)
+text_answer r v = map_ok (λ _. printed r v) (print_verdict r v)

@@ -1,5 +1,5 @@
 -- What a value is printed as.
-use Rattle.std.specs.Prelude.{ℕ, zero, suc, Bool, true, false, List, [], ◌∷◌, ◌++◌, Option, None, Some, codes, length}
+use Rattle.std.specs.Prelude.{ℕ, zero, suc, Bool, true, false, List, [], ◌∷◌, ◌++◌, Option, None, Some, codes, length, unwrap_or}
 use Rattle.std.specs.Fmt.{signed_decimal}
 use Rattle.tm_values.specs.Records.{RecordData, namespace_at}
 use Rattle.tm_values.specs.Val.{Val, undefined, none, boolean, number, text, list, map, keywords, exports, function, macro, loop, namespace, MacroData, Vals, no_vals, val, Pairs, no_pairs, pair, pairs_of}
@@ -73,12 +73,12 @@ abbrev pub namespace_text : RecordData → ℕ → Inside
 namespace_text r zero s n = []
 namespace_text r (suc levels) s n = entered (namespace_at r s n) [] (map_text r (namespace_text r levels))
 
--- the text of a value that stands by itself, levels deep: undefined prints nothing, and a text has no quotes
-abbrev pub printed_within : RecordData → ℕ → Val → List ℕ
-printed_within r levels (undefined silent) = []
-printed_within r levels (text s safe) = s
-printed_within r levels v = inner r (namespace_text r levels) v
+-- what stands for itself where it isn't within a list or a map: undefined prints nothing, and a text has no quotes
+abbrev pub bare_text : Val → Option (List ℕ)
+bare_text (undefined silent) = Some []
+bare_text (text s safe) = Some s
+bare_text v = None
 
 -- There are as many levels as there are namespaces.
 abbrev pub printed : RecordData → Val → List ℕ
-printed r v = printed_within r (length r.namespaces) v
+printed r v = unwrap_or (bare_text v) (inner r (namespace_text r (length r.namespaces)) v)

@@ -75,7 +75,10 @@ abbrev mutual
   pub pairs_verdict : Form → RecordData → Inside → Pairs → Verdict
   pairs_verdict form r inside no_pairs = fine
   pairs_verdict form r inside (pair k v ps) =
-      and_then (in_json form (key_verdict k)) (and_then (verdict form r inside k) (and_then (verdict form r inside v) (pairs_verdict form r inside ps)))
+      and_then (and_then (in_json form (key_verdict k)) (and_then (verdict form r inside k) (verdict form r inside v))) (pairs_verdict form r inside ps)
+
+abbrev pub pair_verdict : Form → RecordData → Inside → Val × Val → Verdict
+pair_verdict form r inside p = and_then (in_json form (key_verdict p.0)) (and_then (verdict form r inside p.0) (verdict form r inside p.1))
 
 -- the namespaces that are being gone through
 abbrev pub Way : Type 0

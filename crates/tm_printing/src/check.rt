@@ -1,9 +1,9 @@
 //! Whether a value can be printed or written as JSON. Nothing is written here.
-ghost use Rattle.std.specs.Prelude.{◌≡◌, ◌==◌, OnOk, nat_eq, length};
+ghost use Rattle.std.specs.Prelude.{◌≡◌, OnOk, nat_eq};
 ghost use Rattle.std.specs.HashSet.{contains};
 ghost use Rattle.tm_values.specs.Answer.{IsAnswer};
-ghost use Rattle.tm_values.specs.Val.{vals_of, pairs_of, val_size};
-ghost use Rattle.tm_printing.specs.Refused.{in_json, key_verdict, fits_json, if_holds, no_json, items_verdict, pairs_verdict, namespace_verdict, loop_verdict, verdict_within, print_verdict, json_verdict};
+ghost use Rattle.tm_values.specs.Val.{vals_of, pairs_of};
+ghost use Rattle.tm_printing.specs.Refused.{in_json, key_verdict, fits_json, if_holds, no_json, items_verdict, pair_verdict, pairs_verdict, namespace_verdict, loop_verdict, verdict_within, print_verdict, json_verdict};
 
 use std::alloc::Global;
 use std::collections::HashSet;
@@ -56,14 +56,31 @@ fn check<R: Records>(
         Node::Undefined(_) | Node::None | Node::Boolean(_) | Node::Text(_, _) => Ok(()),
         Node::Number(number) => check_number(form, *number),
         Node::List(items) => check_items(form, items.as_slice(), records, levels, way),
-        Node::Map(pairs) | Node::Keywords(pairs) => check_pairs(form, pairs.as_slice(), records, levels, way),
-        Node::Exports(pairs, _) => match form {
-            Form::Printed => Ok(()),
-            Form::Json => check_pairs(form, pairs.as_slice(), records, levels, way),
-        },
+        Node::Map(pairs) => check_pairs(form, pairs.as_slice(), records, levels, way),
+        Node::Keywords(pairs) => check_pairs(form, pairs.as_slice(), records, levels, way),
+        Node::Exports(pairs, _) => check_module(form, pairs.as_slice(), records, levels, way),
         Node::Function(_) | Node::Macro(_) => check_unwritable(form),
         Node::Loop(state, index) => check_loop(form, *state, *index, records),
         Node::Namespace(state, index) => check_namespace(form, *state, *index, records, levels, way),
+    }
+}
+
+// A module is printed as its text.
+#[cycle(checking)]
+fn check_module<R: Records>(
+    form: Form,
+    pairs: &[(Value, Value)],
+    records: &R,
+    levels: usize,
+    way: &mut HashSet<usize>,
+) -> Result<(), Error>
+    ensures answer { IsAnswer result (in_json form (pairs_verdict form (R.records records.now)
+        (namespace_verdict form (R.records records.now) levels (contains nat_eq way.old)) (pairs_of pairs.now))) }
+    ensures way { OnOk result (contains nat_eq way.new ≡ contains nat_eq way.old) }
+{
+    match form {
+        Form::Printed => Ok(()),
+        Form::Json => check_pairs(form, pairs, records, levels, way),
     }
 }
 
@@ -79,7 +96,7 @@ fn check_items<R: Records>(
         (namespace_verdict form (R.records records.now) levels (contains nat_eq way.old)) (vals_of items.now)) }
     ensures way { OnOk result (contains nat_eq way.new ≡ contains nat_eq way.old) }
 {
-    for (i, item) in items.iter().enumerate() {
+    for item in items {
         check(form, item, records, levels, way)?;
     }
     Ok(())
@@ -98,11 +115,26 @@ fn check_pairs<R: Records>(
     ensures way { OnOk result (contains nat_eq way.new ≡ contains nat_eq way.old) }
 {
     for pair in pairs {
-        check_key(form, &pair.0)?;
-        check(form, &pair.0, records, levels, way)?;
-        check(form, &pair.1, records, levels, way)?;
+        check_pair(form, pair, records, levels, way)?;
     }
     Ok(())
+}
+
+#[cycle(checking)]
+fn check_pair<R: Records>(
+    form: Form,
+    pair: &(Value, Value),
+    records: &R,
+    levels: usize,
+    way: &mut HashSet<usize>,
+) -> Result<(), Error>
+    ensures answer { IsAnswer result (pair_verdict form (R.records records.now)
+        (namespace_verdict form (R.records records.now) levels (contains nat_eq way.old)) pair.now) }
+    ensures way { OnOk result (contains nat_eq way.new ≡ contains nat_eq way.old) }
+{
+    check_key(form, &pair.0)?;
+    check(form, &pair.0, records, levels, way)?;
+    check(form, &pair.1, records, levels, way)
 }
 
 #[cycle(checking)]

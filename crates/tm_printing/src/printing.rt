@@ -1,10 +1,10 @@
 //! Values as text, written piece by piece.
-ghost use Rattle.std.specs.Prelude.{flat_map, decimal};
+ghost use Rattle.std.specs.Prelude.{◌≡◌, Some, None, MatchOption, flat_map, decimal};
 ghost use Rattle.tm_output.specs.Targets.{Takes};
 ghost use Rattle.tm_values.specs.Val.{vals_of, pairs_of};
 ghost use Rattle.tm_printing.specs.Emitted.{html_text};
 ghost use Rattle.tm_printing.specs.Loops.{loop_text, position_text, progress_text};
-ghost use Rattle.tm_printing.specs.Printed.{printed, inner, item_text, pair_text, comma_after, list_text, map_text, namespace_text, macro_text};
+ghost use Rattle.tm_printing.specs.Printed.{printed, bare_text, inner, item_text, pair_text, comma_after, list_text, map_text, namespace_text, macro_text};
 
 use crate::spelling::{Escape, Html, Verbatim};
 use crate::text::{write_number, write_quoted, write_spelled};
@@ -30,10 +30,20 @@ fn write_value<E: Escape, R: Records, T: Target>(value: &Value, records: &R, tar
     ensures { Takes T.took T.stopped result target.old
         (flat_map E.spelled (printed (R.records records.now) value.now)) target.new }
 {
+    match bare_text(value) {
+        Some(text) => write_spelled::<E, T>(text, target),
+        None => write_inner::<E, R, T>(value, records, records.namespace_count(), target),
+    }
+}
+
+// What a value is printed as that has neither quotes nor parts where it stands by itself.
+fn bare_text(value: &Value) -> Option<&str>
+    ensures { MatchOption result (bare_text value.now ≡ None) (λ s. bare_text value.now ≡ Some s.now) }
+{
     match &value.node {
-        Node::Undefined(_) => Ok(()),
-        Node::Text(content, _) => write_spelled::<E, T>(content.as_str(), target),
-        _ => write_inner::<E, R, T>(value, records, records.namespace_count(), target),
+        Node::Undefined(_) => Some(""),
+        Node::Text(content, _) => Some(content.as_str()),
+        _ => None,
     }
 }
 

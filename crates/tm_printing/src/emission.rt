@@ -1,0 +1,65 @@
+//! Values as templates emit them, and as texts of their own.
+ghost use Rattle.std.specs.Prelude.{string_bytes};
+ghost use Rattle.tm_output.specs.Targets.{Takes};
+ghost use Rattle.tm_values.specs.Answer.{IsAnswer};
+ghost use Rattle.tm_printing.specs.Emitted.{emission_verdict, emitted_text, map_ok, text_answer};
+
+use crate::check::{check_json, check_print};
+use crate::compact::write_json;
+use crate::printing::{print, write_html};
+use std::alloc::Global;
+use tm_output::{Target, TargetFailed};
+use tm_values::{AutoEscape, Error, ErrorKind, Node, Records, Value};
+
+/// Whether the value can be emitted under the escape. A safe text always can; else InvalidOperation under a custom
+/// escape, what `check_json` answers under JSON, and what `check_print` answers under the others.
+pub fn check_emission<R: Records>(
+    alloc: Global,
+    value: &Value,
+    escape: AutoEscape,
+    records: &R,
+) -> Result<(), Error>
+    ensures { IsAnswer result (emission_verdict escape (R.records records.now) value.now) }
+{
+    if let Node::Text(_, true) = &value.node {
+        return Ok(());
+    }
+    match escape {
+        AutoEscape::None | AutoEscape::Html => check_print(alloc, value, records),
+        AutoEscape::Json => check_json(alloc, value, records),
+        AutoEscape::Custom(_) => Err(Error::from(ErrorKind::InvalidOperation)),
+    }
+}
+
+/// Writes what is emitted for the value under the escape: a safe text as it is, and else what is printed, what is
+/// printed escaped for HTML, or JSON. Ask `check_emission` first: what it refuses is written in no form.
+pub fn emit<R: Records, T: Target>(
+    value: &Value,
+    escape: AutoEscape,
+    records: &R,
+    target: &mut T,
+) -> Result<(), TargetFailed>
+    ensures { Takes T.took T.stopped result target.old (emitted_text escape (R.records records.now) value.now) target.new }
+{
+    if let Node::Text(content, true) = &value.node {
+        return target.take_text(content.as_str());
+    }
+    match escape {
+        AutoEscape::None => print(value, records, target),
+        AutoEscape::Html => write_html(value, records, target),
+        AutoEscape::Json => write_json(value, records, target),
+        AutoEscape::Custom(_) => target.take_text(""),
+    }
+}
+
+/// What the value is printed as, in a text of its own: an error of `check_print`, or OutOfMemory.
+pub fn to_text<R: Records>(alloc: Global, value: &Value, records: &R) -> Result<String, Error>
+    ensures { IsAnswer (map_ok string_bytes result) (text_answer (R.records records.now) value.now) }
+{
+    check_print(alloc, value, records)?;
+    let mut text = String::new(alloc);
+    match print(value, records, &mut text) {
+        Ok(()) => Ok(text),
+        Err(TargetFailed) => Err(Error::from(ErrorKind::OutOfMemory)),
+    }
+}
