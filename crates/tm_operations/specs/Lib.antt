@@ -5,3 +5,4 @@ pub mod Comparison
 pub mod Members
 pub mod Containment
 pub mod Slices
+pub mod Concatenation

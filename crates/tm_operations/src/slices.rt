@@ -1,6 +1,7 @@
 //! Slices.
 ghost use Rattle.std.specs.Prelude.{◌≡◌, ◌≢◌, ◌<◌, ◌∷◌, [], pos, length, Ok, Some, OnSome, All};
-ghost use Rattle.tm_operations.specs.Slices.{bound_in, step_in, parts_of, items_at, taken, cut, cut_by, sliced};
+ghost use Rattle.tm_operations.specs.Slices.{bound_in, step_in, parts_of, items_at, cut, cut_by, sliced};
+ghost use Rattle.tm_primitives.specs.Places.{places_of};
 ghost use Rattle.tm_values.specs.Answer.{IsAnswer};
 ghost use Rattle.tm_values.specs.Val.{list, vals_of};
 
@@ -10,7 +11,6 @@ use std::rc::RcStr;
 use tm_primitives::characters;
 use tm_primitives::places::Places;
 use tm_values::{Error, ErrorKind, Node, UndefinedBehavior, UndefinedUse, Value};
-
 
 /// The slice `value[start:stop:step]`: of a list its items, of a text its characters, which aren't
 /// safe, and of undefined and none the empty list. Parts are whole numbers, or none where they are
@@ -65,13 +65,7 @@ fn step_of(part: &Value) -> Option<i128>
 {
     match &part.node {
         Node::None => Some(1),
-        Node::Number(whole) => {
-            if *whole == 0 {
-                None
-            } else {
-                Some(*whole)
-            }
-        }
+        Node::Number(whole) => { if *whole == 0 { None } else { Some(*whole) } }
         _ => None,
     }
 }
@@ -87,20 +81,27 @@ fn cut(
     ensures { IsAnswer result (cut value.now (record { start = start; stop = stop; step = step })) }
 {
     match &value.node {
-        Node::List(items) => {
-            let items = items.as_slice();
-            let places = Places::of(items.len(), start, stop, step);
-            pick_items(alloc, items, places)
-        }
+        Node::List(items) => cut_list(alloc, items.as_slice(), start, stop, step),
         Node::Text(content, _) => {
-            let content = content.as_str();
-            let places = Places::of(characters::count(content), start, stop, step);
-            let picked = characters::pick(alloc, content, places)?;
+            let picked = characters::slice(alloc, content.as_str(), start, stop, step)?;
             Ok(Value::shared_text(RcStr::from_string(picked)?, false))
         }
         Node::Undefined(_) | Node::None => Value::list(alloc, Vec::new(alloc)),
         _ => Err(not_a_slice(alloc)),
     }
+}
+
+fn cut_list(
+    alloc: Global,
+    items: &[Value],
+    start: Option<i128>,
+    stop: Option<i128>,
+    step: i128,
+) -> Result<Value, Error>
+    requires { step ≢ pos 0 }
+    ensures { IsAnswer result (Ok (list (vals_of (items_at items.now (places_of (length items.now) start stop step))))) }
+{
+    pick_items(alloc, items, Places::of(items.len(), start, stop, step))
 }
 
 // The items at the places.

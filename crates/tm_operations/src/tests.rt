@@ -3,7 +3,7 @@ ghost use Rattle.tm_values.specs.Records.{RecordData};
 
 use crate::{
     Comparison, add, attribute, check_settable, compare, contains, divide, floor_divide,
-    is_callable, is_true, item, multiply, negate, power, remainder, subtract, truth,
+    is_callable, is_true, item, multiply, negate, power, remainder, slice, subtract, truth,
 };
 use std::alloc::Global;
 use std::test::Fail;
@@ -238,5 +238,44 @@ fn records_belong_to_their_state(rt: HostRuntime) -> Result<(), Fail> {
         assert!(rt; check_settable(alloc, &foreign, &records).is_err());
         assert!(rt; is_true(&foreign) && foreign == foreign.share()?);
     }
+    Ok(())
+}
+
+#[test]
+fn slices_go_both_ways(rt: HostRuntime) -> Result<(), Fail> {
+    let alloc = rt.alloc();
+    let none = Value::none();
+    let list = numbers(alloc, &[1, 2, 3])?;
+    let tail = slice(alloc, &list, &Value::number(-2), &none, &none, LENIENT)?;
+    assert!(rt; tail == numbers(alloc, &[2, 3])?);
+    let back = slice(
+        alloc,
+        &list,
+        &Value::number(5),
+        &none,
+        &Value::number(-2),
+        LENIENT,
+    )?;
+    assert!(rt; back == numbers(alloc, &[3, 1])?);
+    let text = Value::safe_text(alloc, "abc")?;
+    let turned = slice(alloc, &text, &none, &none, &Value::number(-1), LENIENT)?;
+    assert_eq!(rt; turned.as_str(), Some("cba"));
+    let (one, two) = (Value::number(1), Value::number(2));
+    let empty = numbers(alloc, &[])?;
+    assert!(rt; slice(alloc, &none, &one, &two, &none, LENIENT)? == empty);
+    assert!(rt; slice(alloc, &Value::undefined(), &one, &two, &none, LENIENT)? == empty);
+    let invalid = Some(ErrorKind::InvalidOperation);
+    let zero = slice(alloc, &list, &none, &none, &Value::number(0), LENIENT);
+    assert_eq!(rt; kind_of(zero), invalid);
+    let yes = slice(alloc, &list, &Value::boolean(true), &none, &none, LENIENT);
+    assert_eq!(rt; kind_of(yes), invalid);
+    let map = map_with(alloc, Value::number(1), "a")?;
+    assert_eq!(rt;
+        kind_of(slice(alloc, &map, &one, &two, &none, LENIENT)),
+        invalid
+    );
+    let strict = UndefinedBehavior::Strict;
+    let refused = slice(alloc, &Value::undefined(), &text, &two, &none, strict);
+    assert_eq!(rt; kind_of(refused), Some(ErrorKind::UndefinedError));
     Ok(())
 }

@@ -78,6 +78,13 @@ impl ValueMap {
         self.pairs.is_empty()
     }
 
+    /// The pairs, in the order of their keys.
+    pub fn pairs(&self) -> &[(Value, Value)]
+        ensures { result.now ≡ self.now }
+    {
+        self.pairs.as_slice()
+    }
+
     /// The value at the key, where it is there.
     pub fn get(&self, key: &Value) -> Option<&Value>
         ensures { MatchOption result (find key.now self.now ≡ None) (λ v. find key.now self.now ≡ Some v.now) }

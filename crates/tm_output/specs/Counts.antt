@@ -1,0 +1,22 @@
+-- What writers take and how often they fail.
+use Rattle.std.specs.Prelude.{ℕ, ◌+◌, ◌-◌, ◌^◌, min, List, take, Result, Ok, Err, Option, zero, suc}
+use Rattle.std.specs.Io.KnownBytes.{Appends}
+
+-- A writer, and how many of its calls failed or took nothing.
+pub record Tally (W : Type 0) : Type 0 where
+  pub writer : W
+  pub failures : ℕ
+
+-- one more, but never more than a u64 holds
+abbrev pub one_more : ℕ → ℕ
+one_more n = min (n + 1) (2 ^ 64 - 1)
+
+-- the count after a write: one more where it failed or took nothing
+abbrev pub fault_count : {E : Type 0} → Result ℕ E → ℕ → ℕ
+fault_count (Ok zero) n = one_more n
+fault_count (Ok (suc taken)) n = n
+fault_count (Err e) n = one_more n
+
+-- known bytes grow by a beginning of the text
+abbrev pub AppendsBeginning : Option (List ℕ) → Option (List ℕ) → List ℕ → Type 0
+AppendsBeginning old new text = (n : ℕ) × Appends old new (take n text)

@@ -1,0 +1,4 @@
+pub mod Counts
+pub mod Targets
+pub mod Laws
+pub mod Pieces

@@ -1,0 +1,32 @@
+-- What becomes of a target that is given a text.
+use Rattle.std.specs.Prelude.{◌≡◌, ℕ, List, [], ◌++◌, take, Option, Result, MatchResult}
+use Rattle.std.specs.Io.KnownBytes.{Appends}
+use Rattle.tm_output.specs.Counts.{one_more, AppendsBeginning}
+
+-- a target took the whole text where it answered Ok, and a beginning of it where it failed
+abbrev pub Takes : {T U E : Type 0} → (T → List ℕ → T → Type 0) → (T → List ℕ → T → Type 0) → Result U E → T → List ℕ → T → Type 0
+Takes took stopped r old text new = MatchResult r (λ _. took old text new) (λ _. stopped old text new)
+
+-- what every target keeps: no text changes nothing, texts one after the other are the joined text, and a beginning of a text
+-- is one of any longer text
+pub record Laws {T : Type 0} (took stopped : T → List ℕ → T → Type 0) : Type 0 where
+  pub nothing : (a : T) → took a [] a
+  pub then_took : (a b c : T) (s t : List ℕ) → took a s b → took b t c → took a (s ++ t) c
+  pub then_stopped : (a b c : T) (s t : List ℕ) → took a s b → stopped b t c → stopped a (s ++ t) c
+  pub longer : (a b : T) (s t : List ℕ) → stopped a s b → stopped a (s ++ t) b
+
+-- the bytes of a string grow by the text
+abbrev pub Grows : List ℕ → List ℕ → List ℕ → Type 0
+Grows old text new = new ≡ old ++ text
+
+-- the bytes of a string grow by a beginning of the text
+abbrev pub GrowsInPart : List ℕ → List ℕ → List ℕ → Type 0
+GrowsInPart old text new = (n : ℕ) × (new ≡ old ++ take n text)
+
+-- a writer is told the text, and no call failed
+abbrev pub IsTold : Option (List ℕ) → ℕ → List ℕ → Option (List ℕ) → ℕ → Type 0
+IsTold old faults text new count = Appends old new text × (count ≡ faults)
+
+-- a writer is told a beginning of the text, and a call failed
+abbrev pub IsToldInPart : Option (List ℕ) → ℕ → List ℕ → Option (List ℕ) → ℕ → Type 0
+IsToldInPart old faults text new count = AppendsBeginning old new text × (count ≡ one_more faults)

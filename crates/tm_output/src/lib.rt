@@ -1,0 +1,11 @@
+//! Where text goes: writers whose faults are counted, and whatever takes a text piece by piece.
+#![tactic(auto)]
+
+mod sink;
+mod target;
+
+pub use sink::{Counted, NullWriter, Sink, write_text};
+pub use target::{Target, TargetFailed};
+
+#[cfg(test)]
+mod tests;

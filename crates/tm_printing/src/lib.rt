@@ -1,0 +1,17 @@
+//! What values are written as.
+#![tactic(auto)]
+
+mod check;
+mod compact;
+mod printing;
+mod spelling;
+mod text;
+
+pub use check::{check_json, check_print};
+pub use compact::write_json;
+pub use printing::{print, write_html};
+pub use spelling::{Escape, Html, HtmlQuoted, Json, Quoted, Spelling, Verbatim};
+pub use text::{write_json_text, write_number, write_quoted, write_spelled};
+
+#[cfg(test)]
+mod tests;

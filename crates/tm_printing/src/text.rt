@@ -1,0 +1,50 @@
+//! Texts and numbers, written into any target.
+ghost use Rattle.std.specs.Prelude.{flat_map};
+ghost use Rattle.std.specs.Fmt.{signed_decimal};
+ghost use Rattle.json.specs.Print as json;
+ghost use Rattle.tm_output.specs.Targets.{Takes};
+ghost use Rattle.tm_printing.specs.Texts.{quoted};
+
+use crate::spelling::{Escape, Json, Spelling};
+use tm_output::{Target, TargetFailed};
+
+/// Writes what stands for each byte of the text. What lies between two bytes that are spelled another way is written whole.
+pub fn write_spelled<S: Spelling, T: Target>(text: &str, target: &mut T) -> Result<(), TargetFailed>
+    ensures { Takes T.took T.stopped result target.old (flat_map S.spelled text.now) target.new }
+{
+    let mut start = 0;
+    for (i, byte) in text.as_bytes().iter().enumerate() {
+        if let Some(spelling) = S::spelling(*byte) {
+            target.take_text(&text[start..i])?;
+            target.take_text(spelling)?;
+            start = i + 1;
+        }
+    }
+    target.take_text(&text[start..])
+}
+
+/// Writes the text in quotes, escaped as a whole.
+pub fn write_quoted<E: Escape, T: Target>(text: &str, target: &mut T) -> Result<(), TargetFailed>
+    ensures { Takes T.took T.stopped result target.old (flat_map E.spelled (quoted text.now)) target.new }
+{
+    write_spelled::<E, T>("\"", target)?;
+    write_spelled::<E::Within, T>(text, target)?;
+    write_spelled::<E, T>("\"", target)
+}
+
+/// Writes the text as `serde_json` does: a JSON string.
+pub fn write_json_text<T: Target>(text: &str, target: &mut T) -> Result<(), TargetFailed>
+    ensures { Takes T.took T.stopped result target.old (json.quoted text.now) target.new }
+{
+    target.take_text("\"")?;
+    write_spelled::<Json, T>(text, target)?;
+    target.take_text("\"")
+}
+
+/// Writes the number in decimal, escaped.
+pub fn write_number<E: Escape, T: Target>(number: i128, target: &mut T) -> Result<(), TargetFailed>
+    ensures { Takes T.took T.stopped result target.old (flat_map E.spelled (signed_decimal number)) target.new }
+{
+    let mut buffer = itoa::Buffer::new();
+    write_spelled::<E, T>(buffer.format(number), target)
+}
