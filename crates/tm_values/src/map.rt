@@ -1,13 +1,14 @@
 //! Maps: one that is being made, and what a value has at a name.
-ghost use Rattle.std.specs.Prelude.{◌≡◌, [], ◌∷◌, ◌==◌, None, Some, false, length, IfErr, MatchOption, MatchResult};
+ghost use Rattle.std.specs.Prelude.{◌≡◌, [], ◌∷◌, ◌==◌, None, Some, true, false, length, IfOk, IfErr, MatchOption, MatchResult};
 ghost use Rattle.std.specs.Rc.{rc_str_bytes};
-ghost use Rattle.tm_values.specs.Map.{put, find, member, IsMap, IsThere, IsGapFor};
+ghost use Rattle.tm_values.specs.Map.{put, put_all, find, member, IsMap, IsThere, IsGapFor, IsFoundWherePut, KeepsOtherKeys};
 ghost use Rattle.tm_values.specs.Order.{val_cmp};
 ghost use Rattle.tm_values.specs.Val.{Val, text, map, keywords, exports, pairs_of, entries_in};
 
 use crate::error::{Error, ErrorKind};
 use crate::value::{Node, Value};
 use std::alloc::Global;
+use std::cmp::Ordering;
 use std::marker::Model;
 use std::rc::{Rc, RcStr};
 
@@ -42,6 +43,17 @@ impl ValueMap {
         ValueMap {
             pairs: Vec::new(alloc),
         }
+    }
+
+    /// The map of these pairs, put in their order: of equal keys the first spelling and the last
+    /// value. Makes n log n comparisons for n pairs. Fails by OutOfMemory alone.
+    pub fn from_pairs(mut pairs: Vec<(Value, Value)>) -> Result<ValueMap, Error>
+        ensures { MatchResult result (λ m. m ≡ put_all pairs.items)
+            (λ e. e ≡ ErrorKind.OutOfMemory ∷ []) }
+    {
+        sort_pairs(&mut pairs)?;
+        let pairs = joined(pairs)?;
+        Ok(ValueMap { pairs })
     }
 
     /// Puts the value at the key, in place of one that is there. Fails, by OutOfMemory, with the map unchanged.
@@ -170,6 +182,58 @@ fn put_pair(pairs: &mut Vec<(Value, Value)>, key: Value, value: Value) -> Result
     }
 }
 
+// Sorts the pairs by their keys. Equal keys stay in their order, so that the same map comes of them.
+fn sort_pairs(pairs: &mut Vec<(Value, Value)>) -> Result<(), Error>
+    ensures same_map { put_all pairs.new.items ≡ put_all pairs.old.items }
+    ensures fails { IfErr result (λ e. e ≡ ErrorKind.OutOfMemory ∷ []) }
+{
+    pairs.sort_by(
+        |left, right|
+            ensures { result ≡ val_cmp left.now.0 right.now.0 }
+        { left.0.compare(&right.0) },
+    )?;
+    Ok(())
+}
+
+// The map of the pairs; soon where their keys ascend.
+fn joined(pairs: Vec<(Value, Value)>) -> Result<Vec<(Value, Value)>, Error>
+    ensures outcome { MatchResult result (λ joined. joined.items ≡ put_all pairs.items)
+        (λ e. e ≡ ErrorKind.OutOfMemory ∷ []) }
+    ensures ordered { IfOk result (λ joined. IsMap joined.items) }
+{
+    let mut joined = Vec::with_capacity(*pairs.allocator(), pairs.len())?;
+    for (key, value) in pairs {
+        append_pair(&mut joined, key, value)?;
+    }
+    Ok(joined)
+}
+
+// Puts the value at the key; at once where the key is above all others.
+fn append_pair(pairs: &mut Vec<(Value, Value)>, key: Value, value: Value) -> Result<(), Error>
+    requires { IsMap pairs.old.items }
+    ensures outcome { MatchResult result (λ _. pairs.new.items ≡ put key value pairs.old.items)
+        (λ e. e ≡ ErrorKind.OutOfMemory ∷ []) }
+    ensures ordered { IsMap pairs.new.items }
+{
+    if is_above_all(&key, pairs) {
+        pairs.push((key, value))?;
+        Ok(())
+    } else {
+        put_pair(pairs, key, value)
+    }
+}
+
+// Whether the key is above all those of the pairs.
+fn is_above_all(key: &Value, pairs: &[(Value, Value)]) -> bool
+    requires { IsMap pairs.now }
+    ensures { result ≡ true → IsGapFor key.now pairs.now (length pairs.now) }
+{
+    match pairs.last() {
+        Some(last) => last.0.compare(key) == Ordering::Less,
+        None => true,
+    }
+}
+
 // Where the key stands, or where it would stand.
 fn place(pairs: &[(Value, Value)], key: &Value) -> Result<usize, usize>
     requires { IsMap pairs.now }
@@ -193,3 +257,9 @@ fn place_of_text(pairs: &[(Value, Value)], name: &str) -> Result<usize, usize>
         { pair.0.compare_text(name) },
     )
 }
+
+/// What is put at a key is found there, and all other keys keep their values.
+pub fn put_law()
+    ensures found { IsFoundWherePut }
+    ensures kept { KeepsOtherKeys }
+{}
