@@ -12,7 +12,7 @@ use Rattle.tm_compiler.specs.Syntax.{Syntax, default_syntax}
 use Rattle.tm_compiler.specs.Tree.{Sts}
 use Rattle.tm_compiler.specs.Spells.{Spells}
 use Rattle.tm_meaning.specs.Meaning.{Outcome, Done, Fault, text_of, chain_of}
-use Rattle.tm_parts.specs.Counts.{Tally, AppendsBeginning}
+use Rattle.tm_output.specs.Counts.{Tally, AppendsBeginning}
 use Rattle.tm_tables.specs.Templates.{Template, IsTemplate, IsRefused, put_template, find_template}
 use Rattle.template_machine.specs.Environment.{EnvironmentValue, TemplateValue, empty_environment}
 use Rattle.template_machine.specs.Renders.{CapturedValue, IsEnd, meaning, Rendered, as_meant, by_writer, by_memory}

@@ -8,7 +8,7 @@ use Rattle.std.proofs.lemmas.List.{append-nil}
 use Rattle.tm_values.specs.Chain.{causes_of, ends_in_memory}
 use Rattle.tm_values.specs.declared.error.ErrorKind.{ErrorKind}
 use Rattle.tm_values.specs.declared.error.ErrorKind.TheVariants as kind
-use Rattle.tm_parts.specs.Counts.{Tally, one_more, AppendsBeginning}
+use Rattle.tm_output.specs.Counts.{Tally, one_more, AppendsBeginning}
 use Rattle.tm_parts.proofs.Pieces.{appends_then, beginning_longer, appends_then_beginning}
 use Rattle.mj.specs.CommandLine.{Text}
 use Rattle.mj.specs.Program.{refusal_status}

@@ -1,10 +1,10 @@
 -- What the program gives to a template, what its render means, and how the program ends.
-use Rattle.std.specs.Prelude.{◌≡◌, ◌⊎◌, ℕ, List, [], ◌∷◌, codes, Option, None, Some, Bool, true, false}
+use Rattle.std.specs.Prelude.{◌≡◌, ◌⊎◌, ℕ, List, [], ◌∷◌, map as each, codes, Option, None, Some, Bool, true, false}
 use Rattle.std.specs.Io.KnownBytes.{Keeps, Appends}
 use Rattle.std.specs.Str.{chars, bytes_eq, IsUtf8}
 use Rattle.tm_values.specs.Val.{Val, text, map, pairs_of}
 use Rattle.tm_values.specs.Chain.{ends_in_memory}
-use Rattle.tm_values.specs.Map.{put}
+use Rattle.tm_values.specs.Map.{put_all}
 use Rattle.tm_values.specs.declared.error.ErrorKind.{ErrorKind}
 use Rattle.tm_values.specs.declared.error.ErrorKind.TheVariants.{SyntaxError, WriteFailure}
 use Rattle.tm_compiler.specs.Syntax.{default_syntax}
@@ -12,20 +12,19 @@ use Rattle.tm_compiler.specs.Tree.{Sts}
 use Rattle.tm_compiler.specs.Spells.{Spells}
 use Rattle.tm_meaning.specs.World.{first_world}
 use Rattle.tm_meaning.specs.Meaning.{Outcome, rendered, text_of, chain_of}
-use Rattle.tm_parts.specs.Counts.{Tally, one_more, AppendsBeginning}
+use Rattle.tm_output.specs.Counts.{Tally, one_more, AppendsBeginning}
 use Rattle.template_machine.specs.Environment.{empty_environment, host_of}
 use Rattle.mj.specs.CommandLine.{Text, Asked, asked}
 use Rattle.mj.specs.declared.arguments.Refusal.{Refusal}
 use Rattle.mj.specs.declared.arguments.Refusal.TheVariants.{Usage, OutOfMemory}
 
--- the entries of a map, with texts put at their names in turn: of a name the last text stays
-abbrev pub put_texts : List (Text × Text) → List (Val × Val) → List (Val × Val)
-put_texts [] entries = entries
-put_texts (t ∷ ts) entries = put_texts ts (put (text t.0) (text t.1) entries)
+-- a name and a text as a key and a value
+abbrev pub pair_of : Text × Text → Val × Val
+pair_of t = (text t.0 false, text t.1 false)
 
--- the context of these names and texts
+-- the context of these names and texts: of a name the last text counts
 abbrev pub context_of : List (Text × Text) → Val
-context_of ts = map (pairs_of (put_texts ts []))
+context_of ts = map (pairs_of (put_all (each pair_of ts)))
 
 -- what a render of this tree means, as the first state: over the texts that the words give, with their fuel
 abbrev pub meaning_of : Asked → Sts → Outcome

@@ -4,7 +4,7 @@ use Rattle.std.specs.Io.KnownBytes.{Appends}
 use Rattle.tm_values.specs.Name.{kind_name}
 use Rattle.tm_values.specs.declared.error.ErrorKind.{ErrorKind}
 use Rattle.tm_values.specs.declared.error.ErrorKind.TheVariants as kind
-use Rattle.tm_parts.specs.Counts.{Tally, one_more, AppendsBeginning}
+use Rattle.tm_output.specs.Counts.{Tally, one_more, AppendsBeginning}
 use Rattle.mj.specs.CommandLine.{Text}
 use Rattle.mj.specs.declared.arguments.Refusal.{Refusal}
 use Rattle.mj.specs.declared.arguments.Refusal.TheVariants.{Usage, OutOfMemory}

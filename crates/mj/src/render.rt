@@ -52,9 +52,9 @@ fn render_unflushed<O: Write + Drop>(
 fn context(alloc: Global, texts: &[(&str, &str)]) -> Result<Value, Error>
     ensures { MatchResult result (λ v. v ≡ context_of (map plain texts.now)) (λ e. e ≡ ErrorKind.OutOfMemory ∷ []) }
 {
-    let mut entries = ValueMap::new(alloc);
+    let mut pairs = Vec::with_capacity(alloc, texts.len())?;
     for (name, text) in texts {
-        entries.insert(Value::text(alloc, name)?, Value::text(alloc, text)?)?;
+        pairs.push((Value::text(alloc, name)?, Value::text(alloc, text)?))?;
     }
-    Value::from_map(alloc, entries)
+    Value::from_map(alloc, ValueMap::from_pairs(pairs)?)
 }

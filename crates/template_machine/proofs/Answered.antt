@@ -11,7 +11,7 @@ use Rattle.tm_meaning.specs.Machine.{Config, Final, End, Finished, Failed}
 use Rattle.tm_meaning.specs.Meaning.{Outcome, Done, Fault, rendered, text_of, nests_of}
 use Rattle.tm_meaning.specs.Runs.{Reaches, start, final}
 use Rattle.tm_meaning.proofs.Ends.{one_end}
-use Rattle.tm_parts.specs.Counts.{AppendsBeginning}
+use Rattle.tm_output.specs.Counts.{AppendsBeginning}
 use Rattle.tm_parts.specs.Halts.{faults_after}
 use Rattle.tm_parts.specs.declared.halt.Halt.{Halt}
 use Rattle.tm_parts.specs.declared.halt.Halt.TheVariants as halt

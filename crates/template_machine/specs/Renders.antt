@@ -9,7 +9,7 @@ use Rattle.tm_values.specs.declared.error.ErrorKind.TheVariants.{WriteFailure}
 use Rattle.tm_meaning.specs.World.{World, first_world}
 use Rattle.tm_meaning.specs.Meaning.{Outcome, Done, Fault, rendered, text_of}
 use Rattle.tm_meaning.specs.Texts.{put_in, put_out}
-use Rattle.tm_parts.specs.Counts.{one_more, AppendsBeginning}
+use Rattle.tm_output.specs.Counts.{one_more, AppendsBeginning}
 use Rattle.tm_parts.specs.declared.halt.Halt.{Halt}
 use Rattle.tm_parts.specs.declared.halt.Halt.TheVariants as halt
 use Rattle.template_machine.specs.Environment.{TemplateValue, host_of}

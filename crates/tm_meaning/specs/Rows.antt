@@ -1,5 +1,5 @@
 -- Worked renders, and what is said of each.
-use Rattle.std.specs.Prelude.{◌≡◌, ℕ, List, [], Option, None, codes}
+use Rattle.std.specs.Prelude.{◌≡◌, ℕ, List, [], Option, None, false, codes}
 use Rattle.tm_values.specs.Val.{Val, text, map, no_pairs, pair}
 use Rattle.tm_values.specs.declared.error.ErrorKind.{ErrorKind}
 use Rattle.tm_compiler.specs.Tree.{name, raw, emit, Sts, no_sts, st}
@@ -12,7 +12,7 @@ nothing = record { globals = λ x. None; limit = 500 }
 
 -- a map of one text
 abbrev pub one : List ℕ → List ℕ → Val
-one key value = map (pair (text key) (text value) no_pairs)
+one key value = map (pair (text key false) (text value false) no_pairs)
 
 -- a render of a tree over a context value with this fuel
 abbrev pub render : Sts → Val → Option ℕ → Outcome

@@ -1,8 +1,11 @@
 -- What a state is to the meaning and to the machine, and what both do to it.
-use Rattle.std.specs.Prelude.{◌≡◌, ◌≤◌, nat_eq, ℕ, ◌+◌, ◌-◌, ◌^◌, List, [], ◌∷◌, length, Option, Some, None, nat_lt, if◌then◌else◌}
+use Rattle.std.specs.Prelude.{◌≡◌, ◌≤◌, nat_eq, ℕ, ◌+◌, ◌-◌, ◌^◌, List, [], ◌∷◌, length, Option, Some, None, Ok, Err, false, nat_lt, if◌then◌else◌}
 use Rattle.tm_values.specs.Val.{Val, undefined}
-use Rattle.tm_values.specs.Map.{attribute}
-use Rattle.tm_values.specs.Print.{printed}
+use Rattle.tm_values.specs.Map.{member}
+use Rattle.tm_values.specs.Records.{RecordData}
+use Rattle.tm_values.specs.declared.escape.AutoEscape.TheVariants as escape
+use Rattle.tm_printing.specs.Emitted.{emission_verdict, emitted_text}
+use Rattle.tm_printing.specs.Refused.{Verdict}
 use Rattle.tm_values.specs.declared.error.ErrorKind.{ErrorKind}
 use Rattle.tm_values.specs.declared.error.ErrorKind.TheVariants.{OutOfFuel}
 
@@ -58,9 +61,9 @@ abbrev pub or_else : Option Val → Option Val → Option Val
 or_else (Some v) other = Some v
 or_else None other = other
 
--- A scope gives the attributes of its context value.
+-- A scope gives what its context value has at the text.
 abbrev pub in_scope : List ℕ → Scope → Option Val
-in_scope name scope = attribute name scope.context
+in_scope name scope = member name scope.context
 
 -- An inner scope gives before an outer one.
 abbrev pub in_frames : List ℕ → List Scope → Option Val
@@ -69,7 +72,7 @@ in_frames name (scope ∷ scopes) = or_else (in_scope name scope) (in_frames nam
 
 abbrev pub or_undefined : Option Val → Val
 or_undefined (Some v) = v
-or_undefined None = undefined
+or_undefined None = undefined false
 
 -- The value of a name: of the scopes, else of the globals, else undefined.
 abbrev pub lookup : Host → List ℕ → World → Val
@@ -95,9 +98,18 @@ without_first (scope ∷ scopes) = scopes
 abbrev pub pop_scope : Scopes → Scopes
 pop_scope scopes = record scopes { frames = without_first scopes.frames }
 
--- What a value is written as.
+-- What stands in the state's loops and namespaces, of which there are none yet.
+abbrev pub records_of : World → RecordData
+records_of w = record { state = w.id; namespaces = []; loops = [] }
+
+-- an answer behind a verdict
+abbrev pub where_fine : {A : Type 0} → Verdict → A → World → Res A
+where_fine (Ok u) a w = Good a w
+where_fine (Err chain) a w = Bad chain w
+
+-- What a value is written as, where it can be. Nothing is escaped yet.
 abbrev pub emitted : Val → World → Res (List ℕ)
-emitted v w = Good (printed v) w
+emitted v w = where_fine (emission_verdict escape.None (records_of w) v) (emitted_text escape.None (records_of w) v) w
 
 -- the fuel that a render starts with: what was set, else the greatest u64
 abbrev pub first_fuel : Option ℕ → ℕ

@@ -1,5 +1,5 @@
 //! Worked renders: each law says what one tree means under some fuels.
-ghost use Rattle.std.specs.Prelude.{◌≡◌, ◌-◌, ◌^◌, [], ◌∷◌, Some, None, codes};
+ghost use Rattle.std.specs.Prelude.{◌≡◌, ◌-◌, ◌^◌, [], ◌∷◌, Some, None, false, codes};
 ghost use Rattle.tm_values.specs.Val.{undefined};
 ghost use Rattle.tm_values.specs.declared.error.ErrorKind.TheVariants.{OutOfFuel};
 ghost use Rattle.tm_compiler.specs.Tree.{no_sts};
@@ -26,5 +26,5 @@ pub fn two_names_row()
 
 /// The empty template needs no fuel.
 pub fn empty_row()
-    ensures { Says (render no_sts undefined (Some 0)) [] 0 [] }
+    ensures { Says (render no_sts (undefined false) (Some 0)) [] 0 [] }
 {}

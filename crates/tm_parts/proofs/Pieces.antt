@@ -3,7 +3,7 @@ use Rattle.std.proofs.Common.{◌≡◌, ◌<◌, ◌+◌, ◌-◌, min, ℕ, ze
 use Rattle.std.proofs.Math.Seq.{take-add, take-length, take-append_seam, take-append-add}
 use Rattle.std.proofs.lemmas.List.{append-nil, take-append-le, take_min}
 use Rattle.std.specs.Io.KnownBytes.{Appends}
-use Rattle.tm_parts.specs.Counts.{AppendsBeginning, fault_count}
+use Rattle.tm_output.specs.Counts.{AppendsBeginning, fault_count}
 
 -- one text and then another are the joined text
 pub appends_then : (a b c : Option (List ℕ)) (x y : List ℕ) → Appends a b x → Appends b c y → Appends a c (x ++ y)

@@ -1,3 +1,3 @@
 pub mod Fuel
-pub mod Counts
+pub mod Outgoing
 pub mod Halts

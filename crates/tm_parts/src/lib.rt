@@ -7,7 +7,8 @@ mod output;
 
 pub use fuel::FuelTracker;
 pub use halt::Halt;
-pub use output::{Captures, Counted, NullWriter, Output, Sink, WriteWrapper, write_text};
+pub use output::{Captures, Output, WriteWrapper};
+pub use tm_output::{Counted, NullWriter, Sink, write_text};
 
 #[cfg(test)]
 mod tests;

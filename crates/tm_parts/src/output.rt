@@ -1,139 +1,19 @@
-//! Output: writers whose faults are counted, and captures that take a text before the writer does.
+//! Output: captures that take a text before the writer does.
 ghost use Rattle.std.specs.Prelude.{◌≡◌, ◌≢◌, ◌⊎◌, ◌<◌, ℕ, List, [], ◌∷◌, length, Option, Some, None, Err, IsOk, IsSome, OnOk, OnErr, IfErr, MatchOption, string_bytes};
-ghost use Rattle.std.specs.Io.{WritesAtMost};
-ghost use Rattle.std.specs.Io.KnownBytes.{Keeps, WriteAppends, Appends};
+ghost use Rattle.std.specs.Io.KnownBytes.{Appends};
 ghost use Rattle.tm_values.specs.declared.error.ErrorKind.TheVariants.{WriteFailure, OutOfMemory};
 ghost use Rattle.tm_meaning.specs.Texts.{put_in, put_out};
-ghost use Rattle.tm_parts.specs.Counts.{fault_count, one_more, AppendsBeginning};
+ghost use Rattle.tm_output.specs.Counts.{one_more, AppendsBeginning};
+ghost use Rattle.tm_printing.specs.Emitted.{emitted_text};
 ghost use Rattle.tm_parts.specs.Halts.{faults_after, PutHalts};
 
 use crate::halt::Halt;
 use std::alloc::Global;
-use std::io::{self, Write};
+use std::io;
 use std::marker::Model;
-use tm_values::{Error, ErrorKind};
-
-/// A writer that tells its bytes, and how many of its calls failed or took nothing.
-pub trait Sink {
-    // The bytes that it was given so far, where they are known.
-    ghost told: { Self → Option (List ℕ) };
-
-    // How many of its calls failed or took nothing.
-    ghost faults: { Self → ℕ };
-
-    /// Takes a beginning of the bytes, of which there is one at least, and says how long it is; the writer's error where it fails.
-    fn write(&mut self, bytes: &[u8]) -> io::Result<usize>
-        requires { 0 < length bytes.now }
-        ensures bound { WritesAtMost result bytes.now }
-        ensures bytes { WriteAppends (told self.old) (told self.new) result bytes.now }
-        ensures faults { faults self.new ≡ fault_count result (faults self.old) };
-}
-
-/// Any writer, with a count of its calls that failed or took nothing.
-#[derive(Drop)]
-pub struct Counted<W: Write + Drop> {
-    inner: W,
-    failures: u64,
-}
-
-impl<W: Write + Drop> Model for Counted<W> {
-    ghost use Rattle.tm_parts.specs.Counts.{Tally};
-
-    ghost Value = { Tally W };
-
-    ghost view = { λ counted. record { writer = counted.inner; failures = counted.failures } };
-}
-
-impl<W: Write + Drop> Counted<W> {
-    /// This writer, with no failures.
-    pub fn new(inner: W) -> Counted<W>
-        ensures { result ≡ record { writer = inner; failures = 0 } }
-    {
-        Counted { inner, failures: 0 }
-    }
-
-    /// The writer.
-    pub fn inner(&self) -> &W
-        ensures { result.now ≡ self.now.writer }
-    {
-        &self.inner
-    }
-
-    /// The writer, without its count.
-    pub fn into_inner(self) -> W
-        ensures { result ≡ self.writer }
-    {
-        let Counted { inner, .. } = self;
-        inner
-    }
-
-    /// Passes on what the writer holds back; the writer's error where it can't, which is no write that failed.
-    pub fn flush(&mut self) -> io::Result<()>
-        ensures bytes { Keeps (W.contents self.old.writer) (W.contents self.new.writer) }
-        ensures count { self.new.failures ≡ self.old.failures }
-    {
-        self.inner.flush()
-    }
-
-    /// How many calls failed or took nothing; it stays at the greatest u64.
-    pub fn failures(&self) -> u64
-        ensures { result ≡ self.now.failures }
-    {
-        self.failures
-    }
-}
-
-impl<W: Write + Drop> Sink for Counted<W> {
-    ghost told = { λ counted. W.contents counted.writer };
-
-    ghost faults = { λ counted. counted.failures };
-
-    fn write(&mut self, bytes: &[u8]) -> io::Result<usize> {
-        let answer = self.inner.write(bytes);
-        match &answer {
-            Ok(0) | Err(_) => self.failures = self.failures.saturating_add(1),
-            Ok(_) => {}
-        }
-        answer
-    }
-}
-
-/// A writer that takes all and keeps nothing.
-#[derive(Clone, Copy, Debug)]
-pub struct NullWriter;
-
-impl Sink for NullWriter {
-    ghost told = { λ _. None };
-
-    ghost faults = { λ _. 0 };
-
-    fn write(&mut self, bytes: &[u8]) -> io::Result<usize> {
-        Ok(bytes.len())
-    }
-}
-
-/// Writes a whole text, each byte once; any error of the writer, or WriteZero where it takes nothing, ends it.
-pub fn write_text<W: Sink>(sink: &mut W, text: &[u8]) -> Result<(), io::Error>
-    ensures written { OnOk result (Appends (W.told sink.old) (W.told sink.new) text.now) }
-    ensures no_fault { OnOk result (W.faults sink.new ≡ W.faults sink.old) }
-    ensures beginning { AppendsBeginning (W.told sink.old) (W.told sink.new) text.now }
-    ensures fault { OnErr result (W.faults sink.new ≡ one_more (W.faults sink.old)) }
-    ensures empty { text.now ≡ [] → IsOk result }
-{
-    let mut done = 0;
-    while done < text.len() {
-        match sink.write(&text[done..]) {
-            Ok(taken) => {
-                if taken == 0 {
-                    return Err(io::Error::from(io::ErrorKind::WriteZero));
-                }
-                done += taken;
-            }
-            Err(error) => return Err(error),
-        }
-    }
-    Ok(())
-}
+use tm_output::{Sink, write_text};
+use tm_printing::emit;
+use tm_values::{AutoEscape, Error, ErrorKind, Records, Value};
 
 /// The texts of the open captures. A contract sees them innermost first.
 #[derive(Drop)]
@@ -212,6 +92,41 @@ impl Captures {
     }
 }
 
+impl Captures {
+    /// Puts what is emitted for a value into the innermost capture, and writes it where none is open, piece by piece; what `check_emission` refuses is emitted in no form. `Writer` where the writer fails or takes nothing, OutOfMemory where a capture finds no memory.
+    pub fn emit<R: Records, W: Sink>(
+        &mut self,
+        writer: &mut W,
+        value: &Value,
+        escape: AutoEscape,
+        records: &R,
+    ) -> Result<(), Halt>
+        ensures captured { OnOk result (self.new ≡ put_in self.old
+            (emitted_text escape (R.records records.now) value.now)) }
+        ensures written { OnOk result (Appends (W.told writer.old) (W.told writer.new)
+            (put_out self.old (emitted_text escape (R.records records.now) value.now))) }
+        ensures beginning { AppendsBeginning (W.told writer.old) (W.told writer.new)
+            (put_out self.old (emitted_text escape (R.records records.now) value.now)) }
+        ensures halts { IfErr result (λ halt.
+            PutHalts halt self.old (W.told writer.old) (W.told writer.new)) }
+        ensures faults { W.faults writer.new ≡ faults_after result (W.faults writer.old) }
+    {
+        let Some(mut innermost) = self.texts.pop() else {
+            return match emit(value, escape, records, writer) {
+                Ok(()) => Ok(()),
+                Err(_failed) => Err(Halt::Writer),
+            };
+        };
+        let appended = emit(value, escape, records, &mut innermost);
+        // The pop left room for it.
+        self.texts.push_reserved(innermost);
+        match appended {
+            Ok(()) => Ok(()),
+            Err(_failed) => Err(Halt::Fault(Error::from(ErrorKind::OutOfMemory))),
+        }
+    }
+}
+
 /// A writer, and the captures open above it.
 #[derive(Drop)]
 pub struct Output<W: Sink> {
@@ -220,7 +135,7 @@ pub struct Output<W: Sink> {
 }
 
 impl<W: Sink> Model for Output<W> {
-    ghost use Rattle.tm_parts.specs.Counts.{Outgoing};
+    ghost use Rattle.tm_parts.specs.Outgoing.{Outgoing};
 
     ghost Value = { Outgoing W };
 

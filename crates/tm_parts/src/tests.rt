@@ -1,7 +1,7 @@
 //! What no clause says: that calls succeed, and what becomes of a writer that fails.
 ghost use Rattle.std.specs.Prelude.{◌≡◌, [], ◌++◌, OnOk};
 ghost use Rattle.std.specs.Io.KnownBytes.{Appends};
-ghost use Rattle.tm_parts.specs.Counts.{AppendsBeginning};
+ghost use Rattle.tm_output.specs.Counts.{AppendsBeginning};
 
 use super::*;
 use std::alloc::Global;
@@ -98,93 +98,6 @@ fn text_and_a_lookup_are_charged(rt: HostRuntime) -> Result<(), Fail> {
 }
 
 /// Writes `Hello!` to an output over the fake, and compares what comes of it.
-fn hello(
-    rt: &impl Abort,
-    alloc: Global,
-    fake: Fake,
-    expected: (Option<ErrorKind>, &[u8], u64, u64),
-) {
-    let (kind, bytes, calls, failures) = expected;
-    let mut output = Output::new(alloc, Counted::new(fake));
-    let result = output.write_str("Hello!");
-    assert_eq!(rt; kind_of(&result), kind);
-    assert_eq!(rt; output.writer().failures(), failures);
-    let fake = output.into_writer().into_inner();
-    assert_eq!(rt; fake.bytes.as_slice(), bytes);
-    assert_eq!(rt; fake.calls, calls);
-}
-
-#[test]
-fn failing_writers(rt: HostRuntime) {
-    let alloc = rt.alloc();
-    let failed = Some(ErrorKind::WriteFailure);
-    let broken = Some(io::ErrorKind::BrokenPipe);
-    let interrupted = Some(io::ErrorKind::Interrupted);
-    hello(
-        &rt,
-        alloc,
-        Fake::new(alloc, 3, 3, broken),
-        (failed, b"Hel", 2, 1),
-    );
-    hello(
-        &rt,
-        alloc,
-        Fake::new(alloc, 9, 0, None),
-        (failed, b"", 1, 1),
-    );
-    hello(
-        &rt,
-        alloc,
-        Fake::new(alloc, 9, 0, interrupted),
-        (failed, b"", 1, 1),
-    );
-    hello(
-        &rt,
-        alloc,
-        Fake::new(alloc, 1, 9, broken),
-        (None, b"Hello!", 6, 0),
-    );
-}
-
-#[test]
-fn an_empty_text_makes_no_call(rt: HostRuntime) {
-    let alloc = rt.alloc();
-    let fake = Fake::new(alloc, 9, 0, Some(io::ErrorKind::BrokenPipe));
-    let mut output = Output::new(alloc, Counted::new(fake));
-    assert_eq!(rt; kind_of(&output.write_str("")), None);
-    assert_eq!(rt; output.writer().inner().calls, 0);
-}
-
-#[test]
-fn a_flush_is_no_write(rt: HostRuntime) -> Result<(), Fail> {
-    let alloc = rt.alloc();
-    let full = Some(io::ErrorKind::StorageFull);
-    let mut counted = Counted::new(Fake::new(alloc, 9, 1, full));
-    counted.flush()?;
-    write_text(&mut counted, b"a")?;
-    assert_eq!(rt; counted.flush().map_err(|error| error.kind()).err(), full);
-    assert_eq!(rt; counted.failures(), 0);
-    assert_eq!(rt; counted.inner().bytes.as_slice(), b"a".as_slice());
-    Ok(())
-}
-
-/// The error of a text to a writer that takes nothing, or fails with this error.
-fn fault_of(alloc: Global, error: Option<io::ErrorKind>) -> Option<io::ErrorKind> {
-    let mut sink = Counted::new(Fake::new(alloc, 9, 0, error));
-    match write_text(&mut sink, b"a") {
-        Ok(()) => None,
-        Err(error) => Some(error.kind()),
-    }
-}
-
-#[test]
-fn the_error_of_a_fault(rt: HostRuntime) {
-    let interrupted = Some(io::ErrorKind::Interrupted);
-    assert_eq!(rt; fault_of(rt.alloc(), None), Some(io::ErrorKind::WriteZero));
-    assert_eq!(rt; fault_of(rt.alloc(), interrupted), interrupted);
-}
-
-/// Two texts through a bound, as a caller proves it with the lemmas of proofs/Pieces.antt.
 fn write_both<W: Sink>(output: &mut Output<W>, first: &str, second: &str) -> Result<(), Error>
     ensures written { output.old.captures ≡ [] → OnOk result
         (Appends (W.told output.old.writer) (W.told output.new.writer) (first.now ++ second.now)) }

@@ -1,8 +1,12 @@
 -- What statements keep: of a world all but the fuel, and whether the run is heard.
-use Rattle.std.proofs.Common.{Some, None, ◌≡◌, ℕ, List, [], refl, sym, ◌∙◌, ap, subst}
+use Rattle.std.proofs.Common.{Some, None, Ok, Err, ◌≡◌, ℕ, List, [], refl, sym, ◌∙◌, ap, subst}
+use Rattle.tm_values.specs.Val.{Val}
+use Rattle.tm_values.specs.declared.escape.AutoEscape.TheVariants as escape
+use Rattle.tm_printing.specs.Emitted.{emission_verdict, emitted_text}
+use Rattle.tm_printing.specs.Refused.{Verdict}
 use Rattle.tm_compiler.specs.Tree.{Ex, name, St, raw, emit, Sts, no_sts, st}
-use Rattle.tm_meaning.specs.World.{World, Host, Res, Good, Bad, bind, charged, with_fuel, tick}
-use Rattle.tm_meaning.specs.Meaning.{Run, Outcome, Done, Fault, Nests, use_it, then_do, ev, ex, exs, heard, nests_of, rendered, world_of}
+use Rattle.tm_meaning.specs.World.{World, Host, Res, Good, Bad, bind, charged, with_fuel, tick, records_of, where_fine, emitted}
+use Rattle.tm_meaning.specs.Meaning.{Run, Outcome, Done, Fault, Nests, use_it, then_do, ev, ex, exs}
 
 -- all but the fuel is as it was
 abbrev pub Keeps : World → World → Type 0
@@ -21,6 +25,13 @@ Ends run w (Fault out w' chain) = Keeps w w'
 
 tick_gives : (w : World) → Gives w (tick w)
 tick_gives w = elim (charged 1 w.fuel) as (λ left. Gives w (with_fuel left w)) [ Some left ↦ refl | None ↦ refl ]
+
+fine_gives : {A : Type 0} (verdict : Verdict) (a : A) (w : World) → Gives w (where_fine verdict a w)
+fine_gives (Ok u) a w = refl
+fine_gives (Err chain) a w = refl
+
+emitted_gives : (v : Val) (w : World) → Gives w (emitted v w)
+emitted_gives v w = fine_gives (emission_verdict escape.None (records_of w) v) (emitted_text escape.None (records_of w) v) w
 
 gives_bind : {A B : Type 0} (w : World) (m : Res A) (f : A → World → Res B) → Gives w m → ((a : A) (w' : World) → Gives w' (f a w')) → Gives w (bind m f)
 gives_bind w (Good a w') f h k = gives_then w w' (f a w') h (k a w')
@@ -52,16 +63,10 @@ ex_ends host nests (raw t) run out w = ends_use run w (tick w) out _ (tick_gives
 ex_ends host nests (emit e) run out w =
     ends_use run w (ev host nests e w) out _ (ev_gives host nests e w) (λ v w'.
     ends_use run w' (tick w') out _ (tick_gives w') (λ _ w''.
-    (refl, refl)))
+    ends_use run w'' (emitted v w'') out _ (emitted_gives v w'') (λ _ w'''.
+    (refl, refl))))
 
 pub exs_end : (host : Host) (nests : Nests) (ss : Sts) (run : Run) (out : List ℕ) (w : World) → Ends run w (exs host nests ss run out w)
 exs_end host nests no_sts run out w = (refl, refl)
 exs_end host nests (st s ss) run out w =
     ends_do run w (ex host nests s run out w) _ (ex_ends host nests s run out w) (λ out1 w'. exs_end host nests ss run out1 w')
-
-kept_world : (run : Run) (w : World) (m : Outcome) → Ends run w m → Keeps w (world_of m)
-kept_world run w (Done run1 out w') h = h.1
-kept_world run w (Fault out w' chain) h = h
-
-pub render_keeps : (host : Host) (tree : Sts) (w : World) → Keeps w (world_of (rendered host tree w))
-render_keeps host tree w = kept_world heard w (rendered host tree w) (exs_end host (nests_of host host.limit) tree heard [] w)

@@ -2,4 +2,3 @@ pub mod Place
 pub mod Keeps
 pub mod Follow
 pub mod Simulation
-pub mod Faults

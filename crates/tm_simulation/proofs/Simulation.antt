@@ -8,7 +8,7 @@ use Rattle.tm_values.specs.Val.{Val}
 use Rattle.tm_compiler.specs.Tree.{Ex, name, St, raw, emit, Sts, no_sts, st}
 use Rattle.tm_compiler.specs.Code.{Ins, EmitRaw, Lookup, Emit, ex_code, ex_size, size, sizes, code, codes}
 use Rattle.tm_meaning.specs.Texts.{put_in, put_out}
-use Rattle.tm_meaning.specs.World.{World, Host, tick}
+use Rattle.tm_meaning.specs.World.{World, Host, tick, emitted}
 use Rattle.tm_meaning.specs.Machine.{Config, Frame, Final, Finished, Failed, Stuck, Over, stuck}
 use Rattle.tm_meaning.specs.Steps.{act}
 use Rattle.tm_meaning.specs.Meaning.{Run, Outcome, Done, Fault, Nests, say, ev, ex, exs, heard}
@@ -18,7 +18,6 @@ use Rattle.tm_simulation.specs.Reached.{final_of}
 use Rattle.tm_simulation.proofs.Place.{HasAt, has_front, has_back, has_whole, ex_length, length-code, length-codes}
 use Rattle.tm_simulation.proofs.Follow.{Go, Follows, Ends, bind_then, use_then, at, lands_after, lands_more, lands_put, do_kept, ends_as, put_in-nil, put_out-nil, length-put_in}
 use Rattle.tm_simulation.proofs.Keeps.{ex_ends}
-use Rattle.tm_values.specs.Print.{printed}
 
 -- a run that is heard adds the text
 say_heard : (run : Run) (t out : List ℕ) → run.heard ≡ true → say run t out ≡ out ++ t
@@ -49,8 +48,9 @@ module _ (host : Host) (nests : Nests) (f : Frame) (stream : List Ins) (captures
       ev_runs e pc operands out w (has_front stream pc (ex_code e) _ has) (use_then host f stream captures text o (ev host nests e w) out _ _ _ h (λ v w' h1.
       at host f stream captures text o Emit (pc + ex_size e) (v ∷ operands) out w' back.0
       (lands_after host f stream captures text o (tick w') _ out (use_then host f stream captures text o (tick w') out _ _ _ h1 (λ _ w'' h2.
-      lands_put host f stream captures text o (pc + ex_size e + 1) operands out (printed v) w''
-      (subst (λ n. Goes n operands (out ++ printed v) w'') place (subst (λ x. Goes (pc + (ex_size e + 1)) operands x w'') (say_heard run (printed v) out loud) h2)))))))
+      lands_after host f stream captures text o (emitted v w'') _ out (use_then host f stream captures text o (emitted v w'') out _ _ _ h2 (λ t w''' h3.
+      lands_put host f stream captures text o (pc + ex_size e + 1) operands out t w'''
+      (subst (λ n. Goes n operands (out ++ t) w''') place (subst (λ x. Goes (pc + (ex_size e + 1)) operands x w''') (say_heard run t out loud) h3)))))))))
 
   -- the code of statements, of a run that is heard
   exs_runs : (ss : Sts) (run : Run) (pc : ℕ) (operands : List Val) (out : List ℕ) (w : World) → run.heard ≡ true → HasAt stream pc (codes pc ss) →

@@ -34,11 +34,11 @@ impl Frame {
         Frame { context }
     }
 
-    /// The value of a name: the context value's attribute.
+    /// The value of a name: what the context value has at the text.
     pub fn get(&self, name: &str) -> Option<&Value>
         ensures { MatchOption result (in_scope name.now self.now ≡ None) (λ v. in_scope name.now self.now ≡ Some v.now) }
     {
-        self.context.attribute(name)
+        self.context.member(name)
     }
 }
 

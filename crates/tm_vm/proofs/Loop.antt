@@ -7,7 +7,7 @@ use Rattle.tm_meaning.specs.Machine.{Config, Frame, Final, End, Finished, Failed
 use Rattle.tm_meaning.specs.Steps.{step}
 use Rattle.tm_meaning.specs.Runs.{Leads, Reaches, over, more}
 use Rattle.tm_meaning.proofs.Ends.{text_grows, more_only}
-use Rattle.tm_parts.specs.Counts.{AppendsBeginning}
+use Rattle.tm_output.specs.Counts.{AppendsBeginning}
 use Rattle.tm_parts.proofs.Pieces.{appends_then, appends_nothing, appends_beginning, appends_then_beginning_longer}
 use Rattle.tm_parts.specs.declared.halt.Halt.{Halt}
 use Rattle.tm_parts.specs.declared.halt.Halt.TheVariants as halt

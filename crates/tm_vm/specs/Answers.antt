@@ -3,10 +3,11 @@ use Rattle.std.specs.Prelude.{◌≡◌, ◌+◌, ◌<◌, ℕ, List, [], Option
 use Rattle.std.specs.Io.KnownBytes.{Appends}
 use Rattle.tm_values.specs.Chain.{ends_in_memory}
 use Rattle.tm_compiler.specs.Code.{Ins}
-use Rattle.tm_meaning.specs.World.{World, Host, Kept}
+use Rattle.tm_meaning.specs.World.{World, Host, Kept, Res, Good, Bad}
+use Rattle.tm_meaning.specs.Texts.{put_in, put_out}
 use Rattle.tm_meaning.specs.Machine.{Activation, Config, Frame, End, Finished, Failed, Stuck, Next, More, Over, output}
 use Rattle.tm_meaning.specs.Runs.{Reaches, final}
-use Rattle.tm_parts.specs.Counts.{AppendsBeginning}
+use Rattle.tm_output.specs.Counts.{AppendsBeginning}
 use Rattle.tm_parts.specs.Halts.{faults_after}
 use Rattle.tm_parts.specs.declared.halt.Halt.{Halt}
 use Rattle.tm_parts.specs.declared.halt.Halt.TheVariants as halt
@@ -72,6 +73,15 @@ abbrev pub IsExcused : Halt → Type 0
 IsExcused halt.Writer = Unit {0}
 IsExcused halt.Stuck = ⊥
 IsExcused (halt.Fault chain) = ends_in_memory chain ≡ true
+
+-- A value was emitted as it means, into a capture or to the writer; or it halted by the writer or for want of memory, with a beginning; or it can't be emitted, and nothing was written.
+abbrev pub Emits : Result (Unit {0}) Halt → List (List ℕ) → List (List ℕ) → Option (List ℕ) → Option (List ℕ) → Res (List ℕ) → Type 0
+Emits (Ok _) captures new told now (Good text w) = (new ≡ put_in captures text) × Appends told now (put_out captures text)
+Emits (Ok _) captures new told now (Bad chain w) = ⊥
+Emits (Err why) captures new told now (Good text w) = IsExcused why × AppendsBeginning told now (put_out captures text)
+Emits (Err halt.Writer) captures new told now (Bad chain w) = ⊥
+Emits (Err halt.Stuck) captures new told now (Bad chain w) = ⊥
+Emits (Err (halt.Fault answer)) captures new told now (Bad chain w) = (ends_in_memory answer ≡ false → answer ≡ chain) × (now ≡ told)
 
 -- the frame of a run over these captures
 abbrev pub frame : List (List ℕ) → Frame

@@ -1,16 +1,15 @@
 //! The machine: a run with its operands, the captures and the state. A method for each instruction, the step, and the loop.
 ghost use Rattle.std.specs.Prelude.{◌≡◌, ◌+◌, [], ◌∷◌, OnOk, OnSome, IfErr, MatchOption, length, map};
 ghost use Rattle.std.specs.Rc.{rc_str_bytes};
-ghost use Rattle.tm_values.specs.Print.{printed};
 ghost use Rattle.tm_compiler.specs.Code.{ins_of};
 ghost use Rattle.std.specs.Io.KnownBytes.{Appends};
 ghost use Rattle.tm_meaning.specs.Texts.{put_in, put_out};
-ghost use Rattle.tm_meaning.specs.World.{Kept, Good, Bad};
+ghost use Rattle.tm_meaning.specs.World.{Kept, Good, Bad, emitted};
 ghost use Rattle.tm_meaning.specs.Machine.{Final};
 ghost use Rattle.tm_meaning.specs.Instructions.{emit_raw_of, lookup_of, emit_of};
 ghost use Rattle.tm_meaning.specs.Steps.{pay, effect, finish, step};
 ghost use Rattle.tm_meaning.specs.Runs.{Reaches, start};
-ghost use Rattle.tm_parts.specs.Counts.{AppendsBeginning};
+ghost use Rattle.tm_output.specs.Counts.{AppendsBeginning};
 ghost use Rattle.tm_parts.specs.Halts.{faults_after};
 ghost use Rattle.tm_vm.specs.Answers.{IsWithin, StandsAt, IsBehind, Performs, Silently, IsExcused, EndsAs, Comes, frame};
 
@@ -20,8 +19,9 @@ use std::marker::Model;
 use std::rc::RcStr;
 use tm_compiler::Instruction;
 use tm_parts::{Captures, Halt, Sink};
+use tm_printing::check_emission;
 use tm_tables::{Host, Stack};
-use tm_values::{Error, ErrorKind, Value};
+use tm_values::{AutoEscape, Error, ErrorKind, Value};
 
 /// Where a run goes on behind a step.
 pub enum Flow {
@@ -109,27 +109,22 @@ impl<'stream> Run<'stream> {
     }
 }
 
-/// Writes what a value is printed as.
+/// Writes what a value is emitted as, or nothing where it can't be.
 fn write_value<W: Sink>(
     alloc: Global,
     value: &Value,
+    state: &StateData<'_>,
     captures: &mut Captures,
     writer: &mut W,
 ) -> Result<(), Halt>
-    ensures captured { OnOk result (captures.new ≡ put_in captures.old (printed value.now)) }
-    ensures written { OnOk result (Appends (W.told writer.old) (W.told writer.new)
-        (put_out captures.old (printed value.now))) }
-    ensures beginning { AppendsBeginning (W.told writer.old) (W.told writer.new)
-        (put_out captures.old (printed value.now)) }
-    ensures halts { IfErr result IsExcused }
+    ensures emits { Emits result captures.old captures.new (W.told writer.old) (W.told writer.new)
+        (emitted value.now state.now) }
     ensures faults { W.faults writer.new ≡ faults_after result (W.faults writer.old) }
 {
-    if let Some(text) = value.as_str() {
-        return captures.write_str(writer, text);
+    if let Err(error) = check_emission(alloc, value, AutoEscape::None, state) {
+        return Err(Halt::Fault(error));
     }
-    let mut printed = String::new(alloc);
-    value.print(&mut printed)?;
-    captures.write_str(writer, printed.as_str())
+    captures.emit(writer, value, AutoEscape::None, state)
 }
 
 /// The machine. A contract sees it as a configuration of the definitions.
@@ -212,7 +207,7 @@ impl<'stream, 'env> Machine<'stream, 'env> {
         Ok(Flow::GoOn)
     }
 
-    /// Pops a value and writes what it is printed as.
+    /// Pops a value and writes what it is emitted as; its error where it can't be.
     fn do_emit<W: Sink>(&mut self, alloc: Global, writer: &mut W) -> Result<Flow, Halt>
         requires { IsWithin self.old.run }
         ensures { Performs emit_of self.old self.new
@@ -223,7 +218,7 @@ impl<'stream, 'env> Machine<'stream, 'env> {
         let Some(value) = self.run.pop() else {
             return Err(Halt::Stuck);
         };
-        write_value(alloc, &value, &mut self.captures, writer)?;
+        write_value(alloc, &value, &self.state, &mut self.captures, writer)?;
         Ok(Flow::GoOn)
     }
 

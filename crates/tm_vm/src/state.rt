@@ -11,7 +11,7 @@ use std::rc::RcStr;
 use tm_compiler::Instruction;
 use tm_parts::FuelTracker;
 use tm_tables::{Context, Frame};
-use tm_values::{Error, ErrorKind, Value};
+use tm_values::{Error, ErrorKind, LoopPosition, Records, Value, ValueMap};
 
 /// What a state keeps. A contract sees it as a world of the definitions.
 #[derive(Drop)]
@@ -99,5 +99,36 @@ impl<'env> StateData<'env> {
             (λ v. in_frames name.now self.now.scopes.frames ≡ Some v.now) }
     {
         self.context.find(name)
+    }
+}
+
+/// There are no loops and namespaces yet.
+impl Records for StateData<'_> {
+    ghost use Rattle.tm_meaning.specs.World.{records_of};
+
+    ghost records = { records_of };
+
+    fn state(&self) -> u64 {
+        self.id
+    }
+
+    fn namespace_count(&self) -> usize {
+        0
+    }
+
+    fn namespace(&self, _index: usize) -> Option<&ValueMap> {
+        None
+    }
+
+    fn loop_position(&self, _index: usize) -> Option<LoopPosition> {
+        None
+    }
+
+    fn previous_item(&self, _index: usize) -> Option<&Value> {
+        None
+    }
+
+    fn following_item(&self, _index: usize) -> Option<&Value> {
+        None
     }
 }

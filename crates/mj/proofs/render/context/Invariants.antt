@@ -1,8 +1,8 @@
-use Rattle.std.proofs.Common.{◌≡◌, [], drop, map}
+use Rattle.std.proofs.Common.{◌≡◌, ◌++◌, drop, map}
 use Rattle.mj.specs.CommandLine.{plain}
-use Rattle.mj.specs.Program.{put_texts}
+use Rattle.mj.specs.Program.{pair_of}
 use Rattle.mj.proofs.render.context.Given as goal
 
--- the texts that are left still lead to the whole map
+-- the pairs of the texts that are left are left
 abbrev pub invariant-loop-name : goal.invariant-loop-name
-invariant-loop-name l = put_texts (map plain (drop l.name-index l.texts)) l.entries ≡ put_texts (map plain l.texts) []
+invariant-loop-name l = l.pairs.items ++ map pair_of (map plain (drop l.name-index l.texts)) ≡ map pair_of (map plain l.texts)
