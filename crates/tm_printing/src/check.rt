@@ -61,7 +61,9 @@ fn check<R: Records>(
         Node::Exports(pairs, _) => check_module(form, pairs.as_slice(), records, levels, way),
         Node::Function(_) | Node::Macro(_) => check_unwritable(form),
         Node::Loop(state, index) => check_loop(form, *state, *index, records),
-        Node::Namespace(state, index) => check_namespace(form, *state, *index, records, levels, way),
+        Node::Namespace(state, index) => check_namespace(
+            form, *state, *index, records, levels, way,
+        ),
     }
 }
 

@@ -9,7 +9,11 @@ use tm_output::{Target, TargetFailed};
 use tm_values::{Node, Records, Value, find_namespace};
 
 /// Writes the value as `serde_json`'s compact text. Ask `check_json` first: what it refuses has no JSON.
-pub fn write_json<R: Records, T: Target>(value: &Value, records: &R, target: &mut T) -> Result<(), TargetFailed>
+pub fn write_json<R: Records, T: Target>(
+    value: &Value,
+    records: &R,
+    target: &mut T,
+) -> Result<(), TargetFailed>
     ensures { Takes T.took T.stopped result target.old (json_text (R.records records.now) value.now) target.new }
 {
     write_data::<R, T>(value, records, records.namespace_count(), target)

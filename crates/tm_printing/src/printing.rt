@@ -12,21 +12,33 @@ use tm_output::{Target, TargetFailed};
 use tm_values::{LoopPosition, Macro, Node, Records, Value, find_loop, find_namespace};
 
 /// Writes what the value is printed as. Ask `check_print` first: what it refuses has no text of its own.
-pub fn print<R: Records, T: Target>(value: &Value, records: &R, target: &mut T) -> Result<(), TargetFailed>
+pub fn print<R: Records, T: Target>(
+    value: &Value,
+    records: &R,
+    target: &mut T,
+) -> Result<(), TargetFailed>
     ensures { Takes T.took T.stopped result target.old (printed (R.records records.now) value.now) target.new }
 {
     write_value::<Verbatim, R, T>(value, records, target)
 }
 
 /// Writes what the value is printed as, escaped for HTML as a whole. Ask `check_print` first.
-pub fn write_html<R: Records, T: Target>(value: &Value, records: &R, target: &mut T) -> Result<(), TargetFailed>
+pub fn write_html<R: Records, T: Target>(
+    value: &Value,
+    records: &R,
+    target: &mut T,
+) -> Result<(), TargetFailed>
     ensures { Takes T.took T.stopped result target.old (html_text (R.records records.now) value.now) target.new }
 {
     write_value::<Html, R, T>(value, records, target)
 }
 
 // The value as it stands by itself.
-fn write_value<E: Escape, R: Records, T: Target>(value: &Value, records: &R, target: &mut T) -> Result<(), TargetFailed>
+fn write_value<E: Escape, R: Records, T: Target>(
+    value: &Value,
+    records: &R,
+    target: &mut T,
+) -> Result<(), TargetFailed>
     ensures { Takes T.took T.stopped result target.old
         (flat_map E.spelled (printed (R.records records.now) value.now)) target.new }
 {
@@ -197,7 +209,10 @@ fn write_loop<E: Escape, R: Records, T: Target>(
     }
 }
 
-fn write_position<E: Escape, T: Target>(position: LoopPosition, target: &mut T) -> Result<(), TargetFailed>
+fn write_position<E: Escape, T: Target>(
+    position: LoopPosition,
+    target: &mut T,
+) -> Result<(), TargetFailed>
     ensures { Takes T.took T.stopped result target.old (flat_map E.spelled (position_text position)) target.new }
 {
     write_spelled::<E, T>("<loop ", target)?;
@@ -205,7 +220,10 @@ fn write_position<E: Escape, T: Target>(position: LoopPosition, target: &mut T) 
     write_spelled::<E, T>(">", target)
 }
 
-fn write_progress<E: Escape, T: Target>(position: LoopPosition, target: &mut T) -> Result<(), TargetFailed>
+fn write_progress<E: Escape, T: Target>(
+    position: LoopPosition,
+    target: &mut T,
+) -> Result<(), TargetFailed>
     ensures { Takes T.took T.stopped result target.old (flat_map E.spelled (progress_text position)) target.new }
 {
     write_count::<E, T>(position.place.unwrap_or(0), target)?;
