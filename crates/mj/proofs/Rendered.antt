@@ -1,5 +1,5 @@
 -- What the program renders is what the words and the source mean.
-use Rattle.std.proofs.Common.{◌≡◌, ◌⊎◌, ℕ, inl, inr, List, [], ◌∷◌, Bool, true, false, Option, None, Some, Result, Ok, Err, OnOk, IfErr, MatchResult, is_eq, refl, sym, ap, subst, ◌∙◌}
+use Rattle.std.proofs.Common.{◌≡◌, ℕ, inl, inr, List, [], ◌∷◌, Option, None, Some, Result, Ok, Err, IsErrAnd, MatchResult, is_eq, ◌<◌, ◌-◌, ◌^◌, arith, refl, sym, ap, subst, ◌∙◌}
 use Rattle.std.specs.Prelude.{cond}
 use Rattle.std.specs.Io.KnownBytes.{Keeps, Appends}
 use Rattle.std.proofs.lemmas.Cmp.{nat_list_cmp_total, tied_itself}
@@ -11,12 +11,11 @@ use Rattle.tm_values.specs.declared.error.ErrorKind.TheVariants.{WriteFailure, O
 use Rattle.tm_compiler.specs.Syntax.{Syntax, default_syntax}
 use Rattle.tm_compiler.specs.Tree.{Sts}
 use Rattle.tm_compiler.specs.Spells.{Spells}
-use Rattle.tm_meaning.specs.Meaning.{Outcome, text_of, chain_of}
-use Rattle.tm_parts.specs.Counts.{Tally, one_more, AppendsBeginning}
+use Rattle.tm_meaning.specs.Meaning.{Outcome, Done, Fault, text_of, chain_of}
+use Rattle.tm_parts.specs.Counts.{Tally, AppendsBeginning}
 use Rattle.tm_tables.specs.Templates.{Template, IsTemplate, IsRefused, put_template, find_template}
-use Rattle.tm_vm.specs.Answers.{is_excused}
 use Rattle.template_machine.specs.Environment.{EnvironmentValue, TemplateValue, empty_environment}
-use Rattle.template_machine.specs.Renders.{meaning}
+use Rattle.template_machine.specs.Renders.{CapturedValue, IsEnd, meaning, Rendered, as_meant, by_writer, by_memory}
 use Rattle.mj.specs.CommandLine.{Text, Asked}
 use Rattle.mj.specs.Program.{context_of, meaning_of, IsRendered, IsBegun, IsFault, no_memory, write_failed, flush_failed, no_tree, meant}
 
@@ -53,55 +52,61 @@ is_found name set added t start put none =
     ap (λ (e : EnvironmentValue). find_template name e.templates) put ∙ ap (λ es. find_template name (put_template name t es)) start ∙ found_there name t in
     absurd (cc)
 
+-- an error that was passed on
+pub passed : {T E : Type 0} (r : Result T E) (P : T → Type 0) (Q : E → Type 0) (e : E) → IsErrAnd r (λ x. x ≡ e) → Q e → MatchResult r P Q
+passed (Ok x) P Q e p q = absurd p
+passed (Err y) P Q e p q = subst Q (sym p) q
+
+-- a render as the first state of a counter
+pub at_first : (t : TemplateValue) (context : Val) (id : ℕ) (r : Result CapturedValue (List ErrorKind)) (told now : Option Text) (faults count : ℕ) → id ≡ 0 →
+    (id < 2 ^ 64 - 1 → Rendered (meaning t id context) r told now faults count) → Rendered (meaning t 0 context) r told now faults count
+at_first t context id r told now faults count e rendered =
+    subst (λ n. Rendered (meaning t n context) r told now faults count) e (rendered (omega (arith, e)))
+
 pub keeps_same : (told : Option Text) → Keeps told told
 keeps_same None = tt
 keeps_same (Some text) = refl
 
--- an error is the writer's, or of memory, or of neither
-blame : (chain : List ErrorKind) → (is_excused chain ≡ false) ⊎ ((ends_in_memory chain ≡ true) ⊎ (chain ≡ WriteFailure ∷ []))
-blame [] = inl refl
-blame (kind ∷ []) = alone kind
-  where
-    alone : (kind : ErrorKind) → (is_excused (kind ∷ []) ≡ false) ⊎ ((ends_in_memory (kind ∷ []) ≡ true) ⊎ (kind ∷ [] ≡ WriteFailure ∷ []))
-    alone WriteFailure = inr (inr refl)
-    alone OutOfMemory = inr (inl refl)
-    alone _ = inl refl
-blame (kind ∷ cause ∷ causes) = by_causes (ends_in_memory (cause ∷ causes)) refl
-  where
-    by_causes : (b : Bool) → ends_in_memory (cause ∷ causes) ≡ b → (is_excused (kind ∷ cause ∷ causes) ≡ false) ⊎ ((ends_in_memory (cause ∷ causes) ≡ true) ⊎ (kind ∷ cause ∷ causes ≡ WriteFailure ∷ []))
-    by_causes true h = inr (inl h)
-    by_causes false h = inl h
-
 module _ {W : Type 0} (contents : W → Option Text) where
   -- want of memory, before anything was written
   pub is_memory : (a : Asked) (source : Text) (chain : List ErrorKind) (old : Tally W) → chain ≡ OutOfMemory ∷ [] → IsFault contents a source chain old old
-  is_memory a source chain old e = no_memory (ap ends_in_memory e) (inl (keeps_same (contents old.writer)))
+  is_memory a source chain old e = no_memory (ap ends_in_memory e) refl (inl (keeps_same (contents old.writer)))
 
   -- a source that was refused
   pub is_refused : (a : Asked) (source : Text) (syntax : Syntax) (chain : List ErrorKind) (old : Tally W) → syntax ≡ default_syntax → IsRefused syntax source chain →
       IsFault contents a source chain old old
   is_refused a source syntax chain old e (inl memory) = is_memory a source chain old memory
   is_refused a source syntax chain old e (inr (kind, none)) =
-      no_tree kind (keeps_same (contents old.writer)) (subst (λ s. (tree : Sts) → Spells s (chars source) tree → ⊥) e none)
+      no_tree kind refl (keeps_same (contents old.writer)) (subst (λ s. (tree : Sts) → Spells s (chars source) tree → ⊥) e none)
 
   -- What was answered of the template is what was answered of the words and the source.
-  pub is_answer : (r : Result (Unit {0}) (List ErrorKind)) (a : Asked) (source : Text) (m : Outcome) (old new : Tally W) →
-      (tree : Sts) × Spells default_syntax (chars source) tree × (m ≡ meaning_of a tree) →
-      OnOk r ((chain_of m ≡ []) × Appends (contents old.writer) (contents new.writer) (text_of m)) →
-      IfErr r (λ e. is_excused e ≡ false → (chain_of m ≡ e) × Appends (contents old.writer) (contents new.writer) (text_of m)) →
-      (r ≡ Err (WriteFailure ∷ []) → new.failures ≡ one_more old.failures) → AppendsBeginning (contents old.writer) (contents new.writer) (text_of m) →
-      MatchResult r (λ _. IsRendered a source (contents old.writer) (contents new.writer)) (λ e. IsFault contents a source e old new)
-  is_answer (Ok _) a source m old new (tree, spelled, e) (none, appended) fault raised begun =
-      (tree, spelled, sym (ap chain_of e) ∙ none, subst (λ m. Appends (contents old.writer) (contents new.writer) (text_of m)) e appended)
-  is_answer (Err chain) a source m old new (tree, spelled, e) done fault raised begun = by_blame (blame chain)
-    where
-      part : IsBegun a source (contents old.writer) (contents new.writer)
-      part = (tree, spelled, subst (λ m. AppendsBeginning (contents old.writer) (contents new.writer) (text_of m)) e begun)
+  module _ (a : Asked) (source : Text) (m : Outcome) (old new : Tally W) (means : (tree : Sts) × Spells default_syntax (chars source) tree × (m ≡ meaning_of a tree)) where
+    abbrev Ended : Result CapturedValue (List ErrorKind) → Type 0
+    Ended r = Rendered m r (contents old.writer) (contents new.writer) old.failures new.failures
 
-      by_blame : (is_excused chain ≡ false) ⊎ ((ends_in_memory chain ≡ true) ⊎ (chain ≡ WriteFailure ∷ [])) → IsFault contents a source chain old new
-      by_blame (inl own) = meant tree spelled (sym (ap chain_of e) ∙ (fault own).0) (subst (λ m. Appends (contents old.writer) (contents new.writer) (text_of m)) e (fault own).1)
-      by_blame (inr (inl memory)) = no_memory memory (inr part)
-      by_blame (inr (inr writer)) = write_failed writer (raised (ap Err writer)) part
+    whole : Appends (contents old.writer) (contents new.writer) (text_of m) → Appends (contents old.writer) (contents new.writer) (text_of (meaning_of a means.0))
+    whole appended = subst (λ m. Appends (contents old.writer) (contents new.writer) (text_of m)) means.2 appended
+
+    part : AppendsBeginning (contents old.writer) (contents new.writer) (text_of m) → IsBegun a source (contents old.writer) (contents new.writer)
+    part begun = (means.0, means.1, subst (λ m. AppendsBeginning (contents old.writer) (contents new.writer) (text_of m)) means.2 begun)
+
+    done_chain : (c : CapturedValue) (m : Outcome) → IsEnd (Ok c) m → chain_of m ≡ []
+    done_chain c (Done run out w) is = refl
+    done_chain c (Fault out w chain) is = absurd is
+
+    fault_chain : (answer : List ErrorKind) (m : Outcome) → IsEnd (Err answer) m → chain_of m ≡ answer
+    fault_chain answer (Done run out w) is = absurd is
+    fault_chain answer (Fault out w chain) is = sym is
+
+    pub is_done : (c : CapturedValue) → Ended (Ok c) → IsRendered contents a source old new
+    is_done c (as_meant is appended same) = (means.0, means.1, sym (ap chain_of means.2) ∙ done_chain c m is, whole appended, same)
+    is_done c (by_writer e begun more) = absurd (cc)
+    is_done c (by_memory memory begun same) = absurd memory
+
+    pub is_fault : (chain : List ErrorKind) → Ended (Err chain) → IsFault contents a source chain old new
+    is_fault chain (as_meant is appended same) = meant means.0 means.1 (sym (ap chain_of means.2) ∙ fault_chain chain m is) same (whole appended)
+    is_fault chain (by_writer e begun more) = write_failed (let same : chain ≡ WriteFailure ∷ [] = cc in same) more (part begun)
+    is_fault chain (by_memory memory begun same) = no_memory memory same (inr (part begun))
 
 flushed : (old mid new : Option Text) (text : Text) → Appends old mid text → Keeps mid new → Appends old new text
 flushed None mid new text a k = tt
@@ -115,23 +120,24 @@ keeps_then (Some xs) None new h k = absurd h
 keeps_then (Some xs) (Some ys) None h k = absurd k
 keeps_then (Some xs) (Some ys) (Some zs) h k = k ∙ h
 
--- a flush adds nothing
-rendered_flushed : (a : Asked) (source : Text) (old mid new : Option Text) → IsRendered a source old mid → Keeps mid new → IsRendered a source old new
-rendered_flushed a source old mid new (tree, spelled, none, appended) k = (tree, spelled, none, flushed old mid new _ appended k)
-
 begun_flushed : (a : Asked) (source : Text) (old mid new : Option Text) → IsBegun a source old mid → Keeps mid new → IsBegun a source old new
 begun_flushed a source old mid new (tree, spelled, (n, appended)) k = (tree, spelled, (n, flushed old mid new _ appended k))
 
-module _ {W : Type 0} (contents : W → Option Text) (a : Asked) (source : Text) (chain : List ErrorKind) (old mid new : Tally W) where
-  pub fault_flushed : IsFault contents a source chain old mid → Keeps (contents mid.writer) (contents new.writer) → new.failures ≡ mid.failures → IsFault contents a source chain old new
-  fault_flushed (no_memory e (inl kept)) k count = no_memory e (inl (keeps_then _ _ _ kept k))
-  fault_flushed (no_memory e (inr begun)) k count = no_memory e (inr (begun_flushed a source _ _ _ begun k))
-  fault_flushed (write_failed e rose begun) k count = write_failed e (count ∙ rose) (begun_flushed a source _ _ _ begun k)
-  fault_flushed (flush_failed e rendered) k count = flush_failed e (rendered_flushed a source _ _ _ rendered k)
-  fault_flushed (no_tree e kept none) k count = no_tree e (keeps_then _ _ _ kept k) none
-  fault_flushed (meant tree spelled e appended) k count = meant tree spelled e (flushed _ _ _ _ appended k)
+-- a flush adds nothing, and is no write that failed
+module _ {W : Type 0} (contents : W → Option Text) (a : Asked) (source : Text) (old mid new : Tally W) where
+  pub rendered_flushed : IsRendered contents a source old mid → Keeps (contents mid.writer) (contents new.writer) → new.failures ≡ mid.failures → IsRendered contents a source old new
+  rendered_flushed (tree, spelled, none, appended, same) k count = (tree, spelled, none, flushed _ _ _ _ appended k, count ∙ same)
+
+  pub fault_flushed : (chain : List ErrorKind) → IsFault contents a source chain old mid → Keeps (contents mid.writer) (contents new.writer) → new.failures ≡ mid.failures →
+      IsFault contents a source chain old new
+  fault_flushed chain (no_memory e same (inl kept)) k count = no_memory e (count ∙ same) (inl (keeps_then _ _ _ kept k))
+  fault_flushed chain (no_memory e same (inr begun)) k count = no_memory e (count ∙ same) (inr (begun_flushed a source _ _ _ begun k))
+  fault_flushed chain (write_failed e rose begun) k count = write_failed e (count ∙ rose) (begun_flushed a source _ _ _ begun k)
+  fault_flushed chain (flush_failed e rendered) k count = flush_failed e (rendered_flushed rendered k count)
+  fault_flushed chain (no_tree e same kept none) k count = no_tree e (count ∙ same) (keeps_then _ _ _ kept k) none
+  fault_flushed chain (meant tree spelled e same appended) k count = meant tree spelled e (count ∙ same) (flushed _ _ _ _ appended k)
 
   -- the flush failed, and the render had not
-  pub unflushed : chain ≡ WriteFailure ∷ [] → IsRendered a source (contents old.writer) (contents mid.writer) → Keeps (contents mid.writer) (contents new.writer) →
+  pub unflushed : (chain : List ErrorKind) → chain ≡ WriteFailure ∷ [] → IsRendered contents a source old mid → Keeps (contents mid.writer) (contents new.writer) → new.failures ≡ mid.failures →
       IsFault contents a source chain old new
-  unflushed e rendered k = flush_failed e (rendered_flushed a source _ _ _ rendered k)
+  unflushed chain e rendered k count = flush_failed e (rendered_flushed rendered k count)

@@ -53,30 +53,31 @@ abbrev pub IsWrongUse : {T : Type 0} → (T → Text → Option Text → Type 0)
 IsWrongUse of_file of_input texts words =
     (asked [] None words ≡ None) ⊎ ((a : Asked) × (asked [] None words ≡ Some a) × IsUnread of_file of_input texts a.file)
 
--- The source spells a tree whose render is done, and the writer got its text.
-abbrev pub IsRendered : Asked → Text → Option Text → Option Text → Type 0
-IsRendered a source old new =
-    (tree : Sts) × Spells default_syntax (chars source) tree × (chain_of (meaning_of a tree) ≡ []) × Appends old new (text_of (meaning_of a tree))
+-- The source spells a tree whose render is done, and the writer got its text without a fault.
+abbrev pub IsRendered : {W : Type 0} → (W → Option Text) → Asked → Text → Tally W → Tally W → Type 0
+IsRendered contents a source old new =
+    (tree : Sts) × Spells default_syntax (chars source) tree × (chain_of (meaning_of a tree) ≡ [])
+    × Appends (contents old.writer) (contents new.writer) (text_of (meaning_of a tree)) × (new.failures ≡ old.failures)
 
 -- The source spells a tree, and the writer got a beginning of the text that it means.
 abbrev pub IsBegun : Asked → Text → Option Text → Option Text → Type 0
 IsBegun a source old new = (tree : Sts) × Spells default_syntax (chars source) tree × AppendsBeginning old new (text_of (meaning_of a tree))
 
--- A render ends with this error, and the writer holds what that error leaves.
+-- A render ends with this error, and the writer holds what that error leaves. Its count of faults rose where a write failed, and only there.
 pub data IsFault {W : Type 0} (contents : W → Option Text) (a : Asked) (source : Text) (chain : List ErrorKind) (old new : Tally W) : Type 0 where
   -- want of memory: nothing was written, or a beginning of the text
-  no_memory : ends_in_memory chain ≡ true → Keeps (contents old.writer) (contents new.writer) ⊎ IsBegun a source (contents old.writer) (contents new.writer) →
+  no_memory : ends_in_memory chain ≡ true → new.failures ≡ old.failures → Keeps (contents old.writer) (contents new.writer) ⊎ IsBegun a source (contents old.writer) (contents new.writer) →
       IsFault contents a source chain old new
   -- a write failed, behind a beginning of the text
   write_failed : chain ≡ WriteFailure ∷ [] → new.failures ≡ one_more old.failures → IsBegun a source (contents old.writer) (contents new.writer) →
       IsFault contents a source chain old new
   -- the flush failed, behind the whole text
-  flush_failed : chain ≡ WriteFailure ∷ [] → IsRendered a source (contents old.writer) (contents new.writer) → IsFault contents a source chain old new
+  flush_failed : chain ≡ WriteFailure ∷ [] → IsRendered contents a source old new → IsFault contents a source chain old new
   -- the source spells no tree
-  no_tree : chain ≡ SyntaxError ∷ [] → Keeps (contents old.writer) (contents new.writer) → ((tree : Sts) → Spells default_syntax (chars source) tree → ⊥) →
+  no_tree : chain ≡ SyntaxError ∷ [] → new.failures ≡ old.failures → Keeps (contents old.writer) (contents new.writer) → ((tree : Sts) → Spells default_syntax (chars source) tree → ⊥) →
       IsFault contents a source chain old new
   -- the fault is the one that was meant, behind all text that was heard before it
-  meant : (tree : Sts) → Spells default_syntax (chars source) tree → chain_of (meaning_of a tree) ≡ chain →
+  meant : (tree : Sts) → Spells default_syntax (chars source) tree → chain_of (meaning_of a tree) ≡ chain → new.failures ≡ old.failures →
       Appends (contents old.writer) (contents new.writer) (text_of (meaning_of a tree)) → IsFault contents a source chain old new
 
 -- the exit status where there is nothing to run

@@ -44,7 +44,7 @@ pub fn run<T: Texts, O: Write + Drop, E: Write + Drop>(
     ensures status { result ≤ 2 }
     ensures rendered { result ≡ 0 → (err.new ≡ err.old) × (a : Asked) × (source : Text)
         × IsInput T.of_file T.of_input texts.old (map string_bytes words.now) a source
-        × IsRendered a source (O.contents out.old.writer) (O.contents out.new.writer) }
+        × IsRendered O.contents a source out.old out.new }
     ensures fault { result ≡ 1 → (kind : Kind) × (kinds : List Kind) × IsTold E.contents err.old err.new (message kind kinds)
         × (((ends_in_memory (kind ∷ kinds) ≡ true) × (out.new ≡ out.old)) ⊎ ((a : Asked) × (source : Text)
         × IsInput T.of_file T.of_input texts.old (map string_bytes words.now) a source

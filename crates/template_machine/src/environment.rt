@@ -22,11 +22,13 @@ pub struct Environment<'source> {
 }
 
 impl<'source> Model for Environment<'source> {
-    ghost use Rattle.template_machine.specs.Environment.{EnvironmentValue, coded_EnvironmentValue};
+    ghost use Rattle.std.specs.Coded.{codes};
+    ghost use Rattle.tm_tables.specs.Templates.{coded_Sts};
+    ghost use Rattle.template_machine.specs.Environment.{EnvironmentValue};
 
     ghost Value = { EnvironmentValue };
 
-    ghost coded = { coded_EnvironmentValue };
+    ghost coded = { Prim.hlevel (codes, coded_Sts) };
 
     ghost view = { λ e. record { templates = e.templates; syntax = e.config.syntax_config; fuel = e.fuel } };
 }

@@ -15,11 +15,12 @@ pub struct State<'env, 'source> {
 
 impl<'env, 'source> Model for State<'env, 'source> {
     ghost use Rattle.tm_meaning.specs.World.{World};
-    ghost use Rattle.tm_vm.specs.Coded.{coded_World};
+    ghost use Rattle.std.specs.Coded.{codes};
+    ghost use Rattle.tm_values.specs.Code.{coded_Val};
 
     ghost Value = { World };
 
-    ghost coded = { coded_World };
+    ghost coded = { Prim.hlevel (codes, coded_Val) };
 
     ghost view = { λ s. s.kept };
 }
@@ -60,11 +61,13 @@ pub struct Captured<'env, 'source> {
 
 impl<'env, 'source> Model for Captured<'env, 'source> {
     ghost use Rattle.std.specs.Prelude.{string_bytes};
-    ghost use Rattle.template_machine.specs.Renders.{CapturedValue, coded_CapturedValue};
+    ghost use Rattle.std.specs.Coded.{codes};
+    ghost use Rattle.tm_values.specs.Code.{coded_Val};
+    ghost use Rattle.template_machine.specs.Renders.{CapturedValue};
 
     ghost Value = { CapturedValue };
 
-    ghost coded = { coded_CapturedValue };
+    ghost coded = { Prim.hlevel (codes, coded_Val) };
 
     ghost view = { λ c. record { output = string_bytes c.output; world = c.state } };
 }

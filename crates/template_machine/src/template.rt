@@ -1,21 +1,17 @@
 //! Templates of an environment.
-ghost use Rattle.std.specs.Prelude.{◌≡◌, ◌≢◌, ◌⊎◌, ◌+◌, ◌<◌, [], ◌∷◌, Err, IfOk, IfErr};
+ghost use Rattle.std.specs.Prelude.{◌≡◌, ◌+◌, ◌<◌, [], ◌∷◌, Err, IfOk, IfErr};
 ghost use Rattle.tm_meaning.specs.World.{first_world};
-ghost use Rattle.std.specs.Io.KnownBytes.{Appends};
-ghost use Rattle.tm_meaning.specs.Meaning.{text_of, rendered};
-ghost use Rattle.tm_meaning.specs.Texts.{put_out};
-ghost use Rattle.tm_parts.specs.Counts.{one_more, AppendsBeginning};
-ghost use Rattle.tm_vm.specs.Answers.{IsOwn, faults_after};
-ghost use Rattle.template_machine.specs.Renders.{meaning, greatest, FoundMemory, IsEnd, IsText, IsRun};
+ghost use Rattle.tm_meaning.specs.Meaning.{rendered};
+ghost use Rattle.template_machine.specs.Renders.{meaning, greatest, Rendered, RenderedText, Ran};
 ghost use Rattle.template_machine.specs.Environment.{host_of};
 
 use crate::environment::Environment;
 use crate::state::{Captured, State};
 use std::marker::Model;
-use tm_parts::{Captures, NullWriter, Sink};
+use tm_parts::{Captures, Halt, NullWriter, Sink};
 use tm_tables::CompiledTemplate;
 use tm_values::{Error, ErrorKind, Value};
-use tm_vm::{StateData, StateIds, run};
+use tm_vm::{Machine, StateData, StateIds};
 
 /// A template of an environment.
 #[derive(Drop)]
@@ -25,11 +21,13 @@ pub struct Template<'env, 'source> {
 }
 
 impl<'env, 'source> Model for Template<'env, 'source> {
-    ghost use Rattle.template_machine.specs.Environment.{TemplateValue, coded_TemplateValue};
+    ghost use Rattle.std.specs.Coded.{codes};
+    ghost use Rattle.tm_tables.specs.Templates.{coded_Sts};
+    ghost use Rattle.template_machine.specs.Environment.{TemplateValue};
 
     ghost Value = { TemplateValue };
 
-    ghost coded = { coded_TemplateValue };
+    ghost coded = { Prim.hlevel (codes, coded_Sts) };
 
     ghost view = { λ t. record { environment = t.environment.now; template = t.compiled.now } };
 }
@@ -40,7 +38,10 @@ impl<'env, 'source> Template<'env, 'source> {
         environment: &'env Environment<'source>,
         compiled: &'env CompiledTemplate<'source>,
     ) -> Template<'env, 'source>
-        ensures { result ≡ record { environment = environment.entry.now; template = compiled.entry.now } }
+        ensures { result ≡ record {
+          environment = environment.entry.now;
+          template = compiled.entry.now;
+        } }
     {
         Template {
             environment,
@@ -62,70 +63,56 @@ impl<'env, 'source> Template<'env, 'source> {
         self.compiled.source()
     }
 
-    /// Renders the template over a context value, as the next state of the counter, and gives the text. InvalidOperation, and nothing runs, where the counter is full.
+    /// Renders the template over a context value, as the next state of the counter, and gives the text. InvalidOperation, and nothing runs, where the counter is full; OutOfMemory where there is no memory; else the fault that was meant.
     pub fn render(&self, ids: &mut StateIds, context: Value) -> Result<String, Error>
-        ensures full { ids.old ≡ greatest → (result ≡ Err (ErrorKind.InvalidOperation ∷ [])) × (ids.new ≡ ids.old) }
+        ensures full { ids.old ≡ greatest →
+            (result ≡ Err (ErrorKind.InvalidOperation ∷ [])) × (ids.new ≡ ids.old) }
         ensures next { ids.old < greatest → ids.new ≡ ids.old + 1 }
-        ensures text { ids.old < greatest → FoundMemory result → IsText result (meaning self.now ids.old context) }
-        ensures sound { result ≢ Err (ErrorKind.BadStream ∷ []) }
+        ensures rendered { ids.old < greatest →
+            RenderedText (meaning self.now ids.old context) result }
     {
         let alloc = self.environment.allocator();
-        let mut state = match self.first_state(ids, context) {
-            Ok(state) => state,
-            Err(error) => return Err(error),
-        };
+        let state = self.first_state(ids, context)?;
         let mut captures = Captures::new(alloc);
         captures.begin(alloc)?;
-        if let Err(error) = self.run_over(&mut state, &mut captures, &mut NullWriter) {
-            return Err(error);
-        }
+        let (mut captures, _state) = self.run_over(state, captures, &mut NullWriter)?;
         match captures.end() {
             Some(text) => Ok(text),
             None => unreachable!(),
         }
     }
 
-    /// Renders the template over a context value, as the next state of the counter, into a writer. InvalidOperation, and nothing runs, where the counter is full; WriteFailure where the writer fails.
+    /// Renders the template over a context value, as the next state of the counter, into a writer. InvalidOperation, and nothing runs, where the counter is full; WriteFailure where the writer fails or takes nothing; OutOfMemory where there is no memory; else the fault that was meant.
     pub fn render_captured_to<W: Sink>(
         &self,
         ids: &mut StateIds,
         context: Value,
         writer: &mut W,
     ) -> Result<Captured<'env, 'source>, Error>
-        ensures full { ids.old ≡ greatest → (result ≡ Err (ErrorKind.InvalidOperation ∷ [])) × (ids.new ≡ ids.old)
-            × (W.told writer.new ≡ W.told writer.old) × (W.faults writer.new ≡ W.faults writer.old) }
+        ensures full { ids.old ≡ greatest →
+            (result ≡ Err (ErrorKind.InvalidOperation ∷ [])) × (ids.new ≡ ids.old)
+            × (W.told writer.new ≡ W.told writer.old)
+            × (W.faults writer.new ≡ W.faults writer.old) }
         ensures next { ids.old < greatest → ids.new ≡ ids.old + 1 }
-        ensures end { ids.old < greatest → IsOwn result
-            → Appends (W.told writer.old) (W.told writer.new) (text_of (meaning self.now ids.old context)) × IsEnd result (meaning self.now ids.old context) }
-        ensures failed { W.faults writer.new ≢ W.faults writer.old → result ≡ Err (ErrorKind.WriteFailure ∷ []) }
-        ensures raised { result ≡ Err (ErrorKind.WriteFailure ∷ []) → W.faults writer.new ≡ one_more (W.faults writer.old) }
-        ensures beginning { AppendsBeginning (W.told writer.old) (W.told writer.new) (text_of (meaning self.now ids.old context)) }
-        ensures sound { result ≢ Err (ErrorKind.BadStream ∷ []) }
+        ensures rendered { ids.old < greatest → Rendered (meaning self.now ids.old context) result
+            (W.told writer.old) (W.told writer.new) (W.faults writer.old) (W.faults writer.new) }
     {
-        let mut state = match self.first_state(ids, context) {
-            Ok(state) => state,
-            Err(error) => return Err(error),
-        };
+        let state = self.first_state(ids, context)?;
         let alloc = self.environment.allocator();
-        let mut captures = Captures::new(alloc);
-        match self.run_over(&mut state, &mut captures, writer) {
-            Ok(()) => Ok(Captured::new(String::new(alloc), State::new(self.environment, state))),
-            Err(error) => Err(error),
-        }
+        let (_captures, state) = self.run_over(state, Captures::new(alloc), writer)?;
+        Ok(Captured::new(String::new(alloc), State::new(self.environment, state)))
     }
 
     /// The state that a render starts from. InvalidOperation where the counter is full, OutOfMemory where there is no memory.
     fn first_state(&self, ids: &mut StateIds, context: Value) -> Result<StateData<'env>, Error>
-        ensures full { ids.old ≡ greatest → (result ≡ Err (ErrorKind.InvalidOperation ∷ [])) × (ids.new ≡ ids.old) }
+        ensures full { ids.old ≡ greatest →
+            (result ≡ Err (ErrorKind.InvalidOperation ∷ [])) × (ids.new ≡ ids.old) }
         ensures next { ids.old < greatest → ids.new ≡ ids.old + 1 }
-        ensures state { IfOk result (λ s. s ≡ first_world ids.old self.now.template.name self.now.environment.fuel context) }
+        ensures state { IfOk result (λ s. s ≡ first_world ids.old
+            self.now.template.name self.now.environment.fuel context) }
         ensures memory { ids.old < greatest → IfErr result (λ e. e ≡ ErrorKind.OutOfMemory ∷ []) }
-        ensures kind { IfErr result (λ e. (e ≡ ErrorKind.InvalidOperation ∷ []) ⊎ (e ≡ ErrorKind.OutOfMemory ∷ [])) }
     {
-        let id = match ids.next() {
-            Ok(id) => id,
-            Err(error) => return Err(error),
-        };
+        let id = ids.next()?;
         let environment = self.environment;
         StateData::new(
             environment.allocator(),
@@ -136,29 +123,22 @@ impl<'env, 'source> Template<'env, 'source> {
         )
     }
 
-    /// Runs the template's code over captures and a writer.
+    /// Runs the template's code over a state, captures and a writer, and gives the captures and the state that are left.
     fn run_over<W: Sink>(
         &self,
-        state: &mut StateData<'env>,
-        captures: &mut Captures,
+        state: StateData<'env>,
+        captures: Captures,
         writer: &mut W,
-    ) -> Result<(), Error>
-        ensures run { let m = rendered (host_of self.now.environment) self.now.template.tree state.old in
-            IsOwn result → Appends (W.told writer.old) (W.told writer.new) (put_out captures.old (text_of m))
-            × IsRun result state.new captures.old captures.new m }
-        ensures beginning { let m = rendered (host_of self.now.environment) self.now.template.tree state.old in
-            AppendsBeginning (W.told writer.old) (W.told writer.new) (put_out captures.old (text_of m)) }
-        ensures faults { W.faults writer.new ≡ faults_after result (W.faults writer.old) }
-        ensures sound { result ≢ Err (ErrorKind.BadStream ∷ []) }
+    ) -> Result<(Captures, StateData<'env>), Halt>
+        ensures { Ran
+            (rendered (host_of self.now.environment) self.now.template.tree state.entry)
+            result captures (W.told writer.old) (W.told writer.new)
+            (W.faults writer.old) (W.faults writer.new) }
     {
         let environment = self.environment;
-        run(
-            environment.allocator(),
-            environment,
-            self.compiled.instructions(),
-            state,
-            captures,
-            writer,
-        )
+        let alloc = environment.allocator();
+        let mut machine = Machine::new(alloc, self.compiled.instructions(), captures, state);
+        machine.run(alloc, environment, writer)?;
+        Ok(machine.into_parts())
     }
 }

@@ -1,10 +1,10 @@
 -- Ends of runs.
-use Rattle.std.proofs.Common.{◌≡◌, ℕ, List, [], ◌∷◌, ◌++◌, refl, sym, ◌∙◌, ap, subst, append_assoc}
+use Rattle.std.proofs.Common.{◌≡◌, ℕ, List, [], ◌++◌, sym, ◌∙◌, ap, subst, append_assoc}
 use Rattle.std.proofs.lemmas.List.{append-nil}
 use Rattle.tm_meaning.specs.World.{Host}
-use Rattle.tm_meaning.specs.Machine.{Config, Frame, End, Final, Back, back_to, Next, More, Over, Nest, output}
+use Rattle.tm_meaning.specs.Machine.{Config, Frame, Final, back_to, Next, More}
 use Rattle.tm_meaning.specs.Steps.{step}
-use Rattle.tm_meaning.specs.Runs.{Leads, over, more, nest, final}
+use Rattle.tm_meaning.specs.Runs.{Leads, over, more, nest}
 
 pub one_end : {host : Host} {f : Frame} {t : List ℕ} {n : Next} {o q : Final} → Leads host f t n o → Leads host f t n q → o ≡ q
 one_end (over {e = a} x y) (over {e = b} z u) = let s : a ≡ b = cc in cc

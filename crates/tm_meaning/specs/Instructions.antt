@@ -1,7 +1,7 @@
 -- What each instruction does that is paid for.
-use Rattle.std.specs.Prelude.{ℕ, ◌+◌, List, [], ◌∷◌}
+use Rattle.std.specs.Prelude.{ℕ, List, [], ◌∷◌}
 use Rattle.tm_meaning.specs.Texts.{put_in, put_out}
-use Rattle.tm_meaning.specs.World.{World, Host, lookup, emitted}
+use Rattle.tm_meaning.specs.World.{Host, lookup, emitted}
 use Rattle.tm_meaning.specs.Machine.{Config, Next, More, after, on_top, onward}
 
 -- EmitRaw writes its text.

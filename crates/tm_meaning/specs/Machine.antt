@@ -1,8 +1,7 @@
 -- The machine: where it stands, what a step gives, and how runs end.
-use Rattle.std.specs.Prelude.{ℕ, ◌+◌, List, [], ◌∷◌, length, Option, Some, None, Bool, true, false, nat_eq, ◌&&◌, if◌then◌else◌}
+use Rattle.std.specs.Prelude.{ℕ, ◌+◌, List, [], ◌∷◌, Option, Some, None}
 use Rattle.tm_values.specs.Val.{Val}
 use Rattle.tm_values.specs.declared.error.ErrorKind.{ErrorKind}
-use Rattle.tm_values.specs.declared.error.ErrorKind.TheVariants.{BadStream}
 use Rattle.tm_compiler.specs.Code.{Ins}
 use Rattle.tm_meaning.specs.World.{World, Res, Good, Bad}
 
@@ -22,10 +21,11 @@ pub record Config : Type 0 where
 pub record Frame : Type 0 where
   pub floor : ℕ
 
--- How a run ends.
+-- How a run ends: done, with the captures that are left; by a fault; or stuck, which only a stream does that no compiler wrote.
 pub data End : Type 0 where
   Finished : List (List ℕ) → World → End
   Failed : World → List ErrorKind → End
+  Stuck : World → End
 
 -- An end, and the text that the writer has got by then.
 pub record Final : Type 0 where
@@ -56,10 +56,11 @@ wrapped (Some kind) chain = kind ∷ chain
 abbrev pub back_to : Back → End → Next
 back_to back (Finished captures w) = More [] (record { run = back.run; captures = captures; world = w })
 back_to back (Failed w chain) = Over (Failed w (wrapped back.wrap chain))
+back_to back (Stuck w) = Over (Stuck w)
 
 -- a stream that can't go on
 abbrev pub stuck : World → Next
-stuck w = Over (Failed w (BadStream ∷ []))
+stuck w = Over (Stuck w)
 
 abbrev pub after : {A : Type 0} → Res A → (A → World → Next) → Next
 after (Good a w) f = f a w

@@ -1,9 +1,9 @@
 -- What trees mean. No stream, no place and no operand stands here.
-use Rattle.std.specs.Prelude.{ℕ, zero, suc, List, [], ◌∷◌, ◌++◌, Option, Bool, true, false, if◌then◌else◌}
+use Rattle.std.specs.Prelude.{ℕ, List, [], ◌++◌, Bool, true, if◌then◌else◌}
 use Rattle.tm_values.specs.Val.{Val}
 use Rattle.tm_values.specs.declared.error.ErrorKind.{ErrorKind}
 use Rattle.tm_compiler.specs.Tree.{Ex, name, St, raw, emit, Sts, no_sts, st}
-use Rattle.tm_meaning.specs.World.{World, Host, Res, Good, Bad, bind, tick, lookup, emitted, first_world}
+use Rattle.tm_meaning.specs.World.{World, Host, Res, Good, Bad, bind, tick, lookup, emitted}
 
 -- A run of a stream's tree: whether its text is heard.
 pub record Run : Type 0 where

@@ -1,9 +1,9 @@
 -- Worked renders, and what is said of each.
-use Rattle.std.specs.Prelude.{◌≡◌, ℕ, List, [], ◌∷◌, Option, None, codes}
-use Rattle.tm_values.specs.Val.{Val, undefined, text, map, no_pairs, pair}
+use Rattle.std.specs.Prelude.{◌≡◌, ℕ, List, [], Option, None, codes}
+use Rattle.tm_values.specs.Val.{Val, text, map, no_pairs, pair}
 use Rattle.tm_values.specs.declared.error.ErrorKind.{ErrorKind}
 use Rattle.tm_compiler.specs.Tree.{name, raw, emit, Sts, no_sts, st}
-use Rattle.tm_meaning.specs.World.{Host, World, first_world}
+use Rattle.tm_meaning.specs.World.{Host, first_world}
 use Rattle.tm_meaning.specs.Meaning.{Outcome, rendered, text_of, world_of, chain_of}
 
 -- an environment without globals

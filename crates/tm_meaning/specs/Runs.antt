@@ -1,5 +1,5 @@
 -- Whole runs.
-use Rattle.std.specs.Prelude.{◌≡◌, ℕ, List, [], ◌∷◌, ◌++◌}
+use Rattle.std.specs.Prelude.{◌≡◌, ℕ, List, [], ◌++◌}
 use Rattle.tm_compiler.specs.Code.{Ins}
 use Rattle.tm_meaning.specs.World.{World, Host}
 use Rattle.tm_meaning.specs.Machine.{Config, Frame, End, Final, Back, back_to, Next, More, Over, Nest}

@@ -1,13 +1,19 @@
 -- A step of the machine.
-use Rattle.std.specs.Prelude.{ℕ, List, [], ◌∷◌, length, Option, Some, None, slice_get, nat_eq, ◌&&◌, if◌then◌else◌}
+use Rattle.std.specs.Prelude.{ℕ, length, Option, Some, None, slice_get, nat_eq, ◌&&◌, if◌then◌else◌}
 use Rattle.tm_compiler.specs.Code.{Ins, EmitRaw, Lookup, Emit}
-use Rattle.tm_meaning.specs.World.{World, Host, Res, tick}
+use Rattle.tm_meaning.specs.World.{World, Host, Res, pays}
 use Rattle.tm_meaning.specs.Machine.{Config, Frame, Next, Over, Finished, after, stuck}
 use Rattle.tm_meaning.specs.Instructions.{emit_raw_of, lookup_of, emit_of}
 
--- what an instruction is charged, before its effect
+-- what an instruction is charged: 0 where it is free, which none is yet
+abbrev pub charge_of : Ins → ℕ
+charge_of (EmitRaw text) = 1
+charge_of (Lookup name) = 1
+charge_of Emit = 1
+
+-- an instruction is paid for before its effect
 abbrev pub pay : Ins → World → Res (Unit {0})
-pay i w = tick w
+pay i w = pays (charge_of i) w
 
 abbrev pub effect : Host → Ins → Config → Next
 effect host (EmitRaw text) c = emit_raw_of text c

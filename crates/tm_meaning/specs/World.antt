@@ -1,10 +1,10 @@
 -- What a state is to the meaning and to the machine, and what both do to it.
-use Rattle.std.specs.Prelude.{ℕ, ◌+◌, ◌-◌, ◌^◌, List, [], ◌∷◌, length, Option, Some, None, nat_lt, if◌then◌else◌}
+use Rattle.std.specs.Prelude.{◌≡◌, ◌≤◌, nat_eq, ℕ, ◌+◌, ◌-◌, ◌^◌, List, [], ◌∷◌, length, Option, Some, None, nat_lt, if◌then◌else◌}
 use Rattle.tm_values.specs.Val.{Val, undefined}
 use Rattle.tm_values.specs.Map.{attribute}
 use Rattle.tm_values.specs.Print.{printed}
 use Rattle.tm_values.specs.declared.error.ErrorKind.{ErrorKind}
-use Rattle.tm_values.specs.declared.error.ErrorKind.TheVariants.{InvalidOperation, OutOfFuel}
+use Rattle.tm_values.specs.declared.error.ErrorKind.TheVariants.{OutOfFuel}
 
 -- A scope: the value whose attributes are its names.
 pub record Scope : Type 0 where
@@ -38,12 +38,21 @@ abbrev pub bind : {A B : Type 0} → Res A → (A → World → Res B) → Res B
 bind (Good a w) f = f a w
 bind (Bad chain w) f = Bad chain w
 
--- One charge: with at most 1 left none is left and the fuel is out.
+-- The fuel that is left behind a charge: all of it where the charge is 0; and none, with the fuel out, where no more than the charge was left.
+abbrev pub charged : ℕ → ℕ → Option ℕ
+charged charge left = if nat_eq charge 0 then Some left else if nat_lt charge left then Some (left - charge) else None
+
+abbrev pub with_fuel : Option ℕ → World → Res (Unit {0})
+with_fuel (Some left) w = Good tt (record w { fuel = left })
+with_fuel None w = Bad (OutOfFuel ∷ []) (record w { fuel = 0 })
+
+-- A state pays a charge, or its fuel is out and none is left.
+abbrev pub pays : ℕ → World → Res (Unit {0})
+pays charge w = with_fuel (charged charge w.fuel) w
+
+-- A tick is a charge of 1.
 abbrev pub tick : World → Res (Unit {0})
-tick w =
-    if nat_lt 1 w.fuel
-    then Good tt (record w { fuel = w.fuel - 1 })
-    else Bad (OutOfFuel ∷ []) (record w { fuel = 0 })
+tick w = pays 1 w
 
 abbrev pub or_else : Option Val → Option Val → Option Val
 or_else (Some v) other = Some v
@@ -105,6 +114,15 @@ first_world id name fuel context = record {
   fuel_set = fuel;
   fuel = first_fuel fuel;
 }
+
+-- What a run keeps of its state whatever it answers: what was set at the start, the kept values, and how deep the scopes lie. Its fuel doesn't rise.
+pub record Kept (old new : World) : Type 0 where
+  pub same_id : new.id ≡ old.id
+  pub same_name : new.name ≡ old.name
+  pub same_fuel_set : new.fuel_set ≡ old.fuel_set
+  pub same_temps : new.temps ≡ old.temps
+  pub same_depth : depth new.scopes ≡ depth old.scopes
+  pub no_more_fuel : new.fuel ≤ old.fuel
 
 abbrev pub levels_of : Option ℕ → ℕ → Option (ℕ × ℕ)
 levels_of None left = None

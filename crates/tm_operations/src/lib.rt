@@ -3,10 +3,20 @@
 
 mod arithmetic;
 mod comparisons;
+mod concatenation;
 mod condition;
+mod containment;
+mod members;
+mod slices;
+#[cfg(test)]
+mod tests;
 mod undefined;
 
 pub use arithmetic::{add, divide, floor_divide, multiply, negate, power, remainder, subtract};
 pub use comparisons::{Comparison, compare};
+pub use concatenation::concatenate;
 pub use condition::{is_true, truth};
+pub use containment::contains;
+pub use members::{LoopAttribute, attribute, check_settable, is_callable, item};
+pub use slices::slice;
 pub use undefined::check_defined;

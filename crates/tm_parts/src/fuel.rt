@@ -1,6 +1,9 @@
 //! Fuel: how many charges a run may take.
-ghost use Rattle.std.specs.Prelude.{◌≡◌, ◌+◌, ◌-◌, ◌<◌, ◌≤◌, [], ◌∷◌, OnOk, IfErr};
+ghost use Rattle.std.specs.Prelude.{◌≡◌, ◌+◌, ◌≤◌, [], ◌∷◌, Some, None, OnOk, IfErr};
 ghost use Rattle.tm_values.specs.declared.error.ErrorKind.TheVariants.{OutOfFuel};
+ghost use Rattle.tm_compiler.specs.Code.{ins_of};
+ghost use Rattle.tm_meaning.specs.World.{charged};
+ghost use Rattle.tm_meaning.specs.Steps.{charge_of};
 
 use std::marker::Model;
 use tm_compiler::Instruction;
@@ -24,9 +27,9 @@ impl Model for FuelTracker {
     ghost invariant = { λ tracker. tracker.remaining ≤ tracker.initial };
 }
 
-/// What a run of this instruction is charged.
-fn charge_of(instruction: &Instruction) -> u64
-    ensures { result ≡ 1 }
+/// What an instruction is charged.
+fn charge(instruction: &Instruction) -> u64
+    ensures { result ≡ charge_of (ins_of instruction.now) }
 {
     match instruction {
         Instruction::EmitRaw(_) | Instruction::Lookup(_) | Instruction::Emit => 1,
@@ -44,14 +47,19 @@ impl FuelTracker {
         }
     }
 
-    /// Charges an instruction; OutOfFuel, with nothing left, where no more than its charge was left.
+    /// Charges an instruction; a free one takes nothing. OutOfFuel, with nothing left, where no more than the charge was left.
     pub fn track(&mut self, instruction: &Instruction) -> Result<(), Error>
         ensures ok { OnOk result
-            ((1 < self.old.left) × (self.new ≡ record self.old { left = self.old.left - 1 })) }
-        ensures err { IfErr result (λ e. (e ≡ OutOfFuel ∷ [])
-            × (self.old.left ≤ 1) × (self.new ≡ record self.old { left = 0 })) }
+            (charged (charge_of (ins_of instruction.now)) self.old.left ≡ Some self.new.left) }
+        ensures err { IfErr result (λ e. (e ≡ OutOfFuel ∷ []) × (self.new.left ≡ 0)
+            × (charged (charge_of (ins_of instruction.now)) self.old.left ≡ None)) }
+        ensures set { self.new.set ≡ self.old.set }
+        ensures falls { self.new.left ≤ self.old.left }
     {
-        let charge = charge_of(instruction);
+        let charge = charge(instruction);
+        if charge == 0 {
+            return Ok(());
+        }
         if self.remaining <= charge {
             self.remaining = 0;
             return Err(Error::from(ErrorKind::OutOfFuel));

@@ -5,7 +5,9 @@ ghost use Rattle.std.specs.Io.KnownBytes.{Keeps, WriteAppends, Appends};
 ghost use Rattle.tm_values.specs.declared.error.ErrorKind.TheVariants.{WriteFailure, OutOfMemory};
 ghost use Rattle.tm_meaning.specs.Texts.{put_in, put_out};
 ghost use Rattle.tm_parts.specs.Counts.{fault_count, one_more, AppendsBeginning};
+ghost use Rattle.tm_parts.specs.Halts.{faults_after, PutHalts};
 
+use crate::halt::Halt;
 use std::alloc::Global;
 use std::io::{self, Write};
 use std::marker::Model;
@@ -181,27 +183,23 @@ impl Captures {
         self.texts.pop()
     }
 
-    /// Puts a text into the innermost capture, and writes it where none is open; WriteFailure where the writer fails or takes nothing, OutOfMemory where a capture finds no memory.
-    pub fn write_str<W: Sink>(&mut self, writer: &mut W, text: &str) -> Result<(), Error>
+    /// Puts a text into the innermost capture, and writes it where none is open. `Writer` where the writer fails or takes nothing, OutOfMemory where a capture finds no memory; then the captures stay as they were.
+    pub fn write_str<W: Sink>(&mut self, writer: &mut W, text: &str) -> Result<(), Halt>
         ensures captured { OnOk result (self.new ≡ put_in self.old text.now) }
         ensures written { OnOk result (Appends (W.told writer.old) (W.told writer.new)
             (put_out self.old text.now)) }
-        ensures no_fault { OnOk result (W.faults writer.new ≡ W.faults writer.old) }
         ensures beginning { AppendsBeginning (W.told writer.old) (W.told writer.new)
             (put_out self.old text.now) }
-        ensures kind { IfErr result (λ e. (e ≡ WriteFailure ∷ []) ⊎ (e ≡ OutOfMemory ∷ [])) }
+        ensures halts { IfErr result (λ halt.
+            PutHalts halt self.old (W.told writer.old) (W.told writer.new)) }
+        ensures faults { W.faults writer.new ≡ faults_after result (W.faults writer.old) }
         ensures unchanged { OnErr result (self.new ≡ self.old) }
-        ensures failed { result ≡ Err (WriteFailure ∷ []) →
-            (self.old ≡ []) × (W.faults writer.new ≡ one_more (W.faults writer.old)) }
-        ensures memory { result ≡ Err (OutOfMemory ∷ []) → (self.old ≢ [])
-            × (W.told writer.new ≡ W.told writer.old)
-            × (W.faults writer.new ≡ W.faults writer.old) }
         ensures empty { text.now ≡ [] → IsOk result }
     {
         let Some(mut innermost) = self.texts.pop() else {
             return match write_text(writer, text.as_bytes()) {
                 Ok(()) => Ok(()),
-                Err(_error) => Err(Error::from(ErrorKind::WriteFailure)),
+                Err(_error) => Err(Halt::Writer),
             };
         };
         let appended = innermost.push_str(text);
@@ -209,7 +207,7 @@ impl Captures {
         self.texts.push_reserved(innermost);
         match appended {
             Ok(()) => Ok(()),
-            Err(_lost) => Err(Error::from(ErrorKind::OutOfMemory)),
+            Err(_lost) => Err(Halt::Fault(Error::from(ErrorKind::OutOfMemory))),
         }
     }
 }
@@ -257,7 +255,7 @@ impl<W: Sink> Output<W> {
             × (W.faults self.new.writer ≡ W.faults self.old.writer) }
         ensures empty { text.now ≡ [] → IsOk result }
     {
-        self.captures.write_str(&mut self.writer, text)
+        Ok(self.captures.write_str(&mut self.writer, text)?)
     }
 
     /// The writer.

@@ -216,10 +216,10 @@ fn a_capture_takes_the_text(rt: HostRuntime) -> Result<(), Fail> {
     let mut captures = Captures::new(alloc);
     assert_eq!(rt; captures.depth(), 0);
     captures.begin(alloc)?;
-    captures.write_str(&mut sink, "a")?;
+    captures.write_str(&mut sink, "a").map_err(Error::from)?;
     captures.begin(alloc)?;
-    captures.write_str(&mut sink, "b")?;
-    captures.write_str(&mut sink, "cd")?;
+    captures.write_str(&mut sink, "b").map_err(Error::from)?;
+    captures.write_str(&mut sink, "cd").map_err(Error::from)?;
     assert_eq!(rt; captures.depth(), 2);
     assert_eq!(rt; captures.end().ok_or("inner")?.as_str(), "bcd");
     assert_eq!(rt; captures.end().ok_or("outer")?.as_str(), "a");

@@ -1,12 +1,12 @@
 -- The laws of the places that a slice takes.
-use Rattle.std.proofs.Common.{◌≡◌, ◌≢◌, ◌<◌, ◌≤◌, ◌+◌, ◌*◌, ◌<ℤ◌, ◌≤ℤ◌, ◌+ℤ◌, ◌-ℤ◌, ◌*ℤ◌, ℕ, ℤ, pos, negsuc, neg_ℤ, Option, List, [], ◌∷◌, length, get_or, inl, inr, refl, sym, ap, ◌∙◌, arith, zero, suc, unsigned_abs}
+use Rattle.std.proofs.Common.{◌≡◌, ◌≢◌, ◌<◌, ◌≤◌, ◌+◌, ◌*◌, ◌<ℤ◌, ◌≤ℤ◌, ◌+ℤ◌, ◌-ℤ◌, ◌*ℤ◌, ℕ, ℤ, pos, negsuc, neg_ℤ, Option, List, length, get_or, inl, inr, refl, sym, ap, ◌∙◌, arith, zero, suc, unsigned_abs}
 use Rattle.std.proofs.lemmas.Int.{ints}
 use Rattle.std.proofs.lemmas.Grind.{div_ceil_times}
 use Rattle.std.proofs.lemmas.Nat.{mul-le}
 use Rattle.std.proofs.Math.Nat.{suc-mul}
 use Rattle.std.proofs.Math.IntN.{pos-*ℤ-pos, pos-*ℤ-negsuc}
 use Rattle.std.specs.List.{All}
-use Rattle.std.specs.Int.{div_ceil, is_negative}
+use Rattle.std.specs.Int.{div_ceil}
 use Rattle.tm_primitives.proofs.Steps.{length-places_from, slice_within, abs_is, distance_is, count_up, not_negative}
 use Rattle.tm_primitives.specs.Places.{places_from, places_of, Within, start_of, stop_of, distance, count_before, IsBefore, step_to, AreSpaced, AreBefore, IsDone, GoTheWay}
 
@@ -112,7 +112,7 @@ falling x a j k p q h ep eq =
     let same : suc j * suc a ≡ j * suc a + suc a = suc-mul j (suc a) in
     omega (arith, ints, le, same, ep, eq, down_to x a j, down_to x a k)
 
-go_the_way : (z x : ℤ) (ps : List ℕ) → z ≢ pos 0 → AreSpaced x z ps → GoTheWay z ps
+go_the_way : (z x : ℤ) (ps : List ℕ) → z ≢ pos 0 → ((k d : ℕ) → k < length ps → pos (get_or ps k d) ≡ step_to x z k) → GoTheWay z ps
 go_the_way (pos zero) x ps h s = absurd (h refl)
 go_the_way (pos (suc a)) x ps h s = λ j k d l m. rising x a j k (get_or ps j d) (get_or ps k d) l (s j d (omega (arith, l, m))) (s k d m)
 go_the_way (negsuc a) x ps h s = λ j k d l m. falling x a j k (get_or ps j d) (get_or ps k d) l (s j d (omega (arith, l, m))) (s k d m)
@@ -122,15 +122,20 @@ go_the_way (negsuc a) x ps h s = λ j k d l m. falling x a j k (get_or ps j d) (
 pub within : (n : ℕ) (start stop : Option ℤ) (z : ℤ) → z ≢ pos 0 → All (λ p. p < n) (places_of n start stop z)
 within n start stop z h k d l = all_within n (start_of n z start) z (count_before z (start_of n z start) (stop_of n z stop)) k d (slice_within n start stop z h) (rw length-places_from at l)
 
-pub spaced : (n : ℕ) (start stop : Option ℤ) (z : ℤ) → z ≢ pos 0 → AreSpaced (start_of n z start) z (places_of n start stop z)
+pub spaced : (n : ℕ) (start stop : Option ℤ) (z : ℤ) → z ≢ pos 0 → AreSpaced n start z (places_of n start stop z)
 spaced n start stop z h k d l =
     at_step n (start_of n z start) z (count_before z (start_of n z start) (stop_of n z stop)) k d (slice_within n start stop z h) (rw length-places_from at l)
 
-pub before : (n : ℕ) (start stop : Option ℤ) (z : ℤ) → z ≢ pos 0 → AreBefore z (stop_of n z stop) (places_of n start stop z)
+pub before : (n : ℕ) (start stop : Option ℤ) (z : ℤ) → z ≢ pos 0 → AreBefore n stop z (places_of n start stop z)
 before n start stop z h k d l = rw (spaced n start stop z h k d l) (before_at z (start_of n z start) (stop_of n z stop) k h (rw length-places_from at l))
 
-pub done : (n : ℕ) (start stop : Option ℤ) (z : ℤ) → z ≢ pos 0 → IsDone z (start_of n z start) (stop_of n z stop) (places_of n start stop z)
+pub done : (n : ℕ) (start stop : Option ℤ) (z : ℤ) → z ≢ pos 0 → IsDone n start stop z (places_of n start stop z)
 done n start stop z h l = past_at z (start_of n z start) (stop_of n z stop) h (rw length-places_from at l)
 
 pub strict : (n : ℕ) (start stop : Option ℤ) (z : ℤ) → z ≢ pos 0 → GoTheWay z (places_of n start stop z)
 strict n start stop z h = go_the_way z (start_of n z start) (places_of n start stop z) h (spaced n start stop z h)
+
+-- the same of a start and a number that were computed
+pub below : (n : ℕ) (start stop : Option ℤ) (z x y : ℤ) (count : ℕ) → z ≢ pos 0 → x ≡ start_of n z start → y ≡ stop_of n z stop
+    → count ≡ count_before z x y → All (λ p. p < n) (places_from x z count)
+below n start stop z x y count h ex ey ec = rw (ec, ex, ey) (within n start stop z h)

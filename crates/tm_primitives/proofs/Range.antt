@@ -1,5 +1,5 @@
 -- Numbers in range: what std's checked methods say, and powers.
-use Rattle.std.proofs.Common.{◌≡◌, ◌<◌, ◌≤◌, ◌*◌, ℕ, ℤ, pos, negsuc, ◌^◌, ◌%◌, ◌==◌, Bool, true, false, cond, nat_lt, Option, Some, None, refl, sym, ap, ◌∙◌, arith, rules, zero, suc, neg_ℤ, lit<}
+use Rattle.std.proofs.Common.{◌≡◌, ◌<◌, ◌≤◌, ℕ, ℤ, pos, negsuc, ◌^◌, ◌%◌, ◌==◌, Bool, true, false, cond, Option, Some, None, refl, ap, arith, zero, suc, neg_ℤ, lit<}
 use Rattle.std.proofs.lemmas.Bool.Decides.{nat_tests}
 use Rattle.std.specs.Option.{SomeIff}
 use Rattle.std.specs.Int.RustNames.{FitsSigned}

@@ -1,11 +1,12 @@
 -- Numbers by steps: that those before the stop are places, and where they stand.
-use Rattle.std.proofs.Common.{◌≡◌, ◌≢◌, ◌<◌, ◌≤◌, ◌+◌, ◌*◌, ◌<ℤ◌, ◌≤ℤ◌, ◌+ℤ◌, ◌-ℤ◌, ◌*ℤ◌, ℕ, ℤ, pos, negsuc, neg_ℤ, int_lt, ◌⊎◌, ◌^◌, Bool, true, false, cond, Option, Some, None, List, [], ◌∷◌, length, get_or, inl, inr, refl, sym, ap, ◌∙◌, arith, zero, suc, unsigned_abs}
-use Rattle.std.proofs.lemmas.Int.{ints, by_lt_z}
+use Rattle.std.proofs.Common.{◌≡◌, ◌≢◌, ◌<◌, ◌≤◌, ◌+◌, ◌*◌, ◌<ℤ◌, ◌≤ℤ◌, ◌+ℤ◌, ◌-ℤ◌, ℕ, ℤ, pos, negsuc, neg_ℤ, int_lt, ◌⊎◌, ◌^◌, Bool, true, false, cond, Option, Some, None, List, ◌∷◌, length, get_or, inl, inr, refl, ap, ◌∙◌, arith, zero, suc, unsigned_abs}
+use Rattle.std.proofs.lemmas.Int.{ints}
 use Rattle.std.proofs.lemmas.Grind.{div_ceil_times}
 use Rattle.std.proofs.Math.Nat.{suc-mul}
+use Rattle.std.specs.List.{range_with_len}
 use Rattle.std.specs.Int.RustNames.{FitsSigned}
 use Rattle.std.specs.Int.{w128, div_ceil, is_negative}
-use Rattle.tm_primitives.specs.Places.{places_from, Within, lowest, highest, cut, bound_of, start_of, stop_of, distance, count_before, from_start}
+use Rattle.tm_primitives.specs.Places.{places_from, Within, cut, start_of, stop_of, distance, count_before, from_start}
 
 pub length-places_from : (x z : ℤ) (m : ℕ) → length (places_from x z m) ≡ m
 length-places_from x z zero = refl
@@ -133,3 +134,32 @@ bounds_near n start stop z h = near_if (is_negative z) refl
 pub slice_inside : (n : ℕ) (start stop : Option ℤ) (z x y : ℤ) (count : ℕ) → z ≢ pos 0 → n < 2 ^ 64
     → x ≡ start_of n z start → y ≡ stop_of n z stop → count ≡ count_before z x y → Within (2 ^ 64) x z count
 slice_inside n start stop z x y count h l ex ey ec = rw (ec, ex, ey) (within_more n (2 ^ 64) (start_of n z start) z (count_before z (start_of n z start) (stop_of n z stop)) (omega (arith, l)) (slice_within n start stop z h))
+
+-- places one by one
+pub run_is : (x : ℤ) (m : ℕ) → Within (2 ^ 64) x (pos 1) m → 0 < m → places_from x (pos 1) m ≡ range_with_len (unsigned_abs x) m
+run_is x m w h = by_ones x m (first_at_least x m w h)
+  where
+    first_at_least : (x : ℤ) (m : ℕ) → Within (2 ^ 64) x (pos 1) m → 0 < m → pos 0 ≤ℤ x
+    first_at_least x zero w h = absurd (omega arith)
+    first_at_least x (suc m) w h = w.0
+
+    after : (x : ℤ) → pos 0 ≤ℤ x → unsigned_abs (x +ℤ pos 1) ≡ unsigned_abs x + 1
+    after (pos n) h = refl
+    after (negsuc n) h = absurd (omega (arith, ints, h))
+
+    by_ones : (x : ℤ) (m : ℕ) → pos 0 ≤ℤ x → places_from x (pos 1) m ≡ range_with_len (unsigned_abs x) m
+    by_ones x zero h = refl
+    by_ones x (suc m) h = ap (λ (l : List ℕ). unsigned_abs x ∷ l) (by_ones (x +ℤ pos 1) m (omega (arith, ints, h)) ∙ ap (λ (a : ℕ). range_with_len a m) (after x h))
+
+-- places of which the second is not next to the first
+pub no_run : (x z : ℤ) (m : ℕ) → Within (2 ^ 64) x z m → m ≢ 0 → m ≢ 1 → z ≢ pos 1 → (p n : ℕ) → places_from x z m ≢ range_with_len p n
+no_run x z zero w h k l p n e = h refl
+no_run x z (suc zero) w h k l p n e = k refl
+no_run x z (suc (suc m)) w h k l p zero e = let lengths : suc (length (places_from (x +ℤ z) z (suc m))) ≡ 0 = ap length e in absurd (omega (arith, lengths))
+no_run x z (suc (suc m)) w h k l p (suc zero) e = let lengths : suc (suc (length (places_from (x +ℤ z +ℤ z) z m))) ≡ 1 = ap length e in absurd (omega (arith, lengths))
+no_run x z (suc (suc m)) w h k l p (suc (suc n)) e =
+    let first : unsigned_abs x ≡ p = ap (λ (ps : List ℕ). get_or ps 0 0) e in
+    let second : unsigned_abs (x +ℤ z) ≡ p + 1 = ap (λ (ps : List ℕ). get_or ps 1 0) e in
+    let here : pos (unsigned_abs x) ≡ x = abs_is x w.0 in
+    let there : pos (unsigned_abs (x +ℤ z)) ≡ x +ℤ z = abs_is (x +ℤ z) w.2.0 in
+    l (omega (arith, ints, first, second, here, there))

@@ -1,6 +1,6 @@
 -- Which places of a sequence an index and a slice take.
-use Rattle.std.specs.Prelude.{◌≡◌, ◌<◌, ◌+◌, ◌≤ℤ◌, ◌<ℤ◌, unsigned_abs, int_lt, ℕ, zero, suc, ℤ, pos, negsuc, ◌^◌, ◌+ℤ◌, ◌-ℤ◌, ◌*ℤ◌, Bool, cond, Option, Some, None, List, [], ◌∷◌, length, slice_index_or, ⊤}
-use Rattle.std.specs.List.{All, AllPairs}
+use Rattle.std.specs.Prelude.{◌≡◌, ◌≢◌, ◌<◌, ◌≤ℤ◌, ◌<ℤ◌, unsigned_abs, int_lt, ℕ, zero, suc, ℤ, pos, negsuc, ◌+ℤ◌, ◌-ℤ◌, ◌*ℤ◌, cond, Option, Some, None, List, [], ◌∷◌, length, slice_index_or, ⊤}
+use Rattle.std.specs.List.{All, AllPairs, range_with_len}
 use Rattle.std.specs.Int.{is_negative, div_ceil}
 
 -- an index counted from the start; a negative one counts from the end
@@ -56,6 +56,10 @@ abbrev pub Within : ℕ → ℤ → ℤ → ℕ → Type 0
 Within n x z zero = ⊤
 Within n x z (suc m) = (pos 0 ≤ℤ x) × (x <ℤ pos n) × Within n (x +ℤ z) z m
 
+-- the places are not such that each is the next one after the one before
+abbrev pub IsNoRun : List ℕ → Type 0
+IsNoRun ps = (p n : ℕ) → ps ≢ range_with_len p n
+
 -- ---- the laws
 
 -- x stands before y, going by steps of z
@@ -67,17 +71,17 @@ IsBefore (negsuc z) x y = y <ℤ x
 abbrev pub step_to : ℤ → ℤ → ℕ → ℤ
 step_to x z k = x +ℤ pos k *ℤ z
 
--- the k-th of the places is x + k * z
-abbrev pub AreSpaced : ℤ → ℤ → List ℕ → Type 0
-AreSpaced x z ps = (k d : ℕ) → k < length ps → pos (slice_index_or ps k d) ≡ step_to x z k
+-- the k-th of the places is the slice's start + k * z
+abbrev pub AreSpaced : ℕ → Option ℤ → ℤ → List ℕ → Type 0
+AreSpaced n start z ps = (k d : ℕ) → k < length ps → pos (slice_index_or ps k d) ≡ step_to (start_of n z start) z k
 
--- the places stand before y
-abbrev pub AreBefore : ℤ → ℤ → List ℕ → Type 0
-AreBefore z y ps = All (λ p. IsBefore z (pos p) y) ps
+-- the places stand before the slice's stop
+abbrev pub AreBefore : ℕ → Option ℤ → ℤ → List ℕ → Type 0
+AreBefore n stop z ps = All (λ p. IsBefore z (pos p) (stop_of n z stop)) ps
 
 -- and one more step from the last of them would not
-abbrev pub IsDone : ℤ → ℤ → ℤ → List ℕ → Type 0
-IsDone z x y ps = IsBefore z (step_to x z (length ps)) y → ⊥
+abbrev pub IsDone : ℕ → Option ℤ → Option ℤ → ℤ → List ℕ → Type 0
+IsDone n start stop z ps = IsBefore z (step_to (start_of n z start) z (length ps)) (stop_of n z stop) → ⊥
 
 -- strictly up or strictly down, by the step's sign: so none comes twice
 abbrev pub GoTheWay : ℤ → List ℕ → Type 0

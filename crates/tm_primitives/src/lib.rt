@@ -1,6 +1,7 @@
 //! Whole numbers, the places that slices take, and texts by their characters.
 #![tactic(auto)]
 
+pub mod characters;
 pub mod places;
 #[cfg(test)]
 mod tests;

@@ -1,14 +1,16 @@
 //! Which places of a sequence an index and a slice take.
-ghost use Rattle.std.specs.Prelude.{◌≡◌, ◌≢◌, ◌<◌, ◌<ℤ◌, ◌-ℤ◌, ◌∷◌, [], pos, unsigned_abs, length, MatchOption, ◌^◌, All};
+ghost use Rattle.std.specs.Prelude.{◌≡◌, ◌≢◌, ◌<◌, ◌<ℤ◌, ◌-ℤ◌, ◌∷◌, [], pos, unsigned_abs, length, IfSome, IfNone, ◌^◌, All};
+ghost use Rattle.std.specs.List.{range_with_len};
 ghost use Rattle.std.specs.Int.{div_ceil, is_negative};
-ghost use Rattle.tm_primitives.specs.Places.{from_start, place_of, lowest, highest, bound_of, start_of, stop_of, distance, count_before, places_of, AreSpaced, AreBefore, IsDone, GoTheWay};
+ghost use Rattle.tm_primitives.specs.Places.{from_start, place_of, lowest, highest, bound_of, start_of, stop_of, distance, count_before, places_of, IsNoRun, AreSpaced, AreBefore, IsDone, GoTheWay};
 
 use std::marker::Model;
 
 /// The place among `length` of an index, which counts from the end where it is negative; none where
 /// there is no such place.
 pub fn place(length: usize, index: i128) -> Option<usize>
-    ensures { result ≡ place_of length index }
+    ensures exact { result ≡ place_of length index }
+    ensures inside { IfSome result (λ place. place < length) }
 {
     let place = from_start(length, index);
     if place < 0 {
@@ -41,11 +43,13 @@ impl Model for Places {
 }
 
 impl Places {
-    /// The places that the slice `start:stop:step` takes of a sequence of `length`: from its start on,
-    /// by steps, those before its stop. A negative bound counts from the end; bounds past an end are cut.
+    /// The places that the slice `start:stop:step` takes of a sequence of `length`: from its start
+    /// on, by steps, those before its stop. A negative bound counts from the end, and one past an
+    /// end is cut. Where a bound is not given, the slice goes from end to end. The step is not 0.
     pub fn of(length: usize, start: Option<i128>, stop: Option<i128>, step: i128) -> Places
         requires nonzero { step ≢ pos 0 }
-        ensures { result ≡ places_of length start stop step }
+        ensures exact { result ≡ places_of length start stop step }
+        ensures inside { All (λ place. place < length) result }
     {
         let start = first_bound(length, step, start);
         let stop = last_bound(length, step, stop);
@@ -63,9 +67,24 @@ impl Places {
         self.left
     }
 
+    /// The first place and how many they are, where each is the next one after the one before; none
+    /// where they are not so.
+    pub fn run(&self) -> Option<(usize, usize)>
+        ensures some { IfSome result (λ run. self.now ≡ range_with_len run.0 run.1) }
+        ensures none { IfNone result (IsNoRun self.now) }
+    {
+        match self.left {
+            0 => Some((0, 0)),
+            1 => Some((self.next as usize, 1)),
+            left if self.step == 1 => Some((self.next as usize, left)),
+            _ => None,
+        }
+    }
+
     /// Takes the next place; none where no place is left.
     pub fn next(&mut self) -> Option<usize>
-        ensures { MatchOption result ((self.old ≡ []) × (self.new ≡ [])) (λ p. self.old ≡ p ∷ self.new) }
+        ensures some { IfSome result (λ place. self.old ≡ place ∷ self.new) }
+        ensures none { IfNone result ((self.old ≡ []) × (self.new ≡ [])) }
     {
         if self.left == 0 {
             return None;
@@ -85,9 +104,9 @@ impl Places {
 pub fn slice_law(length: usize, start: Option<i128>, stop: Option<i128>, step: i128)
     requires nonzero { step ≢ pos 0 }
     ensures within { All (λ p. p < length) (places_of length start stop step) }
-    ensures spaced { AreSpaced (start_of length step start) step (places_of length start stop step) }
-    ensures before { AreBefore step (stop_of length step stop) (places_of length start stop step) }
-    ensures done { IsDone step (start_of length step start) (stop_of length step stop) (places_of length start stop step) }
+    ensures spaced { AreSpaced length start step (places_of length start stop step) }
+    ensures before { AreBefore length stop step (places_of length start stop step) }
+    ensures done { IsDone length start stop step (places_of length start stop step) }
     ensures strict { GoTheWay step (places_of length start stop step) }
 {}
 

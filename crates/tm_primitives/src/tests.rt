@@ -1,7 +1,7 @@
 ghost use Rattle.std.specs.Prelude.{◌≢◌, pos};
 
 use crate::places::{Places, place};
-use crate::whole;
+use crate::{characters, whole};
 use std::test::Fail;
 
 #[test]
@@ -67,5 +67,27 @@ fn slices(rt: HostRuntime) -> Result<(), Fail> {
     assert!(rt; takes(3, (Some(5), None), -2, &[2, 0]));
     assert!(rt; takes(3, (None, None), -1, &[2, 1, 0]));
     assert!(rt; takes(3, (Some(1), None), 36893488147419103232, &[1]));
+    Ok(())
+}
+
+#[test]
+fn texts(rt: HostRuntime) -> Result<(), Fail> {
+    let text = "größe";
+    assert_eq!(rt; characters::count(text), 5);
+    assert_eq!(rt; characters::character(text, 2), Some("ö"));
+    assert_eq!(rt; characters::character(text, 4), Some("e"));
+    assert_eq!(rt; characters::character("abc", 5), None);
+    assert_eq!(rt;
+        characters::slice(rt.alloc(), "abc", None, None, -1)?.as_str(),
+        "cba"
+    );
+    assert_eq!(rt;
+        characters::slice(rt.alloc(), text, None, None, -1)?.as_str(),
+        "eßörg"
+    );
+    assert_eq!(rt;
+        characters::slice(rt.alloc(), text, Some(1), Some(-1), 1)?.as_str(),
+        "röß"
+    );
     Ok(())
 }

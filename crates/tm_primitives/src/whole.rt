@@ -1,5 +1,5 @@
-//! Arithmetic on whole numbers of 128 bits with sign: the exact result, or none where it is out of range.
-//! Where both numbers fit 64 bits, products and quotients are made of such.
+//! Arithmetic on whole numbers of 128 bits with sign: the exact result, or none where it is out of
+//! range. Products and quotients of numbers that fit 64 bits are made of such, which is faster.
 #![tactic(auto, using(crate::proofs::Range::if_in_range_from_checked))]
 
 ghost use Rattle.std.specs.Prelude.{◌≡◌, ◌≤◌};
@@ -37,7 +37,8 @@ pub fn negate(a: i128) -> Option<i128>
     a.checked_neg()
 }
 
-/// `a // b`, rounded so that the remainder is not negative; none by zero, and for the least number by -1.
+/// `a // b`, rounded so that the remainder is not negative; none by zero, and for the least number
+/// by -1.
 pub fn divide(a: i128, b: i128) -> Option<i128>
     ensures { result ≡ quotient_of a b }
 {
@@ -45,7 +46,7 @@ pub fn divide(a: i128, b: i128) -> Option<i128>
         return None;
     }
     if b == -1 {
-        return a.checked_neg();
+        return negate(a);
     }
     match (i64::try_from(a), i64::try_from(b)) {
         (Ok(a), Ok(b)) => Some(a.div_euclid(b) as i128),

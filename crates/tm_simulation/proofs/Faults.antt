@@ -1,10 +1,9 @@
 -- How statements may end: so far, done or out of fuel.
-use Rattle.std.proofs.Common.{◌≡◌, ◌⊎◌, inl, inr, ℕ, ◌-◌, List, [], ◌∷◌, true, false, refl}
-use Rattle.std.specs.Prelude.{nat_lt, if◌then◌else◌}
+use Rattle.std.proofs.Common.{Some, None, ◌≡◌, ◌⊎◌, inl, inr, ℕ, List, [], ◌∷◌, refl}
 use Rattle.tm_values.specs.declared.error.ErrorKind.{ErrorKind}
 use Rattle.tm_values.specs.declared.error.ErrorKind.TheVariants.{OutOfFuel}
 use Rattle.tm_compiler.specs.Tree.{Ex, name, St, raw, emit, Sts, no_sts, st}
-use Rattle.tm_meaning.specs.World.{World, Host, Res, Good, Bad, bind, tick}
+use Rattle.tm_meaning.specs.World.{World, Host, Res, Good, Bad, bind, charged, with_fuel, tick}
 use Rattle.tm_meaning.specs.Meaning.{Run, Outcome, Done, Fault, Nests, use_it, then_do, ev, ex, exs, heard, nests_of, rendered, chain_of}
 
 abbrev pub IsFuel : List ErrorKind → Type 0
@@ -15,9 +14,7 @@ Fails (Good a w) = Unit {0}
 Fails (Bad chain w) = IsFuel chain
 
 tick_fails : (w : World) → Fails (tick w)
-tick_fails w =
-    elim (nat_lt 1 w.fuel) as (λ b. Fails (if b then Good tt (record w { fuel = w.fuel - 1 }) else Bad (OutOfFuel ∷ []) (record w { fuel = 0 })))
-    [ true ↦ tt | false ↦ inr refl ]
+tick_fails w = elim (charged 1 w.fuel) as (λ left. Fails (with_fuel left w)) [ Some left ↦ tt | None ↦ inr refl ]
 
 fails_bind : {A B : Type 0} (m : Res A) (f : A → World → Res B) → Fails m → ((a : A) (w : World) → Fails (f a w)) → Fails (bind m f)
 fails_bind (Good a w) f h k = k a w

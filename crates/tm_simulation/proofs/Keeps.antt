@@ -1,9 +1,7 @@
 -- What statements keep: of a world all but the fuel, and whether the run is heard.
-use Rattle.std.proofs.Common.{◌≡◌, ℕ, ◌-◌, List, [], ◌∷◌, true, false, refl, sym, ◌∙◌, ap, subst}
-use Rattle.std.specs.Prelude.{nat_lt, if◌then◌else◌}
-use Rattle.tm_values.specs.declared.error.ErrorKind.TheVariants.{OutOfFuel}
+use Rattle.std.proofs.Common.{Some, None, ◌≡◌, ℕ, List, [], refl, sym, ◌∙◌, ap, subst}
 use Rattle.tm_compiler.specs.Tree.{Ex, name, St, raw, emit, Sts, no_sts, st}
-use Rattle.tm_meaning.specs.World.{World, Host, Res, Good, Bad, bind, tick}
+use Rattle.tm_meaning.specs.World.{World, Host, Res, Good, Bad, bind, charged, with_fuel, tick}
 use Rattle.tm_meaning.specs.Meaning.{Run, Outcome, Done, Fault, Nests, use_it, then_do, ev, ex, exs, heard, nests_of, rendered, world_of}
 
 -- all but the fuel is as it was
@@ -22,9 +20,7 @@ Ends run w (Done run1 out w') = (run1 ≡ run) × Keeps w w'
 Ends run w (Fault out w' chain) = Keeps w w'
 
 tick_gives : (w : World) → Gives w (tick w)
-tick_gives w =
-    elim (nat_lt 1 w.fuel) as (λ b. Gives w (if b then Good tt (record w { fuel = w.fuel - 1 }) else Bad (OutOfFuel ∷ []) (record w { fuel = 0 })))
-    [ true ↦ refl | false ↦ refl ]
+tick_gives w = elim (charged 1 w.fuel) as (λ left. Gives w (with_fuel left w)) [ Some left ↦ refl | None ↦ refl ]
 
 gives_bind : {A B : Type 0} (w : World) (m : Res A) (f : A → World → Res B) → Gives w m → ((a : A) (w' : World) → Gives w' (f a w')) → Gives w (bind m f)
 gives_bind w (Good a w') f h k = gives_then w w' (f a w') h (k a w')

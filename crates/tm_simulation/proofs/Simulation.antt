@@ -9,10 +9,11 @@ use Rattle.tm_compiler.specs.Tree.{Ex, name, St, raw, emit, Sts, no_sts, st}
 use Rattle.tm_compiler.specs.Code.{Ins, EmitRaw, Lookup, Emit, ex_code, ex_size, size, sizes, code, codes}
 use Rattle.tm_meaning.specs.Texts.{put_in, put_out}
 use Rattle.tm_meaning.specs.World.{World, Host, tick}
-use Rattle.tm_meaning.specs.Machine.{Config, Frame, Final, Finished, Over, stuck}
+use Rattle.tm_meaning.specs.Machine.{Config, Frame, Final, Finished, Failed, Stuck, Over, stuck}
 use Rattle.tm_meaning.specs.Steps.{act}
 use Rattle.tm_meaning.specs.Meaning.{Run, Outcome, Done, Fault, Nests, say, ev, ex, exs, heard}
-use Rattle.tm_meaning.specs.Runs.{Reaches, over, start}
+use Rattle.tm_meaning.specs.Runs.{Reaches, over, start, final}
+use Rattle.tm_meaning.proofs.Ends.{one_end}
 use Rattle.tm_simulation.specs.Reached.{final_of}
 use Rattle.tm_simulation.proofs.Place.{HasAt, has_front, has_back, has_whole, ex_length, length-code, length-codes}
 use Rattle.tm_simulation.proofs.Follow.{Go, Follows, Ends, bind_then, use_then, at, lands_after, lands_more, lands_put, do_kept, ends_as, put_in-nil, put_out-nil, length-put_in}
@@ -90,3 +91,13 @@ reaches_meaning host nests ss captures text w =
     exs_runs host nests f (codes 0 ss) captures text o ss heard 0 [] [] w refl (has_whole (codes 0 ss)) (at_end host ss captures text m) in
     subst (λ t. Reaches host f t (start (codes 0 ss) captures w) o) (ap (λ t. text ++ t) (put_out-nil captures) ∙ append-nil text)
     (subst (λ cs. Reaches host f (text ++ put_out captures []) (start (codes 0 ss) cs w) o) (put_in-nil captures) go)
+
+-- what statements mean is no end of a stream that can't go on
+meant_goes_on : (captures : List (List ℕ)) (text got : List ℕ) (left : World) (m : Outcome) → final_of captures text m ≡ final got (Stuck left) → ⊥
+meant_goes_on captures text got left (Done run out w) e = let ends : Finished (put_in captures out) w ≡ Stuck left = ap (λ (o : Final). o.end) e in absurd (cc)
+meant_goes_on captures text got left (Fault out w chain) e = let ends : Failed w chain ≡ Stuck left = ap (λ (o : Final). o.end) e in absurd (cc)
+
+pub never_stuck : (host : Host) (nests : Nests) (ss : Sts) (captures : List (List ℕ)) (text got : List ℕ) (w left : World) →
+    Reaches host (record { floor = length captures }) text (start (codes 0 ss) captures w) (final got (Stuck left)) → ⊥
+never_stuck host nests ss captures text got w left reached =
+    meant_goes_on captures text got left (exs host nests ss heard [] w) (one_end (reaches_meaning host nests ss captures text w) reached)

@@ -1,5 +1,5 @@
 -- Maps by name, whose keys lie in memory, against the entries that contracts see.
-use Rattle.std.proofs.Common.{◌≡◌, ℕ, List, [], ◌∷◌, map, refl, sym, ◌∙◌, ap, Option, Some, None, MatchOption, Bor, cond}
+use Rattle.std.proofs.Common.{◌≡◌, ℕ, List, [], ◌∷◌, map, refl, sym, ap, Option, Some, None, MatchOption, Bor, cond}
 use Rattle.std.specs.Option.{option_copied}
 use Rattle.std.specs.Rc.{rc_str_bytes}
 use Rattle.std.specs.declared.rc.RcStr.{RcStr}
@@ -10,7 +10,7 @@ use Rattle.std.specs.Ordering.{nat_cmp, match_ordering}
 use Rattle.std.specs.Cmp.Lexicographic.{slice_cmp}
 use Rattle.std.specs.BTreeMap.{insert_entry, is_at}
 use Rattle.std.specs.Map.{lookup}
-use Rattle.tm_tables.specs.Templates.{Template, Entries, find_template}
+use Rattle.tm_tables.specs.Templates.{Template, find_template}
 use Rattle.tm_tables.specs.Names.{entries_of}
 
 abbrev Named : Type 0

@@ -1,4 +1,3 @@
 pub mod Scopes
-pub mod Coded
 pub mod Templates
 pub mod Names

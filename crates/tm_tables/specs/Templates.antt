@@ -5,12 +5,12 @@ use Rattle.std.specs.Ordering.{nat_cmp}
 use Rattle.std.specs.Cmp.Lexicographic.{slice_cmp}
 use Rattle.std.specs.BTreeMap.{insert_entry, is_at}
 use Rattle.std.specs.Map.{lookup}
-use Rattle.std.specs.Coded.{Coded, code_by, coded×, coded⊎, coded_ℕ, coded_list}
+use Rattle.std.specs.Coded.{Coded, code_by, coded⊎, coded_ℕ, coded_list}
 use Rattle.std.proofs.Common.{inl, inr, ap}
 use Rattle.tm_values.specs.declared.error.ErrorKind.{ErrorKind}
 use Rattle.tm_values.specs.declared.error.ErrorKind.TheVariants.{SyntaxError, OutOfMemory}
 use Rattle.tm_compiler.specs.Syntax.{Syntax}
-use Rattle.tm_compiler.specs.Tree.{Ex, name as variable, St, raw, emit, Sts, no_sts, st}
+use Rattle.tm_compiler.specs.Tree.{name as variable, raw, emit, Sts, no_sts, st}
 use Rattle.tm_compiler.specs.Spells.{Spells}
 
 -- A template: its name, its source, and the tree that the source spells.
@@ -41,11 +41,6 @@ joined-pieces (st (emit (variable x)) ss) = ap (st (emit (variable x))) (joined-
 abbrev pub coded_Sts : Coded Sts
 coded_Sts = code_by (List Piece) (coded_list (coded⊎ (coded_list coded_ℕ) (coded_list coded_ℕ))) pieces joined joined-pieces
 
-abbrev pub coded_Template : Coded Template
-coded_Template =
-    code_by (List ℕ × (List ℕ × Sts)) (coded× (coded_list coded_ℕ) (coded× (coded_list coded_ℕ) coded_Sts))
-    (λ t. (t.name, (t.source, t.tree))) (λ p. record { name = p.0; source = p.1.0; tree = p.1.1 }) (λ _. refl)
-
 -- the template that a source is under a name: its tree is the one that the source spells
 pub record IsTemplate (syntax : Syntax) (name source : List ℕ) (t : Template) : Type 0 where
   pub name_is : t.name ≡ name
@@ -68,6 +63,3 @@ put_template name t entries = insert_entry (slice_cmp nat_cmp) entries name t
 -- the template of a name
 abbrev pub find_template : List ℕ → Entries → Option Template
 find_template name entries = lookup (is_at (slice_cmp nat_cmp name)) entries
-
-abbrev pub coded_Entries : Coded Entries
-coded_Entries = coded_list (coded× (coded_list coded_ℕ) coded_Template)

@@ -47,11 +47,12 @@ impl<'source> Model for CompiledTemplate<'source> {
     ghost use Rattle.tm_compiler.specs.Tree.{tree_of};
     ghost use Rattle.tm_compiler.specs.Code.{codes};
     ghost use Rattle.tm_compiler.specs.Streams.{stream_of};
-    ghost use Rattle.tm_tables.specs.Templates.{Template, coded_Template};
+    ghost use Rattle.tm_tables.specs.Templates.{Template, coded_Sts};
+    ghost use Rattle.std.specs.Coded.{codes as coding};
 
     ghost Value = { Template };
 
-    ghost coded = { coded_Template };
+    ghost coded = { Prim.hlevel (coding, coded_Sts) };
 
     ghost view = { λ a. record { name = rc_str_bytes a.name; source = a.source.now; tree = tree_of a.tree } };
 

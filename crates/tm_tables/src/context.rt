@@ -16,11 +16,12 @@ pub struct Frame {
 
 impl Model for Frame {
     ghost use Rattle.tm_meaning.specs.World.{Scope};
-    ghost use Rattle.tm_tables.specs.Coded.{coded_Scope};
+    ghost use Rattle.std.specs.Coded.{codes};
+    ghost use Rattle.tm_values.specs.Code.{coded_Val};
 
     ghost Value = { Scope };
 
-    ghost coded = { coded_Scope };
+    ghost coded = { Prim.hlevel (codes, coded_Val) };
 
     ghost view = { λ f. record { context = f.context } };
 }
@@ -51,11 +52,12 @@ pub struct Context {
 impl Model for Context {
     ghost use Rattle.std.specs.Prelude.{reverse};
     ghost use Rattle.tm_meaning.specs.World.{Scopes};
-    ghost use Rattle.tm_tables.specs.Coded.{coded_Scopes};
+    ghost use Rattle.std.specs.Coded.{codes};
+    ghost use Rattle.tm_values.specs.Code.{coded_Val};
 
     ghost Value = { Scopes };
 
-    ghost coded = { coded_Scopes };
+    ghost coded = { Prim.hlevel (codes, coded_Val) };
 
     ghost view = { λ c. record { frames = reverse c.frames.items; outer_depth = c.outer_depth } };
 }

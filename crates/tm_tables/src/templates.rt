@@ -16,11 +16,12 @@ pub struct Templates<'source> {
 }
 
 impl<'source> Model for Templates<'source> {
-    ghost use Rattle.tm_tables.specs.Templates.{Entries, coded_Entries};
+    ghost use Rattle.tm_tables.specs.Templates.{Entries, coded_Sts};
+    ghost use Rattle.std.specs.Coded.{codes};
 
     ghost Value = { Entries };
 
-    ghost coded = { coded_Entries };
+    ghost coded = { Prim.hlevel (codes, coded_Sts) };
 
     ghost use Rattle.tm_tables.specs.Names.{entries_of};
 

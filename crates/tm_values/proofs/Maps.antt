@@ -1,6 +1,7 @@
 -- What a place in a map gives, and that `put` keeps the order.
-use Rattle.std.proofs.Common.{◌≡◌, ◌≤◌, ◌<◌, ℕ, zero, suc, List, [], ◌∷◌, length, get_or, set, Some, None, MatchResult, Result, Ok, Err, Ordering, Less, Equal, Greater, refl, sym, ap, ◌∙◌, arith}
+use Rattle.std.proofs.Common.{◌≡◌, ◌≤◌, ◌<◌, ◌-◌, ℕ, zero, suc, true, List, [], ◌∷◌, length, get_or, set, Some, None, MatchResult, Result, Ok, Err, Ordering, Less, Equal, Greater, refl, sym, ap, ◌∙◌, arith}
 use Rattle.std.proofs.lemmas.Cmp.{alike_right}
+use Rattle.std.specs.Bool.{◌==◌}
 use Rattle.std.specs.List.{insert}
 use Rattle.std.specs.List.Sorted.{IsSearchInRange, IsBinarySearchResult, IsNonDecreasingBy}
 use Rattle.std.specs.Ordering.{match_ordering, ordering_index, ordering_reverse}
@@ -10,10 +11,10 @@ use Rattle.tm_values.specs.Order.{val_cmp}
 use Rattle.tm_values.specs.Val.{Val}
 
 -- the other way round
-turned : (a b : Val) (o : Ordering) → val_cmp a b ≡ o → val_cmp b a ≡ ordering_reverse o
+pub turned : (a b : Val) (o : Ordering) → val_cmp a b ≡ o → val_cmp b a ≡ ordering_reverse o
 turned a b o e = val_cmp_total.antisymm b a ∙ ap ordering_reverse e
 
-above : (k l : Val) (ps : List (Val × Val)) → val_cmp k l ≡ Less → IsAbove l ps → IsAbove k ps
+pub above : (k l : Val) (ps : List (Val × Val)) → val_cmp k l ≡ Less → IsAbove l ps → IsAbove k ps
 above k l [] h a = tt
 above k l (p ∷ ps) h a = (val_cmp_total.trans k l p.0 h a.0, above k l ps h a.1)
 
@@ -128,3 +129,23 @@ kept-there k v ps i x m t e = rw (← put-read k v ps i x m t e) (map-put k v ps
 -- and where a pair is put into a gap
 pub kept-gap : (k v : Val) (ps : List (Val × Val)) (i : ℕ) → IsMap ps → IsGapFor k ps i → IsMap (insert ps i (k, v))
 kept-gap k v ps i m g = rw (← put-gap k v ps i g) (map-put k v ps m)
+
+below_last : (k : Val) (ps : List (Val × Val)) (i j : ℕ) (d x : Val × Val) → IsMap ps → j ≤ i → i < length ps → x ≡ get_or ps i d → val_cmp x.0 k ≡ Less → val_cmp (get_or ps j d).0 k ≡ Less
+below_last k [] i j d x m le h e low = absurd (omega arith)
+below_last k (p ∷ ps) zero zero d x m le h e low = rw (← e) low
+below_last k (p ∷ ps) zero (suc j) d x m le h e low = absurd (omega arith)
+below_last k (p ∷ ps) (suc i) zero d x m le h e low = val_cmp_total.trans p.0 x.0 k (rw e (above-at p.0 ps i d m.0 (omega arith))) low
+below_last k (p ∷ ps) (suc i) (suc j) d x m le h e low = below_last k ps i j d x m.1 (omega arith) (omega arith) e low
+
+pub less_by_index : (o : Ordering) → (ordering_index o == 0) ≡ true → o ≡ Less
+less_by_index Less h = refl
+less_by_index Equal h = cc
+less_by_index Greater h = cc
+
+-- a key above the last one has its gap at the end
+pub end-gap : (k : Val) (ps : List (Val × Val)) (x : Val × Val) → IsMap ps → ((d : Val × Val) → x ≡ get_or ps (length ps - 1) d) → val_cmp x.0 k ≡ Less → IsGapFor k ps (length ps)
+end-gap k ps x m e low = record {
+  in_range = omega arith;
+  lower_before = λ j d h. below_last k ps (length ps - 1) j d x m (omega arith) (omega arith) (e d) low;
+  higher_after = λ j d h l. absurd (omega arith);
+}

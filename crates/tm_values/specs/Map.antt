@@ -1,5 +1,5 @@
 -- Maps: pairs whose keys ascend.
-use Rattle.std.specs.Prelude.{◌≡◌, ℕ, ◌<◌, ◌≤◌, false, List, [], ◌∷◌, length, Option, None, Some, slice_index_or}
+use Rattle.std.specs.Prelude.{◌≡◌, ◌≢◌, ℕ, ◌<◌, ◌≤◌, false, List, [], ◌∷◌, length, Option, None, Some, slice_index_or}
 use Rattle.std.specs.Ordering.{match_ordering}
 use Rattle.std.specs.declared.cmp.Ordering.TheVariants.{Less, Equal, Greater}
 use Rattle.tm_values.specs.Order.{val_cmp}
@@ -10,10 +10,27 @@ abbrev pub put : Val → Val → List (Val × Val) → List (Val × Val)
 put k v [] = (k, v) ∷ []
 put k v (p ∷ ps) = match_ordering (val_cmp k p.0) ((k, v) ∷ p ∷ ps) ((p.0, v) ∷ ps) (p ∷ put k v ps)
 
+-- the pairs put into a map, one after the other
+abbrev pub put_each : List (Val × Val) → List (Val × Val) → List (Val × Val)
+put_each m [] = m
+put_each m (p ∷ ps) = put_each (put p.0 p.1 m) ps
+
+-- the map of the pairs: of equal keys the first spelling and the last value
+abbrev pub put_all : List (Val × Val) → List (Val × Val)
+put_all ps = put_each [] ps
+
 -- the value at the key
 abbrev pub find : Val → List (Val × Val) → Option Val
 find k [] = None
 find k (p ∷ ps) = match_ordering (val_cmp k p.0) None (Some p.1) (find k ps)
+
+-- what is put at a key is found there
+abbrev pub IsFoundWherePut : Type 0
+IsFoundWherePut = (k v : Val) (ps : List (Val × Val)) → find k (put k v ps) ≡ Some v
+
+-- and other keys keep their values
+abbrev pub KeepsOtherKeys : Type 0
+KeepsOtherKeys = (k v l : Val) (ps : List (Val × Val)) → val_cmp l k ≢ Equal → find l (put k v ps) ≡ find l ps
 
 -- the value that a map, a keyword map or a module has at a text; no other value has any
 abbrev pub member : List ℕ → Val → Option Val

@@ -1,13 +1,14 @@
 //! Maps: one that is being made, and what a value has at a name.
-ghost use Rattle.std.specs.Prelude.{◌≡◌, [], ◌∷◌, ◌==◌, None, Some, false, length, IfErr, MatchOption, MatchResult};
+ghost use Rattle.std.specs.Prelude.{◌≡◌, [], ◌∷◌, ◌==◌, None, Some, true, false, length, IfOk, IfErr, MatchOption, MatchResult};
 ghost use Rattle.std.specs.Rc.{rc_str_bytes};
-ghost use Rattle.tm_values.specs.Map.{put, find, member, IsMap, IsThere, IsGapFor};
+ghost use Rattle.tm_values.specs.Map.{put, put_all, find, member, IsMap, IsThere, IsGapFor, IsFoundWherePut, KeepsOtherKeys};
 ghost use Rattle.tm_values.specs.Order.{val_cmp};
-ghost use Rattle.tm_values.specs.Val.{Val, text, map, keywords, exports, pairs_of};
+ghost use Rattle.tm_values.specs.Val.{Val, text, map, keywords, exports, pairs_of, entries_in};
 
 use crate::error::{Error, ErrorKind};
 use crate::value::{Node, Value};
 use std::alloc::Global;
+use std::cmp::Ordering;
 use std::marker::Model;
 use std::rc::{Rc, RcStr};
 
@@ -44,6 +45,17 @@ impl ValueMap {
         }
     }
 
+    /// The map of these pairs, put in their order: of equal keys the first spelling and the last
+    /// value. Makes n log n comparisons for n pairs. Fails by OutOfMemory alone.
+    pub fn from_pairs(mut pairs: Vec<(Value, Value)>) -> Result<ValueMap, Error>
+        ensures { MatchResult result (λ m. m ≡ put_all pairs.items)
+            (λ e. e ≡ ErrorKind.OutOfMemory ∷ []) }
+    {
+        sort_pairs(&mut pairs)?;
+        let pairs = joined(pairs)?;
+        Ok(ValueMap { pairs })
+    }
+
     /// Puts the value at the key, in place of one that is there. Fails, by OutOfMemory, with the map unchanged.
     pub fn insert(&mut self, key: Value, value: Value) -> Result<(), Error>
         ensures outcome { MatchResult result (λ _. self.new ≡ put key value self.old) (λ e. e ≡ ErrorKind.OutOfMemory ∷ []) }
@@ -66,11 +78,29 @@ impl ValueMap {
         self.pairs.is_empty()
     }
 
+    /// The pairs, in the order of their keys.
+    pub fn pairs(&self) -> &[(Value, Value)]
+        ensures { result.now ≡ self.now }
+    {
+        self.pairs.as_slice()
+    }
+
     /// The value at the key, where it is there.
     pub fn get(&self, key: &Value) -> Option<&Value>
         ensures { MatchOption result (find key.now self.now ≡ None) (λ v. find key.now self.now ≡ Some v.now) }
     {
         match place(&self.pairs, key) {
+            Ok(at) => Some(&self.pairs[at].1),
+            Err(_) => None,
+        }
+    }
+
+    /// The value at the text, found without memory, where it is there.
+    pub fn member(&self, name: &str) -> Option<&Value>
+        ensures { MatchOption result (find (text name.now false) self.now ≡ None)
+            (λ v. find (text name.now false) self.now ≡ Some v.now) }
+    {
+        match place_of_text(&self.pairs, name) {
             Ok(at) => Some(&self.pairs[at].1),
             Err(_) => None,
         }
@@ -119,6 +149,18 @@ impl Value {
             Err(_) => None,
         }
     }
+
+    /// What a map, a keyword map or a module has at the key; nothing of other values.
+    pub fn at_key(&self, key: &Value) -> Option<&Value>
+        ensures { MatchOption result (find key.now (entries_in self.now) ≡ None)
+            (λ v. find key.now (entries_in self.now) ≡ Some v.now) }
+    {
+        let pairs = self.pairs();
+        match place(pairs, key) {
+            Ok(at) => Some(&pairs[at].1),
+            Err(_) => None,
+        }
+    }
 }
 
 // Puts the value at the key, and keeps the order.
@@ -137,6 +179,58 @@ fn put_pair(pairs: &mut Vec<(Value, Value)>, key: Value, value: Value) -> Result
             pairs.insert(at, (key, value))?;
             Ok(())
         }
+    }
+}
+
+// Sorts the pairs by their keys. Equal keys stay in their order, so that the same map comes of them.
+fn sort_pairs(pairs: &mut Vec<(Value, Value)>) -> Result<(), Error>
+    ensures same_map { put_all pairs.new.items ≡ put_all pairs.old.items }
+    ensures fails { IfErr result (λ e. e ≡ ErrorKind.OutOfMemory ∷ []) }
+{
+    pairs.sort_by(
+        |left, right|
+            ensures { result ≡ val_cmp left.now.0 right.now.0 }
+        { left.0.compare(&right.0) },
+    )?;
+    Ok(())
+}
+
+// The map of the pairs; soon where their keys ascend.
+fn joined(pairs: Vec<(Value, Value)>) -> Result<Vec<(Value, Value)>, Error>
+    ensures outcome { MatchResult result (λ joined. joined.items ≡ put_all pairs.items)
+        (λ e. e ≡ ErrorKind.OutOfMemory ∷ []) }
+    ensures ordered { IfOk result (λ joined. IsMap joined.items) }
+{
+    let mut joined = Vec::with_capacity(*pairs.allocator(), pairs.len())?;
+    for (key, value) in pairs {
+        append_pair(&mut joined, key, value)?;
+    }
+    Ok(joined)
+}
+
+// Puts the value at the key; at once where the key is above all others.
+fn append_pair(pairs: &mut Vec<(Value, Value)>, key: Value, value: Value) -> Result<(), Error>
+    requires { IsMap pairs.old.items }
+    ensures outcome { MatchResult result (λ _. pairs.new.items ≡ put key value pairs.old.items)
+        (λ e. e ≡ ErrorKind.OutOfMemory ∷ []) }
+    ensures ordered { IsMap pairs.new.items }
+{
+    if is_above_all(&key, pairs) {
+        pairs.push((key, value))?;
+        Ok(())
+    } else {
+        put_pair(pairs, key, value)
+    }
+}
+
+// Whether the key is above all those of the pairs.
+fn is_above_all(key: &Value, pairs: &[(Value, Value)]) -> bool
+    requires { IsMap pairs.now }
+    ensures { result ≡ true → IsGapFor key.now pairs.now (length pairs.now) }
+{
+    match pairs.last() {
+        Some(last) => last.0.compare(key) == Ordering::Less,
+        None => true,
     }
 }
 
@@ -163,3 +257,9 @@ fn place_of_text(pairs: &[(Value, Value)], name: &str) -> Result<usize, usize>
         { pair.0.compare_text(name) },
     )
 }
+
+/// What is put at a key is found there, and all other keys keep their values.
+pub fn put_law()
+    ensures found { IsFoundWherePut }
+    ensures kept { KeepsOtherKeys }
+{}

@@ -88,7 +88,7 @@ pub fn find_namespace<R: Records>(records: &R, state: u64, index: usize) -> Opti
     ensures { MatchOption result (namespace_at (R.records records.now) state index ≡ None)
         (λ m. namespace_at (R.records records.now) state index ≡ Some m.now) }
 {
-    if records.state() == state {
+    if state == records.state() {
         records.namespace(index)
     } else {
         None

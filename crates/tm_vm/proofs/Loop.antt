@@ -1,23 +1,34 @@
 -- Where the loop stands in a run, and what it answers there.
-use Rattle.std.proofs.Common.{◌≡◌, ◌≢◌, ℕ, ◌+◌, ◌<◌, ◌≤◌, List, [], ◌∷◌, ◌++◌, length, map, get_or, take, zero, suc, Option, Some, None, Bool, true, false, cond, Result, Ok, Err, refl, sym, ◌∙◌, ap, subst, arith, append_assoc, option_map, nat_eq}
-use Rattle.std.specs.Prelude.{slice_get, ◌&&◌, if◌then◌else◌}
+use Rattle.std.proofs.Common.{◌≡◌, ℕ, List, [], ◌++◌, take, zero, suc, Option, Result, Ok, refl, sym, ◌∙◌, ap, subst, append_assoc, arith}
 use Rattle.std.specs.Io.KnownBytes.{Appends}
-use Rattle.std.proofs.lemmas.Option.{slice_get-map, slice_get-get_or, slice_get_past}
-use Rattle.std.proofs.lemmas.Bool.{eq-eqb, ne_eqb}
-use Rattle.std.proofs.lemmas.List.{append-nil, length-map}
-use Rattle.tm_values.specs.Val.{Val}
-use Rattle.tm_values.specs.declared.error.ErrorKind.{ErrorKind}
-use Rattle.tm_values.specs.declared.error.ErrorKind.TheVariants.{BadStream}
-use Rattle.tm_compiler.specs.Code.{Ins, ins_of}
-use Rattle.tm_compiler.specs.declared.instruction.Instruction.{Instruction}
-use Rattle.tm_meaning.specs.World.{Host, World}
-use Rattle.tm_meaning.specs.Machine.{Config, Frame, Final, End, Finished, Failed, Next, More, Over, output, stuck}
-use Rattle.tm_meaning.specs.Steps.{act, step, finish}
-use Rattle.tm_meaning.specs.Runs.{Leads, Reaches, over, more, start, final}
+use Rattle.std.proofs.lemmas.List.{append-nil}
+use Rattle.tm_meaning.specs.World.{Host, World, Kept}
+use Rattle.tm_meaning.specs.Machine.{Config, Frame, Final, End, Finished, Failed, Stuck, Next, More, Over, output}
+use Rattle.tm_meaning.specs.Steps.{step}
+use Rattle.tm_meaning.specs.Runs.{Leads, Reaches, over, more}
 use Rattle.tm_meaning.proofs.Ends.{text_grows, more_only}
 use Rattle.tm_parts.specs.Counts.{AppendsBeginning}
 use Rattle.tm_parts.proofs.Pieces.{appends_then, appends_nothing, appends_beginning, appends_then_beginning_longer}
-use Rattle.tm_vm.specs.Answers.{Answer, Did, IsOwn, is_excused, end_of, config, frame}
+use Rattle.tm_parts.specs.declared.halt.Halt.{Halt}
+use Rattle.tm_parts.specs.declared.halt.Halt.TheVariants as halt
+use Rattle.tm_vm.specs.declared.machine.Flow.{Flow}
+use Rattle.tm_vm.specs.declared.machine.Flow.TheVariants as flow
+use Rattle.tm_vm.specs.Answers.{Did, HaltsAs, Comes, frame}
+
+pub kept_then : {a b c : World} → Kept a b → Kept b c → Kept a c
+kept_then h k = record {
+  same_id = k.same_id ∙ h.same_id;
+  same_name = k.same_name ∙ h.same_name;
+  same_fuel_set = k.same_fuel_set ∙ h.same_fuel_set;
+  same_temps = k.same_temps ∙ h.same_temps;
+  same_depth = k.same_depth ∙ h.same_depth;
+  no_more_fuel = omega (arith, h.no_more_fuel, k.no_more_fuel);
+}
+
+-- a step under the frame of the run
+pub at_floor : (h : Host) (old new : Config) (told now : Option (List ℕ)) (r : Result Flow Halt) (floor floor' : ℕ) → floor ≡ floor' →
+    Did r told now new (step h (record { floor = floor }) old) → Did r told now new (step h (record { floor = floor' }) old)
+at_floor h old new told now r floor floor' e did = subst (λ n. Did r told now new (step h (record { floor = n }) old)) e did
 
 -- The writer has got a text since the run began at a, and the machine has come from a to c.
 pub record Stands (h : Host) (f : Frame) (a : Config) (told now : Option (List ℕ)) (c : Config) : Type 0 where
@@ -29,24 +40,17 @@ pub record Stands (h : Host) (f : Frame) (a : Config) (told now : Option (List �
 pub stands_first : (h : Host) (f : Frame) (a : Config) (told : Option (List ℕ)) → Stands h f a told told a
 stands_first h f a told = record { text = []; appended = appends_nothing told; onward = λ o r. r; back = λ o r. r }
 
--- the step at a place of the stream
-pub step_at : (h : Host) (f : Frame) (stream : List Instruction) (place : ℕ) (i : Instruction) (operands : List Val) (captures : List (List ℕ)) (w : World) →
-    place < length stream → i ≡ get_or stream place i →
-    step h f (config (map ins_of stream) place operands captures w) ≡ act h f (Some (ins_of i)) (config (map ins_of stream) place operands captures w)
-step_at h f stream place i operands captures w lt e =
-    let there : slice_get (map ins_of stream) place ≡ Some (ins_of i) =
-    slice_get-map ins_of stream place ∙ ap (option_map ins_of) (slice_get-get_or stream place i lt ∙ ap Some (sym e)) in
-    ap (λ o. act h f o (config (map ins_of stream) place operands captures w)) there
-
--- one instruction more
-pub stands_next : {h : Host} {f : Frame} {a c d : Config} {told now new : Option (List ℕ)} {n : Next} → Stands h f a told now c →
-    step h f c ≡ n → (n ≡ More (output n) d) × Appends now new (output n) → Stands h f a told new d
-stands_next {told = told} {now = now} {new = new} {n = n} s e did = record {
-  text = s.text ++ output n;
-  appended = appends_then told now new s.text (output n) s.appended did.1;
-  onward = λ o r. s.onward o (more (e ∙ did.0) r);
-  back = λ o r. more_only (e ∙ did.0) (s.back o r);
-}
+-- one step more
+pub stands_next : {h : Host} {f : Frame} {a c : Config} {told now : Option (List ℕ)} (d : Config) (new : Option (List ℕ)) → Stands h f a told now c →
+    Did (Ok flow.GoOn) now new d (step h f c) → Stands h f a told new d
+stands_next {h = h} {f = f} {c = c} {told = told} {now = now} d new s did =
+    let t = output (step h f c) in
+    record {
+      text = s.text ++ t;
+      appended = appends_then told now new s.text t s.appended did.1;
+      onward = λ o r. s.onward o (more did.0 r);
+      back = λ o r. more_only did.0 (s.back o r);
+    }
 
 -- what the writer has got at an answer that stopped the loop is a beginning of what it gets at the end
 output_first : {h : Host} {f : Frame} {t : List ℕ} {n : Next} {o : Final} → Leads h f t n o → (rest : List ℕ) × (o.text ≡ t ++ (output n ++ rest))
@@ -55,13 +59,12 @@ output_first {h = h} {f = f} {t = t} {n = More d c} {o = o} l =
     let grown = text_grows (more_only refl l) in (grown.0, grown.1 ∙ append_assoc t d grown.0)
 output_first {h = h} {f = f} {t = t} {n = Rattle.tm_meaning.specs.Machine.Nest g c b} {o = o} l = text_grows l
 
-pub beginning_at : {h : Host} {f : Frame} {a c : Config} {told now : Option (List ℕ)} (new : Option (List ℕ)) {n : Next} → Stands h f a told now c →
-    step h f c ≡ n → AppendsBeginning now new (output n) → (o : Final) → Reaches h f [] a o → AppendsBeginning told new o.text
-beginning_at {h = h} {f = f} {told = told} {now = now} new {n = n} s e begun o r =
-    let l : Leads h f s.text n o = subst (λ m. Leads h f s.text m o) e (s.back o r) in
-    let first = output_first l in
+pub beginning_at : {h : Host} {f : Frame} {a c : Config} {told now : Option (List ℕ)} (new : Option (List ℕ)) → Stands h f a told now c →
+    AppendsBeginning now new (output (step h f c)) → (o : Final) → Reaches h f [] a o → AppendsBeginning told new o.text
+beginning_at {h = h} {f = f} {c = c} {told = told} {now = now} new s begun o r =
+    let first = output_first (s.back o r) in
     subst (λ t. AppendsBeginning told new t) (sym first.1)
-    (appends_then_beginning_longer told now new s.text (output n) first.0 s.appended begun)
+    (appends_then_beginning_longer told now new s.text (output (step h f c)) first.0 s.appended begun)
 
 take-nil : (n : ℕ) → take {A = ℕ} n [] ≡ []
 take-nil zero = refl
@@ -72,50 +75,28 @@ nothing_more : (a b c : Option (List ℕ)) (t : List ℕ) → Appends a b t → 
 nothing_more a b c t first begun =
     subst (λ w. Appends a c w) (append-nil t) (appends_then a b c t [] first (subst (λ w. Appends b c w) (take-nil begun.0) begun.1))
 
--- the end of a run that an instruction failed
-pub ended_at : {h : Host} {f : Frame} {a c : Config} {told now : Option (List ℕ)} (new : Option (List ℕ)) {n : Next} {chain : List ErrorKind} {w : World} → Stands h f a told now c →
-    step h f c ≡ n → (is_excused chain ≡ false → n ≡ Over (Failed w chain)) → AppendsBeginning now new (output n) → is_excused chain ≡ false →
-    (text : List ℕ) × Appends told new text × Reaches h f [] a (final text (Failed w chain))
-ended_at {told = told} {now = now} new {n = n} s e fails begun own =
-    let same : output n ≡ [] = ap output (fails own) in
-    (s.text, nothing_more told now new s.text s.appended (subst (λ t. AppendsBeginning now new t) same begun), s.onward _ (over (e ∙ fails own) refl))
+-- the end of a run that halted
+pub ended_at : {h : Host} {a c : Config} {told now : Option (List ℕ)} (new : Option (List ℕ)) (why : Halt) (w : World) → Stands h (frame a.captures) a told now c →
+    HaltsAs why w (λ e. step h (frame a.captures) c ≡ Over e) → AppendsBeginning now new (output (step h (frame a.captures) c)) → HaltsAs why w (Comes h a told new)
+ended_at {h = h} {a = a} {c = c} {told = told} {now = now} new why w s ends begun = by_halt why ends
+  where
+    comes : (e : End) → step h (frame a.captures) c ≡ Over e → Comes h a told new e
+    comes e at =
+        (s.text, nothing_more told now new s.text s.appended (subst (λ t. AppendsBeginning now new t) (ap output at) begun), s.onward _ (over at refl))
 
--- behind the last instruction
-pub step_end : (h : Host) (captures0 : List (List ℕ)) (stream : List Instruction) (place : ℕ) (operands : List Val) (captures : List (List ℕ)) (w : World) →
-    length stream ≤ place → place ≤ length stream →
-    step h (frame captures0) (config (map ins_of stream) place operands captures w)
-    ≡ (if nat_eq (length captures) (length captures0) then Over (Finished captures w) else stuck w)
-step_end h captures0 stream place operands captures w le ge =
-    let past : slice_get (map ins_of stream) place ≡ None = slice_get-map ins_of stream place ∙ ap (option_map ins_of) (slice_get_past stream place le) in
-    let c : Config = config (map ins_of stream) place operands captures w in
-    let len : place ≡ length (map ins_of stream) = omega (arith, length-map stream ins_of) in
-    ap (λ o. act h (frame captures0) o c) past
-    ∙ ap (λ b. if b && nat_eq (length captures) (length captures0) then Over (Finished captures w) else stuck w) (eq-eqb place (length (map ins_of stream)) len)
+    by_halt : (why : Halt) → HaltsAs why w (λ e. step h (frame a.captures) c ≡ Over e) → HaltsAs why w (Comes h a told new)
+    by_halt halt.Writer ends = tt
+    by_halt halt.Stuck ends = comes (Stuck w) ends
+    by_halt (halt.Fault chain) ends = λ own. comes (Failed w chain) (ends own)
 
--- the run's end
-pub ended_all : {h : Host} {f : Frame} {a c : Config} {told now : Option (List ℕ)} {e : End} → Stands h f a told now c → step h f c ≡ Over e →
-    (text : List ℕ) × Appends told now text × Reaches h f [] a (final text e)
-ended_all s at = (s.text, s.appended, s.onward _ (over at refl))
+-- the end of a run that is done
+pub done_at : {h : Host} {a c : Config} {told now : Option (List ℕ)} (d : Config) (new : Option (List ℕ)) → Stands h (frame a.captures) a told now c →
+    Did (Ok flow.Done) now new d (step h (frame a.captures) c) → Comes h a told new (Finished d.captures d.world)
+done_at {told = told} d new s did = (s.text, subst (λ t. Appends told t s.text) (sym did.1) s.appended, s.onward _ (over did.0 refl))
 
--- at its end the writer has got the whole text
-pub whole_at : {h : Host} {f : Frame} {a c : Config} {told now : Option (List ℕ)} → Stands h f a told now c →
-    (o : Final) → Reaches h f [] a o → AppendsBeginning told now o.text
-whole_at {told = told} {now = now} s o r =
+-- then the writer has got the whole text
+pub whole_at : {h : Host} {f : Frame} {a c : Config} {told now : Option (List ℕ)} (new : Option (List ℕ)) → Stands h f a told now c → new ≡ now →
+    (o : Final) → Reaches h f [] a o → AppendsBeginning told new o.text
+whole_at {told = told} {now = now} new s same o r =
     let grown = text_grows (s.back o r) in
-    subst (λ t. AppendsBeginning told now t) (sym grown.1) (appends_beginning told now s.text grown.0 s.appended)
-
--- the end of a run that opened no capture which it left open
-pub ended_good : (h : Host) (captures0 : List (List ℕ)) {a : Config} {told now : Option (List ℕ)} (stream : List Instruction) {place : ℕ} {operands : List Val} {captures : List (List ℕ)} {w : World} →
-    Stands h (frame captures0) a told now (config (map ins_of stream) place operands captures w) → length stream ≤ place → place ≤ length stream → length captures ≡ length captures0 →
-    (text : List ℕ) × Appends told now text × Reaches h (frame captures0) [] a (final text (Finished captures w))
-ended_good h captures0 stream {place = place} {operands = operands} {captures = captures} {w = w} s le ge same =
-    ended_all s (step_end h captures0 stream place operands captures w le ge ∙ ap (λ b. if b then Over (Finished captures w) else stuck w) (eq-eqb (length captures) (length captures0) same))
-
--- the end of a run that left a capture open, or closed one that isn't its own
-pub ended_bad : (h : Host) (captures0 : List (List ℕ)) {a : Config} {told now : Option (List ℕ)} (stream : List Instruction) {place : ℕ} {operands : List Val} {captures : List (List ℕ)} {w : World} {chain : List ErrorKind} →
-    Stands h (frame captures0) a told now (config (map ins_of stream) place operands captures w) → length stream ≤ place → place ≤ length stream → length captures ≢ length captures0 → chain ≡ BadStream ∷ [] →
-    (text : List ℕ) × Appends told now text × Reaches h (frame captures0) [] a (final text (Failed w chain))
-ended_bad h captures0 stream {place = place} {operands = operands} {captures = captures} {w = w} s le ge other e =
-    ended_all s (step_end h captures0 stream place operands captures w le ge
-    ∙ ap (λ b. if b then Over (Finished captures w) else stuck w) (ne_eqb (length captures) (length captures0) other)
-    ∙ ap (λ ch. Over (Failed w ch)) (sym e))
+    subst (λ b. AppendsBeginning told b o.text) (sym same) (subst (λ t. AppendsBeginning told now t) (sym grown.1) (appends_beginning told now s.text grown.0 s.appended))

@@ -1,3 +1,2 @@
-pub mod Coded
 pub mod State
 pub mod Answers

@@ -6,5 +6,5 @@ mod machine;
 mod state;
 
 pub use ids::StateIds;
-pub use machine::{run, step};
+pub use machine::Machine;
 pub use state::StateData;

@@ -1,6 +1,8 @@
 //! The data of a state.
 ghost use Rattle.std.specs.Prelude.{◌≡◌, ◌+◌, [], ◌∷◌, Some, None, OnOk, IfErr, IfSome, MatchOption, MatchResult};
-ghost use Rattle.tm_meaning.specs.World.{first_world, fuel_levels, in_frames, tick, Good, Bad};
+ghost use Rattle.tm_compiler.specs.Code.{ins_of};
+ghost use Rattle.tm_meaning.specs.World.{first_world, fuel_levels, in_frames, Kept, Good, Bad};
+ghost use Rattle.tm_meaning.specs.Steps.{pay};
 
 use std::alloc::Global;
 use std::collections::BTreeMap;
@@ -24,11 +26,12 @@ pub struct StateData<'env> {
 
 impl<'env> Model for StateData<'env> {
     ghost use Rattle.tm_meaning.specs.World.{World};
-    ghost use Rattle.tm_vm.specs.Coded.{coded_World};
+    ghost use Rattle.std.specs.Coded.{codes};
+    ghost use Rattle.tm_values.specs.Code.{coded_Val};
 
     ghost Value = { World };
 
-    ghost coded = { coded_World };
+    ghost coded = { Prim.hlevel (codes, coded_Val) };
 
     ghost use Rattle.tm_vm.specs.State.{temps_of, fuel_set_of};
 
@@ -44,7 +47,8 @@ impl<'env> StateData<'env> {
         fuel: Option<u64>,
         context: Value,
     ) -> Result<StateData<'env>, Error>
-        ensures { MatchResult result (λ s. s ≡ first_world id name.entry.now fuel context) (λ e. e ≡ ErrorKind.OutOfMemory ∷ []) }
+        ensures { MatchResult result (λ s. s ≡ first_world id name.entry.now fuel context)
+            (λ e. e ≡ ErrorKind.OutOfMemory ∷ []) }
     {
         let context = match Context::new_with_frame(alloc, Frame::new(context)) {
             Ok(context) => context,
@@ -81,15 +85,18 @@ impl<'env> StateData<'env> {
 
     /// Charges an instruction; OutOfFuel where no more than its charge is left.
     pub fn charge(&mut self, instruction: &Instruction) -> Result<(), Error>
-        ensures ok { OnOk result (tick self.old ≡ Good tt self.new) }
-        ensures err { IfErr result (λ e. (tick self.old ≡ Bad e self.new) × (e ≡ ErrorKind.OutOfFuel ∷ [])) }
+        ensures ok { OnOk result (pay (ins_of instruction.now) self.old ≡ Good tt self.new) }
+        ensures err { IfErr result (λ e. (e ≡ ErrorKind.OutOfFuel ∷ [])
+            × (pay (ins_of instruction.now) self.old ≡ Bad e self.new)) }
+        ensures kept { Kept self.old self.new }
     {
         self.fuel.track(instruction)
     }
 
     /// The value of a name in the scopes, the innermost first.
     pub fn find(&self, name: &str) -> Option<&Value>
-        ensures { MatchOption result (in_frames name.now self.now.scopes.frames ≡ None) (λ v. in_frames name.now self.now.scopes.frames ≡ Some v.now) }
+        ensures { MatchOption result (in_frames name.now self.now.scopes.frames ≡ None)
+            (λ v. in_frames name.now self.now.scopes.frames ≡ Some v.now) }
     {
         self.context.find(name)
     }

@@ -1,7 +1,3 @@
-use Rattle.std.proofs.Common.{rules}
-use Rattle.std.proofs.lemmas.Int.{to_z-of_z}
-use Rattle.std.specs.Int.RustNames.{FitsSigned}
-use Rattle.std.specs.Int.{w128}
 use Rattle.tm_primitives.proofs.Laws.{within, spaced, before, done, strict}
 use Rattle.tm_primitives.proofs.places.slice_law.Goals as goal
 

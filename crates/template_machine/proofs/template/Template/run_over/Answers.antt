@@ -1,36 +1,40 @@
-use Rattle.std.proofs.Common.{◌≡◌, ℕ, List, [], map, ap, subst, ◌∙◌}
-use Rattle.std.specs.Io.KnownBytes.{Appends}
-use Rattle.tm_compiler.specs.Code.{ins_of, codes}
-use Rattle.tm_meaning.specs.Machine.{Final}
-use Rattle.tm_meaning.specs.Runs.{Reaches, start, final}
-use Rattle.tm_parts.specs.Counts.{AppendsBeginning}
-use Rattle.tm_vm.specs.Answers.{end_of, frame}
+use Rattle.std.proofs.Common.{ℕ, List, Result, Ok, Err, ap, subst, ◌∙◌}
+use Rattle.tm_parts.specs.declared.halt.Halt.{Halt}
+use Rattle.tm_meaning.specs.World.{World}
+use Rattle.tm_meaning.specs.Meaning.{rendered}
+use Rattle.tm_meaning.specs.Runs.{start}
 use Rattle.template_machine.specs.Environment.{TemplateValue, host_of}
-use Rattle.template_machine.proofs.Answered.{run_is, run_begins, run_sound}
+use Rattle.template_machine.specs.Renders.{Ran}
+use Rattle.template_machine.proofs.Answered.{run_done, run_halted, passed}
 use Rattle.template_machine.proofs.template.Template.run_over.Goals as goal
 
-pub returns-clause-run : goal.returns-clause-run
-returns-clause-run g c = λ own.
-    let t = c.args.self.now in
-    let code = map ins_of c.instructions.result.now in
-    let e : code ≡ codes 0 t.template.tree = c.instructions.ensures ∙ ap (λ (v : TemplateValue). codes 0 v.template.tree) c.self.view_is in
-    run_is (host_of t.environment) t.template.tree code c.run.result c.args.captures.now c.run.new.captures c.args.state.now c.run.new.state _ _ e
-    (subst (λ (v : TemplateValue). (x : List ℕ) × Appends (g.W.Sink.told c.args.writer.now) (g.W.Sink.told c.run.new.writer) x
-    × Reaches (host_of v.environment) (frame c.args.captures.now) [] (start (map ins_of c.instructions.result.now) c.args.captures.now c.args.state.now) (final x (end_of c.run.result c.run.new.captures c.run.new.state)))
-    c.self.view_is (c.run.ensures.ended own))
+pub returns : goal.returns
+returns g c =
+    let state = c.args.state in
+    let captures = c.args.captures in
+    let new = c.run.new.self in
+    let told = g.W.Sink.told c.args.writer.now in
+    let now = g.W.Sink.told c.run.new.writer in
+    let faults = g.W.Sink.faults c.args.writer.now in
+    let count = g.W.Sink.faults c.run.new.writer in
+    let begins = c.new-machine.ensures ∙ ap (λ is. start is captures state) c.instructions.ensures in
+    let result : Result (List (List ℕ) × World) Halt = Ok c.into_parts.result in
+    subst (λ (t : TemplateValue). Ran (rendered (host_of t.environment) t.template.tree state) result captures told now faults count) c.self.view_is
+    (run_done (host_of c.self.inside.environment.now) c.self.inside.compiled.now.tree captures new.captures state new.world told now faults count c.new-machine.result begins
+    c.into_parts.result c.into_parts.ensures.captures c.into_parts.ensures.state c.in_ok-run.ensures.ended c.in_ok-run.ensures.faults)
 
-pub returns-clause-beginning : goal.returns-clause-beginning
-returns-clause-beginning g c =
-    let t = c.args.self.now in
-    let code = map ins_of c.instructions.result.now in
-    let e : code ≡ codes 0 t.template.tree = c.instructions.ensures ∙ ap (λ (v : TemplateValue). codes 0 v.template.tree) c.self.view_is in
-    run_begins (host_of t.environment) t.template.tree code c.args.captures.now c.args.state.now _ _ e
-    (subst (λ (v : TemplateValue). (o : Final) → Reaches (host_of v.environment) (frame c.args.captures.now) [] (start (map ins_of c.instructions.result.now) c.args.captures.now c.args.state.now) o
-    → AppendsBeginning (g.W.Sink.told c.args.writer.now) (g.W.Sink.told c.run.new.writer) o.text)
-    c.self.view_is c.run.ensures.beginning)
-
-pub returns-clause-sound : goal.returns-clause-sound
-returns-clause-sound g c =
-    let t = c.args.self.now in
-    run_sound (host_of t.environment) t.template.tree c.run.result c.args.captures.now c.run.new.captures c.args.state.now c.run.new.state
-    (λ own. (returns-clause-run g c own).1)
+pub returns-in_err-run : goal.returns-in_err-run
+returns-in_err-run g c =
+    let state = c.args.state in
+    let captures = c.args.captures in
+    let new = c.run.new.self in
+    let told = g.W.Sink.told c.args.writer.now in
+    let now = g.W.Sink.told c.run.new.writer in
+    let faults = g.W.Sink.faults c.args.writer.now in
+    let count = g.W.Sink.faults c.run.new.writer in
+    let begins = c.new-machine.ensures ∙ ap (λ is. start is captures state) c.instructions.ensures in
+    let why = c.in_err-run.field-0.0 in
+    let Ends : TemplateValue → Result (List (List ℕ) × World) Halt → Type 0 = λ t r. Ran (rendered (host_of t.environment) t.template.tree state) r captures told now faults count in
+    passed c.from_residual.result (Ends c.args.self.now) why c.from_residual.ensures.1 (subst (λ (t : TemplateValue). Ends t (Err why)) c.self.view_is
+    (run_halted (host_of c.self.inside.environment.now) c.self.inside.compiled.now.tree captures new.captures state new.world told now faults count c.new-machine.result begins
+    why c.in_err-run.ensures.ended c.in_err-run.ensures.beginning c.in_err-run.ensures.faults))

@@ -1,4 +1,4 @@
-use Rattle.std.proofs.Common.{◌≡◌, ◌∙◌, ap}
+use Rattle.std.proofs.Common.{◌∙◌, ap}
 use Rattle.tm_tables.specs.Templates.{find_template}
 use Rattle.tm_tables.proofs.Named.{found_named, found_there}
 use Rattle.tm_tables.proofs.templates.Templates.get.Goals as goal

@@ -1,4 +1,4 @@
-use Rattle.std.proofs.Common.{◌≡◌, ◌∙◌, ap}
+use Rattle.std.proofs.Common.{◌∙◌, ap}
 use Rattle.tm_tables.specs.Templates.{put_template}
 use Rattle.tm_tables.specs.Names.{entries_of}
 use Rattle.tm_tables.proofs.Named.{entries_of-insert}

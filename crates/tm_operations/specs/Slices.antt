@@ -1,0 +1,56 @@
+-- Slices.
+use Rattle.std.specs.Prelude.{◌==◌, ℕ, ℤ, pos, false, cond, List, [], length, map as each, Option, None, Some, Ok, Err, slice_index_or}
+use Rattle.std.specs.Ordering.{int_eq}
+use Rattle.std.specs.Str.{chars}
+use Rattle.tm_operations.specs.Undefined.{refusal_of, unless}
+use Rattle.tm_primitives.specs.Characters.{picked}
+use Rattle.tm_primitives.specs.Places.{places_of}
+use Rattle.tm_values.specs.Answer.{Answer, invalid}
+use Rattle.tm_values.specs.Val.{Val, undefined, none, number, text, list, vals_of, list_of}
+use Rattle.tm_values.specs.declared.undefined.UndefinedBehavior.{UndefinedBehavior}
+use Rattle.tm_values.specs.declared.undefined.UndefinedUse.TheVariants as use_of
+
+-- A bound is a whole number, or none where it is missing. A truth value is no whole number here.
+abbrev pub bound_in : Val → Option (Option ℤ)
+bound_in none = Some None
+bound_in (number z) = Some (Some z)
+bound_in _ = None
+
+-- A step is 1 where it is missing, and never 0.
+abbrev pub step_in : Val → Option ℤ
+step_in none = Some (pos 1)
+step_in (number z) = cond (int_eq z (pos 0)) None (Some z)
+step_in _ = None
+
+-- where a slice starts, where it stops, and its step
+pub record Parts : Type 0 where
+  pub start : Option ℤ
+  pub stop : Option ℤ
+  pub step : ℤ
+
+abbrev pub parts_of : Option (Option ℤ) → Option (Option ℤ) → Option ℤ → Option Parts
+parts_of (Some x) (Some y) (Some z) = Some (record { start = x; stop = y; step = z })
+parts_of _ _ _ = None
+
+-- the places that a slice takes of so many
+abbrev pub taken : ℕ → Parts → List ℕ
+taken n p = places_of n p.start p.stop p.step
+
+abbrev pub items_at : List Val → List ℕ → List Val
+items_at xs places = each (λ p. slice_index_or xs p none) places
+
+-- Of a list its items and of a text its characters, which aren't safe; of undefined and none nothing.
+abbrev pub cut : Val → Parts → Answer Val
+cut (list vs) p = Ok (list (vals_of (items_at (list_of vs) (taken (length (list_of vs)) p))))
+cut (text s safe) p = Ok (text (picked (chars s) (taken (length (chars s)) p)) false)
+cut (undefined silent) p = Ok (list (vals_of []))
+cut none p = Ok (list (vals_of []))
+cut _ p = invalid
+
+abbrev pub cut_by : Val → Option Parts → Answer Val
+cut_by v None = invalid
+cut_by v (Some p) = cut v p
+
+-- the value's being undefined is asked first, then the parts are tested
+abbrev pub sliced : UndefinedBehavior → Val → Val → Val → Val → Answer Val
+sliced b v start stop step = unless (refusal_of b use_of.Slice v) (cut_by v (parts_of (bound_in start) (bound_in stop) (step_in step)))

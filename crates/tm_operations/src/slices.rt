@@ -1,0 +1,129 @@
+//! Slices.
+ghost use Rattle.std.specs.Prelude.{◌≡◌, ◌≢◌, ◌<◌, ◌∷◌, [], pos, length, Ok, Some, OnSome, All};
+ghost use Rattle.tm_operations.specs.Slices.{bound_in, step_in, parts_of, items_at, cut, cut_by, sliced};
+ghost use Rattle.tm_primitives.specs.Places.{places_of};
+ghost use Rattle.tm_values.specs.Answer.{IsAnswer};
+ghost use Rattle.tm_values.specs.Val.{list, vals_of};
+
+use crate::undefined::check_defined;
+use std::alloc::Global;
+use std::rc::RcStr;
+use tm_primitives::characters;
+use tm_primitives::places::Places;
+use tm_values::{Error, ErrorKind, Node, UndefinedBehavior, UndefinedUse, Value};
+
+/// The slice `value[start:stop:step]`: of a list its items, of a text its characters, which aren't
+/// safe, and of undefined and none the empty list. Parts are whole numbers, or none where they are
+/// missing; negative bounds count from the end. UndefinedError where the value is undefined and the
+/// behaviour refuses that; InvalidOperation for other parts, a step 0 and other values.
+pub fn slice(
+    alloc: Global,
+    value: &Value,
+    start: &Value,
+    stop: &Value,
+    step: &Value,
+    behavior: UndefinedBehavior,
+) -> Result<Value, Error>
+    ensures { IsAnswer result (sliced behavior value.now start.now stop.now step.now) }
+{
+    if let Err(error) = check_defined(value, behavior, UndefinedUse::Slice) {
+        return Err(error);
+    }
+    cut_by(alloc, value, start, stop, step)
+}
+
+fn cut_by(
+    alloc: Global,
+    value: &Value,
+    start: &Value,
+    stop: &Value,
+    step: &Value,
+) -> Result<Value, Error>
+    ensures { IsAnswer result (cut_by value.now (parts_of (bound_in start.now) (bound_in stop.now) (step_in step.now))) }
+{
+    match (bound(start), bound(stop), step_of(step)) {
+        (Some(start), Some(stop), Some(step)) => cut(alloc, value, start, stop, step),
+        _ => Err(not_a_slice(alloc)),
+    }
+}
+
+// A whole number, or none.
+fn bound(part: &Value) -> Option<Option<i128>>
+    ensures { result ≡ bound_in part.now }
+{
+    match &part.node {
+        Node::None => Some(None),
+        Node::Number(whole) => Some(Some(*whole)),
+        _ => None,
+    }
+}
+
+// A step is 1 where it is missing, and never 0.
+fn step_of(part: &Value) -> Option<i128>
+    ensures step { result ≡ step_in part.now }
+    ensures nonzero { OnSome result (step_in part.now ≢ Some (pos 0)) }
+{
+    match &part.node {
+        Node::None => Some(1),
+        Node::Number(whole) => { if *whole == 0 { None } else { Some(*whole) } }
+        _ => None,
+    }
+}
+
+fn cut(
+    alloc: Global,
+    value: &Value,
+    start: Option<i128>,
+    stop: Option<i128>,
+    step: i128,
+) -> Result<Value, Error>
+    requires { step ≢ pos 0 }
+    ensures { IsAnswer result (cut value.now (record { start = start; stop = stop; step = step })) }
+{
+    match &value.node {
+        Node::List(items) => cut_list(alloc, items.as_slice(), start, stop, step),
+        Node::Text(content, _) => {
+            let picked = characters::slice(alloc, content.as_str(), start, stop, step)?;
+            Ok(Value::shared_text(RcStr::from_string(picked)?, false))
+        }
+        Node::Undefined(_) | Node::None => Value::list(alloc, Vec::new(alloc)),
+        _ => Err(not_a_slice(alloc)),
+    }
+}
+
+fn cut_list(
+    alloc: Global,
+    items: &[Value],
+    start: Option<i128>,
+    stop: Option<i128>,
+    step: i128,
+) -> Result<Value, Error>
+    requires { step ≢ pos 0 }
+    ensures { IsAnswer result (Ok (list (vals_of (items_at items.now (places_of (length items.now) start stop step))))) }
+{
+    pick_items(alloc, items, Places::of(items.len(), start, stop, step))
+}
+
+// The items at the places.
+fn pick_items(alloc: Global, items: &[Value], mut places: Places) -> Result<Value, Error>
+    requires { All (λ p. p < length items.now) places }
+    ensures { IsAnswer result (Ok (list (vals_of (items_at items.now places)))) }
+{
+    let mut picked = Vec::with_capacity(alloc, places.len())?;
+    while let Some(place) = places.next() {
+        picked.push(items[place].share()?)?;
+    }
+    Value::list(alloc, picked)
+}
+
+#[cold]
+#[inline(never)]
+fn not_a_slice(alloc: Global) -> Error
+    ensures { result ≡ ErrorKind.InvalidOperation ∷ [] }
+{
+    Error::new(
+        alloc,
+        ErrorKind::InvalidOperation,
+        "a slice takes whole numbers and a step that isn't 0, of a list or a text",
+    )
+}

@@ -1,0 +1,9 @@
+use Rattle.std.proofs.Common.{sym, ◌∙◌}
+use Rattle.std.specs.Str.Iter.{chars_rest}
+use Rattle.tm_primitives.proofs.Texts.{char_boundary}
+use Rattle.tm_primitives.proofs.characters.character.Goals as goal
+
+pub range-requires-clause-end_boundary : goal.range-requires-clause-end_boundary
+range-requires-clause-end_boundary c =
+    char_boundary c.skip-rest.result.now (chars_rest c.next.new.self) c.in_ok-character.character c.len_utf8.result c.skip-rest.utf8
+    (sym c.chars.ensures.rest ∙ c.in_ok-character.ensures.steps.0) c.len_utf8.ensures.value
