@@ -21,7 +21,13 @@ impl Records for Fake {
     ghost records = { λ fake. record {
       state = 7;
       namespaces = fake.namespaces.items;
-      loops = record { place = fake.place; count = fake.count; depth = 0; previous = None; following = None } ∷ [];
+      loops = record {
+        place = fake.place;
+        count = fake.count;
+        depth = 0;
+        previous = None;
+        following = None;
+      } ∷ [];
     } };
 
     fn state(&self) -> u64 {
