@@ -15,7 +15,8 @@ pub trait Sink {
     // How many of its calls failed or took nothing.
     ghost faults: { Self → ℕ };
 
-    /// Takes a beginning of the bytes, of which there is one at least, and says how long it is; the writer's error where it fails.
+    /// Takes a beginning of the bytes, of which there is one at least, and says how long it is; the
+    /// writer's error where it fails.
     fn write(&mut self, bytes: &[u8]) -> io::Result<usize>
         requires { 0 < length bytes.now }
         ensures bound { WritesAtMost result bytes.now }
@@ -61,7 +62,8 @@ impl<W: Write + Drop> Counted<W> {
         inner
     }
 
-    /// Passes on what the writer holds back; the writer's error where it can't, which is no write that failed.
+    /// Passes on what the writer holds back; the writer's error where it can't, which is no write
+    /// that failed.
     pub fn flush(&mut self) -> io::Result<()>
         ensures bytes { Keeps (W.contents self.old.writer) (W.contents self.new.writer) }
         ensures count { self.new.failures ≡ self.old.failures }
@@ -106,7 +108,8 @@ impl Sink for NullWriter {
     }
 }
 
-/// Writes a whole text, each byte once; any error of the writer, or WriteZero where it takes nothing, ends it.
+/// Writes a whole text, each byte once; any error of the writer, or WriteZero where it takes
+/// nothing, ends it.
 pub fn write_text<W: Sink>(sink: &mut W, text: &[u8]) -> Result<(), io::Error>
     ensures written { OnOk result (Appends (W.told sink.old) (W.told sink.new) text.now) }
     ensures no_fault { OnOk result (W.faults sink.new ≡ W.faults sink.old) }

@@ -5,8 +5,8 @@ ghost use Rattle.tm_output.specs.Laws.{string_laws, writer_laws};
 
 use crate::sink::{Sink, write_text};
 
-/// That a target failed. Only one who holds the target knows why: a `String` found no memory, a writer
-/// failed or took nothing.
+/// That a target failed. Only one who holds the target knows why: a `String` found no memory, a
+/// writer failed or took nothing.
 #[derive(Clone, Copy, Debug, PartialEq, Eq)]
 pub struct TargetFailed;
 
@@ -39,9 +39,11 @@ impl Target for String {
 }
 
 impl<S: Sink> Target for S {
-    ghost took = { λ old text new. IsTold (S.told old) (S.faults old) text (S.told new) (S.faults new) };
+    ghost took = { λ old text new.
+        IsTold (S.told old) (S.faults old) text (S.told new) (S.faults new) };
 
-    ghost stopped = { λ old text new. IsToldInPart (S.told old) (S.faults old) text (S.told new) (S.faults new) };
+    ghost stopped = { λ old text new.
+        IsToldInPart (S.told old) (S.faults old) text (S.told new) (S.faults new) };
 
     /// Fails where the writer does, or takes nothing; a text without bytes makes no call.
     fn take_text(&mut self, text: &str) -> Result<(), TargetFailed> {

@@ -8,7 +8,8 @@ use std::io::{self, Write};
 use std::process::Abort;
 use std::test::Fail;
 
-/// A writer that takes at most `step` bytes a call until `room` is spent, and then fails, also at a flush, or takes nothing where it has no error.
+/// A writer that takes at most `step` bytes a call until `room` is spent, and then fails, also at a
+/// flush, or takes nothing where it has no error.
 #[derive(Drop)]
 struct Fake {
     bytes: Vec<u8>,
@@ -61,7 +62,8 @@ fn take_both<T: Target>(target: &mut T, first: &str, second: &str) -> Result<(),
     target.take_text(second)
 }
 
-/// Gives `Hello` and `!` to a writer over the fake, and compares what comes of it: the answer, the bytes, the calls and the failures.
+/// Gives `Hello` and `!` to a writer over the fake, and compares what comes of it: the answer, the
+/// bytes, the calls and the failures.
 fn hello(rt: &impl Abort, fake: Fake, expected: (Result<(), TargetFailed>, &[u8], u64, u64)) {
     let (answer, bytes, calls, failures) = expected;
     let mut writer = Counted::new(fake);

@@ -18,8 +18,9 @@ pub enum Form {
     Json,
 }
 
-/// Whether the value can be printed: InvalidOperation where a loop or a namespace in it has no record, or a namespace
-/// holds itself. OutOfMemory where the way through namespaces finds no memory.
+/// Whether the value can be printed: InvalidOperation where a loop or a namespace in it has no
+/// record, or a namespace holds itself. OutOfMemory where the way through namespaces finds no
+/// memory.
 pub fn check_print<R: Records>(alloc: Global, value: &Value, records: &R) -> Result<(), Error>
     ensures { IsAnswer result (print_verdict (R.records records.now) value.now) }
 {
@@ -28,9 +29,10 @@ pub fn check_print<R: Records>(alloc: Global, value: &Value, records: &R) -> Res
     check(Form::Printed, value, records, levels, &mut way)
 }
 
-/// Whether the value can be written as JSON: BadSerialization at a number outside -2^63 to 2^64 - 1, a key that is no
-/// text, a function, a macro or a loop; InvalidOperation at a namespace that has no record or holds itself; the first
-/// of these from the left. OutOfMemory where the way through namespaces finds no memory.
+/// Whether the value can be written as JSON: BadSerialization at a number outside -2^63 to 2^64-1,
+/// a key that is no text, a function, a macro or a loop; InvalidOperation at a namespace that has
+/// no record or holds itself; the first of these from the left. OutOfMemory where the way through
+/// namespaces finds no memory.
 pub fn check_json<R: Records>(alloc: Global, value: &Value, records: &R) -> Result<(), Error>
     ensures { IsAnswer result (json_verdict (R.records records.now) value.now) }
 {
@@ -61,7 +63,9 @@ fn check<R: Records>(
         Node::Exports(pairs, _) => check_module(form, pairs.as_slice(), records, levels, way),
         Node::Function(_) | Node::Macro(_) => check_unwritable(form),
         Node::Loop(state, index) => check_loop(form, *state, *index, records),
-        Node::Namespace(state, index) => check_namespace(form, *state, *index, records, levels, way),
+        Node::Namespace(state, index) => check_namespace(
+            form, *state, *index, records, levels, way,
+        ),
     }
 }
 
@@ -75,7 +79,8 @@ fn check_module<R: Records>(
     way: &mut HashSet<usize>,
 ) -> Result<(), Error>
     ensures answer { IsAnswer result (in_json form (pairs_verdict form (R.records records.now)
-        (namespace_verdict form (R.records records.now) levels (contains nat_eq way.old)) (pairs_of pairs.now))) }
+        (namespace_verdict form (R.records records.now) levels (contains nat_eq way.old))
+        (pairs_of pairs.now))) }
     ensures way { OnOk result (contains nat_eq way.new ≡ contains nat_eq way.old) }
 {
     match form {
@@ -93,7 +98,8 @@ fn check_items<R: Records>(
     way: &mut HashSet<usize>,
 ) -> Result<(), Error>
     ensures answer { IsAnswer result (items_verdict form (R.records records.now)
-        (namespace_verdict form (R.records records.now) levels (contains nat_eq way.old)) (vals_of items.now)) }
+        (namespace_verdict form (R.records records.now) levels (contains nat_eq way.old))
+        (vals_of items.now)) }
     ensures way { OnOk result (contains nat_eq way.new ≡ contains nat_eq way.old) }
 {
     for item in items {
@@ -111,7 +117,8 @@ fn check_pairs<R: Records>(
     way: &mut HashSet<usize>,
 ) -> Result<(), Error>
     ensures answer { IsAnswer result (pairs_verdict form (R.records records.now)
-        (namespace_verdict form (R.records records.now) levels (contains nat_eq way.old)) (pairs_of pairs.now)) }
+        (namespace_verdict form (R.records records.now) levels (contains nat_eq way.old))
+        (pairs_of pairs.now)) }
     ensures way { OnOk result (contains nat_eq way.new ≡ contains nat_eq way.old) }
 {
     for pair in pairs {
@@ -129,7 +136,8 @@ fn check_pair<R: Records>(
     way: &mut HashSet<usize>,
 ) -> Result<(), Error>
     ensures answer { IsAnswer result (pair_verdict form (R.records records.now)
-        (namespace_verdict form (R.records records.now) levels (contains nat_eq way.old)) pair.now) }
+        (namespace_verdict form (R.records records.now) levels (contains nat_eq way.old))
+        pair.now) }
     ensures way { OnOk result (contains nat_eq way.new ≡ contains nat_eq way.old) }
 {
     check_key(form, &pair.0)?;
@@ -147,7 +155,8 @@ fn check_namespace<R: Records>(
     way: &mut HashSet<usize>,
 ) -> Result<(), Error>
     ensures answer { IsAnswer result
-        (namespace_verdict form (R.records records.now) levels (contains nat_eq way.old) state index) }
+        (namespace_verdict form (R.records records.now) levels (contains nat_eq way.old)
+        state index) }
     ensures way { OnOk result (contains nat_eq way.new ≡ contains nat_eq way.old) }
 {
     let Some(inside) = levels.checked_sub(1) else {

@@ -8,9 +8,15 @@ use crate::text::write_json_text;
 use tm_output::{Target, TargetFailed};
 use tm_values::{Node, Records, Value, find_namespace};
 
-/// Writes the value as `serde_json`'s compact text. Ask `check_json` first: what it refuses has no JSON.
-pub fn write_json<R: Records, T: Target>(value: &Value, records: &R, target: &mut T) -> Result<(), TargetFailed>
-    ensures { Takes T.took T.stopped result target.old (json_text (R.records records.now) value.now) target.new }
+/// Writes the value as `serde_json`'s compact text. Ask `check_json` first: what it refuses has no
+/// JSON.
+pub fn write_json<R: Records, T: Target>(
+    value: &Value,
+    records: &R,
+    target: &mut T,
+) -> Result<(), TargetFailed>
+    ensures { Takes T.took T.stopped result target.old
+        (json_text (R.records records.now) value.now) target.new }
 {
     write_data::<R, T>(value, records, records.namespace_count(), target)
 }
@@ -24,7 +30,8 @@ fn write_data<R: Records, T: Target>(
     target: &mut T,
 ) -> Result<(), TargetFailed>
     ensures { Takes T.took T.stopped result target.old
-        (compact_text (data_of (namespace_data (R.records records.now) levels) value.now)) target.new }
+        (compact_text (data_of (namespace_data (R.records records.now) levels)
+        value.now)) target.new }
 {
     match &value.node {
         Node::Undefined(_) | Node::None => target.take_text("null"),
@@ -51,7 +58,8 @@ fn write_array<R: Records, T: Target>(
     target: &mut T,
 ) -> Result<(), TargetFailed>
     ensures { Takes T.took T.stopped result target.old
-        (array_text (namespace_data (R.records records.now) levels) (vals_of items.now)) target.new }
+        (array_text (namespace_data (R.records records.now) levels)
+        (vals_of items.now)) target.new }
 {
     target.take_text("[")?;
     for (i, item) in items.iter().enumerate() {
@@ -83,7 +91,8 @@ fn write_object<R: Records, T: Target>(
     target: &mut T,
 ) -> Result<(), TargetFailed>
     ensures { Takes T.took T.stopped result target.old
-        (object_text (namespace_data (R.records records.now) levels) (pairs_of pairs.now)) target.new }
+        (object_text (namespace_data (R.records records.now) levels)
+        (pairs_of pairs.now)) target.new }
 {
     target.take_text("{")?;
     for (i, pair) in pairs.iter().enumerate() {
@@ -145,7 +154,8 @@ fn write_key<T: Target>(key: &Value, target: &mut T) -> Result<(), TargetFailed>
 }
 
 fn write_json_number<T: Target>(number: i128, target: &mut T) -> Result<(), TargetFailed>
-    ensures { Takes T.took T.stopped result target.old (number_text (number_data number)) target.new }
+    ensures { Takes T.took T.stopped result target.old
+        (number_text (number_data number)) target.new }
 {
     let mut buffer = itoa::Buffer::new();
     target.take_text(buffer.format(number))

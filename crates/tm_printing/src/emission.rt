@@ -11,8 +11,9 @@ use std::alloc::Global;
 use tm_output::{Target, TargetFailed};
 use tm_values::{AutoEscape, Error, ErrorKind, Node, Records, Value};
 
-/// Whether the value can be emitted under the escape. A safe text always can; else InvalidOperation under a custom
-/// escape, what `check_json` answers under JSON, and what `check_print` answers under the others.
+/// Whether the value can be emitted under the escape. A safe text always can; else InvalidOperation
+/// under a custom escape, what `check_json` answers under JSON, and what `check_print` answers
+/// under the others.
 pub fn check_emission<R: Records>(
     alloc: Global,
     value: &Value,
@@ -31,15 +32,17 @@ pub fn check_emission<R: Records>(
     }
 }
 
-/// Writes what is emitted for the value under the escape: a safe text as it is, and else what is printed, what is
-/// printed escaped for HTML, or JSON. Ask `check_emission` first: what it refuses is written in no form.
+/// Writes what is emitted for the value under the escape: a safe text as it is, and else what is
+/// printed, what is printed escaped for HTML, or JSON. Ask `check_emission` first: what it refuses
+/// is written in no form.
 pub fn emit<R: Records, T: Target>(
     value: &Value,
     escape: AutoEscape,
     records: &R,
     target: &mut T,
 ) -> Result<(), TargetFailed>
-    ensures { Takes T.took T.stopped result target.old (emitted_text escape (R.records records.now) value.now) target.new }
+    ensures { Takes T.took T.stopped result target.old
+        (emitted_text escape (R.records records.now) value.now) target.new }
 {
     if let Node::Text(content, true) = &value.node {
         return target.take_text(content.as_str());
@@ -54,7 +57,8 @@ pub fn emit<R: Records, T: Target>(
 
 /// What the value is printed as, in a text of its own: an error of `check_print`, or OutOfMemory.
 pub fn to_text<R: Records>(alloc: Global, value: &Value, records: &R) -> Result<String, Error>
-    ensures { IsAnswer (map_ok string_bytes result) (text_answer (R.records records.now) value.now) }
+    ensures { IsAnswer (map_ok string_bytes result)
+        (text_answer (R.records records.now) value.now) }
 {
     check_print(alloc, value, records)?;
     let mut text = String::new(alloc);

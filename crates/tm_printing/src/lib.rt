@@ -17,3 +17,5 @@ pub use text::{write_json_text, write_number, write_quoted, write_spelled};
 
 #[cfg(test)]
 mod tests;
+#[cfg(test)]
+mod value_tests;

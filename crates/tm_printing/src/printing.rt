@@ -11,22 +11,37 @@ use crate::text::{write_number, write_quoted, write_spelled};
 use tm_output::{Target, TargetFailed};
 use tm_values::{LoopPosition, Macro, Node, Records, Value, find_loop, find_namespace};
 
-/// Writes what the value is printed as. Ask `check_print` first: what it refuses has no text of its own.
-pub fn print<R: Records, T: Target>(value: &Value, records: &R, target: &mut T) -> Result<(), TargetFailed>
-    ensures { Takes T.took T.stopped result target.old (printed (R.records records.now) value.now) target.new }
+/// Writes what the value is printed as. Ask `check_print` first: what it refuses has no text of its
+/// own.
+pub fn print<R: Records, T: Target>(
+    value: &Value,
+    records: &R,
+    target: &mut T,
+) -> Result<(), TargetFailed>
+    ensures { Takes T.took T.stopped result target.old
+        (printed (R.records records.now) value.now) target.new }
 {
     write_value::<Verbatim, R, T>(value, records, target)
 }
 
 /// Writes what the value is printed as, escaped for HTML as a whole. Ask `check_print` first.
-pub fn write_html<R: Records, T: Target>(value: &Value, records: &R, target: &mut T) -> Result<(), TargetFailed>
-    ensures { Takes T.took T.stopped result target.old (html_text (R.records records.now) value.now) target.new }
+pub fn write_html<R: Records, T: Target>(
+    value: &Value,
+    records: &R,
+    target: &mut T,
+) -> Result<(), TargetFailed>
+    ensures { Takes T.took T.stopped result target.old
+        (html_text (R.records records.now) value.now) target.new }
 {
     write_value::<Html, R, T>(value, records, target)
 }
 
 // The value as it stands by itself.
-fn write_value<E: Escape, R: Records, T: Target>(value: &Value, records: &R, target: &mut T) -> Result<(), TargetFailed>
+fn write_value<E: Escape, R: Records, T: Target>(
+    value: &Value,
+    records: &R,
+    target: &mut T,
+) -> Result<(), TargetFailed>
     ensures { Takes T.took T.stopped result target.old
         (flat_map E.spelled (printed (R.records records.now) value.now)) target.new }
 {
@@ -38,7 +53,8 @@ fn write_value<E: Escape, R: Records, T: Target>(value: &Value, records: &R, tar
 
 // What a value is printed as that has neither quotes nor parts where it stands by itself.
 fn bare_text(value: &Value) -> Option<&str>
-    ensures { MatchOption result (bare_text value.now ≡ None) (λ s. bare_text value.now ≡ Some s.now) }
+    ensures { MatchOption result (bare_text value.now ≡ None)
+        (λ s. bare_text value.now ≡ Some s.now) }
 {
     match &value.node {
         Node::Undefined(_) => Some(""),
@@ -56,7 +72,8 @@ fn write_inner<E: Escape, R: Records, T: Target>(
     target: &mut T,
 ) -> Result<(), TargetFailed>
     ensures { Takes T.took T.stopped result target.old (flat_map E.spelled
-        (inner (R.records records.now) (namespace_text (R.records records.now) levels) value.now)) target.new }
+        (inner (R.records records.now) (namespace_text (R.records records.now) levels)
+        value.now)) target.new }
 {
     match &value.node {
         Node::Undefined(_) => write_spelled::<E, T>("undefined", target),
@@ -86,7 +103,8 @@ fn write_list<E: Escape, R: Records, T: Target>(
     target: &mut T,
 ) -> Result<(), TargetFailed>
     ensures { Takes T.took T.stopped result target.old (flat_map E.spelled
-        (list_text (R.records records.now) (namespace_text (R.records records.now) levels) (vals_of items.now))) target.new }
+        (list_text (R.records records.now) (namespace_text (R.records records.now) levels)
+        (vals_of items.now))) target.new }
 {
     write_spelled::<E, T>("[", target)?;
     for (i, item) in items.iter().enumerate() {
@@ -104,7 +122,8 @@ fn write_item<E: Escape, R: Records, T: Target>(
     target: &mut T,
 ) -> Result<(), TargetFailed>
     ensures { Takes T.took T.stopped result target.old (flat_map E.spelled
-        (item_text (R.records records.now) (namespace_text (R.records records.now) levels) later item.now)) target.new }
+        (item_text (R.records records.now) (namespace_text (R.records records.now) levels)
+        later item.now)) target.new }
 {
     write_comma::<E, T>(later, target)?;
     write_inner::<E, R, T>(item, records, levels, target)
@@ -118,7 +137,8 @@ fn write_map<E: Escape, R: Records, T: Target>(
     target: &mut T,
 ) -> Result<(), TargetFailed>
     ensures { Takes T.took T.stopped result target.old (flat_map E.spelled
-        (map_text (R.records records.now) (namespace_text (R.records records.now) levels) (pairs_of pairs.now))) target.new }
+        (map_text (R.records records.now) (namespace_text (R.records records.now) levels)
+        (pairs_of pairs.now))) target.new }
 {
     write_spelled::<E, T>("{", target)?;
     for (i, pair) in pairs.iter().enumerate() {
@@ -136,7 +156,8 @@ fn write_pair<E: Escape, R: Records, T: Target>(
     target: &mut T,
 ) -> Result<(), TargetFailed>
     ensures { Takes T.took T.stopped result target.old (flat_map E.spelled
-        (pair_text (R.records records.now) (namespace_text (R.records records.now) levels) later pair.now)) target.new }
+        (pair_text (R.records records.now) (namespace_text (R.records records.now) levels)
+        later pair.now)) target.new }
 {
     write_comma::<E, T>(later, target)?;
     write_inner::<E, R, T>(&pair.0, records, levels, target)?;
@@ -165,7 +186,8 @@ fn write_namespace<E: Escape, R: Records, T: Target>(
 }
 
 fn write_comma<E: Escape, T: Target>(later: bool, target: &mut T) -> Result<(), TargetFailed>
-    ensures { Takes T.took T.stopped result target.old (flat_map E.spelled (comma_after later)) target.new }
+    ensures { Takes T.took T.stopped result target.old
+        (flat_map E.spelled (comma_after later)) target.new }
 {
     if later {
         write_spelled::<E, T>(", ", target)
@@ -175,7 +197,8 @@ fn write_comma<E: Escape, T: Target>(later: bool, target: &mut T) -> Result<(), 
 }
 
 fn write_macro<E: Escape, T: Target>(declared: &Macro, target: &mut T) -> Result<(), TargetFailed>
-    ensures { Takes T.took T.stopped result target.old (flat_map E.spelled (macro_text declared.now)) target.new }
+    ensures { Takes T.took T.stopped result target.old
+        (flat_map E.spelled (macro_text declared.now)) target.new }
 {
     write_spelled::<E, T>("<macro ", target)?;
     write_spelled::<E, T>(declared.name(), target)?;
@@ -197,16 +220,24 @@ fn write_loop<E: Escape, R: Records, T: Target>(
     }
 }
 
-fn write_position<E: Escape, T: Target>(position: LoopPosition, target: &mut T) -> Result<(), TargetFailed>
-    ensures { Takes T.took T.stopped result target.old (flat_map E.spelled (position_text position)) target.new }
+fn write_position<E: Escape, T: Target>(
+    position: LoopPosition,
+    target: &mut T,
+) -> Result<(), TargetFailed>
+    ensures { Takes T.took T.stopped result target.old
+        (flat_map E.spelled (position_text position)) target.new }
 {
     write_spelled::<E, T>("<loop ", target)?;
     write_progress::<E, T>(position, target)?;
     write_spelled::<E, T>(">", target)
 }
 
-fn write_progress<E: Escape, T: Target>(position: LoopPosition, target: &mut T) -> Result<(), TargetFailed>
-    ensures { Takes T.took T.stopped result target.old (flat_map E.spelled (progress_text position)) target.new }
+fn write_progress<E: Escape, T: Target>(
+    position: LoopPosition,
+    target: &mut T,
+) -> Result<(), TargetFailed>
+    ensures { Takes T.took T.stopped result target.old
+        (flat_map E.spelled (progress_text position)) target.new }
 {
     write_count::<E, T>(position.place.unwrap_or(0), target)?;
     write_spelled::<E, T>("/", target)?;
@@ -214,7 +245,8 @@ fn write_progress<E: Escape, T: Target>(position: LoopPosition, target: &mut T) 
 }
 
 fn write_count<E: Escape, T: Target>(count: usize, target: &mut T) -> Result<(), TargetFailed>
-    ensures { Takes T.took T.stopped result target.old (flat_map E.spelled (decimal count)) target.new }
+    ensures { Takes T.took T.stopped result target.old
+        (flat_map E.spelled (decimal count)) target.new }
 {
     let mut buffer = itoa::Buffer::new();
     write_spelled::<E, T>(buffer.format(count), target)

@@ -10,7 +10,8 @@ pub trait Spelling {
 
     /// What stands for the byte, where that is not the byte alone.
     fn spelling(byte: u8) -> Option<&'static str>
-        ensures spelled { MatchOption result (spelled byte ≡ byte ∷ []) (λ s. s.now ≡ spelled byte) }
+        ensures spelled { MatchOption result (spelled byte ≡ byte ∷ [])
+            (λ s. s.now ≡ spelled byte) }
         ensures ascii { IfSome result (λ _. byte < 128) };
 }
 
@@ -20,7 +21,8 @@ pub trait Escape: Spelling {
     type Within: Spelling;
 
     // Within quotes a byte is quoted first, and what that gives is escaped.
-    ghost quoted_first: { (b : ℕ) → Self.Within.spelled b ≡ flat_map Self.spelled (within_quotes b) };
+    ghost quoted_first: { (b : ℕ) →
+        Self.Within.spelled b ≡ flat_map Self.spelled (within_quotes b) };
 }
 
 /// Each byte as it is.

@@ -64,7 +64,10 @@ fn json_texts(rt: HostRuntime) {
 fn numbers(rt: HostRuntime) {
     let mut target = String::new(rt.alloc());
     assert_eq!(rt; write_number::<Verbatim, String>(0, &mut target), Ok(()));
-    assert_eq!(rt; write_number::<Verbatim, String>(i128::MIN, &mut target), Ok(()));
+    assert_eq!(rt;
+        write_number::<Verbatim, String>(i128::MIN, &mut target),
+        Ok(())
+    );
     assert_eq!(rt;
         target.as_str(),
         "0-170141183460469231731687303715884105728"

@@ -8,7 +8,8 @@ ghost use Rattle.tm_printing.specs.Texts.{quoted};
 use crate::spelling::{Escape, Json, Spelling};
 use tm_output::{Target, TargetFailed};
 
-/// Writes what stands for each byte of the text. What lies between two bytes that are spelled another way is written whole.
+/// Writes what stands for each byte of the text. What lies between two bytes that are spelled
+/// another way is written whole.
 pub fn write_spelled<S: Spelling, T: Target>(text: &str, target: &mut T) -> Result<(), TargetFailed>
     ensures { Takes T.took T.stopped result target.old (flat_map S.spelled text.now) target.new }
 {
@@ -25,7 +26,8 @@ pub fn write_spelled<S: Spelling, T: Target>(text: &str, target: &mut T) -> Resu
 
 /// Writes the text in quotes, escaped as a whole.
 pub fn write_quoted<E: Escape, T: Target>(text: &str, target: &mut T) -> Result<(), TargetFailed>
-    ensures { Takes T.took T.stopped result target.old (flat_map E.spelled (quoted text.now)) target.new }
+    ensures { Takes T.took T.stopped result target.old
+        (flat_map E.spelled (quoted text.now)) target.new }
 {
     write_spelled::<E, T>("\"", target)?;
     write_spelled::<E::Within, T>(text, target)?;
@@ -43,7 +45,8 @@ pub fn write_json_text<T: Target>(text: &str, target: &mut T) -> Result<(), Targ
 
 /// Writes the number in decimal, escaped.
 pub fn write_number<E: Escape, T: Target>(number: i128, target: &mut T) -> Result<(), TargetFailed>
-    ensures { Takes T.took T.stopped result target.old (flat_map E.spelled (signed_decimal number)) target.new }
+    ensures { Takes T.took T.stopped result target.old
+        (flat_map E.spelled (signed_decimal number)) target.new }
 {
     let mut buffer = itoa::Buffer::new();
     write_spelled::<E, T>(buffer.format(number), target)
