@@ -11,7 +11,7 @@ ghost use Rattle.tm_meaning.specs.Steps.{pay, effect, finish, step};
 ghost use Rattle.tm_meaning.specs.Runs.{Reaches, start};
 ghost use Rattle.tm_output.specs.Counts.{AppendsBeginning};
 ghost use Rattle.tm_parts.specs.Halts.{faults_after};
-ghost use Rattle.tm_vm.specs.Answers.{IsWithin, StandsAt, IsBehind, Performs, Silently, IsExcused, EndsAs, Comes, frame};
+ghost use Rattle.tm_vm.specs.Answers.{IsWithin, StandsAt, IsBehind, Performs, Silently, Emits, EndsAs, Comes, frame};
 
 use crate::state::StateData;
 use std::alloc::Global;
@@ -218,8 +218,10 @@ impl<'stream, 'env> Machine<'stream, 'env> {
         let Some(value) = self.run.pop() else {
             return Err(Halt::Stuck);
         };
-        write_value(alloc, &value, &self.state, &mut self.captures, writer)?;
-        Ok(Flow::GoOn)
+        match write_value(alloc, &value, &self.state, &mut self.captures, writer) {
+            Ok(()) => Ok(Flow::GoOn),
+            Err(halt) => Err(halt),
+        }
     }
 
     /// Does an instruction that was paid for.
