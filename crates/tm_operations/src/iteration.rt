@@ -89,7 +89,8 @@ fn items_or<R: Records>(
 }
 
 fn exactly(alloc: Global, items: Rc<Vec<Value>>, count: usize) -> Result<Rc<Vec<Value>>, Error>
-    ensures { IsAnswerRead result (λ items. items.value.items) (exactly count (Ok items.value.items)) }
+    ensures { IsAnswerRead result (λ items. items.value.items)
+        (exactly count (Ok items.value.items)) }
 {
     if items.as_slice().len() == count {
         Ok(items)
