@@ -44,7 +44,10 @@ fn undefined_has_no_items(rt: HostRuntime) -> Result<(), Fail> {
     for (behavior, want) in [
         (UndefinedBehavior::Lenient, Ok(0)),
         (UndefinedBehavior::Chainable, Ok(0)),
-        (UndefinedBehavior::SemiStrict, Err(ErrorKind::UndefinedError)),
+        (
+            UndefinedBehavior::SemiStrict,
+            Err(ErrorKind::UndefinedError),
+        ),
         (UndefinedBehavior::Strict, Err(ErrorKind::UndefinedError)),
     ] {
         let items = iterate(alloc, &Value::undefined(), &NoRecords, behavior);
