@@ -6,3 +6,5 @@ pub mod Members
 pub mod Containment
 pub mod Slices
 pub mod Concatenation
+pub mod Names
+pub mod Iteration

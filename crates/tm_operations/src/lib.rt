@@ -6,7 +6,11 @@ mod comparisons;
 mod concatenation;
 mod condition;
 mod containment;
+mod iteration;
+#[cfg(test)]
+mod iteration_tests;
 mod members;
+mod names;
 mod slices;
 #[cfg(test)]
 mod tests;
@@ -17,6 +21,7 @@ pub use comparisons::{Comparison, compare};
 pub use concatenation::concatenate;
 pub use condition::{is_true, truth};
 pub use containment::contains;
+pub use iteration::{iterate, unpack, unpack_law};
 pub use members::{LoopAttribute, attribute, check_settable, is_callable, item};
 pub use slices::slice;
 pub use undefined::check_defined;

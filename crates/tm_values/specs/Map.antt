@@ -30,7 +30,9 @@ IsFoundWherePut = (k v : Val) (ps : List (Val × Val)) → find k (put k v ps) �
 
 -- and other keys keep their values
 abbrev pub KeepsOtherKeys : Type 0
-KeepsOtherKeys = (k v l : Val) (ps : List (Val × Val)) → val_cmp l k ≢ Equal → find l (put k v ps) ≡ find l ps
+KeepsOtherKeys =
+    (k v l : Val) (ps : List (Val × Val))
+    → val_cmp l k ≢ Equal → find l (put k v ps) ≡ find l ps
 
 -- the value that a map, a keyword map or a module has at a text; no other value has any
 abbrev pub member : List ℕ → Val → Option Val

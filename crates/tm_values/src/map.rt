@@ -182,7 +182,7 @@ fn put_pair(pairs: &mut Vec<(Value, Value)>, key: Value, value: Value) -> Result
     }
 }
 
-// Sorts the pairs by their keys. Equal keys stay in their order, so that the same map comes of them.
+// Sorts the pairs by their keys. Equal keys stay in their order, so the same map comes of them.
 fn sort_pairs(pairs: &mut Vec<(Value, Value)>) -> Result<(), Error>
     ensures same_map { put_all pairs.new.items ≡ put_all pairs.old.items }
     ensures fails { IfErr result (λ e. e ≡ ErrorKind.OutOfMemory ∷ []) }

@@ -1,0 +1,12 @@
+use Rattle.tm_operations.proofs.Unpacking.{passes_read}
+use Rattle.tm_operations.specs.Iteration.{items_of}
+use Rattle.tm_operations.specs.Undefined.{refusal_of}
+use Rattle.tm_values.specs.declared.undefined.UndefinedUse.TheVariants as use_of
+use Rattle.tm_operations.proofs.iteration.iterate.Goals as goal
+
+-- the value may be iterated
+pub returns : goal.returns
+returns g c =
+    let stated = items_of (g.R.Records.records c.args.records.now) c.args.value.now in
+    let refusal = refusal_of c.args.behavior use_of.Iteration c.args.value.now in
+    passes_read refusal stated c.items.result _ c.check_defined.result tt c.check_defined.ensures c.in_default.is c.items.ensures

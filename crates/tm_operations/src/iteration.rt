@@ -1,0 +1,163 @@
+//! What `for` goes over, and what unpacks into several targets.
+ghost use Rattle.std.specs.Prelude.{◌≡◌, ◌∷◌, [], Ok, map as each};
+ghost use Rattle.std.specs.Str.{chars};
+ghost use Rattle.tm_operations.specs.Iteration.{IsAnswerRead, UnpacksAsIterated, keys_of, character_texts, items_or, items_of, iterated, exactly, unpacked};
+ghost use Rattle.tm_operations.specs.Members.{text_values};
+ghost use Rattle.tm_operations.specs.Names.{loop_names, macro_names};
+
+use crate::names::{LOOP_NAMES, MACRO_NAMES};
+use crate::undefined::check_defined;
+use std::alloc::Global;
+use std::rc::Rc;
+use tm_primitives::characters;
+use tm_values::{
+    Error, ErrorKind, Node, Records, UndefinedBehavior, UndefinedUse, Value, find_namespace,
+};
+
+/// What `for` goes over: a list's items, shared and not copied; a text's characters, which aren't
+/// safe; the keys of a map, keyword map, module or namespace, in their order; the names of a loop's
+/// or a macro's attributes; nothing of undefined. UndefinedError where the value is undefined and
+/// the behaviour refuses that; InvalidOperation for other values, and for a namespace whose record
+/// isn't there.
+pub fn iterate<R: Records>(
+    alloc: Global,
+    value: &Value,
+    records: &R,
+    behavior: UndefinedBehavior,
+) -> Result<Rc<Vec<Value>>, Error>
+    ensures { IsAnswerRead result (λ items. items.value.items)
+        (iterated behavior (R.records records.now) value.now) }
+{
+    if let Err(error) = check_defined(value, behavior, UndefinedUse::Iteration) {
+        return Err(error);
+    }
+    items(alloc, value, records)
+}
+
+/// What unpacks into `count` targets: the items that `for` goes over, but no text's and none of
+/// undefined. CannotUnpack for other values, and where the items aren't exactly so many;
+/// InvalidOperation for a namespace whose record isn't there.
+pub fn unpack<R: Records>(
+    alloc: Global,
+    value: &Value,
+    count: usize,
+    records: &R,
+) -> Result<Rc<Vec<Value>>, Error>
+    ensures { IsAnswerRead result (λ items. items.value.items)
+        (unpacked (R.records records.now) count value.now) }
+{
+    match items_or(alloc, value, records, ErrorKind::CannotUnpack) {
+        Ok(items) => exactly(alloc, items, count),
+        Err(error) => Err(error),
+    }
+}
+
+fn items<R: Records>(alloc: Global, value: &Value, records: &R) -> Result<Rc<Vec<Value>>, Error>
+    ensures { IsAnswerRead result (λ items. items.value.items)
+        (items_of (R.records records.now) value.now) }
+{
+    match &value.node {
+        Node::Text(content, _) => characters(alloc, content.as_str()),
+        Node::Undefined(_) => Ok(Rc::new(alloc, Vec::new(alloc))?),
+        _ => items_or(alloc, value, records, ErrorKind::InvalidOperation),
+    }
+}
+
+// The items of all kinds but texts and undefined; other values are refused by this kind.
+fn items_or<R: Records>(
+    alloc: Global,
+    value: &Value,
+    records: &R,
+    refusal: ErrorKind,
+) -> Result<Rc<Vec<Value>>, Error>
+    ensures { IsAnswerRead result (λ items. items.value.items)
+        (items_or refusal (R.records records.now) value.now) }
+{
+    match &value.node {
+        Node::List(items) => Ok(items.clone()?),
+        Node::Map(pairs) | Node::Keywords(pairs) | Node::Exports(pairs, _) => {
+            keys(alloc, pairs.as_slice())
+        }
+        Node::Macro(_) => texts(alloc, &MACRO_NAMES),
+        Node::Loop(_, _) => texts(alloc, &LOOP_NAMES),
+        Node::Namespace(state, index) => match find_namespace(records, *state, *index) {
+            Some(map) => keys(alloc, map.pairs()),
+            None => Err(no_record(alloc)),
+        },
+        _ => Err(Error::new(alloc, refusal, "a value without items")),
+    }
+}
+
+fn exactly(alloc: Global, items: Rc<Vec<Value>>, count: usize) -> Result<Rc<Vec<Value>>, Error>
+    ensures { IsAnswerRead result (λ items. items.value.items)
+        (exactly count (Ok items.value.items)) }
+{
+    if items.as_slice().len() == count {
+        Ok(items)
+    } else {
+        Err(wrong_number(alloc))
+    }
+}
+
+// The characters as texts of their own.
+fn characters(alloc: Global, content: &str) -> Result<Rc<Vec<Value>>, Error>
+    ensures { IsAnswerRead result (λ items. items.value.items)
+        (Ok (character_texts (chars content.now))) }
+{
+    let mut values = Vec::with_capacity(alloc, characters::count(content))?;
+    for character in content.chars() {
+        let mut bytes = [0; 4];
+        values.push(Value::text(alloc, character.encode_utf8(&mut bytes))?)?;
+    }
+    Ok(Rc::new(alloc, values)?)
+}
+
+fn keys(alloc: Global, pairs: &[(Value, Value)]) -> Result<Rc<Vec<Value>>, Error>
+    ensures { IsAnswerRead result (λ items. items.value.items) (Ok (keys_of pairs.now)) }
+{
+    let mut keys = Vec::with_capacity(alloc, pairs.len())?;
+    for pair in pairs {
+        keys.push(pair.0.share()?)?;
+    }
+    Ok(Rc::new(alloc, keys)?)
+}
+
+fn texts(alloc: Global, names: &[&str]) -> Result<Rc<Vec<Value>>, Error>
+    ensures { IsAnswerRead result (λ items. items.value.items)
+        (Ok (text_values (each (λ name. name.now) names.now))) }
+{
+    let mut values = Vec::with_capacity(alloc, names.len())?;
+    for name in names {
+        values.push(Value::text(alloc, name)?)?;
+    }
+    Ok(Rc::new(alloc, values)?)
+}
+
+#[cold]
+#[inline(never)]
+fn no_record(alloc: Global) -> Error
+    ensures { result ≡ ErrorKind.InvalidOperation ∷ [] }
+{
+    Error::new(
+        alloc,
+        ErrorKind::InvalidOperation,
+        "a namespace of another state",
+    )
+}
+
+#[cold]
+#[inline(never)]
+fn wrong_number(alloc: Global) -> Error
+    ensures { result ≡ ErrorKind.CannotUnpack ∷ [] }
+{
+    Error::new(
+        alloc,
+        ErrorKind::CannotUnpack,
+        "as many values as targets are needed",
+    )
+}
+
+/// What unpacks is what `for` goes over.
+pub fn unpack_law()
+    ensures { UnpacksAsIterated }
+{}
