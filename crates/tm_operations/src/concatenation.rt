@@ -30,12 +30,7 @@ pub fn concatenate<R: Records>(
     join(alloc, left, right, records)
 }
 
-fn join<R: Records>(
-    alloc: Global,
-    left: &Value,
-    right: &Value,
-    records: &R,
-) -> Result<Value, Error>
+fn join<R: Records>(alloc: Global, left: &Value, right: &Value, records: &R) -> Result<Value, Error>
     ensures { IsAnswer result (joined (R.records records.now) left.now right.now) }
 {
     if let Err(error) = check_print(alloc, left, records) {

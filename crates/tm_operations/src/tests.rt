@@ -2,13 +2,14 @@ ghost use Rattle.std.specs.Prelude.{[], ◌∷◌, None, slice_get};
 ghost use Rattle.tm_values.specs.Records.{RecordData};
 
 use crate::{
-    Comparison, add, attribute, check_settable, compare, contains, divide, floor_divide,
-    is_callable, is_true, item, multiply, negate, power, remainder, slice, subtract, truth,
+    Comparison, add, attribute, check_settable, compare, concatenate, contains, divide,
+    floor_divide, is_callable, is_true, item, multiply, negate, power, remainder, slice, subtract,
+    truth,
 };
 use std::alloc::Global;
 use std::test::Fail;
 use tm_values::{
-    Error, ErrorKind, LoopPosition, NoRecords, Records, UndefinedBehavior, Value, ValueMap,
+    Error, ErrorKind, LoopPosition, NoRecords, Node, Records, UndefinedBehavior, Value, ValueMap,
 };
 
 const LENIENT: UndefinedBehavior = UndefinedBehavior::Lenient;
@@ -277,5 +278,26 @@ fn slices_go_both_ways(rt: HostRuntime) -> Result<(), Fail> {
     let strict = UndefinedBehavior::Strict;
     let refused = slice(alloc, &Value::undefined(), &text, &two, &none, strict);
     assert_eq!(rt; kind_of(refused), Some(ErrorKind::UndefinedError));
+    Ok(())
+}
+
+#[test]
+fn texts_are_joined_as_they_print(rt: HostRuntime) -> Result<(), Fail> {
+    let alloc = rt.alloc();
+    let safe = Value::safe_text(alloc, "<a>")?;
+    let list = numbers(alloc, &[1, 2])?;
+    let joined = concatenate(alloc, &safe, &list, &NoRecords, LENIENT)?;
+    assert_eq!(rt; joined.as_str(), Some("<a>[1, 2]"));
+    assert!(rt; matches!(&joined.node, Node::Text(_, false)));
+    let undefined = Value::undefined();
+    assert_eq!(rt;
+        concatenate(alloc, &undefined, &safe, &NoRecords, LENIENT)?.as_str(),
+        Some("<a>")
+    );
+    let strict = UndefinedBehavior::Strict;
+    let refused = concatenate(alloc, &safe, &undefined, &NoRecords, strict);
+    assert_eq!(rt; kind_of(refused), Some(ErrorKind::UndefinedError));
+    let foreign = concatenate(alloc, &safe, &Value::namespace(0, 0), &NoRecords, LENIENT);
+    assert_eq!(rt; kind_of(foreign), Some(ErrorKind::InvalidOperation));
     Ok(())
 }

@@ -349,3 +349,16 @@ fn namespaces(rt: HostRuntime) -> Result<(), Fail> {
     );
     Ok(())
 }
+
+#[test]
+fn keys_keep_their_spelling(rt: HostRuntime) -> Result<(), Fail> {
+    let alloc = rt.alloc();
+    let none = no_records(alloc);
+    let mut map = entries(alloc, Value::boolean(true), Value::text(alloc, "a")?)?;
+    let spelled = Value::from_map(alloc, entries(alloc, Value::boolean(true), Value::none())?)?;
+    is(&rt, to_text(alloc, &spelled, &none), Ok("{true: none}"));
+    map.insert(Value::number(1), Value::text(alloc, "b")?)?;
+    let value = Value::from_map(alloc, map)?;
+    is(&rt, to_text(alloc, &value, &none), Ok("{true: \"b\"}"));
+    Ok(())
+}

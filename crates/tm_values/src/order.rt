@@ -1,8 +1,9 @@
 //! The order of values.
 ghost use Rattle.std.specs.Cmp.{IsTotalOrder};
-ghost use Rattle.std.specs.Prelude.{◌≡◌, false};
+ghost use Rattle.std.specs.Prelude.{◌≡◌, Bool, false};
 ghost use Rattle.tm_values.specs.Order.{val_cmp, vals_cmp, pairs_cmp, macro_against, record_cmp, function_in, state_in, record_in};
-ghost use Rattle.tm_values.specs.Val.{text, vals_of, pairs_of};
+ghost use Rattle.std.specs.Ordering.{eq_by_cmp, is_eq};
+ghost use Rattle.tm_values.specs.Val.{Val, text, boolean, number, whole_of, vals_of, pairs_of};
 
 use crate::macros::Macro;
 use crate::value::{Node, Value};
@@ -190,7 +191,10 @@ impl Ord for Value {
     }
 }
 
-/// The order of values is total.
+/// The order of values is total, it agrees with equality, and truth values stand in it as 0 and 1.
 pub fn order_law()
-    ensures { IsTotalOrder val_cmp }
+    ensures total { IsTotalOrder val_cmp }
+    ensures equality { (a b : Val) → eq_by_cmp val_cmp a b ≡ is_eq (val_cmp a b) }
+    ensures truth { (b : Bool) (v : Val) → val_cmp (boolean b) v ≡ val_cmp (number (whole_of b)) v }
+    ensures truth_behind { (b : Bool) (v : Val) → val_cmp v (boolean b) ≡ val_cmp v (number (whole_of b)) }
 {}
