@@ -23,7 +23,7 @@ returns g c =
     let old : Config = record { run = c.self.inside.run; captures = c.self.inside.captures; world = world } in
     let top : c.self.inside.run.operands ≡ v ∷ left.operands = ap (λ (r : Activation). r.operands) (sym c.advance.ensures ∙ c.in-Some.ensures) in
     let emits : Emits (Err c.in-Err.halt) c.self.inside.captures c.write_value.new.captures told now (emitted v world) =
-        subst (λ (r : Result (Unit {0}) Halt). Emits r c.self.inside.captures c.write_value.new.captures told now (emitted v world)) c.in-Err.is c.write_value.ensures.emits in
+    subst (λ (r : Result (Unit {0}) Halt). Emits r c.self.inside.captures c.write_value.new.captures told now (emitted v world)) c.in-Err.is c.write_value.ensures.emits in
     let counts : count ≡ faults_after {A = Unit {0}} (Err c.in-Err.halt) faults = c.write_value.ensures.faults ∙ ap (λ (r : Result (Unit {0}) Halt). faults_after r faults) c.in-Err.is in
     let done = halted old new v left.operands c.in-Err.halt told now faults count top refl emits counts in
     subst (λ (o : Config). Performs emit_of o new told now faults count (Err c.in-Err.halt)) c.self.view_is done
