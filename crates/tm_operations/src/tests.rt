@@ -49,11 +49,39 @@ impl Records for Spaces {
     }
 }
 
+// What a refused operation answers.
 fn kind_of(answer: Result<Value, Error>) -> Option<ErrorKind> {
-    match answer {
+    match &answer {
         Ok(_) => None,
         Err(error) => Some(error.kind()),
     }
+}
+
+fn whole_of(answer: Result<Value, Error>) -> Option<i128> {
+    match &answer {
+        Ok(value) => value.as_whole(),
+        Err(_) => None,
+    }
+}
+
+// Whether the answer is this text.
+fn is_text(answer: Result<Value, Error>, expected: &str) -> bool {
+    match &answer {
+        Ok(value) => value.as_str() == Some(expected),
+        Err(_) => false,
+    }
+}
+
+// Whether the answer is equal to the value.
+fn is(answer: Result<Value, Error>, expected: &Value) -> bool {
+    match &answer {
+        Ok(value) => value == expected,
+        Err(_) => false,
+    }
+}
+
+fn is_safe(value: &Value) -> bool {
+    matches!(&value.node, Node::Text(_, true))
 }
 
 fn numbers(alloc: Global, wholes: &[i128]) -> Result<Value, Error> {
@@ -70,11 +98,23 @@ fn map_with(alloc: Global, key: Value, value: &str) -> Result<Value, Error> {
     Value::from_map(alloc, map)
 }
 
+fn applied(alloc: Global, operation: &str, left: i128, right: i128) -> Result<Value, Error> {
+    let (left, right) = (Value::number(left), Value::number(right));
+    match operation {
+        "+" => add(alloc, &left, &right),
+        "-" => subtract(alloc, &left, &right),
+        "*" => multiply(alloc, &left, &right),
+        "/" => divide(alloc, &left, &right),
+        "//" => floor_divide(alloc, &left, &right),
+        "%" => remainder(alloc, &left, &right),
+        _ => power(alloc, &left, &right),
+    }
+}
+
 #[test]
-fn arithmetic_is_euclidean_and_exact(rt: HostRuntime) -> Result<(), Fail> {
+fn arithmetic_is_euclidean_and_exact(rt: HostRuntime) {
     let alloc = rt.alloc();
     let least = i128::MIN;
-    let power_of_two = 85070591730234615865843651857942052864;
     for (operation, left, right, want) in [
         ("//", 7, -2, Some(-3)),
         ("//", -7, 2, Some(-4)),
@@ -82,7 +122,7 @@ fn arithmetic_is_euclidean_and_exact(rt: HostRuntime) -> Result<(), Fail> {
         ("%", 7, -2, Some(1)),
         ("%", least, -1, Some(0)),
         ("//", least, -1, None),
-        ("**", 2, 126, Some(power_of_two)),
+        ("**", 2, 126, Some(85070591730234615865843651857942052864)),
         ("**", 2, 127, None),
         ("**", -2, 127, Some(least)),
         ("**", 0, 0, Some(1)),
@@ -95,42 +135,34 @@ fn arithmetic_is_euclidean_and_exact(rt: HostRuntime) -> Result<(), Fail> {
         ("-", 3, 5, Some(-2)),
         ("*", -3, 5, Some(-15)),
     ] {
-        let (left, right) = (Value::number(left), Value::number(right));
-        let answer = match operation {
-            "+" => add(alloc, &left, &right),
-            "-" => subtract(alloc, &left, &right),
-            "*" => multiply(alloc, &left, &right),
-            "/" => divide(alloc, &left, &right),
-            "//" => floor_divide(alloc, &left, &right),
-            "%" => remainder(alloc, &left, &right),
-            _ => power(alloc, &left, &right),
-        };
-        match (answer, want) {
-            (Ok(value), Some(want)) => assert_eq!(rt; value.as_whole(), Some(want)),
-            (answer, _) => assert_eq!(rt; kind_of(answer), Some(ErrorKind::InvalidOperation)),
-        }
+        assert_eq!(rt; whole_of(applied(alloc, operation, left, right)), want);
+        let refused = kind_of(applied(alloc, operation, left, right));
+        assert_eq!(rt;
+            refused == Some(ErrorKind::InvalidOperation),
+            want.is_none()
+        );
     }
-    assert_eq!(rt; negate(alloc, &Value::boolean(true))?.as_whole(), Some(-1));
-    Ok(())
+    assert_eq!(rt; whole_of(negate(alloc, &Value::boolean(true))), Some(-1));
 }
 
 #[test]
 fn sums_join_texts_and_lists(rt: HostRuntime) -> Result<(), Fail> {
     let alloc = rt.alloc();
     let (a, b) = (Value::safe_text(alloc, "a")?, Value::text(alloc, "b")?);
-    assert_eq!(rt; add(alloc, &a, &b)?.as_str(), Some("ab"));
-    let joined = add(alloc, &numbers(alloc, &[1])?, &numbers(alloc, &[2])?)?;
-    assert!(rt; joined == numbers(alloc, &[1, 2])?);
+    assert!(rt; is_text(add(alloc, &a, &b), "ab"));
+    let (left, right) = (numbers(alloc, &[1])?, numbers(alloc, &[2])?);
+    assert!(rt; is(add(alloc, &left, &right), &numbers(alloc, &[1, 2])?));
     let (one, yes) = (Value::number(1), Value::boolean(true));
-    assert_eq!(rt; add(alloc, &one, &yes)?.as_whole(), Some(2));
-    assert_eq!(rt; add(alloc, &yes, &yes)?.as_whole(), Some(2));
-    assert_eq!(rt;
-        kind_of(add(alloc, &one, &a)),
-        Some(ErrorKind::InvalidOperation)
-    );
-    let undefined = add(alloc, &Value::undefined(), &one);
-    assert_eq!(rt; kind_of(undefined), Some(ErrorKind::InvalidOperation));
+    assert_eq!(rt; whole_of(add(alloc, &one, &yes)), Some(2));
+    assert_eq!(rt; whole_of(add(alloc, &yes, &yes)), Some(2));
+    let invalid = Some(ErrorKind::InvalidOperation);
+    assert_eq!(rt; kind_of(add(alloc, &one, &a)), invalid);
+    assert_eq!(rt; kind_of(add(alloc, &Value::undefined(), &one)), invalid);
     Ok(())
+}
+
+fn holds(comparison: Comparison, left: &Value, right: &Value) -> Option<bool> {
+    compare(comparison, left, right, UndefinedBehavior::Strict).ok()
 }
 
 #[test]
@@ -139,145 +171,173 @@ fn truth_and_comparisons(rt: HostRuntime) -> Result<(), Fail> {
     let (undefined, silent) = (Value::undefined(), Value::silent_undefined());
     assert!(rt; !is_true(&Value::number(0)) && is_true(&Value::namespace(0, 0)));
     assert!(rt; !is_true(&Value::text(rt.alloc(), "")?) && is_true(&Value::function(0)));
-    assert!(rt; truth(&undefined, strict).is_err() && truth(&silent, strict)? == false);
+    assert!(rt; truth(&undefined, strict).is_err() && !truth(&silent, strict)?);
     let (one, yes) = (Value::number(1), Value::boolean(true));
-    assert!(rt; compare(Comparison::Equal, &one, &yes, strict)?);
+    assert_eq!(rt; holds(Comparison::Equal, &one, &yes), Some(true));
+    assert_eq!(rt; holds(Comparison::GreaterOrEqual, &one, &yes), Some(true));
+    assert_eq!(rt; holds(Comparison::Greater, &one, &yes), Some(false));
+    assert_eq!(rt; holds(Comparison::NotEqual, &one, &silent), None);
     assert!(rt; compare(Comparison::Less, &undefined, &Value::none(), LENIENT)?);
-    assert!(rt; compare(Comparison::GreaterOrEqual, &one, &yes, strict)?);
-    assert!(rt; !compare(Comparison::Greater, &one, &yes, strict)?);
-    assert!(rt; compare(Comparison::NotEqual, &one, &silent, strict).is_err());
     assert!(rt; is_callable(&Value::loop_record(0, 0)) && !is_callable(&one));
     Ok(())
+}
+
+fn item_at(alloc: Global, value: &Value, index: i128) -> Result<Value, Error> {
+    item(alloc, value, &Value::number(index), &NoRecords, LENIENT)
 }
 
 #[test]
 fn items_count_from_both_ends(rt: HostRuntime) -> Result<(), Fail> {
     let alloc = rt.alloc();
     let text = Value::safe_text(alloc, "größe")?;
-    for (index, want) in [(2, Some("ö")), (-1, Some("e")), (5, None), (-6, None)] {
-        let character = item(alloc, &text, &Value::number(index), &NoRecords, LENIENT)?;
-        assert_eq!(rt; character.as_str(), want);
-    }
-    let list = numbers(alloc, &[1, 2])?;
-    let yes = Value::boolean(true);
-    let second = item(alloc, &list, &Value::number(-1), &NoRecords, LENIENT)?;
-    assert_eq!(rt; second.as_whole(), Some(2));
-    assert!(rt; item(alloc, &list, &yes, &NoRecords, LENIENT)? == Value::undefined());
-    let map = map_with(alloc, Value::number(1), "a")?;
-    assert_eq!(rt;
-        item(alloc, &map, &yes, &NoRecords, LENIENT)?.as_str(),
-        Some("a")
-    );
-    assert!(rt; attribute(alloc, &map, "x", &NoRecords, LENIENT)? == Value::undefined());
+    assert!(rt; is_text(item_at(alloc, &text, 2), "ö"));
+    assert!(rt; is_text(item_at(alloc, &text, -1), "e"));
     let undefined = Value::undefined();
-    let chained = attribute(
-        alloc,
-        &undefined,
-        "x",
-        &NoRecords,
-        UndefinedBehavior::Chainable,
-    )?;
-    assert!(rt; chained == undefined);
-    let refused = attribute(alloc, &undefined, "x", &NoRecords, LENIENT);
-    assert_eq!(rt; kind_of(refused), Some(ErrorKind::UndefinedError));
+    assert!(rt; is(item_at(alloc, &text, 5), &undefined));
+    assert!(rt; is(item_at(alloc, &text, -6), &undefined));
+    let list = numbers(alloc, &[1, 2])?;
+    assert_eq!(rt; whole_of(item_at(alloc, &list, -1)), Some(2));
+    let yes = Value::boolean(true);
+    assert!(rt; is(item(alloc, &list, &yes, &NoRecords, LENIENT), &undefined));
+    let map = map_with(alloc, Value::number(1), "a")?;
+    assert!(rt; is_text(item(alloc, &map, &yes, &NoRecords, LENIENT), "a"));
     Ok(())
+}
+
+#[test]
+fn attributes_that_are_missing(rt: HostRuntime) -> Result<(), Fail> {
+    let alloc = rt.alloc();
+    let map = map_with(alloc, Value::number(1), "a")?;
+    let undefined = Value::undefined();
+    assert!(rt; is(attribute(alloc, &map, "x", &NoRecords, LENIENT), &undefined));
+    let chainable = UndefinedBehavior::Chainable;
+    assert!(rt;
+        is(
+            attribute(alloc, &undefined, "x", &NoRecords, chainable),
+            &undefined
+        )
+    );
+    let refused = kind_of(attribute(alloc, &undefined, "x", &NoRecords, LENIENT));
+    assert_eq!(rt; refused, Some(ErrorKind::UndefinedError));
+    Ok(())
+}
+
+fn is_in(alloc: Global, item: &Value, container: &Value) -> Option<bool> {
+    contains(alloc, container, item, &NoRecords, LENIENT).ok()
 }
 
 #[test]
 fn in_finds_items_keys_and_parts(rt: HostRuntime) -> Result<(), Fail> {
     let alloc = rt.alloc();
     let list = numbers(alloc, &[1, 2])?;
+    assert_eq!(rt; is_in(alloc, &Value::boolean(true), &list), Some(true));
+    assert_eq!(rt; is_in(alloc, &Value::number(3), &list), Some(false));
+    let (key, a) = (Value::text(alloc, "key")?, Value::text(alloc, "a")?);
     let map = map_with(alloc, Value::text(alloc, "key")?, "a")?;
+    assert_eq!(rt; is_in(alloc, &key, &map), Some(true));
+    assert_eq!(rt; is_in(alloc, &a, &map), Some(false));
     let text = Value::text(alloc, "größe")?;
-    for (container, wanted, want) in [
-        (&list, Value::boolean(true), true),
-        (&list, Value::number(3), false),
-        (&map, Value::text(alloc, "key")?, true),
-        (&map, Value::text(alloc, "a")?, false),
-        (&text, Value::text(alloc, "öß")?, true),
-        (&text, Value::text(alloc, "")?, true),
-        (&text, Value::text(alloc, "ög")?, false),
-        (&Value::undefined(), Value::number(1), false),
-    ] {
-        assert_eq!(rt;
-            contains(alloc, container, &wanted, &NoRecords, LENIENT)?,
-            want
-        );
-    }
+    assert_eq!(rt; is_in(alloc, &Value::text(alloc, "öß")?, &text), Some(true));
+    assert_eq!(rt;
+        is_in(alloc, &Value::text(alloc, "ög")?, &text),
+        Some(false)
+    );
+    assert_eq!(rt; is_in(alloc, &list, &text), None);
+    let undefined = Value::undefined();
+    assert_eq!(rt; is_in(alloc, &list, &undefined), Some(false));
     let strict = UndefinedBehavior::SemiStrict;
-    assert!(rt; contains(alloc, &Value::undefined(), &list, &NoRecords, strict).is_err());
-    assert!(rt; contains(alloc, &text, &Value::number(1), &NoRecords, LENIENT).is_err());
+    assert!(rt; contains(alloc, &undefined, &list, &NoRecords, strict).is_err());
     Ok(())
+}
+
+fn one_space(alloc: Global) -> Result<Spaces, Error> {
+    let mut space = ValueMap::new(alloc);
+    space.insert(Value::text(alloc, "x")?, Value::number(1))?;
+    let mut spaces = Vec::new(alloc);
+    spaces.push(space)?;
+    Ok(Spaces { state: 4, spaces })
+}
+
+// Whether the record isn't there wherever its content is needed.
+fn is_foreign(alloc: Global, value: &Value, records: &Spaces) -> bool {
+    let invalid = Some(ErrorKind::InvalidOperation);
+    kind_of(attribute(alloc, value, "x", records, LENIENT)) == invalid
+        && kind_of(item(alloc, value, &Value::number(0), records, LENIENT)) == invalid
+        && contains(alloc, value, value, records, LENIENT).is_err()
+        && check_settable(alloc, value, records).is_err()
 }
 
 #[test]
 fn records_belong_to_their_state(rt: HostRuntime) -> Result<(), Fail> {
     let alloc = rt.alloc();
-    let mut space = ValueMap::new(alloc);
-    space.insert(Value::text(alloc, "x")?, Value::number(1))?;
-    let mut spaces = Vec::new(alloc);
-    spaces.push(space)?;
-    let records = Spaces { state: 4, spaces };
+    let records = one_space(alloc)?;
     let own = Value::namespace(4, 0);
     assert_eq!(rt;
-        attribute(alloc, &own, "x", &records, LENIENT)?.as_whole(),
+        whole_of(attribute(alloc, &own, "x", &records, LENIENT)),
         Some(1)
     );
-    assert!(rt; contains(alloc, &own, &Value::text(alloc, "x")?, &records, LENIENT)?);
     assert_eq!(rt; check_settable(alloc, &own, &records)?, 0);
-    for foreign in [
-        Value::namespace(5, 0),
-        Value::namespace(4, 1),
-        Value::loop_record(4, 0),
-    ] {
-        let invalid = Some(ErrorKind::InvalidOperation);
-        let by_name = attribute(alloc, &foreign, "x", &records, LENIENT);
-        assert_eq!(rt; kind_of(by_name), invalid);
-        let by_key = item(alloc, &foreign, &Value::number(0), &records, LENIENT);
-        assert_eq!(rt; kind_of(by_key), invalid);
-        assert!(rt; contains(alloc, &foreign, &own, &records, LENIENT).is_err());
-        assert!(rt; check_settable(alloc, &foreign, &records).is_err());
-        assert!(rt; is_true(&foreign) && foreign == foreign.share()?);
-    }
+    assert!(rt; is_foreign(alloc, &Value::namespace(5, 0), &records));
+    assert!(rt; is_foreign(alloc, &Value::namespace(4, 1), &records));
+    assert!(rt; is_foreign(alloc, &Value::loop_record(4, 0), &records));
+    assert!(rt; is_true(&Value::namespace(5, 0)) && own == own.share()?);
     Ok(())
+}
+
+fn cut(alloc: Global, value: &Value, parts: [Option<i128>; 3]) -> Result<Value, Error> {
+    let [start, stop, step] = parts;
+    let (start, stop, step) = (part(start), part(stop), part(step));
+    slice(alloc, value, &start, &stop, &step, LENIENT)
+}
+
+fn part(whole: Option<i128>) -> Value {
+    match whole {
+        Some(whole) => Value::number(whole),
+        None => Value::none(),
+    }
 }
 
 #[test]
 fn slices_go_both_ways(rt: HostRuntime) -> Result<(), Fail> {
     let alloc = rt.alloc();
-    let none = Value::none();
     let list = numbers(alloc, &[1, 2, 3])?;
-    let tail = slice(alloc, &list, &Value::number(-2), &none, &none, LENIENT)?;
-    assert!(rt; tail == numbers(alloc, &[2, 3])?);
-    let back = slice(
-        alloc,
-        &list,
-        &Value::number(5),
-        &none,
-        &Value::number(-2),
-        LENIENT,
-    )?;
-    assert!(rt; back == numbers(alloc, &[3, 1])?);
+    assert!(rt;
+        is(
+            cut(alloc, &list, [Some(-2), None, None]),
+            &numbers(alloc, &[2, 3])?
+        )
+    );
+    assert!(rt;
+        is(
+            cut(alloc, &list, [Some(5), None, Some(-2)]),
+            &numbers(alloc, &[3, 1])?
+        )
+    );
     let text = Value::safe_text(alloc, "abc")?;
-    let turned = slice(alloc, &text, &none, &none, &Value::number(-1), LENIENT)?;
-    assert_eq!(rt; turned.as_str(), Some("cba"));
-    let (one, two) = (Value::number(1), Value::number(2));
+    assert!(rt; is_text(cut(alloc, &text, [None, None, Some(-1)]), "cba"));
     let empty = numbers(alloc, &[])?;
-    assert!(rt; slice(alloc, &none, &one, &two, &none, LENIENT)? == empty);
-    assert!(rt; slice(alloc, &Value::undefined(), &one, &two, &none, LENIENT)? == empty);
+    assert!(rt; is(cut(alloc, &Value::none(), [Some(1), Some(2), None]), &empty));
+    assert!(rt;
+        is(
+            cut(alloc, &Value::undefined(), [Some(1), Some(2), None]),
+            &empty
+        )
+    );
     let invalid = Some(ErrorKind::InvalidOperation);
-    let zero = slice(alloc, &list, &none, &none, &Value::number(0), LENIENT);
-    assert_eq!(rt; kind_of(zero), invalid);
-    let yes = slice(alloc, &list, &Value::boolean(true), &none, &none, LENIENT);
-    assert_eq!(rt; kind_of(yes), invalid);
+    assert_eq!(rt; kind_of(cut(alloc, &list, [None, None, Some(0)])), invalid);
     let map = map_with(alloc, Value::number(1), "a")?;
     assert_eq!(rt;
-        kind_of(slice(alloc, &map, &one, &two, &none, LENIENT)),
+        kind_of(cut(alloc, &map, [Some(1), Some(2), None])),
+        invalid
+    );
+    let (none, yes) = (Value::none(), Value::boolean(true));
+    assert_eq!(rt;
+        kind_of(slice(alloc, &list, &yes, &none, &none, LENIENT)),
         invalid
     );
     let strict = UndefinedBehavior::Strict;
-    let refused = slice(alloc, &Value::undefined(), &text, &two, &none, strict);
-    assert_eq!(rt; kind_of(refused), Some(ErrorKind::UndefinedError));
+    let refused = kind_of(slice(alloc, &Value::undefined(), &text, &none, &none, strict));
+    assert_eq!(rt; refused, Some(ErrorKind::UndefinedError));
     Ok(())
 }
 
@@ -285,19 +345,21 @@ fn slices_go_both_ways(rt: HostRuntime) -> Result<(), Fail> {
 fn texts_are_joined_as_they_print(rt: HostRuntime) -> Result<(), Fail> {
     let alloc = rt.alloc();
     let safe = Value::safe_text(alloc, "<a>")?;
-    let list = numbers(alloc, &[1, 2])?;
-    let joined = concatenate(alloc, &safe, &list, &NoRecords, LENIENT)?;
+    let joined = concatenate(alloc, &safe, &numbers(alloc, &[1, 2])?, &NoRecords, LENIENT)?;
     assert_eq!(rt; joined.as_str(), Some("<a>[1, 2]"));
-    assert!(rt; matches!(&joined.node, Node::Text(_, false)));
+    assert!(rt; !is_safe(&joined));
     let undefined = Value::undefined();
-    assert_eq!(rt;
-        concatenate(alloc, &undefined, &safe, &NoRecords, LENIENT)?.as_str(),
-        Some("<a>")
+    assert!(rt;
+        is_text(
+            concatenate(alloc, &undefined, &safe, &NoRecords, LENIENT),
+            "<a>"
+        )
     );
     let strict = UndefinedBehavior::Strict;
-    let refused = concatenate(alloc, &safe, &undefined, &NoRecords, strict);
-    assert_eq!(rt; kind_of(refused), Some(ErrorKind::UndefinedError));
-    let foreign = concatenate(alloc, &safe, &Value::namespace(0, 0), &NoRecords, LENIENT);
-    assert_eq!(rt; kind_of(foreign), Some(ErrorKind::InvalidOperation));
+    let refused = kind_of(concatenate(alloc, &safe, &undefined, &NoRecords, strict));
+    assert_eq!(rt; refused, Some(ErrorKind::UndefinedError));
+    let foreign = Value::namespace(0, 0);
+    let refused = kind_of(concatenate(alloc, &safe, &foreign, &NoRecords, LENIENT));
+    assert_eq!(rt; refused, Some(ErrorKind::InvalidOperation));
     Ok(())
 }
