@@ -23,4 +23,5 @@ is_met GreaterOrEqual o = not (is_lt o)
 -- both sides are asked for being undefined, the left one first
 abbrev pub compared : Comparison → UndefinedBehavior → Val → Val → Answer Bool
 compared c b l r =
-    unless (refusal_of b use_of.Comparison l) (unless (refusal_of b use_of.Comparison r) (Ok (is_met c (val_cmp l r))))
+    unless (refusal_of b use_of.Comparison l)
+    (unless (refusal_of b use_of.Comparison r) (Ok (is_met c (val_cmp l r))))

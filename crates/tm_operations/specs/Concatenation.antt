@@ -16,7 +16,11 @@ where_fine (Err chain) answer = Err chain
 
 -- the joined text isn't safe
 abbrev pub joined : RecordData → Val → Val → Answer Val
-joined r left right = where_fine (print_verdict r left) (where_fine (print_verdict r right) (Ok (text (printed r left ++ printed r right) false)))
+joined r left right =
+    where_fine (print_verdict r left)
+    (where_fine (print_verdict r right) (Ok (text (printed r left ++ printed r right) false)))
 
 abbrev pub concatenated : UndefinedBehavior → RecordData → Val → Val → Answer Val
-concatenated b r left right = unless (refusal_of b use_of.Comparison left) (unless (refusal_of b use_of.Comparison right) (joined r left right))
+concatenated b r left right =
+    unless (refusal_of b use_of.Comparison left)
+    (unless (refusal_of b use_of.Comparison right) (joined r left right))

@@ -46,4 +46,6 @@ found_in r _ v = invalid
 
 -- the right side is asked for being undefined first, then the left one
 abbrev pub contained : UndefinedBehavior → RecordData → Val → Val → Answer Bool
-contained b r container v = unless (refusal_of b use_of.Containment container) (unless (refusal_of b use_of.Comparison v) (found_in r container v))
+contained b r container v =
+    unless (refusal_of b use_of.Containment container)
+    (unless (refusal_of b use_of.Comparison v) (found_in r container v))

@@ -3,14 +3,13 @@ use Rattle.std.specs.Prelude.{ℕ, ◌+◌, ◌-◌, ◌==◌, ℤ, pos, Bool, t
 use Rattle.std.specs.Char.{encode_utf8}
 use Rattle.std.specs.Cmp.Lexicographic.{pointwise}
 use Rattle.std.specs.Str.{chars}
-use Rattle.tm_operations.specs.Undefined.{unless}
+use Rattle.tm_operations.specs.Undefined.{refusal_of, unless}
 use Rattle.tm_operations.specs.declared.members.LoopAttribute.{LoopAttribute}
 use Rattle.tm_operations.specs.declared.members.LoopAttribute.TheVariants as of_loop
 use Rattle.tm_primitives.specs.Places.{place_of}
 use Rattle.tm_values.specs.Answer.{Answer, invalid}
 use Rattle.tm_values.specs.Map.{find}
 use Rattle.tm_values.specs.Records.{RecordData, LoopData, loop_at, namespace_at}
-use Rattle.tm_values.specs.Undefined.{undefined_refusal}
 use Rattle.tm_values.specs.Val.{MacroData, Val, undefined, none, boolean, number, text, list, map, keywords, exports, function, macro, loop, namespace, vals_of, list_of, entries_of, text_in}
 use Rattle.tm_values.specs.declared.undefined.UndefinedBehavior.{UndefinedBehavior}
 use Rattle.tm_values.specs.declared.undefined.UndefinedUse.TheVariants as use_of
@@ -85,9 +84,13 @@ abbrev pub namespace_member : Option (List (Val × Val)) → Val → Answer Val
 namespace_member None k = invalid
 namespace_member (Some ps) k = Ok (or_undefined (find k ps))
 
+-- an attribute or an item of a value that is undefined
+abbrev pub member_of_undefined : UndefinedBehavior → Val → Answer Val
+member_of_undefined b v = unless (refusal_of b use_of.Member v) (Ok (undefined false))
+
 -- the attribute n of a value
 abbrev pub attribute_of : UndefinedBehavior → RecordData → Val → List ℕ → Answer Val
-attribute_of b r (undefined silent) n = unless (undefined_refusal b use_of.Member silent) (Ok (undefined false))
+attribute_of b r (undefined silent) n = member_of_undefined b (undefined silent)
 attribute_of b r (map ps) n = Ok (or_undefined (find (text n false) (entries_of ps)))
 attribute_of b r (keywords ps) n = Ok (or_undefined (find (text n false) (entries_of ps)))
 attribute_of b r (exports ps s) n = Ok (or_undefined (find (text n false) (entries_of ps)))
@@ -126,7 +129,7 @@ loop_item (Some l) (Some n) = loop_member (Some l) n
 
 -- the item of a value at a key: by key, or by a whole number that counts from either end
 abbrev pub item_of : UndefinedBehavior → RecordData → Val → Val → Answer Val
-item_of b r (undefined silent) k = unless (undefined_refusal b use_of.Member silent) (Ok (undefined false))
+item_of b r (undefined silent) k = member_of_undefined b (undefined silent)
 item_of b r (text s safe) k = Ok (text_item s k)
 item_of b r (list vs) k = Ok (list_item (list_of vs) k)
 item_of b r (map ps) k = Ok (or_undefined (find k (entries_of ps)))

@@ -32,6 +32,10 @@ abbrev pub parts_of : Option (Option ℤ) → Option (Option ℤ) → Option ℤ
 parts_of (Some x) (Some y) (Some z) = Some (record { start = x; stop = y; step = z })
 parts_of _ _ _ = None
 
+-- what three values say of a slice, where each of them can
+abbrev pub parts_in : Val → Val → Val → Option Parts
+parts_in start stop step = parts_of (bound_in start) (bound_in stop) (step_in step)
+
 -- the places that a slice takes of so many
 abbrev pub taken : ℕ → Parts → List ℕ
 taken n p = places_of n p.start p.stop p.step
@@ -39,9 +43,14 @@ taken n p = places_of n p.start p.stop p.step
 abbrev pub items_at : List Val → List ℕ → List Val
 items_at xs places = each (λ p. slice_index_or xs p none) places
 
--- Of a list its items and of a text its characters, which aren't safe; of undefined and none nothing.
+-- the list of the items at the places
+abbrev pub list_at : List Val → List ℕ → Answer Val
+list_at xs places = Ok (list (vals_of (items_at xs places)))
+
+-- Of a list its items and of a text its characters, which aren't safe; of undefined and none the
+-- empty list.
 abbrev pub cut : Val → Parts → Answer Val
-cut (list vs) p = Ok (list (vals_of (items_at (list_of vs) (taken (length (list_of vs)) p))))
+cut (list vs) p = list_at (list_of vs) (taken (length (list_of vs)) p)
 cut (text s safe) p = Ok (text (picked (chars s) (taken (length (chars s)) p)) false)
 cut (undefined silent) p = Ok (list (vals_of []))
 cut none p = Ok (list (vals_of []))
@@ -53,4 +62,5 @@ cut_by v (Some p) = cut v p
 
 -- the value's being undefined is asked first, then the parts are tested
 abbrev pub sliced : UndefinedBehavior → Val → Val → Val → Val → Answer Val
-sliced b v start stop step = unless (refusal_of b use_of.Slice v) (cut_by v (parts_of (bound_in start) (bound_in stop) (step_in step)))
+sliced b v start stop step =
+    unless (refusal_of b use_of.Slice v) (cut_by v (parts_in start stop step))

@@ -10,7 +10,8 @@ use Rattle.tm_values.specs.declared.undefined.UndefinedUse.TheVariants.{Truth}
 abbrev holds_any : {A : Type 0} → List A → Bool
 holds_any xs = not (length xs == 0)
 
--- False are undefined, none, false, 0, and what is empty of texts, lists, maps, keyword maps and modules.
+-- False are undefined, none, false, 0, and what is empty of texts, lists, maps, keyword maps and
+-- modules.
 abbrev pub is_true : Val → Bool
 is_true (undefined silent) = false
 is_true none = false

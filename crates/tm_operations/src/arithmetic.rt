@@ -91,11 +91,19 @@ pub fn negate(alloc: Global, value: &Value) -> Result<Value, Error>
 pub fn divide(alloc: Global, _left: &Value, _right: &Value) -> Result<Value, Error>
     ensures { IsAnswer result (divided _left.now _right.now) }
 {
-    Err(Error::new(
+    Err(no_fractions(alloc))
+}
+
+#[cold]
+#[inline(never)]
+fn no_fractions(alloc: Global) -> Error
+    ensures { result ≡ ErrorKind.InvalidOperation ∷ [] }
+{
+    Error::new(
         alloc,
         ErrorKind::InvalidOperation,
         "there are no fractions; // gives the whole quotient",
-    ))
+    )
 }
 
 // Two numbers, where both values are.

@@ -10,8 +10,8 @@ use std::rc::RcStr;
 use tm_printing::{check_print, print};
 use tm_values::{Error, ErrorKind, Records, UndefinedBehavior, UndefinedUse, Value};
 
-/// `left ~ right`: the two printed texts, one after the other, not safe. UndefinedError where a side
-/// is undefined and the behaviour refuses that; InvalidOperation where one can't be printed.
+/// `left ~ right`: the two printed texts, one after the other, not safe. UndefinedError where a
+/// side is undefined and the behaviour refuses that; InvalidOperation where one can't be printed.
 pub fn concatenate<R: Records>(
     alloc: Global,
     left: &Value,
@@ -47,7 +47,8 @@ fn join<R: Records>(alloc: Global, left: &Value, right: &Value, records: &R) -> 
 
 // Appends the printed text.
 fn print_behind<R: Records>(value: &Value, records: &R, text: &mut String) -> Result<(), Error>
-    ensures { MatchResult result (λ _. string_bytes text.new ≡ string_bytes text.old ++ printed (R.records records.now) value.now)
+    ensures { MatchResult result
+        (λ _. string_bytes text.new ≡ string_bytes text.old ++ printed (R.records records.now) value.now)
         (λ e. e ≡ ErrorKind.OutOfMemory ∷ []) }
 {
     match print(value, records, text) {

@@ -9,10 +9,10 @@ use tm_values::{
     Error, ErrorKind, Node, Records, UndefinedBehavior, UndefinedUse, Value, find_namespace,
 };
 
-/// Whether `item in container`: an item of a list, a key of a map, keyword map, module or namespace,
-/// a text inside a text. UndefinedError where a side is undefined and the behaviour refuses that, the
-/// right side asked first; nothing is in an undefined container. InvalidOperation for other pairs,
-/// and for a namespace whose record isn't there.
+/// Whether `item in container`: an item of a list, a key of a map, keyword map, module or
+/// namespace, a text inside a text. UndefinedError where a side is undefined and the behaviour
+/// refuses that, the right side asked first; nothing is in an undefined container.
+/// InvalidOperation for other pairs, and for a namespace whose record isn't there.
 pub fn contains<R: Records>(
     alloc: Global,
     container: &Value,

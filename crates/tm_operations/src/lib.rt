@@ -7,8 +7,6 @@ mod concatenation;
 mod condition;
 mod containment;
 mod iteration;
-#[cfg(test)]
-mod iteration_tests;
 mod members;
 mod names;
 mod slices;

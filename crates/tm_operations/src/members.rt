@@ -1,12 +1,11 @@
 //! Attributes and items.
-ghost use Rattle.std.specs.Prelude.{◌≡◌, ◌∷◌, [], Some, Ok, false, option_map, slice_get, map as each};
+ghost use Rattle.std.specs.Prelude.{◌≡◌, ◌∷◌, [], Some, Ok, option_map, slice_get, map as each};
 ghost use Rattle.std.specs.Rc.{rc_str_bytes};
-ghost use Rattle.tm_operations.specs.Members.{or_undefined, loop_attribute_named, at_item, loop_member, macro_member, attribute_of, item_of, list_item, text_item, loop_item, settable, is_callable, text_values};
+ghost use Rattle.tm_operations.specs.Members.{or_undefined, loop_attribute_named, at_item, loop_member, macro_member, member_of_undefined, attribute_of, item_of, list_item, text_item, loop_item, settable, is_callable, text_values};
 ghost use Rattle.tm_values.specs.Answer.{IsAnswer};
 ghost use Rattle.tm_values.specs.Records.{LoopData, loop_at};
 ghost use Rattle.tm_values.specs.Position.{position_of};
-ghost use Rattle.tm_operations.specs.Undefined.{refusal_of, unless};
-ghost use Rattle.tm_values.specs.Val.{undefined, list, vals_of, text_in};
+ghost use Rattle.tm_values.specs.Val.{list, vals_of, text_in};
 
 use crate::undefined::check_defined;
 use std::alloc::Global;
@@ -79,8 +78,8 @@ impl LoopAttribute {
 
 /// The attribute `value.name`: of a map, keyword map, module or namespace the value at the text, of
 /// a loop or a macro what it tells of itself; undefined where there is none. UndefinedError where
-/// the value is undefined and the behaviour refuses that; InvalidOperation for a loop or a namespace
-/// whose record isn't there.
+/// the value is undefined and the behaviour refuses that; InvalidOperation for a loop or a
+/// namespace whose record isn't there.
 pub fn attribute<R: Records>(
     alloc: Global,
     value: &Value,
@@ -103,10 +102,10 @@ pub fn attribute<R: Records>(
     }
 }
 
-/// The item `value[key]`: of a map, keyword map, module or namespace the value at the key; of a list
-/// or a text, by a whole number counted from either end, the item or the character, which isn't safe;
-/// of a loop or a macro what it tells of itself by a text. Undefined where there is none. Errors as
-/// of an attribute.
+/// The item `value[key]`: of a map, keyword map, module or namespace the value at the key; of a
+/// list or a text, by a whole number counted from either end, the item or the character, which
+/// isn't safe; of a loop or a macro what it tells of itself by a text. Undefined where there is
+/// none. Errors as of an attribute.
 pub fn item<R: Records>(
     alloc: Global,
     value: &Value,
@@ -186,7 +185,7 @@ fn shared(found: Option<&Value>) -> Result<Value, Error>
 
 // An attribute or an item of an undefined value, where it may be asked for.
 fn undefined_member(value: &Value, behavior: UndefinedBehavior) -> Result<Value, Error>
-    ensures { result ≡ unless (refusal_of behavior UndefinedUse.Member value.now) (Ok (undefined false)) }
+    ensures { result ≡ member_of_undefined behavior value.now }
 {
     check_defined(value, behavior, UndefinedUse::Member)?;
     Ok(Value::undefined())
@@ -243,8 +242,8 @@ fn loop_value<R: Records>(
     place: usize,
     attribute: LoopAttribute,
 ) -> Result<Value, Error>
-    ensures { (l : LoopData) → slice_get (R.records records.now).loops index ≡ Some l → position_of l ≡ position
-        → IsAnswer result (Ok (at_item l place attribute)) }
+    ensures { (l : LoopData) → slice_get (R.records records.now).loops index ≡ Some l
+        → position_of l ≡ position → IsAnswer result (Ok (at_item l place attribute)) }
 {
     let count = position.count;
     let left = count.saturating_sub(place);
@@ -270,7 +269,8 @@ fn loop_item<R: Records>(
     key: &Value,
     records: &R,
 ) -> Result<Value, Error>
-    ensures { IsAnswer result (loop_item (loop_at (R.records records.now) state index) (text_in key.now)) }
+    ensures { IsAnswer result
+        (loop_item (loop_at (R.records records.now) state index) (text_in key.now)) }
 {
     match key.as_str() {
         Some(name) => loop_member(alloc, state, index, name, records),

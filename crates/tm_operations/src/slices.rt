@@ -1,9 +1,8 @@
 //! Slices.
-ghost use Rattle.std.specs.Prelude.{◌≡◌, ◌≢◌, ◌<◌, ◌∷◌, [], pos, length, Ok, Some, OnSome, All};
-ghost use Rattle.tm_operations.specs.Slices.{bound_in, step_in, parts_of, items_at, cut, cut_by, sliced};
+ghost use Rattle.std.specs.Prelude.{◌≡◌, ◌≢◌, ◌<◌, ◌∷◌, [], pos, length, Some, OnSome, All};
+ghost use Rattle.tm_operations.specs.Slices.{bound_in, step_in, parts_in, list_at, cut, cut_by, sliced};
 ghost use Rattle.tm_primitives.specs.Places.{places_of};
 ghost use Rattle.tm_values.specs.Answer.{IsAnswer};
-ghost use Rattle.tm_values.specs.Val.{list, vals_of};
 
 use crate::undefined::check_defined;
 use std::alloc::Global;
@@ -39,7 +38,7 @@ fn cut_by(
     stop: &Value,
     step: &Value,
 ) -> Result<Value, Error>
-    ensures { IsAnswer result (cut_by value.now (parts_of (bound_in start.now) (bound_in stop.now) (step_in step.now))) }
+    ensures { IsAnswer result (cut_by value.now (parts_in start.now stop.now step.now)) }
 {
     match (bound(start), bound(stop), step_of(step)) {
         (Some(start), Some(stop), Some(step)) => cut(alloc, value, start, stop, step),
@@ -99,7 +98,7 @@ fn cut_list(
     step: i128,
 ) -> Result<Value, Error>
     requires { step ≢ pos 0 }
-    ensures { IsAnswer result (Ok (list (vals_of (items_at items.now (places_of (length items.now) start stop step))))) }
+    ensures { IsAnswer result (list_at items.now (places_of (length items.now) start stop step)) }
 {
     pick_items(alloc, items, Places::of(items.len(), start, stop, step))
 }
@@ -107,7 +106,7 @@ fn cut_list(
 // The items at the places.
 fn pick_items(alloc: Global, items: &[Value], mut places: Places) -> Result<Value, Error>
     requires { All (λ p. p < length items.now) places }
-    ensures { IsAnswer result (Ok (list (vals_of (items_at items.now places)))) }
+    ensures { IsAnswer result (list_at items.now places) }
 {
     let mut picked = Vec::with_capacity(alloc, places.len())?;
     while let Some(place) = places.next() {

@@ -4,11 +4,14 @@ use Rattle.std.specs.Io.KnownBytes.{Appends}
 use Rattle.tm_output.specs.Counts.{one_more, AppendsBeginning}
 
 -- a target took the whole text where it answered Ok, and a beginning of it where it failed
-abbrev pub Takes : {T U E : Type 0} → (T → List ℕ → T → Type 0) → (T → List ℕ → T → Type 0) → Result U E → T → List ℕ → T → Type 0
-Takes took stopped r old text new = MatchResult r (λ _. took old text new) (λ _. stopped old text new)
+abbrev pub Takes :
+    {T U E : Type 0} → (T → List ℕ → T → Type 0) → (T → List ℕ → T → Type 0)
+    → Result U E → T → List ℕ → T → Type 0
+Takes took stopped r old text new =
+    MatchResult r (λ _. took old text new) (λ _. stopped old text new)
 
--- what every target keeps: no text changes nothing, texts one after the other are the joined text, and a beginning of a text
--- is one of any longer text
+-- what every target keeps: no text changes nothing, texts one after the other are the joined text,
+-- and a beginning of a text is one of any longer text
 pub record Laws {T : Type 0} (took stopped : T → List ℕ → T → Type 0) : Type 0 where
   pub nothing : (a : T) → took a [] a
   pub then_took : (a b c : T) (s t : List ℕ) → took a s b → took b t c → took a (s ++ t) c
@@ -23,6 +26,13 @@ Grows old text new = new ≡ old ++ text
 abbrev pub GrowsInPart : List ℕ → List ℕ → List ℕ → Type 0
 GrowsInPart old text new = (n : ℕ) × (new ≡ old ++ take n text)
 
+-- the same of a string, before and after, seen by its bytes
+abbrev pub StringGrows : {S : Type 0} → (S → List ℕ) → S → List ℕ → S → Type 0
+StringGrows bytes old text new = Grows (bytes old) text (bytes new)
+
+abbrev pub StringGrowsInPart : {S : Type 0} → (S → List ℕ) → S → List ℕ → S → Type 0
+StringGrowsInPart bytes old text new = GrowsInPart (bytes old) text (bytes new)
+
 -- a writer is told the text, and no call failed
 abbrev pub IsTold : Option (List ℕ) → ℕ → List ℕ → Option (List ℕ) → ℕ → Type 0
 IsTold old faults text new count = Appends old new text × (count ≡ faults)
@@ -30,3 +40,13 @@ IsTold old faults text new count = Appends old new text × (count ≡ faults)
 -- a writer is told a beginning of the text, and a call failed
 abbrev pub IsToldInPart : Option (List ℕ) → ℕ → List ℕ → Option (List ℕ) → ℕ → Type 0
 IsToldInPart old faults text new count = AppendsBeginning old new text × (count ≡ one_more faults)
+
+-- the same of a writer, before and after, seen by what it was told and by its failures
+abbrev pub WriterTakes :
+    {S : Type 0} → (S → Option (List ℕ)) → (S → ℕ) → S → List ℕ → S → Type 0
+WriterTakes told faults old text new = IsTold (told old) (faults old) text (told new) (faults new)
+
+abbrev pub WriterTakesInPart :
+    {S : Type 0} → (S → Option (List ℕ)) → (S → ℕ) → S → List ℕ → S → Type 0
+WriterTakesInPart told faults old text new =
+    IsToldInPart (told old) (faults old) text (told new) (faults new)

@@ -1,5 +1,5 @@
 //! Writers whose bytes are told and whose faults are counted.
-ghost use Rattle.std.specs.Prelude.{◌≡◌, ◌<◌, ℕ, List, [], length, Option, None, IsOk, OnOk, OnErr};
+ghost use Rattle.std.specs.Prelude.{◌≡◌, ◌<◌, ℕ, List, [], length, Option, None, Ok, IsOk, OnOk, OnErr};
 ghost use Rattle.std.specs.Io.{WritesAtMost};
 ghost use Rattle.std.specs.Io.KnownBytes.{Keeps, WriteAppends, Appends};
 ghost use Rattle.tm_output.specs.Counts.{fault_count, one_more, AppendsBeginning};
@@ -103,7 +103,14 @@ impl Sink for NullWriter {
 
     ghost faults = { λ _. 0 };
 
-    fn write(&mut self, bytes: &[u8]) -> io::Result<usize> {
+    /// Takes all of the bytes.
+    fn write(&mut self, bytes: &[u8]) -> io::Result<usize>
+        requires { 0 < length bytes.now }
+        ensures bound { WritesAtMost result bytes.now }
+        ensures bytes { WriteAppends None None result bytes.now }
+        ensures faults { 0 ≡ fault_count result 0 }
+        ensures all { result ≡ Ok (length bytes.now) }
+    {
         Ok(bytes.len())
     }
 }

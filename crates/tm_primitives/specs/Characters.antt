@@ -10,7 +10,8 @@ starts_character b = nat_lt b 128 || nat_lt 191 b
 
 -- the bytes are those of the text's character at the place
 abbrev pub IsCharacterAt : ℕ → List ℕ → List ℕ → Type 0
-IsCharacterAt place text bytes = (place < length (chars text)) × (bytes ≡ encode_utf8 (slice_index (chars text) place))
+IsCharacterAt place text bytes =
+    (place < length (chars text)) × (bytes ≡ encode_utf8 (slice_index (chars text) place))
 
 -- the bytes of those of the characters that stand at these places
 abbrev pub picked : List ℕ → List ℕ → List ℕ

@@ -7,9 +7,14 @@ use Rattle.std.specs.Int.{is_negative, div_ceil}
 abbrev pub from_start : ℕ → ℤ → ℤ
 from_start n i = cond (is_negative i) (i +ℤ pos n) i
 
+-- x as a place among n, where it is one
+abbrev pub place_among : ℕ → ℤ → Option ℕ
+place_among n x =
+    cond (is_negative x) None (cond (int_lt x (pos n)) (Some (unsigned_abs x)) None)
+
 -- the place of the index among n, where it is one
 abbrev pub place_of : ℕ → ℤ → Option ℕ
-place_of n i = cond (is_negative (from_start n i)) None (cond (int_lt (from_start n i) (pos n)) (Some (unsigned_abs (from_start n i))) None)
+place_of n i = place_among n (from_start n i)
 
 -- the lowest and the highest bound of a slice by steps of z: from 0 to n, or from -1 to n - 1
 abbrev pub lowest : ℤ → ℤ
@@ -47,9 +52,13 @@ abbrev pub places_from : ℤ → ℤ → ℕ → List ℕ
 places_from x z zero = []
 places_from x z (suc m) = unsigned_abs x ∷ places_from (x +ℤ z) z m
 
+-- the places from x on, by steps of z, those before y
+abbrev pub places_between : ℤ → ℤ → ℤ → List ℕ
+places_between z x y = places_from x z (count_before z x y)
+
 -- of n places those that a slice takes: from its start on, by steps of z, those before its stop
 abbrev pub places_of : ℕ → Option ℤ → Option ℤ → ℤ → List ℕ
-places_of n start stop z = places_from (start_of n z start) z (count_before z (start_of n z start) (stop_of n z stop))
+places_of n start stop z = places_between z (start_of n z start) (stop_of n z stop)
 
 -- each of x, x + z, .., m in all, is a place below n
 abbrev pub Within : ℕ → ℤ → ℤ → ℕ → Type 0
@@ -73,7 +82,8 @@ step_to x z k = x +ℤ pos k *ℤ z
 
 -- the k-th of the places is the slice's start + k * z
 abbrev pub AreSpaced : ℕ → Option ℤ → ℤ → List ℕ → Type 0
-AreSpaced n start z ps = (k d : ℕ) → k < length ps → pos (slice_index_or ps k d) ≡ step_to (start_of n z start) z k
+AreSpaced n start z ps =
+    (k d : ℕ) → k < length ps → pos (slice_index_or ps k d) ≡ step_to (start_of n z start) z k
 
 -- the places stand before the slice's stop
 abbrev pub AreBefore : ℕ → Option ℤ → ℤ → List ℕ → Type 0
@@ -81,7 +91,8 @@ AreBefore n stop z ps = All (λ p. IsBefore z (pos p) (stop_of n z stop)) ps
 
 -- and one more step from the last of them would not
 abbrev pub IsDone : ℕ → Option ℤ → Option ℤ → ℤ → List ℕ → Type 0
-IsDone n start stop z ps = IsBefore z (step_to (start_of n z start) z (length ps)) (stop_of n z stop) → ⊥
+IsDone n start stop z ps =
+    IsBefore z (step_to (start_of n z start) z (length ps)) (stop_of n z stop) → ⊥
 
 -- strictly up or strictly down, by the step's sign: so none comes twice
 abbrev pub GoTheWay : ℤ → List ℕ → Type 0

@@ -42,12 +42,17 @@ abbrev mutual
 
   pub members_of : Inside → Pairs → json.Members
   members_of inside no_pairs = json.no_members
-  members_of inside (pair k v ps) = json.member (key_bytes k) (data_of inside v) (members_of inside ps)
+  members_of inside (pair k v ps) =
+      json.member (key_bytes k) (data_of inside v) (members_of inside ps)
+
+abbrev pub object_data : Inside → Pairs → json.Data
+object_data inside ps = json.object (members_of inside ps)
 
 -- a namespace is the object of what it holds
 abbrev pub namespace_data : RecordData → ℕ → Inside
 namespace_data r zero s n = json.null
-namespace_data r (suc levels) s n = entered (namespace_at r s n) json.null (λ ps. json.object (members_of (namespace_data r levels) ps))
+namespace_data r (suc levels) s n =
+    entered (namespace_at r s n) json.null (object_data (namespace_data r levels))
 
 -- the text of a list, of an item with its comma, of a map, of a key and of a member with its comma
 abbrev pub array_text : Inside → Vals → List ℕ
@@ -57,13 +62,14 @@ abbrev pub item_json : Inside → Bool → Val → List ℕ
 item_json inside later v = comma_if later ++ compact_text (data_of inside v)
 
 abbrev pub object_text : Inside → Pairs → List ℕ
-object_text inside ps = compact_text (json.object (members_of inside ps))
+object_text inside ps = compact_text (object_data inside ps)
 
 abbrev pub key_text : Val → List ℕ
 key_text k = quoted (key_bytes k)
 
 abbrev pub member_json : Inside → Bool → Val × Val → List ℕ
-member_json inside later p = comma_if later ++ (key_text p.0 ++ ((58 ∷ []) ++ compact_text (data_of inside p.1)))
+member_json inside later p =
+    comma_if later ++ (key_text p.0 ++ ((58 ∷ []) ++ compact_text (data_of inside p.1)))
 
 abbrev pub json_within : RecordData → ℕ → Val → List ℕ
 json_within r levels v = compact_text (data_of (namespace_data r levels) v)

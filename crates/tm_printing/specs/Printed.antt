@@ -42,19 +42,23 @@ abbrev mutual
   -- the items and the closing bracket; a comma stands before each but the first of a list
   pub inner_items : RecordData → Inside → Bool → Vals → List ℕ
   inner_items r inside later no_vals = codes "]"
-  inner_items r inside later (val v vs) = (comma_after later ++ inner r inside v) ++ inner_items r inside true vs
+  inner_items r inside later (val v vs) =
+      (comma_after later ++ inner r inside v) ++ inner_items r inside true vs
 
   -- the pairs and the closing brace
   pub inner_pairs : RecordData → Inside → Bool → Pairs → List ℕ
   inner_pairs r inside later no_pairs = codes "}"
-  inner_pairs r inside later (pair k v ps) = (comma_after later ++ (inner r inside k ++ (codes ": " ++ inner r inside v))) ++ inner_pairs r inside true ps
+  inner_pairs r inside later (pair k v ps) =
+      (comma_after later ++ (inner r inside k ++ (codes ": " ++ inner r inside v)))
+      ++ inner_pairs r inside true ps
 
 -- an item, and a pair
 abbrev pub item_text : RecordData → Inside → Bool → Val → List ℕ
 item_text r inside later v = comma_after later ++ inner r inside v
 
 abbrev pub pair_text : RecordData → Inside → Bool → Val × Val → List ℕ
-pair_text r inside later p = comma_after later ++ (inner r inside p.0 ++ (codes ": " ++ inner r inside p.1))
+pair_text r inside later p =
+    comma_after later ++ (inner r inside p.0 ++ (codes ": " ++ inner r inside p.1))
 
 abbrev pub list_text : RecordData → Inside → Vals → List ℕ
 list_text r inside vs = codes "[" ++ inner_items r inside false vs
@@ -67,13 +71,15 @@ abbrev pub entered : {A : Type 0} → Option (List (Val × Val)) → A → (Pair
 entered None missing there = missing
 entered (Some ps) missing there = there (pairs_of ps)
 
--- A namespace is printed as the map of what it holds. Namespaces lie within one another at most as many levels deep as this; what
--- lies deeper, or isn't there, is refused, and prints nothing.
+-- A namespace is printed as the map of what it holds. Namespaces lie within one another at most as
+-- many levels deep as this; what lies deeper, or isn't there, is refused, and prints nothing.
 abbrev pub namespace_text : RecordData → ℕ → Inside
 namespace_text r zero s n = []
-namespace_text r (suc levels) s n = entered (namespace_at r s n) [] (map_text r (namespace_text r levels))
+namespace_text r (suc levels) s n =
+    entered (namespace_at r s n) [] (map_text r (namespace_text r levels))
 
--- what stands for itself where it isn't within a list or a map: undefined prints nothing, and a text has no quotes
+-- what stands for itself where it isn't within a list or a map: undefined prints nothing, and a
+-- text has no quotes
 abbrev pub bare_text : Val → Option (List ℕ)
 bare_text (undefined silent) = Some []
 bare_text (text s safe) = Some s

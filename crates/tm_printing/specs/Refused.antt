@@ -1,4 +1,5 @@
--- Whether a value can be printed or written as JSON, or the error of the first bad part from the left.
+-- Whether a value can be printed or written as JSON, or the error of the first bad part from the
+-- left.
 use Rattle.std.specs.Prelude.{ℕ, zero, suc, Bool, true, false, cond, ◌==◌, ℤ, pos, negsuc, ◌^◌, nat_lt, length, Ok, Err, is_some}
 use Rattle.tm_values.specs.Answer.{Answer, refused, invalid}
 use Rattle.tm_values.specs.Records.{RecordData, namespace_at, loop_at}
@@ -46,6 +47,10 @@ abbrev pub key_verdict : Val → Verdict
 key_verdict (text s safe) = fine
 key_verdict k = no_json
 
+-- of a pair: as a key, and then what its key and its value say
+abbrev pub member_verdict : Form → Val → Verdict → Verdict → Verdict
+member_verdict form k key value = and_then (in_json form (key_verdict k)) (and_then key value)
+
 -- of namespaces, by state and number
 abbrev pub Inside : Type 0
 Inside = ℕ → ℕ → Verdict
@@ -69,16 +74,20 @@ abbrev mutual
 
   pub items_verdict : Form → RecordData → Inside → Vals → Verdict
   items_verdict form r inside no_vals = fine
-  items_verdict form r inside (val v vs) = and_then (verdict form r inside v) (items_verdict form r inside vs)
+  items_verdict form r inside (val v vs) =
+      and_then (verdict form r inside v) (items_verdict form r inside vs)
 
   -- of each pair the key comes first
   pub pairs_verdict : Form → RecordData → Inside → Pairs → Verdict
   pairs_verdict form r inside no_pairs = fine
   pairs_verdict form r inside (pair k v ps) =
-      and_then (and_then (in_json form (key_verdict k)) (and_then (verdict form r inside k) (verdict form r inside v))) (pairs_verdict form r inside ps)
+      and_then
+      (member_verdict form k (verdict form r inside k) (verdict form r inside v))
+      (pairs_verdict form r inside ps)
 
 abbrev pub pair_verdict : Form → RecordData → Inside → Val × Val → Verdict
-pair_verdict form r inside p = and_then (in_json form (key_verdict p.0)) (and_then (verdict form r inside p.0) (verdict form r inside p.1))
+pair_verdict form r inside p =
+    member_verdict form p.0 (verdict form r inside p.0) (verdict form r inside p.1)
 
 -- the namespaces that are being gone through
 abbrev pub Way : Type 0
@@ -90,12 +99,14 @@ nowhere n = false
 abbrev pub through : ℕ → Way → Way
 through n way k = cond (n == k) true (way k)
 
--- A namespace that isn't there is refused, and so is one on the way: it holds itself. As many levels are enough as there are
--- namespaces that aren't on the way.
+-- A namespace that isn't there is refused, and so is one on the way: it holds itself. As many
+-- levels are enough as there are namespaces that aren't on the way.
 abbrev pub namespace_verdict : Form → RecordData → ℕ → Way → Inside
 namespace_verdict form r zero way s n = invalid
 namespace_verdict form r (suc levels) way s n =
-    entered (namespace_at r s n) invalid (λ ps. cond (way n) invalid (pairs_verdict form r (namespace_verdict form r levels (through n way)) ps))
+    entered (namespace_at r s n) invalid
+    (λ ps. cond (way n) invalid
+    (pairs_verdict form r (namespace_verdict form r levels (through n way)) ps))
 
 abbrev pub verdict_within : Form → RecordData → ℕ → Way → Val → Verdict
 verdict_within form r levels way v = verdict form r (namespace_verdict form r levels way) v

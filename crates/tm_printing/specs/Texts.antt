@@ -2,11 +2,15 @@
 use Rattle.std.specs.Prelude.{◌≡◌, ℕ, List, [], ◌∷◌, ◌++◌, cond, ◌==◌, flat_map, codes}
 use Rattle.std.proofs.Common.{refl, ap}
 
--- between quotes: a backslash before the quote and the backslash, and names for the ends of lines and the tab
+-- between quotes: a backslash before the quote and the backslash, and names for the ends of lines
+-- and the tab
 abbrev pub within_quotes : ℕ → List ℕ
 within_quotes b =
     cond (b == 34) (codes "\\\"")
-    (cond (b == 92) (codes "\\\\") (cond (b == 10) (codes "\\n") (cond (b == 13) (codes "\\r") (cond (b == 9) (codes "\\t") (b ∷ [])))))
+    (cond (b == 92) (codes "\\\\")
+    (cond (b == 10) (codes "\\n")
+    (cond (b == 13) (codes "\\r")
+    (cond (b == 9) (codes "\\t") (b ∷ [])))))
 
 -- a text in quotes
 abbrev pub quoted : List ℕ → List ℕ
@@ -17,7 +21,10 @@ abbrev pub in_html : ℕ → List ℕ
 in_html b =
     cond (b == 60) (codes "&lt;")
     (cond (b == 62) (codes "&gt;")
-    (cond (b == 38) (codes "&amp;") (cond (b == 34) (codes "&quot;") (cond (b == 39) (codes "&#x27;") (cond (b == 47) (codes "&#x2f;") (b ∷ []))))))
+    (cond (b == 38) (codes "&amp;")
+    (cond (b == 34) (codes "&quot;")
+    (cond (b == 39) (codes "&#x27;")
+    (cond (b == 47) (codes "&#x2f;") (b ∷ []))))))
 
 -- as it is
 abbrev pub as_is : ℕ → List ℕ

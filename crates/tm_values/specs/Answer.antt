@@ -1,8 +1,9 @@
 -- What operations answer: what their definition states, or that no memory was found.
-use Rattle.std.specs.Prelude.{◌≡◌, List, [], ◌∷◌, Bool, true, false, Result, Ok, Err}
+use Rattle.std.specs.Borrow.{Bor}
+use Rattle.std.specs.Prelude.{◌≡◌, List, [], ◌∷◌, Bool, true, false, Option, None, Some, MatchOption, Result, Ok, Err, MatchResult}
 use Rattle.tm_values.specs.Chain.{is_memory}
 use Rattle.tm_values.specs.declared.error.ErrorKind.{ErrorKind}
-use Rattle.tm_values.specs.declared.error.ErrorKind.TheVariants.{InvalidOperation}
+use Rattle.tm_values.specs.declared.error.ErrorKind.TheVariants.{InvalidOperation, OutOfMemory}
 
 -- a value, or the chain of an error
 abbrev pub Answer : Type 0 → Type 0
@@ -25,3 +26,11 @@ is_memory_alone (kind ∷ cause ∷ causes) = false
 abbrev pub IsAnswer : {A : Type 0} → Answer A → Answer A → Type 0
 IsAnswer (Ok v) stated = stated ≡ Ok v
 IsAnswer (Err chain) stated = is_memory_alone chain ≡ false → stated ≡ Err chain
+
+-- What was made is so, or the error is OutOfMemory alone.
+abbrev pub OkOrOutOfMemory : {A : Type 0} → Result A (List ErrorKind) → (A → Type 0) → Type 0
+OkOrOutOfMemory result IsSo = MatchResult result IsSo (λ chain. chain ≡ OutOfMemory ∷ [])
+
+-- What is lent is what was stated, or nothing where that is nothing.
+abbrev pub IsLent : {A : Type 0} → Option (Bor A) → Option A → Type 0
+IsLent lent stated = MatchOption lent (stated ≡ None) (λ x. stated ≡ Some x.now)

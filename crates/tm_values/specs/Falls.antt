@@ -13,7 +13,9 @@ most_vals : (vs : List Val) → most (λ v. val_size v + 1) vs ≤ vals_size (va
 most_vals [] = omega arith
 most_vals (v ∷ vs) = omega (arith, most_vals vs)
 
-most_pairs : (ps : List (Val × Val)) → most (weighed-Node-Map-0-at-2.weight Val (λ v. val_size v + 1)) ps ≤ pairs_size (pairs_of ps) + 1
+most_pairs : (ps : List (Val × Val))
+    → most (weighed-Node-Map-0-at-2.weight Val (λ v. val_size v + 1)) ps
+    ≤ pairs_size (pairs_of ps) + 1
 most_pairs [] = omega arith
 most_pairs (p ∷ ps) = omega (arith, most_pairs ps)
 

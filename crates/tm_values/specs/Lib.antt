@@ -13,3 +13,4 @@ pub mod Undefined
 pub mod Records
 pub mod Position
 pub mod Answer
+pub mod Held

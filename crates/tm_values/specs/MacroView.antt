@@ -6,4 +6,12 @@ use Rattle.tm_values.specs.declared.macros.Macro.TheInside.{Inside}
 
 abbrev pub macro_view : Inside → MacroData
 macro_view m =
-    record { state = m.state; stream = m.stream; entry = m.entry; closure = m.closure; name = rc_str_bytes m.name; arguments = each rc_str_bytes m.arguments.items; caller = m.takes_caller }
+    record {
+      state = m.state;
+      stream = m.stream;
+      entry = m.entry;
+      closure = m.closure;
+      name = rc_str_bytes m.name;
+      arguments = each rc_str_bytes m.arguments.items;
+      caller = m.takes_caller;
+    }

@@ -57,4 +57,5 @@ pub record IsThere (k : Val) (ps : List (Val × Val)) (i : ℕ) : Type 0 where
 pub record IsGapFor (k : Val) (ps : List (Val × Val)) (i : ℕ) : Type 0 where
   pub in_range : i ≤ length ps
   pub lower_before : (j : ℕ) (d : Val × Val) → j < i → val_cmp (slice_index_or ps j d).0 k ≡ Less
-  pub higher_after : (j : ℕ) (d : Val × Val) → i ≤ j → j < length ps → val_cmp (slice_index_or ps j d).0 k ≡ Greater
+  pub higher_after : (j : ℕ) (d : Val × Val)
+      → i ≤ j → j < length ps → val_cmp (slice_index_or ps j d).0 k ≡ Greater

@@ -1,4 +1,5 @@
--- The order of values: by kind, then within the kind. Truth values stand among the numbers, as 0 and 1.
+-- The order of values: by kind, then within the kind. Truth values stand among the numbers, as 0
+-- and 1.
 use Rattle.std.specs.Prelude.{ℕ, ℤ, pos, Bool, true, false, List, [], ◌∷◌, Option}
 use Rattle.std.specs.Cmp.Lexicographic.{slice_cmp}
 use Rattle.std.specs.Option.{option_cmp}
@@ -58,7 +59,8 @@ macro_cmp a b =
     (ordering_then (nat_cmp a.entry b.entry)
     (ordering_then (option_cmp nat_cmp a.closure b.closure)
     (ordering_then (slice_cmp nat_cmp a.name b.name)
-    (ordering_then (slice_cmp (slice_cmp nat_cmp) a.arguments b.arguments) (bool_cmp a.caller b.caller))))))
+    (ordering_then (slice_cmp (slice_cmp nat_cmp) a.arguments b.arguments)
+    (bool_cmp a.caller b.caller))))))
 
 -- a macro to a value, which is one too
 abbrev pub macro_against : MacroData → Val → Ordering
@@ -67,10 +69,12 @@ macro_against m _ = Equal
 
 -- by state, then by number
 abbrev pub record_cmp : Val → Val → Ordering
-record_cmp a b = ordering_then (nat_cmp (state_in a) (state_in b)) (nat_cmp (record_in a) (record_in b))
+record_cmp a b =
+    ordering_then (nat_cmp (state_in a) (state_in b)) (nat_cmp (record_in a) (record_in b))
 
 abbrev mutual
-  -- of one kind: numbers by size, texts by their bytes, lists by their items, maps by their pairs, modules by map, then text
+  -- of one kind: numbers by size, texts by their bytes, lists by their items, maps by their pairs,
+  -- modules by map, then text
   pub within : Val → Val → Ordering
   within (undefined s) b = Equal
   within none b = Equal
@@ -80,7 +84,8 @@ abbrev mutual
   within (list vs) b = vals_cmp vs (vals_in b)
   within (map ps) b = pairs_cmp ps (pairs_in b)
   within (keywords ps) b = pairs_cmp ps (pairs_in b)
-  within (exports ps s) b = ordering_then (pairs_cmp ps (pairs_in b)) (slice_cmp nat_cmp s (bytes_in b))
+  within (exports ps s) b =
+      ordering_then (pairs_cmp ps (pairs_in b)) (slice_cmp nat_cmp s (bytes_in b))
   within (function n) b = nat_cmp n (function_in b)
   within (macro m) b = macro_against m b
   within (loop i n) b = record_cmp (loop i n) b
@@ -91,7 +96,8 @@ abbrev mutual
   vals_cmp no_vals no_vals = Equal
   vals_cmp no_vals (val y ys) = Less
   vals_cmp (val x xs) no_vals = Greater
-  vals_cmp (val x xs) (val y ys) = ordering_then (ordering_then (nat_cmp (rank x) (rank y)) (within x y)) (vals_cmp xs ys)
+  vals_cmp (val x xs) (val y ys) =
+      ordering_then (ordering_then (nat_cmp (rank x) (rank y)) (within x y)) (vals_cmp xs ys)
 
   -- by the first key, then by its value, then by the pairs behind; fewer pairs first
   pub pairs_cmp : Pairs → Pairs → Ordering

@@ -2,7 +2,8 @@
 use Rattle.std.specs.Prelude.{ℕ, ◌-◌, ◌^◌, List, [], Option, None, cond, ◌==◌, slice_get, option_and_then}
 use Rattle.tm_values.specs.Val.{Val}
 
--- a loop: the place of its item or none before the first, how many items it has, its depth, and the items beside
+-- a loop: the place of its item or none before the first, how many items it has, its depth, and the
+-- items beside
 pub record LoopData : Type 0 where
   pub place : Option ℕ
   pub count : ℕ

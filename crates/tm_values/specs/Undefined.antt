@@ -7,17 +7,24 @@ use Rattle.tm_values.specs.declared.undefined.UndefinedBehavior.TheVariants.{Len
 use Rattle.tm_values.specs.declared.undefined.UndefinedUse.{UndefinedUse}
 use Rattle.tm_values.specs.declared.undefined.UndefinedUse.TheVariants.{Emission, Iteration, Member, Truth, Comparison, Containment, Slice, KeywordSpread, ItemSpread, Arithmetic}
 
-abbrev pub fails : Option ErrorKind
+-- the kind of the error, or none where the use goes on
+abbrev pub Refusal : Type 0
+Refusal = Option ErrorKind
+
+abbrev pub fails : Refusal
 fails = Some UndefinedError
 
-abbrev pub by_behavior : Option ErrorKind → Option ErrorKind → Option ErrorKind → Option ErrorKind → UndefinedBehavior → Option ErrorKind
+abbrev pub invalid : Refusal
+invalid = Some InvalidOperation
+
+abbrev pub by_behavior : Refusal → Refusal → Refusal → Refusal → UndefinedBehavior → Refusal
 by_behavior lenient chainable semi_strict strict Lenient = lenient
 by_behavior lenient chainable semi_strict strict Chainable = chainable
 by_behavior lenient chainable semi_strict strict SemiStrict = semi_strict
 by_behavior lenient chainable semi_strict strict Strict = strict
 
--- A row for each use: how it fails under Lenient, Chainable, SemiStrict and Strict; None where it goes on.
-abbrev pub ordinary_refusal : UndefinedUse → UndefinedBehavior → Option ErrorKind
+-- a row for each use: under Lenient, Chainable, SemiStrict and Strict
+abbrev pub ordinary_refusal : UndefinedUse → UndefinedBehavior → Refusal
 ordinary_refusal Emission = by_behavior None None fails fails
 ordinary_refusal Iteration = by_behavior None None fails fails
 ordinary_refusal Member = by_behavior fails None fails fails
@@ -25,16 +32,16 @@ ordinary_refusal Truth = by_behavior None None None fails
 ordinary_refusal Comparison = by_behavior None None None fails
 ordinary_refusal Containment = by_behavior None None fails fails
 ordinary_refusal Slice = by_behavior None None None fails
-ordinary_refusal KeywordSpread = by_behavior (Some InvalidOperation) (Some InvalidOperation) fails fails
+ordinary_refusal KeywordSpread = by_behavior invalid invalid fails fails
 ordinary_refusal ItemSpread = by_behavior None None None None
-ordinary_refusal Arithmetic = by_behavior (Some InvalidOperation) (Some InvalidOperation) (Some InvalidOperation) (Some InvalidOperation)
+ordinary_refusal Arithmetic = by_behavior invalid invalid invalid invalid
 
 -- the silent undefined never fails in emission and truth, and is ordinary elsewhere
-abbrev pub silent_refusal : UndefinedUse → UndefinedBehavior → Option ErrorKind
+abbrev pub silent_refusal : UndefinedUse → UndefinedBehavior → Refusal
 silent_refusal Emission b = None
 silent_refusal Truth b = None
 silent_refusal purpose b = ordinary_refusal purpose b
 
-abbrev pub undefined_refusal : UndefinedBehavior → UndefinedUse → Bool → Option ErrorKind
+abbrev pub undefined_refusal : UndefinedBehavior → UndefinedUse → Bool → Refusal
 undefined_refusal b purpose false = ordinary_refusal purpose b
 undefined_refusal b purpose true = silent_refusal purpose b

@@ -121,4 +121,4 @@ abbrev mutual
 
   pub pairs_size : Pairs → ℕ
   pairs_size no_pairs = 0
-  pairs_size (pair k v ps) = val_size k + val_size v + pairs_size ps + 1
+  pairs_size (pair k v ps) = val_size k + val_size v + pairs_size ps + 2

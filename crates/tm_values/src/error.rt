@@ -1,5 +1,6 @@
 //! Errors: a kind, and the error that it came from.
 ghost use Rattle.std.specs.Prelude.{◌≡◌, ◌<◌, [], ◌∷◌, length, Some, MatchResult, MatchOption};
+ghost use Rattle.tm_values.specs.Answer.{OkOrOutOfMemory};
 ghost use Rattle.tm_values.specs.Chain.{kind_of, causes_of};
 ghost use Rattle.tm_values.specs.Name.{kind_name};
 
@@ -157,7 +158,8 @@ impl<T: Drop> From<AllocFailed<T>> for Error {
 }
 
 impl Error {
-    /// An error of this kind with a detail and without a cause. A detail that finds no memory is missing.
+    /// An error of this kind with a detail and without a cause. A detail that finds no memory is
+    /// missing.
     pub fn new(alloc: Global, kind: ErrorKind, detail: &str) -> Error
         ensures { result ≡ kind ∷ [] }
     {
@@ -192,7 +194,8 @@ impl Error {
         }
     }
 
-    /// The error that this one came from, where there is one. Its chain is shorter, so a loop over causes ends.
+    /// The error that this one came from, where there is one. Its chain is shorter, so a loop over
+    /// causes ends.
     pub fn cause(&self) -> Option<&Error>
         ensures { MatchOption result (causes_of self.now ≡ [])
             (λ e. (e.now ≡ causes_of self.now) × (length e.now < length self.now)) }
@@ -208,7 +211,7 @@ impl Error {
 
     /// This error with the cause in place of its own; OutOfMemory where there is no memory for it.
     pub fn with_source(self, alloc: Global, cause: Error) -> Result<Error, Error>
-        ensures { MatchResult result (λ e. e ≡ kind_of self ∷ cause) (λ e. e ≡ ErrorKind.OutOfMemory ∷ []) }
+        ensures { OkOrOutOfMemory result (λ e. e ≡ kind_of self ∷ cause) }
     {
         let Error { kind, more } = self;
         let detail = match more {

@@ -133,7 +133,8 @@ impl Macro {
 
 // Text by text, then fewer texts first.
 fn compare_texts(left: &[RcStr], right: &[RcStr]) -> Ordering
-    ensures { result ≡ slice_cmp (slice_cmp nat_cmp) (each rc_str_bytes left.now) (each rc_str_bytes right.now) }
+    ensures { result
+        ≡ slice_cmp (slice_cmp nat_cmp) (each rc_str_bytes left.now) (each rc_str_bytes right.now) }
 {
     left.cmp(right)
 }

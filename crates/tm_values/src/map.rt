@@ -1,6 +1,7 @@
 //! Maps: one that is being made, and what a value has at a name.
 ghost use Rattle.std.specs.Prelude.{◌≡◌, [], ◌∷◌, ◌==◌, None, Some, true, false, length, IfOk, IfErr, MatchOption, MatchResult};
 ghost use Rattle.std.specs.Rc.{rc_str_bytes};
+ghost use Rattle.tm_values.specs.Answer.{OkOrOutOfMemory, IsLent};
 ghost use Rattle.tm_values.specs.Map.{put, put_all, find, member, IsMap, IsThere, IsGapFor, IsFoundWherePut, KeepsOtherKeys};
 ghost use Rattle.tm_values.specs.Order.{val_cmp};
 ghost use Rattle.tm_values.specs.Val.{Val, text, map, keywords, exports, pairs_of, entries_in};
@@ -28,6 +29,7 @@ impl Model for ValueMap {
 
     ghost coded = { coded_list (coded× coded_Val coded_Val) };
 
+    ghost use Rattle.tm_values.specs.Answer.{OkOrOutOfMemory, IsLent};
     ghost use Rattle.tm_values.specs.Map.{IsMap};
 
     ghost view = { λ a. a.pairs.items };
@@ -48,17 +50,17 @@ impl ValueMap {
     /// The map of these pairs, put in their order: of equal keys the first spelling and the last
     /// value. Makes n log n comparisons for n pairs. Fails by OutOfMemory alone.
     pub fn from_pairs(mut pairs: Vec<(Value, Value)>) -> Result<ValueMap, Error>
-        ensures { MatchResult result (λ m. m ≡ put_all pairs.items)
-            (λ e. e ≡ ErrorKind.OutOfMemory ∷ []) }
+        ensures { OkOrOutOfMemory result (λ m. m ≡ put_all pairs.items) }
     {
         sort_pairs(&mut pairs)?;
         let pairs = joined(pairs)?;
         Ok(ValueMap { pairs })
     }
 
-    /// Puts the value at the key, in place of one that is there. Fails, by OutOfMemory, with the map unchanged.
+    /// Puts the value at the key, in place of one that is there. Fails, by OutOfMemory, with the
+    /// map unchanged.
     pub fn insert(&mut self, key: Value, value: Value) -> Result<(), Error>
-        ensures outcome { MatchResult result (λ _. self.new ≡ put key value self.old) (λ e. e ≡ ErrorKind.OutOfMemory ∷ []) }
+        ensures outcome { OkOrOutOfMemory result (λ _. self.new ≡ put key value self.old) }
         ensures unchanged { IfErr result (λ _. self.new ≡ self.old) }
     {
         put_pair(&mut self.pairs, key, value)
@@ -87,7 +89,7 @@ impl ValueMap {
 
     /// The value at the key, where it is there.
     pub fn get(&self, key: &Value) -> Option<&Value>
-        ensures { MatchOption result (find key.now self.now ≡ None) (λ v. find key.now self.now ≡ Some v.now) }
+        ensures { IsLent result (find key.now self.now) }
     {
         match place(&self.pairs, key) {
             Ok(at) => Some(&self.pairs[at].1),
@@ -97,8 +99,7 @@ impl ValueMap {
 
     /// The value at the text, found without memory, where it is there.
     pub fn member(&self, name: &str) -> Option<&Value>
-        ensures { MatchOption result (find (text name.now false) self.now ≡ None)
-            (λ v. find (text name.now false) self.now ≡ Some v.now) }
+        ensures { IsLent result (find (text name.now false) self.now) }
     {
         match place_of_text(&self.pairs, name) {
             Ok(at) => Some(&self.pairs[at].1),
@@ -110,7 +111,7 @@ impl ValueMap {
 impl Value {
     /// The map of these pairs. Fails by OutOfMemory alone.
     pub fn from_map(alloc: Global, entries: ValueMap) -> Result<Value, Error>
-        ensures { MatchResult result (λ v. v ≡ map (pairs_of entries)) (λ e. e ≡ ErrorKind.OutOfMemory ∷ []) }
+        ensures { OkOrOutOfMemory result (λ v. v ≡ map (pairs_of entries)) }
     {
         let ValueMap { pairs } = entries;
         Ok(Value {
@@ -120,7 +121,7 @@ impl Value {
 
     /// The keyword map of these pairs. Fails by OutOfMemory alone.
     pub fn keywords(alloc: Global, entries: ValueMap) -> Result<Value, Error>
-        ensures { MatchResult result (λ v. v ≡ keywords (pairs_of entries)) (λ e. e ≡ ErrorKind.OutOfMemory ∷ []) }
+        ensures { OkOrOutOfMemory result (λ v. v ≡ keywords (pairs_of entries)) }
     {
         let ValueMap { pairs } = entries;
         Ok(Value {
@@ -130,8 +131,8 @@ impl Value {
 
     /// The module that exports these pairs and wrote this text. Fails by OutOfMemory alone.
     pub fn module(alloc: Global, entries: ValueMap, content: RcStr) -> Result<Value, Error>
-        ensures { MatchResult result (λ v. v ≡ exports (pairs_of entries) (rc_str_bytes content))
-            (λ e. e ≡ ErrorKind.OutOfMemory ∷ []) }
+        ensures { OkOrOutOfMemory result
+            (λ v. v ≡ exports (pairs_of entries) (rc_str_bytes content)) }
     {
         let ValueMap { pairs } = entries;
         Ok(Value {
@@ -139,9 +140,10 @@ impl Value {
         })
     }
 
-    /// What a map, a keyword map or a module has at the text, found without memory; nothing of other values.
+    /// What a map, a keyword map or a module has at the text, found without memory; nothing of
+    /// other values.
     pub fn member(&self, name: &str) -> Option<&Value>
-        ensures { MatchOption result (member name.now self.now ≡ None) (λ v. member name.now self.now ≡ Some v.now) }
+        ensures { IsLent result (member name.now self.now) }
     {
         let pairs = self.pairs();
         match place_of_text(pairs, name) {
@@ -152,8 +154,7 @@ impl Value {
 
     /// What a map, a keyword map or a module has at the key; nothing of other values.
     pub fn at_key(&self, key: &Value) -> Option<&Value>
-        ensures { MatchOption result (find key.now (entries_in self.now) ≡ None)
-            (λ v. find key.now (entries_in self.now) ≡ Some v.now) }
+        ensures { IsLent result (find key.now (entries_in self.now)) }
     {
         let pairs = self.pairs();
         match place(pairs, key) {
@@ -166,7 +167,8 @@ impl Value {
 // Puts the value at the key, and keeps the order.
 fn put_pair(pairs: &mut Vec<(Value, Value)>, key: Value, value: Value) -> Result<(), Error>
     requires { IsMap pairs.old.items }
-    ensures outcome { MatchResult result (λ _. pairs.new.items ≡ put key value pairs.old.items) (λ e. e ≡ ErrorKind.OutOfMemory ∷ []) }
+    ensures outcome { OkOrOutOfMemory result
+        (λ _. pairs.new.items ≡ put key value pairs.old.items) }
     ensures unchanged { IfErr result (λ _. pairs.new.items ≡ pairs.old.items) }
     ensures ordered { IsMap pairs.new.items }
 {
@@ -197,8 +199,7 @@ fn sort_pairs(pairs: &mut Vec<(Value, Value)>) -> Result<(), Error>
 
 // The map of the pairs; soon where their keys ascend.
 fn joined(pairs: Vec<(Value, Value)>) -> Result<Vec<(Value, Value)>, Error>
-    ensures outcome { MatchResult result (λ joined. joined.items ≡ put_all pairs.items)
-        (λ e. e ≡ ErrorKind.OutOfMemory ∷ []) }
+    ensures outcome { OkOrOutOfMemory result (λ joined. joined.items ≡ put_all pairs.items) }
     ensures ordered { IfOk result (λ joined. IsMap joined.items) }
 {
     let mut joined = Vec::with_capacity(*pairs.allocator(), pairs.len())?;
@@ -211,8 +212,8 @@ fn joined(pairs: Vec<(Value, Value)>) -> Result<Vec<(Value, Value)>, Error>
 // Puts the value at the key; at once where the key is above all others.
 fn append_pair(pairs: &mut Vec<(Value, Value)>, key: Value, value: Value) -> Result<(), Error>
     requires { IsMap pairs.old.items }
-    ensures outcome { MatchResult result (λ _. pairs.new.items ≡ put key value pairs.old.items)
-        (λ e. e ≡ ErrorKind.OutOfMemory ∷ []) }
+    ensures outcome { OkOrOutOfMemory result
+        (λ _. pairs.new.items ≡ put key value pairs.old.items) }
     ensures ordered { IsMap pairs.new.items }
 {
     if is_above_all(&key, pairs) {
@@ -249,7 +250,8 @@ fn place(pairs: &[(Value, Value)], key: &Value) -> Result<usize, usize>
 // The same of a text, which needs no value of its own.
 fn place_of_text(pairs: &[(Value, Value)], name: &str) -> Result<usize, usize>
     requires { IsMap pairs.now }
-    ensures { MatchResult result (IsThere (text name.now false) pairs.now) (IsGapFor (text name.now false) pairs.now) }
+    ensures { MatchResult result (IsThere (text name.now false) pairs.now)
+        (IsGapFor (text name.now false) pairs.now) }
 {
     pairs.binary_search_by(
         |pair|

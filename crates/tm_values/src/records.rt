@@ -1,5 +1,6 @@
 //! What stands in the loops and namespaces of a state, which their values only name.
 ghost use Rattle.std.specs.Prelude.{◌≡◌, ℕ, List, Option, None, Some, [], length, MatchOption, option_map, slice_get};
+ghost use Rattle.tm_values.specs.Answer.{IsLent};
 ghost use Rattle.tm_values.specs.Val.{Val};
 ghost use Rattle.tm_values.specs.Records.{RecordData, namespace_at, loop_at, previous_at, following_at, no_records};
 ghost use Rattle.tm_values.specs.Position.{position_of};
@@ -10,7 +11,8 @@ use crate::value::Value;
 /// Where a loop stands.
 #[derive(Clone, Copy)]
 pub struct LoopPosition {
-    /// The place of its item, counted from 0; none before the first item, the number of items after the last.
+    /// The place of its item, counted from 0; none before the first item, the number of items after
+    /// the last.
     pub place: Option<usize>,
     /// How many items it has.
     pub count: usize,
@@ -33,8 +35,7 @@ pub trait Records {
 
     /// What a namespace holds.
     fn namespace(&self, index: usize) -> Option<&ValueMap>
-        ensures { MatchOption result (slice_get (records self.now).namespaces index ≡ None)
-            (λ m. slice_get (records self.now).namespaces index ≡ Some m.now) };
+        ensures { IsLent result (slice_get (records self.now).namespaces index) };
 
     /// Where a loop stands.
     fn loop_position(&self, index: usize) -> Option<LoopPosition>
@@ -42,13 +43,11 @@ pub trait Records {
 
     /// The item before a loop's own, where there is one.
     fn previous_item(&self, index: usize) -> Option<&Value>
-        ensures { MatchOption result (previous_at (records self.now) index ≡ None)
-            (λ v. previous_at (records self.now) index ≡ Some v.now) };
+        ensures { IsLent result (previous_at (records self.now) index) };
 
     /// The item behind a loop's own, where there is one.
     fn following_item(&self, index: usize) -> Option<&Value>
-        ensures { MatchOption result (following_at (records self.now) index ≡ None)
-            (λ v. following_at (records self.now) index ≡ Some v.now) };
+        ensures { IsLent result (following_at (records self.now) index) };
 }
 
 /// The records of no state: of an id that no state has, without loops and namespaces.
@@ -85,8 +84,7 @@ impl Records for NoRecords {
 
 /// What a namespace holds, where its state is that of the records and its number is known there.
 pub fn find_namespace<R: Records>(records: &R, state: u64, index: usize) -> Option<&ValueMap>
-    ensures { MatchOption result (namespace_at (R.records records.now) state index ≡ None)
-        (λ m. namespace_at (R.records records.now) state index ≡ Some m.now) }
+    ensures { IsLent result (namespace_at (R.records records.now) state index) }
 {
     if state == records.state() {
         records.namespace(index)

@@ -1,11 +1,14 @@
 //! Values. A contract sees plain data; what is shared never shows.
-ghost use Rattle.std.specs.Prelude.{◌≡◌, [], ◌∷◌, List, Some, None, true, false, IfOk, MatchResult, MatchOption, string_bytes};
+ghost use Rattle.std.specs.Prelude.{◌≡◌, ◌<◌, [], ◌∷◌, List, Some, None, true, false, IfOk, MatchResult, MatchOption, string_bytes};
 ghost use Rattle.std.specs.Rc.{rc_str_bytes};
 ghost use Rattle.tm_values.specs.Map.{IsMap};
 ghost use Rattle.tm_values.specs.Order.{rank, bytes_in, whole_or_zero};
+ghost use Rattle.tm_values.specs.Answer.{OkOrOutOfMemory, IsLent};
+ghost use Rattle.tm_values.specs.Held.{held_size};
 ghost use Rattle.tm_values.specs.declared.error.ErrorKind.{ErrorKind};
-ghost use Rattle.tm_values.specs.Val.{Val, undefined, none, boolean, number, text, list, function, macro, loop, namespace, vals_of, text_in, list_in, entries_in, items_in, whole_in};
+ghost use Rattle.tm_values.specs.Val.{Val, undefined, none, boolean, number, text, list, function, macro, loop, namespace, val_size, vals_of, text_in, list_in, entries_in, items_in, whole_in};
 
+use crate::dropping::{Held, drop_all, drop_pairs};
 use crate::error::Error;
 use crate::macros::Macro;
 use std::alloc::Global;
@@ -13,7 +16,6 @@ use std::marker::Model;
 use std::rc::{Rc, RcStr};
 
 /// A value. Its contents are shared: a second owner costs no memory, whatever the size.
-#[derive(Drop)]
 #[cycle(value)]
 pub struct Value {
     /// What it is made of, for the crates of the engine.
@@ -74,7 +76,41 @@ impl Model for Value {
     ghost size_decreases = { λ a h. deep-le-size a.node };
 }
 
+impl Drop for Value {
+    #[cycle(dropping)]
+    fn drop(self) {
+        match self.into_held() {
+            Held::Nothing => {}
+            Held::Items(items) => drop_all(items),
+            Held::Pairs(pairs) => drop_pairs(pairs),
+        }
+    }
+}
+
 impl Value {
+    // The values that this one alone holds, in its place. Inline, since each drop begins with it.
+    #[inline(always)]
+    pub(crate) fn into_held(self) -> Held
+        ensures { held_size result < val_size self }
+    {
+        let Value { node } = self;
+        match node {
+            Node::List(items) => Held::items(items),
+            Node::Map(pairs) => Held::pairs(pairs),
+            Node::Keywords(pairs) => Held::pairs(pairs),
+            Node::Exports(pairs, _content) => Held::pairs(pairs),
+            Node::Undefined(_silent) => Held::Nothing,
+            Node::None => Held::Nothing,
+            Node::Boolean(_truth) => Held::Nothing,
+            Node::Number(_whole) => Held::Nothing,
+            Node::Text(_content, _safe) => Held::Nothing,
+            Node::Function(_index) => Held::Nothing,
+            Node::Macro(_declared) => Held::Nothing,
+            Node::Loop(_state, _index) => Held::Nothing,
+            Node::Namespace(_state, _index) => Held::Nothing,
+        }
+    }
+
     /// The undefined value.
     pub fn undefined() -> Value
         ensures { result ≡ undefined false }
@@ -120,7 +156,7 @@ impl Value {
 
     /// A text of these bytes, which isn't safe. Fails by OutOfMemory alone.
     pub fn text(alloc: Global, content: &str) -> Result<Value, Error>
-        ensures { MatchResult result (λ v. v ≡ text content.now false) (λ e. e ≡ ErrorKind.OutOfMemory ∷ []) }
+        ensures { OkOrOutOfMemory result (λ v. v ≡ text content.now false) }
     {
         let content = RcStr::from_str(alloc, content)?;
         Ok(Value::shared_text(content, false))
@@ -128,7 +164,7 @@ impl Value {
 
     /// A text of these bytes that no escape changes. Fails by OutOfMemory alone.
     pub fn safe_text(alloc: Global, content: &str) -> Result<Value, Error>
-        ensures { MatchResult result (λ v. v ≡ text content.now true) (λ e. e ≡ ErrorKind.OutOfMemory ∷ []) }
+        ensures { OkOrOutOfMemory result (λ v. v ≡ text content.now true) }
     {
         let content = RcStr::from_str(alloc, content)?;
         Ok(Value::shared_text(content, true))
@@ -145,7 +181,7 @@ impl Value {
 
     /// The list of these values. Fails by OutOfMemory alone.
     pub fn list(alloc: Global, items: Vec<Value>) -> Result<Value, Error>
-        ensures { MatchResult result (λ v. v ≡ list (vals_of items.items)) (λ e. e ≡ ErrorKind.OutOfMemory ∷ []) }
+        ensures { OkOrOutOfMemory result (λ v. v ≡ list (vals_of items.items)) }
     {
         Ok(Value {
             node: Node::List(Rc::new(alloc, items)?),
@@ -163,7 +199,7 @@ impl Value {
 
     /// A macro as a value. Fails by OutOfMemory alone.
     pub fn declared(alloc: Global, declared: Macro) -> Result<Value, Error>
-        ensures { MatchResult result (λ v. v ≡ macro declared) (λ e. e ≡ ErrorKind.OutOfMemory ∷ []) }
+        ensures { OkOrOutOfMemory result (λ v. v ≡ macro declared) }
     {
         Ok(Value {
             node: Node::Macro(Rc::new(alloc, declared)?),
@@ -188,9 +224,10 @@ impl Value {
         }
     }
 
-    /// A second owner of the same contents. Fails, by OutOfMemory, only where the owners can't be counted.
+    /// A second owner of the same contents. Fails, by OutOfMemory, only where the owners can't be
+    /// counted.
     pub fn share(&self) -> Result<Value, Error>
-        ensures { MatchResult result (λ v. v ≡ self.now) (λ e. e ≡ ErrorKind.OutOfMemory ∷ []) }
+        ensures { OkOrOutOfMemory result (λ v. v ≡ self.now) }
     {
         let node = match &self.node {
             Node::Undefined(silent) => Node::Undefined(*silent),
@@ -212,7 +249,7 @@ impl Value {
 
     /// The text, where the value is one.
     pub fn as_str(&self) -> Option<&str>
-        ensures { MatchOption result (text_in self.now ≡ None) (λ s. text_in self.now ≡ Some s.now) }
+        ensures { IsLent result (text_in self.now) }
     {
         match &self.node {
             Node::Text(content, _) => Some(content.as_str()),
@@ -234,7 +271,7 @@ impl Value {
 
     /// The items of a list, where the value is one.
     pub fn as_list(&self) -> Option<&[Value]>
-        ensures { MatchOption result (list_in self.now ≡ None) (λ vs. list_in self.now ≡ Some vs.now) }
+        ensures { IsLent result (list_in self.now) }
     {
         match &self.node {
             Node::List(items) => Some(items.as_slice()),

@@ -1,5 +1,5 @@
 use Rattle.tm_operations.proofs.Asked.{passes}
-use Rattle.tm_operations.specs.Slices.{bound_in, step_in, parts_of, cut_by}
+use Rattle.tm_operations.specs.Slices.{parts_in, cut_by}
 use Rattle.tm_operations.specs.Undefined.{refusal_of}
 use Rattle.tm_values.specs.declared.undefined.UndefinedUse.TheVariants as use_of
 use Rattle.tm_operations.proofs.slices.slice.Goals as goal
@@ -7,5 +7,5 @@ use Rattle.tm_operations.proofs.slices.slice.Goals as goal
 -- the value may be sliced
 pub returns : goal.returns
 returns c =
-    let stated = cut_by c.args.value.now (parts_of (bound_in c.args.start.now) (bound_in c.args.stop.now) (step_in c.args.step.now)) in
+    let stated = cut_by c.args.value.now (parts_in c.args.start.now c.args.stop.now c.args.step.now) in
     passes (refusal_of c.args.behavior use_of.Slice c.args.value.now) stated c.cut_by.result c.check_defined.result tt c.check_defined.ensures c.in_default.is c.cut_by.ensures

@@ -1,0 +1,23 @@
+//! Proofs: the code of trees comes to what the trees mean. The functions here are laws: they run nothing, and their contracts say what is proved.
+#![tactic(auto)]
+
+ghost use Rattle.std.specs.Prelude.{ℕ, List};
+ghost use Rattle.tm_semantics.specs.World.{World};
+ghost use Rattle.tm_semantics.specs.Tree.{Trees};
+ghost use Rattle.tm_semantics.specs.Meaning.{rendered};
+ghost use Rattle.tm_semantics.specs.Machine.{Program, Stuck};
+ghost use Rattle.tm_semantics.specs.Steps.{final};
+ghost use Rattle.tm_semantics.specs.Compiled.{IsCompiled};
+ghost use Rattle.tm_follows.specs.Reached.{final_of, Renders};
+
+/// The code of trees, from any world, comes to what the trees mean: its text, its world, and its end.
+pub fn code_comes_to_its_meaning()
+    ensures { (trees : Trees) (p : Program) (w : World) → IsCompiled trees p →
+        Renders p w (final_of (rendered p.host trees w)) }
+{}
+
+/// The code of trees is never stuck.
+pub fn code_is_never_stuck()
+    ensures { (trees : Trees) (p : Program) (w left : World) (got : List ℕ) → IsCompiled trees p →
+        Renders p w (final got (Stuck left)) → ⊥ }
+{}

@@ -1,0 +1,91 @@
+-- Code that is put one part behind another is the code of a form.
+use Rattle.std.proofs.Common.{◌≡◌, ℕ, ◌+◌, ◌<◌, List, [], ◌∷◌, ◌++◌, length, drop, refl, sym, ap, ◌∙◌, arith, append_assoc, length-append, drop-cons}
+use Rattle.std.specs.Prelude.{get_or, slice_set}
+use Rattle.std.proofs.Math.Seq.{set-append_seam}
+use borrow.Enum.Total.{values_d}
+use denote.Hole.Carrier.{hidden}
+use Rattle.tm_syntax.specs.declared.tree.UnaryOperator.{UnaryOperator}
+use Rattle.tm_syntax.specs.declared.tree.BinaryOperator.{BinaryOperator}
+use Rattle.tm_syntax.specs.declared.tree.Expr.{Expr}
+use Rattle.tm_syntax.specs.declared.tree.Expr.TheVariants as e
+use Rattle.tm_syntax.specs.declared.tree.Argument.{Argument}
+use Rattle.tm_syntax.specs.declared.tree.Argument.TheVariants as a
+use Rattle.tm_syntax.specs.declared.tree.Argument.TheBlock.{shape-the_row-Argument-1, shape-the_row-Step-2, hidden-the_row-Expr-0, hidden-the_row-Argument-1 as arguments, hidden-the_row-Step-2 as steps}
+use Rattle.tm_syntax.specs.declared.tree.Step.{Step}
+use Rattle.tm_syntax.specs.declared.tree.Step.TheVariants as s
+use Rattle.tm_syntax.specs.declared.instruction.Instruction.{Instruction}
+use Rattle.tm_syntax.specs.declared.instruction.Instruction.TheVariants as i
+use Rattle.tm_syntax.specs.Code.{unary_code, binary_code, expr_code, argument_code, arguments_code, step_code, steps_code, count}
+use Rattle.tm_syntax.specs.contracts.tree.Argument.{enum as the_enum}
+use Rattle.tm_syntax.proofs.Forms.{whole}
+use Rattle.tm_generator.proofs.Rows.{count-arguments}
+
+-- ---------------------------------------------------------------- the code of forms as the program holds them
+code-unary : (pc : ℕ) (op : UnaryOperator) (x : Expr) → expr_code pc (e.Unary op x) ≡ expr_code pc x ++ unary_code op ∷ []
+unfolding hidden hidden-the_row-Expr-0
+code-unary pc op x = refl
+
+code-chain : (pc : ℕ) (x : Expr) (ss : List Step) → expr_code pc (e.Chain x ss) ≡ expr_code pc x ++ steps_code (pc + length (expr_code pc x)) (steps ss)
+unfolding hidden hidden-the_row-Expr-0
+code-chain pc x ss = refl
+
+code-binary : (pc : ℕ) (op : BinaryOperator) (x : Expr) → step_code pc (s.Binary op x) ≡ expr_code pc x ++ binary_code op ∷ []
+unfolding hidden hidden-the_row-Expr-0
+code-binary pc op x = refl
+
+code-and : (pc : ℕ) (x : Expr) → step_code pc (s.And x) ≡ i.JumpIfFalseOrPop (pc + 1 + length (expr_code (pc + 1) x)) ∷ expr_code (pc + 1) x
+unfolding hidden hidden-the_row-Expr-0
+code-and pc x = refl
+
+code-or : (pc : ℕ) (x : Expr) → step_code pc (s.Or x) ≡ i.JumpIfTrueOrPop (pc + 1 + length (expr_code (pc + 1) x)) ∷ expr_code (pc + 1) x
+unfolding hidden hidden-the_row-Expr-0
+code-or pc x = refl
+
+-- ---------------------------------------------------------------- loops
+pub next : {X : Type 0} → (xs : List X) (k : ℕ) (x : X) → k < length xs → x ≡ get_or xs k x → drop k xs ≡ x ∷ drop (k + 1) xs
+next xs k x lt d = grind (arith, drop-cons xs k x lt, d)
+
+-- ---------------------------------------------------------------- forms
+pub made_plain : (base c1 : List Instruction) (x : Argument) (h : _) (y : Expr) → y ≡ (values_d the_enum 0 h x).0 → c1 ≡ base ++ expr_code (length base) y → c1 ≡ base ++ argument_code (length base) x
+made_plain base c1 x h y e d = d ∙ ap (λ z. base ++ expr_code (length base) z) e ∙ ap (λ z. base ++ argument_code (length base) z) (sym (whole x h))
+
+pub made_call : (base c1 c2 : List Instruction) (n : ℕ) (f g : List ℕ) (xs : List Argument) → c1 ≡ base ++ arguments_code (length base) (arguments xs) → n ≡ length xs → g ≡ f → c2 ≡ c1 ++ i.CallFunction g n ∷ [] →
+    c2 ≡ base ++ expr_code (length base) (e.Call f xs)
+made_call base c1 c2 n f g xs d m k d2 =
+    d2 ∙ ap (λ l. l ++ i.CallFunction g n ∷ []) d ∙ append_assoc base _ _ ∙ ap (λ j. base ++ (arguments_code (length base) (arguments xs) ++ i.CallFunction g j ∷ [])) (m ∙ sym (count-arguments xs))
+    ∙ ap (λ h. base ++ (arguments_code (length base) (arguments xs) ++ i.CallFunction h (count (arguments xs)) ∷ [])) k
+
+pub made_unary : (base c1 c2 : List Instruction) (o : Instruction) (op : UnaryOperator) (x : Expr) → c1 ≡ base ++ expr_code (length base) x → o ≡ unary_code op → c2 ≡ c1 ++ o ∷ [] → c2 ≡ base ++ expr_code (length base) (e.Unary op x)
+made_unary base c1 c2 o op x d k d2 =
+    d2 ∙ ap (λ l. l ++ o ∷ []) d ∙ append_assoc base _ _ ∙ ap (λ j. base ++ (expr_code (length base) x ++ j ∷ [])) k ∙ ap (λ l. base ++ l) (sym (code-unary (length base) op x))
+
+-- one part, and another at the place behind it
+behind : (base c1 first : List Instruction) (rest : ℕ → List Instruction) → c1 ≡ base ++ first → c1 ++ rest (length c1) ≡ base ++ (first ++ rest (length base + length first))
+behind base c1 first rest d =
+    ap (λ n. c1 ++ rest n) (ap length d ∙ length-append base first) ∙ ap (λ l. l ++ rest (length base + length first)) d ∙ append_assoc base first _
+
+pub made_chain : (base c1 c2 : List Instruction) (x : Expr) (ss : List Step) → c1 ≡ base ++ expr_code (length base) x → c2 ≡ c1 ++ steps_code (length c1) (steps ss) → c2 ≡ base ++ expr_code (length base) (e.Chain x ss)
+made_chain base c1 c2 x ss d d2 =
+    d2 ∙ behind base c1 (expr_code (length base) x) (λ n. steps_code n (steps ss)) d ∙ ap (λ l. base ++ l) (sym (code-chain (length base) x ss))
+
+pub made_binary : (base c1 c2 : List Instruction) (o : Instruction) (op : BinaryOperator) (x : Expr) → c1 ≡ base ++ expr_code (length base) x → o ≡ binary_code op → c2 ≡ c1 ++ o ∷ [] → c2 ≡ base ++ step_code (length base) (s.Binary op x)
+made_binary base c1 c2 o op x d k d2 =
+    d2 ∙ ap (λ l. l ++ o ∷ []) d ∙ append_assoc base _ _ ∙ ap (λ j. base ++ (expr_code (length base) x ++ j ∷ [])) k ∙ ap (λ l. base ++ l) (sym (code-binary (length base) op x))
+
+-- a jump that is set behind what it leads over
+pub patched : (jump : ℕ → Instruction) (base c1 c2 c3 : List Instruction) (x : Instruction) (code : ℕ → List Instruction) (n1 n2 : ℕ) → n1 ≡ length base → c1 ≡ base ++ x ∷ [] → c2 ≡ c1 ++ code (length c1) → n2 ≡ length c2 → c3 ≡ slice_set c2 n1 (jump n2) →
+    c3 ≡ base ++ jump (length base + 1 + length (code (length base + 1))) ∷ code (length base + 1)
+patched jump base c1 c2 c3 x code n1 n2 m1 d1 d2 m2 d3 =
+    let l1 : length c1 ≡ length base + 1 = ap length d1 ∙ length-append base (x ∷ []) in
+    let all : c2 ≡ base ++ x ∷ code (length base + 1) = d2 ∙ ap (λ n. c1 ++ code n) l1 ∙ ap (λ l. l ++ code (length base + 1)) d1 ∙ append_assoc base (x ∷ []) _ in
+    let l2 : n2 ≡ length base + 1 + length (code (length base + 1)) = omega (arith, m2, ap length all, length-append base (x ∷ code (length base + 1))) in
+    d3 ∙ ap (λ l. slice_set l n1 (jump n2)) all ∙ ap (λ n. slice_set (base ++ x ∷ code (length base + 1)) n (jump n2)) m1
+    ∙ set-append_seam base x (code (length base + 1)) (jump n2) ∙ ap (λ n. base ++ jump n ∷ code (length base + 1)) l2
+
+pub made_and : (base c1 c2 c3 : List Instruction) (y : Instruction) (n1 n2 : ℕ) (x : Expr) → n1 ≡ length base → c1 ≡ base ++ y ∷ [] → c2 ≡ c1 ++ expr_code (length c1) x → n2 ≡ length c2 → c3 ≡ slice_set c2 n1 (i.JumpIfFalseOrPop n2) →
+    c3 ≡ base ++ step_code (length base) (s.And x)
+made_and base c1 c2 c3 y n1 n2 x m1 d1 d2 m2 d3 = patched i.JumpIfFalseOrPop base c1 c2 c3 y (λ n. expr_code n x) n1 n2 m1 d1 d2 m2 d3 ∙ ap (λ l. base ++ l) (sym (code-and (length base) x))
+
+pub made_or : (base c1 c2 c3 : List Instruction) (y : Instruction) (n1 n2 : ℕ) (x : Expr) → n1 ≡ length base → c1 ≡ base ++ y ∷ [] → c2 ≡ c1 ++ expr_code (length c1) x → n2 ≡ length c2 → c3 ≡ slice_set c2 n1 (i.JumpIfTrueOrPop n2) →
+    c3 ≡ base ++ step_code (length base) (s.Or x)
+made_or base c1 c2 c3 y n1 n2 x m1 d1 d2 m2 d3 = patched i.JumpIfTrueOrPop base c1 c2 c3 y (λ n. expr_code n x) n1 n2 m1 d1 d2 m2 d3 ∙ ap (λ l. base ++ l) (sym (code-or (length base) x))

@@ -1,0 +1,3 @@
+pub mod Rows
+pub mod Generated
+pub mod Statements

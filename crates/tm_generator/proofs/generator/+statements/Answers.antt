@@ -1,0 +1,45 @@
+use Rattle.std.proofs.Common.{◌≡◌, ◌∙◌, ◌++◌, length, ap, sym}
+use Rattle.std.proofs.lemmas.List.{drop_all}
+use Rattle.tm_generator.proofs.Rows.{more_statements, no_more_statements}
+use Rattle.tm_generator.proofs.Generated.{next}
+use Rattle.tm_generator.proofs.Statements.{made_if, made_else, if_blocks, else_blocks, block_blocks, more_blocks, no_more_blocks}
+use Rattle.tm_generator.proofs.generator.+statements.Goals as goal
+
+pub push_statement-returns-in_default-clause-code : goal.push_statement-returns-in_default-clause-code
+push_statement-returns-in_default-clause-code t c =
+    rw (c.in-If.is, c.in_default.is) (made_if c.args.code.now c.push_expr-in-If.new.code c.put-in-If.new.code c.push_statements.new.code c.set.new.self _ _ _ c.in-If.condition c.in-If.body
+    (rw (← c.get-in-If.ensures) c.in_ok-push_expr-in-If.ensures.ok) c.len-test.ensures c.in_ok-put-in-If.ensures.ok
+    (rw (← c.as_slice.ensures) c.in_ok-push_statements-in-If.ensures.code) c.len-behind.ensures c.set.ensures)
+
+pub push_statement-returns-in_ok-push_statements-in-If-2-clause-code : goal.push_statement-returns-in_ok-push_statements-in-If-2-clause-code
+push_statement-returns-in_ok-push_statements-in-If-2-clause-code t c =
+    rw (c.in-If.is, c.in-Some.is) (made_else c.args.code.now c.push_expr-in-If.new.code c.put-in-If.new.code c.push_statements.new.code c.put-in-If-2.new.code c.push_statements-in-If.new.code c.set-in-If.new.self c.set-in-If-2.new.self _ _ _ _ _ _
+    c.in-If.condition c.in-If.body c.in-Some.other
+    (rw (← c.get-in-If.ensures) c.in_ok-push_expr-in-If.ensures.ok) c.len-test.ensures c.in_ok-put-in-If.ensures.ok
+    (rw (← c.as_slice.ensures) c.in_ok-push_statements-in-If.ensures.code) c.len-behind.ensures c.in_ok-put-in-If-2.ensures.ok c.len-start.ensures
+    (rw (← c.as_slice-in-If.ensures) c.in_ok-push_statements-in-If-2.ensures.code) c.len-end.ensures
+    c.set-in-If.ensures c.set-in-If-2.ensures)
+
+pub push_statement-returns-in_ok-push_statements-in-If-2-clause-blocks : goal.push_statement-returns-in_ok-push_statements-in-If-2-clause-blocks
+push_statement-returns-in_ok-push_statements-in-If-2-clause-blocks t c =
+    rw (c.in-If.is, c.in-Some.is) (else_blocks c.in-If.condition c.in-If.body c.in-Some.other c.args.blocks.now c.push_statements.new.blocks c.push_statements-in-If.new.blocks
+    (rw (← c.as_slice.ensures) c.in_ok-push_statements-in-If.ensures.blocks) (rw (← c.as_slice-in-If.ensures) c.in_ok-push_statements-in-If-2.ensures.blocks))
+
+pub push_statement-returns-in_ok-put-in-Block-clause-blocks : goal.push_statement-returns-in_ok-put-in-Block-clause-blocks
+push_statement-returns-in_ok-put-in-Block-clause-blocks t c =
+    rw c.in-Block.is (block_blocks c.in-Block.name _ c.in-Block.body _ c.push_statements-in-Block.new.code c.args.blocks.now c.push_statements-in-Block.new.blocks c.insert.new.self
+    c.in_ok-share-in-Block.ensures c.new-inner.ensures (rw (← c.as_slice-in-Block.ensures) c.in_ok-push_statements-in-Block.ensures.code)
+    (rw (← c.as_slice-in-Block.ensures) c.in_ok-push_statements-in-Block.ensures.blocks) c.in_ok-insert-in-Block.ensures.ok)
+
+pub push_statements-loop-statement-preserved : goal.push_statements-loop-statement-preserved
+push_statements-loop-statement-preserved t c =
+    let left = next c.args.body.now c.loop-statement.statement-index c.statement-item.result c.loop-statement-test.true c.statement-item.is in (
+      more_statements _ _ _ _ _ c.statement-item.result left c.in_ok-push_statement.ensures.code c.loop-statement.invariant.0,
+      more_blocks _ _ _ _ _ c.statement-item.result left c.in_ok-push_statement.ensures.blocks c.loop-statement.invariant.1,
+    )
+
+pub push_statements-returns-clause-code : goal.push_statements-returns-clause-code
+push_statements-returns-clause-code t c = no_more_statements _ _ _ (drop_all c.loop-statement.statement-index c.args.body.now c.loop-statement-test.false) c.loop-statement.invariant.0
+
+pub push_statements-returns-clause-blocks : goal.push_statements-returns-clause-blocks
+push_statements-returns-clause-blocks t c = no_more_blocks _ _ _ (drop_all c.loop-statement.statement-index c.args.body.now c.loop-statement-test.false) c.loop-statement.invariant.1

@@ -1,0 +1,225 @@
+//! Instructions from trees.
+ghost use Rattle.std.specs.Prelude.{◌≡◌, ◌++◌, [], ◌∷◌, OnOk, IfOk, IfErr, length};
+ghost use Rattle.tm_syntax.specs.Blocks.{blocks_of, blocks_in, compiled_blocks};
+ghost use Rattle.tm_syntax.specs.Code.{unary_code, binary_code, expr_code, argument_code, arguments_code, step_code, steps_code, statement_code, statements_code};
+ghost use Rattle.tm_syntax.specs.Named.{put_each, by_name};
+ghost use Rattle.tm_syntax.specs.declared.tree.Argument.TheBlock.{hidden-the_row-Argument-1 as arguments, hidden-the_row-Step-2 as steps};
+ghost use Rattle.tm_syntax.specs.declared.tree.Stmt.TheBlock.{hidden-the_row-Stmt-0 as statements};
+ghost use Rattle.tm_values.specs.declared.error.ErrorKind.TheVariants.{OutOfMemory};
+
+use crate::patches::put;
+use sqlite_items::{Boxed, Items};
+use std::alloc::Global;
+use tm_syntax::{
+    Argument, BinaryOperator, Expr, Instruction, NameMap, Step, Stmt, Tree, UnaryOperator,
+};
+use tm_values::Error;
+
+/// The streams of a template.
+#[derive(Drop)]
+pub struct Streams {
+    /// What a render runs.
+    pub root: Items<Instruction>,
+    /// What its blocks run, by name.
+    pub blocks: NameMap<Items<Instruction>>,
+}
+
+/// The instruction of a prefix operator.
+fn unary(operator: UnaryOperator) -> Instruction
+    ensures { result ≡ unary_code operator }
+{
+    match operator {
+        UnaryOperator::Not => Instruction::Not,
+    }
+}
+
+/// The instruction of an operator.
+fn binary(operator: BinaryOperator) -> Instruction
+    ensures { result ≡ binary_code operator }
+{
+    match operator {
+        BinaryOperator::Equal => Instruction::Eq,
+    }
+}
+
+/// Adds the code of an expression; OutOfMemory.
+#[cycle(expressions)]
+fn push_expr(code: &mut Items<Instruction>, expr: &Expr) -> Result<(), Error>
+    ensures ok { OnOk result (code.new ≡ code.old ++ expr_code (length code.old) expr.now) }
+    ensures err { IfErr result (λ e. e ≡ OutOfMemory ∷ []) }
+{
+    match expr {
+        Expr::Var(name) => put(code, Instruction::Lookup(name.share()?)),
+        Expr::Const(value) => put(code, Instruction::LoadConst(value.share()?)),
+        Expr::Call(name, given) => {
+            push_arguments(code, given.as_slice())?;
+            put(code, Instruction::CallFunction(name.share()?, given.len()))?;
+            Ok(())
+        }
+        Expr::Unary(operator, operand) => {
+            push_expr(code, operand.get())?;
+            put(code, unary(*operator))?;
+            Ok(())
+        }
+        Expr::Chain(first, behind) => {
+            push_expr(code, first.get())?;
+            push_steps(code, behind.as_slice())?;
+            Ok(())
+        }
+    }
+}
+
+/// Adds the code of an argument; OutOfMemory.
+#[cycle(expressions)]
+fn push_argument(code: &mut Items<Instruction>, argument: &Argument) -> Result<(), Error>
+    ensures ok { OnOk result (code.new ≡ code.old ++ argument_code (length code.old) argument.now) }
+    ensures err { IfErr result (λ e. e ≡ OutOfMemory ∷ []) }
+{
+    match argument {
+        Argument::Plain(expr) => {
+            push_expr(code, expr.get())?;
+            Ok(())
+        }
+    }
+}
+
+/// Adds the code of arguments; OutOfMemory.
+#[cycle(expressions)]
+fn push_arguments(code: &mut Items<Instruction>, given: &[Argument]) -> Result<(), Error>
+    ensures ok { OnOk result
+        (code.new ≡ code.old ++ arguments_code (length code.old) (arguments given.now)) }
+    ensures err { IfErr result (λ e. e ≡ OutOfMemory ∷ []) }
+{
+    for argument in given {
+        push_argument(code, argument)?;
+    }
+    Ok(())
+}
+
+/// Adds the code of a step; OutOfMemory.
+#[cycle(expressions)]
+fn push_step(code: &mut Items<Instruction>, step: &Step) -> Result<(), Error>
+    ensures ok { OnOk result (code.new ≡ code.old ++ step_code (length code.old) step.now) }
+    ensures err { IfErr result (λ e. e ≡ OutOfMemory ∷ []) }
+{
+    match step {
+        Step::Attribute(name) => put(code, Instruction::GetAttr(name.share()?)),
+        Step::Binary(operator, operand) => {
+            push_expr(code, operand.get())?;
+            put(code, binary(*operator))?;
+            Ok(())
+        }
+        Step::And(operand) => {
+            let test = code.len();
+            put(code, Instruction::JumpIfFalseOrPop(0))?;
+            push_expr(code, operand.get())?;
+            let end = code.len();
+            code.set(test, Instruction::JumpIfFalseOrPop(end));
+            Ok(())
+        }
+        Step::Or(operand) => {
+            let test = code.len();
+            put(code, Instruction::JumpIfTrueOrPop(0))?;
+            push_expr(code, operand.get())?;
+            let end = code.len();
+            code.set(test, Instruction::JumpIfTrueOrPop(end));
+            Ok(())
+        }
+    }
+}
+
+/// Adds the code of steps; OutOfMemory.
+#[cycle(expressions)]
+fn push_steps(code: &mut Items<Instruction>, behind: &[Step]) -> Result<(), Error>
+    ensures ok { OnOk result
+        (code.new ≡ code.old ++ steps_code (length code.old) (steps behind.now)) }
+    ensures err { IfErr result (λ e. e ≡ OutOfMemory ∷ []) }
+{
+    for step in behind {
+        push_step(code, step)?;
+    }
+    Ok(())
+}
+
+/// Adds the code of a statement, and that of its blocks; OutOfMemory.
+#[cycle(statements)]
+fn push_statement(
+    alloc: Global,
+    code: &mut Items<Instruction>,
+    blocks: &mut NameMap<Items<Instruction>>,
+    statement: &Stmt,
+) -> Result<(), Error>
+    ensures code { OnOk result
+        (code.new ≡ code.old ++ statement_code (length code.old) statement.now) }
+    ensures blocks { OnOk result
+        (blocks.new ≡ put_each (compiled_blocks (blocks_of statement.now)) blocks.old) }
+    ensures err { IfErr result (λ e. e ≡ OutOfMemory ∷ []) }
+{
+    match statement {
+        Stmt::EmitRaw(text) => put(code, Instruction::EmitRaw(text.share()?)),
+        Stmt::EmitExpr(expr) => {
+            push_expr(code, expr.get())?;
+            put(code, Instruction::Emit)?;
+            Ok(())
+        }
+        Stmt::If(condition, body, other) => {
+            push_expr(code, condition.get())?;
+            let test = code.len();
+            put(code, Instruction::JumpIfFalse(0))?;
+            push_statements(alloc, code, blocks, body.as_slice())?;
+            let behind = code.len();
+            let Some(other) = other else {
+                code.set(test, Instruction::JumpIfFalse(behind));
+                return Ok(());
+            };
+            put(code, Instruction::Jump(0))?;
+            let start = code.len();
+            push_statements(alloc, code, blocks, other.as_slice())?;
+            let end = code.len();
+            code.set(test, Instruction::JumpIfFalse(start));
+            code.set(behind, Instruction::Jump(end));
+            Ok(())
+        }
+        Stmt::Block(name, body) => {
+            let mut inner = Items::new(alloc);
+            push_statements(alloc, &mut inner, blocks, body.as_slice())?;
+            blocks.insert(name.share()?, inner)?;
+            put(code, Instruction::CallBlock(name.share()?))?;
+            Ok(())
+        }
+    }
+}
+
+/// Adds the code of statements, and that of their blocks; OutOfMemory.
+#[cycle(statements)]
+fn push_statements(
+    alloc: Global,
+    code: &mut Items<Instruction>,
+    blocks: &mut NameMap<Items<Instruction>>,
+    body: &[Stmt],
+) -> Result<(), Error>
+    ensures code { OnOk result
+        (code.new ≡ code.old ++ statements_code (length code.old) (statements body.now)) }
+    ensures blocks { OnOk result
+        (blocks.new ≡ put_each (compiled_blocks (blocks_in (statements body.now))) blocks.old) }
+    ensures err { IfErr result (λ e. e ≡ OutOfMemory ∷ []) }
+{
+    for statement in body {
+        push_statement(alloc, code, blocks, statement)?;
+    }
+    Ok(())
+}
+
+/// The streams of a tree, which share its texts and literals; OutOfMemory.
+pub fn generate(alloc: Global, tree: &Tree) -> Result<Streams, Error>
+    ensures root { IfOk result
+        (λ s. s.root ≡ statements_code 0 (statements tree.now.statements)) }
+    ensures blocks { IfOk result
+        (λ s. s.blocks ≡ by_name (compiled_blocks (blocks_in (statements tree.now.statements)))) }
+    ensures err { IfErr result (λ e. e ≡ OutOfMemory ∷ []) }
+{
+    let mut root = Items::new(alloc);
+    let mut blocks = NameMap::new(alloc);
+    push_statements(alloc, &mut root, &mut blocks, tree.statements.as_slice())?;
+    Ok(Streams { root, blocks })
+}

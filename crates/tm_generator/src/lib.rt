@@ -1,0 +1,7 @@
+//! Instructions from trees.
+#![tactic(auto, using(tm_syntax::proofs::Forms::boxes))]
+
+mod generator;
+mod patches;
+
+pub use generator::{Streams, generate};

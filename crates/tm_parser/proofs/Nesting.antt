@@ -1,0 +1,74 @@
+-- One nesting less, one level less, and a value with its steps.
+use Rattle.std.proofs.Common.{◌≡◌, ℕ, zero, suc, ◌-◌, List, [], ◌∷◌, None, refl, sym, ap, arith}
+use Rattle.tm_syntax.specs.declared.token.Token.{Token}
+use Rattle.tm_syntax.specs.declared.tree.Expr.{Expr}
+use Rattle.tm_syntax.specs.declared.tree.Expr.TheVariants as exprs
+use Rattle.tm_syntax.specs.declared.tree.Step.{Step}
+use Rattle.tm_rules.specs.Combinators.{first, branch, ◌>>=◌, pure}
+use Rattle.tm_parser.specs.Grammar.{Inside, inside, expr, operand, expr_at, primary, prefix, chained}
+use Rattle.tm_parser.specs.Statements.{inner, body, rest}
+
+suc-sub-one : (n : ℕ) → suc n - 1 ≡ n
+suc-sub-one n = omega arith
+
+pub no_expr : (depth : ℕ) (ts : List Token) → depth ≡ 0 → (inside depth).expr.reads ts ≡ None
+unfolding inside
+no_expr depth ts h = ap (λ k. (inside k).expr.reads ts) h
+
+pub inner_expr : (depth : ℕ) (ts : List Token) → ¬ (depth ≡ 0) → (inside depth).expr.reads ts ≡ (expr (inside (depth - 1))).reads ts
+unfolding inside
+inner_expr zero ts h = absurd (h refl)
+inner_expr (suc depth) ts h = ap (λ k. (expr (inside k)).reads ts) (sym (suc-sub-one depth))
+
+pub no_operand : (depth level : ℕ) (ts : List Token) → depth ≡ 0 → ((inside depth).operand level).reads ts ≡ None
+unfolding inside
+no_operand depth level ts h = ap (λ k. ((inside k).operand level).reads ts) h
+
+pub inner_operand : (depth level : ℕ) (ts : List Token) → ¬ (depth ≡ 0) → ((inside depth).operand level).reads ts ≡ (operand (inside (depth - 1)) level).reads ts
+unfolding inside
+inner_operand zero level ts h = absurd (h refl)
+inner_operand (suc depth) level ts h = ap (λ k. (operand (inside k) level).reads ts) (sym (suc-sub-one depth))
+
+pub ruleset expressions = (no_expr, inner_expr, no_operand, inner_operand)
+
+pub tightest : (i : Inside) (level : ℕ) (ts : List Token) → level ≡ 0 → (operand i level).reads ts ≡ (primary i).reads ts
+unfolding operand
+tightest i level ts h = ap (λ k. (operand i k).reads ts) h
+
+pub tighter : (i : Inside) (level : ℕ) (ts : List Token) → ¬ (level ≡ 0) →
+    (operand i level).reads ts ≡ (branch (first (prefix level)) (λ op. i.operand level >>= (λ x. pure (exprs.Unary op x))) (expr_at i (level - 1))).reads ts
+unfolding operand expr_at
+tighter i zero ts h = absurd (h refl)
+tighter i (suc level) ts h =
+    ap (λ k. (branch (first (prefix (suc level))) (λ op. i.operand (suc level) >>= (λ x. pure (exprs.Unary op x))) (expr_at i k)).reads ts) (sym (suc-sub-one level))
+
+pub ruleset levels = (tightest, tighter)
+
+pub no_steps : (x : Expr) (ss : List Step) → ss ≡ [] → chained x ss ≡ x
+no_steps x ss h = ap (chained x) h
+
+pub some_steps : (x : Expr) (ss : List Step) → ¬ (ss ≡ []) → chained x ss ≡ exprs.Chain x ss
+some_steps x [] h = absurd (h refl)
+some_steps x (s ∷ ss) h = refl
+
+pub ruleset chains = (no_steps, some_steps)
+
+pub no_body : (depth : ℕ) (ts : List Token) → depth ≡ 0 → (inner depth).body.reads ts ≡ None
+unfolding inner
+no_body depth ts h = ap (λ k. (inner k).body.reads ts) h
+
+pub inner_body : (depth : ℕ) (ts : List Token) → ¬ (depth ≡ 0) → (inner depth).body.reads ts ≡ (body (inside (depth - 1)) (inner (depth - 1))).reads ts
+unfolding inner
+inner_body zero ts h = absurd (h refl)
+inner_body (suc depth) ts h = ap (λ k. (body (inside k) (inner k)).reads ts) (sym (suc-sub-one depth))
+
+pub no_rest : (depth : ℕ) (ts : List Token) → depth ≡ 0 → (inner depth).rest.reads ts ≡ None
+unfolding inner
+no_rest depth ts h = ap (λ k. (inner k).rest.reads ts) h
+
+pub inner_rest : (depth : ℕ) (ts : List Token) → ¬ (depth ≡ 0) → (inner depth).rest.reads ts ≡ (rest (inside (depth - 1)) (inner (depth - 1))).reads ts
+unfolding inner
+inner_rest zero ts h = absurd (h refl)
+inner_rest (suc depth) ts h = ap (λ k. (rest (inside k) (inner k)).reads ts) (sym (suc-sub-one depth))
+
+pub ruleset statements = (no_body, inner_body, no_rest, inner_rest)

@@ -1,0 +1,41 @@
+use Rattle.std.proofs.Common.{◌≡◌, ◌+◌, ◌*◌, length}
+use Rattle.tm_parser.specs.Grammar.{inside}
+use Rattle.tm_parser.specs.Statements.{inner, body, more_statements}
+use Rattle.tm_parser.proofs.cursor.Cursor.+statements.Given as goal
+
+-- each nesting has room for one call of each method, the higher above the lower
+abbrev pub decreases-inner_body : goal.decreases-inner_body
+decreases-inner_body l = 16 * l.depth
+
+abbrev pub decreases-inner_rest : goal.decreases-inner_rest
+decreases-inner_rest l = 16 * l.depth
+
+abbrev pub decreases-elif_tag : goal.decreases-elif_tag
+decreases-elif_tag l = 16 * l.depth + 1
+
+abbrev pub decreases-else_tag : goal.decreases-else_tag
+decreases-else_tag l = 16 * l.depth + 1
+
+abbrev pub decreases-if_tag : goal.decreases-if_tag
+decreases-if_tag l = 16 * l.depth + 1
+
+abbrev pub decreases-block_tag : goal.decreases-block_tag
+decreases-block_tag l = 16 * l.depth + 1
+
+abbrev pub decreases-rest : goal.decreases-rest
+decreases-rest l = 16 * l.depth + 2
+
+abbrev pub decreases-statement : goal.decreases-statement
+decreases-statement l = 16 * l.depth + 2
+
+abbrev pub decreases-one_statement : goal.decreases-one_statement
+decreases-one_statement l = 16 * l.depth + 3
+
+abbrev pub decreases-body : goal.decreases-body
+decreases-body l = 16 * l.depth + 4
+
+abbrev pub invariant-body-loop-body : goal.invariant-body-loop-body
+invariant-body-loop-body l = (more_statements (inside l.depth) (inner l.depth) l.body).reads l.self ≡ (body (inside l.depth) (inner l.depth)).reads l.fn.self
+
+abbrev pub decreases-body-loop-body : goal.decreases-body-loop-body
+decreases-body-loop-body l = length l.self

@@ -1,0 +1,23 @@
+-- What a method of the parser answers, beside what a rule reads.
+use Rattle.std.specs.Prelude.{◌≡◌, ◌⊎◌, List, [], ◌∷◌, Option, Some, None, Result, Ok, Err, Bool, true, false}
+use Rattle.tm_values.specs.declared.error.ErrorKind.{ErrorKind}
+use Rattle.tm_values.specs.declared.error.ErrorKind.TheVariants.{OutOfMemory, SyntaxError}
+use Rattle.tm_rules.specs.Meanings.{Read, got}
+
+-- Memory ran out, or the tokens are refused for this reason.
+abbrev pub Refused : List ErrorKind → Type 0 → Type 0
+Refused chain reason = (chain ≡ OutOfMemory ∷ []) ⊎ ((chain ≡ SyntaxError ∷ []) × reason)
+
+-- The value and what is left are what was read; where nothing was read, that is why there is no value.
+abbrev pub Gives : {T A : Type 0} → Result A (List ErrorKind) → List T → Read T A → Type 0
+Gives (Ok x) left read = read ≡ got x left
+Gives (Err chain) left read = Refused chain (read ≡ None)
+
+-- What stood first was taken, or it did not stand there.
+abbrev pub Takes : {T A : Type 0} → Option A → List T → List T → Read T A → Type 0
+Takes None before after seen = (seen ≡ None) × (after ≡ before)
+Takes (Some x) before after seen = seen ≡ got x after
+
+abbrev pub TakesSign : {T : Type 0} → Bool → List T → List T → Read T (Unit {0}) → Type 0
+TakesSign false before after seen = (seen ≡ None) × (after ≡ before)
+TakesSign true before after seen = seen ≡ got tt after

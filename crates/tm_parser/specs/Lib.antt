@@ -1,0 +1,4 @@
+pub mod Gives
+pub mod Grammar
+pub mod Statements
+pub mod Template

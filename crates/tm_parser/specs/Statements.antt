@@ -1,0 +1,119 @@
+-- The grammar of statements.
+use Rattle.std.specs.Prelude.{ℕ, zero, suc, List, [], ◌∷◌, Option, Some, None, if◌then◌else◌, nat_eq}
+use Rattle.std.specs.Cmp.Lexicographic.{pointwise}
+use denote.Enum.Bare.{sameb}
+use Rattle.tm_syntax.specs.contracts.token.Tag.{the_type}
+use Rattle.tm_syntax.specs.declared.token.Tag.{Tag}
+use Rattle.tm_syntax.specs.declared.token.Tag.TheVariants as tags
+use Rattle.tm_syntax.specs.declared.token.Sign.TheVariants as sign
+use Rattle.tm_syntax.specs.declared.token.Token.{Token}
+use Rattle.tm_syntax.specs.declared.token.Token.TheVariants as tokens
+use Rattle.tm_syntax.specs.declared.tree.Stmt.{Stmt}
+use Rattle.tm_syntax.specs.declared.tree.Stmt.TheVariants as stmts
+use Rattle.tm_parser.specs.declared.tables.Start.{Start}
+use Rattle.tm_parser.specs.declared.tables.Start.TheVariants as starts
+use Rattle.tm_rules.specs.Combinators.{provided, first, nothing, pure, ◌>>=◌, branch, token, many_from}
+use Rattle.tm_parser.specs.Grammar.{Rule, is, a_name, Inside, inside, expr}
+
+-- this tag
+abbrev pub is_tag : Tag → Token → Option (Unit {0})
+is_tag t (tokens.Tag u) = if sameb the_type u t then Some tt else None
+is_tag t _ = None
+
+-- What may stand inside one more tag, or in one more part of it.
+pub record Inner : Type 1 where
+  pub body : Rule (List Stmt)
+  -- what stands behind the body of an `if`
+  pub rest : Rule (Option (List Stmt))
+
+-- Each tag that begins a statement.
+abbrev pub start_of : Tag → Option Start
+start_of tags.If = Some starts.If
+start_of tags.Block = Some starts.Block
+start_of _ = None
+
+-- what a statement begins with
+abbrev pub a_start : Token → Option Start
+a_start (tokens.Raw text) = Some (starts.Raw text)
+a_start (tokens.Sign sign.VariableStart) = Some starts.Emit
+a_start (tokens.Tag t) = start_of t
+a_start _ = None
+
+abbrev pub block_end : Rule (Unit {0})
+block_end = token (is sign.BlockEnd)
+
+-- a tag of one word
+abbrev pub lone : Tag → Rule (Unit {0})
+lone t = do
+  word ← token (is_tag t)
+  block_end
+
+-- the same name once more, or none
+abbrev pub same_name : List ℕ → Rule (Unit {0})
+same_name name = branch (first a_name) (λ other. provided (pointwise nat_eq other name) (pure tt)) (pure tt)
+
+unfoldable pub emission : Inside → Rule Stmt
+emission i = do
+  x ← expr i
+  close ← token (is sign.VariableEnd)
+  pure (stmts.EmitExpr x)
+
+unfoldable pub if_tag : Inside → Inner → Rule Stmt
+if_tag i t = do
+  condition ← i.expr
+  close ← block_end
+  body ← t.body
+  other ← t.rest
+  pure (stmts.If condition body other)
+
+unfoldable pub elif_tag : Inside → Inner → Rule (Option (List Stmt))
+elif_tag i t = do
+  condition ← expr i
+  close ← block_end
+  body ← t.body
+  other ← t.rest
+  pure (Some (stmts.If condition body other ∷ []))
+
+unfoldable pub else_tag : Inner → Rule (Option (List Stmt))
+else_tag t = do
+  close ← block_end
+  body ← t.body
+  last ← lone tags.Endif
+  pure (Some body)
+
+-- what stands behind the body of an `if`, up to its end tag
+unfoldable pub rest : Inside → Inner → Rule (Option (List Stmt))
+rest i t =
+    branch (first (is_tag tags.Elif)) (λ _. elif_tag i t) (
+    branch (first (is_tag tags.Else)) (λ _. else_tag t) (do
+      last ← lone tags.Endif
+      pure None))
+
+unfoldable pub block_tag : Inner → Rule Stmt
+block_tag t = do
+  name ← token a_name
+  close ← block_end
+  body ← t.body
+  word ← token (is_tag tags.Endblock)
+  again ← same_name name
+  last ← block_end
+  pure (stmts.Block name body)
+
+-- what stands behind the start of a statement
+abbrev pub statement : Inside → Inner → Start → Rule Stmt
+statement i t (starts.Raw text) = pure (stmts.EmitRaw text)
+statement i t starts.Emit = emission i
+statement i t starts.If = if_tag i t
+statement i t starts.Block = block_tag t
+
+-- statements behind these ones, as long as one begins
+abbrev pub more_statements : Inside → Inner → List Stmt → Rule (List Stmt)
+more_statements i t xs = many_from (first a_start) (statement i t) xs
+
+unfoldable pub body : Inside → Inner → Rule (List Stmt)
+body i t = more_statements i t []
+
+-- what may stand inside n nestings more
+unfoldable pub inner : ℕ → Inner
+inner zero = record { body = nothing; rest = nothing }
+inner (suc n) = record { body = body (inside n) (inner n); rest = rest (inside n) (inner n) }

@@ -1,0 +1,45 @@
+-- Which tokens spell which tree.
+use Rattle.std.specs.Prelude.{ℕ, List, [], ◌∷◌, ◌++◌, map}
+use Rattle.std.specs.Str.{bytes_eq}
+use Rattle.std.specs.Borrow.{Bor}
+use Rattle.std.specs.List.{IsDistinct}
+use Rattle.tm_syntax.specs.declared.token.Token.{Token}
+use Rattle.tm_syntax.specs.declared.tree.Stmt.{Stmt, EmitRaw, EmitExpr, If', Block', Row_of-Stmt, end_of-Stmt as no_statement, more_of-Stmt as statement, Held-Stmt-If-2 as Otherwise, None' as no_else, Some' as otherwise}
+use Rattle.tm_syntax.specs.declared.tree.Stmt.TheBlock.{hidden-the_row-Stmt-0 as row}
+use Rattle.tm_syntax.specs.declared.tree.Tree.{Tree}
+use Rattle.tm_parser.specs.Grammar.{inside}
+use Rattle.tm_parser.specs.Statements.{body, inner}
+
+-- the names of all blocks, in the order of the source
+abbrev mutual
+  pub names_of : Stmt → List (List ℕ)
+  names_of (EmitRaw text) = []
+  names_of (EmitExpr x) = []
+  names_of (If' condition _ body other) = names_in body ++ names_in_otherwise other
+  names_of (Block' name _ body) = name ∷ names_in body
+
+  pub names_in : {n : _} → Row_of-Stmt n → List (List ℕ)
+  names_in no_statement = []
+  names_in (statement s ss) = names_of s ++ names_in ss
+
+  pub names_in_otherwise : Otherwise → List (List ℕ)
+  names_in_otherwise no_else = []
+  names_in_otherwise (otherwise _ body) = names_in body
+
+abbrev pub block_names : List Stmt → List (List ℕ)
+block_names statements = names_in (row statements)
+
+abbrev pub AreDistinct : List (List ℕ) → Type 0
+AreDistinct = IsDistinct bytes_eq
+
+-- the texts behind references
+abbrev pub texts : List (Bor (List ℕ)) → List (List ℕ)
+texts = map (λ name. name.now)
+
+-- All tokens are the statements of the tree, with at most 150 nestings at once, and no name is that of two blocks.
+pub record SpellsTemplate (tokens : List Token) (tree : Tree) : Type 0 where
+  pub spelled : (body (inside 150) (inner 150)).spells tokens tree.statements []
+  pub distinct : AreDistinct (block_names tree.statements)
+
+abbrev pub SpellsNone : List Token → Type 0
+SpellsNone tokens = (tree : Tree) → SpellsTemplate tokens tree → ⊥

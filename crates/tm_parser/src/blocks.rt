@@ -1,0 +1,62 @@
+//! The blocks of a tree.
+ghost use Rattle.std.specs.Prelude.{◌≡◌, ◌++◌, ◌↔◌, IsTrue, IfOk, OnOk};
+ghost use Rattle.tm_parser.specs.Template.{AreDistinct, block_names, names_of, texts};
+
+use std::alloc::{AllocError, Global};
+use std::collections::BTreeSet;
+use tm_syntax::Stmt;
+
+/// Whether no name is that of two blocks in the statements; AllocError for want of memory.
+pub fn has_distinct_blocks(alloc: Global, statements: &[Stmt]) -> Result<bool, AllocError>
+    ensures { IfOk result (λ distinct. IsTrue distinct ↔ AreDistinct (block_names statements.now)) }
+{
+    let mut names = Vec::new(alloc);
+    add_names(&mut names, statements)?;
+    are_distinct(alloc, &names)
+}
+
+/// Adds the names of all blocks in the statements.
+#[cycle(names)]
+fn add_names<'t>(names: &mut Vec<&'t str>, statements: &'t [Stmt]) -> Result<(), AllocError>
+    ensures { OnOk result
+        (texts names.new.items ≡ texts names.old.items ++ block_names statements.now) }
+{
+    for statement in statements {
+        add_names_of(names, statement)?;
+    }
+    Ok(())
+}
+
+/// Adds the name of a block, and those of all blocks in a statement.
+#[cycle(names)]
+#[tactic(auto, using(crate::proofs::Names::forms))]
+fn add_names_of<'t>(names: &mut Vec<&'t str>, statement: &'t Stmt) -> Result<(), AllocError>
+    ensures { OnOk result
+        (texts names.new.items ≡ texts names.old.items ++ names_of statement.now) }
+{
+    match statement {
+        Stmt::EmitRaw(_) | Stmt::EmitExpr(_) => Ok(()),
+        Stmt::If(_, body, None) => add_names(names, body.as_slice()),
+        Stmt::If(_, body, Some(other)) => {
+            add_names(names, body.as_slice())?;
+            add_names(names, other.as_slice())
+        }
+        Stmt::Block(name, body) => {
+            names.push(name.as_str())?;
+            add_names(names, body.as_slice())
+        }
+    }
+}
+
+/// Whether no name stands twice; AllocError for want of memory.
+fn are_distinct(alloc: Global, names: &[&str]) -> Result<bool, AllocError>
+    ensures { IfOk result (λ distinct. IsTrue distinct ↔ AreDistinct (texts names.now)) }
+{
+    let mut seen = BTreeSet::new(alloc);
+    for name in names {
+        if !seen.insert(*name)? {
+            return Ok(false);
+        }
+    }
+    Ok(true)
+}

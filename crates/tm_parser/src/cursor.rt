@@ -1,0 +1,237 @@
+//! Tokens one after another.
+ghost use Rattle.std.specs.Prelude.{◌≡◌, ◌∷◌, [], ◌↔◌, IsTrue, MatchResult};
+ghost use Rattle.tm_parser.specs.Gives.{Gives, Takes, TakesSign};
+ghost use Rattle.tm_parser.specs.Grammar.{is, a_name, a_constant, comma, link, prefix};
+ghost use Rattle.tm_parser.specs.Statements.{a_start, is_tag, lone, same_name};
+ghost use Rattle.tm_rules.specs.Combinators.{token};
+ghost use Rattle.tm_rules.specs.Meanings.{first_sees};
+
+use crate::tables::{Link, Start, constant_of, link_of, prefix_of, start_of};
+use std::marker::Model;
+use tm_syntax::{Name, Sign, Tag, Token, UnaryOperator};
+use tm_values::{Error, ErrorKind, Value};
+
+/// The tokens that are left. A contract sees them as a list.
+#[derive(Drop)]
+pub struct Cursor<'t> {
+    rest: &'t [Token],
+}
+
+impl<'t> Model for Cursor<'t> {
+    ghost use Rattle.std.specs.Prelude.{List};
+    ghost use Rattle.tm_syntax.specs.declared.token.Token.{Token};
+    ghost use Rattle.std.specs.Coded.{codes};
+    ghost use Rattle.tm_values.specs.Code.{coded_Val};
+
+    ghost Value = { List Token };
+
+    ghost coded = { Prim.hlevel (codes, coded_Val) };
+
+    ghost view = { λ a. a.rest.now };
+}
+
+/// The error of tokens that are refused.
+pub fn refusal() -> Error
+    ensures { result ≡ ErrorKind.SyntaxError ∷ [] }
+{
+    Error::from(ErrorKind::SyntaxError)
+}
+
+// What the methods that take answer: whether what they look for stood first.
+impl<'t> Cursor<'t> {
+    /// Before the first token.
+    pub fn new(tokens: &'t [Token]) -> Cursor<'t>
+        ensures { result ≡ tokens.now }
+    {
+        Cursor { rest: tokens }
+    }
+
+    /// Whether no token is left.
+    pub fn is_done(&self) -> bool
+        ensures { IsTrue result ↔ (self.now ≡ []) }
+    {
+        self.rest.is_empty()
+    }
+
+    /// Takes this sign.
+    pub fn take(&mut self, sign: Sign) -> bool
+        ensures { TakesSign result self.old self.new (first_sees (is sign) self.old) }
+    {
+        match self.rest {
+            [Token::Sign(found), rest @ ..] if *found == sign => {
+                self.rest = rest;
+                true
+            }
+            _ => false,
+        }
+    }
+
+    /// Takes this tag.
+    pub fn take_tag(&mut self, tag: Tag) -> bool
+        ensures { TakesSign result self.old self.new (first_sees (is_tag tag) self.old) }
+    {
+        match self.rest {
+            [Token::Tag(found), rest @ ..] if *found == tag => {
+                self.rest = rest;
+                true
+            }
+            _ => false,
+        }
+    }
+
+    /// Takes a comma, unless the end of the list stands behind it.
+    pub fn take_comma(&mut self, close: Sign) -> bool
+        ensures { TakesSign result self.old self.new ((comma close).sees self.old) }
+    {
+        match self.rest {
+            [Token::Sign(Sign::Comma), Token::Sign(found), ..] if *found == close => false,
+            [Token::Sign(Sign::Comma), rest @ ..] => {
+                self.rest = rest;
+                true
+            }
+            _ => false,
+        }
+    }
+
+    /// Takes a name, and answers a second owner of it. OutOfMemory where there can be none.
+    pub fn take_name(&mut self) -> Result<Option<Name>, Error>
+        ensures { MatchResult result
+            (λ name. Takes name self.old self.new (first_sees a_name self.old))
+            (λ e. e ≡ ErrorKind.OutOfMemory ∷ []) }
+    {
+        match self.rest {
+            [Token::Name(name), rest @ ..] => {
+                let name = name.share()?;
+                self.rest = rest;
+                Ok(Some(name))
+            }
+            _ => Ok(None),
+        }
+    }
+
+    /// Takes a literal or a word for a value, and answers a second owner of the value. OutOfMemory
+    /// where there can be none.
+    pub fn take_constant(&mut self) -> Result<Option<Value>, Error>
+        ensures { MatchResult result
+            (λ value. Takes value self.old self.new (first_sees a_constant self.old))
+            (λ e. e ≡ ErrorKind.OutOfMemory ∷ []) }
+    {
+        let value = match self.rest {
+            [Token::Literal(value), ..] => value.share()?,
+            [Token::Sign(sign), ..] => match constant_of(*sign) {
+                Some(value) => value,
+                None => return Ok(None),
+            },
+            _ => return Ok(None),
+        };
+        self.rest = &self.rest[1..];
+        Ok(Some(value))
+    }
+
+    /// Takes a sign that goes on with a value at this level.
+    pub fn take_link(&mut self, level: u8) -> Option<Link>
+        ensures { Takes result self.old self.new (first_sees (link level) self.old) }
+    {
+        match self.rest {
+            [Token::Sign(sign), rest @ ..] => match link_of(*sign) {
+                Some((found, link)) if found == level => {
+                    self.rest = rest;
+                    Some(link)
+                }
+                _ => None,
+            },
+            _ => None,
+        }
+    }
+
+    /// Takes a sign before an operand of this level.
+    pub fn take_prefix(&mut self, level: u8) -> Option<UnaryOperator>
+        ensures { Takes result self.old self.new (first_sees (prefix level) self.old) }
+    {
+        match self.rest {
+            [Token::Sign(sign), rest @ ..] => match prefix_of(*sign) {
+                Some((found, operator)) if found == level => {
+                    self.rest = rest;
+                    Some(operator)
+                }
+                _ => None,
+            },
+            _ => None,
+        }
+    }
+
+    /// Takes what a statement begins with. OutOfMemory where a raw text can have no second owner.
+    pub fn take_start(&mut self) -> Result<Option<Start>, Error>
+        ensures { MatchResult result
+            (λ start. Takes start self.old self.new (first_sees a_start self.old))
+            (λ e. e ≡ ErrorKind.OutOfMemory ∷ []) }
+    {
+        let start = match self.rest {
+            [Token::Raw(text), ..] => Start::Raw(text.share()?),
+            [Token::Sign(Sign::VariableStart), ..] => Start::Emit,
+            [Token::Tag(tag), ..] => match start_of(*tag) {
+                Some(start) => start,
+                None => return Ok(None),
+            },
+            _ => return Ok(None),
+        };
+        self.rest = &self.rest[1..];
+        Ok(Some(start))
+    }
+
+    /// Takes this sign, which has to stand first.
+    pub fn expect(&mut self, sign: Sign) -> Result<(), Error>
+        ensures { Gives result self.new ((token (is sign)).reads self.old) }
+    {
+        if self.take(sign) {
+            Ok(())
+        } else {
+            Err(refusal())
+        }
+    }
+
+    /// Takes this tag, which has to stand first.
+    pub fn expect_tag(&mut self, tag: Tag) -> Result<(), Error>
+        ensures { Gives result self.new ((token (is_tag tag)).reads self.old) }
+    {
+        if self.take_tag(tag) {
+            Ok(())
+        } else {
+            Err(refusal())
+        }
+    }
+
+    /// Takes this tag with nothing but its word, which has to stand first.
+    pub fn expect_lone(&mut self, tag: Tag) -> Result<(), Error>
+        ensures { Gives result self.new ((lone tag).reads self.old) }
+    {
+        self.expect_tag(tag)?;
+        self.expect(Sign::BlockEnd)
+    }
+
+    /// Takes a name, which has to stand first.
+    pub fn expect_name(&mut self) -> Result<Name, Error>
+        ensures { Gives result self.new ((token a_name).reads self.old) }
+    {
+        match self.take_name()? {
+            Some(name) => Ok(name),
+            None => Err(refusal()),
+        }
+    }
+
+    /// Takes a name, if one stands first: it has to be this one.
+    pub fn expect_same(&mut self, name: &Name) -> Result<(), Error>
+        ensures { Gives result self.new ((same_name name.now).reads self.old) }
+    {
+        match self.rest {
+            [Token::Name(other), rest @ ..] => {
+                if !other.is(name.as_str()) {
+                    return Err(refusal());
+                }
+                self.rest = rest;
+                Ok(())
+            }
+            _ => Ok(()),
+        }
+    }
+}

@@ -1,0 +1,164 @@
+//! Statements.
+ghost use Rattle.std.specs.Prelude.{◌≡◌};
+ghost use Rattle.tm_parser.specs.Gives.{Gives};
+ghost use Rattle.tm_parser.specs.Grammar.{inside};
+ghost use Rattle.tm_parser.specs.Statements.{block_tag, body, elif_tag, else_tag, emission, if_tag, inner, rest, statement};
+ghost use Rattle.tm_rules.specs.Combinators.{one_more};
+
+use crate::cursor::{Cursor, refusal};
+use crate::tables::Start;
+use sqlite_items::Items;
+use std::alloc::Global;
+use tm_syntax::{Sign, Stmt, Tag};
+use tm_values::Error;
+
+// Each method reads one rule, with `depth` nestings to go. SyntaxError where no tokens spell it.
+impl Cursor<'_> {
+    /// Statements inside one nesting more.
+    #[cycle(statements)]
+    #[tactic(auto, using(crate::proofs::Nesting::statements))]
+    fn inner_body(&mut self, alloc: Global, depth: u8) -> Result<Items<Stmt>, Error>
+        ensures { Gives result self.new ((inner depth).body.reads self.old) }
+    {
+        if depth == 0 {
+            return Err(refusal());
+        }
+        self.body(alloc, depth - 1)
+    }
+
+    /// What stands behind the body of an `if`, inside one nesting more.
+    #[cycle(statements)]
+    #[tactic(auto, using(crate::proofs::Nesting::statements))]
+    fn inner_rest(&mut self, alloc: Global, depth: u8) -> Result<Option<Items<Stmt>>, Error>
+        ensures { Gives result self.new ((inner depth).rest.reads self.old) }
+    {
+        if depth == 0 {
+            return Err(refusal());
+        }
+        self.rest(alloc, depth - 1)
+    }
+
+    /// Statements, as long as one begins.
+    #[cycle(statements)]
+    pub fn body(&mut self, alloc: Global, depth: u8) -> Result<Items<Stmt>, Error>
+        ensures { Gives result self.new ((body (inside depth) (inner depth)).reads self.old) }
+    {
+        let mut body = Items::new(alloc);
+        while let Some(start) = self.take_start()? {
+            body = self.one_statement(alloc, depth, start, body)?;
+        }
+        Ok(body)
+    }
+
+    /// The statement behind its start, at the end of others.
+    #[cycle(statements)]
+    fn one_statement(
+        &mut self,
+        alloc: Global,
+        depth: u8,
+        start: Start,
+        body: Items<Stmt>,
+    ) -> Result<Items<Stmt>, Error>
+        ensures { Gives result self.new
+            ((one_more (statement (inside depth) (inner depth) start) body).reads self.old) }
+    {
+        let mut body = body;
+        body.push(self.statement(alloc, depth, start)?)?;
+        Ok(body)
+    }
+
+    /// The statement behind its start.
+    #[cycle(statements)]
+    fn statement(&mut self, alloc: Global, depth: u8, start: Start) -> Result<Stmt, Error>
+        ensures { Gives result self.new
+            ((statement (inside depth) (inner depth) start).reads self.old) }
+    {
+        match start {
+            Start::Raw(text) => Ok(Stmt::EmitRaw(text)),
+            Start::Emit => self.emission(alloc, depth),
+            Start::If => self.if_tag(alloc, depth),
+            Start::Block => self.block_tag(alloc, depth),
+        }
+    }
+
+    /// The expression of an emission, and its end.
+    #[tactic(auto, unfolding(crate::specs::Statements::emission))]
+    fn emission(&mut self, alloc: Global, depth: u8) -> Result<Stmt, Error>
+        ensures { Gives result self.new ((emission (inside depth)).reads self.old) }
+    {
+        let value = self.expr(alloc, depth)?;
+        self.expect(Sign::VariableEnd)?;
+        Ok(Stmt::EmitExpr(value))
+    }
+
+    /// The condition of an `if`, its body, and all up to its end tag.
+    #[cycle(statements)]
+    #[tactic(auto, unfolding(crate::specs::Statements::if_tag))]
+    fn if_tag(&mut self, alloc: Global, depth: u8) -> Result<Stmt, Error>
+        ensures { Gives result self.new ((if_tag (inside depth) (inner depth)).reads self.old) }
+    {
+        let condition = self.inner_expr(alloc, depth)?;
+        self.expect(Sign::BlockEnd)?;
+        let body = self.inner_body(alloc, depth)?;
+        let other = self.inner_rest(alloc, depth)?;
+        Ok(Stmt::If(condition, body, other))
+    }
+
+    /// What stands behind the body of an `if`, up to its end tag: the else part, or none.
+    #[cycle(statements)]
+    #[tactic(auto, unfolding(crate::specs::Statements::rest))]
+    fn rest(&mut self, alloc: Global, depth: u8) -> Result<Option<Items<Stmt>>, Error>
+        ensures { Gives result self.new ((rest (inside depth) (inner depth)).reads self.old) }
+    {
+        if self.take_tag(Tag::Elif) {
+            return self.elif_tag(alloc, depth);
+        }
+        if self.take_tag(Tag::Else) {
+            return self.else_tag(alloc, depth);
+        }
+        self.expect_lone(Tag::Endif)?;
+        Ok(None)
+    }
+
+    /// An else part that is one `if`.
+    #[cycle(statements)]
+    #[tactic(auto, unfolding(crate::specs::Statements::elif_tag))]
+    fn elif_tag(&mut self, alloc: Global, depth: u8) -> Result<Option<Items<Stmt>>, Error>
+        ensures { Gives result self.new ((elif_tag (inside depth) (inner depth)).reads self.old) }
+    {
+        let condition = self.expr(alloc, depth)?;
+        self.expect(Sign::BlockEnd)?;
+        let body = self.inner_body(alloc, depth)?;
+        let other = self.inner_rest(alloc, depth)?;
+        let mut part = Items::new(alloc);
+        part.push(Stmt::If(condition, body, other))?;
+        Ok(Some(part))
+    }
+
+    /// An else part, which may be empty, and the end tag.
+    #[cycle(statements)]
+    #[tactic(auto, unfolding(crate::specs::Statements::else_tag))]
+    fn else_tag(&mut self, alloc: Global, depth: u8) -> Result<Option<Items<Stmt>>, Error>
+        ensures { Gives result self.new ((else_tag (inner depth)).reads self.old) }
+    {
+        self.expect(Sign::BlockEnd)?;
+        let body = self.inner_body(alloc, depth)?;
+        self.expect_lone(Tag::Endif)?;
+        Ok(Some(body))
+    }
+
+    /// A block's name and body, up to its end tag, which may say the name again.
+    #[cycle(statements)]
+    #[tactic(auto, unfolding(crate::specs::Statements::block_tag))]
+    fn block_tag(&mut self, alloc: Global, depth: u8) -> Result<Stmt, Error>
+        ensures { Gives result self.new ((block_tag (inner depth)).reads self.old) }
+    {
+        let name = self.expect_name()?;
+        self.expect(Sign::BlockEnd)?;
+        let body = self.inner_body(alloc, depth)?;
+        self.expect_tag(Tag::Endblock)?;
+        self.expect_same(&name)?;
+        self.expect(Sign::BlockEnd)?;
+        Ok(Stmt::Block(name, body))
+    }
+}

@@ -1,0 +1,79 @@
+//! What a sign or a tag begins: the tables of the grammar.
+ghost use Rattle.std.specs.Prelude.{◌≡◌};
+ghost use Rattle.tm_parser.specs.Grammar as grammar;
+ghost use Rattle.tm_parser.specs.Statements as statements;
+
+use tm_syntax::{BinaryOperator, Name, Sign, Tag, UnaryOperator};
+use tm_values::Value;
+
+/// How an expression goes on with a value.
+#[derive(Clone, Copy)]
+pub enum Link {
+    /// By a name, which is an attribute's.
+    Attribute,
+    /// By the right side of a comparison.
+    Comparison(BinaryOperator),
+    /// By the right side of `and`.
+    And,
+    /// By the right side of `or`.
+    Or,
+}
+
+/// What a statement begins with.
+#[derive(Drop)]
+pub enum Start {
+    /// A raw text, which is all of it.
+    Raw(Name),
+    /// The start of an emission.
+    Emit,
+    /// The start of an `if`.
+    If,
+    /// The start of a block.
+    Block,
+}
+
+/// How a sign goes on with a value, and at which level.
+pub fn link_of(sign: Sign) -> Option<(u8, Link)>
+    ensures { result ≡ grammar.link_of sign }
+{
+    Some(match sign {
+        Sign::Dot => (0, Link::Attribute),
+        Sign::Equal => (5, Link::Comparison(BinaryOperator::Equal)),
+        Sign::And => (6, Link::And),
+        Sign::Or => (7, Link::Or),
+        _ => return None,
+    })
+}
+
+/// The operator before an operand, and the level of the operand.
+pub fn prefix_of(sign: Sign) -> Option<(u8, UnaryOperator)>
+    ensures { result ≡ grammar.prefix_of sign }
+{
+    Some(match sign {
+        Sign::Not => (6, UnaryOperator::Not),
+        _ => return None,
+    })
+}
+
+/// The value of a reserved word.
+pub fn constant_of(sign: Sign) -> Option<Value>
+    ensures { result ≡ grammar.constant_of sign }
+{
+    Some(match sign {
+        Sign::True => Value::boolean(true),
+        Sign::False => Value::boolean(false),
+        Sign::None => Value::none(),
+        _ => return None,
+    })
+}
+
+/// What a tag begins.
+pub fn start_of(tag: Tag) -> Option<Start>
+    ensures { result ≡ statements.start_of tag }
+{
+    Some(match tag {
+        Tag::If => Start::If,
+        Tag::Block => Start::Block,
+        _ => return None,
+    })
+}

@@ -1,0 +1,38 @@
+//! Whole templates.
+ghost use Rattle.std.specs.Prelude.{◌≡◌, List, IfOk, IfErr};
+ghost use Rattle.tm_parser.specs.Gives.{Refused};
+ghost use Rattle.tm_parser.specs.Template.{SpellsNone, SpellsTemplate};
+ghost use Rattle.tm_syntax.specs.declared.token.Token.{Token};
+ghost use Rattle.tm_syntax.specs.declared.tree.Tree.{Tree};
+
+use crate::blocks::has_distinct_blocks;
+use crate::cursor::{Cursor, refusal};
+use std::alloc::Global;
+use tm_syntax::{Token, Tree};
+use tm_values::Error;
+
+/// How many brackets, prefixes and tags may be open at once.
+const NESTINGS: u8 = 150;
+
+/// The tree that the tokens spell. SyntaxError where they spell none; OutOfMemory for want of
+/// memory.
+pub fn parse_tokens(alloc: Global, tokens: &[Token]) -> Result<Tree, Error>
+    ensures found { IfOk result (SpellsTemplate tokens.now) }
+    ensures refused { IfErr result (λ e. Refused e (SpellsNone tokens.now)) }
+{
+    let mut cursor = Cursor::new(tokens);
+    let statements = cursor.body(alloc, NESTINGS)?;
+    if !cursor.is_done() {
+        return Err(refusal());
+    }
+    if !has_distinct_blocks(alloc, statements.as_slice())? {
+        return Err(refusal());
+    }
+    Ok(Tree { statements })
+}
+
+/// Tokens spell at most one tree.
+pub fn one_tree()
+    ensures { (tokens : List Token) (a b : Tree) →
+        SpellsTemplate tokens a → SpellsTemplate tokens b → a ≡ b }
+{}

@@ -1,0 +1,84 @@
+-- The tokens of a content, as far as they are read.
+use Rattle.std.proofs.Common.{◌≡◌, ℕ, List, [], ◌∷◌, ◌++◌, Option, Some, None, sym, ◌∙◌, ap, subst, append_assoc}
+use Rattle.tm_values.specs.Val.{Val}
+use Rattle.tm_syntax.specs.declared.token.Token.{Token}
+use Rattle.tm_syntax.specs.declared.token.Token.TheVariants as tokens
+use Rattle.tm_scanner.specs.declared.texts.Quote.{Quote}
+use Rattle.tm_scanner.specs.Front.{past_blanks}
+use Rattle.tm_scanner.specs.Steps.{Steps}
+use Rattle.tm_scanner.specs.Texts.{quote_at, IsLiteral}
+use Rattle.tm_scanner.specs.Tokens.{IsToken, IsTokenBehind, depth_behind, Place, past_end, Passes, Content}
+use Rattle.tm_scanner.proofs.Steps.{OneStep, NoStep, append-nil, same_some, same_result, steps_last, one_end}
+use Rattle.tm_scanner.proofs.Literals.{one_literal}
+
+-- where a quote stands and no text, there is no token
+pub no_literal : (cs behind : List ℕ) (q : Quote) → Some (q, behind) ≡ quote_at cs → ((v : Val) (rest : List ℕ) → IsLiteral q behind v rest → ⊥) → (t : Token) (rest : List ℕ) → IsToken cs t rest → ⊥
+no_literal cs behind q e none t rest h =
+    let text : IsTokenBehind (Some (q, behind)) cs t rest = subst (λ (o : Option (Quote × List ℕ)). IsTokenBehind o cs t rest) (sym e) h in
+    none text.0 rest text.1
+
+one_token_behind : (q : Option (Quote × List ℕ)) (cs : List ℕ) (t u : Token) (r s : List ℕ) → IsTokenBehind q cs t r → IsTokenBehind q cs u s → (t ≡ u) × (r ≡ s)
+one_token_behind None cs t u r s h k = same_result t u r s (sym h ∙ k)
+one_token_behind (Some x) cs t u r s h k =
+    let same = one_literal x.0 x.1 h.0 k.0 r s h.1 k.1 in
+    (h.2 ∙ ap (λ v. tokens.Literal v) same.0 ∙ sym k.2, same.1)
+
+pub one_token : (cs : List ℕ) (t u : Token) (r s : List ℕ) → IsToken cs t r → IsToken cs u s → (t ≡ u) × (r ≡ s)
+one_token cs t u r s h k = one_token_behind (quote_at cs) cs t u r s h k
+
+same_place : (u v : Place) → u.rest ≡ v.rest → u.depth ≡ v.depth → u ≡ v
+same_place u v e f = ap (λ (r : List ℕ). record { rest = r; depth = u.depth }) e ∙ ap (λ (d : ℕ). record { rest = v.rest; depth = d }) f
+
+one_pass : (end : List ℕ) → OneStep (Passes end)
+one_pass end = λ s t w u v h k.
+    let same = one_token s.rest t w h.next k.next h.token k.token in
+    let depth : u.depth ≡ v.depth = same_some u.depth v.depth (sym h.depth ∙ ap (λ x. depth_behind x s.depth) same.0 ∙ k.depth) in
+    (same.0, same_place u v (h.rest ∙ ap past_blanks same.1 ∙ sym k.rest) depth)
+
+no_pass : (end : List ℕ) (s : Place) (rest : List ℕ) → past_end end s.rest s.depth ≡ Some rest → NoStep (Passes end) s
+no_pass end s rest e = λ t u h. cc (sym e ∙ h.goes_on)
+
+-- The tokens that were added lead from the start of the content to this place.
+pub record Begun (end cs : List ℕ) (old new : List Token) (rest : List ℕ) (depth : ℕ) : Type 0 where
+  pub added : List Token
+  pub steps : Steps (Passes end) (record { rest = past_blanks cs; depth = 0 }) added (record { rest = rest; depth = depth })
+  pub items : new ≡ old ++ added
+
+pub begins : (end cs : List ℕ) (old : List Token) (rest : List ℕ) → rest ≡ past_blanks cs → Begun end cs old old rest 0
+begins end cs old rest e = record {
+  added = [];
+  steps = ap (λ (r : List ℕ). record { rest = r; depth = 0 }) (sym e);
+  items = sym (append-nil old);
+}
+
+pub goes_on : (end cs : List ℕ) (old new more : List Token) (rest next blank : List ℕ) (depth deeper : ℕ) (t : Token) → Begun end cs old new rest depth → past_end end rest depth ≡ None → IsToken rest t next → depth_behind t depth ≡ Some deeper → blank ≡ past_blanks next → more ≡ new ++ t ∷ [] → Begun end cs old more blank deeper
+goes_on end cs old new more rest next blank depth deeper t here unended token deep blanks grown = record {
+  added = here.added ++ t ∷ [];
+  steps = steps_last (Passes end) (record { rest = past_blanks cs; depth = 0 }) here.added (record { rest = rest; depth = depth }) t (record { rest = blank; depth = deeper }) here.steps
+      (record { goes_on = unended; next = next; token = token; depth = deep; rest = blanks });
+  items = grown ∙ ap (λ w. w ++ t ∷ []) here.items ∙ append_assoc old here.added (t ∷ []);
+}
+
+pub ends : (end cs : List ℕ) (old new : List Token) (rest behind : List ℕ) (depth : ℕ) → Begun end cs old new rest depth → past_end end rest depth ≡ Some behind → (ts : List Token) × Content end cs ts behind × (new ≡ old ++ ts)
+ends end cs old new rest behind depth here e = (here.added, (record { rest = rest; depth = depth }, here.steps, e), here.items)
+
+-- where the content neither ends nor goes on, there is none
+pub no_content : (end cs : List ℕ) (old new : List Token) (rest : List ℕ) (depth : ℕ) → Begun end cs old new rest depth → past_end end rest depth ≡ None → NoStep (Passes end) (record { rest = rest; depth = depth }) → (ts : List Token) (behind : List ℕ) → Content end cs ts behind → ⊥
+no_content end cs old new rest depth here unended stuck ts behind h =
+    let start : Place = record { rest = past_blanks cs; depth = 0 } in
+    let same = one_end (Passes end) start here.added (record { rest = rest; depth = depth }) ts h.0 (one_pass end) here.steps stuck h.1 (no_pass end h.0 behind h.2) in
+    cc (sym unended ∙ ap (λ (p : Place). past_end end p.rest p.depth) same.1 ∙ h.2)
+
+pub no_token : (end rest : List ℕ) (depth : ℕ) → ((t : Token) (next : List ℕ) → IsToken rest t next → ⊥) → NoStep (Passes end) (record { rest = rest; depth = depth })
+no_token end rest depth none = λ t u h. none t h.next h.token
+
+pub too_deep : (end rest next : List ℕ) (depth : ℕ) (t : Token) → IsToken rest t next → depth_behind t depth ≡ None → NoStep (Passes end) (record { rest = rest; depth = depth })
+too_deep end rest next depth t token deep = λ w u h.
+    let same = one_token rest t w next h.next token h.token in
+    cc (sym deep ∙ ap (λ x. depth_behind x depth) same.0 ∙ h.depth)
+
+pub one_content : (end cs : List ℕ) (ts us : List Token) (r s : List ℕ) → Content end cs ts r → Content end cs us s → (ts ≡ us) × (r ≡ s)
+one_content end cs ts us r s h k =
+    let start : Place = record { rest = past_blanks cs; depth = 0 } in
+    let same = one_end (Passes end) start ts h.0 us k.0 (one_pass end) h.1 (no_pass end h.0 r h.2) k.1 (no_pass end k.0 s k.2) in
+    (same.0, same_some r s (sym h.2 ∙ ap (λ (p : Place). past_end end p.rest p.depth) same.1 ∙ k.2))

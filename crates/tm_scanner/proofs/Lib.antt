@@ -1,0 +1,10 @@
+pub mod Places
+pub mod Newlines
+pub mod Words
+pub mod Steps
+pub mod Runs
+pub mod Refusals
+pub mod Literals
+pub mod Begins
+pub mod Contents
+pub mod Sources

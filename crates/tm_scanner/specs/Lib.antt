@@ -1,0 +1,11 @@
+pub mod Steps
+pub mod Front
+pub mod Syntax
+pub mod Names
+pub mod Numbers
+pub mod Texts
+pub mod Tokens
+pub mod Pieces
+pub mod Spells
+pub mod Refused
+pub mod Views

@@ -1,0 +1,45 @@
+-- Names, and the words that are no names.
+use Rattle.std.specs.Prelude.{ℕ, List, [], ◌∷◌, Bool, true, not, codes, Option, Some, None, option_map, if◌then◌else◌, ◌==◌, ◌||◌, encode_utf8_all}
+use Rattle.std.specs.Str.{chars}
+use Rattle.unicode_ident.specs.Ident.{is_xid_start, is_xid_continue}
+use Rattle.tm_syntax.specs.declared.token.Sign.{Sign}
+use Rattle.tm_syntax.specs.declared.token.Sign.TheVariants as sign
+use Rattle.tm_syntax.specs.declared.token.Tag.{Tag}
+use Rattle.tm_syntax.specs.declared.token.Tag.TheVariants as tag
+use Rattle.tm_scanner.specs.Front.{until, look_up}
+
+-- whether a name may begin with the character
+abbrev pub starts_name : ℕ → Bool
+starts_name c = (c == 95) || is_xid_start c
+
+-- whether a name doesn't go on with these characters
+abbrev pub leaves_name : List ℕ → Bool
+leaves_name [] = true
+leaves_name (c ∷ cs) = not (is_xid_continue c)
+
+-- the longest name at the front of characters, reserved or not, and what is left behind it
+abbrev pub name_in : List ℕ → Option (List ℕ × List ℕ)
+name_in [] = None
+name_in (c ∷ cs) = if starts_name c then Some (c ∷ (until leaves_name cs).0, (until leaves_name cs).1) else None
+
+-- the same of bytes
+abbrev pub name_at : List ℕ → Option (List ℕ × List ℕ)
+name_at bs = option_map (λ x. (encode_utf8_all x.0, encode_utf8_all x.1)) (name_in (chars bs))
+
+abbrev pub reserved_words : List (List ℕ × Sign)
+reserved_words =
+    (codes "and", sign.And) ∷ (codes "or", sign.Or) ∷ (codes "not", sign.Not)
+    ∷ (codes "if", sign.If) ∷ (codes "else", sign.Else) ∷ (codes "in", sign.In) ∷ (codes "is", sign.Is)
+    ∷ (codes "true", sign.True) ∷ (codes "false", sign.False) ∷ (codes "none", sign.None)
+    ∷ (codes "True", sign.True) ∷ (codes "False", sign.False) ∷ (codes "None", sign.None) ∷ []
+
+abbrev pub reserved : List ℕ → Option Sign
+reserved name = look_up reserved_words name
+
+abbrev pub tag_words : List (List ℕ × Tag)
+tag_words =
+    (codes "if", tag.If) ∷ (codes "elif", tag.Elif) ∷ (codes "else", tag.Else) ∷ (codes "endif", tag.Endif)
+    ∷ (codes "block", tag.Block) ∷ (codes "endblock", tag.Endblock) ∷ []
+
+abbrev pub tag_of : List ℕ → Option Tag
+tag_of name = look_up tag_words name

@@ -1,0 +1,92 @@
+//! Names, and the words that are no names.
+ghost use Rattle.std.specs.Prelude.{◌≡◌, ◌<◌, true, false, length, IfSome, encode_utf8_all};
+ghost use Rattle.std.specs.Str.{chars};
+ghost use Rattle.unicode_ident.specs.Ident.{is_xid_continue};
+ghost use Rattle.tm_scanner.specs.Front.{until};
+ghost use Rattle.tm_scanner.specs.Names as spec;
+ghost use Rattle.tm_scanner.specs.Views.{Shortens, cut_of};
+
+use crate::front::first;
+use tm_syntax::{Sign, Tag};
+
+/// Whether a name may begin with the character.
+fn starts_name(c: char) -> bool
+    ensures value { result ≡ spec.starts_name c }
+    ensures goes_on { result ≡ true → is_xid_continue c ≡ true }
+{
+    c == '_' || unicode_ident::is_xid_start(c)
+}
+
+/// Whether a name doesn't go on with the text.
+pub(crate) fn leaves_name(text: &str) -> bool
+    ensures { result ≡ spec.leaves_name (chars text.now) }
+{
+    match first(text) {
+        Some((c, _)) => !unicode_ident::is_xid_continue(c),
+        None => true,
+    }
+}
+
+/// The longest front of characters that a name may go on with, and what is left behind it.
+fn run(text: &str) -> (&str, &str)
+    ensures front { result.0.now ≡ encode_utf8_all (until spec.leaves_name (chars text.now)).0 }
+    ensures back { result.1.now ≡ encode_utf8_all (until spec.leaves_name (chars text.now)).1 }
+    ensures shorter { spec.leaves_name (chars text.now) ≡ false →
+        length result.1.now < length text.now }
+{
+    let mut rest = text;
+    while let Some((c, behind)) = first(rest) {
+        if !unicode_ident::is_xid_continue(c) {
+            break;
+        }
+        rest = behind;
+    }
+    text.split_at(text.len() - rest.len())
+}
+
+/// The longest name at the front, reserved or not, and what is left behind it.
+pub(crate) fn name_at(text: &str) -> Option<(&str, &str)>
+    ensures value { cut_of result ≡ spec.name_at text.now }
+    ensures shorter { Shortens result text.now }
+{
+    let (c, _) = first(text)?;
+    if starts_name(c) {
+        Some(run(text))
+    } else {
+        None
+    }
+}
+
+/// Which reserved word the name is.
+pub(crate) fn reserved(name: &str) -> Option<Sign>
+    ensures { result ≡ spec.reserved name.now }
+{
+    match name {
+        "and" => Some(Sign::And),
+        "or" => Some(Sign::Or),
+        "not" => Some(Sign::Not),
+        "if" => Some(Sign::If),
+        "else" => Some(Sign::Else),
+        "in" => Some(Sign::In),
+        "is" => Some(Sign::Is),
+        "true" | "True" => Some(Sign::True),
+        "false" | "False" => Some(Sign::False),
+        "none" | "None" => Some(Sign::None),
+        _ => None,
+    }
+}
+
+/// Which block tag the name begins.
+pub(crate) fn tag_of(name: &str) -> Option<Tag>
+    ensures { result ≡ spec.tag_of name.now }
+{
+    match name {
+        "if" => Some(Tag::If),
+        "elif" => Some(Tag::Elif),
+        "else" => Some(Tag::Else),
+        "endif" => Some(Tag::Endif),
+        "block" => Some(Tag::Block),
+        "endblock" => Some(Tag::Endblock),
+        _ => None,
+    }
+}

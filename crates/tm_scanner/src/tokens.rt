@@ -1,0 +1,140 @@
+//! The tokens of a tag's content.
+ghost use Rattle.std.specs.Prelude.{◌≡◌, ◌<◌, ◌≤◌, ℕ, List, length, IfOk, IfErr, IfSome, None, Some};
+ghost use Rattle.tm_scanner.specs.Refused.{Refused, Refuses};
+ghost use Rattle.tm_scanner.specs.Tokens as spec;
+ghost use Rattle.tm_scanner.specs.Views.{Adds, IsNoLonger, Shortens, step_of, place_of};
+
+use crate::front::{ascii, past_blanks, strip};
+use crate::names::{name_at, reserved};
+use crate::numbers::{number, starts_number};
+use crate::texts::{literal, quote_at};
+use std::alloc::Global;
+use tm_syntax::{Name, Sign, Token};
+use tm_values::{Error, ErrorKind, Value};
+
+/// How many brackets may be open at once.
+const DEEPEST: usize = 150;
+
+/// The mark at the front, and what is left behind it.
+fn mark(text: &str) -> Option<(Sign, &str)>
+    ensures value { step_of result ≡ spec.mark text.now }
+    ensures shorter { Shortens result text.now }
+{
+    let (byte, rest) = ascii(text)?;
+    match byte {
+        b'(' => Some((Sign::OpenRound, rest)),
+        b')' => Some((Sign::CloseRound, rest)),
+        b',' => Some((Sign::Comma, rest)),
+        b'.' => Some((Sign::Dot, rest)),
+        b'=' => Some((Sign::Equal, strip(rest, "=")?)),
+        _ => None,
+    }
+}
+
+/// The name or reserved word at the front, and what is left behind it.
+///
+/// SyntaxError where none stands there, OutOfMemory.
+fn word(alloc: Global, text: &str) -> Result<(Token, &str), Error>
+    ensures found { IfOk result (λ x. spec.word text.now ≡ Some (x.0, x.1.now)) }
+    ensures shorter { IfOk result (λ x. length x.1.now < length text.now) }
+    ensures refused { IfErr result (λ e. Refused e (spec.word text.now ≡ None)) }
+{
+    let Some((name, rest)) = name_at(text) else {
+        return Err(Error::from(ErrorKind::SyntaxError));
+    };
+    match reserved(name) {
+        Some(sign) => Ok((Token::Sign(sign), rest)),
+        None => Ok((Token::Name(Name::new(alloc, name)?), rest)),
+    }
+}
+
+/// The number, mark, name or reserved word at the front, and what is left behind it.
+///
+/// SyntaxError where none stands there, OutOfMemory.
+fn plain(alloc: Global, text: &str) -> Result<(Token, &str), Error>
+    ensures found { IfOk result (λ x. spec.plain text.now ≡ Some (x.0, x.1.now)) }
+    ensures shorter { IfOk result (λ x. length x.1.now < length text.now) }
+    ensures refused { IfErr result (λ e. Refused e (spec.plain text.now ≡ None)) }
+{
+    if starts_number(text) {
+        return match number(text) {
+            Some((number, rest)) => Ok((Token::Literal(Value::number(number as i128)), rest)),
+            None => Err(Error::from(ErrorKind::SyntaxError)),
+        };
+    }
+    match mark(text) {
+        Some((sign, rest)) => Ok((Token::Sign(sign), rest)),
+        None => word(alloc, text),
+    }
+}
+
+/// The token at the front, and what is left behind it.
+///
+/// SyntaxError where none stands there, OutOfMemory.
+fn token(alloc: Global, text: &str) -> Result<(Token, &str), Error>
+    ensures found { IfOk result (λ x. spec.IsToken text.now x.0 x.1.now) }
+    ensures shorter { IfOk result (λ x. length x.1.now < length text.now) }
+    ensures refused { Refuses result (spec.IsToken text.now) }
+{
+    match quote_at(text) {
+        Some((quote, behind)) => {
+            let (value, rest) = literal(alloc, quote, behind)?;
+            Ok((Token::Literal(value), rest))
+        }
+        None => plain(alloc, text),
+    }
+}
+
+/// How many brackets are open behind a token, where they aren't too many.
+fn depth_behind(token: &Token, depth: usize) -> Option<usize>
+    ensures { result ≡ spec.depth_behind token.now depth }
+{
+    match token {
+        Token::Sign(Sign::OpenRound) => {
+            if depth < DEEPEST {
+                Some(depth + 1)
+            } else {
+                None
+            }
+        }
+        Token::Sign(Sign::CloseRound) => Some(depth.saturating_sub(1)),
+        _ => Some(depth),
+    }
+}
+
+/// What is left behind the end delimiter, where it stands and no bracket is open.
+fn past_end<'t>(end: &str, depth: usize, rest: &'t str) -> Option<&'t str>
+    ensures value { place_of result ≡ spec.past_end end.now rest.now depth }
+    ensures no_longer { IfSome result (λ behind. length behind.now ≤ length rest.now) }
+{
+    if depth == 0 { strip(rest, end) } else { None }
+}
+
+/// Adds the tokens of a tag's content; what is left behind its end delimiter.
+///
+/// SyntaxError where the content has something that is no token, or no end; OutOfMemory.
+pub(crate) fn content<'t>(
+    alloc: Global,
+    end: &str,
+    text: &'t str,
+    tokens: &mut Vec<Token>,
+) -> Result<&'t str, Error>
+    ensures found { Adds result tokens.old.items tokens.new.items (spec.Content end.now text.now) }
+    ensures no_longer { IsNoLonger result text.now }
+    ensures refused { Refuses result (spec.Content end.now text.now) }
+{
+    let mut depth = 0;
+    let mut rest = past_blanks(text);
+    'next: loop {
+        if let Some(behind) = past_end(end, depth, rest) {
+            return Ok(behind);
+        }
+        let (token, behind) = token(alloc, rest)?;
+        let Some(deeper) = depth_behind(&token, depth) else {
+            return Err(Error::from(ErrorKind::SyntaxError));
+        };
+        tokens.push(token)?;
+        depth = deeper;
+        rest = past_blanks(behind);
+    }
+}

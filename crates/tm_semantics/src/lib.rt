@@ -1,0 +1,22 @@
+//! Definitions: what a state is, what trees mean, what the machine does. The functions here are laws: they run nothing, and their contracts say what is proved of the definitions.
+#![tactic(auto)]
+
+ghost use Rattle.std.specs.Prelude.{◌≡◌, ◌++◌, ℕ, List};
+ghost use Rattle.tm_semantics.specs.Machine.{Program, Frame, Next};
+ghost use Rattle.tm_semantics.specs.Steps.{Final, Leads};
+
+mod rows;
+
+pub use rows::{attribute_rows, block_rows, call_rows, condition_rows, hello_rows, operator_rows};
+
+/// A run has one end.
+pub fn one_end()
+    ensures { (p : Program) (f : Frame) (t : List ℕ) (n : Next) (o q : Final) →
+        Leads p f t n o → Leads p f t n q → o ≡ q }
+{}
+
+/// What the writer has got it keeps.
+pub fn text_grows()
+    ensures { (p : Program) (f : Frame) (t : List ℕ) (n : Next) (o : Final) →
+        Leads p f t n o → (rest : List ℕ) × (o.text ≡ t ++ rest) }
+{}

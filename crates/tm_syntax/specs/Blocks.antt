@@ -1,0 +1,43 @@
+-- Statements as one thing, and the blocks among them.
+use Rattle.std.specs.Prelude.{ℕ, List, [], ◌∷◌, ◌++◌, map as each}
+use mathlib.Core.Former.{Count}
+use Rattle.tm_syntax.specs.declared.tree.Stmt.{Stmt, If', Block', Row_of-Stmt, end_of-Stmt as no_statement, more_of-Stmt as statement, Held-Stmt-If-2 as Otherwise, None' as no_else, Some' as otherwise}
+use Rattle.tm_syntax.specs.declared.instruction.Instruction.{Instruction}
+use Rattle.tm_syntax.specs.Code.{statements_code}
+use Rattle.tm_syntax.specs.Named.{Named}
+
+pub record Body : Type 0 where
+  pub size : Count
+  pub row : Row_of-Stmt size
+
+abbrev pub body_of : {n : Count} → Row_of-Stmt n → Body
+body_of {n} ss = record { size = n; row = ss }
+
+abbrev pub empty : Body
+empty = body_of no_statement
+
+-- the blocks of statements at any depth, each behind those that stand in it
+abbrev mutual
+  pub blocks_of : Stmt → Named Body
+  blocks_of (If' c _ body other) = blocks_in body ++ blocks_else other
+  blocks_of (Block' x _ body) = blocks_in body ++ (x, body_of body) ∷ []
+  blocks_of _ = []
+
+  pub blocks_in : {n : _} → Row_of-Stmt n → Named Body
+  blocks_in no_statement = []
+  blocks_in (statement s ss) = blocks_of s ++ blocks_in ss
+
+  pub blocks_else : Otherwise → Named Body
+  blocks_else no_else = []
+  blocks_else (otherwise _ body) = blocks_in body
+
+-- the instructions of a body
+abbrev pub code_of : Body → List Instruction
+code_of body = statements_code 0 body.row
+
+-- a block with its instructions
+abbrev pub compiled : List ℕ × Body → List ℕ × List Instruction
+compiled b = (b.0, code_of b.1)
+
+abbrev pub compiled_blocks : Named Body → Named (List Instruction)
+compiled_blocks bs = each compiled bs

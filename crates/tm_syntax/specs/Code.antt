@@ -1,0 +1,74 @@
+-- The instructions of a tree, at a place.
+use Rattle.std.specs.Prelude.{ℕ, ◌+◌, List, [], ◌∷◌, ◌++◌, length}
+use Rattle.tm_syntax.specs.declared.tree.UnaryOperator.{UnaryOperator}
+use Rattle.tm_syntax.specs.declared.tree.UnaryOperator.TheVariants as unaries
+use Rattle.tm_syntax.specs.declared.tree.BinaryOperator.{BinaryOperator}
+use Rattle.tm_syntax.specs.declared.tree.BinaryOperator.TheVariants as binaries
+use Rattle.tm_syntax.specs.declared.tree.Expr.{Expr, Var, Const, Call', Row_of-Argument, end_of-Argument as no_argument, more_of-Argument as argument, Row_of-Step, end_of-Step as no_step, more_of-Step as step}
+use Rattle.tm_syntax.specs.declared.tree.Argument.{Argument}
+use Rattle.tm_syntax.specs.declared.tree.Step.{Step, Attribute}
+use Rattle.tm_syntax.specs.declared.tree.Stmt.{Stmt, EmitRaw, EmitExpr, If', Block', Row_of-Stmt, end_of-Stmt as no_statement, more_of-Stmt as statement, Held-Stmt-If-2 as Otherwise, None' as no_else, Some' as otherwise}
+use Rattle.tm_syntax.specs.declared.instruction.Instruction.{Instruction}
+use Rattle.tm_syntax.specs.declared.instruction.Instruction.TheVariants as i
+use Rattle.tm_syntax.specs.Forms.{unary, chained, plain, binary, and_then, or_else}
+
+abbrev pub unary_code : UnaryOperator → Instruction
+unary_code unaries.Not = i.Not
+
+abbrev pub binary_code : BinaryOperator → Instruction
+binary_code binaries.Equal = i.Eq
+
+abbrev pub count : {n : _} → Row_of-Argument n → ℕ
+count no_argument = 0
+count (argument a more) = count more + 1
+
+-- code, and then what follows at the place behind it
+abbrev pub before : ℕ → List Instruction → (ℕ → List Instruction) → List Instruction
+before pc first rest = first ++ rest (pc + length first)
+
+abbrev mutual
+  pub expr_code : ℕ → Expr → List Instruction
+  expr_code pc (Var x) = i.Lookup x ∷ []
+  expr_code pc (Const v) = i.LoadConst v ∷ []
+  expr_code pc (Call' f _ given) = arguments_code pc given ++ i.CallFunction f (count given) ∷ []
+  expr_code pc (unary op a) = expr_code pc a ++ unary_code op ∷ []
+  expr_code pc (chained a _ ss) = before pc (expr_code pc a) (λ pc1. steps_code pc1 ss)
+
+  pub argument_code : ℕ → Argument → List Instruction
+  argument_code pc (plain a) = expr_code pc a
+
+  pub arguments_code : {n : _} → ℕ → Row_of-Argument n → List Instruction
+  arguments_code pc no_argument = []
+  arguments_code pc (argument a more) = before pc (argument_code pc a) (λ pc1. arguments_code pc1 more)
+
+  pub step_code : ℕ → Step → List Instruction
+  step_code pc (Attribute x) = i.GetAttr x ∷ []
+  step_code pc (binary op a) = expr_code pc a ++ binary_code op ∷ []
+  step_code pc (and_then a) = i.JumpIfFalseOrPop (pc + 1 + length (expr_code (pc + 1) a)) ∷ expr_code (pc + 1) a
+  step_code pc (or_else a) = i.JumpIfTrueOrPop (pc + 1 + length (expr_code (pc + 1) a)) ∷ expr_code (pc + 1) a
+
+  pub steps_code : {n : _} → ℕ → Row_of-Step n → List Instruction
+  steps_code pc no_step = []
+  steps_code pc (step s ss) = before pc (step_code pc s) (λ pc1. steps_code pc1 ss)
+
+-- the jump behind a body over its else part
+abbrev pub jump_over : Otherwise → ℕ
+jump_over no_else = 0
+jump_over (otherwise _ body) = 1
+
+abbrev mutual
+  pub statement_code : ℕ → Stmt → List Instruction
+  statement_code pc (EmitRaw t) = i.EmitRaw t ∷ []
+  statement_code pc (EmitExpr e) = expr_code pc e ++ i.Emit ∷ []
+  statement_code pc (If' c _ body other) = before pc (expr_code pc c) (λ pc1.
+      i.JumpIfFalse (pc1 + 1 + length (statements_code (pc1 + 1) body) + jump_over other)
+      ∷ before (pc1 + 1) (statements_code (pc1 + 1) body) (λ pc2. otherwise_code pc2 other))
+  statement_code pc (Block' x _ body) = i.CallBlock x ∷ []
+
+  pub statements_code : {n : _} → ℕ → Row_of-Stmt n → List Instruction
+  statements_code pc no_statement = []
+  statements_code pc (statement s ss) = before pc (statement_code pc s) (λ pc1. statements_code pc1 ss)
+
+  pub otherwise_code : ℕ → Otherwise → List Instruction
+  otherwise_code pc no_else = []
+  otherwise_code pc (otherwise _ body) = i.Jump (pc + 1 + length (statements_code (pc + 1) body)) ∷ statements_code (pc + 1) body

@@ -1,0 +1,27 @@
+-- The forms of a tree that hold boxes, as patterns: a box is what it holds.
+use Rattle.std.specs.Prelude.{ℕ, List}
+use mathlib.Core.Former.{arity, this}
+use Rattle.sqlite_items.specs.formers.items.Items as items
+use Rattle.tm_syntax.specs.declared.tree.UnaryOperator.{UnaryOperator}
+use Rattle.tm_syntax.specs.declared.tree.BinaryOperator.{BinaryOperator}
+use Rattle.tm_syntax.specs.declared.tree.Expr.{Expr, Unary', Chain', end_of-Expr, more_of-Expr, Row_of-Step}
+use Rattle.tm_syntax.specs.declared.tree.Argument.{Argument, Plain'}
+use Rattle.tm_syntax.specs.declared.tree.Step.{Step, Binary', And', Or'}
+
+pattern abbrev pub unary : UnaryOperator → Expr → Expr
+unary op a = Unary' op tt (more_of-Expr a end_of-Expr)
+
+pattern abbrev pub chained : Expr → (n : (items.the_former (this {0})).Shape) → Row_of-Step (arity (items.the_former (this {0})) n) → Expr
+chained a n ss = Chain' tt (more_of-Expr a end_of-Expr) n ss
+
+pattern abbrev pub plain : Expr → Argument
+plain a = Plain' tt (more_of-Expr a end_of-Expr)
+
+pattern abbrev pub binary : BinaryOperator → Expr → Step
+binary op a = Binary' op tt (more_of-Expr a end_of-Expr)
+
+pattern abbrev pub and_then : Expr → Step
+and_then a = And' tt (more_of-Expr a end_of-Expr)
+
+pattern abbrev pub or_else : Expr → Step
+or_else a = Or' tt (more_of-Expr a end_of-Expr)

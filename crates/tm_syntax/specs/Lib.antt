@@ -1,0 +1,4 @@
+pub mod Forms
+pub mod Code
+pub mod Named
+pub mod Blocks

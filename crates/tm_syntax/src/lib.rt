@@ -1,0 +1,14 @@
+//! What a template is made of: names, tokens, trees and instructions, each declared once.
+#![tactic(auto)]
+
+mod instruction;
+mod name;
+mod name_map;
+mod token;
+mod tree;
+
+pub use instruction::Instruction;
+pub use name::Name;
+pub use name_map::NameMap;
+pub use token::{Sign, Tag, Token};
+pub use tree::{Argument, BinaryOperator, Expr, Step, Stmt, Tree, UnaryOperator};

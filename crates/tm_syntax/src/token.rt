@@ -1,0 +1,76 @@
+//! Tokens.
+use crate::name::Name;
+use tm_values::Value;
+
+/// A delimiter, a mark or a reserved word.
+#[derive(Clone, Copy, PartialEq, Eq)]
+pub enum Sign {
+    /// What begins an emission: `{{`.
+    VariableStart,
+    /// What ends it: `}}`.
+    VariableEnd,
+    /// What ends a block tag: `%}`.
+    BlockEnd,
+    /// `(`
+    OpenRound,
+    /// `)`
+    CloseRound,
+    /// `,`
+    Comma,
+    /// `.`
+    Dot,
+    /// `==`
+    Equal,
+    /// `and`
+    And,
+    /// `or`
+    Or,
+    /// `not`
+    Not,
+    /// `if`
+    If,
+    /// `else`
+    Else,
+    /// `in`
+    In,
+    /// `is`
+    Is,
+    /// `true` or `True`
+    True,
+    /// `false` or `False`
+    False,
+    /// `none` or `None`
+    None,
+}
+
+/// A block tag's start with the word behind it.
+#[derive(Clone, Copy, PartialEq, Eq)]
+pub enum Tag {
+    /// `{% if`
+    If,
+    /// `{% elif`
+    Elif,
+    /// `{% else`
+    Else,
+    /// `{% endif`
+    Endif,
+    /// `{% block`
+    Block,
+    /// `{% endblock`
+    Endblock,
+}
+
+/// A token of a source.
+#[derive(Drop)]
+pub enum Token {
+    /// Raw text, which isn't empty.
+    Raw(Name),
+    /// A block tag's start and word.
+    Tag(Tag),
+    /// A name.
+    Name(Name),
+    /// A literal text, its escapes read, or a number.
+    Literal(Value),
+    /// A delimiter, a mark or a reserved word.
+    Sign(Sign),
+}
