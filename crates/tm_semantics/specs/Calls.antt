@@ -1,9 +1,9 @@
 -- What a call comes to, up to the run that it needs: the meaning and the machine share it. Neither trees nor instructions stand here.
-use Rattle.std.specs.Prelude.{ℕ, List, [], ◌∷◌, length, Option, Some, None, Bool, true, false, not, nat_eq, ◌&&◌, slice_get}
+use Rattle.std.specs.Prelude.{ℕ, List, [], ◌∷◌, length, map as each, Option, Some, None, Bool, true, false, not, nat_eq, ◌&&◌, slice_get}
 use Rattle.tm_values.specs.Val.{Val, undefined, function}
 use Rattle.tm_values.specs.declared.error.ErrorKind.{ErrorKind}
 use Rattle.tm_values.specs.declared.error.ErrorKind.TheVariants.{InvalidOperation, UnknownFunction, UnknownBlock}
-use Rattle.tm_semantics.specs.World.{TemplateId, StreamId, block_of, Named, find, put, put_each, Card, Layers, World, Host, View, Reply, gives, faults, Stated, Function, callers, Res, Good, Bad, need, check, card_at, view_of, lookup, plain, push, pop}
+use Rattle.tm_semantics.specs.World.{TemplateId, StreamId, block_of, Named, find, put_each, Card, Layers, World, Host, View, Reply, gives, faults, Stated, Function, callers, Res, Good, Bad, need, check, card_at, view_of, lookup, plain, push, pop}
 
 -- What is run: a whole stream.
 pub data Callee : Type 0 where
@@ -58,9 +58,11 @@ enter_block host b w =
     runs (record { callee = whole (block_of t b); undo = of_block w; wrap = None }) (record w4 { stream = block_of t b; block = Some b })))))
 
 -- the blocks of a template, each alone
+abbrev pub alone : TemplateId → List ℕ × Card → List ℕ × Layers
+alone t b = (b.0, record { templates = t ∷ []; place = 0 })
+
 abbrev pub own_blocks : TemplateId → Named Card → Named Layers
-own_blocks t [] = []
-own_blocks t (b ∷ bs) = put b.0 (record { templates = t ∷ []; place = 0 }) (own_blocks t bs)
+own_blocks t bs = each (alone t) bs
 
 -- ---------------------------------------------------------------- functions
 -- values to keep are kept first, also where the rest is a fault

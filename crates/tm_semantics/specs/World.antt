@@ -12,6 +12,9 @@ use Rattle.tm_values.specs.declared.escape.AutoEscape.{AutoEscape}
 use Rattle.tm_values.specs.declared.escape.AutoEscape.TheVariants as escapes
 use Rattle.tm_values.specs.declared.undefined.UndefinedBehavior.{UndefinedBehavior}
 use Rattle.tm_values.specs.declared.undefined.UndefinedUse.TheVariants.{Emission}
+pub use Rattle.tm_semantics.specs.declared.stream.TemplateId.{TemplateId}
+pub use Rattle.tm_semantics.specs.declared.stream.TemplateId.TheVariants.{Own as own, Entry as entry}
+pub use Rattle.tm_semantics.specs.declared.stream.StreamId.{StreamId}
 use Rattle.tm_operations.specs.Undefined.{refusal_of, unless}
 use Rattle.tm_printing.specs.Emitted.{emission_verdict, emitted_text}
 use Rattle.tm_printing.specs.Refused.{Verdict}
@@ -33,16 +36,6 @@ or_is None a = a
 or_is (Some b) a = b
 
 -- ---------------------------------------------------------------- templates and streams
--- A template: the render's own, or an entry of the environment.
-pub data TemplateId : Type 0 where
-  own : TemplateId
-  entry : List ℕ → TemplateId
-
--- A stream: a template's root, or one of its blocks.
-pub record StreamId : Type 0 where
-  pub template : TemplateId
-  pub block : Option (List ℕ)
-
 abbrev pub root_of : TemplateId → StreamId
 root_of t = record { template = t; block = None }
 

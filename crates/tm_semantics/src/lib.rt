@@ -6,8 +6,10 @@ ghost use Rattle.tm_semantics.specs.Machine.{Program, Frame, Next};
 ghost use Rattle.tm_semantics.specs.Steps.{Final, Leads};
 
 mod rows;
+mod stream;
 
 pub use rows::{attribute_rows, block_rows, call_rows, condition_rows, hello_rows, operator_rows};
+pub use stream::{StreamId, TemplateId};
 
 /// A run has one end.
 pub fn one_end()

@@ -1,0 +1,2 @@
+//! To be written.
+#![tactic(auto)]
