@@ -1,2 +1,13 @@
-//! To be written.
+//! From a source to its tree, and from a tree to its streams.
 #![tactic(auto)]
+
+mod source;
+#[cfg(test)]
+mod tests;
+
+pub use source::{one_tree, parse};
+pub use tm_generator::{Streams, generate};
+pub use tm_scanner::SyntaxConfig;
+pub use tm_syntax::{
+    Argument, BinaryOperator, Expr, Instruction, Name, NameMap, Step, Stmt, Tree, UnaryOperator,
+};

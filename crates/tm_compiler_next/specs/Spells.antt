@@ -1,0 +1,16 @@
+-- Which source spells which tree.
+use Rattle.std.specs.Prelude.{ℕ, List}
+use Rattle.tm_syntax.specs.declared.token.Token.{Token}
+use Rattle.tm_syntax.specs.declared.tree.Tree.{Tree}
+use Rattle.tm_scanner.specs.Syntax.{Syntax}
+use Rattle.tm_scanner.specs.Spells.{SpellsTokens}
+use Rattle.tm_parser.specs.Template.{SpellsTemplate}
+
+-- The source is these tokens, by the delimiters, and they are the tree.
+pub record Spells (syntax : Syntax) (source : List ℕ) (tree : Tree) : Type 0 where
+  pub tokens : List Token
+  pub scanned : SpellsTokens syntax source tokens
+  pub parsed : SpellsTemplate tokens tree
+
+abbrev pub SpellsNone : Syntax → List ℕ → Type 0
+SpellsNone syntax source = (tree : Tree) → Spells syntax source tree → ⊥
