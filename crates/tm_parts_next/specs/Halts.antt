@@ -1,0 +1,27 @@
+-- Why runs stop before their end.
+use Rattle.std.specs.Prelude.{◌≡◌, ◌≢◌, ℕ, List, [], ◌∷◌, Option, Result, Ok, Err}
+use Rattle.tm_values.specs.declared.error.ErrorKind.{ErrorKind}
+use Rattle.tm_values.specs.declared.error.ErrorKind.TheVariants.{WriteFailure, BadStream, OutOfMemory}
+use Rattle.tm_output.specs.Counts.{one_more}
+use Rattle.tm_semantics.specs.Machine.{Capture}
+use Rattle.tm_parts_next.specs.declared.halt.Halt.{Halt}
+use Rattle.tm_parts_next.specs.declared.halt.Halt.TheVariants.{Writer, Stuck, Fault}
+
+-- the chain of the error that a caller gets for a halt
+abbrev pub error_of : Halt → List ErrorKind
+error_of Writer = WriteFailure ∷ []
+error_of Stuck = BadStream ∷ []
+error_of (Fault chain) = chain
+
+-- the writer's count of faults behind an answer: one more where the writer halted the run, and else the same
+abbrev pub faults_after : {A : Type 0} → Result A Halt → ℕ → ℕ
+faults_after (Ok _) faults = faults
+faults_after (Err Writer) faults = one_more faults
+faults_after (Err Stuck) faults = faults
+faults_after (Err (Fault chain)) faults = faults
+
+-- Why a text was not put: the writer failed, and no capture was open; or a capture found no memory, and the writer got nothing.
+abbrev pub PutHalts : Halt → List Capture → Option (List ℕ) → Option (List ℕ) → Type 0
+PutHalts Writer captures told now = captures ≡ []
+PutHalts Stuck captures told now = ⊥
+PutHalts (Fault chain) captures told now = (chain ≡ OutOfMemory ∷ []) × (captures ≢ []) × (now ≡ told)

@@ -1,0 +1,40 @@
+//! Why a run stops before its end.
+use tm_values::{Error, ErrorKind};
+
+/// Why a run stops before its end.
+#[derive(Drop)]
+pub enum Halt {
+    /// The writer failed, or took nothing.
+    Writer,
+    /// The stream can't go on: no compiler wrote it.
+    Stuck,
+    /// A fault, or want of memory.
+    Fault(Error),
+}
+
+impl From<Error> for Halt {
+    ghost use Rattle.std.specs.Prelude.{◌≡◌};
+    ghost use Rattle.tm_parts_next.specs.declared.halt.Halt.TheVariants.{Fault};
+
+    ghost from_gives = { λ error halt. halt ≡ Fault error };
+
+    fn from(error: Error) -> Halt {
+        Halt::Fault(error)
+    }
+}
+
+impl From<Halt> for Error {
+    ghost use Rattle.std.specs.Prelude.{◌≡◌};
+    ghost use Rattle.tm_parts_next.specs.Halts.{error_of};
+
+    ghost from_gives = { λ halt error. error ≡ error_of halt };
+
+    /// What a caller is told: WriteFailure without a cause, BadStream, or the fault itself.
+    fn from(halt: Halt) -> Error {
+        match halt {
+            Halt::Writer => Error::from(ErrorKind::WriteFailure),
+            Halt::Stuck => Error::from(ErrorKind::BadStream),
+            Halt::Fault(error) => error,
+        }
+    }
+}

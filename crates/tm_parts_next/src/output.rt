@@ -1,0 +1,273 @@
+//! Output: captures that take a text before the writer does.
+ghost use Rattle.std.specs.Prelude.{◌≡◌, ◌≢◌, ◌⊎◌, Bool, [], ◌∷◌, length, None, Err, IsOk, IsSome, OnOk, OnErr, IfErr, MatchOption, string_bytes};
+ghost use Rattle.std.specs.Io.KnownBytes.{Appends};
+ghost use Rattle.tm_values.specs.declared.error.ErrorKind.TheVariants.{WriteFailure, OutOfMemory};
+ghost use Rattle.tm_semantics.specs.Machine.{first_heard, new_capture, put_in, put_out};
+ghost use Rattle.tm_output.specs.Counts.{one_more, AppendsBeginning};
+ghost use Rattle.tm_printing.specs.Emitted.{emitted_text};
+ghost use Rattle.tm_parts_next.specs.Halts.{faults_after, PutHalts};
+
+use crate::halt::Halt;
+use std::alloc::Global;
+use std::io;
+use std::marker::Model;
+use tm_output::{Sink, write_text};
+use tm_printing::emit;
+use tm_values::{AutoEscape, Error, ErrorKind, Records, Value};
+
+/// A text that waits for its capture's end, and whether it takes what is written.
+#[derive(Drop)]
+struct Capture {
+    heard: bool,
+    text: String,
+}
+
+impl Model for Capture {
+    ghost use Rattle.std.specs.Prelude.{string_bytes};
+    ghost use Rattle.tm_semantics.specs.Machine.{Capture as Waiting};
+
+    ghost Value = { Waiting };
+
+    ghost view = { λ capture. record { heard = capture.heard; text = string_bytes capture.text } };
+}
+
+/// The open captures. A contract sees them innermost first.
+#[derive(Drop)]
+pub struct Captures {
+    open: Vec<Capture>,
+}
+
+impl Model for Captures {
+    ghost use Rattle.std.specs.Prelude.{List, reverse};
+    ghost use Rattle.tm_semantics.specs.Machine.{Capture as Waiting};
+
+    ghost Value = { List Waiting };
+
+    ghost view = { λ captures. reverse captures.open.items };
+}
+
+impl Captures {
+    /// No captures.
+    pub fn new(alloc: Global) -> Captures
+        ensures { result ≡ [] }
+    {
+        Captures {
+            open: Vec::new(alloc),
+        }
+    }
+
+    /// How many captures are open.
+    pub fn depth(&self) -> usize
+        ensures { result ≡ length self.now }
+    {
+        self.open.len()
+    }
+
+    /// Whether the innermost capture takes what is written; so it is where none is open.
+    pub fn is_heard(&self) -> bool
+        ensures { result ≡ first_heard self.now }
+    {
+        match self.open.last() {
+            Some(innermost) => innermost.heard,
+            None => true,
+        }
+    }
+
+    /// Opens a capture without text; where there is no memory, OutOfMemory, and all stays as it was.
+    pub fn begin(&mut self, alloc: Global, heard: bool) -> Result<(), Error>
+        ensures ok { OnOk result (self.new ≡ new_capture heard ∷ self.old) }
+        ensures kind { IfErr result (λ e. e ≡ OutOfMemory ∷ []) }
+        ensures err { OnErr result (self.new ≡ self.old) }
+    {
+        self.open.push(Capture {
+            heard,
+            text: String::new(alloc),
+        })?;
+        Ok(())
+    }
+
+    /// Closes the innermost capture and gives its text, where one is open.
+    pub fn end(&mut self) -> Option<String>
+        ensures { MatchOption result ((self.old ≡ []) × (self.new ≡ [])) (λ text. (heard : Bool)
+            × (self.old ≡ record { heard = heard; text = string_bytes text } ∷ self.new)) }
+    {
+        let Capture { text, .. } = self.open.pop()?;
+        Some(text)
+    }
+
+    /// Puts a text into the innermost capture, and writes it where none is open. `Writer` where the writer fails or takes nothing, OutOfMemory where a capture finds no memory; then the captures stay as they were.
+    pub fn write_str<W: Sink>(&mut self, writer: &mut W, text: &str) -> Result<(), Halt>
+        ensures captured { OnOk result (self.new ≡ put_in self.old text.now) }
+        ensures written { OnOk result (Appends (W.told writer.old) (W.told writer.new)
+            (put_out self.old text.now)) }
+        ensures beginning { AppendsBeginning (W.told writer.old) (W.told writer.new)
+            (put_out self.old text.now) }
+        ensures halts { IfErr result (λ halt.
+            PutHalts halt self.old (W.told writer.old) (W.told writer.new)) }
+        ensures faults { W.faults writer.new ≡ faults_after result (W.faults writer.old) }
+        ensures unchanged { OnErr result (self.new ≡ self.old) }
+        ensures empty { text.now ≡ [] → IsOk result }
+    {
+        let Some(mut innermost) = self.open.pop() else {
+            return match write_text(writer, text.as_bytes()) {
+                Ok(()) => Ok(()),
+                Err(_error) => Err(Halt::Writer),
+            };
+        };
+        let appended = innermost.text.push_str(text);
+        // The pop left room for it.
+        self.open.push_reserved(innermost);
+        match appended {
+            Ok(()) => Ok(()),
+            Err(_lost) => Err(Halt::Fault(Error::from(ErrorKind::OutOfMemory))),
+        }
+    }
+}
+
+impl Captures {
+    /// Puts what is emitted for a value into the innermost capture, and writes it where none is open, piece by piece; what `check_emission` refuses is emitted in no form. `Writer` where the writer fails or takes nothing, OutOfMemory where a capture finds no memory.
+    pub fn emit<R: Records, W: Sink>(
+        &mut self,
+        writer: &mut W,
+        value: &Value,
+        escape: AutoEscape,
+        records: &R,
+    ) -> Result<(), Halt>
+        ensures captured { OnOk result (self.new ≡ put_in self.old
+            (emitted_text escape (R.records records.now) value.now)) }
+        ensures written { OnOk result (Appends (W.told writer.old) (W.told writer.new)
+            (put_out self.old (emitted_text escape (R.records records.now) value.now))) }
+        ensures beginning { AppendsBeginning (W.told writer.old) (W.told writer.new)
+            (put_out self.old (emitted_text escape (R.records records.now) value.now)) }
+        ensures halts { IfErr result (λ halt.
+            PutHalts halt self.old (W.told writer.old) (W.told writer.new)) }
+        ensures faults { W.faults writer.new ≡ faults_after result (W.faults writer.old) }
+    {
+        let Some(mut innermost) = self.open.pop() else {
+            return match emit(value, escape, records, writer) {
+                Ok(()) => Ok(()),
+                Err(_failed) => Err(Halt::Writer),
+            };
+        };
+        let appended = emit(value, escape, records, &mut innermost.text);
+        // The pop left room for it.
+        self.open.push_reserved(innermost);
+        match appended {
+            Ok(()) => Ok(()),
+            Err(_failed) => Err(Halt::Fault(Error::from(ErrorKind::OutOfMemory))),
+        }
+    }
+}
+
+/// A writer, and the captures open above it.
+#[derive(Drop)]
+pub struct Output<W: Sink> {
+    writer: W,
+    captures: Captures,
+}
+
+impl<W: Sink> Model for Output<W> {
+    ghost use Rattle.tm_parts_next.specs.Outgoing.{Outgoing};
+
+    ghost Value = { Outgoing W };
+
+    ghost view = { λ output. record { writer = output.writer; captures = output.captures } };
+}
+
+impl<W: Sink> Output<W> {
+    /// This writer, with no capture open.
+    pub fn new(alloc: Global, writer: W) -> Output<W>
+        ensures { result ≡ record { writer = writer; captures = [] } }
+    {
+        Output {
+            writer,
+            captures: Captures::new(alloc),
+        }
+    }
+
+    /// Puts a text into the innermost capture, and writes it where none is open; WriteFailure where the writer fails or takes nothing, OutOfMemory where a capture finds no memory.
+    pub fn write_str(&mut self, text: &str) -> Result<(), Error>
+        ensures captured { OnOk result (self.new.captures ≡ put_in self.old.captures text.now) }
+        ensures written { OnOk result (Appends (W.told self.old.writer) (W.told self.new.writer)
+            (put_out self.old.captures text.now)) }
+        ensures no_fault { OnOk result (W.faults self.new.writer ≡ W.faults self.old.writer) }
+        ensures beginning { AppendsBeginning (W.told self.old.writer) (W.told self.new.writer)
+            (put_out self.old.captures text.now) }
+        ensures kind { IfErr result (λ e. (e ≡ WriteFailure ∷ []) ⊎ (e ≡ OutOfMemory ∷ [])) }
+        ensures unchanged { OnErr result (self.new.captures ≡ self.old.captures) }
+        ensures failed { result ≡ Err (WriteFailure ∷ []) → (self.old.captures ≡ [])
+            × (W.faults self.new.writer ≡ one_more (W.faults self.old.writer)) }
+        ensures memory { result ≡ Err (OutOfMemory ∷ []) → (self.old.captures ≢ [])
+            × (W.told self.new.writer ≡ W.told self.old.writer)
+            × (W.faults self.new.writer ≡ W.faults self.old.writer) }
+        ensures empty { text.now ≡ [] → IsOk result }
+    {
+        Ok(self.captures.write_str(&mut self.writer, text)?)
+    }
+
+    /// The writer.
+    pub fn writer(&self) -> &W
+        ensures { result.now ≡ self.now.writer }
+    {
+        &self.writer
+    }
+
+    /// The writer, without the captures, whose texts are lost.
+    pub fn into_writer(self) -> W
+        ensures { result ≡ self.writer }
+    {
+        let Output { writer, .. } = self;
+        writer
+    }
+}
+
+/// A writer, and the error that it failed with, which an `Error` has no place for.
+#[derive(Drop)]
+pub struct WriteWrapper<W: Sink> {
+    /// The writer.
+    pub w: W,
+    /// Its last error that was not taken out yet.
+    pub err: Option<io::Error>,
+}
+
+impl<W: Sink> WriteWrapper<W> {
+    /// This writer, with no error.
+    pub fn new(w: W) -> WriteWrapper<W>
+        ensures { result ≡ record { w = w; err = None } }
+    {
+        WriteWrapper { w, err: None }
+    }
+
+    /// Writes a text; WriteFailure where the writer fails or takes nothing, and its error is kept in `err`.
+    pub fn write_str(&mut self, text: &str) -> Result<(), Error>
+        ensures written { OnOk result (Appends (W.told self.old.w) (W.told self.new.w) text.now) }
+        ensures no_fault { OnOk result (W.faults self.new.w ≡ W.faults self.old.w) }
+        ensures same_error { OnOk result (self.new.err ≡ self.old.err) }
+        ensures kind { IfErr result (λ e. e ≡ WriteFailure ∷ []) }
+        ensures beginning { AppendsBeginning (W.told self.old.w) (W.told self.new.w) text.now }
+        ensures fault { OnErr result (W.faults self.new.w ≡ one_more (W.faults self.old.w)) }
+        ensures kept { OnErr result (IsSome self.new.err) }
+        ensures empty { text.now ≡ [] → IsOk result }
+    {
+        match write_text(&mut self.w, text.as_bytes()) {
+            Ok(()) => Ok(()),
+            Err(error) => {
+                self.err = Some(error);
+                Err(Error::from(ErrorKind::WriteFailure))
+            }
+        }
+    }
+
+    /// Takes out what `err` holds: WriteFailure without a cause where it held an error, and else the error that was given.
+    pub fn take_err(&mut self, original: Error) -> Error
+        ensures writer { self.new.w ≡ self.old.w }
+        ensures emptied { self.new.err ≡ None }
+        ensures fault { IsSome self.old.err → result ≡ WriteFailure ∷ [] }
+        ensures original { self.old.err ≡ None → result ≡ original }
+    {
+        match self.err.take() {
+            Some(_error) => Error::from(ErrorKind::WriteFailure),
+            None => original,
+        }
+    }
+}
