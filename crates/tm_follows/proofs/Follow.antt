@@ -5,11 +5,13 @@ use Rattle.std.specs.Prelude.{slice_get}
 use Rattle.tm_values.specs.Val.{Val}
 use Rattle.tm_values.specs.declared.error.ErrorKind.{ErrorKind}
 use Rattle.tm_syntax.specs.declared.instruction.Instruction.{Instruction}
-use Rattle.tm_semantics.specs.World.{choose, World, Res, Good, Bad, bind, TemplateId}
+use Rattle.tm_semantics.specs.World.{choose, World, Res, Good, Bad, bind}
 use Rattle.tm_semantics.specs.Meaning.{Run, Outcome, Ending, done, leave, next, fault, ended, so_far, use_it, then_do}
 use Rattle.tm_follows.proofs.Keeps.{Kept, Gives, EndsBy as EndsKept, Ends as KeptEnds}
-use Rattle.tm_semantics.specs.Machine.{Capture, Activation, Config, Frame, Failed, Next, More, Program, after, goes, jumps}
+use Rattle.tm_semantics.specs.Machine.{Capture, Activation, Config, Failed, Next, More, Program, after, goes, jumps}
 use Rattle.tm_semantics.specs.Steps.{act, step, Final, final, Leads, over, more}
+use Rattle.tm_semantics.specs.declared.stream.TemplateId.{TemplateId}
+use Rattle.tm_semantics.specs.declared.base.Base.{Base}
 
 -- Where what is heard goes: out, or into the innermost capture, over the text that the writer has and the captures below.
 pub data Bed : Type 0 where
@@ -126,7 +128,7 @@ ends_by_map r b (fault chain) parent out w D K L N h k = h
 pub ends_map : (r : Final) (b : Bed) (o : Outcome) (D K L N : Then) → Ends r b o D L N → ((parent : Option TemplateId) (out : List ℕ) (w : World) → D parent out w → K parent out w) → Ends r b o K L N
 ends_map r b o D K L N h k = ends_by_map r b o.ending o.parent o.text o.world D K L N h (k o.parent o.text o.world)
 
-module _ (p : Program) (f : Frame) (r : Final) where
+module _ (p : Program) (f : Base) (r : Final) where
   -- the machine comes from here to the end
   abbrev pub Go : Spot → ℕ → List Val → World → Type 0
   Go s pc stack w = Leads p f (told s) (step p f (cfg s pc stack w)) r

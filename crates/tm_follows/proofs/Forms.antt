@@ -2,22 +2,24 @@
 use Rattle.std.proofs.Common.{◌≡◌, ℕ, zero, suc, ◌+◌, ◌<◌, ◌⊎◌, inl, inr, List, [], ◌∷◌, ◌++◌, length, nat_lt, Option, Some, None, Bool, true, false, refl, sym, subst, ap, ◌∙◌, arith, lt-ltb, le-ltb}
 use Rattle.std.specs.Prelude.{◌&&◌}
 use Rattle.tm_values.specs.Val.{Val}
-use Rattle.tm_semantics.specs.World.{choose, World, Res, Good, Bad, TemplateId, captured_text}
+use Rattle.tm_semantics.specs.World.{choose, World, Res, Good, Bad, captured_text}
 use Rattle.tm_semantics.specs.Calls.{Callee, Call, undone, wrapped, Asked, has, refused, runs}
 use Rattle.tm_semantics.specs.Meaning.{Run, Outcome, Ending, done, leave, next, fault, Under, none_waits, so_far, audible as heard_here, say, behind, in_place_of, value_behind, value_of}
-use Rattle.tm_semantics.specs.Machine.{Capture, Activation, Config, Frame, Finished, Failed, Back, Next, More, Nest, Program, audible, put_in, put_out, writes, back_to, back_with, frame_of, start, waiting, new_capture, pushed, asked, asked_in_place, nested_in_place, nested_as_value}
+use Rattle.tm_semantics.specs.Machine.{Capture, Activation, Config, Finished, Failed, Back, Next, More, Nest, Program, audible, put_in, put_out, writes, back_to, back_with, base_of, start, waiting, new_capture, pushed, asked, asked_in_place, nested_in_place, nested_as_value}
 use Rattle.tm_semantics.specs.Steps.{step, Final, final, Leads, over, more, nest}
 use Rattle.tm_follows.proofs.Follow.{Bed, air, inside, captures_of, told_by, Spot, told, cfg, later, Follows, Then, Ends, whole_of, so_far_then, fault_then, Go, silent}
+use Rattle.tm_semantics.specs.declared.stream.TemplateId.{TemplateId}
+use Rattle.tm_semantics.specs.declared.base.Base.{Base}
 
 -- How the place of a run's text and the run of a meaning fit together.
-abbrev pub Fits : Frame → Run → Bed → Type 0
+abbrev pub Fits : Base → Run → Bed → Type 0
 Fits f run air = (run.inside ≡ false) × (f.captures ≡ 0) × (run.heard ≡ f.heard)
 Fits f run (inside h t ks) =
     ((run.inside ≡ false) × (f.captures ≡ suc (length ks)) × (run.heard ≡ f.heard)) ⊎ ((run.inside ≡ true) × (f.captures < suc (length ks)) × (run.heard ≡ h))
 
 -- ---------------------------------------------------------------- what is heard
 -- The machine hears where the meaning does.
-pub audible_is : (f : Frame) (run : Run) (a : Activation) (q : Option TemplateId) (b : Bed) (out : List ℕ) (pc : ℕ) (stack : List Val) (w : World) → q ≡ run.parent → Fits f run b →
+pub audible_is : (f : Base) (run : Run) (a : Activation) (q : Option TemplateId) (b : Bed) (out : List ℕ) (pc : ℕ) (stack : List Val) (w : World) → q ≡ run.parent → Fits f run b →
     audible f (cfg (record { run = a; parent = q; bed = b; out = out }) pc stack w) ≡ heard_here run
 audible_is f run a q air out pc stack w e (i, n, h) = rw (e, n, i, h) refl
 audible_is f run a q (inside x t ks) out pc stack w e (inl (i, n, h)) =
@@ -25,7 +27,7 @@ audible_is f run a q (inside x t ks) out pc stack w e (inl (i, n, h)) =
 audible_is f run a q (inside x t ks) out pc stack w e (inr (i, n, h)) =
     let l : nat_lt f.captures (suc (length ks)) ≡ true = lt-ltb _ _ n in rw (l, i, h) refl
 
-module _ (p : Program) (f : Frame) (r : Final) where
+module _ (p : Program) (f : Base) (r : Final) where
   writes_by : (x : Bool) (t : List ℕ) (a : Activation) (q : Option TemplateId) (b : Bed) (out : List ℕ) (pc : ℕ) (stack : List Val) (w : World) →
       Go p f r (record { run = a; parent = q; bed = b; out = choose x (λ _. out ++ t) (λ _. out) }) pc stack w →
       Leads p f (told_by b out)
@@ -55,9 +57,9 @@ end_of b o = end_by o.ending b o.text o.world
 -- A callee's run comes to what it means.
 abbrev pub Entered : Program → Callee → Bool → Bed → List ℕ → World → Outcome → Type 0
 Entered p k heard b out w o =
-    Leads p (frame_of heard (captures_of b out) w) (told_by b out) (step p (frame_of heard (captures_of b out) w) (start k (captures_of b out) w)) (end_of b o)
+    Leads p (base_of heard (captures_of b out) w) (told_by b out) (step p (base_of heard (captures_of b out) w) (start k (captures_of b out) w)) (end_of b o)
 
-module _ (p : Program) (f : Frame) (r : Final) where
+module _ (p : Program) (f : Base) (r : Final) where
   in_place_by : (k : Call) (run : Run) (a : Activation) (b : Bed) (e : Ending) (parent : Option TemplateId) (out : List ℕ) (w : World) (D L N : Then) →
       Ends r b (behind e k run (whole_of e parent out w)) D L N → (D run.parent out (undone k.undo w) → Leads p f (told_by b out) (More [] (record { run = a; captures = captures_of b out; world = undone k.undo w })) r) →
       Leads p f (end_by e b out w).text (back_to (record { run = a; call = k; value = false }) (end_by e b out w).end) r
@@ -77,7 +79,7 @@ module _ (p : Program) (f : Frame) (r : Final) where
       let back : Back = record { run = waiting vs (cfg s pc stack w); call = k; value = false } in
       let rest = in_place_by k run back.run s.bed o.ending o.parent o.text o.world D L N h (λ d. silent p f r _ _ (g o.text (undone k.undo o.world) d)) in
       let e = audible_is f run s.run s.parent s.bed s.out pc stack w q fits in
-      subst (λ x. Leads p f (told s) (Nest (frame_of x (captures_of s.bed s.out) v) (start k.callee (captures_of s.bed s.out) v) back) r) (sym e) (nest refl entered rest)
+      subst (λ x. Leads p f (told s) (Nest (base_of x (captures_of s.bed s.out) v) (start k.callee (captures_of s.bed s.out) v) back) r) (sym e) (nest refl entered rest)
 
   value_by : (k : Call) (a : Activation) (b : Bed) (out0 : List ℕ) (e : Ending) (o : Outcome) (K : Val → World → Type 0) →
       Follows r (told_by b out0) (value_behind e k o) K →

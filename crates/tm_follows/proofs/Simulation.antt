@@ -16,11 +16,11 @@ use Rattle.tm_syntax.specs.declared.instruction.Instruction.{Instruction}
 use Rattle.tm_syntax.specs.declared.instruction.Instruction.TheVariants as i
 use Rattle.tm_syntax.specs.Forms.{unary, chained, plain, binary, and_then, or_else}
 use Rattle.tm_syntax.specs.Code.{expr_code, argument_code, arguments_code, step_code, steps_code, count, unary_code, binary_code, statement_code, statements_code, otherwise_code, jump_over}
-use Rattle.tm_semantics.specs.World.{choose, World, Host, Res, Good, Bad, bind, tick, depth, emitted, looked_up, TemplateId, StreamId}
+use Rattle.tm_semantics.specs.World.{choose, World, Host, Res, Good, Bad, bind, tick, depth, emitted, looked_up}
 use Rattle.tm_semantics.specs.Calls.{Callee, whole, Call, Asked, has, refused, runs, enter_block, call_named}
 use Rattle.tm_semantics.specs.Tree.{Trees, Body}
 use Rattle.tm_semantics.specs.Meaning.{Run, Outcome, Ending, done, leave, next, fault, Nests, Under, so_far, say, use_it, then_do, value_of, in_place_of, block_tag, truth, applied_unary, applied, not_of, equal_of, attribute, audible as heard_here, none_waits, eval, eval_argument, eval_arguments, eval_step, eval_steps, emit, behind_first, exec, execs, exec_else, new_run, at_end, stream_run, nests_of, rendered}
-use Rattle.tm_semantics.specs.Machine.{Activation, Config, Frame, Finished, Failed, Stuck, Next, More, Over, Program, after, goes, taken, on_taken, asked, asked_in_place, frame_of, start, run_from, stuck, audible}
+use Rattle.tm_semantics.specs.Machine.{Activation, Config, Finished, Failed, Stuck, Next, More, Over, Program, after, goes, taken, on_taken, asked, asked_in_place, base_of, start, run_from, stuck, audible}
 use Rattle.tm_semantics.specs.Steps.{act, step, closed, finish, Final, final, Leads, over}
 use Rattle.tm_semantics.specs.Compiled.{IsCompiled, code_of}
 use Rattle.tm_semantics.proofs.Ends.{one_end}
@@ -29,6 +29,9 @@ use Rattle.tm_follows.proofs.Place.{HasAt, has_front, has_behind, has_whole}
 use Rattle.tm_follows.proofs.Keeps.{Kept, kept_depth, kept_same, Gives, EndsBy as EndsKept, Ends as KeptEnds, ends_as, tick_gives, answered_gives, Asks, block_asks, named_asks, eval_gives, argument_gives, arguments_give, step_gives, steps_give, unary_gives, binary_gives, looked_up_gives, exec_ends, execs_end, nests_end}
 use Rattle.tm_follows.proofs.Follow.{Bed, air, inside, captures_of, told_by, Spot, told, cfg, later, Follows, Then, Ends, whole_of, follows_map, bind_then, use_then, so_far_then, fault_then, do_then, ends_map, Go, silent, at, after_then, move, pushes, choose_then, choose_ends}
 use Rattle.tm_follows.proofs.Forms.{Fits, audible_is, writes_then, end_by, end_of, Entered, call_in_place, call_as_value}
+use Rattle.tm_semantics.specs.declared.stream.TemplateId.{TemplateId}
+use Rattle.tm_semantics.specs.declared.stream.StreamId.{StreamId}
+use Rattle.tm_semantics.specs.declared.base.Base.{Base}
 
 -- ---------------------------------------------------------------- operands
 -- values on a stack, the last on top
@@ -75,7 +78,7 @@ bind_long r t w n (Bad chain w1) g K L e l h k = h
 abbrev as_at : Run → Spot → Run
 as_at run s = record run { parent = s.parent }
 
-module _ (p : Program) (f : Frame) (r : Final) (trees : Trees) (n : ℕ)
+module _ (p : Program) (f : Base) (r : Final) (trees : Trees) (n : ℕ)
     (entered : (k : Callee) (heard : Bool) (b : Bed) (out : List ℕ) (w : World) → p.host.limit + 1 ≤ n + depth w.scopes → depth w.scopes ≤ p.host.limit →
     Entered p k heard b out w (nests_of p.host trees n k heard out w)) where
   abbrev u : Under
@@ -338,7 +341,7 @@ module _ (p : Program) (f : Frame) (r : Final) (trees : Trees) (n : ℕ)
         (ends_map r s.bed (execs u eb (as_at run s) s.out w) _ _ L N h (λ q out1 w1 g. move p f r (later s q out1) _ _ stack w1 here g))
 
 -- ---------------------------------------------------------------- streams
-fits_start : (b : Bed) (out : List ℕ) (heard : Bool) (w : World) → Fits (frame_of heard (captures_of b out) w) (new_run heard w) b
+fits_start : (b : Bed) (out : List ℕ) (heard : Bool) (w : World) → Fits (base_of heard (captures_of b out) w) (new_run heard w) b
 fits_start air out heard w = (refl, refl, refl)
 fits_start (inside x t ks) out heard w = inl (refl, refl, refl)
 
@@ -354,9 +357,9 @@ module _ (p : Program) (trees : Trees) (compiled : IsCompiled trees p) where
   -- behind the last instruction all is closed, and the run is over
   finishes : (id : StreamId) (heard : Bool) (b : Bed) (out : List ℕ) (w : World) (q : Option TemplateId) (x : List ℕ) (v : World) (r : Final) → Kept w v →
       r ≡ final (told_by b x) (Finished (captures_of b x) v) →
-      Go p (frame_of heard (captures_of b out) w) r (later (spot_of id b out) q x) (length (p.code id)) [] v
+      Go p (base_of heard (captures_of b out) w) r (later (spot_of id b out) q x) (length (p.code id)) [] v
   finishes id heard b out w q x v r k e =
-      let f = frame_of heard (captures_of b out) w in
+      let f = base_of heard (captures_of b out) w in
       let s = later (spot_of id b out) q x in
       let c = cfg s (length (p.code id)) [] v in
       let past : slice_get (p.code id) (length (p.code id)) ≡ None = slice_get_past (p.code id) (length (p.code id)) (omega arith) in
@@ -368,7 +371,7 @@ module _ (p : Program) (trees : Trees) (compiled : IsCompiled trees p) where
 
   end_then : (id : StreamId) (heard : Bool) (b : Bed) (out : List ℕ) (w : World) (e : Ending) (q : Option TemplateId) (x : List ℕ) (v : World) → EndsKept w e v →
       Ends (end_of b (at_end e (whole_of e q x v))) b (whole_of e q x v)
-      (λ q1 x1 v1. Go p (frame_of heard (captures_of b out) w) (end_of b (at_end e (whole_of e q x v))) (later (spot_of id b out) q1 x1) (length (p.code id)) [] v1)
+      (λ q1 x1 v1. Go p (base_of heard (captures_of b out) w) (end_of b (at_end e (whole_of e q x v))) (later (spot_of id b out) q1 x1) (length (p.code id)) [] v1)
       (λ q1 x1 v1. Unit {0}) (λ q1 x1 v1. Unit {0})
   unfolding Ends
   end_then id heard b out w done q x v k = finishes id heard b out w q x v _ k refl
@@ -384,7 +387,7 @@ module _ (p : Program) (trees : Trees) (compiled : IsCompiled trees p) where
       let u : Under = record { host = p.host; nests = nests_of p.host trees n } in
       let o = execs u (trees id).row (new_run heard w) out w in
       let r = end_of b (at_end o.ending o) in
-      let f = frame_of heard (captures_of b out) w in
+      let f = base_of heard (captures_of b out) w in
       let s = spot_of id b out in
       let code = statements_code 0 (trees id).row in
       let stands : HasAt (p.code id) 0 code = subst (λ c. HasAt c 0 code) (sym (compiled id)) (has_whole code) in

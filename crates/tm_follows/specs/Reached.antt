@@ -3,8 +3,9 @@ use Rattle.std.specs.Prelude.{ℕ, List, [], true}
 use Rattle.tm_semantics.specs.World.{World}
 use Rattle.tm_semantics.specs.Calls.{whole}
 use Rattle.tm_semantics.specs.Meaning.{Ending, fault, Outcome}
-use Rattle.tm_semantics.specs.Machine.{Program, Frame, Config, Finished, Failed, frame_of, start}
+use Rattle.tm_semantics.specs.Machine.{Program, Config, Finished, Failed, base_of, start}
 use Rattle.tm_semantics.specs.Steps.{Final, final, Reaches}
+use Rattle.tm_semantics.specs.declared.base.Base.{Base}
 
 -- a fault's chain, or done, with no capture left open
 abbrev pub final_by : Ending → List ℕ → World → Final
@@ -16,4 +17,4 @@ final_of o = final_by o.ending o.text o.world
 
 -- A render from a world, written out from its start, comes to this end.
 abbrev pub Renders : Program → World → Final → Type 0
-Renders p w o = Reaches p (frame_of true [] w) [] (start (whole w.stream) [] w) o
+Renders p w o = Reaches p (base_of true [] w) [] (start (whole w.stream) [] w) o

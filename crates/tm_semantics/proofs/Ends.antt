@@ -1,10 +1,10 @@
 -- Ends of runs.
 use Rattle.std.proofs.Common.{◌≡◌, ℕ, List, [], ◌++◌, sym, ◌∙◌, ap, subst, append_assoc}
 use Rattle.std.proofs.lemmas.List.{append-nil}
-use Rattle.tm_semantics.specs.Machine.{Program, Config, Frame, back_to, Next, More}
+use Rattle.tm_semantics.specs.Machine.{Program, Config, Base, back_to, Next, More}
 use Rattle.tm_semantics.specs.Steps.{step, Final, Leads, over, more, nest}
 
-pub one_end : {p : Program} {f : Frame} {t : List ℕ} {n : Next} {o q : Final} → Leads p f t n o → Leads p f t n q → o ≡ q
+pub one_end : {p : Program} {f : Base} {t : List ℕ} {n : Next} {o q : Final} → Leads p f t n o → Leads p f t n q → o ≡ q
 one_end (over {e = a} x y) (over {e = b} z u) = let s : a ≡ b = cc in cc
 one_end (over x y) (more z u) = cc
 one_end (over x y) (nest z u v) = cc
@@ -25,7 +25,7 @@ one_end {p = p} {f = f} {t = t} {q = q} (nest {g = g1} {c = c1} {back = b1} {e =
     one_end w (subst (λ (e : Final). Leads p f e.text (back_to b1 e.end) q) ke (subst (λ b. Leads p f e2.text (back_to b e2.end) q) kb v))
 
 -- what the writer has got, and what a step writes, stand before what follows
-pub text_grows : {p : Program} {f : Frame} {t : List ℕ} {n : Next} {o : Final} → Leads p f t n o → (rest : List ℕ) × (o.text ≡ t ++ rest)
+pub text_grows : {p : Program} {f : Base} {t : List ℕ} {n : Next} {o : Final} → Leads p f t n o → (rest : List ℕ) × (o.text ≡ t ++ rest)
 text_grows {t = t} {o = o} (over {e = e} x y) = ([], ap (λ (w : Final). w.text) y ∙ sym (append-nil t))
 text_grows {t = t} (more {d = d} x y) =
     let more = text_grows y in
@@ -36,7 +36,7 @@ text_grows {t = t} (nest x y z) =
     (inner.0 ++ outer.0, outer.1 ∙ ap (λ w. w ++ outer.0) inner.1 ∙ append_assoc t inner.0 outer.0)
 
 -- a step that goes on leads where the next place leads
-pub more_only : {p : Program} {f : Frame} {t d : List ℕ} {n : Next} {c : Config} {o : Final} → n ≡ More d c → Leads p f t n o → Leads p f (t ++ d) (step p f c) o
+pub more_only : {p : Program} {f : Base} {t d : List ℕ} {n : Next} {c : Config} {o : Final} → n ≡ More d c → Leads p f t n o → Leads p f (t ++ d) (step p f c) o
 more_only e (over x y) = cc
 more_only {p = p} {f = f} {t = t} {d = d} {c = c} {o = o} e (more {d = d''} {c = c2} x y) =
     let kd : d'' ≡ d = cc in

@@ -4,13 +4,13 @@ use Rattle.tm_values.specs.Val.{Val}
 use Rattle.tm_semantics.specs.World.{choose, World, Host, Res, Good, looked_up, emitted}
 use Rattle.tm_semantics.specs.Calls.{enter_block, call_named}
 use Rattle.tm_semantics.specs.Meaning.{none_waits, truth, not_of, equal_of, attribute}
-use Rattle.tm_semantics.specs.Machine.{Config, Frame, Next, More, after, on_top, take_n, on, goes, jumps, with_world, audible, writes, asked, asked_in_place}
+use Rattle.tm_semantics.specs.Machine.{Config, Base, Next, More, after, on_top, take_n, on, goes, jumps, with_world, audible, writes, asked, asked_in_place}
 
 -- ---------------------------------------------------------------- output
-abbrev pub emit_raw_of : Frame → List ℕ → Config → Next
+abbrev pub emit_raw_of : Base → List ℕ → Config → Next
 emit_raw_of f t c = writes f t (on c.run.operands c)
 
-abbrev pub emit_of : Host → Frame → Config → Next
+abbrev pub emit_of : Host → Base → Config → Next
 emit_of host f c = on_top c.run.operands c.world (λ v vs. after (emitted host v c.world) (λ t w. writes f t (on vs (with_world w c))))
 
 -- ---------------------------------------------------------------- operands
@@ -59,7 +59,7 @@ jump_if_true_or_pop_of host n c = on_truth host c (λ b v vs w. choose b (λ _. 
 abbrev pub call_function_of : Host → List ℕ → ℕ → Config → Next
 call_function_of host x n c = take_n n c.run.operands c.world (λ vs rest. asked c rest (call_named host x vs c.world))
 
-abbrev pub call_block_of : Host → Frame → List ℕ → Config → Next
+abbrev pub call_block_of : Host → Base → List ℕ → Config → Next
 call_block_of host f b c =
     choose (none_waits c.run.parent && audible f c)
     (λ _. asked_in_place f c c.run.operands (enter_block host b c.world))

@@ -4,6 +4,7 @@ use Rattle.tm_values.specs.Val.{Val}
 use Rattle.tm_values.specs.declared.error.ErrorKind.{ErrorKind}
 use Rattle.tm_values.specs.declared.escape.AutoEscape.{AutoEscape}
 use Rattle.tm_syntax.specs.declared.instruction.Instruction.{Instruction}
+pub use Rattle.tm_semantics.specs.declared.base.Base.{Base}
 use Rattle.tm_semantics.specs.World.{choose, TemplateId, StreamId, World, Host, Res, Good, Bad, captured_text}
 use Rattle.tm_semantics.specs.Calls.{Callee, whole, Call, Asked, has, refused, runs, undone, wrapped}
 use Rattle.tm_semantics.specs.Meaning.{none_waits}
@@ -38,13 +39,6 @@ pub record Config : Type 0 where
   pub captures : List Capture
   pub world : World
 
--- What stays the same over a run: the captures and scopes that aren't its own, whether it is heard, the escape at its start.
-pub record Frame : Type 0 where
-  pub captures : ℕ
-  pub scopes : ℕ
-  pub heard : Bool
-  pub first : AutoEscape
-
 -- How a run ends: done, with the captures that are left; by a fault; or stuck, which only a stream does that no compiler wrote.
 pub data End : Type 0 where
   Finished : List Capture → World → End
@@ -61,7 +55,7 @@ pub record Back : Type 0 where
 pub data Next : Type 0 where
   More : List ℕ → Config → Next
   Over : End → Next
-  Nest : Frame → Config → Back → Next
+  Nest : Base → Config → Back → Next
 
 -- What all runs share: the environment, and the instructions of each stream.
 pub record Program : Type 0 where
@@ -118,7 +112,7 @@ first_heard [] = true
 first_heard (k ∷ ks) = k.heard
 
 -- whether what is written is heard: by the innermost capture of this run, else as the run is and where no parent waits
-abbrev pub audible : Frame → Config → Bool
+abbrev pub audible : Base → Config → Bool
 audible f c = choose (nat_lt f.captures (length c.captures)) (λ _. first_heard c.captures) (λ _. f.heard && none_waits c.run.parent)
 
 -- the captures behind a text, and what the writer gets of it
@@ -130,7 +124,7 @@ abbrev pub put_out : List Capture → List ℕ → List ℕ
 put_out [] t = t
 put_out (k ∷ ks) t = []
 
-abbrev pub writes : Frame → List ℕ → Config → Next
+abbrev pub writes : Base → List ℕ → Config → Next
 writes f t c = choose (audible f c) (λ _. More (put_out c.captures t) (record c { captures = put_in c.captures t })) (λ _. More [] c)
 
 -- ---------------------------------------------------------------- runs
@@ -141,8 +135,8 @@ run_from s floor = record { stream = s; place = 0; operands = []; escapes = []; 
 abbrev pub start : Callee → List Capture → World → Config
 start (whole s) ks w = record { run = run_from s (length ks); captures = ks; world = w }
 
-abbrev pub frame_of : Bool → List Capture → World → Frame
-frame_of heard ks w = record { captures = length ks; scopes = length w.scopes.frames; heard = heard; first = w.escape }
+abbrev pub base_of : Bool → List Capture → World → Base
+base_of heard ks w = record { captures = length ks; scopes = length w.scopes.frames; heard = heard; first = w.escape }
 
 abbrev pub new_capture : Bool → Capture
 new_capture heard = record { heard = heard; text = [] }
@@ -152,15 +146,15 @@ abbrev pub waiting : List Val → Config → Activation
 waiting vs c = record c.run { place = c.run.place + 1; operands = vs }
 
 -- a nested run whose text is heard where the call is
-abbrev pub nested_in_place : Frame → List Val → Config → Call → World → Next
+abbrev pub nested_in_place : Base → List Val → Config → Call → World → Next
 nested_in_place f vs c k w =
-    Nest (frame_of (audible f c) c.captures w) (start k.callee c.captures w) (record { run = waiting vs c; call = k; value = false })
+    Nest (base_of (audible f c) c.captures w) (start k.callee c.captures w) (record { run = waiting vs c; call = k; value = false })
 
 -- a nested run whose text waits in a capture
 abbrev pub nested_as_value : List Val → Config → Call → World → Next
 nested_as_value vs c k w =
     let ks = new_capture true ∷ c.captures in
-    Nest (frame_of true ks w) (start k.callee ks w) (record { run = waiting vs c; call = k; value = true })
+    Nest (base_of true ks w) (start k.callee ks w) (record { run = waiting vs c; call = k; value = true })
 
 abbrev pub pushed : Val → Activation → Activation
 pushed v r = record r { operands = v ∷ r.operands }
@@ -183,7 +177,7 @@ asked c vs (refused chain w) = Over (Failed chain w)
 asked c vs (runs k w) = nested_as_value vs c k w
 
 -- or it is made in place
-abbrev pub asked_in_place : Frame → Config → List Val → Asked → Next
+abbrev pub asked_in_place : Base → Config → List Val → Asked → Next
 asked_in_place f c vs (has v w) = goes vs w c
 asked_in_place f c vs (refused chain w) = Over (Failed chain w)
 asked_in_place f c vs (runs k w) = nested_in_place f vs c k w

@@ -17,7 +17,7 @@ use Rattle.tm_semantics.specs.World.{Bindings, find, own, World, Host, View, Rep
 use Rattle.tm_semantics.specs.Calls.{whole}
 use Rattle.tm_semantics.specs.Tree.{Body, body_of, TemplateTree, Trees, template_of, trees_of}
 use Rattle.tm_semantics.specs.Meaning.{Outcome, rendered, first_world, chain_of}
-use Rattle.tm_semantics.specs.Machine.{Program, Finished, Failed, Stuck, End, start, frame_of}
+use Rattle.tm_semantics.specs.Machine.{Program, Finished, Failed, Stuck, End, start, base_of}
 use Rattle.tm_semantics.specs.Steps.{Final, step as step_of, run_for}
 
 -- ---------------------------------------------------------------- a page and its renders
@@ -81,7 +81,7 @@ said_by (Some o) = said_at o.text o.end
 abbrev pub ran : Page → Option ℕ → Said
 ran p fuel =
     let w = world_of p fuel in
-    let f = frame_of true [] w in
+    let f = base_of true [] w in
     said_by (run_for 100 (program_of p) f [] (step_of (program_of p) f (start (whole w.stream) [] w)))
 
 -- What the page means under this fuel, and what its code comes to.

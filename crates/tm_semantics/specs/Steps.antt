@@ -4,7 +4,7 @@ use Rattle.tm_values.specs.declared.escape.AutoEscape.{AutoEscape}
 use Rattle.tm_syntax.specs.declared.instruction.Instruction.{Instruction}
 use Rattle.tm_syntax.specs.declared.instruction.Instruction.TheVariants as i
 use Rattle.tm_semantics.specs.World.{choose, World, Host, Res, pays}
-use Rattle.tm_semantics.specs.Machine.{Config, Return, Frame, End, Finished, Back, back_to, Next, More, Over, Nest, Program, after, stuck, with_world}
+use Rattle.tm_semantics.specs.Machine.{Config, Return, Base, End, Finished, Back, back_to, Next, More, Over, Nest, Program, after, stuck, with_world}
 use Rattle.tm_semantics.specs.Instructions.{emit_raw_of, emit_of, lookup_of, load_const_of, get_attr_of, not_instruction_of, eq_of, jump_of, jump_if_false_of, jump_if_false_or_pop_of, jump_if_true_or_pop_of, call_function_of, call_block_of}
 
 -- what an instruction is charged: 0 where it is free, which none is yet
@@ -15,7 +15,7 @@ charge_of x = 1
 abbrev pub pay : Instruction → World → Res (Unit {0})
 pay x w = pays (charge_of x) w
 
-abbrev pub effect : Host → Frame → Instruction → Config → Next
+abbrev pub effect : Host → Base → Instruction → Config → Next
 effect host f (i.EmitRaw t) c = emit_raw_of f t c
 effect host f i.Emit c = emit_of host f c
 effect host f (i.Lookup x) c = lookup_of host x c
@@ -35,20 +35,20 @@ is_empty [] = true
 is_empty (x ∷ xs) = false
 
 -- all that the run opened is closed, and the place is the stream's end
-abbrev pub closed : Frame → Config → Bool
+abbrev pub closed : Base → Config → Bool
 closed f c =
     nat_eq f.captures (length c.captures) && nat_eq f.scopes (length c.world.scopes.frames) && is_empty c.run.escapes && is_empty c.run.loops
 
 -- Behind the last instruction the run is over, with all closed that it opened.
-abbrev pub finish : ℕ → Frame → Config → Next
+abbrev pub finish : ℕ → Base → Config → Next
 finish size f c = choose (nat_eq c.run.place size && closed f c) (λ _. Over (Finished c.captures c.world)) (λ _. stuck c.world)
 
-abbrev pub act : Program → Frame → Option Instruction → Config → Next
+abbrev pub act : Program → Base → Option Instruction → Config → Next
 act p f None c = finish (length (p.code c.run.stream)) f c
 act p f (Some x) c = after (pay x c.world) (λ _ w. effect p.host f x (with_world w c))
 
 -- one step: the instruction at the place is paid for and takes effect
-abbrev pub step : Program → Frame → Config → Next
+abbrev pub step : Program → Base → Config → Next
 step p f c = act p f (slice_get (p.code c.run.stream) c.run.place) c
 
 -- ---------------------------------------------------------------- whole runs
@@ -61,14 +61,14 @@ abbrev pub final : List ℕ → End → Final
 final t e = record { text = t; end = e }
 
 -- Once the writer has got this text, what a step gave leads to an end.
-pub data Leads (p : Program) : Frame → List ℕ → Next → Final → Type 0 where
-  over : {f : Frame} {t : List ℕ} {n : Next} {e : End} {o : Final} → n ≡ Over e → o ≡ final t e → Leads p f t n o
-  more : {f : Frame} {t d : List ℕ} {n : Next} {c : Config} {o : Final} → n ≡ More d c → Leads p f (t ++ d) (step p f c) o → Leads p f t n o
-  nest : {f g : Frame} {t : List ℕ} {n : Next} {c : Config} {back : Back} {e o : Final} →
+pub data Leads (p : Program) : Base → List ℕ → Next → Final → Type 0 where
+  over : {f : Base} {t : List ℕ} {n : Next} {e : End} {o : Final} → n ≡ Over e → o ≡ final t e → Leads p f t n o
+  more : {f : Base} {t d : List ℕ} {n : Next} {c : Config} {o : Final} → n ≡ More d c → Leads p f (t ++ d) (step p f c) o → Leads p f t n o
+  nest : {f g : Base} {t : List ℕ} {n : Next} {c : Config} {back : Back} {e o : Final} →
       n ≡ Nest g c back → Leads p g t (step p g c) e → Leads p f e.text (back_to back e.end) o → Leads p f t n o
 
 -- From a configuration, once the writer has got this text, the machine comes to an end.
-abbrev pub Reaches : Program → Frame → List ℕ → Config → Final → Type 0
+abbrev pub Reaches : Program → Base → List ℕ → Config → Final → Type 0
 Reaches p f t c o = Leads p f t (step p f c) o
 
 -- The same as a function, with at most so many steps one inside the other.
@@ -76,7 +76,7 @@ abbrev pub and_on : Option Final → (Final → Option Final) → Option Final
 and_on None g = None
 and_on (Some o) g = g o
 
-abbrev pub run_for : ℕ → Program → Frame → List ℕ → Next → Option Final
+abbrev pub run_for : ℕ → Program → Base → List ℕ → Next → Option Final
 run_for zero p f t n = None
 run_for (suc k) p f t (More d c) = run_for k p f (t ++ d) (step p f c)
 run_for (suc k) p f t (Over e) = Some (final t e)
