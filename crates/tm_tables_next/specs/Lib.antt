@@ -1,4 +1,6 @@
 pub mod Found
 pub mod Scopes
+pub mod Sources
 pub mod Stated
+pub mod Templates
 pub mod Views

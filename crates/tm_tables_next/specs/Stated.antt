@@ -1,5 +1,5 @@
 -- What callables answer.
-use Rattle.std.specs.Prelude.{◌≡◌, ℕ, Bool, true, false, List, [], ◌∷◌, ◌++◌}
+use Rattle.std.specs.Prelude.{◌≡◌, ℕ, Bool, true, false, List, [], ◌∷◌, ◌++◌, map as each}
 use Rattle.tm_values.specs.Chain.{ends_in_memory}
 use Rattle.tm_values.specs.Val.{Val}
 use Rattle.tm_semantics.specs.World.{View, Function, callers, Reply, gives, faults, Stated}
@@ -31,3 +31,7 @@ just reply = record { temps = []; reply = reply }
 -- an answer that keeps one value more
 abbrev pub keeping : List ℕ → Val → Stated → Stated
 keeping x v stated = record stated { temps = stated.temps ++ (x, v) ∷ [] }
+
+-- what callables are to the machine, by what they answer
+abbrev pub functions_of : {C : Type 0} → (C → List Val → View → Stated) → List C → List Function
+functions_of answers cs = each (λ c. callers (answers c)) cs

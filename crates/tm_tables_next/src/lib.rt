@@ -2,11 +2,15 @@
 #![tactic(auto)]
 
 mod callable;
+mod compiled;
 mod context;
 mod host;
+mod objects;
 mod view;
 
 pub use callable::{Answer, Callable, Reply};
+pub use compiled::{CompiledTemplate, Source, TemplateConfig};
 pub use context::{Context, Frame};
 pub use host::Host;
+pub use objects::{Objects, Parties};
 pub use view::View;

@@ -1,0 +1,46 @@
+-- Templates as plain data.
+use Rattle.std.specs.Prelude.{◌≡◌, ℕ, List}
+use Rattle.tm_values.specs.declared.error.ErrorKind.{ErrorKind}
+use Rattle.tm_values.specs.declared.escape.AutoEscape.TheVariants as escapes
+use Rattle.tm_syntax.specs.declared.tree.Tree.{Tree}
+use Rattle.tm_syntax.specs.declared.tree.Stmt.TheBlock.{hidden-the_row-Stmt-0 as statements}
+use Rattle.tm_syntax.specs.declared.instruction.Instruction.{Instruction}
+use Rattle.tm_syntax.specs.Blocks.{Body, body_of, blocks_in, code_of, compiled_blocks}
+use Rattle.tm_syntax.specs.Named.{Named, by_name}
+use Rattle.tm_scanner.specs.Syntax.{Syntax}
+use Rattle.tm_scanner.specs.Refused.{Refused}
+use Rattle.tm_compiler_next.specs.Spells.{Spells, SpellsNone}
+use Rattle.tm_semantics.specs.Tree.{TemplateTree}
+
+-- A template: its name, its source, and the tree that the source spells.
+pub record Compiled : Type 0 where
+  pub name : List ℕ
+  pub source : List ℕ
+  pub tree : Tree
+
+-- the statements of a tree
+abbrev pub body : Tree → Body
+body tree = body_of (statements tree.statements)
+
+-- the code of its blocks, by name
+abbrev pub block_codes : Tree → Named (List Instruction)
+block_codes tree = by_name (compiled_blocks (blocks_in (body tree).row))
+
+-- a template as its meaning takes it; no name asks for an escape yet
+abbrev pub tree_of : Compiled → TemplateTree
+tree_of t = record { name = t.name; escape = escapes.None; root = body t.tree }
+
+-- These are the streams of the tree.
+pub record AreStreams (tree : Tree) (root : List Instruction) (blocks : Named (List Instruction)) : Type 0 where
+  pub root_is : root ≡ code_of (body tree)
+  pub blocks_are : blocks ≡ block_codes tree
+
+-- the template that a source is under a name: its tree is the one that the source spells
+pub record IsTemplate (syntax : Syntax) (name source : List ℕ) (t : Compiled) : Type 0 where
+  pub name_is : t.name ≡ name
+  pub source_is : t.source ≡ source
+  pub spelled : Spells syntax source t.tree
+
+-- why a source was refused: it spells no tree, or there was no memory
+abbrev pub IsRefused : Syntax → List ℕ → List ErrorKind → Type 0
+IsRefused syntax source chain = Refused chain (SpellsNone syntax source)

@@ -1,0 +1,148 @@
+//! Compiled templates.
+ghost use Rattle.std.specs.Prelude.{◌≡◌, IfOk, IfErr};
+ghost use Rattle.tm_syntax.specs.Blocks.{code_of};
+ghost use Rattle.tm_syntax.specs.Named.{find};
+ghost use Rattle.tm_scanner.specs.Syntax.{default_syntax};
+ghost use Rattle.tm_values.specs.Answer.{IsLent};
+ghost use Rattle.tm_tables_next.specs.Templates.{IsTemplate, IsRefused, body, block_codes};
+ghost use Rattle.tm_tables_next.specs.Sources.{source_bytes};
+
+use sqlite_items::Items;
+use std::alloc::Global;
+use std::marker::Model;
+use tm_compiler_next::{Instruction, Name, NameMap, Streams, SyntaxConfig, Tree, generate, parse};
+use tm_values::Error;
+
+/// How templates are compiled.
+#[derive(Drop)]
+pub struct TemplateConfig {
+    /// The delimiters.
+    pub syntax_config: SyntaxConfig,
+}
+
+impl Default for TemplateConfig {
+    /// The default delimiters.
+    fn default() -> TemplateConfig
+        ensures { result.syntax_config ≡ default_syntax }
+    {
+        TemplateConfig {
+            syntax_config: SyntaxConfig::default(),
+        }
+    }
+}
+
+/// A source: a text that the caller keeps, or one of its own.
+#[derive(Drop)]
+pub enum Source<'source> {
+    /// The caller's.
+    Lent(&'source str),
+    /// Its own.
+    Owned(String),
+}
+
+impl<'source> Source<'source> {
+    /// The text.
+    pub fn as_str(&self) -> &str
+        ensures { result.now ≡ source_bytes self.now }
+    {
+        match self {
+            Source::Lent(text) => text,
+            Source::Owned(text) => text.as_str(),
+        }
+    }
+}
+
+/// A template that is compiled: its name, its source, the tree that the source spells, and the tree's streams.
+#[derive(Drop)]
+pub struct CompiledTemplate<'source> {
+    name: Name,
+    source: Source<'source>,
+    tree: Tree,
+    streams: Streams,
+}
+
+impl<'source> Model for CompiledTemplate<'source> {
+    ghost use Rattle.std.specs.Coded.{codes};
+    ghost use Rattle.tm_syntax.specs.contracts.tree.Stmt as statement;
+    ghost use Rattle.tm_tables_next.specs.Templates.{Compiled};
+
+    ghost Value = { Compiled };
+
+    ghost coded = { Prim.hlevel (codes, statement.the_row.coded) };
+
+    ghost use Rattle.tm_tables_next.specs.Sources.{source_bytes};
+    ghost use Rattle.tm_tables_next.specs.Templates.{AreStreams};
+
+    ghost view = { λ a. record { name = a.name; source = source_bytes a.source; tree = a.tree } };
+
+    ghost invariant = { λ a. AreStreams a.tree a.streams.root a.streams.blocks };
+}
+
+impl<'source> CompiledTemplate<'source> {
+    /// Compiles a source under a name. SyntaxError where the source spells no template, OutOfMemory where there is no memory.
+    pub fn new(
+        alloc: Global,
+        name: &str,
+        source: Source<'source>,
+        config: &TemplateConfig,
+    ) -> Result<CompiledTemplate<'source>, Error>
+        ensures compiled { IfOk result
+            (IsTemplate config.now.syntax_config name.now (source_bytes source.entry)) }
+        ensures refused { IfErr result
+            (IsRefused config.now.syntax_config (source_bytes source.entry)) }
+    {
+        let tree = match parse(alloc, source.as_str(), &config.syntax_config) {
+            Ok(tree) => tree,
+            Err(error) => return Err(error),
+        };
+        let streams = match generate(alloc, &tree) {
+            Ok(streams) => streams,
+            Err(error) => return Err(error),
+        };
+        let name = Name::new(alloc, name)?;
+        Ok(CompiledTemplate {
+            name,
+            source,
+            tree,
+            streams,
+        })
+    }
+
+    /// The name under which it was compiled.
+    pub fn name(&self) -> &str
+        ensures { result.now ≡ self.now.name }
+    {
+        self.name.as_str()
+    }
+
+    /// The source that was compiled.
+    pub fn source(&self) -> &str
+        ensures { result.now ≡ self.now.source }
+    {
+        self.source.as_str()
+    }
+
+    /// The code of its tree.
+    pub fn instructions(&self) -> &[Instruction]
+        ensures { result.now ≡ code_of (body self.now.tree) }
+    {
+        self.streams.root.as_slice()
+    }
+
+    /// The code of its blocks, by name.
+    pub fn blocks(&self) -> &NameMap<Items<Instruction>>
+        ensures { result.now ≡ block_codes self.now.tree }
+    {
+        &self.streams.blocks
+    }
+
+    /// The code of its block of a name, where there is one.
+    pub fn block(&self, name: &str) -> Option<&[Instruction]>
+        ensures { IsLent result (find name.now (block_codes self.now.tree)) }
+    {
+        match self.streams.blocks.get(name) {
+            Some(code) => Some(code.as_slice()),
+            None => None,
+        }
+    }
+}
