@@ -4,7 +4,8 @@ ghost use Rattle.tm_syntax.specs.Blocks.{code_of};
 ghost use Rattle.tm_syntax.specs.Named.{find};
 ghost use Rattle.tm_scanner.specs.Syntax.{default_syntax};
 ghost use Rattle.tm_values.specs.Answer.{IsLent};
-ghost use Rattle.tm_tables_next.specs.Templates.{IsTemplate, IsRefused, body, block_codes};
+ghost use Rattle.tm_semantics.specs.Tree.{part_of};
+ghost use Rattle.tm_tables_next.specs.Templates.{IsTemplate, IsRefused, body, block_codes, tree_of};
 ghost use Rattle.tm_tables_next.specs.Sources.{source_bytes};
 
 use sqlite_items::Items;
@@ -143,6 +144,19 @@ impl<'source> CompiledTemplate<'source> {
         match self.streams.blocks.get(name) {
             Some(code) => Some(code.as_slice()),
             None => None,
+        }
+    }
+
+    /// The code of a part: of the block of a name, or of all its tree. Of a block that isn't there, none.
+    pub fn stream(&self, block: &Option<Name>) -> &[Instruction]
+        ensures { result.now ≡ code_of (part_of (tree_of self.now) block.now) }
+    {
+        match block {
+            None => self.instructions(),
+            Some(name) => match self.block(name.as_str()) {
+                Some(code) => code,
+                None => &[],
+            },
         }
     }
 }
