@@ -1,0 +1,4 @@
+pub mod Found
+pub mod Scopes
+pub mod Stated
+pub mod Views

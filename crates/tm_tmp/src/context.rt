@@ -1,0 +1,156 @@
+//! Scopes.
+ghost use Rattle.std.specs.Prelude.{◌≡◌, ◌<◌, ◌^◌, ◌-◌, [], ◌∷◌, true, false, length, min, nat_lt, OnOk, IfErr, MatchOption};
+ghost use Rattle.tm_values.specs.Answer.{OkOrOutOfMemory};
+ghost use Rattle.tm_semantics.specs.World.{plain, depth, without_first};
+ghost use Rattle.tm_tmp.specs.Found.{IsFoundIn};
+ghost use Rattle.tm_tmp.specs.Scopes.{one_scope, PushFails};
+
+use std::alloc::Global;
+use std::marker::Model;
+use tm_values::{Error, ErrorKind, Node, Records, Value, find_namespace};
+
+/// A scope: the value whose keys are its names. It has no names of its own.
+#[derive(Drop)]
+pub struct Frame {
+    context: Value,
+}
+
+impl Model for Frame {
+    ghost use Rattle.std.specs.Coded.{codes};
+    ghost use Rattle.tm_semantics.specs.World.{Scope, plain};
+    ghost use Rattle.tm_values.specs.Code.{coded_Val};
+
+    ghost Value = { Scope };
+
+    ghost coded = { Prim.hlevel (codes, coded_Val) };
+
+    ghost view = { λ f. plain f.context };
+}
+
+impl Frame {
+    /// A scope over a context value.
+    pub fn new(context: Value) -> Frame
+        ensures { result ≡ plain context }
+    {
+        Frame { context }
+    }
+
+    /// What the context value has at a name. InvalidOperation where it is a namespace whose record isn't there.
+    pub fn get<'a, R: Records>(
+        &'a self,
+        name: &str,
+        records: &'a R,
+    ) -> Result<Option<&'a Value>, Error>
+        ensures { IsFoundIn (R.records records.now) name.now (self.now ∷ []) result }
+    {
+        match &self.context.node {
+            Node::Namespace(state, index) => match find_namespace(records, *state, *index) {
+                Some(pairs) => Ok(pairs.member(name)),
+                None => Err(Error::from(ErrorKind::InvalidOperation)),
+            },
+            _ => Ok(self.context.member(name)),
+        }
+    }
+}
+
+/// The scopes of a state. A contract sees them innermost first.
+#[derive(Drop)]
+pub struct Context {
+    frames: Vec<Frame>,
+    outer: usize,
+}
+
+impl Model for Context {
+    ghost use Rattle.std.specs.Coded.{codes};
+    ghost use Rattle.std.specs.Prelude.{reverse};
+    ghost use Rattle.tm_semantics.specs.World.{Scopes};
+    ghost use Rattle.tm_values.specs.Code.{coded_Val};
+
+    ghost Value = { Scopes };
+
+    ghost coded = { Prim.hlevel (codes, coded_Val) };
+
+    ghost view = { λ c. record { frames = reverse c.frames.items; outer = c.outer } };
+}
+
+impl Context {
+    /// One scope, whose depth isn't tested. Fails by OutOfMemory alone.
+    pub fn new_with_frame(alloc: Global, frame: Frame) -> Result<Context, Error>
+        ensures { OkOrOutOfMemory result (λ c. c ≡ one_scope frame) }
+    {
+        let mut frames = Vec::new(alloc);
+        frames.push(frame)?;
+        Ok(Context { frames, outer: 0 })
+    }
+
+    /// How many scopes there are.
+    pub fn height(&self) -> usize
+        ensures { result ≡ length self.now.frames }
+    {
+        self.frames.len()
+    }
+
+    /// The depth at which the outermost scope stands.
+    pub fn outer(&self) -> usize
+        ensures { result ≡ self.now.outer }
+    {
+        self.outer
+    }
+
+    /// How deep the scopes lie, at most the greatest usize.
+    pub fn depth(&self) -> usize
+        ensures { result ≡ min (depth self.now) (2 ^ 64 - 1) }
+    {
+        self.frames.len().saturating_add(self.outer)
+    }
+
+    /// Lets the outermost scope stand at another depth.
+    pub fn set_outer(&mut self, outer: usize)
+        ensures { self.new ≡ record self.old { outer = outer } }
+    {
+        self.outer = outer;
+    }
+
+    /// The value of a name: an inner scope's before an outer one's. InvalidOperation where a context value on the way is a namespace whose record isn't there.
+    pub fn find<'a, R: Records>(
+        &'a self,
+        name: &str,
+        records: &'a R,
+    ) -> Result<Option<&'a Value>, Error>
+        ensures { IsFoundIn (R.records records.now) name.now self.now.frames result }
+    {
+        let mut i = self.frames.len();
+        while i > 0 {
+            i -= 1;
+            let frame = &self.frames[i];
+            match frame.get(name, records) {
+                Ok(None) => {}
+                found => return found,
+            }
+        }
+        Ok(None)
+    }
+
+    /// One scope more. InvalidOperation where it would lie deeper than the limit, OutOfMemory where there is no memory; then the scopes stay as they were.
+    pub fn push_frame(&mut self, frame: Frame, limit: usize) -> Result<(), Error>
+        ensures fits { OnOk result (nat_lt (depth self.old) limit ≡ true) }
+        ensures ok { OnOk result (self.new ≡ record self.old { frames = frame ∷ self.old.frames }) }
+        ensures kind { IfErr result (PushFails (nat_lt (depth self.old) limit)) }
+        ensures err { IfErr result (λ _. self.new ≡ self.old) }
+    {
+        if self.depth() >= limit {
+            return Err(Error::from(ErrorKind::InvalidOperation));
+        }
+        self.frames.push(frame)?;
+        Ok(())
+    }
+
+    /// Leaves the innermost scope, and gives it, where there is one.
+    pub fn pop_frame(&mut self) -> Option<Frame>
+        ensures left { self.new ≡ record self.old { frames = without_first self.old.frames } }
+        ensures given { MatchOption result (self.old.frames ≡ [])
+            (λ frame. self.old.frames ≡ frame ∷ self.new.frames) }
+    {
+        self.frames.pop()
+    }
+}

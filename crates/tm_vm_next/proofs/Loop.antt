@@ -1,0 +1,180 @@
+-- Where the loop stands in a run, and what it answers there.
+use Rattle.std.proofs.Common.{◌≡◌, ◌<◌, ◌≤◌, ℕ, List, [], ◌++◌, take, zero, suc, Option, None, Result, Ok, Err, Bool, false, refl, sym, ◌∙◌, ap, subst, append_assoc, arith}
+use Rattle.std.specs.Io.KnownBytes.{Appends}
+use Rattle.std.proofs.lemmas.List.{append-nil}
+use Rattle.tm_semantics.specs.World.{World}
+use Rattle.tm_semantics.specs.Calls.{whole, undone, of_block}
+use Rattle.tm_semantics.specs.Machine.{Capture, Config, End, Finished, Failed, Stuck, Next, More, Over, Nest, Program, Back, back_to, base_of, start}
+use Rattle.tm_semantics.specs.Steps.{step, Final, final, Leads, Reaches, over, more, nest}
+use Rattle.tm_semantics.specs.declared.base.Base.{Base}
+use Rattle.tm_semantics.proofs.Ends.{one_end, text_grows, more_only}
+use Rattle.tm_output.specs.Counts.{AppendsBeginning}
+use Rattle.tm_parts_next.proofs.Pieces.{appends_then, appends_nothing, appends_beginning, appends_then_beginning, appends_then_beginning_longer}
+use Rattle.tm_parts_next.specs.declared.halt.Halt.{Halt}
+use Rattle.tm_parts_next.specs.declared.halt.Halt.TheVariants as halt
+use Rattle.tm_vm_next.specs.declared.flow.Entry.{Entry}
+use Rattle.tm_vm_next.specs.declared.flow.Flow.{Flow}
+use Rattle.tm_vm_next.specs.declared.flow.Flow.TheVariants as flow
+use Rattle.tm_vm_next.specs.Answers.{Did, Enters, entered, HaltsAs, Comes, Keeps, output}
+use Rattle.tm_vm_next.specs.Nested.{Ran, Went, Begins, start_in, base_in}
+use Rattle.tm_vm_next.specs.State.{saved_of, put_back}
+use Rattle.tm_vm_next.specs.declared.flow.Saved.{Saved}
+use Rattle.tm_vm_next.proofs.Shift.{behind, Alone, alone, behind_text}
+
+pub kept_same : (w : World) → Keeps w w
+kept_same w = record { same_id = refl; same_fuel_set = refl; no_more_fuel = omega arith }
+
+pub kept_then : {a b c : World} → Keeps a b → Keeps b c → Keeps a c
+kept_then h k = record {
+  same_id = k.same_id ∙ h.same_id;
+  same_fuel_set = k.same_fuel_set ∙ h.same_fuel_set;
+  no_more_fuel = omega (arith, h.no_more_fuel, k.no_more_fuel);
+}
+
+-- The writer has got a text since the run began at a, and the machine has come from a to c.
+pub record Stands (p : Program) (f : Base) (a : Config) (told now : Option (List ℕ)) (c : Config) : Type 0 where
+  pub text : List ℕ
+  pub appended : Appends told now text
+  pub onward : (o : Final) → Reaches p f text c o → Reaches p f [] a o
+  pub back : (o : Final) → Reaches p f [] a o → Reaches p f text c o
+
+pub stands_first : (p : Program) (f : Base) (a : Config) (told : Option (List ℕ)) → Stands p f a told told a
+stands_first p f a told = record { text = []; appended = appends_nothing told; onward = λ o r. r; back = λ o r. r }
+
+-- one step more
+pub stands_next : {p : Program} {f : Base} {a c : Config} {told now : Option (List ℕ)} (d : Config) (new : Option (List ℕ)) → Stands p f a told now c →
+    Did (Ok flow.GoOn) now new d (step p f c) → Stands p f a told new d
+stands_next {p = p} {f = f} {c = c} {told = told} {now = now} d new s did =
+    let t = output (step p f c) in
+    record {
+      text = s.text ++ t;
+      appended = appends_then told now new s.text t s.appended did.1;
+      onward = λ o r. s.onward o (more did.0 r);
+      back = λ o r. more_only did.0 (s.back o r);
+    }
+
+-- ---------------------------------------------------------------- nested runs
+-- what follows a nested run, of a run over it
+pub nest_only : {p : Program} {f g : Base} {t : List ℕ} {n : Next} {c : Config} {back : Back} {e o : Final} → n ≡ Nest g c back → Reaches p g [] c e
+    → Leads p f t n o → Leads p f (t ++ e.text) (back_to back e.end) o
+nest_only at run (over x y) = absurd cc
+nest_only at run (more x y) = absurd cc
+nest_only {p = p} {f = f} {g = g} {t = t} {c = c} {back = back} {e = e} {o = o} at run (nest {g = g2} {c = c2} {back = b2} {e = e2} x y z) =
+    let kg : g2 ≡ g = cc in
+    let kc : c2 ≡ c = cc in
+    let kb : b2 ≡ back = cc in
+    let y1 : Leads p g t (step p g c) e2 = subst (λ c. Leads p g t (step p g c) e2) kc (subst (λ g. Leads p g t (step p g c2) e2) kg y) in
+    let ke : e2 ≡ behind t e = one_end y1 (behind_text c t run) in
+    subst (λ (e : Final). Leads p f e.text (back_to back e.end) o) ke (subst (λ b. Leads p f e2.text (back_to b e2.end) o) kb z)
+
+-- what is put back behind a block is the world behind it
+undone_is : (b w : World) (saved : Saved) → saved ≡ saved_of b → undone (of_block b) w ≡ put_back saved w
+undone_is b w saved e = sym (ap (λ x. put_back x w) e)
+
+-- the run that waited goes on
+goes_behind : (b w : World) (e : Entry) (mid d : Config) (ks : List Capture) → e.saved ≡ saved_of b →
+    d ≡ record { run = mid.run; captures = ks; world = put_back e.saved w } → More [] (record { run = mid.run; captures = ks; world = undone (of_block b) w }) ≡ More [] d
+goes_behind b w e mid d ks saved behind =
+    ap (λ x. More [] x) (ap (λ x. record { run = mid.run; captures = ks; world = x }) (undone_is b w e.saved saved) ∙ sym behind)
+
+-- a nested run that is done, and what follows it
+pub stands_behind : {p : Program} {f : Base} {a c : Config} {told now : Option (List ℕ)} (entry : Entry) (mid d : Config) (at new : Option (List ℕ)) → Stands p f a told now c
+    → Did (Ok (flow.Enter entry)) now at mid (step p f c) → Went p entry mid d at new → Stands p f a told new d
+stands_behind {p = p} {f = f} {c = c} {told = told} {now = now} entry mid d at new s did ran =
+    let enters = did.0 in
+    let b = enters.0 in
+    let goes = goes_behind b ran.world entry mid d ran.captures enters.1 ran.behind in
+    record {
+      text = s.text ++ ran.text;
+      appended = appends_then told now new s.text ran.text s.appended (subst (λ o. Appends o new ran.text) did.1 ran.appended);
+      onward = λ o l. s.onward o (nest enters.2 (behind_text (start_in entry mid) s.text ran.reaches) (more goes (subst (λ u. Leads p f u (step p f d) o) (sym (append-nil (s.text ++ ran.text))) l)));
+      back = λ o l. subst (λ u. Leads p f u (step p f d) o) (append-nil (s.text ++ ran.text)) (more_only goes (nest_only enters.2 ran.reaches (s.back o l)));
+    }
+
+-- ---------------------------------------------------------------- ends
+-- what the writer has got at an answer that stopped the loop is a beginning of what it gets at the end
+output_first : {p : Program} {f : Base} {t : List ℕ} {n : Next} {o : Final} → Leads p f t n o → (rest : List ℕ) × (o.text ≡ t ++ (output n ++ rest))
+output_first {p = p} {f = f} {t = t} {n = Over e} {o = o} l = text_grows l
+output_first {p = p} {f = f} {t = t} {n = More d c} {o = o} l =
+    let grown = text_grows (more_only refl l) in (grown.0, grown.1 ∙ append_assoc t d grown.0)
+output_first {p = p} {f = f} {t = t} {n = Nest g c b} {o = o} l = text_grows l
+
+pub beginning_at : {p : Program} {f : Base} {a c : Config} {told now : Option (List ℕ)} (new : Option (List ℕ)) → Stands p f a told now c →
+    AppendsBeginning now new (output (step p f c)) → Begins p f a told new
+beginning_at {p = p} {f = f} {c = c} {told = told} {now = now} new s begun = λ o r.
+    let first = output_first (s.back o r) in
+    subst (λ t. AppendsBeginning told new t) (sym first.1)
+    (appends_then_beginning_longer told now new s.text (output (step p f c)) first.0 s.appended begun)
+
+-- the same, in a nested run
+begun_in : {p : Program} {f g : Base} {t : List ℕ} {n : Next} {c : Config} {back : Back} {o : Final} (told now new : Option (List ℕ)) → n ≡ Nest g c back → Appends told now t
+    → Begins p g c now new → Leads p f t n o → AppendsBeginning told new o.text
+begun_in told now new at first begins (over x y) = absurd cc
+begun_in told now new at first begins (more x y) = absurd cc
+begun_in {p = p} {f = f} {g = g} {t = t} {c = c} {o = o} told now new at first begins (nest {g = g2} {c = c2} {e = e2} x y z) =
+    let kg : g2 ≡ g = cc in
+    let kc : c2 ≡ c = cc in
+    let y1 : Leads p g t (step p g c) e2 = subst (λ c. Leads p g t (step p g c) e2) kc (subst (λ g. Leads p g t (step p g c2) e2) kg y) in
+    let inner = alone y1 in
+    let grown = text_grows z in
+    let same : o.text ≡ t ++ (inner.end.text ++ grown.0) =
+        grown.1 ∙ ap (λ u. u ++ grown.0) (ap (λ (x : Final). x.text) inner.same) ∙ append_assoc t inner.end.text grown.0 in
+    subst (λ u. AppendsBeginning told new u) (sym same)
+    (appends_then_beginning_longer told now new t inner.end.text grown.0 first (begins inner.end inner.leads))
+
+pub beginning_in : {p : Program} {f : Base} {a c : Config} {told now : Option (List ℕ)} (entry : Entry) (mid : Config) (at new : Option (List ℕ)) → Stands p f a told now c
+    → Did (Ok (flow.Enter entry)) now at mid (step p f c) → Begins p (base_in entry mid) (start_in entry mid) at new → Begins p f a told new
+beginning_in {p = p} {told = told} {now = now} entry mid at new s did begins = λ o r.
+    begun_in told now new did.0.2 s.appended (subst (λ x. Begins p (base_in entry mid) (start_in entry mid) x new) did.1 begins) (s.back o r)
+
+take-nil : (n : ℕ) → take {A = ℕ} n [] ≡ []
+take-nil zero = refl
+take-nil (suc n) = refl
+
+-- a beginning of no text is no text
+nothing_more : (a b c : Option (List ℕ)) (t : List ℕ) → Appends a b t → AppendsBeginning b c [] → Appends a c t
+nothing_more a b c t first begun =
+    subst (λ w. Appends a c w) (append-nil t) (appends_then a b c t [] first (subst (λ w. Appends b c w) (take-nil begun.0) begun.1))
+
+-- the end of a run that halted
+pub ended_at : {p : Program} {f : Base} {a c : Config} {told now : Option (List ℕ)} (new : Option (List ℕ)) (why : Halt) (w : World) → Stands p f a told now c →
+    HaltsAs why w (λ e. step p f c ≡ Over e) → AppendsBeginning now new (output (step p f c)) → HaltsAs why w (Comes p f a told new)
+ended_at {p = p} {f = f} {a = a} {c = c} {told = told} {now = now} new why w s ends begun = by_halt why ends
+  where
+    comes : (e : End) → step p f c ≡ Over e → Comes p f a told new e
+    comes e at =
+        (s.text, nothing_more told now new s.text s.appended (subst (λ t. AppendsBeginning now new t) (ap output at) begun), s.onward _ (over at refl))
+
+    by_halt : (why : Halt) → HaltsAs why w (λ e. step p f c ≡ Over e) → HaltsAs why w (Comes p f a told new)
+    by_halt halt.Writer ends = tt
+    by_halt halt.Stuck ends = comes (Stuck w) ends
+    by_halt (halt.Fault chain) ends = λ own. comes (Failed chain w) (ends own)
+
+-- the end of a run whose nested run halted
+pub ended_in : {p : Program} {f : Base} {a c : Config} {told now : Option (List ℕ)} (entry : Entry) (mid : Config) (at new : Option (List ℕ)) (why : Halt) (w : World) → Stands p f a told now c
+    → Did (Ok (flow.Enter entry)) now at mid (step p f c) → HaltsAs why w (Comes p (base_in entry mid) (start_in entry mid) at new) → HaltsAs why w (Comes p f a told new)
+ended_in {p = p} {f = f} {a = a} {c = c} {told = told} {now = now} entry mid at new why w s did ends = by_halt why ends
+  where
+    comes : (e : End) → back_to (record { run = mid.run; call = record { callee = whole entry.stream; undo = of_block did.0.0; wrap = None }; value = false }) e ≡ Over e
+        → Comes p (base_in entry mid) (start_in entry mid) at new e → Comes p f a told new e
+    comes e same run = (
+      s.text ++ run.0,
+      appends_then told now new s.text run.0 s.appended (subst (λ o. Appends o new run.0) did.1 run.1),
+      s.onward _ (nest did.0.2 (behind_text (start_in entry mid) s.text run.2) (over same refl)),
+    )
+
+    by_halt : (why : Halt) → HaltsAs why w (Comes p (base_in entry mid) (start_in entry mid) at new) → HaltsAs why w (Comes p f a told new)
+    by_halt halt.Writer ends = tt
+    by_halt halt.Stuck ends = comes (Stuck w) refl ends
+    by_halt (halt.Fault chain) ends = λ own. comes (Failed chain w) refl (ends own)
+
+-- the end of a run that is done
+pub done_at : {p : Program} {f : Base} {a c : Config} {told now : Option (List ℕ)} (d : Config) (new : Option (List ℕ)) → Stands p f a told now c →
+    Did (Ok flow.Done) now new d (step p f c) → Comes p f a told new (Finished d.captures d.world)
+done_at {told = told} d new s did = (s.text, subst (λ t. Appends told t s.text) (sym did.1) s.appended, s.onward _ (over did.0 refl))
+
+-- then the writer has got the whole text
+pub whole_at : {p : Program} {f : Base} {a c : Config} {told now : Option (List ℕ)} (new : Option (List ℕ)) → Stands p f a told now c → new ≡ now → Begins p f a told new
+whole_at {told = told} {now = now} new s same = λ o r.
+    let grown = text_grows (s.back o r) in
+    subst (λ b. AppendsBeginning told b o.text) (sym same) (subst (λ t. AppendsBeginning told now t) (sym grown.1) (appends_beginning told now s.text grown.0 s.appended))

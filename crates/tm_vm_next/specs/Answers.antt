@@ -1,0 +1,107 @@
+-- What the machine's functions answer, beside what the definitions say.
+use Rattle.std.specs.Prelude.{◌≡◌, ◌+◌, ◌<◌, ◌≤◌, ◌^◌, ◌-◌, ℕ, List, [], Option, Some, None, Result, Ok, Err, Bool, true, false}
+use Rattle.std.specs.Io.KnownBytes.{Appends}
+use Rattle.tm_values.specs.Chain.{ends_in_memory}
+use Rattle.tm_syntax.specs.declared.instruction.Instruction.{Instruction}
+use Rattle.tm_semantics.specs.World.{World, Host, depth}
+use Rattle.tm_semantics.specs.Calls.{whole, of_block}
+use Rattle.tm_semantics.specs.Machine.{Activation, Capture, Config, End, Finished, Failed, Stuck, Next, More, Over, Nest, Program, base_of, start}
+use Rattle.tm_semantics.specs.Instructions.{jump_if_true_or_pop_of, jump_if_false_or_pop_of}
+use Rattle.tm_semantics.specs.Steps.{Reaches, final}
+use Rattle.tm_semantics.specs.declared.base.Base.{Base}
+use Rattle.tm_semantics.specs.declared.stream.StreamId.{StreamId}
+use Rattle.tm_output.specs.Counts.{AppendsBeginning}
+use Rattle.tm_parts_next.specs.Halts.{faults_after}
+use Rattle.tm_parts_next.specs.declared.halt.Halt.{Halt}
+use Rattle.tm_parts_next.specs.declared.halt.Halt.TheVariants as halt
+use Rattle.tm_vm_next.specs.State.{saved_of}
+use Rattle.tm_vm_next.specs.declared.flow.Entry.{Entry}
+use Rattle.tm_vm_next.specs.declared.flow.Flow.{Flow}
+use Rattle.tm_vm_next.specs.declared.flow.Flow.TheVariants as flow
+
+-- the environment's meaning and the instructions of its streams
+abbrev pub program : Host → (StreamId → List Instruction) → Program
+program host code = record { host = host; code = code }
+
+-- ---------------------------------------------------------------- ends
+-- The end that a halt is has a property. A halt by the writer, or by want of memory, is no end of the definitions.
+abbrev pub HaltsAs : Halt → World → (End → Type 0) → Type 0
+HaltsAs halt.Writer w Holds = Unit {0}
+HaltsAs halt.Stuck w Holds = Holds (Stuck w)
+HaltsAs (halt.Fault chain) w Holds = ends_in_memory chain ≡ false → Holds (Failed chain w)
+
+-- The end that a run answered has a property.
+abbrev pub EndsAs : Result (Unit {0}) Halt → List Capture → World → (End → Type 0) → Type 0
+EndsAs (Ok _) captures w Holds = Holds (Finished captures w)
+EndsAs (Err why) captures w Holds = HaltsAs why w Holds
+
+-- From here the machine comes to this end, by when the writer has got the text.
+abbrev pub Comes : Program → Base → Config → Option (List ℕ) → Option (List ℕ) → End → Type 0
+Comes p f c told now e = (text : List ℕ) × Appends told now text × Reaches p f [] c (final text e)
+
+-- ---------------------------------------------------------------- steps
+-- what a step writes itself
+abbrev pub output : Next → List ℕ
+output (More t c) = t
+output (Over e) = []
+output (Nest f c back) = []
+
+-- the run that is needed first, where the world before it was b, and the configuration is c
+abbrev pub entered : Entry → World → Config → Next
+entered e b c =
+    Nest (base_of e.heard c.captures c.world) (start (whole e.stream) c.captures c.world)
+    (record { run = c.run; call = record { callee = whole e.stream; undo = of_block b; wrap = None }; value = false })
+
+abbrev pub Enters : Entry → Config → Next → Type 0
+Enters e c n = (b : World) × (e.saved ≡ saved_of b) × (n ≡ entered e b c)
+
+-- A step was done, of which the writer got the text; or it first needs a run of its own; or the run is over by it; or it halted, and the writer got a beginning.
+abbrev pub Did : Result Flow Halt → Option (List ℕ) → Option (List ℕ) → Config → Next → Type 0
+Did (Ok flow.GoOn) told now c n = (n ≡ More (output n) c) × Appends told now (output n)
+Did (Ok flow.Done) told now c n = (n ≡ Over (Finished c.captures c.world)) × (now ≡ told)
+Did (Ok (flow.Enter e)) told now c n = Enters e c n × (now ≡ told)
+Did (Err why) told now c n = HaltsAs why c.world (λ e. n ≡ Over e) × AppendsBeginning told now (output n)
+
+-- What every answer keeps, also where it is a halt.
+pub record Keeps (old new : World) : Type 0 where
+  pub same_id : new.id ≡ old.id
+  pub same_fuel_set : new.fuel_set ≡ old.fuel_set
+  pub no_more_fuel : new.fuel ≤ old.fuel
+
+-- a run of its own stands deeper, within the limit
+abbrev pub IsDeeper : ℕ → Result Flow Halt → World → World → Type 0
+IsDeeper limit (Ok (flow.Enter e)) old new = (depth old.scopes < depth new.scopes) × (depth new.scopes ≤ limit)
+IsDeeper limit _ old new = Unit {0}
+
+-- An instruction, or a step, did what its definition says: by its answer, with the writer that had got `told` and has got `now`, and whose count of faults was `faults` and is `count`.
+pub record Performs (limit : ℕ) (n : Next) (old new : Config) (told now : Option (List ℕ)) (faults count : ℕ) (result : Result Flow Halt) : Type 0 where
+  pub did : Did result told now new n
+  pub counted : count ≡ faults_after result faults
+  pub kept : Keeps old.world new.world
+  pub no_shallower : depth old.world.scopes ≤ depth new.world.scopes
+  pub deeper : IsDeeper limit result old.world new.world
+  pub same_stream : new.run.stream ≡ old.run.stream
+
+-- The same of what writes nothing and needs no run.
+abbrev pub Quietly : Result Flow Halt → Config → Next → Type 0
+Quietly (Ok flow.GoOn) c n = n ≡ More [] c
+Quietly (Ok flow.Done) c n = n ≡ Over (Finished c.captures c.world)
+Quietly (Ok (flow.Enter e)) c n = ⊥
+Quietly (Err halt.Writer) c n = ⊥
+Quietly (Err halt.Stuck) c n = n ≡ Over (Stuck c.world)
+Quietly (Err (halt.Fault chain)) c n = ends_in_memory chain ≡ false → n ≡ Over (Failed chain c.world)
+
+pub record Silently (n : Next) (old new : Config) (result : Result Flow Halt) : Type 0 where
+  pub did : Quietly result new n
+  pub kept : Keeps old.world new.world
+  pub same_depth : depth new.world.scopes ≡ depth old.world.scopes
+  pub same_stream : new.run.stream ≡ old.run.stream
+
+-- a place from which a run can go on
+abbrev pub CanGoOn : Activation → Type 0
+CanGoOn run = run.place < 2 ^ 64 - 1
+
+-- Goes on at a place where the topmost value has this truth, and leaves it there; else pops it.
+abbrev pub jump_or_pop_of : Host → Bool → ℕ → Config → Next
+jump_or_pop_of host true = jump_if_true_or_pop_of host
+jump_or_pop_of host false = jump_if_false_or_pop_of host

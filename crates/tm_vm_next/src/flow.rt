@@ -1,0 +1,39 @@
+//! Where a run goes on behind a step.
+use tm_semantics::StreamId;
+use tm_syntax::Name;
+use tm_values::AutoEscape;
+
+/// What a block's run replaces in the state, and what is put back behind it.
+#[derive(Drop)]
+pub struct Saved {
+    /// The stream that ran.
+    pub stream: StreamId,
+    /// The block that ran.
+    pub block: Option<Name>,
+    /// The escape.
+    pub escape: AutoEscape,
+    /// The depth at which the outermost scope stood.
+    pub outer: usize,
+}
+
+/// A run that an instruction needs before the next.
+#[derive(Drop)]
+pub struct Entry {
+    /// What runs.
+    pub stream: StreamId,
+    /// Whether its text is heard.
+    pub heard: bool,
+    /// What is put back behind it.
+    pub saved: Saved,
+}
+
+/// Where a run goes on behind a step.
+#[derive(Drop)]
+pub enum Flow {
+    /// At its place.
+    GoOn,
+    /// Behind a run that is needed first.
+    Enter(Entry),
+    /// Nowhere: its stream is at the end.
+    Done,
+}

@@ -1,0 +1,42 @@
+//! Numbers of states.
+ghost use Rattle.std.specs.Prelude.{◌≡◌, ◌+◌, ◌-◌, ◌^◌, ◌<◌, [], ◌∷◌, MatchResult};
+
+use std::marker::Model;
+use tm_values::{Error, ErrorKind};
+
+/// A counter that gives each state a number of its own. A contract sees the next number.
+#[derive(Drop)]
+pub struct StateIds {
+    next: u64,
+}
+
+impl Model for StateIds {
+    ghost use Rattle.std.specs.Prelude.{ℕ};
+
+    ghost Value = { ℕ };
+
+    ghost view = { λ a. a.next };
+}
+
+impl StateIds {
+    /// A counter whose next number is 0.
+    pub fn new() -> StateIds
+        ensures { result ≡ 0 }
+    {
+        StateIds { next: 0 }
+    }
+
+    /// The next number, which is never given again. InvalidOperation, and nothing changes, where it is the greatest u64.
+    pub fn next(&mut self) -> Result<u64, Error>
+        ensures { MatchResult result
+            (λ id. (id ≡ self.old) × (id < 2 ^ 64 - 1) × (self.new ≡ self.old + 1))
+            (λ e. (e ≡ ErrorKind.InvalidOperation ∷ []) × (self.old ≡ 2 ^ 64 - 1) × (self.new ≡ self.old)) }
+    {
+        if self.next == u64::MAX {
+            return Err(Error::from(ErrorKind::InvalidOperation));
+        }
+        let id = self.next;
+        self.next += 1;
+        Ok(id)
+    }
+}

@@ -1,0 +1,298 @@
+//! The data of a state.
+ghost use Rattle.std.specs.Prelude.{◌≡◌, ◌+◌, ◌≤◌, ◌<◌, List, [], ◌∷◌, Some, None, false, true, length, nat_lt, OnOk, OnErr, IfErr, IfOk, IfSome, MatchOption, MatchResult};
+ghost use Rattle.tm_values.specs.Answer.{OkOrOutOfMemory, IsLent};
+ghost use Rattle.tm_values.specs.Chain.{ends_in_memory};
+ghost use Rattle.tm_syntax.specs.Named.{find, put_each};
+ghost use Rattle.tm_semantics.specs.World.{depth, fuel_levels, find_name, view_of, name_of, Good, Bad, block_of};
+ghost use Rattle.tm_semantics.specs.Calls.{enter_block, refused};
+ghost use Rattle.tm_semantics.specs.Steps.{pay};
+ghost use Rattle.tm_tmp.specs.Found.{IsFound};
+ghost use Rattle.tm_tmp.specs.Scopes.{PushFails};
+ghost use Rattle.tm_vm_next.specs.Answers.{Keeps};
+ghost use Rattle.tm_vm_next.specs.State.{started, put_back, saved_of, runs_block, IsThere, scoped};
+
+use crate::flow::Saved;
+use sqlite_items::Items;
+use std::alloc::Global;
+use std::marker::Model;
+use std::mem;
+use tm_parts_next::FuelTracker;
+use tm_semantics::{StreamId, TemplateId};
+use tm_syntax::{Instruction, Name, NameMap};
+use tm_tmp::{Context, Frame, Host, View};
+use tm_values::{AutoEscape, Error, ErrorKind, LoopPosition, Records, Value, ValueMap};
+
+/// What a state keeps. A contract sees it as a world of the definitions.
+#[derive(Drop)]
+pub struct StateData<'env> {
+    id: u64,
+    context: Context,
+    temps: NameMap<Value>,
+    blocks: &'env NameMap<Items<Instruction>>,
+    block: Option<Name>,
+    escape: AutoEscape,
+    stream: StreamId,
+    fuel: FuelTracker,
+    fuel_is_set: bool,
+}
+
+impl<'env> Model for StateData<'env> {
+    ghost use Rattle.std.specs.Prelude.{[]};
+    ghost use Rattle.std.specs.Coded.{codes};
+    ghost use Rattle.tm_values.specs.Code.{coded_Val};
+    ghost use Rattle.tm_semantics.specs.World.{World};
+    ghost use Rattle.tm_vm_next.specs.State.{fuel_set_of, layers_of};
+
+    ghost Value = { World };
+
+    ghost coded = { Prim.hlevel (codes, coded_Val) };
+
+    ghost view = { λ s. record { id = s.id; scopes = s.context; namespaces = []; loops = []; closures = []; streams = []; temps = s.temps; blocks = layers_of s.blocks.now; loaded = []; block = s.block; escape = s.escape; stream = s.stream; fuel_set = fuel_set_of s.fuel_is_set s.fuel; fuel = s.fuel.left } };
+}
+
+impl<'env> StateData<'env> {
+    /// The state that a render starts from: one scope over the context value, the blocks of the render's own template, and the fuel, or the greatest u64 where none is set. Fails by OutOfMemory alone.
+    pub fn new(
+        alloc: Global,
+        id: u64,
+        blocks: &'env NameMap<Items<Instruction>>,
+        escape: AutoEscape,
+        fuel: Option<u64>,
+        context: Value,
+    ) -> Result<StateData<'env>, Error>
+        ensures { OkOrOutOfMemory result
+            (λ s. s ≡ started id blocks.entry.now escape fuel context) }
+    {
+        let context = match Context::new_with_frame(alloc, Frame::new(context)) {
+            Ok(context) => context,
+            Err(error) => return Err(error),
+        };
+        Ok(StateData {
+            id,
+            context,
+            temps: NameMap::new(alloc),
+            blocks,
+            block: None,
+            escape,
+            stream: StreamId::root(TemplateId::Own),
+            fuel: FuelTracker::new(fuel.unwrap_or(u64::MAX)),
+            fuel_is_set: fuel.is_some(),
+        })
+    }
+
+    /// The fuel consumed and the fuel left, where fuel was set; together they are what was set.
+    pub fn fuel_levels(&self) -> Option<(u64, u64)>
+        ensures levels { result ≡ fuel_levels self.now }
+        ensures sum { IfSome result (λ p. Some (p.0 + p.1) ≡ self.now.fuel_set) }
+    {
+        if self.fuel_is_set {
+            Some((self.fuel.consumed(), self.fuel.remaining()))
+        } else {
+            None
+        }
+    }
+
+    /// Charges an instruction; OutOfFuel where no more than its charge is left.
+    pub fn charge(&mut self, instruction: &Instruction) -> Result<(), Error>
+        ensures ok { OnOk result (pay instruction.now self.old ≡ Good tt self.new) }
+        ensures err { IfErr result (λ e. (e ≡ ErrorKind.OutOfFuel ∷ [])
+            × (pay instruction.now self.old ≡ Bad e self.new)) }
+        ensures falls { OnOk result (self.new.fuel < self.old.fuel) }
+        ensures kept { Keeps self.old self.new }
+        ensures rest { self.new ≡ record self.old { fuel = self.new.fuel } }
+    {
+        self.fuel.track(instruction)
+    }
+
+    /// What an object of the caller sees of the state.
+    pub fn view<'a, H: Host>(&'a self, host: &'a H) -> View<'a>
+        ensures { result ≡ view_of (H.meaning host.now) self.now }
+    {
+        View::new(
+            self.id,
+            &self.context,
+            host.globals(),
+            &self.temps,
+            host.template_name(&self.stream.template),
+            self.escape,
+            host.undefined_behavior(),
+        )
+    }
+
+    /// The value of a name: of the scopes, an inner one's first, else of the globals. InvalidOperation where a context value on the way can't be known.
+    pub fn lookup<'a, H: Host>(
+        &'a self,
+        host: &'a H,
+        name: &str,
+    ) -> Result<Option<&'a Value>, Error>
+        ensures { IsFound result (find_name (view_of (H.meaning host.now) self.now) name.now) }
+    {
+        match self.context.find(name, self) {
+            Ok(None) => Ok(host.globals().get(name)),
+            found => found,
+        }
+    }
+
+    /// The value that was kept at a name, where there is one.
+    pub fn get_temp(&self, name: &str) -> Option<&Value>
+        ensures { IsLent result (find name.now self.now.temps) }
+    {
+        self.temps.get(name)
+    }
+
+    /// Keeps values by name, one behind the other. Fails by OutOfMemory alone, and then only what is kept has changed.
+    pub fn keep(&mut self, temps: Vec<(Name, Value)>) -> Result<(), Error>
+        ensures ok { OnOk result (self.new.temps ≡ put_each temps.items self.old.temps) }
+        ensures kind { IfErr result (λ e. e ≡ ErrorKind.OutOfMemory ∷ []) }
+        ensures rest { self.new ≡ record self.old { temps = self.new.temps } }
+    {
+        keep_each(&mut self.temps, temps)
+    }
+
+    /// How many scopes there are.
+    pub fn height(&self) -> usize
+        ensures { result ≡ length self.now.scopes.frames }
+    {
+        self.context.height()
+    }
+
+    /// The stream that runs.
+    pub fn stream(&self) -> &StreamId
+        ensures { result.now ≡ self.now.stream }
+    {
+        &self.stream
+    }
+
+    /// How what is emitted is escaped.
+    pub fn escape(&self) -> AutoEscape
+        ensures { result ≡ self.now.escape }
+    {
+        self.escape
+    }
+
+    /// Enters the block of a name, in a scope of its own, and gives its stream and what is put back behind it. UnknownBlock where there is none, InvalidOperation where it is required and nothing fills it, or where its scope would lie deeper than the limit; OutOfMemory where there is no memory. Then the state stays as it was.
+    pub fn enter_block<H: Host>(
+        &mut self,
+        host: &H,
+        name: &Name,
+    ) -> Result<(StreamId, Saved), Error>
+        ensures ok { IfOk result (λ r. (r.0 ≡ block_of TemplateId.Own name.now)
+            × (r.1 ≡ saved_of self.old)
+            × (enter_block (H.meaning host.now) name.now self.old ≡ runs_block name.now self.old self.new)) }
+        ensures deeper { OnOk result ((depth self.old.scopes < depth self.new.scopes)
+            × (depth self.new.scopes ≤ (H.meaning host.now).limit)) }
+        ensures err { IfErr result (λ e. ends_in_memory e ≡ false →
+            enter_block (H.meaning host.now) name.now self.old ≡ refused e self.old) }
+        ensures unchanged { OnErr result (self.new ≡ self.old) }
+        ensures kept { Keeps self.old self.new }
+    {
+        if !self.has_block(name.as_str()) {
+            return Err(Error::from(ErrorKind::UnknownBlock));
+        }
+        let stream = StreamId::block(TemplateId::Own, name.share()?);
+        if host.is_required(&stream) {
+            return Err(Error::from(ErrorKind::InvalidOperation));
+        }
+        let running = StreamId::block(TemplateId::Own, name.share()?);
+        let block = name.share()?;
+        if let Err(error) = self.push_scope(host.recursion_limit()) {
+            return Err(error);
+        }
+        let saved = self.run_block(running, block);
+        Ok((stream, saved))
+    }
+
+    /// Whether the render's own template has a block of this name.
+    fn has_block(&self, name: &str) -> bool
+        ensures { IsThere result (find name.now self.now.blocks) }
+    {
+        self.blocks.get(name).is_some()
+    }
+
+    /// One scope more, over no context. InvalidOperation where it would lie deeper than the limit, OutOfMemory where there is no memory; then the state stays as it was.
+    fn push_scope(&mut self, limit: usize) -> Result<(), Error>
+        ensures ok { OnOk result (self.new ≡ scoped self.old) }
+        ensures fits { OnOk result (nat_lt (depth self.old.scopes) limit ≡ true) }
+        ensures kind { IfErr result (PushFails (nat_lt (depth self.old.scopes) limit)) }
+        ensures err { OnErr result (self.new ≡ self.old) }
+    {
+        self.context.push_frame(Frame::new(Value::undefined()), limit)
+    }
+
+    /// Lets a block run, and gives what that replaces.
+    fn run_block(&mut self, stream: StreamId, block: Name) -> Saved
+        ensures saved { result ≡ saved_of self.old }
+        ensures runs { self.new ≡ record self.old { stream = stream; block = Some block } }
+    {
+        Saved {
+            stream: mem::replace(&mut self.stream, stream),
+            block: mem::replace(&mut self.block, Some(block)),
+            escape: self.escape,
+            outer: self.context.outer(),
+        }
+    }
+
+    /// Leaves the innermost scope, and puts back what a block replaced.
+    pub fn leave_block(&mut self, saved: Saved)
+        ensures { self.new ≡ put_back saved self.old }
+    {
+        let Saved {
+            stream,
+            block,
+            escape,
+            outer,
+        } = saved;
+        self.context.pop_frame();
+        self.context.set_outer(outer);
+        self.stream = stream;
+        self.block = block;
+        self.escape = escape;
+    }
+}
+
+/// Keeps values by name, one behind the other. Fails by OutOfMemory alone.
+fn keep_each(temps: &mut NameMap<Value>, kept: Vec<(Name, Value)>) -> Result<(), Error>
+    ensures ok { OnOk result (temps.new ≡ put_each kept.items temps.old) }
+    ensures kind { IfErr result (λ e. e ≡ ErrorKind.OutOfMemory ∷ []) }
+{
+    for (name, value) in kept {
+        temps.insert(name, value)?;
+    }
+    Ok(())
+}
+
+/// There are no loops and namespaces yet. Each call reads a field, since a proof knows nothing of a state that isn't read.
+impl Records for StateData<'_> {
+    ghost use Rattle.tm_semantics.specs.World.{records_of};
+
+    ghost records = { records_of };
+
+    fn state(&self) -> u64 {
+        self.id
+    }
+
+    fn namespace_count(&self) -> usize {
+        let _state = self.id;
+        0
+    }
+
+    fn namespace(&self, _index: usize) -> Option<&ValueMap> {
+        let _state = self.id;
+        None
+    }
+
+    fn loop_position(&self, _index: usize) -> Option<LoopPosition> {
+        let _state = self.id;
+        None
+    }
+
+    fn previous_item(&self, _index: usize) -> Option<&Value> {
+        let _state = self.id;
+        None
+    }
+
+    fn following_item(&self, _index: usize) -> Option<&Value> {
+        let _state = self.id;
+        None
+    }
+}
