@@ -1,10 +1,13 @@
 -- What the machine's functions answer, beside what the definitions say.
-use Rattle.std.specs.Prelude.{◌≡◌, ◌+◌, ◌<◌, ◌≤◌, ◌^◌, ◌-◌, ℕ, List, [], Option, Some, None, Result, Ok, Err, Bool, true, false}
+use Rattle.std.specs.Prelude.{◌≡◌, ◌+◌, ◌<◌, ◌≤◌, ◌^◌, ◌-◌, ℕ, List, [], length, Option, Some, None, Result, Ok, Err, Bool, true, false}
 use Rattle.std.specs.Io.KnownBytes.{Appends}
 use Rattle.tm_values.specs.Chain.{ends_in_memory}
+use Rattle.tm_values.specs.declared.error.ErrorKind.{ErrorKind}
+use Rattle.tm_syntax.specs.Named.{put_each}
+use Rattle.tm_tmp.specs.Stated.{is_for_memory}
 use Rattle.tm_syntax.specs.declared.instruction.Instruction.{Instruction}
-use Rattle.tm_semantics.specs.World.{World, Host, depth}
-use Rattle.tm_semantics.specs.Calls.{whole, of_block}
+use Rattle.tm_semantics.specs.World.{World, Host, Res, Good, Bad, Stated, depth}
+use Rattle.tm_semantics.specs.Calls.{Asked, refused, replied, whole, of_block}
 use Rattle.tm_semantics.specs.Machine.{Activation, Capture, Config, End, Finished, Failed, Stuck, Next, More, Over, Nest, Program, base_of, start}
 use Rattle.tm_semantics.specs.Instructions.{jump_if_true_or_pop_of, jump_if_false_or_pop_of}
 use Rattle.tm_semantics.specs.Steps.{Reaches, final}
@@ -68,24 +71,46 @@ pub record Keeps (old new : World) : Type 0 where
   pub same_fuel_set : new.fuel_set ≡ old.fuel_set
   pub no_more_fuel : new.fuel ≤ old.fuel
 
--- a run of its own stands deeper, within the limit
-abbrev pub IsDeeper : ℕ → Result Flow Halt → World → World → Type 0
-IsDeeper limit (Ok (flow.Enter e)) old new = (depth old.scopes < depth new.scopes) × (depth new.scopes ≤ limit)
-IsDeeper limit _ old new = Unit {0}
+-- How deep the scopes lie behind a step: as before; or one deeper, within the limit, where a run of its own is needed; and a run that is over has closed what it opened.
+abbrev pub Depths : ℕ → Base → Result Flow Halt → World → World → Type 0
+Depths limit f (Ok flow.GoOn) old new = depth new.scopes ≡ depth old.scopes
+Depths limit f (Ok flow.Done) old new = (depth new.scopes ≡ depth old.scopes) × (f.scopes ≡ length new.scopes.frames)
+Depths limit f (Ok (flow.Enter e)) old new =
+    (length new.scopes.frames ≡ length old.scopes.frames + 1) × (new.scopes.outer ≡ old.scopes.outer) × (e.saved.outer ≡ old.scopes.outer) × (depth new.scopes ≤ limit)
+Depths limit f (Err why) old new = depth new.scopes ≡ depth old.scopes
 
 -- An instruction, or a step, did what its definition says: by its answer, with the writer that had got `told` and has got `now`, and whose count of faults was `faults` and is `count`.
-pub record Performs (limit : ℕ) (n : Next) (old new : Config) (told now : Option (List ℕ)) (faults count : ℕ) (result : Result Flow Halt) : Type 0 where
+pub record Performs (limit : ℕ) (f : Base) (n : Next) (old new : Config) (told now : Option (List ℕ)) (faults count : ℕ) (result : Result Flow Halt) : Type 0 where
   pub did : Did result told now new n
   pub counted : count ≡ faults_after result faults
   pub kept : Keeps old.world new.world
-  pub no_shallower : depth old.world.scopes ≤ depth new.world.scopes
-  pub deeper : IsDeeper limit result old.world new.world
+  pub depths : Depths limit f result old.world new.world
   pub same_stream : new.run.stream ≡ old.run.stream
 
--- The same of what writes nothing and needs no run.
+-- a step is paid for
+abbrev pub Paid : Result Flow Halt → World → World → Type 0
+Paid (Ok flow.GoOn) old new = new.fuel < old.fuel
+Paid (Ok (flow.Enter e)) old new = new.fuel < old.fuel
+Paid _ old new = Unit {0}
+
+-- The same of an instruction that needs no run.
+abbrev pub Wrote : Result Flow Halt → Option (List ℕ) → Option (List ℕ) → Config → Next → Type 0
+Wrote (Ok flow.GoOn) told now c n = (n ≡ More (output n) c) × Appends told now (output n)
+Wrote (Ok flow.Done) told now c n = ⊥
+Wrote (Ok (flow.Enter e)) told now c n = ⊥
+Wrote (Err why) told now c n = HaltsAs why c.world (λ e. n ≡ Over e) × AppendsBeginning told now (output n)
+
+pub record Writes (n : Next) (old new : Config) (told now : Option (List ℕ)) (faults count : ℕ) (result : Result Flow Halt) : Type 0 where
+  pub did : Wrote result told now new n
+  pub counted : count ≡ faults_after result faults
+  pub kept : Keeps old.world new.world
+  pub same_depth : depth new.world.scopes ≡ depth old.world.scopes
+  pub same_stream : new.run.stream ≡ old.run.stream
+
+-- And of one that writes nothing.
 abbrev pub Quietly : Result Flow Halt → Config → Next → Type 0
 Quietly (Ok flow.GoOn) c n = n ≡ More [] c
-Quietly (Ok flow.Done) c n = n ≡ Over (Finished c.captures c.world)
+Quietly (Ok flow.Done) c n = ⊥
 Quietly (Ok (flow.Enter e)) c n = ⊥
 Quietly (Err halt.Writer) c n = ⊥
 Quietly (Err halt.Stuck) c n = n ≡ Over (Stuck c.world)
@@ -97,6 +122,33 @@ pub record Silently (n : Next) (old new : Config) (result : Result Flow Halt) : 
   pub same_depth : depth new.world.scopes ≡ depth old.world.scopes
   pub same_stream : new.run.stream ≡ old.run.stream
 
+-- And of one that may need a run of its own.
+abbrev pub Needed : Result Flow Halt → Config → Next → Type 0
+Needed (Ok flow.GoOn) c n = n ≡ More [] c
+Needed (Ok flow.Done) c n = ⊥
+Needed (Ok (flow.Enter e)) c n = Enters e c n
+Needed (Err halt.Writer) c n = ⊥
+Needed (Err halt.Stuck) c n = n ≡ Over (Stuck c.world)
+Needed (Err (halt.Fault chain)) c n = ends_in_memory chain ≡ false → n ≡ Over (Failed chain c.world)
+
+-- how deep the scopes lie behind an instruction
+abbrev pub Deepens : ℕ → Result Flow Halt → World → World → Type 0
+Deepens limit (Ok (flow.Enter e)) old new =
+    (length new.scopes.frames ≡ length old.scopes.frames + 1) × (new.scopes.outer ≡ old.scopes.outer) × (e.saved.outer ≡ old.scopes.outer) × (depth new.scopes ≤ limit)
+Deepens limit _ old new = depth new.scopes ≡ depth old.scopes
+
+pub record Needs (limit : ℕ) (n : Next) (old new : Config) (result : Result Flow Halt) : Type 0 where
+  pub did : Needed result new n
+  pub kept : Keeps old.world new.world
+  pub deepens : Deepens limit result old.world new.world
+  pub same_stream : new.run.stream ≡ old.run.stream
+
+-- A run is over behind its last instruction, where it has closed what it opened, and else stuck.
+abbrev pub Finishes : Result Flow Halt → Base → Config → Next → Type 0
+Finishes (Ok flow.Done) f c n = (n ≡ Over (Finished c.captures c.world)) × (f.scopes ≡ length c.world.scopes.frames)
+Finishes (Err halt.Stuck) f c n = n ≡ Over (Stuck c.world)
+Finishes _ f c n = ⊥
+
 -- a place from which a run can go on
 abbrev pub CanGoOn : Activation → Type 0
 CanGoOn run = run.place < 2 ^ 64 - 1
@@ -105,3 +157,14 @@ CanGoOn run = run.place < 2 ^ 64 - 1
 abbrev pub jump_or_pop_of : Host → Bool → ℕ → Config → Next
 jump_or_pop_of host true = jump_if_true_or_pop_of host
 jump_or_pop_of host false = jump_if_false_or_pop_of host
+
+-- ---------------------------------------------------------------- emission and calls
+-- A value can be emitted as this text, or it can't be.
+abbrev pub CanBeEmitted : Result (Unit {0}) (List ErrorKind) → Res (List ℕ) → List ℕ → World → Type 0
+CanBeEmitted (Ok _) emitted text w = emitted ≡ Good text w
+CanBeEmitted (Err chain) emitted text w = ends_in_memory chain ≡ false → emitted ≡ Bad chain w
+
+-- What a call comes to: what was answered, with its values kept; or the call is refused.
+abbrev pub Calls : Result Stated (List ErrorKind) → Asked → World → Type 0
+Calls (Ok answer) asked w = is_for_memory answer.reply ≡ false → asked ≡ replied answer.reply (record w { temps = put_each answer.temps w.temps })
+Calls (Err chain) asked w = ends_in_memory chain ≡ false → asked ≡ refused chain w

@@ -1,5 +1,5 @@
 -- A run that an instruction needed, and the machine behind it.
-use Rattle.std.specs.Prelude.{◌≡◌, ℕ, List, [], Option, Result, Ok, Err}
+use Rattle.std.specs.Prelude.{◌≡◌, ℕ, List, [], length, Option, Result, Ok, Err}
 use Rattle.std.specs.Io.KnownBytes.{Appends}
 use Rattle.tm_semantics.specs.World.{World}
 use Rattle.tm_semantics.specs.Calls.{whole}
@@ -26,6 +26,7 @@ pub record Went (p : Program) (e : Entry) (old new : Config) (told now : Option 
   pub world : World
   pub appended : Appends told now text
   pub reaches : Reaches p (base_in e old) [] (start_in e old) (final text (Finished captures world))
+  pub closed : length world.scopes.frames ≡ length old.world.scopes.frames
   pub behind : new ≡ record { run = old.run; captures = captures; world = put_back e.saved world }
 
 -- The run was done, or came to the end that the halt is.

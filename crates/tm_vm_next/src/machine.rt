@@ -2,15 +2,16 @@
 ghost use Rattle.std.specs.Prelude.{◌≡◌, ◌+◌, ◌<◌, ◌≤◌, ℕ, List, [], ◌∷◌, Option, Some, None, Ok, Err, Bool, false, OnOk, IfOk, IfErr, MatchOption, length, drop};
 ghost use Rattle.tm_values.specs.Chain.{ends_in_memory};
 ghost use Rattle.tm_values.specs.Val.{Val};
-ghost use Rattle.tm_semantics.specs.World.{World, Res, Good, Bad, depth};
+ghost use Rattle.tm_semantics.specs.World.{World, records_of, Res, Good, Bad, depth};
 ghost use Rattle.tm_semantics.specs.Calls.{whole};
 ghost use Rattle.tm_semantics.specs.Meaning.{none_waits, truth, not_of, equal_of, attribute};
-ghost use Rattle.tm_semantics.specs.Machine.{Next, audible, base_of, goes, run_from, start, at_place};
+ghost use Rattle.tm_semantics.specs.Machine.{Next, audible, writes, base_of, goes, run_from, start, at_place};
 ghost use Rattle.tm_semantics.specs.Instructions.{emit_raw_of, emit_of, lookup_of, load_const_of, replaces_one, get_attr_of, not_instruction_of, eq_of, jump_of, jump_if_false_of, jump_if_false_or_pop_of, jump_if_true_or_pop_of, call_function_of, call_block_of};
 ghost use Rattle.tm_semantics.specs.Steps.{pay, effect, finish, step};
+ghost use Rattle.tm_printing.specs.Emitted.{emitted_text};
 ghost use Rattle.tm_operations.specs.Truth.{truth_of};
 ghost use Rattle.tm_parts_next.specs.Halts.{faults_after};
-ghost use Rattle.tm_vm_next.specs.Answers.{program, jump_or_pop_of, CanGoOn, Performs, Silently, Keeps, EndsAs, Comes};
+ghost use Rattle.tm_vm_next.specs.Answers.{program, jump_or_pop_of, CanGoOn, Performs, Silently, Writes, Needs, Keeps, EndsAs, Comes};
 ghost use Rattle.tm_vm_next.specs.Nested.{Ran, Begins, base_in, start_in};
 
 use crate::flow::{Entry, Flow};
@@ -23,7 +24,7 @@ use tm_parts_next::{Captures, Halt, Sink, Stack};
 use tm_printing::check_emission;
 use tm_semantics::{Base, StreamId};
 use tm_syntax::{Instruction, Name};
-use tm_tmp::Host;
+use tm_tmp::{Answer, Host, Reply};
 use tm_values::{Error, ErrorKind, Node, UndefinedBehavior, UndefinedUse, Value};
 
 /// What is a run's own: its stream and the place in it, its operands, and how many captures stood when it began.
@@ -329,5 +330,147 @@ impl<'env> Machine<'env> {
         self.run.advance();
         self.run.drop_top();
         Ok(Flow::GoOn)
+    }
+
+    // ------------------------------------------------------------ output
+    /// Writes a text where it is heard.
+    fn write_text<W: Sink>(
+        &mut self,
+        base: &Base,
+        text: &str,
+        writer: &mut W,
+    ) -> Result<Flow, Halt>
+        ensures { Writes (writes base.now text.now self.old) self.old self.new
+            (W.told writer.old) (W.told writer.new)
+            (W.faults writer.old) (W.faults writer.new) result }
+    {
+        if !self.is_audible(base) {
+            return Ok(Flow::GoOn);
+        }
+        match self.captures.write_str(writer, text) {
+            Ok(()) => Ok(Flow::GoOn),
+            Err(halt) => Err(halt),
+        }
+    }
+
+    /// Writes what is emitted for a value, where it is heard.
+    fn write_value<W: Sink>(
+        &mut self,
+        base: &Base,
+        value: &Value,
+        writer: &mut W,
+    ) -> Result<Flow, Halt>
+        ensures { Writes (writes base.now (emitted_text self.old.world.escape
+            (records_of self.old.world) value.now) self.old) self.old self.new
+            (W.told writer.old) (W.told writer.new)
+            (W.faults writer.old) (W.faults writer.new) result }
+    {
+        if !self.is_audible(base) {
+            return Ok(Flow::GoOn);
+        }
+        match self.captures.emit(writer, value, self.state.escape(), &self.state) {
+            Ok(()) => Ok(Flow::GoOn),
+            Err(halt) => Err(halt),
+        }
+    }
+
+    /// Writes a text as it stands.
+    fn do_emit_raw<W: Sink>(
+        &mut self,
+        base: &Base,
+        text: &Name,
+        writer: &mut W,
+    ) -> Result<Flow, Halt>
+        requires { CanGoOn self.old.run }
+        ensures { Writes (emit_raw_of base.now text.now self.old) self.old self.new
+            (W.told writer.old) (W.told writer.new)
+            (W.faults writer.old) (W.faults writer.new) result }
+    {
+        self.run.advance();
+        self.write_text(base, text.as_str(), writer)
+    }
+
+    /// Pops a value and writes what it is emitted as; its error where it can't be.
+    fn do_emit<H: Host, W: Sink>(
+        &mut self,
+        alloc: Global,
+        host: &H,
+        base: &Base,
+        writer: &mut W,
+    ) -> Result<Flow, Halt>
+        requires { CanGoOn self.old.run }
+        ensures { Writes (emit_of (H.meaning host.now) base.now self.old) self.old self.new
+            (W.told writer.old) (W.told writer.new)
+            (W.faults writer.old) (W.faults writer.new) result }
+    {
+        let Some(value) = self.run.pop() else {
+            return Err(Halt::Stuck);
+        };
+        if let Err(error) = self.state.check_value(alloc, host, &value) {
+            return Err(Halt::Fault(error));
+        }
+        self.run.advance();
+        self.write_value(base, &value, writer)
+    }
+
+    // ------------------------------------------------------------ calls
+    /// Replaces so many values by what the function of a name answers to them.
+    fn do_call_function<H: Host>(
+        &mut self,
+        alloc: Global,
+        host: &H,
+        name: &Name,
+        count: usize,
+    ) -> Result<Flow, Halt>
+        requires { CanGoOn self.old.run }
+        ensures { Silently (call_function_of (H.meaning host.now) name.now count self.old)
+            self.old self.new result }
+    {
+        let Some(args) = self.run.operands.args(count) else {
+            return Err(Halt::Stuck);
+        };
+        let answer = match self.state.call(alloc, host, name, args) {
+            Ok(answer) => answer,
+            Err(error) => return Err(Halt::Fault(error)),
+        };
+        let Answer { temps, reply } = answer;
+        if let Err(error) = self.state.keep(temps) {
+            return Err(Halt::Fault(error));
+        }
+        match reply {
+            Reply::Value(value) => {
+                self.run.operands.remove(count);
+                self.push_next(value)
+            }
+            Reply::Fault(error) => Err(Halt::Fault(error)),
+        }
+    }
+
+    /// Runs the block of a name in place, where it is heard and no parent waits.
+    fn do_call_block<H: Host>(
+        &mut self,
+        host: &H,
+        base: &Base,
+        name: &Name,
+    ) -> Result<Flow, Halt>
+        requires { CanGoOn self.old.run }
+        ensures { Needs (H.meaning host.now).limit (call_block_of (H.meaning host.now) base.now name.now self.old)
+            self.old self.new result }
+    {
+        let heard = self.is_audible(base);
+        if !(self.run.none_waits() && heard) {
+            self.run.advance();
+            return Ok(Flow::GoOn);
+        }
+        let (stream, saved) = match self.state.enter_block(host, name) {
+            Ok(entered) => entered,
+            Err(error) => return Err(Halt::Fault(error)),
+        };
+        self.run.advance();
+        Ok(Flow::Enter(Entry {
+            stream,
+            heard,
+            saved,
+        }))
     }
 }

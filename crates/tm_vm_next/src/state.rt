@@ -3,12 +3,13 @@ ghost use Rattle.std.specs.Prelude.{◌≡◌, ◌+◌, ◌≤◌, ◌<◌, List
 ghost use Rattle.tm_values.specs.Answer.{OkOrOutOfMemory, IsLent};
 ghost use Rattle.tm_values.specs.Chain.{ends_in_memory};
 ghost use Rattle.tm_syntax.specs.Named.{find, put_each};
-ghost use Rattle.tm_semantics.specs.World.{depth, fuel_levels, find_name, view_of, name_of, Good, Bad, block_of};
-ghost use Rattle.tm_semantics.specs.Calls.{enter_block, refused};
+ghost use Rattle.tm_semantics.specs.World.{depth, emitted, records_of, fuel_levels, find_name, view_of, name_of, Good, Bad, block_of};
+ghost use Rattle.tm_semantics.specs.Calls.{enter_block, call_named, refused};
 ghost use Rattle.tm_semantics.specs.Steps.{pay};
+ghost use Rattle.tm_printing.specs.Emitted.{emitted_text};
 ghost use Rattle.tm_tmp.specs.Found.{IsFound};
 ghost use Rattle.tm_tmp.specs.Scopes.{PushFails};
-ghost use Rattle.tm_vm_next.specs.Answers.{Keeps};
+ghost use Rattle.tm_vm_next.specs.Answers.{Keeps, CanBeEmitted, Calls};
 ghost use Rattle.tm_vm_next.specs.State.{started, put_back, saved_of, runs_block, IsThere, scoped};
 
 use crate::flow::Saved;
@@ -16,11 +17,15 @@ use sqlite_items::Items;
 use std::alloc::Global;
 use std::marker::Model;
 use std::mem;
+use tm_operations::check_defined;
 use tm_parts_next::FuelTracker;
+use tm_printing::check_emission;
 use tm_semantics::{StreamId, TemplateId};
 use tm_syntax::{Instruction, Name, NameMap};
-use tm_tmp::{Context, Frame, Host, View};
-use tm_values::{AutoEscape, Error, ErrorKind, LoopPosition, Records, Value, ValueMap};
+use tm_tmp::{Answer, Context, Frame, Host, View};
+use tm_values::{
+    AutoEscape, Error, ErrorKind, LoopPosition, Node, Records, UndefinedUse, Value, ValueMap,
+};
 
 /// What a state keeps. A contract sees it as a world of the definitions.
 #[derive(Drop)]
@@ -149,6 +154,47 @@ impl<'env> StateData<'env> {
         keep_each(&mut self.temps, temps)
     }
 
+    /// What the function of a name answers to these arguments. UnknownFunction where the name isn't found, InvalidOperation where its value can't be called or a context value on the way can't be known.
+    pub fn call<H: Host>(
+        &self,
+        alloc: Global,
+        host: &H,
+        name: &Name,
+        args: &[Value],
+    ) -> Result<Answer, Error>
+        ensures { Calls result (call_named (H.meaning host.now) name.now args.now self.now) self.now }
+    {
+        let found = match self.lookup(host, name.as_str()) {
+            Ok(Some(value)) => value,
+            Ok(None) => return Err(Error::from(ErrorKind::UnknownFunction)),
+            Err(error) => return Err(error),
+        };
+        let Node::Function(number) = &found.node else {
+            return Err(Error::from(ErrorKind::InvalidOperation));
+        };
+        let view = self.view(host);
+        match host.call_function(alloc, *number, args, &view) {
+            Some(answer) => Ok(answer),
+            None => Err(Error::from(ErrorKind::InvalidOperation)),
+        }
+    }
+
+    /// Whether a value can be emitted: UndefinedError where it is undefined and the behaviour refuses that, else what the escape refuses.
+    pub fn check_value<H: Host>(
+        &self,
+        alloc: Global,
+        host: &H,
+        value: &Value,
+    ) -> Result<(), Error>
+        ensures { CanBeEmitted result (emitted (H.meaning host.now) value.now self.now)
+            (emitted_text self.now.escape (records_of self.now) value.now) self.now }
+    {
+        if let Err(error) = check_defined(value, host.undefined_behavior(), UndefinedUse::Emission) {
+            return Err(error);
+        }
+        check_emission(alloc, value, self.escape, self)
+    }
+
     /// How many scopes there are.
     pub fn height(&self) -> usize
         ensures { result ≡ length self.now.scopes.frames }
@@ -179,7 +225,9 @@ impl<'env> StateData<'env> {
         ensures ok { IfOk result (λ r. (r.0 ≡ block_of TemplateId.Own name.now)
             × (r.1 ≡ saved_of self.old)
             × (enter_block (H.meaning host.now) name.now self.old ≡ runs_block name.now self.old self.new)) }
-        ensures deeper { OnOk result ((depth self.old.scopes < depth self.new.scopes)
+        ensures deeper { OnOk result
+            ((length self.new.scopes.frames ≡ length self.old.scopes.frames + 1)
+            × (self.new.scopes.outer ≡ self.old.scopes.outer)
             × (depth self.new.scopes ≤ (H.meaning host.now).limit)) }
         ensures err { IfErr result (λ e. ends_in_memory e ≡ false →
             enter_block (H.meaning host.now) name.now self.old ≡ refused e self.old) }
