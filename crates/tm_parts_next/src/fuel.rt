@@ -44,7 +44,8 @@ impl FuelTracker {
         }
     }
 
-    /// Charges an instruction; a free one takes nothing. OutOfFuel, with nothing left, where no more than the charge was left.
+    /// Charges an instruction; a free one takes nothing. OutOfFuel, with nothing left, where no
+    /// more than the charge was left.
     pub fn track(&mut self, instruction: &Instruction) -> Result<(), Error>
         ensures ok { OnOk result
             (charged (charge_of instruction.now) self.old.left ≡ Some self.new.left) }

@@ -1,4 +1,5 @@
-//! Parts of a machine: the fuel that a run is charged, its operands, where its text goes, and why it may stop.
+//! Parts of a machine: the fuel that a run is charged, its operands, where its text goes, and why
+//! it may stop.
 #![tactic(auto)]
 
 mod fuel;

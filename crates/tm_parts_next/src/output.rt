@@ -73,7 +73,8 @@ impl Captures {
         }
     }
 
-    /// Opens a capture without text; where there is no memory, OutOfMemory, and all stays as it was.
+    /// Opens a capture without text; where there is no memory, OutOfMemory, and all stays as it
+    /// was.
     pub fn begin(&mut self, alloc: Global, heard: bool) -> Result<(), Error>
         ensures ok { OnOk result (self.new ≡ new_capture heard ∷ self.old) }
         ensures kind { IfErr result (λ e. e ≡ OutOfMemory ∷ []) }
@@ -95,7 +96,9 @@ impl Captures {
         Some(text)
     }
 
-    /// Puts a text into the innermost capture, and writes it where none is open. `Writer` where the writer fails or takes nothing, OutOfMemory where a capture finds no memory; then the captures stay as they were.
+    /// Puts a text into the innermost capture, and writes it where none is open. `Writer` where the
+    /// writer fails or takes nothing, OutOfMemory where a capture finds no memory; then the
+    /// captures stay as they were.
     pub fn write_str<W: Sink>(&mut self, writer: &mut W, text: &str) -> Result<(), Halt>
         ensures captured { OnOk result (self.new ≡ put_in self.old text.now) }
         ensures written { OnOk result (Appends (W.told writer.old) (W.told writer.new)
@@ -125,7 +128,9 @@ impl Captures {
 }
 
 impl Captures {
-    /// Puts what is emitted for a value into the innermost capture, and writes it where none is open, piece by piece; what `check_emission` refuses is emitted in no form. `Writer` where the writer fails or takes nothing, OutOfMemory where a capture finds no memory.
+    /// Puts what is emitted for a value into the innermost capture, and writes it where none is
+    /// open, piece by piece; what `check_emission` refuses is emitted in no form. `Writer` where
+    /// the writer fails or takes nothing, OutOfMemory where a capture finds no memory.
     pub fn emit<R: Records, W: Sink>(
         &mut self,
         writer: &mut W,
@@ -185,7 +190,8 @@ impl<W: Sink> Output<W> {
         }
     }
 
-    /// Puts a text into the innermost capture, and writes it where none is open; WriteFailure where the writer fails or takes nothing, OutOfMemory where a capture finds no memory.
+    /// Puts a text into the innermost capture, and writes it where none is open; WriteFailure where
+    /// the writer fails or takes nothing, OutOfMemory where a capture finds no memory.
     pub fn write_str(&mut self, text: &str) -> Result<(), Error>
         ensures captured { OnOk result (self.new.captures ≡ put_in self.old.captures text.now) }
         ensures written { OnOk result (Appends (W.told self.old.writer) (W.told self.new.writer)
@@ -238,7 +244,8 @@ impl<W: Sink> WriteWrapper<W> {
         WriteWrapper { w, err: None }
     }
 
-    /// Writes a text; WriteFailure where the writer fails or takes nothing, and its error is kept in `err`.
+    /// Writes a text; WriteFailure where the writer fails or takes nothing, and its error is kept
+    /// in `err`.
     pub fn write_str(&mut self, text: &str) -> Result<(), Error>
         ensures written { OnOk result (Appends (W.told self.old.w) (W.told self.new.w) text.now) }
         ensures no_fault { OnOk result (W.faults self.new.w ≡ W.faults self.old.w) }
@@ -258,7 +265,8 @@ impl<W: Sink> WriteWrapper<W> {
         }
     }
 
-    /// Takes out what `err` holds: WriteFailure without a cause where it held an error, and else the error that was given.
+    /// Takes out what `err` holds: WriteFailure without a cause where it held an error, and else
+    /// the error that was given.
     pub fn take_err(&mut self, original: Error) -> Error
         ensures writer { self.new.w ≡ self.old.w }
         ensures emptied { self.new.err ≡ None }

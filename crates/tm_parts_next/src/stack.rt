@@ -62,7 +62,8 @@ impl Stack {
 
     /// Takes the topmost value, where there is one.
     pub fn pop(&mut self) -> Option<Value>
-        ensures { MatchOption result ((self.old ≡ []) × (self.new ≡ [])) (λ v. self.old ≡ v ∷ self.new) }
+        ensures { MatchOption result ((self.old ≡ []) × (self.new ≡ []))
+            (λ v. self.old ≡ v ∷ self.new) }
     {
         self.values.pop()
     }
