@@ -6,6 +6,8 @@ mod compiled;
 mod context;
 mod host;
 mod objects;
+#[cfg(test)]
+mod tests;
 mod view;
 
 pub use callable::{Answer, Callable, Reply};
