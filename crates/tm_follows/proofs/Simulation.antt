@@ -402,20 +402,20 @@ module _ (p : Program) (trees : Trees) (compiled : IsCompiled trees p) where
   nests_run zero k heard b out w deep within = absurd (omega (arith, deep, within))
   nests_run (suc n) (whole id) heard b out w deep within = stream_runs n id heard b out w deep (nests_run n)
 
-  -- A render's run comes to what its trees mean, from any world, heard by the writer.
-  pub render_runs : (w : World) → Entered p (whole w.stream) true air [] w (rendered p.host trees w)
-  render_runs w =
+  -- A render's run comes to what its trees mean, from any world, heard by the writer or by captures.
+  pub render_runs : (b : Bed) (w : World) → Entered p (whole w.stream) true b [] w (rendered p.host trees w)
+  render_runs b w =
       let e : suc p.host.limit ≡ p.host.limit + 1 = omega arith in
-      let run : Entered p (whole w.stream) true air [] w (nests_of p.host trees (suc p.host.limit) (whole w.stream) true [] w) =
-      stream_runs p.host.limit w.stream true air [] w (omega arith) (nests_run p.host.limit) in
-      subst (λ n. Entered p (whole w.stream) true air [] w (nests_of p.host trees n (whole w.stream) true [] w)) e run
+      let run : Entered p (whole w.stream) true b [] w (nests_of p.host trees (suc p.host.limit) (whole w.stream) true [] w) =
+      stream_runs p.host.limit w.stream true b [] w (omega arith) (nests_run p.host.limit) in
+      subst (λ n. Entered p (whole w.stream) true b [] w (nests_of p.host trees n (whole w.stream) true [] w)) e run
 
 -- ---------------------------------------------------------------- renders
 heard_out : (o : Outcome) → end_of air o ≡ final_of o
 heard_out o = elim o.ending as (λ e. end_by e air o.text o.world ≡ final_by e o.text o.world) [ done ↦ refl | leave ↦ refl | next ↦ refl | fault chain ↦ refl ]
 
 pub comes_to_meaning : (trees : Trees) (p : Program) (w : World) → IsCompiled trees p → Renders p w (final_of (rendered p.host trees w))
-comes_to_meaning trees p w compiled = subst (λ o. Renders p w o) (heard_out (rendered p.host trees w)) (render_runs p trees compiled w)
+comes_to_meaning trees p w compiled = subst (λ o. Renders p w o) (heard_out (rendered p.host trees w)) (render_runs p trees compiled air w)
 
 not_stuck_by : (e : Ending) (t got : List ℕ) (w left : World) → final_by e t w ≡ final got (Stuck left) → ⊥
 not_stuck_by done t got w left e = let ends : Finished [] w ≡ Stuck left = ap (λ (o : Final). o.end) e in absurd (cc)
