@@ -4,7 +4,7 @@ use Rattle.std.proofs.lemmas.Map.Made.{lookup-map_values}
 use Rattle.std.specs.BTreeMap.{is_at}
 use Rattle.tm_syntax.specs.Named.{find, name_cmp}
 use Rattle.tm_syntax.specs.declared.instruction.Instruction.{Instruction}
-use Rattle.tm_tmp.specs.Scopes.{PushFails}
+use Rattle.tm_tables_next.specs.Scopes.{PushFails}
 use Rattle.tm_values.specs.Chain.{ends_in_memory}
 use Rattle.tm_values.specs.Val.{undefined}
 use Rattle.tm_values.specs.declared.error.ErrorKind.{ErrorKind}

@@ -1,8 +1,8 @@
 -- Where the loop stands in a run, and what it answers there.
-use Rattle.std.proofs.Common.{◌≡◌, ◌<◌, ◌≤◌, ℕ, List, [], ◌++◌, take, zero, suc, Option, None, Result, Ok, Err, Bool, false, refl, sym, ◌∙◌, ap, subst, append_assoc, arith}
+use Rattle.std.proofs.Common.{◌≡◌, ◌<◌, ◌≤◌, ◌+◌, ℕ, List, [], ◌∷◌, length, ◌++◌, take, zero, suc, Option, None, Result, Ok, Err, Bool, false, refl, sym, ◌∙◌, ap, subst, append_assoc, arith}
 use Rattle.std.specs.Io.KnownBytes.{Appends}
 use Rattle.std.proofs.lemmas.List.{append-nil}
-use Rattle.tm_semantics.specs.World.{World}
+use Rattle.tm_semantics.specs.World.{World, depth, without_first}
 use Rattle.tm_semantics.specs.Calls.{whole, undone, of_block}
 use Rattle.tm_semantics.specs.Machine.{Capture, Config, End, Finished, Failed, Stuck, Next, More, Over, Nest, Program, Back, back_to, base_of, start}
 use Rattle.tm_semantics.specs.Steps.{step, Final, final, Leads, Reaches, over, more, nest}
@@ -15,7 +15,7 @@ use Rattle.tm_parts_next.specs.declared.halt.Halt.TheVariants as halt
 use Rattle.tm_vm_next.specs.declared.flow.Entry.{Entry}
 use Rattle.tm_vm_next.specs.declared.flow.Flow.{Flow}
 use Rattle.tm_vm_next.specs.declared.flow.Flow.TheVariants as flow
-use Rattle.tm_vm_next.specs.Answers.{Did, Enters, entered, HaltsAs, Comes, Keeps, output}
+use Rattle.tm_vm_next.specs.Answers.{Did, Depths, Enters, entered, HaltsAs, Comes, Keeps, output}
 use Rattle.tm_vm_next.specs.Nested.{Ran, Went, Begins, start_in, base_in}
 use Rattle.tm_vm_next.specs.State.{saved_of, put_back}
 use Rattle.tm_vm_next.specs.declared.flow.Saved.{Saved}
@@ -118,7 +118,7 @@ begun_in {p = p} {f = f} {g = g} {t = t} {c = c} {o = o} told now new at first b
     let inner = alone y1 in
     let grown = text_grows z in
     let same : o.text ≡ t ++ (inner.end.text ++ grown.0) =
-        grown.1 ∙ ap (λ u. u ++ grown.0) (ap (λ (x : Final). x.text) inner.same) ∙ append_assoc t inner.end.text grown.0 in
+    grown.1 ∙ ap (λ u. u ++ grown.0) (ap (λ (x : Final). x.text) inner.same) ∙ append_assoc t inner.end.text grown.0 in
     subst (λ u. AppendsBeginning told new u) (sym same)
     (appends_then_beginning_longer told now new t inner.end.text grown.0 first (begins inner.end inner.leads))
 
@@ -178,3 +178,38 @@ pub whole_at : {p : Program} {f : Base} {a c : Config} {told now : Option (List 
 whole_at {told = told} {now = now} new s same = λ o r.
     let grown = text_grows (s.back o r) in
     subst (λ b. AppendsBeginning told b o.text) (sym same) (subst (λ t. AppendsBeginning told now t) (sym grown.1) (appends_beginning told now s.text grown.0 s.appended))
+
+-- ---------------------------------------------------------------- for the loop
+-- a step over the run's own base
+pub at_base : (p : Program) (old new : Config) (told now : Option (List ℕ)) (r : Result Flow Halt) (f g : Base) → f ≡ g → Did r told now new (step p f old) → Did r told now new (step p g old)
+at_base p old new told now r f g e did = subst (λ x. Did r told now new (step p x old)) e did
+
+short : {A : Type 0} (xs : List A) (n : ℕ) → length xs ≡ n + 1 → length (without_first xs) ≡ n
+short [] n e = absurd (omega (arith, e))
+short (x ∷ xs) n e = omega (arith, e)
+
+put_back_depth : (w : World) (saved : Saved) (n outer : ℕ) → length w.scopes.frames ≡ n + 1 → saved.outer ≡ outer → depth (put_back saved w).scopes ≡ n + outer
+put_back_depth w saved n outer e same = ap (λ k. k + saved.outer) (short w.scopes.frames n e) ∙ ap (λ o. n + o) same
+
+-- behind a nested run the scopes lie as deep as before it
+pub depth_behind : {p : Program} {e : Entry} {mid d : Config} {told now : Option (List ℕ)} (limit : ℕ) (f : Base) (old : World) → Depths limit f (Ok (flow.Enter e)) old mid.world
+    → Went p e mid d told now → depth d.world.scopes ≡ depth old.scopes
+depth_behind {e = e} {d = d} limit f old deep went =
+    ap (λ (c : Config). depth c.world.scopes) went.behind ∙ put_back_depth went.world e.saved (length old.scopes.frames) old.scopes.outer (went.closed ∙ deep.0) deep.2
+
+-- A run that was done over the captures and world of one that waits, which goes on behind it.
+pub went : (p : Program) (e : Entry) (a begun m resumed d : Config) (told now : Option (List ℕ)) → begun ≡ start_in e a
+    → Comes p (base_of e.heard begun.captures begun.world) begun told now (Finished m.captures m.world)
+    → length m.world.scopes.frames ≡ length begun.world.scopes.frames
+    → resumed ≡ record m { run = a.run } → d ≡ record resumed { world = put_back e.saved resumed.world } → Went p e a d told now
+went p e a begun m resumed d told now first comes same_height again back =
+    let from = subst (λ (c : Config). Comes p (base_of e.heard c.captures c.world) c told now (Finished m.captures m.world)) first comes in
+    record {
+      text = from.0;
+      captures = m.captures;
+      world = m.world;
+      appended = from.1;
+      reaches = from.2;
+      closed = same_height ∙ ap (λ (c : Config). length c.world.scopes.frames) first;
+      behind = back ∙ ap (λ (c : Config). record c { world = put_back e.saved c.world }) again;
+    }

@@ -43,8 +43,8 @@ alone_nest {p = p} {f = f} {t = t} {back = back} {e = e} {o = o} at a b =
     record {
       end = behind a.end.text b.end;
       leads = nest at a.leads
-      (subst (λ u. Leads p f u (back_to back a.end.end) (behind a.end.text b.end)) (append-nil a.end.text)
-      (shift a.end.text (subst (λ x. Leads p f [] (back_to back x) b.end) same_end b.leads)));
+          (subst (λ u. Leads p f u (back_to back a.end.end) (behind a.end.text b.end)) (append-nil a.end.text)
+          (shift a.end.text (subst (λ x. Leads p f [] (back_to back x) b.end) same_end b.leads)));
       same = b.same ∙ ap (λ u. behind u b.end) same_text ∙ sym (behind_behind t a.end.text b.end);
     }
 

@@ -4,7 +4,7 @@ use Rattle.std.specs.Io.KnownBytes.{Appends}
 use Rattle.tm_values.specs.Chain.{ends_in_memory}
 use Rattle.tm_values.specs.declared.error.ErrorKind.{ErrorKind}
 use Rattle.tm_syntax.specs.Named.{put_each}
-use Rattle.tm_tmp.specs.Stated.{is_for_memory}
+use Rattle.tm_tables_next.specs.Stated.{is_for_memory}
 use Rattle.tm_syntax.specs.declared.instruction.Instruction.{Instruction}
 use Rattle.tm_semantics.specs.World.{World, Host, Res, Good, Bad, Stated, depth}
 use Rattle.tm_semantics.specs.Calls.{Asked, refused, replied, whole, of_block}

@@ -1,5 +1,5 @@
 //! The machine: a run with its operands, the captures and the state. A method for each instruction, the step, and the loop.
-ghost use Rattle.std.specs.Prelude.{◌≡◌, ◌+◌, ◌<◌, ◌≤◌, ℕ, List, [], ◌∷◌, Option, Some, None, Ok, Err, Bool, false, OnOk, IfOk, IfErr, MatchOption, length, drop};
+ghost use Rattle.std.specs.Prelude.{◌≡◌, ◌+◌, ◌<◌, ◌≤◌, ℕ, List, [], ◌∷◌, Option, Some, None, Ok, Err, Bool, false, OnOk, OnErr, IfOk, IfErr, MatchOption, length, drop};
 ghost use Rattle.tm_values.specs.Chain.{ends_in_memory};
 ghost use Rattle.tm_values.specs.Val.{Val};
 ghost use Rattle.tm_semantics.specs.World.{World, records_of, Res, Good, Bad, depth};
@@ -11,10 +11,11 @@ ghost use Rattle.tm_semantics.specs.Steps.{pay, effect, finish, step};
 ghost use Rattle.tm_printing.specs.Emitted.{emitted_text};
 ghost use Rattle.tm_operations.specs.Truth.{truth_of};
 ghost use Rattle.tm_parts_next.specs.Halts.{faults_after};
-ghost use Rattle.tm_vm_next.specs.Answers.{program, jump_or_pop_of, CanGoOn, Performs, Silently, Writes, Needs, Keeps, EndsAs, Comes};
+ghost use Rattle.tm_vm_next.specs.Answers.{program, jump_or_pop_of, CanGoOn, Performs, Silently, Writes, Needs, Finishes, Paid, Keeps, EndsAs, Comes};
+ghost use Rattle.tm_vm_next.specs.State.{put_back};
 ghost use Rattle.tm_vm_next.specs.Nested.{Ran, Begins, base_in, start_in};
 
-use crate::flow::{Entry, Flow};
+use crate::flow::{Entry, Flow, Saved};
 use crate::state::StateData;
 use std::alloc::Global;
 use std::marker::Model;
@@ -24,7 +25,7 @@ use tm_parts_next::{Captures, Halt, Sink, Stack};
 use tm_printing::check_emission;
 use tm_semantics::{Base, StreamId};
 use tm_syntax::{Instruction, Name};
-use tm_tmp::{Answer, Host, Reply};
+use tm_tables_next::{Answer, Host, Reply};
 use tm_values::{Error, ErrorKind, Node, UndefinedBehavior, UndefinedUse, Value};
 
 /// What is a run's own: its stream and the place in it, its operands, and how many captures stood when it began.
@@ -229,12 +230,7 @@ impl<'env> Machine<'env> {
     }
 
     /// Replaces a value by its attribute of a name.
-    fn do_get_attr<H: Host>(
-        &mut self,
-        alloc: Global,
-        host: &H,
-        name: &Name,
-    ) -> Result<Flow, Halt>
+    fn do_get_attr<H: Host>(&mut self, alloc: Global, host: &H, name: &Name) -> Result<Flow, Halt>
         requires { CanGoOn self.old.run }
         ensures { Silently (get_attr_of (H.meaning host.now) name.now self.old)
             self.old self.new result }
@@ -308,12 +304,7 @@ impl<'env> Machine<'env> {
     }
 
     /// Goes on at a place where the topmost value has this truth, and leaves it there; else pops it.
-    fn jump_or_pop<H: Host>(
-        &mut self,
-        host: &H,
-        place: usize,
-        jumps: bool,
-    ) -> Result<Flow, Halt>
+    fn jump_or_pop<H: Host>(&mut self, host: &H, place: usize, jumps: bool) -> Result<Flow, Halt>
         requires { CanGoOn self.old.run }
         ensures { Silently (jump_or_pop_of (H.meaning host.now) jumps place self.old)
             self.old self.new result }
@@ -334,12 +325,7 @@ impl<'env> Machine<'env> {
 
     // ------------------------------------------------------------ output
     /// Writes a text where it is heard.
-    fn write_text<W: Sink>(
-        &mut self,
-        base: &Base,
-        text: &str,
-        writer: &mut W,
-    ) -> Result<Flow, Halt>
+    fn write_text<W: Sink>(&mut self, base: &Base, text: &str, writer: &mut W) -> Result<Flow, Halt>
         ensures { Writes (writes base.now text.now self.old) self.old self.new
             (W.told writer.old) (W.told writer.new)
             (W.faults writer.old) (W.faults writer.new) result }
@@ -368,7 +354,10 @@ impl<'env> Machine<'env> {
         if !self.is_audible(base) {
             return Ok(Flow::GoOn);
         }
-        match self.captures.emit(writer, value, self.state.escape(), &self.state) {
+        match self
+            .captures
+            .emit(writer, value, self.state.escape(), &self.state)
+        {
             Ok(()) => Ok(Flow::GoOn),
             Err(halt) => Err(halt),
         }
@@ -447,12 +436,7 @@ impl<'env> Machine<'env> {
     }
 
     /// Runs the block of a name in place, where it is heard and no parent waits.
-    fn do_call_block<H: Host>(
-        &mut self,
-        host: &H,
-        base: &Base,
-        name: &Name,
-    ) -> Result<Flow, Halt>
+    fn do_call_block<H: Host>(&mut self, host: &H, base: &Base, name: &Name) -> Result<Flow, Halt>
         requires { CanGoOn self.old.run }
         ensures { Needs (H.meaning host.now).limit (call_block_of (H.meaning host.now) base.now name.now self.old)
             self.old self.new result }
@@ -472,5 +456,206 @@ impl<'env> Machine<'env> {
             heard,
             saved,
         }))
+    }
+
+    // ------------------------------------------------------------ steps
+    /// Does an instruction that was paid for.
+    #[inline(always)]
+    #[tactic(auto, using(crate::proofs::Performed::silent, crate::proofs::Performed::wrote, crate::proofs::Performed::needed))]
+    fn perform<H: Host, W: Sink>(
+        &mut self,
+        alloc: Global,
+        host: &H,
+        base: &Base,
+        instruction: &Instruction,
+        writer: &mut W,
+    ) -> Result<Flow, Halt>
+        requires { CanGoOn self.old.run }
+        ensures { Performs (H.meaning host.now).limit base.now
+            (effect (H.meaning host.now) base.now instruction.now self.old) self.old self.new
+            (W.told writer.old) (W.told writer.new)
+            (W.faults writer.old) (W.faults writer.new) result }
+    {
+        match instruction {
+            Instruction::EmitRaw(text) => self.do_emit_raw(base, text, writer),
+            Instruction::Emit => self.do_emit(alloc, host, base, writer),
+            Instruction::Lookup(name) => self.do_lookup(host, name),
+            Instruction::LoadConst(value) => self.do_load_const(value),
+            Instruction::GetAttr(name) => self.do_get_attr(alloc, host, name),
+            Instruction::Eq => self.do_eq(host),
+            Instruction::Not => self.do_not(host),
+            Instruction::Jump(place) => self.do_jump(*place),
+            Instruction::JumpIfFalse(place) => self.do_jump_if_false(host, *place),
+            Instruction::JumpIfFalseOrPop(place) => self.jump_or_pop(host, *place, false),
+            Instruction::JumpIfTrueOrPop(place) => self.jump_or_pop(host, *place, true),
+            Instruction::CallFunction(name, count) => {
+                self.do_call_function(alloc, host, name, *count)
+            }
+            Instruction::CallBlock(name) => self.do_call_block(host, base, name),
+        }
+    }
+
+    /// The place at which the run stands.
+    fn place(&self) -> usize
+        ensures { result ≡ self.now.run.place }
+    {
+        self.run.place
+    }
+
+    /// Pays for an instruction; OutOfFuel where no more than its charge is left.
+    fn charge(&mut self, instruction: &Instruction) -> Result<(), Error>
+        ensures ok { OnOk result
+            (pay instruction.now self.old.world ≡ Good tt self.new.world) }
+        ensures err { IfErr result (λ e. (e ≡ ErrorKind.OutOfFuel ∷ [])
+            × (pay instruction.now self.old.world ≡ Bad e self.new.world)) }
+        ensures falls { OnOk result (self.new.world.fuel < self.old.world.fuel) }
+        ensures kept { Keeps self.old.world self.new.world }
+        ensures rest { self.new ≡ record self.old {
+          world = record self.old.world { fuel = self.new.world.fuel };
+        } }
+    {
+        self.state.charge(instruction)
+    }
+
+    /// Ends the run behind its last instruction; stuck where it has left something open.
+    fn finish(&self, base: &Base, size: usize) -> Result<Flow, Halt>
+        ensures { Finishes result base.now self.now (finish size base.now self.now) }
+    {
+        if self.run.place == size
+            && base.captures == self.captures.depth()
+            && base.scopes == self.state.height()
+        {
+            return Ok(Flow::Done);
+        }
+        Err(Halt::Stuck)
+    }
+
+    /// Pays for the instruction at the place and does it, and answers where the run goes on.
+    #[inline(always)]
+    fn step<H: Host, W: Sink>(
+        &mut self,
+        alloc: Global,
+        host: &H,
+        base: &Base,
+        code: &[Instruction],
+        writer: &mut W,
+    ) -> Result<Flow, Halt>
+        requires { code.now ≡ H.code host.now self.old.run.stream }
+        ensures performs { Performs (H.meaning host.now).limit base.now
+            (step (program (H.meaning host.now) (H.code host.now)) base.now self.old)
+            self.old self.new (W.told writer.old) (W.told writer.new)
+            (W.faults writer.old) (W.faults writer.new) result }
+        ensures paid { Paid result self.old.world self.new.world }
+    {
+        let Some(instruction) = code.get(self.place()) else {
+            return self.finish(base, code.len());
+        };
+        if let Err(error) = self.charge(instruction) {
+            return Err(Halt::Fault(error));
+        }
+        self.perform(alloc, host, base, instruction, writer)
+    }
+
+    /// Runs a run that is needed first, over the same captures and state, and puts back behind it what it replaced; the run that waits goes on.
+    #[cycle(machine)]
+    fn run_nested<H: Host, W: Sink>(
+        &mut self,
+        alloc: Global,
+        host: &H,
+        entry: Entry,
+        writer: &mut W,
+    ) -> Result<(), Halt>
+        ensures ran { Ran (program (H.meaning host.now) (H.code host.now)) entry self.old self.new
+            (W.told writer.old) (W.told writer.new) result }
+        ensures beginning { Begins (program (H.meaning host.now) (H.code host.now))
+            (base_in entry self.old) (start_in entry self.old)
+            (W.told writer.old) (W.told writer.new) }
+        ensures faults { W.faults writer.new ≡ faults_after result (W.faults writer.old) }
+        ensures kept { Keeps self.old.world self.new.world }
+        ensures no_shallower { OnErr result
+            (depth self.old.world.scopes ≤ depth self.new.world.scopes) }
+        ensures run { self.new.run ≡ self.old.run }
+    {
+        let Entry {
+            stream,
+            heard,
+            saved,
+        } = entry;
+        let waiting = self.begin(alloc, stream);
+        let result = self.run(alloc, host, heard, writer);
+        self.resume(waiting);
+        if let Err(halt) = result {
+            return Err(halt);
+        }
+        self.put_back(saved);
+        Ok(())
+    }
+
+    /// Begins a run of a stream over the same captures and state, and gives the run that waits.
+    fn begin(&mut self, alloc: Global, stream: StreamId) -> Run
+        ensures waits { result ≡ self.old.run }
+        ensures begins { self.new ≡ start (whole stream) self.old.captures self.old.world }
+    {
+        let floor = self.captures.depth();
+        mem::replace(&mut self.run, Run::new(alloc, stream, floor))
+    }
+
+    /// Goes on with a run that waited.
+    fn resume(&mut self, waiting: Run)
+        ensures { self.new ≡ record self.old { run = waiting } }
+    {
+        self.run = waiting;
+    }
+
+    /// Puts back in the state what a block replaced, and leaves its scope.
+    fn put_back(&mut self, saved: Saved)
+        ensures { self.new ≡ record self.old { world = put_back saved self.old.world } }
+    {
+        self.state.leave_block(saved);
+    }
+
+    /// The instructions of the run's stream.
+    fn code<'host, H: Host>(&self, host: &'host H) -> &'host [Instruction]
+        ensures { result.now ≡ H.code host.now self.now.run.stream }
+    {
+        host.instructions(&self.run.stream)
+    }
+
+    /// Runs to the end of the stream; `heard` says whether its text is.
+    #[cycle(machine)]
+    pub fn run<H: Host, W: Sink>(
+        &mut self,
+        alloc: Global,
+        host: &H,
+        heard: bool,
+        writer: &mut W,
+    ) -> Result<(), Halt>
+        ensures ended { EndsAs result self.new.captures self.new.world
+            (Comes (program (H.meaning host.now) (H.code host.now))
+            (base_of heard self.old.captures self.old.world) self.old
+            (W.told writer.old) (W.told writer.new)) }
+        ensures beginning { Begins (program (H.meaning host.now) (H.code host.now))
+            (base_of heard self.old.captures self.old.world) self.old
+            (W.told writer.old) (W.told writer.new) }
+        ensures faults { W.faults writer.new ≡ faults_after result (W.faults writer.old) }
+        ensures kept { Keeps self.old.world self.new.world }
+        ensures no_shallower { depth self.old.world.scopes ≤ depth self.new.world.scopes }
+        ensures closed { OnOk result
+            (length self.new.world.scopes.frames ≡ length self.old.world.scopes.frames) }
+    {
+        let base = self.base(heard);
+        let code = self.code(host);
+        loop {
+            match self.step(alloc, host, &base, code, writer) {
+                Ok(Flow::GoOn) => {}
+                Ok(Flow::Enter(entry)) => {
+                    if let Err(halt) = self.run_nested(alloc, host, entry, writer) {
+                        return Err(halt);
+                    }
+                }
+                Ok(Flow::Done) => return Ok(()),
+                Err(halt) => return Err(halt),
+            }
+        }
     }
 }

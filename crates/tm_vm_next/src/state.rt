@@ -7,8 +7,8 @@ ghost use Rattle.tm_semantics.specs.World.{depth, emitted, records_of, fuel_leve
 ghost use Rattle.tm_semantics.specs.Calls.{enter_block, call_named, refused};
 ghost use Rattle.tm_semantics.specs.Steps.{pay};
 ghost use Rattle.tm_printing.specs.Emitted.{emitted_text};
-ghost use Rattle.tm_tmp.specs.Found.{IsFound};
-ghost use Rattle.tm_tmp.specs.Scopes.{PushFails};
+ghost use Rattle.tm_tables_next.specs.Found.{IsFound};
+ghost use Rattle.tm_tables_next.specs.Scopes.{PushFails};
 ghost use Rattle.tm_vm_next.specs.Answers.{Keeps, CanBeEmitted, Calls};
 ghost use Rattle.tm_vm_next.specs.State.{started, put_back, saved_of, runs_block, IsThere, scoped};
 
@@ -22,7 +22,7 @@ use tm_parts_next::FuelTracker;
 use tm_printing::check_emission;
 use tm_semantics::{StreamId, TemplateId};
 use tm_syntax::{Instruction, Name, NameMap};
-use tm_tmp::{Answer, Context, Frame, Host, View};
+use tm_tables_next::{Answer, Context, Frame, Host, View};
 use tm_values::{
     AutoEscape, Error, ErrorKind, LoopPosition, Node, Records, UndefinedUse, Value, ValueMap,
 };
@@ -180,16 +180,15 @@ impl<'env> StateData<'env> {
     }
 
     /// Whether a value can be emitted: UndefinedError where it is undefined and the behaviour refuses that, else what the escape refuses.
-    pub fn check_value<H: Host>(
-        &self,
-        alloc: Global,
-        host: &H,
-        value: &Value,
-    ) -> Result<(), Error>
+    pub fn check_value<H: Host>(&self, alloc: Global, host: &H, value: &Value) -> Result<(), Error>
         ensures { CanBeEmitted result (emitted (H.meaning host.now) value.now self.now)
             (emitted_text self.now.escape (records_of self.now) value.now) self.now }
     {
-        if let Err(error) = check_defined(value, host.undefined_behavior(), UndefinedUse::Emission) {
+        if let Err(error) = check_defined(
+            value,
+            host.undefined_behavior(),
+            UndefinedUse::Emission,
+        ) {
             return Err(error);
         }
         check_emission(alloc, value, self.escape, self)
@@ -264,7 +263,8 @@ impl<'env> StateData<'env> {
         ensures kind { IfErr result (PushFails (nat_lt (depth self.old.scopes) limit)) }
         ensures err { OnErr result (self.new ≡ self.old) }
     {
-        self.context.push_frame(Frame::new(Value::undefined()), limit)
+        self.context
+            .push_frame(Frame::new(Value::undefined()), limit)
     }
 
     /// Lets a block run, and gives what that replaces.

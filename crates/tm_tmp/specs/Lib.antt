@@ -1,4 +1,0 @@
-pub mod Found
-pub mod Scopes
-pub mod Stated
-pub mod Views
