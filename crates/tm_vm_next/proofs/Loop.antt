@@ -1,10 +1,10 @@
 -- Where the loop stands in a run, and what it answers there.
-use Rattle.std.proofs.Common.{◌≡◌, ◌<◌, ◌≤◌, ◌+◌, ℕ, List, [], ◌∷◌, length, ◌++◌, take, zero, suc, Option, None, Result, Ok, Err, Bool, false, refl, sym, ◌∙◌, ap, subst, append_assoc, arith}
+use Rattle.std.proofs.Common.{◌≡◌, ◌<◌, ◌≤◌, ◌+◌, ℕ, List, [], ◌∷◌, length, ◌++◌, take, zero, suc, Option, None, Result, Ok, Err, Bool, true, false, refl, sym, ◌∙◌, ap, subst, append_assoc, arith}
 use Rattle.std.specs.Io.KnownBytes.{Appends}
 use Rattle.std.proofs.lemmas.List.{append-nil}
-use Rattle.tm_semantics.specs.World.{World, depth, without_first}
+use Rattle.tm_semantics.specs.World.{World, Scope, depth, without_first}
 use Rattle.tm_semantics.specs.Calls.{whole, undone, of_block}
-use Rattle.tm_semantics.specs.Machine.{Capture, Config, End, Finished, Failed, Stuck, Next, More, Over, Nest, Program, Back, back_to, base_of, start}
+use Rattle.tm_semantics.specs.Machine.{Activation, Capture, Config, End, Finished, Failed, Stuck, Next, More, Over, Nest, Program, Back, back_to, back_with, base_of, start}
 use Rattle.tm_semantics.specs.Steps.{step, Final, final, Leads, Reaches, over, more, nest}
 use Rattle.tm_semantics.specs.declared.base.Base.{Base}
 use Rattle.tm_semantics.proofs.Ends.{one_end, text_grows, more_only}
@@ -16,10 +16,10 @@ use Rattle.tm_vm_next.specs.declared.flow.Entry.{Entry}
 use Rattle.tm_vm_next.specs.declared.flow.Flow.{Flow}
 use Rattle.tm_vm_next.specs.declared.flow.Flow.TheVariants as flow
 use Rattle.tm_vm_next.specs.Answers.{Did, Depths, Enters, entered, HaltsAs, Comes, Keeps, output}
-use Rattle.tm_vm_next.specs.Nested.{Ran, Went, Begins, start_in, base_in}
+use Rattle.tm_vm_next.specs.Nested.{Went, EndsIn, Begins, behind, start_in, base_in}
 use Rattle.tm_vm_next.specs.State.{saved_of, put_back}
 use Rattle.tm_vm_next.specs.declared.flow.Saved.{Saved}
-use Rattle.tm_vm_next.proofs.Shift.{behind, Alone, alone, behind_text}
+use Rattle.tm_vm_next.proofs.Shift.{behind as after_text, Alone, alone, behind_text}
 
 pub kept_same : (w : World) → Keeps w w
 kept_same w = record { same_id = refl; same_fuel_set = refl; no_more_fuel = omega arith }
@@ -64,18 +64,15 @@ nest_only {p = p} {f = f} {g = g} {t = t} {c = c} {back = back} {e = e} {o = o} 
     let kc : c2 ≡ c = cc in
     let kb : b2 ≡ back = cc in
     let y1 : Leads p g t (step p g c) e2 = subst (λ c. Leads p g t (step p g c) e2) kc (subst (λ g. Leads p g t (step p g c2) e2) kg y) in
-    let ke : e2 ≡ behind t e = one_end y1 (behind_text c t run) in
+    let ke : e2 ≡ after_text t e = one_end y1 (behind_text c t run) in
     subst (λ (e : Final). Leads p f e.text (back_to back e.end) o) ke (subst (λ b. Leads p f e2.text (back_to b e2.end) o) kb z)
 
--- what is put back behind a block is the world behind it
-undone_is : (b w : World) (saved : Saved) → saved ≡ saved_of b → undone (of_block b) w ≡ put_back saved w
-undone_is b w saved e = sym (ap (λ x. put_back x w) e)
-
--- the run that waited goes on
-goes_behind : (b w : World) (e : Entry) (mid d : Config) (ks : List Capture) → e.saved ≡ saved_of b →
-    d ≡ record { run = mid.run; captures = ks; world = put_back e.saved w } → More [] (record { run = mid.run; captures = ks; world = undone (of_block b) w }) ≡ More [] d
-goes_behind b w e mid d ks saved behind =
-    ap (λ x. More [] x) (ap (λ x. record { run = mid.run; captures = ks; world = x }) (undone_is b w e.saved saved) ∙ sym behind)
+-- what a nested run's end leads to, by what is put back behind it
+behind_is : (e : Entry) (b : World) (r : Activation) (end : End) → e.saved ≡ saved_of b →
+    back_to (record { run = r; call = record { callee = whole e.stream; undo = of_block b; wrap = e.wrap }; value = e.value }) end ≡ behind e r end
+behind_is e b r (Finished ks w) saved = sym (ap (λ x. back_with e.value r ks (put_back x w)) saved)
+behind_is e b r (Failed chain w) saved = refl
+behind_is e b r (Stuck w) saved = refl
 
 -- a nested run that is done, and what follows it
 pub stands_behind : {p : Program} {f : Base} {a c : Config} {told now : Option (List ℕ)} (entry : Entry) (mid d : Config) (at new : Option (List ℕ)) → Stands p f a told now c
@@ -83,7 +80,7 @@ pub stands_behind : {p : Program} {f : Base} {a c : Config} {told now : Option (
 stands_behind {p = p} {f = f} {c = c} {told = told} {now = now} entry mid d at new s did ran =
     let enters = did.0 in
     let b = enters.0 in
-    let goes = goes_behind b ran.world entry mid d ran.captures enters.1 ran.behind in
+    let goes = behind_is entry b mid.run (Finished ran.captures ran.world) enters.1 ∙ ran.goes in
     record {
       text = s.text ++ ran.text;
       appended = appends_then told now new s.text ran.text s.appended (subst (λ o. Appends o new ran.text) did.1 ran.appended);
@@ -152,21 +149,23 @@ ended_at {p = p} {f = f} {a = a} {c = c} {told = told} {now = now} new why w s e
 
 -- the end of a run whose nested run halted
 pub ended_in : {p : Program} {f : Base} {a c : Config} {told now : Option (List ℕ)} (entry : Entry) (mid : Config) (at new : Option (List ℕ)) (why : Halt) (w : World) → Stands p f a told now c
-    → Did (Ok (flow.Enter entry)) now at mid (step p f c) → HaltsAs why w (Comes p (base_in entry mid) (start_in entry mid) at new) → HaltsAs why w (Comes p f a told new)
+    → Did (Ok (flow.Enter entry)) now at mid (step p f c) → HaltsAs why w (EndsIn p entry mid at new) → HaltsAs why w (Comes p f a told new)
 ended_in {p = p} {f = f} {a = a} {c = c} {told = told} {now = now} entry mid at new why w s did ends = by_halt why ends
   where
-    comes : (e : End) → back_to (record { run = mid.run; call = record { callee = whole entry.stream; undo = of_block did.0.0; wrap = None }; value = false }) e ≡ Over e
-        → Comes p (base_in entry mid) (start_in entry mid) at new e → Comes p f a told new e
-    comes e same run = (
-      s.text ++ run.0,
-      appends_then told now new s.text run.0 s.appended (subst (λ o. Appends o new run.0) did.1 run.1),
-      s.onward _ (nest did.0.2 (behind_text (start_in entry mid) s.text run.2) (over same refl)),
-    )
+    comes : (x : End) → EndsIn p entry mid at new x → Comes p f a told new x
+    comes x ended =
+        let run = ended.1 in
+        let enters = did.0 in
+        (
+          s.text ++ run.0,
+          appends_then told now new s.text run.0 s.appended (subst (λ o. Appends o new run.0) did.1 run.1),
+          s.onward _ (nest enters.2 (behind_text (start_in entry mid) s.text run.2) (over (behind_is entry enters.0 mid.run ended.0 enters.1 ∙ ended.2) refl)),
+        )
 
-    by_halt : (why : Halt) → HaltsAs why w (Comes p (base_in entry mid) (start_in entry mid) at new) → HaltsAs why w (Comes p f a told new)
+    by_halt : (why : Halt) → HaltsAs why w (EndsIn p entry mid at new) → HaltsAs why w (Comes p f a told new)
     by_halt halt.Writer ends = tt
-    by_halt halt.Stuck ends = comes (Stuck w) refl ends
-    by_halt (halt.Fault chain) ends = λ own. comes (Failed chain w) refl (ends own)
+    by_halt halt.Stuck ends = comes (Stuck w) ends
+    by_halt (halt.Fault chain) ends = λ own. comes (Failed chain w) (ends own)
 
 -- the end of a run that is done
 pub done_at : {p : Program} {f : Base} {a c : Config} {told now : Option (List ℕ)} (d : Config) (new : Option (List ℕ)) → Stands p f a told now c →
@@ -191,18 +190,32 @@ short (x ∷ xs) n e = omega (arith, e)
 put_back_depth : (w : World) (saved : Saved) (n outer : ℕ) → length w.scopes.frames ≡ n + 1 → saved.outer ≡ outer → depth (put_back saved w).scopes ≡ n + outer
 put_back_depth w saved n outer e same = ap (λ k. k + saved.outer) (short w.scopes.frames n e) ∙ ap (λ o. n + o) same
 
+abbrev world_in : Next → World
+world_in (More t c) = c.world
+world_in (Over (Finished ks w)) = w
+world_in (Over (Failed chain w)) = w
+world_in (Over (Stuck w)) = w
+world_in (Nest f c b) = c.world
+
+back_world : (value : Bool) (r : Activation) (ks : List Capture) (w : World) (d : Config) → back_with value r ks w ≡ More [] d → d.world ≡ w
+back_world false r ks w d e = sym (ap world_in e)
+back_world true r [] w d e = absurd cc
+back_world true r (k ∷ ks) w d e = sym (ap world_in e)
+
 -- behind a nested run the scopes lie as deep as before it
 pub depth_behind : {p : Program} {e : Entry} {mid d : Config} {told now : Option (List ℕ)} (limit : ℕ) (f : Base) (old : World) → Depths limit f (Ok (flow.Enter e)) old mid.world
     → Went p e mid d told now → depth d.world.scopes ≡ depth old.scopes
-depth_behind {e = e} {d = d} limit f old deep went =
-    ap (λ (c : Config). depth c.world.scopes) went.behind ∙ put_back_depth went.world e.saved (length old.scopes.frames) old.scopes.outer (went.closed ∙ deep.0) deep.2
+depth_behind {e = e} {mid = mid} {d = d} limit f old deep went =
+    ap (λ (w : World). depth w.scopes) (back_world e.value mid.run went.captures (put_back e.saved went.world) d went.goes)
+    ∙ put_back_depth went.world e.saved (length old.scopes.frames) old.scopes.outer (went.closed ∙ deep.0) deep.2
 
--- A run that was done over the captures and world of one that waits, which goes on behind it.
-pub went : (p : Program) (e : Entry) (a begun m resumed d : Config) (told now : Option (List ℕ)) → begun ≡ start_in e a
+-- ---------------------------------------------------------------- behind a nested run
+-- a run that was done, and what follows for the one that waited over the same captures and world
+pub went : (p : Program) (e : Entry) (a begun m d : Config) (told now : Option (List ℕ)) → begun ≡ start_in e a
     → Comes p (base_of e.heard begun.captures begun.world) begun told now (Finished m.captures m.world)
     → length m.world.scopes.frames ≡ length begun.world.scopes.frames
-    → resumed ≡ record m { run = a.run } → d ≡ record resumed { world = put_back e.saved resumed.world } → Went p e a d told now
-went p e a begun m resumed d told now first comes same_height again back =
+    → behind e a.run (Finished m.captures m.world) ≡ More [] d → Went p e a d told now
+went p e a begun m d told now first comes same_height goes =
     let from = subst (λ (c : Config). Comes p (base_of e.heard c.captures c.world) c told now (Finished m.captures m.world)) first comes in
     record {
       text = from.0;
@@ -211,5 +224,13 @@ went p e a begun m resumed d told now first comes same_height again back =
       appended = from.1;
       reaches = from.2;
       closed = same_height ∙ ap (λ (c : Config). length c.world.scopes.frames) first;
-      behind = back ∙ ap (λ (c : Config). record c { world = put_back e.saved c.world }) again;
+      goes = goes;
     }
+
+-- behind what was put back, the scopes lie at most one less deep
+pub put_back_deep : (old w : World) (saved : Saved) → saved.outer ≡ old.scopes.outer → length w.scopes.frames ≡ length old.scopes.frames → depth old.scopes ≤ depth (put_back saved w).scopes + 1
+put_back_deep old w saved outer same = by_frames w.scopes.frames same
+  where
+    by_frames : (xs : List Scope) → length xs ≡ length old.scopes.frames → depth old.scopes ≤ length (without_first xs) + saved.outer + 1
+    by_frames [] e = omega (arith, e, outer)
+    by_frames (x ∷ xs) e = omega (arith, e, outer)

@@ -53,7 +53,7 @@ output (Nest f c back) = []
 abbrev pub entered : Entry → World → Config → Next
 entered e b c =
     Nest (base_of e.heard c.captures c.world) (start (whole e.stream) c.captures c.world)
-    (record { run = c.run; call = record { callee = whole e.stream; undo = of_block b; wrap = None }; value = false })
+    (record { run = c.run; call = record { callee = whole e.stream; undo = of_block b; wrap = e.wrap }; value = e.value })
 
 abbrev pub Enters : Entry → Config → Next → Type 0
 Enters e c n = (b : World) × (e.saved ≡ saved_of b) × (n ≡ entered e b c)

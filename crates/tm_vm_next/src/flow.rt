@@ -1,7 +1,7 @@
 //! Where a run goes on behind a step.
 use tm_semantics::StreamId;
 use tm_syntax::Name;
-use tm_values::AutoEscape;
+use tm_values::{AutoEscape, ErrorKind};
 
 /// What a block's run replaces in the state, and what is put back behind it.
 #[derive(Drop)]
@@ -23,6 +23,10 @@ pub struct Entry {
     pub stream: StreamId,
     /// Whether its text is heard.
     pub heard: bool,
+    /// Whether its text is a value, which waits in the innermost capture, and not put where the run that waits is heard.
+    pub value: bool,
+    /// The kind that is put before its fault, if one is.
+    pub wrap: Option<ErrorKind>,
     /// What is put back behind it.
     pub saved: Saved,
 }

@@ -13,7 +13,7 @@ ghost use Rattle.tm_operations.specs.Truth.{truth_of};
 ghost use Rattle.tm_parts_next.specs.Halts.{faults_after};
 ghost use Rattle.tm_vm_next.specs.Answers.{program, jump_or_pop_of, CanGoOn, Performs, Silently, Writes, Needs, Finishes, Paid, Keeps, EndsAs, Comes};
 ghost use Rattle.tm_vm_next.specs.State.{put_back};
-ghost use Rattle.tm_vm_next.specs.Nested.{Ran, Begins, base_in, start_in};
+ghost use Rattle.tm_vm_next.specs.Nested.{Ran, Begins, IsWrapped, IsCaptured, base_in, start_in};
 
 use crate::flow::{Entry, Flow, Saved};
 use crate::state::StateData;
@@ -26,7 +26,7 @@ use tm_printing::check_emission;
 use tm_semantics::{Base, StreamId};
 use tm_syntax::{Instruction, Name};
 use tm_tables_next::{Answer, Host, Reply};
-use tm_values::{Error, ErrorKind, Node, UndefinedBehavior, UndefinedUse, Value};
+use tm_values::{AutoEscape, Error, ErrorKind, UndefinedBehavior, Value};
 
 /// What is a run's own: its stream and the place in it, its operands, and how many captures stood when it began.
 #[derive(Drop)]
@@ -119,6 +119,25 @@ impl Run {
             (λ v. self.old ≡ record self.new { operands = v ∷ self.new.operands }) }
     {
         self.operands.pop()
+    }
+}
+
+/// A halt of a nested run, as it is told: a fault is wrapped in the kind, where there is one.
+#[cold]
+#[inline(never)]
+fn wrapped(alloc: Global, wrap: Option<ErrorKind>, halt: Halt) -> Halt
+    ensures { IsWrapped wrap halt result }
+{
+    let Some(kind) = wrap else {
+        return halt;
+    };
+    match halt {
+        Halt::Fault(cause) => match Error::from(kind).with_source(alloc, cause) {
+            Ok(error) => Halt::Fault(error),
+            Err(error) => Halt::Fault(error),
+        },
+        Halt::Writer => Halt::Writer,
+        Halt::Stuck => Halt::Stuck,
     }
 }
 
@@ -454,6 +473,8 @@ impl<'env> Machine<'env> {
         Ok(Flow::Enter(Entry {
             stream,
             heard,
+            value: false,
+            wrap: None,
             saved,
         }))
     }
@@ -565,6 +586,7 @@ impl<'env> Machine<'env> {
         entry: Entry,
         writer: &mut W,
     ) -> Result<(), Halt>
+        requires { entry.saved.outer ≡ self.old.world.scopes.outer }
         ensures ran { Ran (program (H.meaning host.now) (H.code host.now)) entry self.old self.new
             (W.told writer.old) (W.told writer.new) result }
         ensures beginning { Begins (program (H.meaning host.now) (H.code host.now))
@@ -572,23 +594,50 @@ impl<'env> Machine<'env> {
             (W.told writer.old) (W.told writer.new) }
         ensures faults { W.faults writer.new ≡ faults_after result (W.faults writer.old) }
         ensures kept { Keeps self.old.world self.new.world }
-        ensures no_shallower { OnErr result
-            (depth self.old.world.scopes ≤ depth self.new.world.scopes) }
-        ensures run { self.new.run ≡ self.old.run }
+        ensures deep { OnErr result
+            (depth self.old.world.scopes ≤ depth self.new.world.scopes + 1) }
+        ensures same_stream { self.new.run.stream ≡ self.old.run.stream }
     {
         let Entry {
             stream,
             heard,
+            value,
+            wrap,
             saved,
         } = entry;
         let waiting = self.begin(alloc, stream);
         let result = self.run(alloc, host, heard, writer);
         self.resume(waiting);
         if let Err(halt) = result {
-            return Err(halt);
+            return Err(wrapped(alloc, wrap, halt));
         }
         self.put_back(saved);
+        if value {
+            return self.push_captured(alloc);
+        }
         Ok(())
+    }
+
+    /// Puts the innermost capture's text on top, safe where the state escapes; stuck where no capture is open.
+    fn push_captured(&mut self, alloc: Global) -> Result<(), Halt>
+        ensures captured { IsCaptured result self.old self.new }
+        ensures same_world { self.new.world ≡ self.old.world }
+        ensures same_stream { self.new.run.stream ≡ self.old.run.stream }
+    {
+        let Some(text) = self.captures.end() else {
+            return Err(Halt::Stuck);
+        };
+        let value = match self.state.escape() {
+            AutoEscape::None => Value::text(alloc, text.as_str()),
+            _ => Value::safe_text(alloc, text.as_str()),
+        };
+        match value {
+            Ok(value) => match self.run.push(value) {
+                Ok(()) => Ok(()),
+                Err(error) => Err(Halt::Fault(error)),
+            },
+            Err(error) => Err(Halt::Fault(error)),
+        }
     }
 
     /// Begins a run of a stream over the same captures and state, and gives the run that waits.

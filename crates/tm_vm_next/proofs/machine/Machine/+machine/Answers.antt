@@ -52,7 +52,7 @@ run-loop-entry-preserved g t c =
       faults = c.in_default.ensures.faults ∙ step.counted ∙ c.loop-entry.invariant.faults;
       kept = kept_then c.loop-entry.invariant.kept (kept_then step.kept c.in_default.ensures.kept);
       no_shallower = omega (arith, far, c.loop-entry.invariant.no_shallower);
-      same_stream = ap (λ r. r.stream) c.in_default.ensures.run ∙ step.same_stream ∙ c.loop-entry.invariant.same_stream;
+      same_stream = c.in_default.ensures.same_stream ∙ step.same_stream ∙ c.loop-entry.invariant.same_stream;
       stands = stands_behind e c.step.new.self c.run_nested.new.self at new c.loop-entry.invariant.stands did went;
     }
 
@@ -113,10 +113,3 @@ run-returns-in-Err-clause-beginning g t c =
     let did = at_base p c.loop-entry.self c.step.new.self now new (Err c.in-Err.halt) c.base-base.result (base_of c.args.heard a.captures a.world) c.base-base.ensures c.in-Err.ensures.performs.did in
     beginning_at new c.loop-entry.invariant.stands did.1
 
-pub run_nested-returns-clause-ran : goal.run_nested-returns-clause-ran
-run_nested-returns-clause-ran g t c =
-    let p = program (g.H.Host.meaning c.args.host.now) (g.H.Host.code c.args.host.now) in
-    let m = c.run-result.new.self in
-    went p c.args.entry c.args.self.now c.begin-waiting.new.self m c.resume.new.self c.put_back.new.self (g.W.Sink.told c.args.writer.now) (g.W.Sink.told c.run-result.new.writer)
-    c.begin-waiting.ensures.begins c.in_default.ensures.ended c.in_default.ensures.closed
-    (c.resume.ensures ∙ ap (λ r. record m { run = r }) c.begin-waiting.ensures.waits) c.put_back.ensures
