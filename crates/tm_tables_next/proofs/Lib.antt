@@ -1,2 +1,3 @@
 pub mod Named
+mod Places
 pub mod Streams

@@ -6,6 +6,7 @@ mod compiled;
 mod context;
 mod host;
 mod objects;
+mod templates;
 #[cfg(test)]
 mod tests;
 mod view;
@@ -15,4 +16,5 @@ pub use compiled::{CompiledTemplate, Source, TemplateConfig};
 pub use context::{Context, Frame};
 pub use host::Host;
 pub use objects::{Objects, Parties};
+pub use templates::Templates;
 pub use view::View;
