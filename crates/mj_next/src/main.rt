@@ -1,0 +1,62 @@
+//! The command line of template machine: a file is rendered to standard output.
+#![tactic(auto)]
+
+mod arguments;
+mod render;
+mod run;
+mod tell;
+#[cfg(test)]
+mod tests;
+
+use arguments::Refusal;
+use run::{Texts, run};
+use std::io::{self, BufWriter, Read};
+use std::process::ExitCode;
+use std::{env, fs};
+use tell::tell_refusal;
+use template_machine_next::Counted;
+
+/// The files of the system, and its standard input.
+#[derive(Drop)]
+struct Files<'a> {
+    rt: &'a HostRuntime,
+}
+
+impl Texts for Files<'_> {
+    fn file(&mut self, path: &str) -> io::Result<Vec<u8>> {
+        fs::read(self.rt, path)
+    }
+
+    fn standard_input(&mut self) -> io::Result<Vec<u8>> {
+        let mut bytes = Vec::new(self.rt.alloc());
+        self.rt.stdin().read_to_end(&mut bytes)?;
+        Ok(bytes)
+    }
+}
+
+fn main(rt: HostRuntime) -> ExitCode {
+    ExitCode::from(status(&rt))
+}
+
+/// Gathers the words and the streams, and runs the program over them.
+fn status(rt: &HostRuntime) -> u8 {
+    let alloc = rt.alloc();
+    let mut err = Counted::new(rt.stderr());
+    let words = match words(rt) {
+        Ok(words) => words,
+        Err(error) => return tell_refusal(&mut err, Refusal::of_read(&error)),
+    };
+    // Each piece of a render would else be a call of the system.
+    let mut out = match BufWriter::new(alloc, rt.stdout()) {
+        Ok(out) => Counted::new(out),
+        Err(error) => return tell_refusal(&mut err, Refusal::of_read(&error)),
+    };
+    run(alloc, &words, &mut Files { rt }, &mut out, &mut err)
+}
+
+/// The words after the program's name.
+fn words(rt: &HostRuntime) -> io::Result<Vec<String>> {
+    let mut words = env::args(rt)?;
+    words.next();
+    Ok(words.collect(rt.alloc())?)
+}

@@ -1,0 +1,63 @@
+//! The render that the words ask for.
+ghost use Rattle.std.specs.Prelude.{◌≡◌, [], ◌∷◌, map, MatchResult};
+ghost use Rattle.mj_next.specs.CommandLine.{asked_of, plain};
+ghost use Rattle.mj_next.specs.Program.{context_of, IsRendered, IsFault};
+
+use crate::arguments::Arguments;
+use std::alloc::Global;
+use std::io::Write;
+use template_machine_next::{Counted, Environment, Error, ErrorKind, StateIds, Value, ValueMap};
+
+/// Renders the source and flushes, also after a render that failed, whose error is the one that
+/// counts. SyntaxError where the source spells no template, WriteFailure where a write or the flush
+/// fails, OutOfMemory where there is no memory; else the fault that was meant.
+pub fn render<O: Write + Drop>(
+    alloc: Global,
+    arguments: &Arguments<'_>,
+    source: &str,
+    out: &mut Counted<O>,
+) -> Result<(), Error>
+    ensures { MatchResult result
+        (λ _. IsRendered O.contents (asked_of arguments.now) source.now out.old out.new)
+        (λ e. IsFault O.contents (asked_of arguments.now) source.now e out.old out.new) }
+{
+    let rendered = render_unflushed(alloc, arguments, source, out);
+    let flushed = out.flush();
+    rendered?;
+    match flushed {
+        Ok(()) => Ok(()),
+        Err(_error) => Err(Error::from(ErrorKind::WriteFailure)),
+    }
+}
+
+/// Renders the source, whose end may still be in a buffer of the writer.
+fn render_unflushed<O: Write + Drop>(
+    alloc: Global,
+    arguments: &Arguments<'_>,
+    source: &str,
+    out: &mut Counted<O>,
+) -> Result<(), Error>
+    ensures { MatchResult result
+        (λ _. IsRendered O.contents (asked_of arguments.now) source.now out.old out.new)
+        (λ e. IsFault O.contents (asked_of arguments.now) source.now e out.old out.new) }
+{
+    let mut environment = Environment::new(alloc)?;
+    environment.set_fuel(arguments.fuel);
+    environment.add_template(arguments.file, source)?;
+    let template = environment.get_template(arguments.file)?;
+    let context = context(alloc, arguments.texts.as_slice())?;
+    template.render_captured_to(&mut StateIds::new(), context, out)?;
+    Ok(())
+}
+
+/// The map of the names to their texts. Fails by OutOfMemory alone.
+fn context(alloc: Global, texts: &[(&str, &str)]) -> Result<Value, Error>
+    ensures { MatchResult result (λ v. v ≡ context_of (map plain texts.now))
+        (λ e. e ≡ ErrorKind.OutOfMemory ∷ []) }
+{
+    let mut pairs = Vec::with_capacity(alloc, texts.len())?;
+    for (name, text) in texts {
+        pairs.push((Value::text(alloc, name)?, Value::text(alloc, text)?))?;
+    }
+    Value::from_map(alloc, ValueMap::from_pairs(pairs)?)
+}

@@ -1,0 +1,477 @@
+//! What no clause says: which words serve, what is read and written, and how faults are told.
+
+use crate::run::{Texts, run};
+use std::alloc::Global;
+use std::io::{self, Write};
+use std::process::Abort;
+use std::test::Fail;
+use template_machine_next::Counted;
+
+const USAGE_LINE: &str = "usage: mj [-D name=text].. [--json FILE] [--fuel N] [--limit N] FILE..\n";
+
+// The texts of examples/, which a test can't open: examples/check.sh compares the files.
+const MAIL: &str = "From: {{ sender }}
+To: {{ recipient }}
+Subject: Your order {{ order }}
+
+Dear {{ recipient_name }},
+
+thank you for your order {{ order }} of {{ date }}.
+It was handed to {{ carrier }} today, and its number there is {{ parcel }}.
+
+With kind regards
+{{ sender_name }}
+";
+
+const MAIL_NAMES: &str = "sender=shop@example.org
+recipient=ada@example.org
+recipient_name=Ada
+order=2024-117
+date=3 May
+carrier=Parcel & Sons
+parcel=JD0146=9
+sender_name=The shop
+";
+
+const MAIL_EXPECTED: &str = "From: shop@example.org
+To: ada@example.org
+Subject: Your order 2024-117
+
+Dear Ada,
+
+thank you for your order 2024-117 of 3 May.
+It was handed to Parcel & Sons today, and its number there is JD0146=9.
+
+With kind regards
+The shop";
+
+const SERVER: &str = "# {{ name }}: made from a template, so change that
+listen      {{ address }}:{{ port }};
+server_name {{ name }};
+root        {{ root }};
+
+location /api/ {
+    proxy_pass {{ upstream }};
+}
+
+# braces alone are text: { { } } and a lone }}
+log_format short '{\"host\": \"{{name}}\", \"at\": \"$time\"}';
+access_log  {{root}}/{{name}}.log short;
+";
+
+const SERVER_NAMES: &str = "name=docs.example.org
+address=127.0.0.1
+port=8080
+root=/srv/docs
+upstream=http://10.0.0.5:9000/?a=1
+";
+
+const SERVER_EXPECTED: &str = "# docs.example.org: made from a template, so change that
+listen      127.0.0.1:8080;
+server_name docs.example.org;
+root        /srv/docs;
+
+location /api/ {
+    proxy_pass http://10.0.0.5:9000/?a=1;
+}
+
+# braces alone are text: { { } } and a lone }}
+log_format short '{\"host\": \"docs.example.org\", \"at\": \"$time\"}';
+access_log  /srv/docs/docs.example.org.log short;";
+
+const PAGE: &str = "<!DOCTYPE html>
+<html lang=\"{{ language }}\">
+  <head>
+    <meta charset=\"utf-8\">
+    <title>{{ title }}</title>
+    <style>body { margin: 2em }</style>
+  </head>
+  <body>
+    <h1>{{ title }}</h1>
+    <p>{{ greeting }}</p>
+    <p class=\"{{ missing }}\">{{ missing }}</p>
+    <footer>© {{ year }} {{ owner }}</footer>
+  </body>
+</html>
+";
+
+const PAGE_NAMES: &str = "language=de
+title=Grüße aus Zürich
+greeting=Schön, dass Sie da sind.
+year=2024
+owner=Müller & Töchter
+";
+
+const PAGE_EXPECTED: &str = "<!DOCTYPE html>
+<html lang=\"de\">
+  <head>
+    <meta charset=\"utf-8\">
+    <title>Grüße aus Zürich</title>
+    <style>body { margin: 2em }</style>
+  </head>
+  <body>
+    <h1>Grüße aus Zürich</h1>
+    <p>Schön, dass Sie da sind.</p>
+    <p class=\"\"></p>
+    <footer>© 2024 Müller & Töchter</footer>
+  </body>
+</html>";
+
+const NOTICE: &str = "{# A notice of a parcel. Where no recipient is named,
+   it goes to the customer. #}Parcel {{ parcel }}{% if service == 'express' %}, express{% endif %}
+
+Dear {{ recipient or 'customer' }},
+
+{% if neighbour %}it was left with {{ neighbour }}.{% elif shop and not held
+%}it waits for you at {{ shop }}.{% else %}we could not deliver it.{% endif %}
+{% block foot %}
+With kind regards
+{{ carrier }}
+{% endblock foot %}
+";
+
+const NOTICE_NAMES: &str = "parcel=JD0146
+service=express
+neighbour=
+shop=Corner & Co
+carrier=Parcel & Sons
+";
+
+const NOTICE_EXPECTED: &str = "Parcel JD0146, express
+
+Dear customer,
+
+it waits for you at Corner & Co.
+
+With kind regards
+Parcel & Sons
+";
+
+/// A few files and a standard input, and how often one of them was read.
+#[derive(Drop)]
+struct Shelf {
+    alloc: Global,
+    reads: u64,
+}
+
+impl Shelf {
+    fn new(alloc: Global) -> Shelf {
+        Shelf { alloc, reads: 0 }
+    }
+}
+
+impl Texts for Shelf {
+    fn file(&mut self, path: &str) -> io::Result<Vec<u8>> {
+        self.reads = self.reads.saturating_add(1);
+        let bytes: &[u8] = match path {
+            "hello.txt" => b"Hello {{ name }}!\n",
+            "tag.txt" => b"a{% x %}",
+            "call.txt" => b"a{{ nope() }}b",
+            "bytes.bin" => b"\xff\xfe",
+            "-x" => b"never read",
+            "vast.txt" => return Err(io::Error::from(io::ErrorKind::OutOfMemory)),
+            "mail.txt" => MAIL.as_bytes(),
+            "server.conf" => SERVER.as_bytes(),
+            "page.html" => PAGE.as_bytes(),
+            "notice.txt" => NOTICE.as_bytes(),
+            _ => return Err(io::Error::from(io::ErrorKind::NotFound)),
+        };
+        Ok(bytes.to_vec(self.alloc)?)
+    }
+
+    fn standard_input(&mut self) -> io::Result<Vec<u8>> {
+        self.reads = self.reads.saturating_add(1);
+        let bytes: &[u8] = b"Hello {{ name }}!";
+        Ok(bytes.to_vec(self.alloc)?)
+    }
+}
+
+/// A writer that fails on demand, and counts its flushes.
+#[derive(Drop)]
+struct Page {
+    bytes: Vec<u8>,
+    flushes: u64,
+    room: usize,
+    flush_fails: bool,
+}
+
+impl Page {
+    fn new(alloc: Global) -> Page {
+        Page {
+            bytes: Vec::new(alloc),
+            flushes: 0,
+            room: 1000,
+            flush_fails: false,
+        }
+    }
+}
+
+impl Write for Page {
+    fn write(&mut self, bytes: &[u8]) -> io::Result<usize> {
+        let taken = bytes.len().min(self.room);
+        if taken == 0 {
+            return Err(io::Error::from(io::ErrorKind::StorageFull));
+        }
+        self.bytes.extend_from_slice(&bytes[..taken])?;
+        self.room -= taken;
+        Ok(taken)
+    }
+
+    fn flush(&mut self) -> io::Result<()> {
+        self.flushes = self.flushes.saturating_add(1);
+        if self.flush_fails {
+            return Err(io::Error::from(io::ErrorKind::StorageFull));
+        }
+        Ok(())
+    }
+}
+
+/// What a run answers: its status, what is written and told, and how often is read and flushed.
+#[derive(Clone, Copy)]
+struct Answer {
+    status: u8,
+    written: &'static str,
+    told: &'static str,
+    reads: u64,
+    flushes: u64,
+}
+
+/// The words of a run.
+type Words = &'static [&'static str];
+
+/// Nothing is read or written for words that ask for nothing.
+static NOTHING_READ: Answer = Answer {
+    status: 2,
+    written: "",
+    told: USAGE_LINE,
+    reads: 0,
+    flushes: 0,
+};
+
+/// A file that gives no text.
+static NO_TEXT: Answer = Answer {
+    status: 2,
+    written: "",
+    told: USAGE_LINE,
+    reads: 1,
+    flushes: 0,
+};
+
+/// The words one by one, each a text of its own.
+fn owned(alloc: Global, words: &[&str]) -> Result<Vec<String>, Fail> {
+    let mut owned = Vec::new(alloc);
+    for word in words {
+        owned.push(String::from_str(alloc, word)?)?;
+    }
+    Ok(owned)
+}
+
+/// Runs the program over these words, onto this page, and compares what it answers.
+fn expect(rt: &impl Abort, page: Page, words: &[&str], wanted: &Answer) -> Result<(), Fail> {
+    let alloc = *page.bytes.allocator();
+    let mut out = Counted::new(page);
+    let mut err = Counted::new(Vec::<u8>::new(alloc));
+    let mut shelf = Shelf::new(alloc);
+    let owned = owned(alloc, words)?;
+    let status = run(alloc, owned.as_slice(), &mut shelf, &mut out, &mut err);
+    let told = std::str::from_utf8(err.inner().as_slice())?;
+    assert_eq!(rt; told, wanted.told, "told of {words:?}");
+    assert_eq!(rt; status, wanted.status, "status of {words:?}");
+    let page = out.inner();
+    let written = std::str::from_utf8(page.bytes.as_slice())?;
+    assert_eq!(rt; written, wanted.written, "written of {words:?}");
+    assert_eq!(rt; shelf.reads, wanted.reads, "reads of {words:?}");
+    assert_eq!(rt; page.flushes, wanted.flushes, "flushes of {words:?}");
+    Ok(())
+}
+
+static SERVE: [(Words, &str); 9] = [
+    (&["-D", "name=World", "-"], "Hello World!"),
+    (&["-D", "name=World", "hello.txt"], "Hello World!"),
+    (
+        &["--fuel", "5", "-D", "name=World", "hello.txt"],
+        "Hello World!",
+    ),
+    (&["-Dname=A", "-D", "name=B", "hello.txt"], "Hello B!"),
+    (&["-D", "name=a=b=c", "hello.txt"], "Hello a=b=c!"),
+    (&["-Dname=", "hello.txt"], "Hello !"),
+    (&["hello.txt"], "Hello !"),
+    (&["-Dname=x", "--fuel", "1", "--fuel", "5", "-"], "Hello x!"),
+    (
+        &["-Dname=x", "--fuel", "18446744073709551615", "-"],
+        "Hello x!",
+    ),
+];
+
+#[test]
+fn words_that_serve(rt: HostRuntime) -> Result<(), Fail> {
+    for (words, written) in &SERVE {
+        let wanted = Answer {
+            status: 0,
+            written: *written,
+            told: "",
+            reads: 1,
+            flushes: 1,
+        };
+        expect(&rt, Page::new(rt.alloc()), words, &wanted)?;
+    }
+    Ok(())
+}
+
+static ASK_NOTHING: [Words; 19] = [
+    &[],
+    &["--json", "a.json", "hello.txt"],
+    &["--limit", "5", "hello.txt"],
+    &["--other", "hello.txt"],
+    &["-x"],
+    &["--", "hello.txt"],
+    &["hello.txt", "hello.txt"],
+    &["-", "-"],
+    &["hello.txt", "-D", "name=World"],
+    &["-D", "x", "hello.txt"],
+    &["-Dx", "hello.txt"],
+    &["-D"],
+    &["-D", "name=World"],
+    &["--fuel"],
+    &["--fuel", "hello.txt"],
+    &["--fuel", "", "hello.txt"],
+    &["--fuel", "-1", "hello.txt"],
+    &["--fuel", "+1", "hello.txt"],
+    &["--fuel", "18446744073709551616", "hello.txt"],
+];
+
+#[test]
+fn words_that_do_not_serve(rt: HostRuntime) -> Result<(), Fail> {
+    for words in &ASK_NOTHING {
+        expect(&rt, Page::new(rt.alloc()), words, &NOTHING_READ)?;
+    }
+    for file in ["missing.txt", "bytes.bin"] {
+        expect(&rt, Page::new(rt.alloc()), &[file], &NO_TEXT)?;
+    }
+    Ok(())
+}
+
+static FAULTS: [(Words, Answer); 4] = [
+    (
+        &["--fuel", "4", "-Dname=World", "hello.txt"],
+        Answer {
+            status: 1,
+            written: "Hello World",
+            told: "error: OutOfFuel\n",
+            reads: 1,
+            flushes: 1,
+        },
+    ),
+    (
+        &["tag.txt"],
+        Answer {
+            status: 1,
+            written: "",
+            told: "error: SyntaxError\n",
+            reads: 1,
+            flushes: 1,
+        },
+    ),
+    (
+        &["call.txt"],
+        Answer {
+            status: 1,
+            written: "a",
+            told: "error: UnknownFunction\n",
+            reads: 1,
+            flushes: 1,
+        },
+    ),
+    (
+        &["vast.txt"],
+        Answer {
+            status: 1,
+            written: "",
+            told: "error: OutOfMemory\n",
+            reads: 1,
+            flushes: 0,
+        },
+    ),
+];
+
+#[test]
+fn faults_of_renders(rt: HostRuntime) -> Result<(), Fail> {
+    for (words, wanted) in &FAULTS {
+        expect(&rt, Page::new(rt.alloc()), words, wanted)?;
+    }
+    Ok(())
+}
+
+/// A page that takes this many bytes, and whose flush may fail; what is written and told on it.
+static PAGES: [(usize, bool, Words, &str, &str); 3] = [
+    (
+        8,
+        false,
+        &["-Dname=World", "hello.txt"],
+        "Hello Wo",
+        "error: WriteFailure\n",
+    ),
+    (
+        1000,
+        true,
+        &["-Dname=World", "hello.txt"],
+        "Hello World!",
+        "error: WriteFailure\n",
+    ),
+    (1000, true, &["--fuel", "1", "-"], "", "error: OutOfFuel\n"),
+];
+
+#[test]
+fn faults_of_the_writer(rt: HostRuntime) -> Result<(), Fail> {
+    for (room, flush_fails, words, written, told) in &PAGES {
+        let page = Page {
+            room: *room,
+            flush_fails: *flush_fails,
+            ..Page::new(rt.alloc())
+        };
+        let wanted = Answer {
+            status: 1,
+            written: *written,
+            told: *told,
+            reads: 1,
+            flushes: 1,
+        };
+        expect(&rt, page, words, &wanted)?;
+    }
+    Ok(())
+}
+
+/// The words that give an example its names, and the example itself.
+fn words_of<'a>(alloc: Global, names: &'a str, path: &'a str) -> Result<Vec<&'a str>, Fail> {
+    let mut words = Vec::new(alloc);
+    for line in names.lines() {
+        words.push("-D")?;
+        words.push(line)?;
+    }
+    words.push(path)?;
+    Ok(words)
+}
+
+static EXAMPLES: [(&str, &str, &str); 4] = [
+    ("mail.txt", MAIL_NAMES, MAIL_EXPECTED),
+    ("server.conf", SERVER_NAMES, SERVER_EXPECTED),
+    ("page.html", PAGE_NAMES, PAGE_EXPECTED),
+    ("notice.txt", NOTICE_NAMES, NOTICE_EXPECTED),
+];
+
+#[test]
+fn the_examples(rt: HostRuntime) -> Result<(), Fail> {
+    let alloc = rt.alloc();
+    for (file, names, written) in &EXAMPLES {
+        let wanted = Answer {
+            status: 0,
+            written: *written,
+            told: "",
+            reads: 1,
+            flushes: 1,
+        };
+        let words = words_of(alloc, names, file)?;
+        expect(&rt, Page::new(alloc), words.as_slice(), &wanted)?;
+    }
+    Ok(())
+}
