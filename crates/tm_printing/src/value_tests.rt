@@ -1,33 +1,28 @@
-//! Rows of values, over records that a test makes up.
+//! Rows of values and what is written for them, over records that the tests make up.
 ghost use Rattle.std.specs.Prelude.{None, [], ◌∷◌};
 ghost use Rattle.tm_values.specs.Records.{RecordData};
 
+use self::Given::{Entries, Items, Module, One};
+use self::Part::{
+    Around, Function, Loop, Namespace, Nothing, Number, Safe, Text, Truth, Undefined,
+};
 use crate::*;
-use std::alloc::{AllocError, Global};
-use std::process::Abort;
+use std::alloc::Global;
 use std::rc::RcStr;
 use std::test::Fail;
 use tm_values::{AutoEscape, Error, ErrorKind, LoopPosition, Macro, Records, Value, ValueMap};
 
-/// The records of state 7: some namespaces, and one loop.
+/// The records of state 7: some namespaces, and a loop of three items that hasn't begun.
 #[derive(Drop)]
 struct Fake {
     namespaces: Vec<ValueMap>,
-    place: Option<usize>,
-    count: usize,
 }
 
 impl Records for Fake {
     ghost records = { λ fake. record {
       state = 7;
       namespaces = fake.namespaces.items;
-      loops = record {
-        place = fake.place;
-        count = fake.count;
-        depth = 0;
-        previous = None;
-        following = None;
-      } ∷ [];
+      loops = record { place = None; count = 3; depth = 0; previous = None; following = None } ∷ [];
     } };
 
     fn state(&self) -> u64 {
@@ -45,8 +40,8 @@ impl Records for Fake {
     fn loop_position(&self, index: usize) -> Option<LoopPosition> {
         match index {
             0 => Some(LoopPosition {
-                place: self.place,
-                count: self.count,
+                place: None,
+                count: 3,
                 depth: 0,
             }),
             _ => None,
@@ -62,14 +57,226 @@ impl Records for Fake {
     }
 }
 
-fn list<const N: usize>(alloc: Global, items: [Value; N]) -> Result<Value, Error> {
-    Value::list(alloc, Vec::from_array(alloc, items)?)
+/// A value that a table gives, or an item of one.
+#[derive(Clone, Copy)]
+enum Part {
+    Undefined,
+    Nothing,
+    Truth(bool),
+    Number(i128),
+    Text(&'static str),
+    Safe(&'static str),
+    Function,
+    /// The macro of this name.
+    Declared(&'static str),
+    Loop(u64),
+    Namespace(u64, usize),
+    /// The list of this namespace of state 7.
+    Around(usize),
 }
 
-fn entries(alloc: Global, key: Value, value: Value) -> Result<ValueMap, Error> {
+#[derive(Clone, Copy)]
+enum Given {
+    One(Part),
+    Items(&'static [Part]),
+    /// A map.
+    Entries(&'static [(Part, Part)]),
+    /// The module of this name.
+    Module(&'static str, &'static [(Part, Part)]),
+}
+
+/// A value, and how it is printed, escaped for HTML and as JSON, or its error is named.
+type Row = (Given, &'static str, &'static str, &'static str);
+
+const INVALID: &str = "InvalidOperation";
+
+const BAD: &str = "BadSerialization";
+
+/// The third holds itself.
+static NAMESPACES: [&[(Part, Part)]; 3] = [
+    &[(Text("a"), Namespace(7, 1)), (Text("b"), Namespace(7, 1))],
+    &[(Text("x"), Number(1))],
+    &[(Text("a"), Around(2))],
+];
+
+static ROWS: [Row; 22] = [
+    (One(Undefined), "", "", "null"),
+    (One(Truth(true)), "true", "true", "true"),
+    (
+        Items(&[Text("a\"\\\n"), Undefined, Nothing]),
+        "[\"a\\\"\\\\\\n\", undefined, none]",
+        "[&quot;a\\&quot;\\\\\\n&quot;, undefined, none]",
+        "[\"a\\\"\\\\\\n\",null,null]",
+    ),
+    (
+        Items(&[Number(1), Nothing, Undefined, Text("a/<")]),
+        "[1, none, undefined, \"a/<\"]",
+        "[1, none, undefined, &quot;a&#x2f;&lt;&quot;]",
+        "[1,null,null,\"a/<\"]",
+    ),
+    (
+        Items(&[Safe("<a href='/'>&\"")]),
+        "[\"<a href='/'>&\\\"\"]",
+        "[&quot;&lt;a href=&#x27;&#x2f;&#x27;&gt;&amp;\\&quot;&quot;]",
+        "[\"<a href='/'>&\\\"\"]",
+    ),
+    (
+        One(Number(18446744073709551615)),
+        "18446744073709551615",
+        "18446744073709551615",
+        "18446744073709551615",
+    ),
+    (
+        One(Number(18446744073709551616)),
+        "18446744073709551616",
+        "18446744073709551616",
+        BAD,
+    ),
+    (
+        One(Number(-9223372036854775808)),
+        "-9223372036854775808",
+        "-9223372036854775808",
+        "-9223372036854775808",
+    ),
+    (
+        One(Number(-9223372036854775809)),
+        "-9223372036854775809",
+        "-9223372036854775809",
+        BAD,
+    ),
+    (
+        Entries(&[(Number(1), Nothing)]),
+        "{1: none}",
+        "{1: none}",
+        BAD,
+    ),
+    (
+        Entries(&[(Truth(true), Text("a"))]),
+        "{true: \"a\"}",
+        "{true: &quot;a&quot;}",
+        BAD,
+    ),
+    (
+        Entries(&[(Number(1), Text("a")), (Truth(true), Text("b"))]),
+        "{1: \"b\"}",
+        "{1: &quot;b&quot;}",
+        BAD,
+    ),
+    (
+        Module("<t>", &[(Text("a"), Number(2))]),
+        "<t>",
+        "&lt;t&gt;",
+        "{\"a\":2}",
+    ),
+    (One(Function), "<function>", "&lt;function&gt;", BAD),
+    (
+        One(Part::Declared("m")),
+        "<macro m>",
+        "&lt;macro m&gt;",
+        BAD,
+    ),
+    (
+        Items(&[Loop(7)]),
+        "[<loop 0/3>]",
+        "[&lt;loop 0&#x2f;3&gt;]",
+        BAD,
+    ),
+    (One(Loop(8)), INVALID, INVALID, BAD),
+    (
+        One(Namespace(7, 0)),
+        "{\"a\": {\"x\": 1}, \"b\": {\"x\": 1}}",
+        "{&quot;a&quot;: {&quot;x&quot;: 1}, &quot;b&quot;: {&quot;x&quot;: 1}}",
+        "{\"a\":{\"x\":1},\"b\":{\"x\":1}}",
+    ),
+    (One(Namespace(7, 2)), INVALID, INVALID, INVALID),
+    (One(Namespace(7, 3)), INVALID, INVALID, INVALID),
+    (One(Namespace(8, 0)), INVALID, INVALID, INVALID),
+    (Items(&[Function, Namespace(7, 2)]), INVALID, INVALID, BAD),
+];
+
+/// What is emitted for a text under an escape.
+static EMITTED: [(Part, AutoEscape, &str); 5] = [
+    (Safe("<a href='/'>&\""), AutoEscape::Html, "<a href='/'>&\""),
+    (Safe("<a href='/'>&\""), AutoEscape::Json, "<a href='/'>&\""),
+    (
+        Safe("<a href='/'>&\""),
+        AutoEscape::Custom("x"),
+        "<a href='/'>&\"",
+    ),
+    (
+        Text("<a href='/'>&\""),
+        AutoEscape::Html,
+        "&lt;a href=&#x27;&#x2f;&#x27;&gt;&amp;&quot;",
+    ),
+    (Text("<a>"), AutoEscape::Custom("x"), INVALID),
+];
+
+fn made_part(alloc: Global, part: Part) -> Result<Value, Error> {
+    match part {
+        Undefined => Ok(Value::undefined()),
+        Nothing => Ok(Value::none()),
+        Truth(truth) => Ok(Value::boolean(truth)),
+        Number(whole) => Ok(Value::number(whole)),
+        Text(content) => Value::text(alloc, content),
+        Safe(content) => Value::safe_text(alloc, content),
+        Function => Ok(Value::function(4)),
+        Part::Declared(name) => macro_of(alloc, name),
+        Loop(state) => Ok(Value::loop_record(state, 0)),
+        Namespace(state, index) => Ok(Value::namespace(state, index)),
+        Around(index) => list_around(alloc, index),
+    }
+}
+
+fn macro_of(alloc: Global, name: &str) -> Result<Value, Error> {
+    let name = RcStr::from_str(alloc, name)?;
+    Value::declared(
+        alloc,
+        Macro::new(name, Vec::new(alloc), false, 7, 0, 0, None),
+    )
+}
+
+fn list_around(alloc: Global, index: usize) -> Result<Value, Error> {
+    let mut items = Vec::new(alloc);
+    items.push(Value::namespace(7, index))?;
+    Value::list(alloc, items)
+}
+
+fn list_of(alloc: Global, parts: &[Part]) -> Result<Value, Error> {
+    let mut items = Vec::new(alloc);
+    for one in parts {
+        items.push(made_part(alloc, *one)?)?;
+    }
+    Value::list(alloc, items)
+}
+
+fn map_of(alloc: Global, pairs: &[(Part, Part)]) -> Result<ValueMap, Error> {
     let mut map = ValueMap::new(alloc);
-    map.insert(key, value)?;
+    for (key, value) in pairs {
+        map.insert(made_part(alloc, *key)?, made_part(alloc, *value)?)?;
+    }
     Ok(map)
+}
+
+fn module_of(alloc: Global, name: &str, pairs: &[(Part, Part)]) -> Result<Value, Error> {
+    let exports = map_of(alloc, pairs)?;
+    Value::module(alloc, exports, RcStr::from_str(alloc, name)?)
+}
+
+fn made(alloc: Global, given: Given) -> Result<Value, Error> {
+    match given {
+        One(part) => made_part(alloc, part),
+        Items(parts) => list_of(alloc, parts),
+        Entries(pairs) => Value::from_map(alloc, map_of(alloc, pairs)?),
+        Module(name, pairs) => module_of(alloc, name, pairs),
+    }
+}
+
+fn made_records(alloc: Global) -> Result<Fake, Error> {
+    let mut namespaces = Vec::new(alloc);
+    for pairs in &NAMESPACES {
+        namespaces.push(map_of(alloc, pairs)?)?;
+    }
+    Ok(Fake { namespaces })
 }
 
 /// What is emitted for the value under the escape.
@@ -87,280 +294,57 @@ fn emitted(
     }
 }
 
-fn is(rt: &impl Abort, answer: Result<String, Error>, expected: Result<&str, ErrorKind>) {
-    match (answer, expected) {
-        (Ok(text), Ok(expected)) => assert_eq!(rt; text.as_str(), expected),
-        (Err(error), Err(expected)) => assert_eq!(rt; error.kind(), expected),
-        _ => assert!(rt; false),
+/// Whether the answer is this text, or the error of this name.
+fn is(answer: &Result<String, Error>, wanted: &str) -> bool {
+    match answer {
+        Ok(text) => text.as_str() == wanted,
+        Err(error) => error.kind().name() == wanted,
     }
 }
 
-fn no_records(alloc: Global) -> Fake {
-    Fake {
-        namespaces: Vec::new(alloc),
-        place: None,
-        count: 3,
-    }
-}
-
-/// The value printed, escaped for HTML and as JSON.
-fn row(
-    rt: &impl Abort,
+fn is_emitted(
     alloc: Global,
     value: &Value,
+    escape: AutoEscape,
     records: &Fake,
-    expected: [Result<&str, ErrorKind>; 3],
-) {
-    let [printed, html, json] = expected;
-    is(rt, to_text(alloc, value, records), printed);
-    is(rt, emitted(alloc, value, AutoEscape::Html, records), html);
-    is(rt, emitted(alloc, value, AutoEscape::Json, records), json);
+    wanted: &str,
+) -> bool {
+    is(&emitted(alloc, value, escape, records), wanted)
+}
+
+fn is_row(alloc: Global, value: &Value, records: &Fake, row: &Row) -> bool {
+    is(&to_text(alloc, value, records), row.1)
+        && is_emitted(alloc, value, AutoEscape::Html, records, row.2)
+        && is_emitted(alloc, value, AutoEscape::Json, records, row.3)
+}
+
+fn row_holds(alloc: Global, records: &Fake, row: &Row) -> Result<bool, Error> {
+    let value = made(alloc, row.0)?;
+    Ok(is_row(alloc, &value, records, row))
+}
+
+fn text_holds(
+    alloc: Global,
+    records: &Fake,
+    text: Part,
+    escape: AutoEscape,
+    wanted: &str,
+) -> Result<bool, Error> {
+    let value = made_part(alloc, text)?;
+    Ok(is_emitted(alloc, &value, escape, records, wanted))
 }
 
 #[test]
-fn lists_and_texts(rt: HostRuntime) -> Result<(), Fail> {
-    let alloc = rt.alloc();
-    let none = no_records(alloc);
-    let quoted = list(
-        alloc,
-        [
-            Value::text(alloc, "a\"\\\n")?,
-            Value::undefined(),
-            Value::none(),
-        ],
-    )?;
-    let html = "[&quot;a\\&quot;\\\\\\n&quot;, undefined, none]";
-    row(
-        &rt,
-        alloc,
-        &quoted,
-        &none,
-        [
-            Ok("[\"a\\\"\\\\\\n\", undefined, none]"),
-            Ok(html),
-            Ok("[\"a\\\"\\\\\\n\",null,null]"),
-        ],
-    );
-    let mixed = list(
-        alloc,
-        [
-            Value::number(1),
-            Value::none(),
-            Value::undefined(),
-            Value::text(alloc, "a/<")?,
-        ],
-    )?;
-    row(
-        &rt,
-        alloc,
-        &mixed,
-        &none,
-        [
-            Ok("[1, none, undefined, \"a/<\"]"),
-            Ok("[1, none, undefined, &quot;a&#x2f;&lt;&quot;]"),
-            Ok("[1,null,null,\"a/<\"]"),
-        ],
-    );
-    row(
-        &rt,
-        alloc,
-        &Value::undefined(),
-        &none,
-        [Ok(""), Ok(""), Ok("null")],
-    );
-    row(
-        &rt,
-        alloc,
-        &Value::boolean(true),
-        &none,
-        [Ok("true"), Ok("true"), Ok("true")],
-    );
-    Ok(())
-}
-
-#[test]
-fn safe_texts(rt: HostRuntime) -> Result<(), Fail> {
-    let alloc = rt.alloc();
-    let none = no_records(alloc);
-    let safe = Value::safe_text(alloc, "<a href='/'>&\"")?;
-    is(
-        &rt,
-        emitted(alloc, &safe, AutoEscape::Html, &none),
-        Ok("<a href='/'>&\""),
-    );
-    is(
-        &rt,
-        emitted(alloc, &safe, AutoEscape::Json, &none),
-        Ok("<a href='/'>&\""),
-    );
-    is(
-        &rt,
-        emitted(alloc, &safe, AutoEscape::Custom("x"), &none),
-        Ok("<a href='/'>&\""),
-    );
-    let text = Value::text(alloc, "<a href='/'>&\"")?;
-    let html = "&lt;a href=&#x27;&#x2f;&#x27;&gt;&amp;&quot;";
-    is(
-        &rt,
-        emitted(alloc, &text, AutoEscape::Html, &none),
-        Ok(html),
-    );
-    is(
-        &rt,
-        emitted(alloc, &text, AutoEscape::Custom("x"), &none),
-        Err(ErrorKind::InvalidOperation),
-    );
-    let inside = list(alloc, [safe])?;
-    let html = "[&quot;&lt;a href=&#x27;&#x2f;&#x27;&gt;&amp;\\&quot;&quot;]";
-    is(
-        &rt,
-        emitted(alloc, &inside, AutoEscape::Html, &none),
-        Ok(html),
-    );
-    Ok(())
-}
-
-#[test]
-fn numbers_in_json(rt: HostRuntime) {
-    let alloc = rt.alloc();
-    let none = no_records(alloc);
-    let bad = Err(ErrorKind::BadSerialization);
-    let json = |number: i128| emitted(alloc, &Value::number(number), AutoEscape::Json, &none);
-    is(&rt, json(18446744073709551615), Ok("18446744073709551615"));
-    is(&rt, json(18446744073709551616), bad);
-    is(&rt, json(-9223372036854775808), Ok("-9223372036854775808"));
-    is(&rt, json(-9223372036854775809), bad);
-}
-
-#[test]
-fn what_has_no_json(rt: HostRuntime) -> Result<(), Fail> {
-    let alloc = rt.alloc();
-    let some = no_records(alloc);
-    let bad = Err(ErrorKind::BadSerialization);
-    let map = Value::from_map(alloc, entries(alloc, Value::number(1), Value::none())?)?;
-    row(
-        &rt,
-        alloc,
-        &map,
-        &some,
-        [Ok("{1: none}"), Ok("{1: none}"), bad],
-    );
-    row(
-        &rt,
-        alloc,
-        &Value::function(4),
-        &some,
-        [Ok("<function>"), Ok("&lt;function&gt;"), bad],
-    );
-    let name = RcStr::from_str(alloc, "m")?;
-    let declared = Value::declared(
-        alloc,
-        Macro::new(name, Vec::new(alloc), false, 7, 0, 0, None),
-    )?;
-    row(
-        &rt,
-        alloc,
-        &declared,
-        &some,
-        [Ok("<macro m>"), Ok("&lt;macro m&gt;"), bad],
-    );
-    let turn = list(alloc, [Value::loop_record(7, 0)])?;
-    row(
-        &rt,
-        alloc,
-        &turn,
-        &some,
-        [Ok("[<loop 0/3>]"), Ok("[&lt;loop 0&#x2f;3&gt;]"), bad],
-    );
-    let invalid = Err(ErrorKind::InvalidOperation);
-    row(
-        &rt,
-        alloc,
-        &Value::loop_record(8, 0),
-        &some,
-        [invalid, invalid, bad],
-    );
-    let module = entries(alloc, Value::text(alloc, "a")?, Value::number(2))?;
-    let module = Value::module(alloc, module, RcStr::from_str(alloc, "<t>")?)?;
-    row(
-        &rt,
-        alloc,
-        &module,
-        &some,
-        [Ok("<t>"), Ok("&lt;t&gt;"), Ok("{\"a\":2}")],
-    );
-    Ok(())
-}
-
-#[test]
-fn namespaces(rt: HostRuntime) -> Result<(), Fail> {
-    let alloc = rt.alloc();
-    let mut both = entries(alloc, Value::text(alloc, "a")?, Value::namespace(7, 1))?;
-    both.insert(Value::text(alloc, "b")?, Value::namespace(7, 1))?;
-    let one = entries(alloc, Value::text(alloc, "x")?, Value::number(1))?;
-    let itself = list(alloc, [Value::namespace(7, 2)])?;
-    let itself = entries(alloc, Value::text(alloc, "a")?, itself)?;
-    let records = Fake {
-        namespaces: Vec::from_array(alloc, [both, one, itself])?,
-        place: None,
-        count: 0,
-    };
-    row(
-        &rt,
-        alloc,
-        &Value::namespace(7, 0),
-        &records,
-        [
-            Ok("{\"a\": {\"x\": 1}, \"b\": {\"x\": 1}}"),
-            Ok("{&quot;a&quot;: {&quot;x&quot;: 1}, &quot;b&quot;: {&quot;x&quot;: 1}}"),
-            Ok("{\"a\":{\"x\":1},\"b\":{\"x\":1}}"),
-        ],
-    );
-    let invalid = Err(ErrorKind::InvalidOperation);
-    row(
-        &rt,
-        alloc,
-        &Value::namespace(7, 2),
-        &records,
-        [invalid, invalid, invalid],
-    );
-    assert!(rt; Value::namespace(7, 2) == Value::namespace(7, 2));
-    row(
-        &rt,
-        alloc,
-        &Value::namespace(7, 3),
-        &records,
-        [invalid, invalid, invalid],
-    );
-    row(
-        &rt,
-        alloc,
-        &Value::namespace(8, 0),
-        &records,
-        [invalid, invalid, invalid],
-    );
-    let function_first = list(alloc, [Value::function(0), Value::namespace(7, 2)])?;
-    let bad = Err(ErrorKind::BadSerialization);
-    row(
-        &rt,
-        alloc,
-        &function_first,
-        &records,
-        [invalid, invalid, bad],
-    );
-    Ok(())
-}
-
-#[test]
-fn keys_keep_their_spelling(rt: HostRuntime) -> Result<(), Fail> {
-    let alloc = rt.alloc();
-    let none = no_records(alloc);
-    let spelled = entries(alloc, Value::boolean(true), Value::text(alloc, "a")?)?;
-    let value = Value::from_map(alloc, spelled)?;
-    is(&rt, to_text(alloc, &value, &none), Ok("{true: \"a\"}"));
-    let mut map = entries(alloc, Value::number(1), Value::text(alloc, "a")?)?;
-    map.insert(Value::boolean(true), Value::text(alloc, "b")?)?;
-    let value = Value::from_map(alloc, map)?;
-    is(&rt, to_text(alloc, &value, &none), Ok("{1: \"b\"}"));
+fn values_are_written_in_three_ways(rt: HostRuntime) -> Result<(), Fail> {
+    let records = made_records(rt.alloc())?;
+    for row in &ROWS {
+        assert!(rt; row_holds(rt.alloc(), &records, row)?, "at {}", row.1);
+    }
+    for (text, escape, wanted) in &EMITTED {
+        assert!(rt;
+            text_holds(rt.alloc(), &records, *text, *escape, *wanted)?,
+            "at {wanted}"
+        );
+    }
     Ok(())
 }

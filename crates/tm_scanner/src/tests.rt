@@ -1,8 +1,7 @@
 use crate::{SyntaxConfig, scan};
-use std::alloc::AllocError;
-use std::test::Fail;
+use std::alloc::{AllocError, Global};
 use tm_syntax::{Sign, Tag, Token};
-use tm_values::{ErrorKind, Value};
+use tm_values::{Error, ErrorKind, Value};
 
 /// How a sign is printed here.
 fn sign_text(sign: Sign) -> &'static str {
@@ -75,9 +74,9 @@ fn write_token(out: &mut String, token: &Token) -> Result<(), AllocError> {
 }
 
 /// The tokens of a source, by the delimiters that are usual, each behind a blank.
-fn spelled(rt: &HostRuntime, source: &str) -> Result<String, Fail> {
-    let tokens = scan(rt.alloc(), &SyntaxConfig::default(), source)?;
-    let mut out = String::new(rt.alloc());
+fn spelled(alloc: Global, source: &str) -> Result<String, Error> {
+    let tokens = scan(alloc, &SyntaxConfig::default(), source)?;
+    let mut out = String::new(alloc);
     for token in &tokens {
         out.push_str(" ")?;
         write_token(&mut out, token)?;
@@ -85,92 +84,83 @@ fn spelled(rt: &HostRuntime, source: &str) -> Result<String, Fail> {
     Ok(out)
 }
 
+fn is_spelled(alloc: Global, source: &str, wanted: &str) -> bool {
+    match &spelled(alloc, source) {
+        Ok(tokens) => tokens.as_str() == wanted,
+        Err(_) => false,
+    }
+}
+
 /// Whether a source spells no tokens.
-fn is_refused(rt: &HostRuntime, source: &str) -> bool {
-    match scan(rt.alloc(), &SyntaxConfig::default(), source) {
+fn is_refused(alloc: Global, source: &str) -> bool {
+    match &scan(alloc, &SyntaxConfig::default(), source) {
         Ok(_) => false,
         Err(error) => error.kind() == ErrorKind::SyntaxError,
     }
 }
 
-#[test]
-fn sources_are_tokens(rt: HostRuntime) -> Result<(), Fail> {
-    for (source, tokens) in [
-        ("", ""),
-        ("\r\n", ""),
-        ("a\n\n", " [a\n]"),
-        ("{# c #}", ""),
-        ("a{# {{ %} #}b", " [a] [b]"),
-        ("{ {{ größe_1 }} }", " [{ ] {{ $größe_1 }} [ }]"),
-        ("{{a.b==c}}", " {{ $a . $b == $c }}"),
-        ("{{ \"}}\" }}", " {{ '}}' }}"),
-        ("{{ f((1007),x) }}", " {{ $f ( ( ? ) , $x ) }}"),
-        ("{{ True\u{c}and\tnot iffy\r}}", " {{ true and not $iffy }}"),
-    ] {
-        assert!(rt; spelled(&rt, source)?.as_str() == tokens, "at {source}");
-    }
-    Ok(())
-}
+static SPELLED: [(&str, &str); 19] = [
+    ("", ""),
+    ("\r\n", ""),
+    ("a\n\n", " [a\n]"),
+    ("{# c #}", ""),
+    ("a{# {{ %} #}b", " [a] [b]"),
+    ("{ {{ größe_1 }} }", " [{ ] {{ $größe_1 }} [ }]"),
+    ("{{a.b==c}}", " {{ $a . $b == $c }}"),
+    ("{{ \"}}\" }}", " {{ '}}' }}"),
+    ("{{ f((1007),x) }}", " {{ $f ( ( ? ) , $x ) }}"),
+    ("{{ True\u{c}and\tnot iffy\r}}", " {{ true and not $iffy }}"),
+    ("{% if a or b %}", " {%if $a or $b %}"),
+    (
+        "{%elif None is x%}{%else%}",
+        " {%elif none is $x %} {%else %}",
+    ),
+    ("{% endif if %}", " {%endif if %}"),
+    (
+        "{% block b %}{% endblock %}",
+        " {%block $b %} {%endblock %}",
+    ),
+    (
+        "{{ 170141183460469231731687303715884105727 }}",
+        " {{ #max }}",
+    ),
+    ("{{ 007 }}", " {{ #7 }}"),
+    ("{{ 7.a }}", " {{ #7 . $a }}"),
+    (r#"{{ "\u00e9\ud83d\ude00\/" }}"#, " {{ 'é😀/' }}"),
+    (r#"{{ 'a"\'\\\n' "" }}"#, " {{ 'a\"'\\\n' '' }}"),
+];
 
 #[test]
-fn tags_begin_with_a_word(rt: HostRuntime) -> Result<(), Fail> {
-    for (source, tokens) in [
-        ("{% if a or b %}", " {%if $a or $b %}"),
-        (
-            "{%elif None is x%}{%else%}",
-            " {%elif none is $x %} {%else %}",
-        ),
-        ("{% endif if %}", " {%endif if %}"),
-        (
-            "{% block b %}{% endblock %}",
-            " {%block $b %} {%endblock %}",
-        ),
-    ] {
-        assert!(rt; spelled(&rt, source)?.as_str() == tokens, "at {source}");
+fn sources_are_tokens(rt: HostRuntime) {
+    for (source, tokens) in &SPELLED {
+        assert!(rt; is_spelled(rt.alloc(), source, tokens), "at {source}");
     }
-    Ok(())
 }
 
-#[test]
-fn literals_are_values(rt: HostRuntime) -> Result<(), Fail> {
-    for (source, tokens) in [
-        (
-            "{{ 170141183460469231731687303715884105727 }}",
-            " {{ #max }}",
-        ),
-        ("{{ 007 }}", " {{ #7 }}"),
-        ("{{ 7.a }}", " {{ #7 . $a }}"),
-        (r#"{{ "\u00e9\ud83d\ude00\/" }}"#, " {{ 'é😀/' }}"),
-        (r#"{{ 'a"\'\\\n' "" }}"#, " {{ 'a\"'\\\n' '' }}"),
-    ] {
-        assert!(rt; spelled(&rt, source)?.as_str() == tokens, "at {source}");
-    }
-    Ok(())
-}
+static REFUSED: [&str; 18] = [
+    "a{#",
+    "{{ a",
+    "{{ (a }}",
+    "{{ a ; b }}",
+    "{{ a = b }}",
+    "{{ \"a }}",
+    "{% %}",
+    "{% for x %}",
+    "{{ 1.5 }}",
+    "{{ 1e5 }}",
+    "{{ 1_ }}",
+    "{{ 1a }}",
+    "{{ 170141183460469231731687303715884105728 }}",
+    r#"{{ "\ud83d" }}"#,
+    r#"{{ "\ud83d\u0041" }}"#,
+    r#"{{ "\ude00" }}"#,
+    r#"{{ "\x41" }}"#,
+    r#"{{ "\u00g0" }}"#,
+];
 
 #[test]
-fn what_is_no_token_is_refused(rt: HostRuntime) -> Result<(), Fail> {
-    for source in [
-        "a{#",
-        "{{ a",
-        "{{ (a }}",
-        "{{ a ; b }}",
-        "{{ a = b }}",
-        "{{ \"a }}",
-        "{% %}",
-        "{% for x %}",
-        "{{ 1.5 }}",
-        "{{ 1e5 }}",
-        "{{ 1_ }}",
-        "{{ 1a }}",
-        "{{ 170141183460469231731687303715884105728 }}",
-        r#"{{ "\ud83d" }}"#,
-        r#"{{ "\ud83d\u0041" }}"#,
-        r#"{{ "\ude00" }}"#,
-        r#"{{ "\x41" }}"#,
-        r#"{{ "\u00g0" }}"#,
-    ] {
-        assert!(rt; is_refused(&rt, source), "at {source}");
+fn what_is_no_token_is_refused(rt: HostRuntime) {
+    for source in &REFUSED {
+        assert!(rt; is_refused(rt.alloc(), source), "at {source}");
     }
-    Ok(())
 }
