@@ -1,5 +1,5 @@
 -- What the program renders is what the words and the source mean.
-use Rattle.std.proofs.Common.{◌≡◌, ℕ, inl, inr, List, [], ◌∷◌, Option, None, Some, Result, Ok, Err, map, IsErrAnd, MatchResult, is_eq, ◌<◌, arith, refl, sym, ap, subst, ◌∙◌}
+use Rattle.std.proofs.Common.{◌≡◌, ℕ, inl, inr, List, [], ◌∷◌, Option, None, Some, Result, Ok, Err, map, min, IsErrAnd, MatchResult, is_eq, ◌<◌, arith, refl, sym, ap, subst, ◌∙◌}
 use Rattle.std.specs.Prelude.{cond}
 use Rattle.std.specs.Io.KnownBytes.{Keeps, Appends}
 use Rattle.std.proofs.lemmas.Cmp.{nat_list_cmp_total, tied_itself}
@@ -18,7 +18,7 @@ use Rattle.tm_tables_next.specs.Templates.{Compiled, IsTemplate, IsRefused}
 use Rattle.template_machine_next.specs.Environment.{EnvironmentValue, TemplateValue, empty_environment, greatest_limit}
 use Rattle.template_machine_next.specs.Renders.{CapturedValue, answer_by, greatest, meaning, Rendered, as_meant, by_writer, by_memory}
 use Rattle.mj_next.specs.CommandLine.{Text, Asked}
-use Rattle.mj_next.specs.Program.{context_of, template_in, meaning_of, IsRendered, IsBegun, IsFault, no_memory, write_failed, flush_failed, no_tree, meant}
+use Rattle.mj_next.specs.Program.{context_of, limit_of, template_in, meaning_of, IsRendered, IsBegun, IsFault, no_memory, write_failed, flush_failed, no_tree, meant}
 
 found_there : (name : Text) (t : Compiled) → find name (put name t []) ≡ Some t
 found_there name t = ap (λ o. cond (is_eq o) (Some t) None) (tied_itself nat_list_cmp_total name)
@@ -53,13 +53,19 @@ module _ {C : Type 0} where
   abbrev empty : EnvironmentValue (List C)
   empty = empty_environment []
 
-  -- what an environment is behind its first setting
-  pub started : (fuel : Option ℕ) (first set : EnvironmentValue (List C)) → first ≡ empty → set ≡ record first { fuel = fuel } → set ≡ record empty { fuel = fuel }
-  started fuel first set start fuelled = fuelled ∙ ap (λ (e : EnvironmentValue (List C)). record e { fuel = fuel }) start
+  abbrev settled : Asked → EnvironmentValue (List C)
+  settled a = record empty { fuel = a.fuel; limit = limit_of a.limit }
+
+  -- what an environment is behind its settings
+  pub started : (a : Asked) (limit : ℕ) (first fuelled set : EnvironmentValue (List C)) → first ≡ empty → fuelled ≡ record first { fuel = a.fuel } →
+      set ≡ record fuelled { limit = min limit greatest_limit } → min limit greatest_limit ≡ limit_of a.limit → set ≡ settled a
+  started a limit first fuelled set start fuel limited same =
+      limited ∙ (ap (λ (e : EnvironmentValue (List C)). record e { limit = min limit greatest_limit }) (fuel ∙ ap (λ (e : EnvironmentValue (List C)). record e { fuel = a.fuel }) start)
+      ∙ ap (λ n. record empty { fuel = a.fuel; limit = n }) same)
 
   -- another template of the environment in which one was put alone
   abbrev put_there_as : Asked → Compiled → Compiled → TemplateValue (List C)
-  put_there_as a t u = template_over [] (put a.file t []) default_syntax [] a.fuel greatest_limit u
+  put_there_as a t u = template_over [] (put a.file t []) default_syntax [] a.fuel (limit_of a.limit) u
 
   -- a template that was put alone
   abbrev put_alone : Asked → Compiled → TemplateValue (List C)
@@ -67,11 +73,11 @@ module _ {C : Type 0} where
 
   -- The template that is found means what the words and a tree of the source mean.
   pub is_meant : (fs : List Function) (a : Asked) (source : Text) (set added : EnvironmentValue (List C)) (t : Compiled) (found : TemplateValue (List C)) (context : Val) →
-      (found.environment.objects ≡ [] → fs ≡ []) → set ≡ record empty { fuel = a.fuel } → IsTemplate set.syntax a.file source t → added ≡ record set { templates = put a.file t set.templates } →
+      (found.environment.objects ≡ [] → fs ≡ []) → set ≡ settled a → IsTemplate set.syntax a.file source t → added ≡ record set { templates = put a.file t set.templates } →
       (found.environment ≡ added) × (find a.file added.templates ≡ Some found.template) → context ≡ context_of a.texts →
       (tree : Tree) × Spells default_syntax source tree × (meaning (λ _. fs) found 0 context ≡ meaning_of a source tree)
   is_meant fs a source set added t found context none start is put_there (same, there) given =
-      let whole : added ≡ record empty { templates = put a.file t []; fuel = a.fuel } =
+      let whole : added ≡ record (settled a) { templates = put a.file t [] } =
       put_there ∙ ap (λ (e : EnvironmentValue (List C)). record e { templates = put a.file t e.templates }) start in
       let template : t ≡ found.template = found_is_put a.file t found.template (subst (λ (e : EnvironmentValue (List C)). find a.file e.templates ≡ Some found.template) whole there) in
       let alone : found ≡ put_alone a t =
@@ -83,7 +89,7 @@ module _ {C : Type 0} where
         subst (λ (e : EnvironmentValue (List C)). Spells e.syntax source t.tree) start is.spelled,
         ap (λ (v : TemplateValue (List C)). meaning (λ _. fs) v 0 context) alone
             ∙ (ap (λ v. meaning (λ _. fs) (put_alone a t) 0 v) given
-            ∙ (means_same {O = List C} {P = List Function} fs [] [] [] (put a.file t []) default_syntax [] a.fuel greatest_limit t 0 (context_of a.texts) (none objects)
+            ∙ (means_same {O = List C} {P = List Function} fs [] [] [] (put a.file t []) default_syntax [] a.fuel (limit_of a.limit) t 0 (context_of a.texts) (none objects)
             ∙ ap (λ (u : Compiled). meaning (λ fs. fs) (template_in a u) 0 (context_of a.texts)) named)),
       )
 

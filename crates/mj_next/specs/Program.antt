@@ -1,5 +1,5 @@
 -- What the program gives to a template, what its render means, and how the program ends.
-use Rattle.std.specs.Prelude.{◌≡◌, ◌⊎◌, ℕ, List, [], ◌∷◌, map as each, codes, Option, None, Some, Bool, true, false}
+use Rattle.std.specs.Prelude.{◌≡◌, ◌⊎◌, ℕ, List, [], ◌∷◌, map as each, codes, min, Option, None, Some, Bool, true, false}
 use Rattle.std.specs.Io.KnownBytes.{Keeps, Appends}
 use Rattle.std.specs.Str.{bytes_eq, IsUtf8}
 use Rattle.tm_values.specs.Val.{Val, text, map, pairs_of}
@@ -15,7 +15,7 @@ use Rattle.tm_semantics.specs.World.{Function}
 use Rattle.tm_semantics.specs.Meaning.{Outcome, chain_of}
 use Rattle.tm_output.specs.Counts.{Tally, one_more, AppendsBeginning}
 use Rattle.tm_tables_next.specs.Templates.{Compiled}
-use Rattle.template_machine_next.specs.Environment.{TemplateValue, empty_environment}
+use Rattle.template_machine_next.specs.Environment.{TemplateValue, empty_environment, greatest_limit}
 use Rattle.template_machine_next.specs.Renders.{meaning}
 use Rattle.mj_next.specs.CommandLine.{Text, Asked, asked}
 use Rattle.mj_next.specs.declared.arguments.Refusal.{Refusal}
@@ -29,10 +29,15 @@ pair_of t = (text t.0 false, text t.1 false)
 abbrev pub context_of : List (Text × Text) → Val
 context_of ts = map (pairs_of (put_all (each pair_of ts)))
 
--- the one template of an environment that has no functions, with the fuel of the words
+-- how deep scopes may lie, where the words say so
+abbrev pub limit_of : Option ℕ → ℕ
+limit_of None = greatest_limit
+limit_of (Some n) = min n greatest_limit
+
+-- the one template of an environment that has no functions, with the fuel and the limit of the words
 abbrev pub template_in : Asked → Compiled → TemplateValue (List Function)
 template_in a t = record {
-  environment = record (empty_environment []) { templates = put a.file t []; fuel = a.fuel };
+  environment = record (empty_environment []) { templates = put a.file t []; fuel = a.fuel; limit = limit_of a.limit };
   template = t;
 }
 
@@ -54,7 +59,7 @@ IsRead of_file of_input texts file read = either (bytes_eq file (codes "-")) (of
 
 -- The words ask for these, and the source is what is read of their file.
 abbrev pub IsInput : {T : Type 0} → (T → Text → Option Text → Type 0) → (T → Option Text → Type 0) → T → List Text → Asked → Text → Type 0
-IsInput of_file of_input texts words a source = (asked [] None words ≡ Some a) × IsRead of_file of_input texts a.file (Some source)
+IsInput of_file of_input texts words a source = (asked [] None None words ≡ Some a) × IsRead of_file of_input texts a.file (Some source)
 
 -- Nothing is read of the file, or no text.
 abbrev pub IsUnread : {T : Type 0} → (T → Text → Option Text → Type 0) → (T → Option Text → Type 0) → T → Text → Type 0
@@ -64,7 +69,7 @@ IsUnread {T = T} of_file of_input texts file =
 -- The words ask for nothing, or for a file that gives no text.
 abbrev pub IsWrongUse : {T : Type 0} → (T → Text → Option Text → Type 0) → (T → Option Text → Type 0) → T → List Text → Type 0
 IsWrongUse of_file of_input texts words =
-    (asked [] None words ≡ None) ⊎ ((a : Asked) × (asked [] None words ≡ Some a) × IsUnread of_file of_input texts a.file)
+    (asked [] None None words ≡ None) ⊎ ((a : Asked) × (asked [] None None words ≡ Some a) × IsUnread of_file of_input texts a.file)
 
 -- The source spells a tree whose render is done, and the writer got its text without a fault.
 abbrev pub IsRendered : {W : Type 0} → (W → Option Text) → Asked → Text → Tally W → Tally W → Type 0

@@ -1,7 +1,8 @@
 //! The render that the words ask for.
-ghost use Rattle.std.specs.Prelude.{◌≡◌, [], ◌∷◌, map, MatchResult};
+ghost use Rattle.std.specs.Prelude.{◌≡◌, [], ◌∷◌, map, min, MatchResult};
 ghost use Rattle.mj_next.specs.CommandLine.{asked_of, plain};
-ghost use Rattle.mj_next.specs.Program.{context_of, IsRendered, IsFault};
+ghost use Rattle.template_machine_next.specs.Environment.{greatest_limit};
+ghost use Rattle.mj_next.specs.Program.{context_of, limit_of, IsRendered, IsFault};
 
 use crate::arguments::Arguments;
 use std::alloc::Global;
@@ -43,11 +44,22 @@ fn render_unflushed<O: Write + Drop>(
 {
     let mut environment = Environment::new(alloc)?;
     environment.set_fuel(arguments.fuel);
+    environment.set_recursion_limit(limit(arguments.limit));
     environment.add_template(arguments.file, source)?;
     let template = environment.get_template(arguments.file)?;
     let context = context(alloc, arguments.texts.as_slice())?;
     template.render_captured_to(&mut StateIds::new(), context, out)?;
     Ok(())
+}
+
+/// How deep scopes may lie, where the words say so.
+fn limit(given: Option<u64>) -> usize
+    ensures { min result greatest_limit ≡ limit_of given }
+{
+    match given {
+        Some(limit) => limit as usize,
+        None => usize::MAX,
+    }
 }
 
 /// The map of the names to their texts. Fails by OutOfMemory alone.

@@ -57,7 +57,7 @@ pub fn run<T: Texts, O: Write + Drop, E: Write + Drop>(
     ensures wrong_use { result ≡ 2 → (out.new ≡ out.old)
         × IsTold E.contents err.old err.new usage
         × IsWrongUse T.of_file T.of_input texts.old (map string_bytes words.now) }
-    ensures refused { asked [] None (map string_bytes words.now) ≡ None →
+    ensures refused { asked [] None None (map string_bytes words.now) ≡ None →
         (result ≢ 0) × (out.new ≡ out.old) }
 {
     let arguments = match parse(alloc, words) {

@@ -167,6 +167,7 @@ impl Texts for Shelf {
             "hello.txt" => b"Hello {{ name }}!\n",
             "tag.txt" => b"a{% x %}",
             "call.txt" => b"a{{ nope() }}b",
+            "block.txt" => b"a{% block x %}b{% endblock %}",
             "bytes.bin" => b"\xff\xfe",
             "-x" => b"never read",
             "vast.txt" => return Err(io::Error::from(io::ErrorKind::OutOfMemory)),
@@ -285,7 +286,7 @@ fn expect(rt: &impl Abort, page: Page, words: &[&str], wanted: &Answer) -> Resul
     Ok(())
 }
 
-static SERVE: [(Words, &str); 9] = [
+static SERVE: [(Words, &str); 11] = [
     (&["-D", "name=World", "-"], "Hello World!"),
     (&["-D", "name=World", "hello.txt"], "Hello World!"),
     (
@@ -296,6 +297,8 @@ static SERVE: [(Words, &str); 9] = [
     (&["-D", "name=a=b=c", "hello.txt"], "Hello a=b=c!"),
     (&["-Dname=", "hello.txt"], "Hello !"),
     (&["hello.txt"], "Hello !"),
+    (&["--limit", "1", "hello.txt"], "Hello !"),
+    (&["--limit", "2", "block.txt"], "ab"),
     (&["-Dname=x", "--fuel", "1", "--fuel", "5", "-"], "Hello x!"),
     (
         &["-Dname=x", "--fuel", "18446744073709551615", "-"],
@@ -318,10 +321,11 @@ fn words_that_serve(rt: HostRuntime) -> Result<(), Fail> {
     Ok(())
 }
 
-static ASK_NOTHING: [Words; 19] = [
+static ASK_NOTHING: [Words; 20] = [
     &[],
     &["--json", "a.json", "hello.txt"],
-    &["--limit", "5", "hello.txt"],
+    &["--limit", "hello.txt"],
+    &["--limit", "-1", "hello.txt"],
     &["--other", "hello.txt"],
     &["-x"],
     &["--", "hello.txt"],
@@ -351,7 +355,7 @@ fn words_that_do_not_serve(rt: HostRuntime) -> Result<(), Fail> {
     Ok(())
 }
 
-static FAULTS: [(Words, Answer); 4] = [
+static FAULTS: [(Words, Answer); 5] = [
     (
         &["--fuel", "4", "-Dname=World", "hello.txt"],
         Answer {
@@ -368,6 +372,16 @@ static FAULTS: [(Words, Answer); 4] = [
             status: 1,
             written: "",
             told: "error: SyntaxError\n",
+            reads: 1,
+            flushes: 1,
+        },
+    ),
+    (
+        &["--limit", "1", "block.txt"],
+        Answer {
+            status: 1,
+            written: "a",
+            told: "error: InvalidOperation\n",
             reads: 1,
             flushes: 1,
         },
