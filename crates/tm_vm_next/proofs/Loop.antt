@@ -155,8 +155,7 @@ ended_in {p = p} {f = f} {a = a} {c = c} {told = told} {now = now} entry mid at 
     comes : (x : End) → EndsIn p entry mid at new x → Comes p f a told new x
     comes x ended =
         let run = ended.1 in
-        let enters = did.0 in
-        (
+        let enters = did.0 in (
           s.text ++ run.0,
           appends_then told now new s.text run.0 s.appended (subst (λ o. Appends o new run.0) did.1 run.1),
           s.onward _ (nest enters.2 (behind_text (start_in entry mid) s.text run.2) (over (behind_is entry enters.0 mid.run ended.0 enters.1 ∙ ended.2) refl)),

@@ -112,4 +112,3 @@ run-returns-in-Err-clause-beginning g t c =
     let new = g.W.Sink.told c.step.new.writer in
     let did = at_base p c.loop-entry.self c.step.new.self now new (Err c.in-Err.halt) c.base-base.result (base_of c.args.heard a.captures a.world) c.base-base.ensures c.in-Err.ensures.performs.did in
     beginning_at new c.loop-entry.invariant.stands did.1
-
