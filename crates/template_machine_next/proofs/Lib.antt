@@ -1,1 +1,4 @@
+mod Answered
 mod Meant
+mod Runs
+mod Started

@@ -11,7 +11,7 @@ use crate::template::{Held, TemplateOf};
 use std::alloc::Global;
 use std::marker::Model;
 use tm_syntax::{Name, NameMap};
-use tm_tables_next::{Callable, CompiledTemplate, Objects, Source, TemplateConfig};
+use tm_tables_next::{Callable, CompiledTemplate, Objects, Source, TemplateConfig, Templates};
 use tm_values::{Error, ErrorKind, Value};
 
 /// How deep scopes may lie at most.
@@ -24,7 +24,7 @@ const UNNAMED: &str = "<string>";
 #[derive(Drop)]
 pub struct EnvironmentOf<'source, O: Drop> {
     alloc: Global,
-    templates: NameMap<CompiledTemplate<'source>>,
+    templates: Templates<'source>,
     config: TemplateConfig,
     objects: O,
     globals: NameMap<Value>,
@@ -82,8 +82,7 @@ impl<'source, O: Drop> EnvironmentOf<'source, O> {
             Err(error) => return Err(error),
         };
         let name = Name::new(self.alloc, name)?;
-        self.templates.insert(name, compiled)?;
-        Ok(())
+        self.templates.insert(name, compiled)
     }
 
     /// The template of a name; TemplateNotFound where there is none.
@@ -196,7 +195,7 @@ impl<'source, C: Drop> EnvironmentOf<'source, Objects<C>> {
     {
         EnvironmentOf {
             alloc,
-            templates: NameMap::new(alloc),
+            templates: Templates::new(alloc),
             config: TemplateConfig::default(),
             objects: Objects::new(alloc),
             globals: NameMap::new(alloc),

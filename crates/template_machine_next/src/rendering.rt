@@ -12,12 +12,12 @@ use tm_values::{UndefinedBehavior, Value};
 
 /// The environment and the template that is rendered: the machine's one party.
 #[derive(Drop)]
-pub(crate) struct Rendering<'env, 'source, O: Drop> {
-    environment: &'env EnvironmentOf<'source, O>,
-    own: &'env CompiledTemplate<'source>,
+pub(crate) struct Rendering<'env, O: Drop> {
+    environment: &'env EnvironmentOf<'env, O>,
+    own: &'env CompiledTemplate<'env>,
 }
 
-impl<'env, 'source, O: Drop> Model for Rendering<'env, 'source, O> {
+impl<'env, O: Drop> Model for Rendering<'env, O> {
     ghost use Rattle.std.specs.Coded.{codes};
     ghost use Rattle.tm_syntax.specs.contracts.tree.Stmt as statement;
     ghost use Rattle.tm_values.specs.Code.{coded_Val};
@@ -30,12 +30,12 @@ impl<'env, 'source, O: Drop> Model for Rendering<'env, 'source, O> {
     ghost view = { λ r. record { environment = r.environment.now; template = r.own.now } };
 }
 
-impl<'env, 'source, O: Drop> Rendering<'env, 'source, O> {
+impl<'env, O: Drop> Rendering<'env, O> {
     /// A template that is rendered under an environment.
     pub(crate) fn new(
-        environment: &'env EnvironmentOf<'source, O>,
-        own: &'env CompiledTemplate<'source>,
-    ) -> Rendering<'env, 'source, O>
+        environment: &'env EnvironmentOf<'env, O>,
+        own: &'env CompiledTemplate<'env>,
+    ) -> Rendering<'env, O>
         ensures { result ≡ record {
           environment = environment.entry.now;
           template = own.entry.now;
@@ -45,7 +45,7 @@ impl<'env, 'source, O: Drop> Rendering<'env, 'source, O> {
     }
 
     /// The template that is meant.
-    fn template(&self, template: &TemplateId) -> &'env CompiledTemplate<'source>
+    fn template(&self, template: &TemplateId) -> &'env CompiledTemplate<'env>
         ensures { result.now ≡ meant self.now template.now }
     {
         let TemplateId::Entry(name) = template else {
@@ -57,7 +57,7 @@ impl<'env, 'source, O: Drop> Rendering<'env, 'source, O> {
     }
 }
 
-impl<O: Parties> Host for Rendering<'_, '_, O> {
+impl<O: Parties> Host for Rendering<'_, O> {
     ghost use Rattle.std.specs.Prelude.{refl};
     ghost use Rattle.template_machine_next.specs.Environment.{host_of, code};
 

@@ -1,11 +1,18 @@
 //! Templates of an environment.
-ghost use Rattle.std.specs.Prelude.{◌≡◌};
+ghost use Rattle.std.specs.Prelude.{◌≡◌, ◌+◌, ◌<◌, [], ◌∷◌, Err, IfOk, IfErr};
+ghost use Rattle.tm_semantics.specs.World.{root_of};
 ghost use Rattle.template_machine_next.specs.Held.{held_template};
+ghost use Rattle.template_machine_next.specs.Renders.{first, greatest, meaning, meaning_from, IsFresh, Ran, Rendered, RenderedText};
 
 use crate::environment::EnvironmentOf;
 use crate::rendering::Rendering;
+use crate::state::{CapturedOf, StateOf};
 use std::marker::Model;
-use tm_tables_next::{Callable, CompiledTemplate, Objects};
+use tm_parts_next::{Captures, Halt, NullWriter, Sink};
+use tm_semantics::{StreamId, TemplateId};
+use tm_tables_next::{Callable, CompiledTemplate, Objects, Parties};
+use tm_values::{AutoEscape, Error, ErrorKind, Value};
+use tm_vm_next::{Machine, StateData, StateIds};
 
 /// A compiled template: the environment's, or one of its own.
 #[derive(Drop)]
@@ -80,9 +87,91 @@ impl<'env, 'source, O: Drop> TemplateOf<'env, 'source, O> {
     }
 
     /// What its renders run under.
-    pub(crate) fn rendering(&self) -> Rendering<'_, 'source, O>
+    pub(crate) fn rendering(&self) -> Rendering<'_, O>
         ensures { result ≡ self.now }
     {
         Rendering::new(self.environment, self.compiled())
+    }
+}
+
+impl<'env, 'source, O: Parties> TemplateOf<'env, 'source, O> {
+    /// Renders the template over a context value, as the next state of the counter, and gives the text. InvalidOperation, and nothing runs, where the counter is full; OutOfMemory where there is no memory; else the fault that was meant.
+    pub fn render(&self, ids: &mut StateIds, context: Value) -> Result<String, Error>
+        ensures full { ids.old ≡ greatest →
+            (result ≡ Err (ErrorKind.InvalidOperation ∷ [])) × (ids.new ≡ ids.old) }
+        ensures next { ids.old < greatest → ids.new ≡ ids.old + 1 }
+        ensures rendered { ids.old < greatest →
+            RenderedText (meaning O.functions self.now ids.old context) result }
+    {
+        let alloc = self.environment.allocator();
+        let state = self.first_state(ids, context)?;
+        let mut captures = Captures::new(alloc);
+        captures.begin(alloc, true)?;
+        let (mut captures, _state) = self.run_over(state, captures, &mut NullWriter)?;
+        match captures.end() {
+            Some(text) => Ok(text),
+            None => unreachable!(),
+        }
+    }
+
+    /// Renders the template over a context value, as the next state of the counter, into a writer. InvalidOperation, and nothing runs, where the counter is full; WriteFailure where the writer fails or takes nothing; OutOfMemory where there is no memory; else the fault that was meant.
+    pub fn render_captured_to<W: Sink>(
+        &self,
+        ids: &mut StateIds,
+        context: Value,
+        writer: &mut W,
+    ) -> Result<CapturedOf<'_, O>, Error>
+        ensures full { ids.old ≡ greatest →
+            (result ≡ Err (ErrorKind.InvalidOperation ∷ [])) × (ids.new ≡ ids.old)
+            × (W.told writer.new ≡ W.told writer.old)
+            × (W.faults writer.new ≡ W.faults writer.old) }
+        ensures next { ids.old < greatest → ids.new ≡ ids.old + 1 }
+        ensures rendered { ids.old < greatest →
+            Rendered self.now (meaning O.functions self.now ids.old context) result
+            (W.told writer.old) (W.told writer.new) (W.faults writer.old) (W.faults writer.new) }
+    {
+        let state = self.first_state(ids, context)?;
+        let alloc = self.environment.allocator();
+        let (_captures, state) = self.run_over(state, Captures::new(alloc), writer)?;
+        Ok(CapturedOf::new(String::new(alloc), StateOf::new(self.rendering(), state)))
+    }
+
+    /// The state that a render starts from. InvalidOperation where the counter is full, OutOfMemory where there is no memory.
+    fn first_state(&self, ids: &mut StateIds, context: Value) -> Result<StateData<'_>, Error>
+        ensures full { ids.old ≡ greatest →
+            (result ≡ Err (ErrorKind.InvalidOperation ∷ [])) × (ids.new ≡ ids.old) }
+        ensures next { ids.old < greatest → ids.new ≡ ids.old + 1 }
+        ensures state { IfOk result (λ s. s ≡ first O.functions self.now ids.old context) }
+        ensures memory { ids.old < greatest → IfErr result (λ e. e ≡ ErrorKind.OutOfMemory ∷ []) }
+    {
+        let id = ids.next()?;
+        let environment = self.environment;
+        StateData::new(
+            environment.allocator(),
+            id,
+            self.compiled().blocks(),
+            AutoEscape::None,
+            environment.fuel(),
+            context,
+        )
+    }
+
+    /// Runs the template's code over a state, captures and a writer, and gives the captures and the state that are left.
+    fn run_over<'state, W: Sink>(
+        &self,
+        state: StateData<'state>,
+        captures: Captures,
+        writer: &mut W,
+    ) -> Result<(Captures, StateData<'state>), Halt>
+        requires own { state.stream ≡ root_of TemplateId.Own }
+        requires fresh { IsFresh captures }
+        ensures { Ran (meaning_from O.functions self.now state.entry) result captures
+            (W.told writer.old) (W.told writer.new) (W.faults writer.old) (W.faults writer.new) }
+    {
+        let alloc = self.environment.allocator();
+        let stream = StreamId::root(TemplateId::Own);
+        let mut machine = Machine::new(alloc, stream, captures, state);
+        machine.run(alloc, &self.rendering(), true, writer)?;
+        Ok(machine.into_parts())
     }
 }

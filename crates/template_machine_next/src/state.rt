@@ -1,0 +1,124 @@
+//! States, and what a render leaves.
+ghost use Rattle.std.specs.Prelude.{◌≡◌, ◌+◌, Some, IfSome, string_bytes};
+ghost use Rattle.tm_syntax.specs.Named.{find};
+ghost use Rattle.tm_values.specs.Answer.{IsLent};
+ghost use Rattle.tm_semantics.specs.World.{find_name, fuel_levels, name_of, view_of};
+ghost use Rattle.tm_tables_next.specs.Found.{IsFound};
+ghost use Rattle.template_machine_next.specs.Environment.{host_of};
+
+use crate::rendering::Rendering;
+use std::marker::Model;
+use tm_tables_next::{Callable, Host, Objects, Parties};
+use tm_values::{Error, Value};
+use tm_vm_next::StateData;
+
+/// The state of a render. A contract sees the template that was rendered, and a world of the definitions.
+#[derive(Drop)]
+pub struct StateOf<'env, O: Drop> {
+    rendering: Rendering<'env, O>,
+    kept: StateData<'env>,
+}
+
+/// The state of a program's render.
+pub type State<'env> = StateOf<'env, Objects<Box<dyn Callable>>>;
+
+impl<'env, O: Drop> Model for StateOf<'env, O> {
+    ghost use Rattle.std.specs.Coded.{codes};
+    ghost use Rattle.tm_syntax.specs.contracts.tree.Stmt as statement;
+    ghost use Rattle.tm_values.specs.Code.{coded_Val};
+    ghost use Rattle.template_machine_next.specs.Renders.{StateValue};
+
+    ghost Value = { StateValue O };
+
+    ghost coded = { Prim.hlevel (codes, coded_Val, statement.the_row.coded, O.code) };
+
+    ghost view = { λ s. record { template = s.rendering; world = s.kept } };
+}
+
+impl<'env, O: Drop> StateOf<'env, O> {
+    /// A state of what a render ran under.
+    pub(crate) fn new(rendering: Rendering<'env, O>, kept: StateData<'env>) -> StateOf<'env, O>
+        ensures { result ≡ record { template = rendering.entry; world = kept.entry } }
+    {
+        StateOf { rendering, kept }
+    }
+
+    /// The fuel consumed and the fuel left, which together are the fuel that was set; none where no fuel was set.
+    pub fn fuel_levels(&self) -> Option<(u64, u64)>
+        ensures levels { result ≡ fuel_levels self.now.world }
+        ensures sum { IfSome result (λ p. Some (p.0 + p.1) ≡ self.now.world.fuel_set) }
+    {
+        self.kept.fuel_levels()
+    }
+
+    /// The value that was kept at a name, where there is one.
+    pub fn get_temp(&self, name: &str) -> Option<&Value>
+        ensures { IsLent result (find name.now self.now.world.temps) }
+    {
+        self.kept.get_temp(name)
+    }
+}
+
+impl<'env, O: Parties> StateOf<'env, O> {
+    /// The name of the template that runs.
+    pub fn name(&self) -> &str
+        ensures { result.now ≡ name_of (host_of O.functions self.now.template) self.now.world }
+    {
+        self.rendering.template_name(&self.kept.stream().template)
+    }
+
+    /// The value of a name: of the scopes, an inner one's first, else of the globals. InvalidOperation where a scope on the way is over a namespace whose record isn't there.
+    pub fn lookup(&self, name: &str) -> Result<Option<&Value>, Error>
+        ensures { IsFound result (find_name
+            (view_of (host_of O.functions self.now.template) self.now.world) name.now) }
+    {
+        self.kept.lookup(&self.rendering, name)
+    }
+}
+
+/// What a render leaves: the text that went to no writer, and the state.
+#[derive(Drop)]
+pub struct CapturedOf<'env, O: Drop> {
+    output: String,
+    state: StateOf<'env, O>,
+}
+
+/// What a program's render leaves.
+pub type Captured<'env> = CapturedOf<'env, Objects<Box<dyn Callable>>>;
+
+impl<'env, O: Drop> Model for CapturedOf<'env, O> {
+    ghost use Rattle.std.specs.Prelude.{string_bytes};
+    ghost use Rattle.std.specs.Coded.{codes};
+    ghost use Rattle.tm_syntax.specs.contracts.tree.Stmt as statement;
+    ghost use Rattle.tm_values.specs.Code.{coded_Val};
+    ghost use Rattle.template_machine_next.specs.Renders.{CapturedValue};
+
+    ghost Value = { CapturedValue O };
+
+    ghost coded = { Prim.hlevel (codes, coded_Val, statement.the_row.coded, O.code) };
+
+    ghost view = { λ c. record { output = string_bytes c.output; state = c.state } };
+}
+
+impl<'env, O: Drop> CapturedOf<'env, O> {
+    /// A text and a state.
+    pub(crate) fn new(output: String, state: StateOf<'env, O>) -> CapturedOf<'env, O>
+        ensures { result ≡ record { output = string_bytes output; state = state.entry } }
+    {
+        CapturedOf { output, state }
+    }
+
+    /// The text that went to no writer.
+    pub fn output(&self) -> &str
+        ensures { result.now ≡ self.now.output }
+    {
+        self.output.as_str()
+    }
+
+    /// The state that the render left.
+    pub fn state(&self) -> &StateOf<'env, O>
+        ensures { result.now ≡ self.now.state }
+    {
+        &self.state
+    }
+}
