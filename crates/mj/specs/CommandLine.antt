@@ -9,10 +9,11 @@ use Rattle.mj.specs.declared.arguments.Arguments.{Arguments}
 abbrev pub Text : Type 0
 Text = List ℕ
 
--- the texts by name in their order, the fuel, and the file
+-- the texts by name in their order, the fuel, how deep scopes may lie, and the file
 pub record Asked : Type 0 where
   pub texts : List (Text × Text)
   pub fuel : Option ℕ
+  pub limit : Option ℕ
   pub file : Text
 
 -- a word that begins with `-`, and is not `-` alone
@@ -43,28 +44,34 @@ abbrev pub with_text : Option (Text × Text) → (Text × Text → Option Asked)
 with_text None go_on = None
 with_text (Some p) go_on = go_on p
 
--- what words ask for, behind others that gave these texts and this fuel: options, and then one file
+-- what words ask for, behind others that gave these texts, this fuel and this limit: options, and then one file
 abbrev mutual
-  pub asked : List (Text × Text) → Option ℕ → List Text → Option Asked
-  asked texts fuel [] = None
-  asked texts fuel (word ∷ words) =
+  pub asked : List (Text × Text) → Option ℕ → Option ℕ → List Text → Option Asked
+  asked texts fuel limit [] = None
+  asked texts fuel limit (word ∷ words) =
       if is_option word then
-      (if bytes_eq word (codes "--fuel") then asked_number texts words
-      else if bytes_eq word (codes "-D") then asked_text texts fuel words
-      else if begins_definition word then with_text (definition (drop 2 word)) (λ p. asked (texts ++ (p ∷ [])) fuel words)
+      (if bytes_eq word (codes "--fuel") then asked_fuel texts limit words
+      else if bytes_eq word (codes "--limit") then asked_limit texts fuel words
+      else if bytes_eq word (codes "-D") then asked_text texts fuel limit words
+      else if begins_definition word then with_text (definition (drop 2 word)) (λ p. asked (texts ++ (p ∷ [])) fuel limit words)
       else None)
-      else if length words == 0 then Some (record { texts = texts; fuel = fuel; file = word })
+      else if length words == 0 then Some (record { texts = texts; fuel = fuel; limit = limit; file = word })
       else None
 
   -- the same behind `--fuel`, whose number stands in place of an earlier one
-  pub asked_number : List (Text × Text) → List Text → Option Asked
-  asked_number texts [] = None
-  asked_number texts (word ∷ words) = with_number (number word) (λ n. asked texts (Some n) words)
+  pub asked_fuel : List (Text × Text) → Option ℕ → List Text → Option Asked
+  asked_fuel texts limit [] = None
+  asked_fuel texts limit (word ∷ words) = with_number (number word) (λ n. asked texts (Some n) limit words)
+
+  -- the same behind `--limit`
+  pub asked_limit : List (Text × Text) → Option ℕ → List Text → Option Asked
+  asked_limit texts fuel [] = None
+  asked_limit texts fuel (word ∷ words) = with_number (number word) (λ n. asked texts fuel (Some n) words)
 
   -- the same behind `-D`
-  pub asked_text : List (Text × Text) → Option ℕ → List Text → Option Asked
-  asked_text texts fuel [] = None
-  asked_text texts fuel (word ∷ words) = with_text (definition word) (λ p. asked (texts ++ (p ∷ [])) fuel words)
+  pub asked_text : List (Text × Text) → Option ℕ → Option ℕ → List Text → Option Asked
+  asked_text texts fuel limit [] = None
+  asked_text texts fuel limit (word ∷ words) = with_text (definition word) (λ p. asked (texts ++ (p ∷ [])) fuel limit words)
 
 -- the texts as plain data
 abbrev pub plain : Bor Text × Bor Text → Text × Text
@@ -72,4 +79,4 @@ plain p = (p.0.now, p.1.now)
 
 -- what arguments ask for
 abbrev pub asked_of : Arguments → Asked
-asked_of a = record { texts = map plain a.texts.items; fuel = a.fuel; file = a.file.now }
+asked_of a = record { texts = map plain a.texts.items; fuel = a.fuel; limit = a.limit; file = a.file.now }

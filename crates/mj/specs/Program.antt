@@ -1,19 +1,22 @@
 -- What the program gives to a template, what its render means, and how the program ends.
-use Rattle.std.specs.Prelude.{◌≡◌, ◌⊎◌, ℕ, List, [], ◌∷◌, map as each, codes, Option, None, Some, Bool, true, false}
+use Rattle.std.specs.Prelude.{◌≡◌, ◌⊎◌, ℕ, List, [], ◌∷◌, map as each, codes, min, Option, None, Some, Bool, true, false}
 use Rattle.std.specs.Io.KnownBytes.{Keeps, Appends}
-use Rattle.std.specs.Str.{chars, bytes_eq, IsUtf8}
+use Rattle.std.specs.Str.{bytes_eq, IsUtf8}
 use Rattle.tm_values.specs.Val.{Val, text, map, pairs_of}
 use Rattle.tm_values.specs.Chain.{ends_in_memory}
 use Rattle.tm_values.specs.Map.{put_all}
 use Rattle.tm_values.specs.declared.error.ErrorKind.{ErrorKind}
 use Rattle.tm_values.specs.declared.error.ErrorKind.TheVariants.{SyntaxError, WriteFailure}
-use Rattle.tm_compiler.specs.Syntax.{default_syntax}
-use Rattle.tm_compiler.specs.Tree.{Sts}
-use Rattle.tm_compiler.specs.Spells.{Spells}
-use Rattle.tm_meaning.specs.World.{first_world}
-use Rattle.tm_meaning.specs.Meaning.{Outcome, rendered, text_of, chain_of}
+use Rattle.tm_scanner.specs.Syntax.{default_syntax}
+use Rattle.tm_syntax.specs.declared.tree.Tree.{Tree}
+use Rattle.tm_syntax.specs.Named.{put}
+use Rattle.tm_compiler.specs.Spells.{Spells, SpellsNone}
+use Rattle.tm_meaning.specs.World.{Function}
+use Rattle.tm_meaning.specs.Meaning.{Outcome, chain_of}
 use Rattle.tm_output.specs.Counts.{Tally, one_more, AppendsBeginning}
-use Rattle.template_machine.specs.Environment.{empty_environment, host_of}
+use Rattle.tm_tables.specs.Templates.{Compiled}
+use Rattle.template_machine.specs.Environment.{TemplateValue, empty_environment, greatest_limit}
+use Rattle.template_machine.specs.Renders.{meaning}
 use Rattle.mj.specs.CommandLine.{Text, Asked, asked}
 use Rattle.mj.specs.declared.arguments.Refusal.{Refusal}
 use Rattle.mj.specs.declared.arguments.Refusal.TheVariants.{Usage, OutOfMemory}
@@ -26,9 +29,25 @@ pair_of t = (text t.0 false, text t.1 false)
 abbrev pub context_of : List (Text × Text) → Val
 context_of ts = map (pairs_of (put_all (each pair_of ts)))
 
+-- how deep scopes may lie, where the words say so
+abbrev pub limit_of : Option ℕ → ℕ
+limit_of None = greatest_limit
+limit_of (Some n) = min n greatest_limit
+
+-- the one template of an environment that has no functions, with the fuel and the limit of the words
+abbrev pub template_in : Asked → Compiled → TemplateValue (List Function)
+template_in a t = record {
+  environment = record (empty_environment []) { templates = put a.file t []; fuel = a.fuel; limit = limit_of a.limit };
+  template = t;
+}
+
+-- the template that a source and its tree are under the name of the file
+abbrev pub template_of : Asked → Text → Tree → TemplateValue (List Function)
+template_of a source tree = template_in a (record { name = a.file; source = source; tree = tree })
+
 -- what a render of this tree means, as the first state: over the texts that the words give, with their fuel
-abbrev pub meaning_of : Asked → Sts → Outcome
-meaning_of a tree = rendered (host_of empty_environment) tree (first_world 0 a.file a.fuel (context_of a.texts))
+abbrev pub meaning_of : Asked → Text → Tree → Outcome
+meaning_of a source tree = meaning (λ functions. functions) (template_of a source tree) 0 (context_of a.texts)
 
 abbrev either : Bool → Type 0 → Type 0 → Type 0
 either true A B = A
@@ -40,7 +59,7 @@ IsRead of_file of_input texts file read = either (bytes_eq file (codes "-")) (of
 
 -- The words ask for these, and the source is what is read of their file.
 abbrev pub IsInput : {T : Type 0} → (T → Text → Option Text → Type 0) → (T → Option Text → Type 0) → T → List Text → Asked → Text → Type 0
-IsInput of_file of_input texts words a source = (asked [] None words ≡ Some a) × IsRead of_file of_input texts a.file (Some source)
+IsInput of_file of_input texts words a source = (asked [] None None words ≡ Some a) × IsRead of_file of_input texts a.file (Some source)
 
 -- Nothing is read of the file, or no text.
 abbrev pub IsUnread : {T : Type 0} → (T → Text → Option Text → Type 0) → (T → Option Text → Type 0) → T → Text → Type 0
@@ -50,17 +69,17 @@ IsUnread {T = T} of_file of_input texts file =
 -- The words ask for nothing, or for a file that gives no text.
 abbrev pub IsWrongUse : {T : Type 0} → (T → Text → Option Text → Type 0) → (T → Option Text → Type 0) → T → List Text → Type 0
 IsWrongUse of_file of_input texts words =
-    (asked [] None words ≡ None) ⊎ ((a : Asked) × (asked [] None words ≡ Some a) × IsUnread of_file of_input texts a.file)
+    (asked [] None None words ≡ None) ⊎ ((a : Asked) × (asked [] None None words ≡ Some a) × IsUnread of_file of_input texts a.file)
 
 -- The source spells a tree whose render is done, and the writer got its text without a fault.
 abbrev pub IsRendered : {W : Type 0} → (W → Option Text) → Asked → Text → Tally W → Tally W → Type 0
 IsRendered contents a source old new =
-    (tree : Sts) × Spells default_syntax (chars source) tree × (chain_of (meaning_of a tree) ≡ [])
-    × Appends (contents old.writer) (contents new.writer) (text_of (meaning_of a tree)) × (new.failures ≡ old.failures)
+    (tree : Tree) × Spells default_syntax source tree × (chain_of (meaning_of a source tree) ≡ [])
+    × Appends (contents old.writer) (contents new.writer) (meaning_of a source tree).text × (new.failures ≡ old.failures)
 
 -- The source spells a tree, and the writer got a beginning of the text that it means.
 abbrev pub IsBegun : Asked → Text → Option Text → Option Text → Type 0
-IsBegun a source old new = (tree : Sts) × Spells default_syntax (chars source) tree × AppendsBeginning old new (text_of (meaning_of a tree))
+IsBegun a source old new = (tree : Tree) × Spells default_syntax source tree × AppendsBeginning old new (meaning_of a source tree).text
 
 -- A render ends with this error, and the writer holds what that error leaves. Its count of faults rose where a write failed, and only there.
 pub data IsFault {W : Type 0} (contents : W → Option Text) (a : Asked) (source : Text) (chain : List ErrorKind) (old new : Tally W) : Type 0 where
@@ -73,11 +92,11 @@ pub data IsFault {W : Type 0} (contents : W → Option Text) (a : Asked) (source
   -- the flush failed, behind the whole text
   flush_failed : chain ≡ WriteFailure ∷ [] → IsRendered contents a source old new → IsFault contents a source chain old new
   -- the source spells no tree
-  no_tree : chain ≡ SyntaxError ∷ [] → new.failures ≡ old.failures → Keeps (contents old.writer) (contents new.writer) → ((tree : Sts) → Spells default_syntax (chars source) tree → ⊥) →
+  no_tree : chain ≡ SyntaxError ∷ [] → new.failures ≡ old.failures → Keeps (contents old.writer) (contents new.writer) → SpellsNone default_syntax source →
       IsFault contents a source chain old new
   -- the fault is the one that was meant, behind all text that was heard before it
-  meant : (tree : Sts) → Spells default_syntax (chars source) tree → chain_of (meaning_of a tree) ≡ chain → new.failures ≡ old.failures →
-      Appends (contents old.writer) (contents new.writer) (text_of (meaning_of a tree)) → IsFault contents a source chain old new
+  meant : (tree : Tree) → Spells default_syntax source tree → chain_of (meaning_of a source tree) ≡ chain → new.failures ≡ old.failures →
+      Appends (contents old.writer) (contents new.writer) (meaning_of a source tree).text → IsFault contents a source chain old new
 
 -- the exit status where there is nothing to run
 abbrev pub refusal_status : Refusal → ℕ

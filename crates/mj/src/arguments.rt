@@ -13,6 +13,8 @@ pub struct Arguments<'a> {
     pub texts: Vec<(&'a str, &'a str)>,
     /// The fuel of the render, where it is limited.
     pub fuel: Option<u64>,
+    /// How deep scopes may lie, where that is said.
+    pub limit: Option<u64>,
     /// The file of the template; `-` is standard input.
     pub file: &'a str,
 }
@@ -29,7 +31,8 @@ pub enum Refusal {
 impl Refusal {
     /// Why a read that failed gives nothing to run. Want of memory says nothing of what was read.
     pub fn of_read(error: &io::Error) -> Refusal
-        ensures { (result ≡ Refusal.OutOfMemory) ↔ (error_kind error.now ≡ ErrorKind.OutOfMemory) }
+        ensures { (result ≡ Refusal.OutOfMemory)
+            ↔ (error_kind error.now ≡ ErrorKind.OutOfMemory) }
     {
         if error.kind() == ErrorKind::OutOfMemory {
             Refusal::OutOfMemory
@@ -63,12 +66,13 @@ impl<T: Drop> From<AllocFailed<T>> for Refusal {
 
 /// Reads the words after the program's name: options, and then one file.
 pub fn parse(alloc: Global, words: &[String]) -> Result<Arguments<'_>, Refusal>
-    ensures { let asked = spec.asked [] None (map string_bytes words.now) in MatchResult result
+    ensures { let asked = spec.asked [] None None (map string_bytes words.now) in MatchResult result
         (λ a. asked ≡ Some (spec.asked_of a))
         (λ e. (e ≡ Refusal.OutOfMemory) ⊎ ((e ≡ Refusal.Usage) × (asked ≡ None))) }
 {
     let mut texts = Vec::new(alloc);
     let mut fuel = None;
+    let mut limit = None;
     let mut rest = words;
     while let Some((word, after)) = first(rest) {
         if !is_option(word) {
@@ -78,6 +82,7 @@ pub fn parse(alloc: Global, words: &[String]) -> Result<Arguments<'_>, Refusal>
             return Ok(Arguments {
                 texts,
                 fuel,
+                limit,
                 file: word,
             });
         }
@@ -85,6 +90,10 @@ pub fn parse(alloc: Global, words: &[String]) -> Result<Arguments<'_>, Refusal>
         if word == "--fuel" {
             let (word, after) = first(rest).ok_or(Refusal::Usage)?;
             fuel = Some(number(word).ok_or(Refusal::Usage)?);
+            rest = after;
+        } else if word == "--limit" {
+            let (word, after) = first(rest).ok_or(Refusal::Usage)?;
+            limit = Some(number(word).ok_or(Refusal::Usage)?);
             rest = after;
         } else if word == "-D" {
             let (word, after) = first(rest).ok_or(Refusal::Usage)?;
@@ -119,7 +128,8 @@ fn is_option(word: &str) -> bool
 
 /// The name before the first `=`, and the text after it.
 fn definition(word: &str) -> Option<(&str, &str)>
-    ensures { MatchOption result (spec.definition word.now ≡ None) (λ p. spec.definition word.now ≡ Some (spec.plain p)) }
+    ensures { MatchOption result (spec.definition word.now ≡ None)
+        (λ p. spec.definition word.now ≡ Some (spec.plain p)) }
 {
     word.split_once('=')
 }

@@ -1,14 +1,17 @@
 //! The render that the words ask for.
-ghost use Rattle.std.specs.Prelude.{◌≡◌, [], ◌∷◌, map, MatchResult};
+ghost use Rattle.std.specs.Prelude.{◌≡◌, [], ◌∷◌, map, min, MatchResult};
 ghost use Rattle.mj.specs.CommandLine.{asked_of, plain};
-ghost use Rattle.mj.specs.Program.{context_of, IsRendered, IsFault};
+ghost use Rattle.template_machine.specs.Environment.{greatest_limit};
+ghost use Rattle.mj.specs.Program.{context_of, limit_of, IsRendered, IsFault};
 
 use crate::arguments::Arguments;
 use std::alloc::Global;
 use std::io::Write;
 use template_machine::{Counted, Environment, Error, ErrorKind, StateIds, Value, ValueMap};
 
-/// Renders the source and flushes, also after a render that failed, whose error is the one that counts.
+/// Renders the source and flushes, also after a render that failed, whose error is the one that
+/// counts. SyntaxError where the source spells no template, WriteFailure where a write or the flush
+/// fails, OutOfMemory where there is no memory; else the fault that was meant.
 pub fn render<O: Write + Drop>(
     alloc: Global,
     arguments: &Arguments<'_>,
@@ -41,6 +44,7 @@ fn render_unflushed<O: Write + Drop>(
 {
     let mut environment = Environment::new(alloc)?;
     environment.set_fuel(arguments.fuel);
+    environment.set_recursion_limit(limit(arguments.limit));
     environment.add_template(arguments.file, source)?;
     let template = environment.get_template(arguments.file)?;
     let context = context(alloc, arguments.texts.as_slice())?;
@@ -48,9 +52,20 @@ fn render_unflushed<O: Write + Drop>(
     Ok(())
 }
 
-/// The map of the names to their texts.
+/// How deep scopes may lie, where the words say so.
+fn limit(given: Option<u64>) -> usize
+    ensures { min result greatest_limit ≡ limit_of given }
+{
+    match given {
+        Some(limit) => limit as usize,
+        None => usize::MAX,
+    }
+}
+
+/// The map of the names to their texts. Fails by OutOfMemory alone.
 fn context(alloc: Global, texts: &[(&str, &str)]) -> Result<Value, Error>
-    ensures { MatchResult result (λ v. v ≡ context_of (map plain texts.now)) (λ e. e ≡ ErrorKind.OutOfMemory ∷ []) }
+    ensures { MatchResult result (λ v. v ≡ context_of (map plain texts.now))
+        (λ e. e ≡ ErrorKind.OutOfMemory ∷ []) }
 {
     let mut pairs = Vec::with_capacity(alloc, texts.len())?;
     for (name, text) in texts {

@@ -26,14 +26,17 @@ pub trait Texts {
 
     /// The bytes of a file.
     fn file(&mut self, path: &str) -> io::Result<Vec<u8>>
-        ensures { MatchResult result (λ bytes. of_file self.old path.now (Some bytes.items)) (λ _. of_file self.old path.now None) };
+        ensures { MatchResult result (λ bytes. of_file self.old path.now (Some bytes.items))
+            (λ _. of_file self.old path.now None) };
 
     /// The bytes of standard input.
     fn standard_input(&mut self) -> io::Result<Vec<u8>>
-        ensures { MatchResult result (λ bytes. of_input self.old (Some bytes.items)) (λ _. of_input self.old None) };
+        ensures { MatchResult result (λ bytes. of_input self.old (Some bytes.items))
+            (λ _. of_input self.old None) };
 }
 
-/// Renders what the words ask for to `out` as it goes, tells faults to `err`, and gives the exit status.
+/// Renders what the words ask for to `out` as it goes, tells faults to `err`, and gives the exit
+/// status: 0 where all was written, 1 behind a fault, 2 where the words or the file do not serve.
 pub fn run<T: Texts, O: Write + Drop, E: Write + Drop>(
     alloc: Global,
     words: &[String],
@@ -45,13 +48,17 @@ pub fn run<T: Texts, O: Write + Drop, E: Write + Drop>(
     ensures rendered { result ≡ 0 → (err.new ≡ err.old) × (a : Asked) × (source : Text)
         × IsInput T.of_file T.of_input texts.old (map string_bytes words.now) a source
         × IsRendered O.contents a source out.old out.new }
-    ensures fault { result ≡ 1 → (kind : Kind) × (kinds : List Kind) × IsTold E.contents err.old err.new (message kind kinds)
-        × (((ends_in_memory (kind ∷ kinds) ≡ true) × (out.new ≡ out.old)) ⊎ ((a : Asked) × (source : Text)
+    ensures fault { result ≡ 1 → (kind : Kind) × (kinds : List Kind)
+        × IsTold E.contents err.old err.new (message kind kinds)
+        × (((ends_in_memory (kind ∷ kinds) ≡ true) × (out.new ≡ out.old))
+        ⊎ ((a : Asked) × (source : Text)
         × IsInput T.of_file T.of_input texts.old (map string_bytes words.now) a source
         × IsFault O.contents a source (kind ∷ kinds) out.old out.new)) }
-    ensures wrong_use { result ≡ 2 → (out.new ≡ out.old) × IsTold E.contents err.old err.new usage
+    ensures wrong_use { result ≡ 2 → (out.new ≡ out.old)
+        × IsTold E.contents err.old err.new usage
         × IsWrongUse T.of_file T.of_input texts.old (map string_bytes words.now) }
-    ensures refused { asked [] None (map string_bytes words.now) ≡ None → (result ≢ 0) × (out.new ≡ out.old) }
+    ensures refused { asked [] None None (map string_bytes words.now) ≡ None →
+        (result ≢ 0) × (out.new ≡ out.old) }
 {
     let arguments = match parse(alloc, words) {
         Ok(arguments) => arguments,
@@ -67,9 +74,11 @@ pub fn run<T: Texts, O: Write + Drop, E: Write + Drop>(
     }
 }
 
-/// The source of a template. OutOfMemory where a read finds no memory, and else Usage where nothing is read, or no UTF-8.
+/// The source of a template. OutOfMemory where a read finds no memory, and else Usage where nothing
+/// is read, or no UTF-8.
 fn read_source<T: Texts>(texts: &mut T, file: &str) -> Result<String, Refusal>
-    ensures { MatchResult result (λ source. IsRead T.of_file T.of_input texts.old file.now (Some (string_bytes source)))
+    ensures { MatchResult result
+        (λ source. IsRead T.of_file T.of_input texts.old file.now (Some (string_bytes source)))
         (λ _. IsUnread T.of_file T.of_input texts.old file.now) }
 {
     match read_bytes(texts, file) {
@@ -83,7 +92,8 @@ fn read_source<T: Texts>(texts: &mut T, file: &str) -> Result<String, Refusal>
 
 /// The bytes of a file; `-` is standard input.
 fn read_bytes<T: Texts>(texts: &mut T, file: &str) -> io::Result<Vec<u8>>
-    ensures { MatchResult result (λ bytes. IsRead T.of_file T.of_input texts.old file.now (Some bytes.items))
+    ensures { MatchResult result
+        (λ bytes. IsRead T.of_file T.of_input texts.old file.now (Some bytes.items))
         (λ _. IsRead T.of_file T.of_input texts.old file.now None) }
 {
     if file == "-" {

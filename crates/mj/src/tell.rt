@@ -18,7 +18,8 @@ const FAULT: u8 = 1;
 /// The status of wrong arguments and of a file that gives no text.
 const WRONG_USE: u8 = 2;
 
-/// Tells why there is nothing to run, and gives the exit status. A fault of standard error can be told nowhere.
+/// Tells why there is nothing to run, and gives the exit status. A fault of standard error can be
+/// told nowhere.
 pub fn tell_refusal<E: Write + Drop>(err: &mut Counted<E>, refusal: Refusal) -> u8
     ensures status { result ≡ refusal_status refusal }
     ensures told { IsTold E.contents err.old err.new (refusal_message refusal) }
@@ -32,10 +33,12 @@ pub fn tell_refusal<E: Write + Drop>(err: &mut Counted<E>, refusal: Refusal) -> 
     }
 }
 
-/// Tells an error and its causes, a line each, and gives the exit status. A fault of standard error can be told nowhere.
+/// Tells an error and its causes, a line each, and gives the exit status. A fault of standard error
+/// can be told nowhere.
 pub fn tell_error<E: Write + Drop>(err: &mut Counted<E>, error: &Error) -> u8
     ensures status { result ≡ 1 }
-    ensures told { (kind : Kind) × (kinds : List Kind) × (error.now ≡ kind ∷ kinds) × IsTold E.contents err.old err.new (message kind kinds) }
+    ensures told { (kind : Kind) × (kinds : List Kind) × (error.now ≡ kind ∷ kinds)
+        × IsTold E.contents err.old err.new (message kind kinds) }
 {
     let _ = write_error(err, error);
     FAULT
@@ -43,7 +46,8 @@ pub fn tell_error<E: Write + Drop>(err: &mut Counted<E>, error: &Error) -> u8
 
 /// Writes an error and its causes, a line each; the writer's error.
 fn write_error<E: Write + Drop>(err: &mut Counted<E>, error: &Error) -> io::Result<()>
-    ensures { (kind : Kind) × (kinds : List Kind) × (error.now ≡ kind ∷ kinds) × IsWritten E.contents result err.old err.new (message kind kinds) }
+    ensures { (kind : Kind) × (kinds : List Kind) × (error.now ≡ kind ∷ kinds)
+        × IsWritten E.contents result err.old err.new (message kind kinds) }
 {
     if let Err(fault) = write_line(err, "error: ", error.kind()) {
         return Err(fault);

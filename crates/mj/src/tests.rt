@@ -1,4 +1,4 @@
-//! What no clause says: which words serve, what is written, and in which order faults are told.
+//! What no clause says: which words serve, what is read and written, and how faults are told.
 
 use crate::run::{Texts, run};
 use std::alloc::Global;
@@ -117,29 +117,71 @@ const PAGE_EXPECTED: &str = "<!DOCTYPE html>
   </body>
 </html>";
 
-/// A few files, and a standard input.
+const NOTICE: &str = "{# A notice of a parcel. Where no recipient is named,
+   it goes to the customer. #}Parcel {{ parcel }}{% if service == 'express' %}, express{% endif %}
+
+Dear {{ recipient or 'customer' }},
+
+{% if neighbour %}it was left with {{ neighbour }}.{% elif shop and not held
+%}it waits for you at {{ shop }}.{% else %}we could not deliver it.{% endif %}
+{% block foot %}
+With kind regards
+{{ carrier }}
+{% endblock foot %}
+";
+
+const NOTICE_NAMES: &str = "parcel=JD0146
+service=express
+neighbour=
+shop=Corner & Co
+carrier=Parcel & Sons
+";
+
+const NOTICE_EXPECTED: &str = "Parcel JD0146, express
+
+Dear customer,
+
+it waits for you at Corner & Co.
+
+With kind regards
+Parcel & Sons
+";
+
+/// A few files and a standard input, and how often one of them was read.
 #[derive(Drop)]
 struct Shelf {
     alloc: Global,
+    reads: u64,
+}
+
+impl Shelf {
+    fn new(alloc: Global) -> Shelf {
+        Shelf { alloc, reads: 0 }
+    }
 }
 
 impl Texts for Shelf {
     fn file(&mut self, path: &str) -> io::Result<Vec<u8>> {
+        self.reads = self.reads.saturating_add(1);
         let bytes: &[u8] = match path {
             "hello.txt" => b"Hello {{ name }}!\n",
-            "tag.txt" => b"{% x %}",
+            "tag.txt" => b"a{% x %}",
+            "call.txt" => b"a{{ nope() }}b",
+            "block.txt" => b"a{% block x %}b{% endblock %}",
             "bytes.bin" => b"\xff\xfe",
             "-x" => b"never read",
             "vast.txt" => return Err(io::Error::from(io::ErrorKind::OutOfMemory)),
             "mail.txt" => MAIL.as_bytes(),
             "server.conf" => SERVER.as_bytes(),
             "page.html" => PAGE.as_bytes(),
+            "notice.txt" => NOTICE.as_bytes(),
             _ => return Err(io::Error::from(io::ErrorKind::NotFound)),
         };
         Ok(bytes.to_vec(self.alloc)?)
     }
 
     fn standard_input(&mut self) -> io::Result<Vec<u8>> {
+        self.reads = self.reads.saturating_add(1);
         let bytes: &[u8] = b"Hello {{ name }}!";
         Ok(bytes.to_vec(self.alloc)?)
     }
@@ -185,183 +227,265 @@ impl Write for Page {
     }
 }
 
-/// Runs the program over these words, onto this page, and compares its status and what it wrote.
-fn expect(
-    rt: &impl Abort,
-    page: Page,
-    words: &[&str],
-    wanted: (u8, &str, &str),
-) -> Result<Page, Fail> {
-    let alloc = *page.bytes.allocator();
-    let mut out = Counted::new(page);
+/// What a run answers: its status, what is written and told, and how often is read and flushed.
+#[derive(Clone, Copy)]
+struct Answer {
+    status: u8,
+    written: &'static str,
+    told: &'static str,
+    reads: u64,
+    flushes: u64,
+}
+
+/// The words of a run.
+type Words = &'static [&'static str];
+
+/// Nothing is read or written for words that ask for nothing.
+static NOTHING_READ: Answer = Answer {
+    status: 2,
+    written: "",
+    told: USAGE_LINE,
+    reads: 0,
+    flushes: 0,
+};
+
+/// A file that gives no text.
+static NO_TEXT: Answer = Answer {
+    status: 2,
+    written: "",
+    told: USAGE_LINE,
+    reads: 1,
+    flushes: 0,
+};
+
+/// The words one by one, each a text of its own.
+fn owned(alloc: Global, words: &[&str]) -> Result<Vec<String>, Fail> {
     let mut owned = Vec::new(alloc);
     for word in words {
         owned.push(String::from_str(alloc, word)?)?;
     }
-    let mut err = Counted::new(Vec::<u8>::new(alloc));
-    let status = run(
-        alloc,
-        owned.as_slice(),
-        &mut Shelf { alloc },
-        &mut out,
-        &mut err,
-    );
-    let page = out.into_inner();
-    let (wanted_status, wanted_out, wanted_err) = wanted;
-    assert_eq!(rt;
-        std::str::from_utf8(err.inner().as_slice())?,
-        wanted_err,
-        "told of {words:?}"
-    );
-    assert_eq!(rt; status, wanted_status, "status of {words:?}");
-    assert_eq!(rt;
-        page.bytes.as_slice(),
-        wanted_out.as_bytes(),
-        "written of {words:?}"
-    );
-    Ok(page)
+    Ok(owned)
 }
+
+/// Runs the program over these words, onto this page, and compares what it answers.
+fn expect(rt: &impl Abort, page: Page, words: &[&str], wanted: &Answer) -> Result<(), Fail> {
+    let alloc = *page.bytes.allocator();
+    let mut out = Counted::new(page);
+    let mut err = Counted::new(Vec::<u8>::new(alloc));
+    let mut shelf = Shelf::new(alloc);
+    let owned = owned(alloc, words)?;
+    let status = run(alloc, owned.as_slice(), &mut shelf, &mut out, &mut err);
+    let told = std::str::from_utf8(err.inner().as_slice())?;
+    assert_eq!(rt; told, wanted.told, "told of {words:?}");
+    assert_eq!(rt; status, wanted.status, "status of {words:?}");
+    let page = out.inner();
+    let written = std::str::from_utf8(page.bytes.as_slice())?;
+    assert_eq!(rt; written, wanted.written, "written of {words:?}");
+    assert_eq!(rt; shelf.reads, wanted.reads, "reads of {words:?}");
+    assert_eq!(rt; page.flushes, wanted.flushes, "flushes of {words:?}");
+    Ok(())
+}
+
+static SERVE: [(Words, &str); 11] = [
+    (&["-D", "name=World", "-"], "Hello World!"),
+    (&["-D", "name=World", "hello.txt"], "Hello World!"),
+    (
+        &["--fuel", "5", "-D", "name=World", "hello.txt"],
+        "Hello World!",
+    ),
+    (&["-Dname=A", "-D", "name=B", "hello.txt"], "Hello B!"),
+    (&["-D", "name=a=b=c", "hello.txt"], "Hello a=b=c!"),
+    (&["-Dname=", "hello.txt"], "Hello !"),
+    (&["hello.txt"], "Hello !"),
+    (&["--limit", "1", "hello.txt"], "Hello !"),
+    (&["--limit", "2", "block.txt"], "ab"),
+    (&["-Dname=x", "--fuel", "1", "--fuel", "5", "-"], "Hello x!"),
+    (
+        &["-Dname=x", "--fuel", "18446744073709551615", "-"],
+        "Hello x!",
+    ),
+];
 
 #[test]
 fn words_that_serve(rt: HostRuntime) -> Result<(), Fail> {
-    let alloc = rt.alloc();
-    let rows: [(&[&str], &str); 8] = [
-        (&["-D", "name=World", "-"], "Hello World!"),
-        (&["-D", "name=World", "hello.txt"], "Hello World!"),
-        (
-            &["--fuel", "5", "-D", "name=World", "hello.txt"],
-            "Hello World!",
-        ),
-        (&["-Dname=A", "-D", "name=B", "hello.txt"], "Hello B!"),
-        (&["-D", "name=a=b=c", "hello.txt"], "Hello a=b=c!"),
-        (&["-Dname=", "hello.txt"], "Hello !"),
-        (&["-Dname=x", "--fuel", "1", "--fuel", "5", "-"], "Hello x!"),
-        (
-            &["-Dname=x", "--fuel", "18446744073709551615", "-"],
-            "Hello x!",
-        ),
-    ];
-    for (words, written) in rows {
-        let page = expect(&rt, Page::new(alloc), words, (0, written, ""))?;
-        assert_eq!(rt; page.flushes, 1);
+    for (words, written) in &SERVE {
+        let wanted = Answer {
+            status: 0,
+            written: *written,
+            told: "",
+            reads: 1,
+            flushes: 1,
+        };
+        expect(&rt, Page::new(rt.alloc()), words, &wanted)?;
     }
     Ok(())
 }
+
+static ASK_NOTHING: [Words; 20] = [
+    &[],
+    &["--json", "a.json", "hello.txt"],
+    &["--limit", "hello.txt"],
+    &["--limit", "-1", "hello.txt"],
+    &["--other", "hello.txt"],
+    &["-x"],
+    &["--", "hello.txt"],
+    &["hello.txt", "hello.txt"],
+    &["-", "-"],
+    &["hello.txt", "-D", "name=World"],
+    &["-D", "x", "hello.txt"],
+    &["-Dx", "hello.txt"],
+    &["-D"],
+    &["-D", "name=World"],
+    &["--fuel"],
+    &["--fuel", "hello.txt"],
+    &["--fuel", "", "hello.txt"],
+    &["--fuel", "-1", "hello.txt"],
+    &["--fuel", "+1", "hello.txt"],
+    &["--fuel", "18446744073709551616", "hello.txt"],
+];
 
 #[test]
 fn words_that_do_not_serve(rt: HostRuntime) -> Result<(), Fail> {
-    let alloc = rt.alloc();
-    let rows: [&[&str]; 21] = [
-        &[],
-        &["--json", "a.json", "hello.txt"],
-        &["--limit", "5", "hello.txt"],
-        &["--other", "hello.txt"],
-        &["-x"],
-        &["--", "hello.txt"],
-        &["hello.txt", "hello.txt"],
-        &["-", "-"],
-        &["hello.txt", "-D", "name=World"],
-        &["-D", "x", "hello.txt"],
-        &["-Dx", "hello.txt"],
-        &["-D"],
-        &["-D", "name=World"],
-        &["--fuel"],
-        &["--fuel", "hello.txt"],
-        &["--fuel", "", "hello.txt"],
-        &["--fuel", "-1", "hello.txt"],
-        &["--fuel", "+1", "hello.txt"],
-        &["--fuel", "18446744073709551616", "hello.txt"],
-        &["missing.txt"],
-        &["bytes.bin"],
-    ];
-    for words in rows {
-        let page = expect(&rt, Page::new(alloc), words, (2, "", USAGE_LINE))?;
-        assert_eq!(rt; page.flushes, 0);
+    for words in &ASK_NOTHING {
+        expect(&rt, Page::new(rt.alloc()), words, &NOTHING_READ)?;
+    }
+    for file in ["missing.txt", "bytes.bin"] {
+        expect(&rt, Page::new(rt.alloc()), &[file], &NO_TEXT)?;
     }
     Ok(())
 }
 
+static FAULTS: [(Words, Answer); 5] = [
+    (
+        &["--fuel", "4", "-Dname=World", "hello.txt"],
+        Answer {
+            status: 1,
+            written: "Hello World",
+            told: "error: OutOfFuel\n",
+            reads: 1,
+            flushes: 1,
+        },
+    ),
+    (
+        &["tag.txt"],
+        Answer {
+            status: 1,
+            written: "",
+            told: "error: SyntaxError\n",
+            reads: 1,
+            flushes: 1,
+        },
+    ),
+    (
+        &["--limit", "1", "block.txt"],
+        Answer {
+            status: 1,
+            written: "a",
+            told: "error: InvalidOperation\n",
+            reads: 1,
+            flushes: 1,
+        },
+    ),
+    (
+        &["call.txt"],
+        Answer {
+            status: 1,
+            written: "a",
+            told: "error: UnknownFunction\n",
+            reads: 1,
+            flushes: 1,
+        },
+    ),
+    (
+        &["vast.txt"],
+        Answer {
+            status: 1,
+            written: "",
+            told: "error: OutOfMemory\n",
+            reads: 1,
+            flushes: 0,
+        },
+    ),
+];
+
 #[test]
 fn faults_of_renders(rt: HostRuntime) -> Result<(), Fail> {
-    let alloc = rt.alloc();
-    let words: &[&str] = &["--fuel", "4", "-Dname=World", "hello.txt"];
-    let wanted = (1, "Hello World", "error: OutOfFuel\n");
-    let page = expect(&rt, Page::new(alloc), words, wanted)?;
-    assert_eq!(rt; page.flushes, 1);
-    expect(
-        &rt,
-        Page::new(alloc),
-        &["tag.txt"],
-        (1, "", "error: SyntaxError\n"),
-    )?;
-    let wanted = (1, "", "error: OutOfMemory\n");
-    expect(&rt, Page::new(alloc), &["vast.txt"], wanted)?;
+    for (words, wanted) in &FAULTS {
+        expect(&rt, Page::new(rt.alloc()), words, wanted)?;
+    }
     Ok(())
 }
 
+/// A page that takes this many bytes, and whose flush may fail; what is written and told on it.
+static PAGES: [(usize, bool, Words, &str, &str); 3] = [
+    (
+        8,
+        false,
+        &["-Dname=World", "hello.txt"],
+        "Hello Wo",
+        "error: WriteFailure\n",
+    ),
+    (
+        1000,
+        true,
+        &["-Dname=World", "hello.txt"],
+        "Hello World!",
+        "error: WriteFailure\n",
+    ),
+    (1000, true, &["--fuel", "1", "-"], "", "error: OutOfFuel\n"),
+];
+
 #[test]
 fn faults_of_the_writer(rt: HostRuntime) -> Result<(), Fail> {
-    let alloc = rt.alloc();
-    let words: &[&str] = &["-Dname=World", "hello.txt"];
-    let failed = "error: WriteFailure\n";
-    let full = Page {
-        room: 8,
-        ..Page::new(alloc)
-    };
-    expect(&rt, full, words, (1, "Hello Wo", failed))?;
-    let unflushed = Page {
-        flush_fails: true,
-        ..Page::new(alloc)
-    };
-    expect(&rt, unflushed, words, (1, "Hello World!", failed))?;
-    let both = Page {
-        flush_fails: true,
-        ..Page::new(alloc)
-    };
-    expect(
-        &rt,
-        both,
-        &["--fuel", "1", "-"],
-        (1, "", "error: OutOfFuel\n"),
-    )?;
+    for (room, flush_fails, words, written, told) in &PAGES {
+        let page = Page {
+            room: *room,
+            flush_fails: *flush_fails,
+            ..Page::new(rt.alloc())
+        };
+        let wanted = Answer {
+            status: 1,
+            written: *written,
+            told: *told,
+            reads: 1,
+            flushes: 1,
+        };
+        expect(&rt, page, words, &wanted)?;
+    }
     Ok(())
 }
 
 /// The words that give an example its names, and the example itself.
-fn words_of(alloc: Global, names: &str, path: &str) -> Result<Vec<String>, Fail> {
+fn words_of<'a>(alloc: Global, names: &'a str, path: &'a str) -> Result<Vec<&'a str>, Fail> {
     let mut words = Vec::new(alloc);
     for line in names.lines() {
-        words.push(String::from_str(alloc, "-D")?)?;
-        words.push(String::from_str(alloc, line)?)?;
+        words.push("-D")?;
+        words.push(line)?;
     }
-    words.push(String::from_str(alloc, path)?)?;
+    words.push(path)?;
     Ok(words)
 }
+
+static EXAMPLES: [(&str, &str, &str); 4] = [
+    ("mail.txt", MAIL_NAMES, MAIL_EXPECTED),
+    ("server.conf", SERVER_NAMES, SERVER_EXPECTED),
+    ("page.html", PAGE_NAMES, PAGE_EXPECTED),
+    ("notice.txt", NOTICE_NAMES, NOTICE_EXPECTED),
+];
 
 #[test]
 fn the_examples(rt: HostRuntime) -> Result<(), Fail> {
     let alloc = rt.alloc();
-    for (file, names, expected) in [
-        ("mail.txt", MAIL_NAMES, MAIL_EXPECTED),
-        ("server.conf", SERVER_NAMES, SERVER_EXPECTED),
-        ("page.html", PAGE_NAMES, PAGE_EXPECTED),
-    ] {
+    for (file, names, written) in &EXAMPLES {
+        let wanted = Answer {
+            status: 0,
+            written: *written,
+            told: "",
+            reads: 1,
+            flushes: 1,
+        };
         let words = words_of(alloc, names, file)?;
-        let mut out = Counted::new(Vec::<u8>::new(alloc));
-        let mut err = Counted::new(Vec::<u8>::new(alloc));
-        let status = run(
-            alloc,
-            words.as_slice(),
-            &mut Shelf { alloc },
-            &mut out,
-            &mut err,
-        );
-        assert_eq!(rt; status, 0, "status of {file}");
-        assert_eq!(rt;
-            out.inner().as_slice(),
-            expected.as_bytes(),
-            "written of {file}"
-        );
+        expect(&rt, Page::new(alloc), words.as_slice(), &wanted)?;
     }
     Ok(())
 }

@@ -1,99 +1,134 @@
--- What a run of a tree's code answered is what the tree means.
-use Rattle.std.proofs.Common.{◌≡◌, ℕ, List, [], Bool, true, false, Option, Result, Ok, Err, IsErrAnd, refl, sym, ap, subst}
+-- What a run of a template's code answered is what its trees mean.
+use Rattle.std.proofs.Common.{◌≡◌, ◌⊎◌, inl, inr, ℕ, List, [], ◌∷◌, Bool, true, false, Option, Result, Ok, Err, IsErrAnd, refl, sym, ap, ◌∙◌, subst}
 use Rattle.std.specs.Io.KnownBytes.{Appends}
 use Rattle.tm_values.specs.Chain.{ends_in_memory}
 use Rattle.tm_values.specs.declared.error.ErrorKind.{ErrorKind}
-use Rattle.tm_compiler.specs.Tree.{Sts}
-use Rattle.tm_compiler.specs.Code.{codes}
-use Rattle.tm_meaning.specs.Texts.{put_in, put_out}
-use Rattle.tm_meaning.specs.World.{World, Host}
-use Rattle.tm_meaning.specs.Machine.{Config, Final, End, Finished, Failed}
-use Rattle.tm_meaning.specs.Meaning.{Outcome, Done, Fault, rendered, text_of, nests_of}
-use Rattle.tm_meaning.specs.Runs.{Reaches, start, final}
+use Rattle.tm_meaning.specs.World.{World}
+use Rattle.tm_meaning.specs.Calls.{whole}
+use Rattle.tm_meaning.specs.Tree.{Trees}
+use Rattle.tm_meaning.specs.Meaning.{Ending, done, leave, next, fault, Outcome, rendered}
+use Rattle.tm_meaning.specs.Machine.{Capture, Config, End, Finished, Failed, Stuck, Program, base_of, new_capture, put_in, put_out, start}
+use Rattle.tm_meaning.specs.Steps.{Final, final, Reaches}
+use Rattle.tm_meaning.specs.Compiled.{IsCompiled}
 use Rattle.tm_meaning.proofs.Ends.{one_end}
 use Rattle.tm_output.specs.Counts.{AppendsBeginning}
 use Rattle.tm_parts.specs.Halts.{faults_after}
 use Rattle.tm_parts.specs.declared.halt.Halt.{Halt}
 use Rattle.tm_parts.specs.declared.halt.Halt.TheVariants as halt
-use Rattle.tm_vm.specs.Answers.{HaltsAs, Comes, frame}
-use Rattle.tm_simulation.specs.Reached.{final_of}
-use Rattle.tm_simulation.proofs.Simulation.{reaches_meaning, never_stuck}
-use Rattle.template_machine.specs.Renders.{IsRun, Ran, run_as_meant, run_by_writer, run_by_memory}
+use Rattle.tm_simulation.proofs.Follow.{Bed, air, inside}
+use Rattle.tm_simulation.proofs.Forms.{end_by, end_of}
+use Rattle.tm_simulation.proofs.Simulation.{render_runs}
+use Rattle.tm_vm.specs.Answers.{HaltsAs, Comes}
+use Rattle.tm_vm.specs.Nested.{Begins}
+use Rattle.template_machine.specs.Renders.{answer_by, answer_of, IsFresh, IsRun, Ran, run_as_meant, run_by_writer, run_by_memory}
 
--- an end that is the meant one
-finished_is : (captures new : List (List ℕ)) (text : List ℕ) (left : World) (m : Outcome) → final text (Finished new left) ≡ final_of captures [] m →
-    (text ≡ put_out captures (text_of m)) × IsRun (Ok (new, left)) captures m
-finished_is captures new text left (Done run out w) e =
-    let ends : Finished new left ≡ Finished (put_in captures out) w = ap (λ (o : Final). o.end) e in
-    (ap (λ (o : Final). o.text) e, (let a : left ≡ w = cc in a, let b : new ≡ put_in captures out = cc in b))
-finished_is captures new text left (Fault out w chain) e = let ends : Finished new left ≡ Failed w chain = ap (λ (o : Final). o.end) e in absurd (cc)
+-- ---------------------------------------------------------------- ends
+-- the end that is meant, over captures
+abbrev meant_end : Ending → List Capture → World → End
+meant_end (fault chain) ks w = Failed chain w
+meant_end e ks w = Finished ks w
 
-failed_is : (captures new : List (List ℕ)) (text : List ℕ) (left : World) (answer : List ErrorKind) (m : Outcome) → final text (Failed left answer) ≡ final_of captures [] m →
-    (text ≡ put_out captures (text_of m)) × IsRun (Err (halt.Fault answer)) captures m
-failed_is captures new text left answer (Done run out w) e = let ends : Failed left answer ≡ Finished (put_in captures out) w = ap (λ (o : Final). o.end) e in absurd (cc)
-failed_is captures new text left answer (Fault out w chain) e =
-    let ends : Failed left answer ≡ Failed w chain = ap (λ (o : Final). o.end) e in
-    (ap (λ (o : Final). o.text) e, let a : answer ≡ chain = cc in a)
+abbrev final_by : Ending → List Capture → List ℕ → World → Final
+final_by e captures out w = final (put_out captures out) (meant_end e (put_in captures out) w)
 
--- the text that a meant end has
-final_text : (captures : List (List ℕ)) (m : Outcome) → (final_of captures [] m).text ≡ put_out captures (text_of m)
-final_text captures (Done run out w) = refl
-final_text captures (Fault out w chain) = refl
+abbrev final_in : List Capture → Outcome → Final
+final_in captures m = final_by m.ending captures m.text m.world
 
--- A run of a tree's code, over captures and a writer.
-module _ (h : Host) (tree : Sts) (captures new : List (List ℕ)) (w left : World) (told now : Option (List ℕ)) (faults count : ℕ) where
+abbrev IsDone : Ending → List Capture → List Capture → List ℕ → List ℕ → World → World → Type 0
+IsDone e captures new text out left w = (text ≡ put_out captures out) × ((answer_by e w ≡ Ok left) × (new ≡ put_in captures out))
+
+ended_is : (e : Ending) (captures new : List Capture) (text out : List ℕ) (left w : World) → final text (Finished new left) ≡ final (put_out captures out) (Finished (put_in captures out) w) →
+    answer_by e w ≡ Ok w → IsDone e captures new text out left w
+ended_is e captures new text out left w same answer =
+    let ends : Finished new left ≡ Finished (put_in captures out) w = ap (λ (o : Final). o.end) same in
+    let world : w ≡ left = cc in
+    (ap (λ (o : Final). o.text) same, (answer ∙ ap (λ x. Ok x) world, let a : new ≡ put_in captures out = cc in a))
+
+finished_is : (e : Ending) (captures new : List Capture) (text out : List ℕ) (left w : World) → final text (Finished new left) ≡ final_by e captures out w → IsDone e captures new text out left w
+finished_is done captures new text out left w same = ended_is done captures new text out left w same refl
+finished_is leave captures new text out left w same = ended_is leave captures new text out left w same refl
+finished_is next captures new text out left w same = ended_is next captures new text out left w same refl
+finished_is (fault chain) captures new text out left w same = let ends : Finished new left ≡ Failed chain w = ap (λ (o : Final). o.end) same in absurd (cc)
+
+not_failed : (captures : List Capture) (text out : List ℕ) (left w : World) (answer : List ErrorKind) (e : Ending) →
+    final text (Failed answer left) ≡ final (put_out captures out) (Finished (put_in captures out) w) → (text ≡ put_out captures out) × (answer_by e w ≡ Err answer)
+not_failed captures text out left w answer e same = let ends : Failed answer left ≡ Finished (put_in captures out) w = ap (λ (o : Final). o.end) same in absurd (cc)
+
+failed_is : (e : Ending) (captures : List Capture) (text out : List ℕ) (left w : World) (answer : List ErrorKind) → final text (Failed answer left) ≡ final_by e captures out w →
+    (text ≡ put_out captures out) × (answer_by e w ≡ Err answer)
+failed_is done captures text out left w answer same = not_failed captures text out left w answer done same
+failed_is leave captures text out left w answer same = not_failed captures text out left w answer leave same
+failed_is next captures text out left w answer same = not_failed captures text out left w answer next same
+failed_is (fault chain) captures text out left w answer same =
+    let ends : Failed answer left ≡ Failed chain w = ap (λ (o : Final). o.end) same in
+    (ap (λ (o : Final). o.text) same, let a : Err chain ≡ Err answer = cc in a)
+
+not_stuck : (e : Ending) (captures : List Capture) (text out : List ℕ) (left w : World) → final text (Stuck left) ≡ final_by e captures out w → ⊥
+not_stuck done captures text out left w same = let ends : Stuck left ≡ Finished (put_in captures out) w = ap (λ (o : Final). o.end) same in absurd (cc)
+not_stuck leave captures text out left w same = let ends : Stuck left ≡ Finished (put_in captures out) w = ap (λ (o : Final). o.end) same in absurd (cc)
+not_stuck next captures text out left w same = let ends : Stuck left ≡ Finished (put_in captures out) w = ap (λ (o : Final). o.end) same in absurd (cc)
+not_stuck (fault chain) captures text out left w same = let ends : Stuck left ≡ Failed chain w = ap (λ (o : Final). o.end) same in absurd (cc)
+
+-- ---------------------------------------------------------------- beds
+heard_air : (e : Ending) (out : List ℕ) (w : World) → end_by e air out w ≡ final_by e [] out w
+heard_air done out w = refl
+heard_air leave out w = refl
+heard_air next out w = refl
+heard_air (fault chain) out w = refl
+
+heard_inside : (e : Ending) (out : List ℕ) (w : World) → end_by e (inside true [] []) out w ≡ final_by e (new_capture true ∷ []) out w
+heard_inside done out w = refl
+heard_inside leave out w = refl
+heard_inside next out w = refl
+heard_inside (fault chain) out w = refl
+
+-- ---------------------------------------------------------------- runs
+-- A run of a template's code, over captures and a writer.
+module _ (p : Program) (trees : Trees) (compiled : IsCompiled trees p) (captures new : List Capture) (w left : World) (told now : Option (List ℕ)) (faults count : ℕ) where
   abbrev m : Outcome
-  m = rendered h tree w
+  m = rendered p.host trees w
+
+  abbrev Goes : List Capture → Final → Type 0
+  Goes ks o = Reaches p (base_of true ks w) [] (start (whole w.stream) ks w) o
 
   -- the code comes to the end that the tree means
-  reached : Reaches h (frame captures) [] (start (codes 0 tree) captures w) (final_of captures [] m)
-  reached = reaches_meaning h (nests_of h h.limit) tree captures [] w
+  reached : IsFresh captures → Goes captures (final_in captures m)
+  reached (inl none) =
+      subst (λ ks. Goes ks (final_in ks m)) (sym none) (subst (λ o. Goes [] o) (heard_air m.ending m.text m.world) (render_runs p trees compiled air w))
+  reached (inr one) =
+      subst (λ ks. Goes ks (final_in ks m)) (sym one)
+      (subst (λ o. Goes (new_capture true ∷ []) o) (heard_inside m.ending m.text m.world) (render_runs p trees compiled (inside true [] []) w))
 
   abbrev ComesTo : End → Type 0
-  ComesTo e = Comes h (start (codes 0 tree) captures w) told now e
+  ComesTo e = Comes p (base_of true captures w) (start (whole w.stream) captures w) told now e
 
-  written : (text : List ℕ) → text ≡ put_out captures (text_of m) → Appends told now text → Appends told now (put_out captures (text_of m))
+  written : (text : List ℕ) → text ≡ put_out captures m.text → Appends told now text → Appends told now (put_out captures m.text)
   written text same appended = subst (λ t. Appends told now t) same appended
 
-  -- what the writer has got where a run stopped
-  abbrev Begins : Type 0
-  Begins = (o : Final) → Reaches h (frame captures) [] (start (codes 0 tree) captures w) o → AppendsBeginning told now o.text
+  pub run_done : (parts : List Capture × World) → IsFresh captures → parts.0 ≡ new → parts.1 ≡ left → ComesTo (Finished new left) → count ≡ faults → Ran m (Ok parts) captures told now faults count
+  run_done parts fresh first second (text, appended, reaches) counted =
+      let same = finished_is m.ending captures new text m.text left m.world (one_end reaches (reached fresh)) in
+      run_as_meant (same.1.0 ∙ ap (λ x. Ok x) (sym second), first ∙ same.1.1) (written text same.0 appended) counted
 
-  done : ComesTo (Finished new left) → count ≡ faults → Ran m (Ok (new, left)) captures told now faults count
-  done (text, appended, reaches) counted =
-      let same = finished_is captures new text left m (one_end reaches reached) in run_as_meant same.1 (written text same.0 appended) counted
-
-  halted : (why : Halt) → HaltsAs why left ComesTo → Begins → count ≡ faults_after {A = Unit {0}} (Err why) faults → Ran m (Err why) captures told now faults count
-  halted why ends begun counted = by_halt why ends counted
+  pub run_halted : (why : Halt) → IsFresh captures → HaltsAs why left ComesTo → Begins p (base_of true captures w) (start (whole w.stream) captures w) told now →
+      count ≡ faults_after {A = Unit {0}} (Err why) faults → Ran m (Err why) captures told now faults count
+  run_halted why fresh ends begun counted = by_halt why ends counted
     where
-      part : AppendsBeginning told now (put_out captures (text_of m))
-      part = subst (λ t. AppendsBeginning told now t) (final_text captures m) (begun _ reached)
+      part : AppendsBeginning told now (put_out captures m.text)
+      part = begun _ (reached fresh)
 
-      by_chain : (b : Bool) (chain : List ErrorKind) → ends_in_memory chain ≡ b → (ends_in_memory chain ≡ false → ComesTo (Failed left chain)) → count ≡ faults →
+      by_chain : (b : Bool) (chain : List ErrorKind) → ends_in_memory chain ≡ b → (ends_in_memory chain ≡ false → ComesTo (Failed chain left)) → count ≡ faults →
           Ran m (Err (halt.Fault chain)) captures told now faults count
       by_chain true chain memory ends counted = run_by_memory chain refl memory part counted
       by_chain false chain own ends counted =
           let came = ends own in
-          let same = failed_is captures new came.0 left chain m (one_end came.2 reached) in
+          let same = failed_is m.ending captures came.0 m.text left m.world chain (one_end came.2 (reached fresh)) in
           run_as_meant same.1 (written came.0 same.0 came.1) counted
 
       by_halt : (why : Halt) → HaltsAs why left ComesTo → count ≡ faults_after {A = Unit {0}} (Err why) faults → Ran m (Err why) captures told now faults count
       by_halt halt.Writer ends counted = run_by_writer refl part counted
-      by_halt halt.Stuck (text, appended, reaches) counted = absurd (never_stuck h (nests_of h h.limit) tree captures [] text w left reaches)
+      by_halt halt.Stuck (text, appended, reaches) counted = absurd (not_stuck m.ending captures text m.text left m.world (one_end reaches (reached fresh)))
       by_halt (halt.Fault chain) ends counted = by_chain (ends_in_memory chain) chain refl ends counted
-
-  module _ (config : Config) (same : config ≡ start (codes 0 tree) captures w) where
-    pub run_done : (parts : List (List ℕ) × World) → parts.0 ≡ new → parts.1 ≡ left → Comes h config told now (Finished new left) → count ≡ faults → Ran m (Ok parts) captures told now faults count
-    run_done parts first second comes counted =
-        subst (λ cs. Ran m (Ok (cs, parts.1)) captures told now faults count) (sym first)
-        (subst (λ s. Ran m (Ok (new, s)) captures told now faults count) (sym second)
-        (done (subst (λ c. Comes h c told now (Finished new left)) same comes) counted))
-
-    pub run_halted : (why : Halt) → HaltsAs why left (Comes h config told now) → ((o : Final) → Reaches h (frame config.captures) [] config o → AppendsBeginning told now o.text) →
-        count ≡ faults_after {A = Unit {0}} (Err why) faults → Ran m (Err why) captures told now faults count
-    run_halted why ends begun counted =
-        halted why (subst (λ c. HaltsAs why left (Comes h c told now)) same ends)
-        (subst (λ (c : Config). (o : Final) → Reaches h (frame c.captures) [] c o → AppendsBeginning told now o.text) same begun) counted
 
 -- an error that was passed on
 pub passed : {T E : Type 0} (r : Result T E) (P : Result T E → Type 0) (e : E) → IsErrAnd r (λ x. x ≡ e) → P (Err e) → P r

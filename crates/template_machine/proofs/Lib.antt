@@ -1,1 +1,4 @@
-pub mod Answered
+mod Answered
+mod Meant
+mod Runs
+mod Started

@@ -1,23 +1,81 @@
--- Environments and templates as plain data.
-use Rattle.std.specs.Prelude.{ℕ, [], Option, None}
-use Rattle.tm_compiler.specs.Syntax.{Syntax, default_syntax}
-use Rattle.tm_meaning.specs.World.{Host}
-use Rattle.tm_tables.specs.Templates.{Template, Entries}
+-- Environments and templates as plain data, over all objects of the caller as one.
+use Rattle.std.specs.Prelude.{ℕ, List, [], ◌∷◌, ◌++◌, length, map as each, Option, Some, None}
+use Rattle.tm_values.specs.Val.{Val, function}
+use Rattle.tm_values.specs.declared.undefined.UndefinedBehavior.TheVariants.{Lenient}
+use Rattle.tm_syntax.specs.declared.instruction.Instruction.{Instruction}
+use Rattle.tm_syntax.specs.Named.{Named, find, put}
+use Rattle.tm_syntax.specs.Blocks.{code_of}
+use Rattle.tm_scanner.specs.Syntax.{Syntax, default_syntax}
+use Rattle.tm_meaning.specs.declared.stream.StreamId.{StreamId}
+use Rattle.tm_meaning.specs.declared.stream.TemplateId.{TemplateId}
+use Rattle.tm_meaning.specs.declared.stream.TemplateId.TheVariants.{Own, Entry}
+use Rattle.tm_meaning.specs.World.{Bindings, Host, Template, Function, or_is}
+use Rattle.tm_meaning.specs.Tree.{TemplateTree, Trees, template_of, trees_of}
+use Rattle.tm_tables.specs.Templates.{Compiled, tree_of}
 
--- The templates by name, the delimiters of later ones, and the fuel that is set.
-pub record EnvironmentValue : Type 0 where
-  pub templates : Entries
+-- The templates by name, the delimiters of later ones, the caller's objects, the globals, the fuel that is set, and how deep scopes may lie.
+pub record EnvironmentValue (O : Type 0) : Type 0 where
+  pub templates : Named Compiled
   pub syntax : Syntax
+  pub objects : O
+  pub globals : Bindings
   pub fuel : Option ℕ
+  pub limit : ℕ
 
 -- a template, and the environment that it is of
-pub record TemplateValue : Type 0 where
-  pub environment : EnvironmentValue
-  pub template : Template
+pub record TemplateValue (O : Type 0) : Type 0 where
+  pub environment : EnvironmentValue O
+  pub template : Compiled
 
-abbrev pub empty_environment : EnvironmentValue
-empty_environment = record { templates = []; syntax = default_syntax; fuel = None }
+-- the greatest depth of scopes that can be set
+abbrev pub greatest_limit : ℕ
+greatest_limit = 500
 
--- what the environment gives to the machine
-abbrev pub host_of : EnvironmentValue → Host
-host_of e = record { globals = λ name. None; limit = 500 }
+abbrev pub empty_environment : {O : Type 0} → O → EnvironmentValue O
+empty_environment objects = record {
+  templates = [];
+  syntax = default_syntax;
+  objects = objects;
+  globals = [];
+  fuel = None;
+  limit = greatest_limit;
+}
+
+-- the object under the next number, and the function of that number as the global of a name
+abbrev pub with_function : {C : Type 0} → List ℕ → C → EnvironmentValue (List C) → EnvironmentValue (List C)
+with_function x object e =
+    record e { objects = e.objects ++ object ∷ []; globals = put x (function (length e.objects)) e.globals }
+
+-- ---------------------------------------------------------------- what it is to the machine
+abbrev pub trees_in : Named Compiled → Named TemplateTree
+trees_in ts = each (λ (t : List ℕ × Compiled). (t.0, tree_of t.1)) ts
+
+abbrev pub templates_in : Named Compiled → Named Template
+templates_in ts = each (λ (t : List ℕ × Compiled). (t.0, template_of (tree_of t.1))) ts
+
+-- What a template's environment gives, where these are the functions of objects.
+abbrev pub host_of : {O : Type 0} → (O → List Function) → TemplateValue O → Host
+host_of functions t = record {
+  own = template_of (tree_of t.template);
+  templates = templates_in t.environment.templates;
+  globals = t.environment.globals;
+  functions = functions t.environment.objects;
+  filters = [];
+  tests = [];
+  join = λ x parent. x;
+  formatter = None;
+  undefined = Lenient;
+  limit = t.environment.limit;
+}
+
+abbrev pub trees : {O : Type 0} → TemplateValue O → Trees
+trees t = trees_of (tree_of t.template) (trees_in t.environment.templates)
+
+-- the instructions of a stream
+abbrev pub code : {O : Type 0} → TemplateValue O → StreamId → List Instruction
+code t s = code_of (trees t s)
+
+-- the template that is meant: the rendered one, or the environment's of a name, and the rendered one where there is none
+abbrev pub meant : {O : Type 0} → TemplateValue O → TemplateId → Compiled
+meant t Own = t.template
+meant t (Entry x) = or_is (find x t.environment.templates) t.template

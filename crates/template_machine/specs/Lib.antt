@@ -1,2 +1,3 @@
 pub mod Environment
+pub mod Held
 pub mod Renders

@@ -1,74 +1,108 @@
 -- What renders mean, leave and answer.
-use Rattle.std.specs.Prelude.{◌≡◌, ◌-◌, ◌^◌, ℕ, List, [], ◌∷◌, true, Option, Result, Ok, Err, String, string_bytes}
+use Rattle.std.specs.Prelude.{◌≡◌, ◌⊎◌, ◌-◌, ◌^◌, ℕ, List, [], ◌∷◌, true, Option, Result, Ok, Err, String, string_bytes}
 use Rattle.std.specs.Io.KnownBytes.{Appends}
 use Rattle.std.specs.declared.alloc.Global.{Global}
-use Rattle.tm_values.specs.Val.{Val}
+use Rattle.tm_values.specs.Answer.{Answer}
 use Rattle.tm_values.specs.Chain.{ends_in_memory}
+use Rattle.tm_values.specs.Val.{Val}
 use Rattle.tm_values.specs.declared.error.ErrorKind.{ErrorKind}
 use Rattle.tm_values.specs.declared.error.ErrorKind.TheVariants.{WriteFailure}
-use Rattle.tm_meaning.specs.World.{World, first_world}
-use Rattle.tm_meaning.specs.Meaning.{Outcome, Done, Fault, rendered, text_of}
-use Rattle.tm_meaning.specs.Texts.{put_in, put_out}
+use Rattle.tm_scanner.specs.Syntax.{Syntax}
+use Rattle.tm_meaning.specs.World.{Function, World}
+use Rattle.tm_meaning.specs.declared.stream.TemplateId.TheVariants.{Own}
+use Rattle.tm_meaning.specs.Machine.{Capture, new_capture, put_in, put_out}
+use Rattle.tm_meaning.specs.Meaning.{Ending, fault, Outcome, first_world, rendered}
 use Rattle.tm_output.specs.Counts.{one_more, AppendsBeginning}
 use Rattle.tm_parts.specs.declared.halt.Halt.{Halt}
 use Rattle.tm_parts.specs.declared.halt.Halt.TheVariants as halt
-use Rattle.template_machine.specs.Environment.{TemplateValue, host_of}
+use Rattle.tm_tables.specs.Templates.{Compiled, IsTemplate, IsRefused}
+use Rattle.template_machine.specs.Environment.{EnvironmentValue, TemplateValue, host_of, trees}
 
--- a text that went to no writer, and the world that is left
-pub record CapturedValue : Type 0 where
-  pub output : List ℕ
+-- a template that is rendered, and the world that it leaves
+pub record StateValue (O : Type 0) : Type 0 where
+  pub template : TemplateValue O
   pub world : World
 
--- What a template means, rendered as the state of this number over this context value: its tree, under what its environment gives, from the environment's fuel.
-abbrev pub meaning : TemplateValue → ℕ → Val → Outcome
-meaning t id context = rendered (host_of t.environment) t.template.tree (first_world id t.template.name t.environment.fuel context)
+-- a text that went to no writer, and the state that is left
+pub record CapturedValue (O : Type 0) : Type 0 where
+  pub output : List ℕ
+  pub state : StateValue O
 
 -- the greatest u64: a counter of state ids that stands there is full, and a count of faults stays there
 abbrev pub greatest : ℕ
 greatest = 2 ^ 64 - 1
 
+-- ---------------------------------------------------------------- meanings
+-- the world that a render starts from, as the state of this number over this context value
+abbrev pub first : {O : Type 0} → (O → List Function) → TemplateValue O → ℕ → Val → World
+first functions t id context = first_world (host_of functions t) Own id t.environment.fuel context
+
+-- what a template means from a world, where these are the functions of objects
+abbrev pub meaning_from : {O : Type 0} → (O → List Function) → TemplateValue O → World → Outcome
+meaning_from functions t w = rendered (host_of functions t) (trees t) w
+
+-- What a template means, rendered as the state of this number over this context value: its tree, under what its environment gives, from the environment's fuel.
+abbrev pub meaning : {O : Type 0} → (O → List Function) → TemplateValue O → ℕ → Val → Outcome
+meaning functions t id context = meaning_from functions t (first functions t id context)
+
+abbrev pub answer_by : Ending → World → Answer World
+answer_by (fault chain) w = Err chain
+answer_by e w = Ok w
+
+-- The world that is left, or the chain of the fault.
+abbrev pub answer_of : Outcome → Answer World
+answer_of m = answer_by m.ending m.world
+
+-- ---------------------------------------------------------------- answers
 -- The answer is an error that ends in want of memory.
 abbrev pub IsMemory : {A : Type 0} → Result A (List ErrorKind) → Type 0
 IsMemory (Ok x) = ⊥
 IsMemory (Err chain) = ends_in_memory chain ≡ true
 
--- The answer is the end that was meant: done with its world and no text of its own, or an error of its chain.
-abbrev pub IsEnd : Result CapturedValue (List ErrorKind) → Outcome → Type 0
-IsEnd (Ok c) (Done run out w) = c ≡ record { output = []; world = w }
-IsEnd (Ok c) (Fault out w chain) = ⊥
-IsEnd (Err answer) (Done run out w) = ⊥
-IsEnd (Err answer) (Fault out w chain) = answer ≡ chain
+-- The answer is the end that was meant: the template's state with its world and no text of its own, or an error of its chain.
+abbrev pub IsEnd : {O : Type 0} → TemplateValue O → Result (CapturedValue O) (List ErrorKind) → Outcome → Type 0
+IsEnd t (Ok c) m = (c.output ≡ []) × (c.state.template ≡ t) × (answer_of m ≡ Ok c.state.world)
+IsEnd t (Err answer) m = answer_of m ≡ Err answer
 
 -- The answer is the text that was meant, or an error of its chain.
 abbrev pub IsText : Result (String Global) (List ErrorKind) → Outcome → Type 0
-IsText (Ok text) (Done run out w) = string_bytes text ≡ out
-IsText (Ok text) (Fault out w chain) = ⊥
-IsText (Err answer) (Done run out w) = ⊥
-IsText (Err answer) (Fault out w chain) = answer ≡ chain
+IsText (Ok text) m = (string_bytes text ≡ m.text) × (w : World) × (answer_of m ≡ Ok w)
+IsText (Err answer) m = answer_of m ≡ Err answer
 
 -- How a render into a writer ended. The writer was given what stood in `told` before and `now` after, and its count of faults was `faults` and is `count`.
-pub data Rendered (m : Outcome) (result : Result CapturedValue (List ErrorKind)) (told now : Option (List ℕ)) (faults count : ℕ) : Type 0 where
+pub data Rendered {O : Type 0} (t : TemplateValue O) (m : Outcome) (result : Result (CapturedValue O) (List ErrorKind)) (told now : Option (List ℕ)) (faults count : ℕ) : Type 0 where
   -- as was meant: the answer is the end that was meant, and the writer got the whole text
-  as_meant : IsEnd result m → Appends told now (text_of m) → count ≡ faults → Rendered m result told now faults count
+  as_meant : IsEnd t result m → Appends told now m.text → count ≡ faults → Rendered t m result told now faults count
   -- the writer failed, behind a beginning of the text
-  by_writer : result ≡ Err (WriteFailure ∷ []) → AppendsBeginning told now (text_of m) → count ≡ one_more faults → Rendered m result told now faults count
+  by_writer : result ≡ Err (WriteFailure ∷ []) → AppendsBeginning told now m.text → count ≡ one_more faults → Rendered t m result told now faults count
   -- no memory was found, behind a beginning of the text
-  by_memory : IsMemory result → AppendsBeginning told now (text_of m) → count ≡ faults → Rendered m result told now faults count
+  by_memory : IsMemory result → AppendsBeginning told now m.text → count ≡ faults → Rendered t m result told now faults count
 
 -- How a render to a text ended: as was meant, or since no memory was found.
 pub data RenderedText (m : Outcome) (result : Result (String Global) (List ErrorKind)) : Type 0 where
   text_as_meant : IsText result m → RenderedText m result
   text_by_memory : IsMemory result → RenderedText m result
 
+-- How a render of a source ended, whose template would have this name: refused, since it spells no template or no memory was found; or rendered, as the template that it spells.
+pub data RenderedSource {O : Type 0} (functions : O → List Function) (e : EnvironmentValue O) (name source : List ℕ) (id : ℕ) (context : Val) (result : Result (String Global) (List ErrorKind)) : Type 0 where
+  source_refused : (chain : List ErrorKind) → result ≡ Err chain → IsRefused e.syntax source chain → RenderedSource functions e name source id context result
+  source_rendered : (t : Compiled) → IsTemplate e.syntax name source t → RenderedText (meaning functions (record { environment = e; template = t }) id context) result →
+      RenderedSource functions e name source id context result
+
+-- ---------------------------------------------------------------- runs
+-- No capture is open, or one without text.
+abbrev pub IsFresh : List Capture → Type 0
+IsFresh captures = (captures ≡ []) ⊎ (captures ≡ new_capture true ∷ [])
+
 -- The answer of a run over captures: done, with the text put and the world that is left, or a fault of the chain.
-abbrev pub IsRun : Result (List (List ℕ) × World) Halt → List (List ℕ) → Outcome → Type 0
-IsRun (Ok (new, left)) old (Done run out w) = (left ≡ w) × (new ≡ put_in old out)
-IsRun (Err (halt.Fault answer)) old (Fault out w chain) = answer ≡ chain
-IsRun _ old _ = ⊥
+abbrev pub IsRun : Result (List Capture × World) Halt → List Capture → Outcome → Type 0
+IsRun (Ok (new, left)) old m = (answer_of m ≡ Ok left) × (new ≡ put_in old m.text)
+IsRun (Err (halt.Fault answer)) old m = answer_of m ≡ Err answer
+IsRun (Err _) old m = ⊥
 
 -- How a run over captures ended, in the same three ways.
-pub data Ran (m : Outcome) (result : Result (List (List ℕ) × World) Halt) (old : List (List ℕ)) (told now : Option (List ℕ)) (faults count : ℕ) : Type 0 where
-  run_as_meant : IsRun result old m → Appends told now (put_out old (text_of m)) → count ≡ faults → Ran m result old told now faults count
-  run_by_writer : result ≡ Err halt.Writer → AppendsBeginning told now (put_out old (text_of m)) → count ≡ one_more faults → Ran m result old told now faults count
+pub data Ran (m : Outcome) (result : Result (List Capture × World) Halt) (old : List Capture) (told now : Option (List ℕ)) (faults count : ℕ) : Type 0 where
+  run_as_meant : IsRun result old m → Appends told now (put_out old m.text) → count ≡ faults → Ran m result old told now faults count
+  run_by_writer : result ≡ Err halt.Writer → AppendsBeginning told now (put_out old m.text) → count ≡ one_more faults → Ran m result old told now faults count
   run_by_memory : (chain : List ErrorKind) → result ≡ Err (halt.Fault chain) → ends_in_memory chain ≡ true →
-      AppendsBeginning told now (put_out old (text_of m)) → count ≡ faults → Ran m result old told now faults count
+      AppendsBeginning told now (put_out old m.text) → count ≡ faults → Ran m result old told now faults count

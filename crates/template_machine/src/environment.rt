@@ -1,95 +1,128 @@
 //! The environment.
-ghost use Rattle.std.specs.Prelude.{◌≡◌, [], ◌∷◌, None, Some, OnOk, OnErr, IfOk, IfErr, MatchResult};
-ghost use Rattle.tm_tables.specs.Templates.{Template as Compiled, IsTemplate, IsRefused, put_template, find_template};
-ghost use Rattle.template_machine.specs.Environment.{empty_environment};
+ghost use Rattle.std.specs.Prelude.{◌≡◌, [], ◌∷◌, Some, None, codes, min, OnOk, OnErr, IfOk, IfErr, MatchResult, length, slice_get};
+ghost use Rattle.tm_syntax.specs.Named.{find, put};
+ghost use Rattle.tm_tables.specs.Templates.{Compiled, IsTemplate, IsRefused};
+ghost use Rattle.tm_values.specs.Answer.{IsLent, OkOrOutOfMemory};
+ghost use Rattle.std.specs.Prelude.{string_bytes};
+ghost use Rattle.tm_tables.specs.Sources.{source_bytes};
+ghost use Rattle.template_machine.specs.Environment.{empty_environment, with_function, greatest_limit};
 
-use crate::template::Template;
+use crate::template::{Held, TemplateOf};
 use std::alloc::Global;
 use std::marker::Model;
-use tm_tables::{CompiledTemplate, Host, TemplateConfig, Templates};
+use tm_syntax::{Name, NameMap};
+use tm_tables::{Callable, CompiledTemplate, Objects, Source, TemplateConfig, Templates};
 use tm_values::{Error, ErrorKind, Value};
 
-/// How deep scopes may lie.
-const RECURSION_LIMIT: usize = 500;
+/// How deep scopes may lie at most.
+const GREATEST_LIMIT: usize = 500;
 
-/// Templates by name, and the settings of their renders.
+/// The name of a template that was given none.
+const UNNAMED: &str = "<string>";
+
+/// Templates by name, the caller's objects, and the settings of renders.
 #[derive(Drop)]
-pub struct Environment<'source> {
+pub struct EnvironmentOf<'source, O: Drop> {
     alloc: Global,
     templates: Templates<'source>,
     config: TemplateConfig,
+    objects: O,
+    globals: NameMap<Value>,
     fuel: Option<u64>,
+    limit: usize,
 }
 
-impl<'source> Model for Environment<'source> {
-    ghost use Rattle.std.specs.Coded.{codes};
-    ghost use Rattle.tm_tables.specs.Templates.{coded_Sts};
+/// The environment of a program: its functions are boxed.
+pub type Environment<'source> = EnvironmentOf<'source, Objects<Box<dyn Callable>>>;
+
+impl<'source, O: Drop> Model for EnvironmentOf<'source, O> {
+    ghost use Rattle.std.specs.Coded.{codes as coding};
+    ghost use Rattle.tm_syntax.specs.contracts.tree.Stmt as statement;
+    ghost use Rattle.tm_values.specs.Code.{coded_Val};
     ghost use Rattle.template_machine.specs.Environment.{EnvironmentValue};
 
-    ghost Value = { EnvironmentValue };
+    ghost Value = { EnvironmentValue O };
 
-    ghost coded = { Prim.hlevel (codes, coded_Sts) };
+    ghost coded = { Prim.hlevel (coding, coded_Val, statement.the_row.coded, O.code) };
 
-    ghost view = { λ e. record { templates = e.templates; syntax = e.config.syntax_config; fuel = e.fuel } };
+    ghost view = { λ e. record { templates = e.templates; syntax = e.config.syntax_config; objects = e.objects; globals = e.globals; fuel = e.fuel; limit = e.limit } };
 }
 
-impl Host for Environment<'_> {
-    ghost use Rattle.template_machine.specs.Environment.{host_of};
-
-    ghost meaning = { host_of };
-
-    fn global(&self, _name: &str) -> Option<&Value> {
-        None
-    }
-
-    fn recursion_limit(&self) -> usize {
-        RECURSION_LIMIT
-    }
-}
-
-impl<'source> Environment<'source> {
-    /// An environment with what a template may expect: so far the same as `empty`. Fails by OutOfMemory alone.
-    pub fn new(alloc: Global) -> Result<Environment<'source>, Error>
-        ensures { MatchResult result (λ e. e ≡ empty_environment) (λ e. e ≡ ErrorKind.OutOfMemory ∷ []) }
-    {
-        Ok(Environment::empty(alloc))
-    }
-
-    /// No templates, the default delimiters, and no fuel set.
-    pub fn empty(alloc: Global) -> Environment<'source>
-        ensures { result ≡ empty_environment }
-    {
-        Environment {
-            alloc,
-            templates: Templates::new(alloc),
-            config: TemplateConfig::default(),
-            fuel: None,
-        }
-    }
-
+impl<'source, O: Drop> EnvironmentOf<'source, O> {
     /// Compiles a source and puts it at a name, in place of the template that is there. SyntaxError where the source spells no template, OutOfMemory where there is no memory; then the environment stays as it was.
-    pub fn add_template(&mut self, name: &'source str, source: &'source str) -> Result<(), Error>
-        ensures ok { OnOk result ((t : Compiled) × IsTemplate self.old.syntax name.entry.now source.entry.now t
-            × (self.new ≡ record self.old { templates = put_template name.entry.now t self.old.templates })) }
+    pub fn add_template(&mut self, name: &str, source: &'source str) -> Result<(), Error>
+        ensures ok { OnOk result ((t : Compiled) × IsTemplate self.old.syntax name.now source.entry.now t
+            × (self.new ≡ record self.old { templates = put name.now t self.old.templates })) }
         ensures refused { IfErr result (IsRefused self.old.syntax source.entry.now) }
+        ensures err { OnErr result (self.new ≡ self.old) }
+    {
+        self.put_template(name, Source::Lent(source))
+    }
+
+    /// Compiles a source of its own and puts it at a name, as `add_template` does.
+    pub fn add_template_owned(&mut self, name: &str, source: String) -> Result<(), Error>
+        ensures ok { OnOk result ((t : Compiled) × IsTemplate self.old.syntax name.now (string_bytes source) t
+            × (self.new ≡ record self.old { templates = put name.now t self.old.templates })) }
+        ensures refused { IfErr result (IsRefused self.old.syntax (string_bytes source)) }
+        ensures err { OnErr result (self.new ≡ self.old) }
+    {
+        self.put_template(name, Source::Owned(source))
+    }
+
+    /// Compiles a source and puts it at a name.
+    fn put_template(&mut self, name: &str, source: Source<'source>) -> Result<(), Error>
+        ensures ok { OnOk result ((t : Compiled)
+            × IsTemplate self.old.syntax name.now (source_bytes source.entry) t
+            × (self.new ≡ record self.old { templates = put name.now t self.old.templates })) }
+        ensures refused { IfErr result (IsRefused self.old.syntax (source_bytes source.entry)) }
         ensures err { OnErr result (self.new ≡ self.old) }
     {
         let compiled = match CompiledTemplate::new(self.alloc, name, source, &self.config) {
             Ok(compiled) => compiled,
             Err(error) => return Err(error),
         };
-        self.templates.insert(compiled)
+        let name = Name::new(self.alloc, name)?;
+        self.templates.insert(name, compiled)
     }
 
     /// The template of a name; TemplateNotFound where there is none.
-    pub fn get_template(&self, name: &str) -> Result<Template<'_, 'source>, Error>
+    pub fn get_template(&self, name: &str) -> Result<TemplateOf<'_, 'source, O>, Error>
         ensures { MatchResult result
-            (λ t. (t.environment ≡ self.now) × (find_template name.now self.now.templates ≡ Some t.template))
-            (λ e. (e ≡ ErrorKind.TemplateNotFound ∷ []) × (find_template name.now self.now.templates ≡ None)) }
+            (λ t. (t.environment ≡ self.now) × (find name.now self.now.templates ≡ Some t.template))
+            (λ e. (e ≡ ErrorKind.TemplateNotFound ∷ []) × (find name.now self.now.templates ≡ None)) }
     {
         match self.templates.get(name) {
-            Some(compiled) => Ok(Template::new(self, compiled)),
+            Some(compiled) => Ok(TemplateOf::new(self, Held::Lent(compiled))),
             None => Err(Error::from(ErrorKind::TemplateNotFound)),
+        }
+    }
+
+    /// The template of a source, which the environment doesn't keep, under the name `<string>`. SyntaxError where the source spells no template, OutOfMemory where there is no memory.
+    pub fn template_from_str(
+        &self,
+        source: &'source str,
+    ) -> Result<TemplateOf<'_, 'source, O>, Error>
+        ensures compiled { IfOk result (λ t. (t.environment ≡ self.now)
+            × IsTemplate self.now.syntax (codes "<string>") source.entry.now t.template) }
+        ensures refused { IfErr result (IsRefused self.now.syntax source.entry.now) }
+    {
+        self.template_from_named_str(UNNAMED, source)
+    }
+
+    /// The template of a source, which the environment doesn't keep, under a name. SyntaxError where the source spells no template, OutOfMemory where there is no memory.
+    pub fn template_from_named_str(
+        &self,
+        name: &str,
+        source: &'source str,
+    ) -> Result<TemplateOf<'_, 'source, O>, Error>
+        ensures compiled { IfOk result (λ t. (t.environment ≡ self.now)
+            × IsTemplate self.now.syntax name.now source.entry.now t.template) }
+        ensures refused { IfErr result (IsRefused self.now.syntax source.entry.now) }
+    {
+        let source = Source::Lent(source);
+        match CompiledTemplate::new(self.alloc, name, source, &self.config) {
+            Ok(compiled) => Ok(TemplateOf::new(self, Held::Owned(compiled))),
+            Err(error) => Err(error),
         }
     }
 
@@ -107,8 +140,83 @@ impl<'source> Environment<'source> {
         self.fuel
     }
 
+    /// Sets how deep scopes may lie in each later render, at most 500.
+    pub fn set_recursion_limit(&mut self, limit: usize)
+        ensures { self.new ≡ record self.old { limit = min limit greatest_limit } }
+    {
+        self.limit = limit.min(GREATEST_LIMIT);
+    }
+
+    /// How deep scopes may lie.
+    pub fn recursion_limit(&self) -> usize
+        ensures { result ≡ self.now.limit }
+    {
+        self.limit
+    }
+
     /// The allocator of what the environment makes.
     pub(crate) fn allocator(&self) -> Global {
         self.alloc
+    }
+
+    /// The caller's objects.
+    pub(crate) fn objects(&self) -> &O
+        ensures { result.now ≡ self.now.objects }
+    {
+        &self.objects
+    }
+
+    /// The globals.
+    pub(crate) fn globals(&self) -> &NameMap<Value>
+        ensures { result.now ≡ self.now.globals }
+    {
+        &self.globals
+    }
+
+    /// What was compiled under a name, where it was.
+    pub(crate) fn find_template(&self, name: &str) -> Option<&CompiledTemplate<'source>>
+        ensures { IsLent result (find name.now self.now.templates) }
+    {
+        self.templates.get(name)
+    }
+}
+
+impl<'source, C: Drop> EnvironmentOf<'source, Objects<C>> {
+    /// An environment with what a template may expect: so far the same as `empty`. Fails by OutOfMemory alone.
+    pub fn new(alloc: Global) -> Result<EnvironmentOf<'source, Objects<C>>, Error>
+        ensures { OkOrOutOfMemory result (λ e. e ≡ empty_environment []) }
+    {
+        Ok(EnvironmentOf::empty(alloc))
+    }
+
+    /// No templates, the default delimiters, no functions, no fuel set, and scopes at most 500 deep.
+    pub fn empty(alloc: Global) -> EnvironmentOf<'source, Objects<C>>
+        ensures { result ≡ empty_environment [] }
+    {
+        EnvironmentOf {
+            alloc,
+            templates: Templates::new(alloc),
+            config: TemplateConfig::default(),
+            objects: Objects::new(alloc),
+            globals: NameMap::new(alloc),
+            fuel: None,
+            limit: GREATEST_LIMIT,
+        }
+    }
+
+    /// Makes an object a function: it gets the next number, and the global of the name is the function of that number. Where there is no memory, OutOfMemory, and the environment stays as it was.
+    pub fn add_function(&mut self, name: &str, object: C) -> Result<(), Error>
+        ensures ok { OnOk result (self.new ≡ with_function name.now object self.old) }
+        ensures kind { IfErr result (λ e. e ≡ ErrorKind.OutOfMemory ∷ []) }
+        ensures err { OnErr result (self.new ≡ self.old) }
+    {
+        let name = Name::new(self.alloc, name)?;
+        let number = self.objects.len();
+        self.objects.add(object)?;
+        if self.globals.insert(name, Value::function(number)).is_err() {
+            let _refused = self.objects.pop();
+            return Err(Error::from(ErrorKind::OutOfMemory));
+        }
+        Ok(())
     }
 }

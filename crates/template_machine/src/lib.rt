@@ -2,20 +2,24 @@
 #![tactic(auto)]
 
 mod environment;
+mod rendering;
 mod state;
 mod template;
-#[cfg(test)]
-mod tests;
 
-pub use environment::Environment;
-pub use state::{Captured, State};
-pub use template::Template;
-pub use tm_compiler::{Expr, Instruction, Stmt, Streams, SyntaxConfig, Tree, generate, parse};
+pub use environment::{Environment, EnvironmentOf};
+pub use state::{Captured, CapturedOf, State, StateOf};
+pub use template::{Template, TemplateOf};
+pub use tm_compiler::{
+    Argument, BinaryOperator, Expr, Instruction, Name, NameMap, Step, Stmt, Streams, SyntaxConfig,
+    Tree, UnaryOperator, generate, parse,
+};
 pub use tm_operations as operations;
 pub use tm_output::{Target, TargetFailed};
 pub use tm_parts::{Counted, FuelTracker, NullWriter, Output, Sink, WriteWrapper};
 pub use tm_printing as printing;
-pub use tm_tables::{CompiledTemplate, TemplateConfig};
+pub use tm_tables::{
+    Answer, Callable, CompiledTemplate, Objects, Parties, Reply, Source, TemplateConfig, View,
+};
 pub use tm_values::{
     AutoEscape, Error, ErrorKind, LoopPosition, NoRecords, Records, UndefinedBehavior,
     UndefinedUse, Value, ValueMap,

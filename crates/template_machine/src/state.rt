@@ -1,83 +1,111 @@
 //! States, and what a render leaves.
 ghost use Rattle.std.specs.Prelude.{◌≡◌, ◌+◌, Some, IfSome, string_bytes};
-ghost use Rattle.tm_meaning.specs.World.{fuel_levels};
+ghost use Rattle.tm_syntax.specs.Named.{find};
+ghost use Rattle.tm_values.specs.Answer.{IsLent};
+ghost use Rattle.tm_meaning.specs.World.{find_name, fuel_levels, name_of, view_of};
+ghost use Rattle.tm_tables.specs.Found.{IsFound};
+ghost use Rattle.template_machine.specs.Environment.{host_of};
 
-use crate::environment::Environment;
+use crate::rendering::Rendering;
 use std::marker::Model;
+use tm_tables::{Callable, Host, Objects, Parties};
+use tm_values::{Error, Value};
 use tm_vm::StateData;
 
-/// The state of a render. A contract sees it as a world of the definitions.
+/// The state of a render. A contract sees the template that was rendered, and a world of the definitions.
 #[derive(Drop)]
-pub struct State<'env, 'source> {
-    environment: &'env Environment<'source>,
+pub struct StateOf<'env, O: Drop> {
+    rendering: Rendering<'env, O>,
     kept: StateData<'env>,
 }
 
-impl<'env, 'source> Model for State<'env, 'source> {
-    ghost use Rattle.tm_meaning.specs.World.{World};
+/// The state of a program's render.
+pub type State<'env> = StateOf<'env, Objects<Box<dyn Callable>>>;
+
+impl<'env, O: Drop> Model for StateOf<'env, O> {
     ghost use Rattle.std.specs.Coded.{codes};
+    ghost use Rattle.tm_syntax.specs.contracts.tree.Stmt as statement;
     ghost use Rattle.tm_values.specs.Code.{coded_Val};
+    ghost use Rattle.template_machine.specs.Renders.{StateValue};
 
-    ghost Value = { World };
+    ghost Value = { StateValue O };
 
-    ghost coded = { Prim.hlevel (codes, coded_Val) };
+    ghost coded = { Prim.hlevel (codes, coded_Val, statement.the_row.coded, O.code) };
 
-    ghost view = { λ s. s.kept };
+    ghost view = { λ s. record { template = s.rendering; world = s.kept } };
 }
 
-impl<'env, 'source> State<'env, 'source> {
-    /// A state of an environment.
-    pub(crate) fn new(
-        environment: &'env Environment<'source>,
-        kept: StateData<'env>,
-    ) -> State<'env, 'source>
-        ensures { result ≡ kept.entry }
+impl<'env, O: Drop> StateOf<'env, O> {
+    /// A state of what a render ran under.
+    pub(crate) fn new(rendering: Rendering<'env, O>, kept: StateData<'env>) -> StateOf<'env, O>
+        ensures { result ≡ record { template = rendering.entry; world = kept.entry } }
     {
-        State { environment, kept }
-    }
-
-    /// The name of the template that was rendered.
-    pub fn name(&self) -> &str
-        ensures { result.now ≡ self.now.name }
-    {
-        self.kept.name()
+        StateOf { rendering, kept }
     }
 
     /// The fuel consumed and the fuel left, which together are the fuel that was set; none where no fuel was set.
     pub fn fuel_levels(&self) -> Option<(u64, u64)>
-        ensures levels { result ≡ fuel_levels self.now }
-        ensures sum { IfSome result (λ p. Some (p.0 + p.1) ≡ self.now.fuel_set) }
+        ensures levels { result ≡ fuel_levels self.now.world }
+        ensures sum { IfSome result (λ p. Some (p.0 + p.1) ≡ self.now.world.fuel_set) }
     {
         self.kept.fuel_levels()
+    }
+
+    /// The value that was kept at a name, where there is one.
+    pub fn get_temp(&self, name: &str) -> Option<&Value>
+        ensures { IsLent result (find name.now self.now.world.temps) }
+    {
+        self.kept.get_temp(name)
+    }
+}
+
+impl<'env, O: Parties> StateOf<'env, O> {
+    /// The name of the template that runs.
+    pub fn name(&self) -> &str
+        ensures { result.now ≡ name_of (host_of O.functions self.now.template) self.now.world }
+    {
+        self.rendering.template_name(&self.kept.stream().template)
+    }
+
+    /// The value of a name: of the scopes, an inner one's first, else of the globals. InvalidOperation where a scope on the way is over a namespace whose record isn't there.
+    pub fn lookup(&self, name: &str) -> Result<Option<&Value>, Error>
+        ensures { IsFound result (find_name
+            (view_of (host_of O.functions self.now.template) self.now.world) name.now) }
+    {
+        self.kept.lookup(&self.rendering, name)
     }
 }
 
 /// What a render leaves: the text that went to no writer, and the state.
 #[derive(Drop)]
-pub struct Captured<'env, 'source> {
+pub struct CapturedOf<'env, O: Drop> {
     output: String,
-    state: State<'env, 'source>,
+    state: StateOf<'env, O>,
 }
 
-impl<'env, 'source> Model for Captured<'env, 'source> {
+/// What a program's render leaves.
+pub type Captured<'env> = CapturedOf<'env, Objects<Box<dyn Callable>>>;
+
+impl<'env, O: Drop> Model for CapturedOf<'env, O> {
     ghost use Rattle.std.specs.Prelude.{string_bytes};
     ghost use Rattle.std.specs.Coded.{codes};
+    ghost use Rattle.tm_syntax.specs.contracts.tree.Stmt as statement;
     ghost use Rattle.tm_values.specs.Code.{coded_Val};
     ghost use Rattle.template_machine.specs.Renders.{CapturedValue};
 
-    ghost Value = { CapturedValue };
+    ghost Value = { CapturedValue O };
 
-    ghost coded = { Prim.hlevel (codes, coded_Val) };
+    ghost coded = { Prim.hlevel (codes, coded_Val, statement.the_row.coded, O.code) };
 
-    ghost view = { λ c. record { output = string_bytes c.output; world = c.state } };
+    ghost view = { λ c. record { output = string_bytes c.output; state = c.state } };
 }
 
-impl<'env, 'source> Captured<'env, 'source> {
+impl<'env, O: Drop> CapturedOf<'env, O> {
     /// A text and a state.
-    pub(crate) fn new(output: String, state: State<'env, 'source>) -> Captured<'env, 'source>
-        ensures { result ≡ record { output = string_bytes output; world = state.entry } }
+    pub(crate) fn new(output: String, state: StateOf<'env, O>) -> CapturedOf<'env, O>
+        ensures { result ≡ record { output = string_bytes output; state = state.entry } }
     {
-        Captured { output, state }
+        CapturedOf { output, state }
     }
 
     /// The text that went to no writer.
@@ -88,8 +116,8 @@ impl<'env, 'source> Captured<'env, 'source> {
     }
 
     /// The state that the render left.
-    pub fn state(&self) -> &State<'env, 'source>
-        ensures { result.now ≡ self.now.world }
+    pub fn state(&self) -> &StateOf<'env, O>
+        ensures { result.now ≡ self.now.state }
     {
         &self.state
     }

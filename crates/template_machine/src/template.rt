@@ -1,80 +1,112 @@
 //! Templates of an environment.
 ghost use Rattle.std.specs.Prelude.{◌≡◌, ◌+◌, ◌<◌, [], ◌∷◌, Err, IfOk, IfErr};
-ghost use Rattle.tm_meaning.specs.World.{first_world};
-ghost use Rattle.tm_meaning.specs.Meaning.{rendered};
-ghost use Rattle.template_machine.specs.Renders.{meaning, greatest, Rendered, RenderedText, Ran};
-ghost use Rattle.template_machine.specs.Environment.{host_of};
+ghost use Rattle.tm_meaning.specs.World.{root_of};
+ghost use Rattle.template_machine.specs.Held.{held_template};
+ghost use Rattle.template_machine.specs.Renders.{first, greatest, meaning, meaning_from, IsFresh, Ran, Rendered, RenderedText};
 
-use crate::environment::Environment;
-use crate::state::{Captured, State};
+use crate::environment::EnvironmentOf;
+use crate::rendering::Rendering;
+use crate::state::{CapturedOf, StateOf};
 use std::marker::Model;
+use tm_meaning::{StreamId, TemplateId};
 use tm_parts::{Captures, Halt, NullWriter, Sink};
-use tm_tables::CompiledTemplate;
-use tm_values::{Error, ErrorKind, Value};
+use tm_tables::{Callable, CompiledTemplate, Objects, Parties};
+use tm_values::{AutoEscape, Error, ErrorKind, Value};
 use tm_vm::{Machine, StateData, StateIds};
+
+/// A compiled template: the environment's, or one of its own.
+#[derive(Drop)]
+pub(crate) enum Held<'env, 'source> {
+    /// The environment's.
+    Lent(&'env CompiledTemplate<'source>),
+    /// Its own.
+    Owned(CompiledTemplate<'source>),
+}
 
 /// A template of an environment.
 #[derive(Drop)]
-pub struct Template<'env, 'source> {
-    environment: &'env Environment<'source>,
-    compiled: &'env CompiledTemplate<'source>,
+pub struct TemplateOf<'env, 'source, O: Drop> {
+    environment: &'env EnvironmentOf<'source, O>,
+    held: Held<'env, 'source>,
 }
 
-impl<'env, 'source> Model for Template<'env, 'source> {
+/// A template of a program's environment.
+pub type Template<'env, 'source> = TemplateOf<'env, 'source, Objects<Box<dyn Callable>>>;
+
+impl<'env, 'source, O: Drop> Model for TemplateOf<'env, 'source, O> {
     ghost use Rattle.std.specs.Coded.{codes};
-    ghost use Rattle.tm_tables.specs.Templates.{coded_Sts};
+    ghost use Rattle.tm_syntax.specs.contracts.tree.Stmt as statement;
+    ghost use Rattle.tm_values.specs.Code.{coded_Val};
     ghost use Rattle.template_machine.specs.Environment.{TemplateValue};
 
-    ghost Value = { TemplateValue };
+    ghost Value = { TemplateValue O };
 
-    ghost coded = { Prim.hlevel (codes, coded_Sts) };
+    ghost coded = { Prim.hlevel (codes, coded_Val, statement.the_row.coded, O.code) };
 
-    ghost view = { λ t. record { environment = t.environment.now; template = t.compiled.now } };
+    ghost use Rattle.template_machine.specs.Held.{held_template};
+
+    ghost view = { λ t. record { environment = t.environment.now; template = held_template t.held } };
 }
 
-impl<'env, 'source> Template<'env, 'source> {
+impl<'env, 'source, O: Drop> TemplateOf<'env, 'source, O> {
     /// A template of an environment.
     pub(crate) fn new(
-        environment: &'env Environment<'source>,
-        compiled: &'env CompiledTemplate<'source>,
-    ) -> Template<'env, 'source>
+        environment: &'env EnvironmentOf<'source, O>,
+        held: Held<'env, 'source>,
+    ) -> TemplateOf<'env, 'source, O>
         ensures { result ≡ record {
           environment = environment.entry.now;
-          template = compiled.entry.now;
+          template = held_template held.entry;
         } }
     {
-        Template {
-            environment,
-            compiled,
-        }
+        TemplateOf { environment, held }
     }
 
-    /// The name under which it was added.
-    pub fn name(&self) -> &'env str
+    /// The name under which it was compiled.
+    pub fn name(&self) -> &str
         ensures { result.now ≡ self.now.template.name }
     {
-        self.compiled.name()
+        self.compiled().name()
     }
 
     /// The source that it was compiled from.
-    pub fn source(&self) -> &'source str
+    pub fn source(&self) -> &str
         ensures { result.now ≡ self.now.template.source }
     {
-        self.compiled.source()
+        self.compiled().source()
     }
 
+    /// What was compiled.
+    pub(crate) fn compiled(&self) -> &CompiledTemplate<'source>
+        ensures { result.now ≡ self.now.template }
+    {
+        match &self.held {
+            Held::Lent(compiled) => compiled,
+            Held::Owned(compiled) => compiled,
+        }
+    }
+
+    /// What its renders run under.
+    pub(crate) fn rendering(&self) -> Rendering<'_, O>
+        ensures { result ≡ self.now }
+    {
+        Rendering::new(self.environment, self.compiled())
+    }
+}
+
+impl<'env, 'source, O: Parties> TemplateOf<'env, 'source, O> {
     /// Renders the template over a context value, as the next state of the counter, and gives the text. InvalidOperation, and nothing runs, where the counter is full; OutOfMemory where there is no memory; else the fault that was meant.
     pub fn render(&self, ids: &mut StateIds, context: Value) -> Result<String, Error>
         ensures full { ids.old ≡ greatest →
             (result ≡ Err (ErrorKind.InvalidOperation ∷ [])) × (ids.new ≡ ids.old) }
         ensures next { ids.old < greatest → ids.new ≡ ids.old + 1 }
         ensures rendered { ids.old < greatest →
-            RenderedText (meaning self.now ids.old context) result }
+            RenderedText (meaning O.functions self.now ids.old context) result }
     {
         let alloc = self.environment.allocator();
         let state = self.first_state(ids, context)?;
         let mut captures = Captures::new(alloc);
-        captures.begin(alloc)?;
+        captures.begin(alloc, true)?;
         let (mut captures, _state) = self.run_over(state, captures, &mut NullWriter)?;
         match captures.end() {
             Some(text) => Ok(text),
@@ -88,28 +120,28 @@ impl<'env, 'source> Template<'env, 'source> {
         ids: &mut StateIds,
         context: Value,
         writer: &mut W,
-    ) -> Result<Captured<'env, 'source>, Error>
+    ) -> Result<CapturedOf<'_, O>, Error>
         ensures full { ids.old ≡ greatest →
             (result ≡ Err (ErrorKind.InvalidOperation ∷ [])) × (ids.new ≡ ids.old)
             × (W.told writer.new ≡ W.told writer.old)
             × (W.faults writer.new ≡ W.faults writer.old) }
         ensures next { ids.old < greatest → ids.new ≡ ids.old + 1 }
-        ensures rendered { ids.old < greatest → Rendered (meaning self.now ids.old context) result
+        ensures rendered { ids.old < greatest →
+            Rendered self.now (meaning O.functions self.now ids.old context) result
             (W.told writer.old) (W.told writer.new) (W.faults writer.old) (W.faults writer.new) }
     {
         let state = self.first_state(ids, context)?;
         let alloc = self.environment.allocator();
         let (_captures, state) = self.run_over(state, Captures::new(alloc), writer)?;
-        Ok(Captured::new(String::new(alloc), State::new(self.environment, state)))
+        Ok(CapturedOf::new(String::new(alloc), StateOf::new(self.rendering(), state)))
     }
 
     /// The state that a render starts from. InvalidOperation where the counter is full, OutOfMemory where there is no memory.
-    fn first_state(&self, ids: &mut StateIds, context: Value) -> Result<StateData<'env>, Error>
+    fn first_state(&self, ids: &mut StateIds, context: Value) -> Result<StateData<'_>, Error>
         ensures full { ids.old ≡ greatest →
             (result ≡ Err (ErrorKind.InvalidOperation ∷ [])) × (ids.new ≡ ids.old) }
         ensures next { ids.old < greatest → ids.new ≡ ids.old + 1 }
-        ensures state { IfOk result (λ s. s ≡ first_world ids.old
-            self.now.template.name self.now.environment.fuel context) }
+        ensures state { IfOk result (λ s. s ≡ first O.functions self.now ids.old context) }
         ensures memory { ids.old < greatest → IfErr result (λ e. e ≡ ErrorKind.OutOfMemory ∷ []) }
     {
         let id = ids.next()?;
@@ -117,28 +149,29 @@ impl<'env, 'source> Template<'env, 'source> {
         StateData::new(
             environment.allocator(),
             id,
-            self.compiled.name(),
+            self.compiled().blocks(),
+            AutoEscape::None,
             environment.fuel(),
             context,
         )
     }
 
     /// Runs the template's code over a state, captures and a writer, and gives the captures and the state that are left.
-    fn run_over<W: Sink>(
+    fn run_over<'state, W: Sink>(
         &self,
-        state: StateData<'env>,
+        state: StateData<'state>,
         captures: Captures,
         writer: &mut W,
-    ) -> Result<(Captures, StateData<'env>), Halt>
-        ensures { Ran
-            (rendered (host_of self.now.environment) self.now.template.tree state.entry)
-            result captures (W.told writer.old) (W.told writer.new)
-            (W.faults writer.old) (W.faults writer.new) }
+    ) -> Result<(Captures, StateData<'state>), Halt>
+        requires own { state.stream ≡ root_of TemplateId.Own }
+        requires fresh { IsFresh captures }
+        ensures { Ran (meaning_from O.functions self.now state.entry) result captures
+            (W.told writer.old) (W.told writer.new) (W.faults writer.old) (W.faults writer.new) }
     {
-        let environment = self.environment;
-        let alloc = environment.allocator();
-        let mut machine = Machine::new(alloc, self.compiled.instructions(), captures, state);
-        machine.run(alloc, environment, writer)?;
+        let alloc = self.environment.allocator();
+        let stream = StreamId::root(TemplateId::Own);
+        let mut machine = Machine::new(alloc, stream, captures, state);
+        machine.run(alloc, &self.rendering(), true, writer)?;
         Ok(machine.into_parts())
     }
 }

@@ -1,14 +1,1 @@
-pub mod Syntax
-pub mod Tree
-pub mod Code
-pub mod Streams
-pub mod Front
-pub mod Source
-pub mod Pieces
-pub mod Names
-pub mod Tokens
-pub mod Rule
-pub mod Grammar
 pub mod Spells
-pub mod Refused
-pub mod Views

@@ -1,20 +1,13 @@
-//! The language: delimiters, trees, the parser, instructions and the generator.
+//! From a source to its tree, and from a tree to its streams.
 #![tactic(auto)]
 
-mod front;
-mod generator;
-mod instruction;
-mod names;
-mod pieces;
 mod source;
-mod syntax;
 #[cfg(test)]
 mod tests;
-mod tokens;
-mod tree;
 
-pub use generator::generate;
-pub use instruction::{Instruction, Streams, Verified};
 pub use source::{one_tree, parse};
-pub use syntax::SyntaxConfig;
-pub use tree::{Expr, Stmt, Tree};
+pub use tm_generator::{Streams, generate};
+pub use tm_scanner::SyntaxConfig;
+pub use tm_syntax::{
+    Argument, BinaryOperator, Expr, Instruction, Name, NameMap, Step, Stmt, Tree, UnaryOperator,
+};

@@ -1,21 +1,66 @@
--- What each instruction does that is paid for.
-use Rattle.std.specs.Prelude.{ℕ, List, [], ◌∷◌}
-use Rattle.tm_meaning.specs.Texts.{put_in, put_out}
-use Rattle.tm_meaning.specs.World.{Host, lookup, emitted}
-use Rattle.tm_meaning.specs.Machine.{Config, Next, More, after, on_top, onward}
+-- What each instruction does once it is paid for.
+use Rattle.std.specs.Prelude.{ℕ, List, [], ◌∷◌, Bool, ◌&&◌}
+use Rattle.tm_values.specs.Val.{Val}
+use Rattle.tm_meaning.specs.World.{choose, World, Host, Res, Good, looked_up, emitted}
+use Rattle.tm_meaning.specs.Calls.{enter_block, call_named}
+use Rattle.tm_meaning.specs.Meaning.{none_waits, truth, not_of, equal_of, attribute}
+use Rattle.tm_meaning.specs.Machine.{Config, Base, Next, More, after, on_top, take_n, on, goes, jumps, with_world, audible, writes, asked, asked_in_place}
 
--- EmitRaw writes its text.
-abbrev pub emit_raw_of : List ℕ → Config → Next
-emit_raw_of text c =
-    More (put_out c.captures text) (record c { run = onward c.run c.run.operands; captures = put_in c.captures text })
+-- ---------------------------------------------------------------- output
+abbrev pub emit_raw_of : Base → List ℕ → Config → Next
+emit_raw_of f t c = writes f t (on c.run.operands c)
 
--- Lookup pushes the value of its name.
+abbrev pub emit_of : Host → Base → Config → Next
+emit_of host f c = on_top c.run.operands c.world (λ v vs. after (emitted host v c.world) (λ t w. writes f t (on vs (with_world w c))))
+
+-- ---------------------------------------------------------------- operands
 abbrev pub lookup_of : Host → List ℕ → Config → Next
-lookup_of host name c = More [] (record c { run = onward c.run (lookup host name c.world ∷ c.run.operands) })
+lookup_of host x c = after (looked_up host x c.world) (λ v w. goes (v ∷ c.run.operands) w c)
 
--- Emit pops a value and writes what it is printed as.
-abbrev pub emit_of : Config → Next
-emit_of c =
-    on_top c.run.operands c.world (λ v operands.
-    after (emitted v c.world) (λ text w.
-    More (put_out c.captures text) (record c { run = onward c.run operands; captures = put_in c.captures text; world = w })))
+abbrev pub load_const_of : Val → Config → Next
+load_const_of v c = goes (v ∷ c.run.operands) c.world c
+
+-- one operand is replaced
+abbrev pub replaces_one : (Val → World → Res Val) → Config → Next
+replaces_one g c = on_top c.run.operands c.world (λ v vs. after (g v c.world) (λ x w. goes (x ∷ vs) w c))
+
+-- two operands are replaced, the topmost given last
+abbrev pub replaces_two : (Val → Val → World → Res Val) → Config → Next
+replaces_two g c =
+    on_top c.run.operands c.world (λ b vs. on_top vs c.world (λ a rest. after (g a b c.world) (λ x w. goes (x ∷ rest) w c)))
+
+abbrev pub get_attr_of : Host → List ℕ → Config → Next
+get_attr_of host x c = replaces_one (λ v w. attribute host v x w) c
+
+abbrev pub not_instruction_of : Host → Config → Next
+not_instruction_of host c = replaces_one (not_of host) c
+
+abbrev pub eq_of : Host → Config → Next
+eq_of host c = replaces_two (equal_of host) c
+
+-- ---------------------------------------------------------------- jumps
+abbrev pub jump_of : ℕ → Config → Next
+jump_of n c = jumps n c.run.operands c.world c
+
+-- the truth of the topmost operand
+abbrev pub on_truth : Host → Config → (Bool → Val → List Val → World → Next) → Next
+on_truth host c f = on_top c.run.operands c.world (λ v vs. after (truth host v c.world) (λ b w. f b v vs w))
+
+abbrev pub jump_if_false_of : Host → ℕ → Config → Next
+jump_if_false_of host n c = on_truth host c (λ b v vs w. choose b (λ _. goes vs w c) (λ _. jumps n vs w c))
+
+abbrev pub jump_if_false_or_pop_of : Host → ℕ → Config → Next
+jump_if_false_or_pop_of host n c = on_truth host c (λ b v vs w. choose b (λ _. goes vs w c) (λ _. jumps n (v ∷ vs) w c))
+
+abbrev pub jump_if_true_or_pop_of : Host → ℕ → Config → Next
+jump_if_true_or_pop_of host n c = on_truth host c (λ b v vs w. choose b (λ _. jumps n (v ∷ vs) w c) (λ _. goes vs w c))
+
+-- ---------------------------------------------------------------- calls
+abbrev pub call_function_of : Host → List ℕ → ℕ → Config → Next
+call_function_of host x n c = take_n n c.run.operands c.world (λ vs rest. asked c rest (call_named host x vs c.world))
+
+abbrev pub call_block_of : Host → Base → List ℕ → Config → Next
+call_block_of host f b c =
+    choose (none_waits c.run.parent && audible f c)
+    (λ _. asked_in_place f c c.run.operands (enter_block host b c.world))
+    (λ _. goes c.run.operands c.world c)

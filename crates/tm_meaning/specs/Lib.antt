@@ -1,8 +1,9 @@
-pub mod Texts
 pub mod World
+pub mod Calls
+pub mod Tree
+pub mod Meaning
 pub mod Machine
 pub mod Instructions
 pub mod Steps
-pub mod Runs
-pub mod Meaning
 pub mod Rows
+pub mod Compiled

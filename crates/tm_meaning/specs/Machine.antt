@@ -1,76 +1,183 @@
 -- The machine: where it stands, what a step gives, and how runs end.
-use Rattle.std.specs.Prelude.{ℕ, ◌+◌, List, [], ◌∷◌, Option, Some, None}
+use Rattle.std.specs.Prelude.{ℕ, zero, suc, ◌+◌, List, [], ◌∷◌, ◌++◌, length, Option, Some, None, Bool, true, false, ◌&&◌, nat_lt, nat_eq}
 use Rattle.tm_values.specs.Val.{Val}
 use Rattle.tm_values.specs.declared.error.ErrorKind.{ErrorKind}
-use Rattle.tm_compiler.specs.Code.{Ins}
-use Rattle.tm_meaning.specs.World.{World, Res, Good, Bad}
+use Rattle.tm_values.specs.declared.escape.AutoEscape.{AutoEscape}
+use Rattle.tm_syntax.specs.declared.instruction.Instruction.{Instruction}
+pub use Rattle.tm_meaning.specs.declared.base.Base.{Base}
+use Rattle.tm_meaning.specs.World.{choose, TemplateId, StreamId, World, Host, Res, Good, Bad, captured_text}
+use Rattle.tm_meaning.specs.Calls.{Callee, whole, Call, Asked, has, refused, runs, undone, wrapped}
+use Rattle.tm_meaning.specs.Meaning.{none_waits}
 
--- What is a run's own: its stream, the place in it, its operands, the topmost first.
-pub record Activation : Type 0 where
-  pub stream : List Ins
+-- A text that waits for its capture's end, and whether it takes what is written.
+pub record Capture : Type 0 where
+  pub heard : Bool
+  pub text : List ℕ
+
+-- Where a loop goes on that was called: the run as it was, and whether the text is a value.
+pub record Return : Type 0 where
   pub place : ℕ
   pub operands : List Val
+  pub escapes : List AutoEscape
+  pub floor : ℕ
+  pub value : Bool
 
--- Where the machine stands: the run, the texts of the open captures, innermost first, and the world.
+-- What is a run's own: its stream and the place in it, its operands, the topmost first, the escapes that its open `autoescape`s replaced,
+-- for each loop that it has open where that goes on if it was called, the captures that stood when this run or the innermost called loop began, the parent that waits.
+pub record Activation : Type 0 where
+  pub stream : StreamId
+  pub place : ℕ
+  pub operands : List Val
+  pub escapes : List AutoEscape
+  pub loops : List (Option Return)
+  pub floor : ℕ
+  pub parent : Option TemplateId
+
+-- Where the machine stands: the run, the open captures of all runs, innermost first, and the world.
 pub record Config : Type 0 where
   pub run : Activation
-  pub captures : List (List ℕ)
+  pub captures : List Capture
   pub world : World
-
--- What stays the same over a run: how many captures are not its own.
-pub record Frame : Type 0 where
-  pub floor : ℕ
 
 -- How a run ends: done, with the captures that are left; by a fault; or stuck, which only a stream does that no compiler wrote.
 pub data End : Type 0 where
-  Finished : List (List ℕ) → World → End
-  Failed : World → List ErrorKind → End
+  Finished : List Capture → World → End
+  Failed : List ErrorKind → World → End
   Stuck : World → End
 
--- An end, and the text that the writer has got by then.
-pub record Final : Type 0 where
-  pub text : List ℕ
-  pub end : End
-
--- Where to go on behind a nested run, and the kind that is put before its fault, if one is.
+-- Where to go on behind a nested run: the run that waits, its place moved on, the call, and whether the text is a value.
 pub record Back : Type 0 where
   pub run : Activation
-  pub wrap : Option ErrorKind
+  pub call : Call
+  pub value : Bool
 
--- A step goes on and writes a text, or ends the run, or first needs a run of its own.
+-- A step writes a text and goes on, or ends the run, or first needs a run of its own.
 pub data Next : Type 0 where
   More : List ℕ → Config → Next
   Over : End → Next
-  Nest : Frame → Config → Back → Next
+  Nest : Base → Config → Back → Next
 
--- the text that a step writes
-abbrev pub output : Next → List ℕ
-output (More text c) = text
-output _ = []
+-- What all runs share: the environment, and the instructions of each stream.
+pub record Program : Type 0 where
+  pub host : Host
+  pub code : StreamId → List Instruction
 
-abbrev pub wrapped : Option ErrorKind → List ErrorKind → List ErrorKind
-wrapped None chain = chain
-wrapped (Some kind) chain = kind ∷ chain
-
--- what the end of a nested run leads to
-abbrev pub back_to : Back → End → Next
-back_to back (Finished captures w) = More [] (record { run = back.run; captures = captures; world = w })
-back_to back (Failed w chain) = Over (Failed w (wrapped back.wrap chain))
-back_to back (Stuck w) = Over (Stuck w)
-
+-- ---------------------------------------------------------------- small parts
 -- a stream that can't go on
 abbrev pub stuck : World → Next
 stuck w = Over (Stuck w)
 
 abbrev pub after : {A : Type 0} → Res A → (A → World → Next) → Next
 after (Good a w) f = f a w
-after (Bad chain w) f = Over (Failed w chain)
+after (Bad chain w) f = Over (Failed chain w)
 
 -- the topmost operand and those below it
 abbrev pub on_top : List Val → World → (Val → List Val → Next) → Next
 on_top [] w f = stuck w
-on_top (v ∷ operands) w f = f v operands
+on_top (v ∷ vs) w f = f v vs
 
--- the next place, with these operands
-abbrev pub onward : Activation → List Val → Activation
-onward run operands = record run { place = run.place + 1; operands = operands }
+-- the topmost n, the lowest first, and what is below
+abbrev pub taken : ℕ → List Val → List Val → Option (List Val × List Val)
+taken zero acc vs = Some (acc, vs)
+taken (suc n) acc [] = None
+taken (suc n) acc (v ∷ vs) = taken n (v ∷ acc) vs
+
+abbrev pub on_taken : Option (List Val × List Val) → World → (List Val → List Val → Next) → Next
+on_taken None w f = stuck w
+on_taken (Some r) w f = f r.0 r.1
+
+abbrev pub take_n : ℕ → List Val → World → (List Val → List Val → Next) → Next
+take_n n vs w f = on_taken (taken n [] vs) w f
+
+abbrev pub at_place : ℕ → List Val → Config → Config
+at_place n vs c = record c { run = record c.run { place = n; operands = vs } }
+
+abbrev pub with_world : World → Config → Config
+with_world w c = record c { world = w }
+
+-- on to the next place, with these operands
+abbrev pub on : List Val → Config → Config
+on vs c = at_place (c.run.place + 1) vs c
+
+abbrev pub goes : List Val → World → Config → Next
+goes vs w c = More [] (on vs (with_world w c))
+
+-- on to a place
+abbrev pub jumps : ℕ → List Val → World → Config → Next
+jumps n vs w c = More [] (at_place n vs (with_world w c))
+
+-- ---------------------------------------------------------------- what is written
+abbrev pub first_heard : List Capture → Bool
+first_heard [] = true
+first_heard (k ∷ ks) = k.heard
+
+-- whether what is written is heard: by the innermost capture of this run, else as the run is and where no parent waits
+abbrev pub audible : Base → Config → Bool
+audible f c = choose (nat_lt f.captures (length c.captures)) (λ _. first_heard c.captures) (λ _. f.heard && none_waits c.run.parent)
+
+-- the captures behind a text, and what the writer gets of it
+abbrev pub put_in : List Capture → List ℕ → List Capture
+put_in [] t = []
+put_in (k ∷ ks) t = record k { text = k.text ++ t } ∷ ks
+
+abbrev pub put_out : List Capture → List ℕ → List ℕ
+put_out [] t = t
+put_out (k ∷ ks) t = []
+
+abbrev pub writes : Base → List ℕ → Config → Next
+writes f t c = choose (audible f c) (λ _. More (put_out c.captures t) (record c { captures = put_in c.captures t })) (λ _. More [] c)
+
+-- ---------------------------------------------------------------- runs
+abbrev pub run_from : StreamId → ℕ → Activation
+run_from s floor = record { stream = s; place = 0; operands = []; escapes = []; loops = []; floor = floor; parent = None }
+
+-- a run of a callee from its first place, over captures and in a world
+abbrev pub start : Callee → List Capture → World → Config
+start (whole s) ks w = record { run = run_from s (length ks); captures = ks; world = w }
+
+abbrev pub base_of : Bool → List Capture → World → Base
+base_of heard ks w = record { captures = length ks; scopes = length w.scopes.frames; heard = heard; first = w.escape }
+
+abbrev pub new_capture : Bool → Capture
+new_capture heard = record { heard = heard; text = [] }
+
+-- the run that waits goes on behind the call, over these operands
+abbrev pub waiting : List Val → Config → Activation
+waiting vs c = record c.run { place = c.run.place + 1; operands = vs }
+
+-- a nested run whose text is heard where the call is
+abbrev pub nested_in_place : Base → List Val → Config → Call → World → Next
+nested_in_place f vs c k w =
+    Nest (base_of (audible f c) c.captures w) (start k.callee c.captures w) (record { run = waiting vs c; call = k; value = false })
+
+-- a nested run whose text waits in a capture
+abbrev pub nested_as_value : List Val → Config → Call → World → Next
+nested_as_value vs c k w =
+    let ks = new_capture true ∷ c.captures in
+    Nest (base_of true ks w) (start k.callee ks w) (record { run = waiting vs c; call = k; value = true })
+
+abbrev pub pushed : Val → Activation → Activation
+pushed v r = record r { operands = v ∷ r.operands }
+
+-- what the end of a nested run leads to
+abbrev pub back_with : Bool → Activation → List Capture → World → Next
+back_with false r ks w = More [] (record { run = r; captures = ks; world = w })
+back_with true r [] w = stuck w
+back_with true r (k ∷ ks) w = More [] (record { run = pushed (captured_text k.text w) r; captures = ks; world = w })
+
+abbrev pub back_to : Back → End → Next
+back_to back (Finished ks w) = back_with back.value back.run ks (undone back.call.undo w)
+back_to back (Failed chain w) = Over (Failed (wrapped back.call.wrap chain) w)
+back_to back (Stuck w) = stuck w
+
+-- what a call comes to, over the operands below it: its value is pushed
+abbrev pub asked : Config → List Val → Asked → Next
+asked c vs (has v w) = goes (v ∷ vs) w c
+asked c vs (refused chain w) = Over (Failed chain w)
+asked c vs (runs k w) = nested_as_value vs c k w
+
+-- or it is made in place
+abbrev pub asked_in_place : Base → Config → List Val → Asked → Next
+asked_in_place f c vs (has v w) = goes vs w c
+asked_in_place f c vs (refused chain w) = Over (Failed chain w)
+asked_in_place f c vs (runs k w) = nested_in_place f vs c k w

@@ -1,78 +1,251 @@
--- What trees mean. No stream, no place and no operand stands here.
-use Rattle.std.specs.Prelude.{ℕ, List, [], ◌++◌, Bool, true, if◌then◌else◌}
-use Rattle.tm_values.specs.Val.{Val}
+-- What trees mean. No stream's place and no operand stands here.
+use Rattle.std.specs.Prelude.{ℕ, zero, suc, ◌+◌, ◌^◌, ◌-◌, List, [], ◌∷◌, ◌++◌, Option, Some, None, Bool, true, false, not, ◌&&◌, Ok, Err}
+use Rattle.std.specs.Result.{result_map_both}
+use Rattle.tm_values.specs.Answer.{Answer}
+use Rattle.tm_values.specs.Val.{Val, boolean}
 use Rattle.tm_values.specs.declared.error.ErrorKind.{ErrorKind}
-use Rattle.tm_compiler.specs.Tree.{Ex, name, St, raw, emit, Sts, no_sts, st}
-use Rattle.tm_meaning.specs.World.{World, Host, Res, Good, Bad, bind, tick, lookup, emitted}
+use Rattle.tm_values.specs.declared.error.ErrorKind.TheVariants.{InvalidOperation}
+use Rattle.tm_values.specs.declared.escape.AutoEscape.{AutoEscape}
+use Rattle.tm_operations.specs.Truth.{truth_of}
+use Rattle.tm_operations.specs.Comparison.{compared}
+use Rattle.tm_operations.specs.Members.{attribute_of}
+use Rattle.tm_operations.specs.declared.comparisons.Comparison.TheVariants as comparison
+use Rattle.tm_syntax.specs.declared.tree.UnaryOperator.{UnaryOperator}
+use Rattle.tm_syntax.specs.declared.tree.UnaryOperator.TheVariants as unaries
+use Rattle.tm_syntax.specs.declared.tree.BinaryOperator.{BinaryOperator}
+use Rattle.tm_syntax.specs.declared.tree.BinaryOperator.TheVariants as binaries
+use Rattle.tm_syntax.specs.declared.tree.Expr.{Expr, Var, Const, Call', Row_of-Argument, end_of-Argument as no_argument, more_of-Argument as argument, Row_of-Step, end_of-Step as no_step, more_of-Step as step}
+use Rattle.tm_syntax.specs.declared.tree.Argument.{Argument}
+use Rattle.tm_syntax.specs.declared.tree.Step.{Step, Attribute}
+use Rattle.tm_syntax.specs.declared.tree.Stmt.{Stmt, EmitRaw, EmitExpr, If', Block', Row_of-Stmt, end_of-Stmt as no_statement, more_of-Stmt as statement, Held-Stmt-If-2 as Otherwise, None' as no_else, Some' as otherwise}
+use Rattle.tm_syntax.specs.Forms.{unary, chained, plain, binary, and_then, or_else}
+use Rattle.tm_meaning.specs.World.{choose, TemplateId, root_of, StreamId, World, Host, Res, Good, Bad, bind, answered, tick, ticked, looked_up, records_of, template_at, emitted, captured_text, plain as plain_scope}
+use Rattle.tm_meaning.specs.Calls.{Callee, whole, Call, Asked, has, refused, runs, undone, wrapped, enter_block, call_named, own_blocks}
+use Rattle.tm_meaning.specs.Tree.{Body, Trees}
 
--- A run of a stream's tree: whether its text is heard.
+-- ---------------------------------------------------------------- runs and outcomes
+-- A run of a stream's tree: the escape at its start, whether it is heard, whether this stands inside a capture of its own, the parent that waits. Its stream is the world's.
 pub record Run : Type 0 where
+  pub first : AutoEscape
   pub heard : Bool
+  pub inside : Bool
+  pub parent : Option TemplateId
 
--- How statements end: done, with the run that is left, or with a chain of kinds; and the text heard so far.
-pub data Outcome : Type 0 where
-  Done : Run → List ℕ → World → Outcome
-  Fault : List ℕ → World → List ErrorKind → Outcome
+-- How statements end: done, by leaving a loop, by going on with its next item, or by a fault.
+pub data Ending : Type 0 where
+  done leave next : Ending
+  fault : List ErrorKind → Ending
 
--- What a statement may run beside its own run; no statement does so yet.
-pub data Callee : Type 0 where
+-- An ending, the parent that waits then, the text heard so far, and the world that is left.
+pub record Outcome : Type 0 where
+  pub ending : Ending
+  pub parent : Option TemplateId
+  pub text : List ℕ
+  pub world : World
 
--- What nests: a callee's run, over the text heard so far.
-pub record Nests : Type 0 where
-  pub call : Callee → Run → List ℕ → World → Outcome
+-- What nests: a callee's run, heard or not, over the text heard so far.
+abbrev pub Nests : Type 0
+Nests = Callee → Bool → List ℕ → World → Outcome
+
+-- What a statement stands under: the environment, and what nests.
+pub record Under : Type 0 where
+  pub host : Host
+  pub nests : Nests
+
+abbrev pub ended : Ending → Run → List ℕ → World → Outcome
+ended e run out w = record { ending = e; parent = run.parent; text = out; world = w }
+
+abbrev pub so_far : Run → List ℕ → World → Outcome
+so_far run out w = ended done run out w
 
 -- goes on with a value, or ends with the text so far
-abbrev pub use_it : {A : Type 0} → Res A → List ℕ → (A → World → Outcome) → Outcome
-use_it (Good a w) out f = f a w
-use_it (Bad chain w) out f = Fault out w chain
+abbrev pub use_it : {A : Type 0} → Res A → Run → List ℕ → (A → World → Outcome) → Outcome
+use_it (Good a w) run out f = f a w
+use_it (Bad chain w) run out f = ended (fault chain) run out w
 
 -- goes on where the first is done
-abbrev pub then_do : Outcome → (Run → List ℕ → World → Outcome) → Outcome
-then_do (Done run out w) f = f run out w
-then_do (Fault out w chain) f = Fault out w chain
+abbrev pub on_done : Ending → Outcome → (Unit {0} → Outcome) → Outcome
+on_done done o f = f tt
+on_done leave o f = o
+on_done next o f = o
+on_done (fault chain) o f = o
 
--- a text more, where the run is heard
+abbrev pub then_do : Run → Outcome → (Run → List ℕ → World → Outcome) → Outcome
+then_do run o f = on_done o.ending o (λ _. f (record run { parent = o.parent }) o.text o.world)
+
+abbrev pub none_waits : Option TemplateId → Bool
+none_waits None = true
+none_waits (Some t) = false
+
+-- whether what is said here is heard
+abbrev pub audible : Run → Bool
+audible run = choose run.inside (λ _. run.heard) (λ _. run.heard && none_waits run.parent)
+
 abbrev pub say : Run → List ℕ → List ℕ → List ℕ
-say run text out = if run.heard then out ++ text else out
+say run t out = choose (audible run) (λ _. out ++ t) (λ _. out)
 
--- A name is charged 1, and is then what look-up gives.
-abbrev pub ev : Host → Nests → Ex → World → Res Val
-ev host nests (name x) w = bind (tick w) (λ _ w'. Good (lookup host x w') w')
+-- ---------------------------------------------------------------- calls
+-- a run that was needed, as a value
+abbrev pub value_behind : Ending → Call → Outcome → Res Val
+value_behind (fault chain) c o = Bad (wrapped c.wrap chain) o.world
+value_behind e c o = Good (captured_text o.text (undone c.undo o.world)) (undone c.undo o.world)
 
--- Raw text is charged 1, and is then heard. An emission is its expression, a charge of 1, and then the whole text of the value, or at a fault nothing.
-abbrev pub ex : Host → Nests → St → Run → List ℕ → World → Outcome
-ex host nests (raw text) run out w = use_it (tick w) out (λ _ w'. Done run (say run text out) w')
-ex host nests (emit e) run out w =
-    use_it (ev host nests e w) out (λ v w'.
-    use_it (tick w') out (λ _ w''.
-    use_it (emitted v w'') out (λ text w'''. Done run (say run text out) w''')))
+abbrev pub value_of : Under → Asked → Res Val
+value_of u (has v w) = Good v w
+value_of u (refused chain w) = Bad chain w
+value_of u (runs c w) = let o = u.nests c.callee true [] w in value_behind o.ending c o
 
--- Statements run one after the other; a fault ends them all, and takes nothing back.
-abbrev pub exs : Host → Nests → Sts → Run → List ℕ → World → Outcome
-exs host nests no_sts run out w = Done run out w
-exs host nests (st s ss) run out w = then_do (ex host nests s run out w) (λ run1 out1 w'. exs host nests ss run1 out1 w')
+-- a run that was needed, in place
+abbrev pub behind : Ending → Call → Run → Outcome → Outcome
+behind (fault chain) c run o = ended (fault (wrapped c.wrap chain)) run o.text o.world
+behind e c run o = so_far run o.text (undone c.undo o.world)
 
--- What nests, over as many levels. There is no callee yet.
-abbrev pub nests_of : Host → ℕ → Nests
-nests_of host levels = record { call = λ callee run out w. elim callee [ ] }
+abbrev pub in_place_of : Under → Run → List ℕ → Asked → Outcome
+in_place_of u run out (has v w) = so_far run out w
+in_place_of u run out (refused chain w) = ended (fault chain) run out w
+in_place_of u run out (runs c w) = let o = u.nests c.callee (audible run) out w in behind o.ending c run o
 
--- a run that is heard
-abbrev pub heard : Run
-heard = record { heard = true }
+-- A block's tag does nothing unheard, nor where a parent waits.
+abbrev pub block_tag : Under → Run → List ℕ → List ℕ → World → Outcome
+block_tag u run b out w =
+    choose (none_waits run.parent && audible run) (λ _. in_place_of u run out (enter_block u.host b w)) (λ _. so_far run out w)
 
--- What a render means: the statements, heard, from a world.
-abbrev pub rendered : Host → Sts → World → Outcome
-rendered host tree w = exs host (nests_of host host.limit) tree heard [] w
+-- ---------------------------------------------------------------- operators
+abbrev pub truth : Host → Val → World → Res Bool
+truth host v w = answered (truth_of host.undefined v) w
 
--- the text that was heard, the world that is left, and the chain of kinds, which is empty where all was done
-abbrev pub text_of : Outcome → List ℕ
-text_of (Done run out w) = out
-text_of (Fault out w chain) = out
+abbrev pub as_value : Answer Bool → Answer Val
+as_value answer = result_map_both boolean (λ e. e) answer
 
-abbrev pub world_of : Outcome → World
-world_of (Done run out w) = w
-world_of (Fault out w chain) = w
+abbrev pub negated : Answer Bool → Answer Val
+negated answer = result_map_both (λ b. boolean (not b)) (λ e. e) answer
+
+abbrev pub not_of : Host → Val → World → Res Val
+not_of host v w = answered (negated (truth_of host.undefined v)) w
+
+abbrev pub equal_of : Host → Val → Val → World → Res Val
+equal_of host a b w = answered (as_value (compared comparison.Equal host.undefined a b)) w
+
+abbrev pub applied_unary : Host → UnaryOperator → Val → World → Res Val
+applied_unary host unaries.Not v w = not_of host v w
+
+abbrev pub applied : Host → BinaryOperator → Val → Val → World → Res Val
+applied host binaries.Equal a b w = equal_of host a b w
+
+abbrev pub attribute : Host → Val → List ℕ → World → Res Val
+attribute host v x w = answered (attribute_of host.undefined (records_of w) v x) w
+
+-- ---------------------------------------------------------------- expressions
+abbrev mutual
+  pub eval : Under → Run → Expr → World → Res Val
+  eval u run (Var x) w = ticked w (λ w1. looked_up u.host x w1)
+  eval u run (Const v) w = ticked w (λ w1. Good v w1)
+  eval u run (Call' f _ given) w = bind (eval_arguments u run given w) (λ vs w1. ticked w1 (λ w2. value_of u (call_named u.host f vs w2)))
+  eval u run (unary op a) w = bind (eval u run a w) (λ v w1. ticked w1 (λ w2. applied_unary u.host op v w2))
+  eval u run (chained a _ ss) w = bind (eval u run a w) (λ v w1. eval_steps u run ss v w1)
+
+  pub eval_argument : Under → Run → Argument → World → Res Val
+  eval_argument u run (plain a) w = eval u run a w
+
+  pub eval_arguments : {n : _} → Under → Run → Row_of-Argument n → World → Res (List Val)
+  eval_arguments u run no_argument w = Good [] w
+  eval_arguments u run (argument a more) w =
+      bind (eval_argument u run a w) (λ v w1. bind (eval_arguments u run more w1) (λ vs w2. Good (v ∷ vs) w2))
+
+  -- a value goes on; `and` and `or` charge their test, and give the operand that ran last
+  pub eval_step : Under → Run → Step → Val → World → Res Val
+  eval_step u run (Attribute x) v w = ticked w (λ w1. attribute u.host v x w1)
+  eval_step u run (binary op a) v w = bind (eval u run a w) (λ y w1. ticked w1 (λ w2. applied u.host op v y w2))
+  eval_step u run (and_then a) v w =
+      ticked w (λ w1. bind (truth u.host v w1) (λ b w2. choose b (λ _. eval u run a w2) (λ _. Good v w2)))
+  eval_step u run (or_else a) v w =
+      ticked w (λ w1. bind (truth u.host v w1) (λ b w2. choose b (λ _. Good v w2) (λ _. eval u run a w2)))
+
+  pub eval_steps : {n : _} → Under → Run → Row_of-Step n → Val → World → Res Val
+  eval_steps u run no_step v w = Good v w
+  eval_steps u run (step s ss) v w = bind (eval_step u run s v w) (λ x w1. eval_steps u run ss x w1)
+
+-- ---------------------------------------------------------------- statements
+-- a value, charged, and heard as it is written
+abbrev pub emit : Under → Run → List ℕ → Val → World → Outcome
+emit u run out v w =
+    use_it (tick w) run out (λ _ w1. use_it (emitted u.host v w1) run out (λ t w2. so_far run (say run t out) w2))
+
+-- behind the first part of an `if` that has a second
+abbrev pub behind_first : Otherwise → Run → Outcome → Outcome
+behind_first no_else run o = o
+behind_first (otherwise _ body) run o = then_do run o (λ run1 out1 w1. use_it (tick w1) run1 out1 (λ _ w2. so_far run1 out1 w2))
+
+abbrev mutual
+  pub exec : Under → Stmt → Run → List ℕ → World → Outcome
+  exec u (EmitRaw t) run out w = use_it (tick w) run out (λ _ w1. so_far run (say run t out) w1)
+  exec u (EmitExpr e) run out w = use_it (eval u run e w) run out (λ v w1. emit u run out v w1)
+  exec u (If' c _ body other) run out w =
+      use_it (eval u run c w) run out (λ v w1. use_it (tick w1) run out (λ _ w2. use_it (truth u.host v w2) run out (λ b w3.
+      choose b (λ _. behind_first other run (execs u body run out w3)) (λ _. exec_else u other run out w3))))
+  exec u (Block' b _ body) run out w = use_it (tick w) run out (λ _ w1. block_tag u run b out w1)
+
+  pub execs : {n : _} → Under → Row_of-Stmt n → Run → List ℕ → World → Outcome
+  execs u no_statement run out w = so_far run out w
+  execs u (statement s ss) run out w = then_do run (exec u s run out w) (λ run1 out1 w1. execs u ss run1 out1 w1)
+
+  pub exec_else : Under → Otherwise → Run → List ℕ → World → Outcome
+  exec_else u no_else run out w = so_far run out w
+  exec_else u (otherwise _ body) run out w = execs u body run out w
+
+-- ---------------------------------------------------------------- runs
+abbrev pub failed : ErrorKind → Run → List ℕ → World → Outcome
+failed kind run out w = ended (fault (kind ∷ [])) run out w
+
+abbrev pub new_run : Bool → World → Run
+new_run heard w = record { first = w.escape; heard = heard; inside = false; parent = None }
+
+-- a stream's end: whatever it was, the run is over
+abbrev pub at_end : Ending → Outcome → Outcome
+at_end (fault chain) o = o
+at_end e o = record o { ending = done }
+
+abbrev pub stream_run : Under → Body → Run → List ℕ → World → Outcome
+stream_run u body run out w = let o = execs u body.row run out w in at_end o.ending o
+
+-- what nests, over as many levels of depth: level zero isn't reached, since each stands at least one deeper
+abbrev pub nests_of : Host → Trees → ℕ → Nests
+nests_of host trees zero callee heard out w = failed InvalidOperation (new_run heard w) out w
+nests_of host trees (suc n) (whole s) heard out w =
+    stream_run (record { host = host; nests = nests_of host trees n }) (trees s) (new_run heard w) out w
+
+-- ---------------------------------------------------------------- renders
+abbrev pub first_fuel : Option ℕ → ℕ
+first_fuel None = 2 ^ 64 - 1
+first_fuel (Some fuel) = fuel
+
+-- What a render starts from: one scope over the context value, no records, the template's blocks each alone, and the fuel that was set, else the greatest u64.
+abbrev pub first_world : Host → TemplateId → ℕ → Option ℕ → Val → World
+first_world host t id fuel context = record {
+  id = id;
+  scopes = record { frames = plain_scope context ∷ []; outer = 0 };
+  namespaces = [];
+  loops = [];
+  closures = [];
+  streams = [];
+  temps = [];
+  blocks = own_blocks t (template_at host t).blocks;
+  loaded = [];
+  block = None;
+  escape = (template_at host t).escape;
+  stream = root_of t;
+  fuel_set = fuel;
+  fuel = first_fuel fuel;
+}
+
+-- What a render means, from a world: the stream that it names, heard.
+abbrev pub rendered : Host → Trees → World → Outcome
+rendered host trees w = nests_of host trees (host.limit + 1) (whole w.stream) true [] w
+
+-- the chain of kinds, which is empty where all was done
+abbrev pub chain_in : Ending → List ErrorKind
+chain_in (fault chain) = chain
+chain_in e = []
 
 abbrev pub chain_of : Outcome → List ErrorKind
-chain_of (Done run out w) = []
-chain_of (Fault out w chain) = chain
+chain_of o = chain_in o.ending

@@ -1,38 +1,232 @@
--- Worked renders, and what is said of each.
-use Rattle.std.specs.Prelude.{◌≡◌, ℕ, List, [], Option, None, false, codes}
-use Rattle.tm_values.specs.Val.{Val, text, map, no_pairs, pair}
+-- Worked renders, through the meaning, and through the code and the machine.
+use Rattle.std.specs.Prelude.{◌≡◌, ℕ, ◌-◌, List, [], ◌∷◌, map as each, Option, Some, None, Bool, true, false, codes, pos}
+use Rattle.tm_values.specs.Val.{Val, undefined, boolean, number, text, map, function, pairs_of}
 use Rattle.tm_values.specs.declared.error.ErrorKind.{ErrorKind}
-use Rattle.tm_compiler.specs.Tree.{name, raw, emit, Sts, no_sts, st}
-use Rattle.tm_meaning.specs.World.{Host, first_world}
-use Rattle.tm_meaning.specs.Meaning.{Outcome, rendered, text_of, world_of, chain_of}
+use Rattle.tm_values.specs.declared.error.ErrorKind.TheVariants as kind
+use Rattle.tm_values.specs.declared.escape.AutoEscape.TheVariants as escapes
+use Rattle.tm_values.specs.declared.undefined.UndefinedBehavior.{UndefinedBehavior}
+use Rattle.tm_values.specs.declared.undefined.UndefinedBehavior.TheVariants.{Lenient}
+use Rattle.tm_syntax.specs.declared.tree.UnaryOperator.TheVariants as unaries
+use Rattle.tm_syntax.specs.declared.tree.BinaryOperator.TheVariants as binaries
+use Rattle.tm_syntax.specs.declared.tree.Expr.{Expr, Var, Const, Call', end_of-Argument as no_argument, more_of-Argument as argument, end_of-Step as no_step, more_of-Step as step}
+use Rattle.tm_syntax.specs.declared.tree.Step.{Step, Attribute}
+use Rattle.tm_syntax.specs.declared.tree.Stmt.{Stmt, EmitRaw, EmitExpr, If', Block', end_of-Stmt as no_statement, more_of-Stmt as statement, Held-Stmt-If-2 as Otherwise, None' as no_else, Some' as otherwise}
+use Rattle.tm_syntax.specs.Forms.{unary, chained, plain, binary, and_then, or_else}
+use Rattle.tm_meaning.specs.Compiled.{code_of}
+use Rattle.tm_meaning.specs.World.{Bindings, find, own, World, Host, View, Reply, gives, faults, Stated, Function, callers}
+use Rattle.tm_meaning.specs.Calls.{whole}
+use Rattle.tm_meaning.specs.Tree.{Body, body_of, TemplateTree, Trees, template_of, trees_of}
+use Rattle.tm_meaning.specs.Meaning.{Outcome, rendered, first_world, chain_of}
+use Rattle.tm_meaning.specs.Machine.{Program, Finished, Failed, Stuck, End, start, base_of}
+use Rattle.tm_meaning.specs.Steps.{Final, step as step_of, run_for}
 
--- an environment without globals
-abbrev pub nothing : Host
-nothing = record { globals = λ x. None; limit = 500 }
+-- ---------------------------------------------------------------- a page and its renders
+pub record Page : Type 0 where
+  pub body : Body
+  pub context : Val
+  pub globals : Bindings
+  pub functions : List Function
+  pub limit : ℕ
 
--- a map of one text
-abbrev pub one : List ℕ → List ℕ → Val
-one key value = map (pair (text key false) (text value false) no_pairs)
+abbrev pub page : Body → Val → Page
+page body context = record { body = body; context = context; globals = []; functions = []; limit = 500 }
 
--- a render of a tree over a context value with this fuel
-abbrev pub render : Sts → Val → Option ℕ → Outcome
-render tree context fuel = rendered nothing tree (first_world 0 [] fuel context)
+abbrev pub tree_of : Page → TemplateTree
+tree_of p = record { name = codes "page"; escape = escapes.None; root = p.body }
 
--- The text that was heard, the fuel that is left, and the chain of kinds.
-abbrev pub Says : Outcome → List ℕ → ℕ → List ErrorKind → Type 0
-Says m heard left chain = (text_of m ≡ heard) × ((world_of m).fuel ≡ left) × (chain_of m ≡ chain)
+abbrev pub host_of : Page → Host
+host_of p = record {
+  own = template_of (tree_of p);
+  templates = [];
+  globals = p.globals;
+  functions = p.functions;
+  filters = [];
+  tests = [];
+  join = λ x parent. x;
+  formatter = None;
+  undefined = Lenient;
+  limit = p.limit;
+}
+
+abbrev pub trees : Page → Trees
+trees p = trees_of (tree_of p) []
+
+abbrev pub world_of : Page → Option ℕ → World
+world_of p fuel = first_world (host_of p) own 0 fuel p.context
+
+abbrev pub program_of : Page → Program
+program_of p = record { host = host_of p; code = λ s. code_of (trees p s) }
+
+-- The text that was heard, the fuel that is left, the chain of kinds, and a kept value.
+pub record Said : Type 0 where
+  pub text : List ℕ
+  pub fuel : ℕ
+  pub chain : List ErrorKind
+
+abbrev pub said : List ℕ → ℕ → List ErrorKind → Said
+said t n chain = record { text = t; fuel = n; chain = chain }
+
+abbrev pub meant : Page → Option ℕ → Said
+meant p fuel = let o = rendered (host_of p) (trees p) (world_of p fuel) in said o.text o.world.fuel (chain_of o)
+
+abbrev pub said_at : List ℕ → End → Said
+said_at t (Finished ks w) = said t w.fuel []
+said_at t (Failed chain w) = said t w.fuel chain
+said_at t (Stuck w) = said t w.fuel (kind.BadStream ∷ [])
+
+abbrev pub said_by : Option Final → Said
+said_by None = said [] 0 []
+said_by (Some o) = said_at o.text o.end
+
+abbrev pub ran : Page → Option ℕ → Said
+ran p fuel =
+    let w = world_of p fuel in
+    let f = base_of true [] w in
+    said_by (run_for 100 (program_of p) f [] (step_of (program_of p) f (start (whole w.stream) [] w)))
+
+-- What the page means under this fuel, and what its code comes to.
+abbrev pub Says : Page → ℕ → List ℕ → ℕ → List ErrorKind → Type 0
+Says p fuel t left chain = (meant p (Some fuel) ≡ said t left chain) × (ran p (Some fuel) ≡ said t left chain)
+
+-- The same with so much fuel that it isn't out: how many charges there are.
+abbrev pub Charges : Page → List ℕ → ℕ → Type 0
+Charges p t charges = Says p 1000 t (1000 - charges) []
+
+abbrev pub Fails : Page → List ℕ → List ErrorKind → Type 0
+Fails p t chain = ((meant p None).text ≡ t) × ((meant p None).chain ≡ chain) × ((ran p None).text ≡ t) × ((ran p None).chain ≡ chain)
+
+-- ---------------------------------------------------------------- contexts
+abbrev pub nothing : Val
+nothing = undefined false
+
+abbrev pub with_value : List ℕ → Val → Val
+with_value key value = map (pairs_of ((text key false, value) ∷ []))
+
+-- ---------------------------------------------------------------- trees
+abbrev pub raw : List ℕ → Stmt
+raw t = EmitRaw t
+
+abbrev pub named : List ℕ → Expr
+named x = Var x
+
+abbrev pub one : Stmt → Body
+one s = body_of (statement s no_statement)
+
+abbrev pub two : Stmt → Stmt → Body
+two s t = body_of (statement s (statement t no_statement))
+
+abbrev pub literal : List ℕ → Expr
+literal t = Const (text t false)
+
+abbrev pub a : Expr
+a = named (codes "a")
+
+abbrev pub b : Expr
+b = named (codes "b")
 
 -- Hello {{ name }}!
-abbrev pub hello : Sts
-hello = st (raw (codes "Hello ")) (st (emit (name (codes "name"))) (st (raw (codes "!")) no_sts))
+abbrev pub hello : Page
+hello = page (body_of (statement (raw (codes "Hello ")) (statement (EmitExpr (named (codes "name"))) (statement (raw (codes "!")) no_statement)))) (with_value (codes "name") (text (codes "World") false))
 
--- {{ a }}{{ b }}
-abbrev pub two_names : Sts
-two_names = st (emit (name (codes "a"))) (st (emit (name (codes "b"))) no_sts)
+abbrev pub else_one : Stmt → Otherwise
+else_one s = otherwise (tt ∷ []) (statement s no_statement)
 
--- name is World, and a is x
-abbrev pub named_world : Val
-named_world = one (codes "name") (codes "World")
+abbrev pub if_one : Expr → Stmt → Otherwise → Stmt
+if_one c s other = If' c (tt ∷ []) (statement s no_statement) other
 
-abbrev pub named_x : Val
-named_x = one (codes "a") (codes "x")
+-- {% if a %}x{% else %}y{% endif %}
+abbrev pub either_text : Val → Page
+either_text context = page (one (if_one a (raw (codes "x")) (else_one (raw (codes "y"))))) context
+
+-- {% if a %}1{% elif b %}2{% else %}3{% endif %}
+abbrev pub of_three : Val → Page
+of_three context = page (one (if_one a (raw (codes "1")) (else_one (if_one b (raw (codes "2")) (else_one (raw (codes "3"))))))) context
+
+-- {% if a %}{% endif %}
+abbrev pub empty_condition : Page
+empty_condition = page (one (If' a [] no_statement no_else)) nothing
+
+abbrev pub shown : Expr → Val → Page
+shown e context = page (one (EmitExpr e)) context
+
+abbrev pub and_one : Expr → Step → Expr
+and_one e s = chained e (tt ∷ []) (step s no_step)
+
+-- {{ a and b.c }}
+abbrev pub a_and_b_c : Expr
+a_and_b_c = and_one a (and_then (and_one b (Attribute (codes "c"))))
+
+-- {{ a or "x" }}
+abbrev pub a_or_x : Expr
+a_or_x = and_one a (or_else (literal (codes "x")))
+
+-- {{ not a == b }}
+abbrev pub not_equal : Expr
+not_equal = unary unaries.Not (and_one a (binary binaries.Equal b))
+
+-- {{ a.b }}
+abbrev pub a_b : Expr
+a_b = and_one a (Attribute (codes "b"))
+
+-- {% block b %}x{{ a }}{% endblock %}y
+abbrev pub block_of_two : Stmt
+block_of_two = Block' (codes "b") (tt ∷ tt ∷ []) (statement (raw (codes "x")) (statement (EmitExpr a) no_statement))
+
+abbrev pub in_block : ℕ → Page
+in_block limit = record (page (two block_of_two (raw (codes "y"))) nothing) { limit = limit }
+
+-- {% if a %}{% block b %}x{% endblock %}{% endif %}[
+abbrev pub block_not_reached : Page
+block_not_reached = page (two (if_one a (Block' (codes "b") (tt ∷ []) (statement (raw (codes "x")) no_statement)) no_else) (raw (codes "["))) nothing
+
+-- ---------------------------------------------------------------- functions
+abbrev pub answers : Reply → Stated
+answers reply = record { temps = []; reply = reply }
+
+-- the last argument
+abbrev pub last_of : List Val → Val
+last_of [] = nothing
+last_of (v ∷ []) = v
+last_of (v ∷ x ∷ vs) = last_of (x ∷ vs)
+
+abbrev pub last_function : Function
+last_function = callers (λ vs view. answers (gives (last_of vs)))
+
+abbrev pub faulty : List ErrorKind → Function
+faulty chain = callers (λ vs view. answers (faults chain))
+
+-- keeps k, and answers 2
+abbrev pub keeping : Function
+keeping = callers (λ vs view. record { temps = (codes "k", number (pos 1)) ∷ []; reply = gives (number (pos 2)) })
+
+abbrev pub or_nothing : Option Val → Val
+or_nothing None = nothing
+or_nothing (Some v) = v
+
+-- what is kept as k
+abbrev pub reading : Function
+reading = callers (λ vs view. answers (gives (or_nothing (find (codes "k") view.temps))))
+
+abbrev pub call_none : List ℕ → Expr
+call_none f = Call' f [] no_argument
+
+abbrev pub with_functions : Function → Function → Page → Page
+with_functions f g p = record p {
+  globals = (codes "f", function 0) ∷ (codes "g", function 1) ∷ [];
+  functions = f ∷ g ∷ [];
+}
+
+-- {{ f("a", 1) }}
+abbrev pub called_with_two : Expr
+called_with_two = Call' (codes "f") (tt ∷ tt ∷ []) (argument (plain (literal (codes "a"))) (argument (plain (Const (number (pos 1)))) no_argument))
+
+abbrev pub calling : Function → Page
+calling f = with_functions f f (page (one (EmitExpr called_with_two)) nothing)
+
+-- {{ f() }}{{ g() }}
+abbrev pub keep_and_read : Page
+keep_and_read = with_functions keeping reading (page (two (EmitExpr (call_none (codes "f"))) (EmitExpr (call_none (codes "g")))) nothing)
+
+-- a{{ nope(f()) }}
+abbrev pub unknown_behind : Function → Page
+unknown_behind f = with_functions f f (page (two (raw (codes "a")) (EmitExpr (Call' (codes "nope") (tt ∷ []) (argument (plain (call_none (codes "f"))) no_argument)))) nothing)

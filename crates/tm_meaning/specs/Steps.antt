@@ -1,36 +1,83 @@
--- A step of the machine.
-use Rattle.std.specs.Prelude.{ℕ, length, Option, Some, None, slice_get, nat_eq, ◌&&◌, if◌then◌else◌}
-use Rattle.tm_compiler.specs.Code.{Ins, EmitRaw, Lookup, Emit}
-use Rattle.tm_meaning.specs.World.{World, Host, Res, pays}
-use Rattle.tm_meaning.specs.Machine.{Config, Frame, Next, Over, Finished, after, stuck}
-use Rattle.tm_meaning.specs.Instructions.{emit_raw_of, lookup_of, emit_of}
+-- A step of the machine, and whole runs.
+use Rattle.std.specs.Prelude.{◌≡◌, ℕ, zero, suc, List, [], ◌∷◌, ◌++◌, length, Option, Some, None, option_and_then, Bool, true, false, ◌&&◌, nat_eq, slice_get}
+use Rattle.tm_values.specs.declared.escape.AutoEscape.{AutoEscape}
+use Rattle.tm_syntax.specs.declared.instruction.Instruction.{Instruction}
+use Rattle.tm_syntax.specs.declared.instruction.Instruction.TheVariants as i
+use Rattle.tm_meaning.specs.World.{choose, World, Host, Res, pays}
+use Rattle.tm_meaning.specs.Machine.{Config, Return, Base, End, Finished, Back, back_to, Next, More, Over, Nest, Program, after, stuck, with_world}
+use Rattle.tm_meaning.specs.Instructions.{emit_raw_of, emit_of, lookup_of, load_const_of, get_attr_of, not_instruction_of, eq_of, jump_of, jump_if_false_of, jump_if_false_or_pop_of, jump_if_true_or_pop_of, call_function_of, call_block_of}
 
 -- what an instruction is charged: 0 where it is free, which none is yet
-abbrev pub charge_of : Ins → ℕ
-charge_of (EmitRaw text) = 1
-charge_of (Lookup name) = 1
-charge_of Emit = 1
+abbrev pub charge_of : Instruction → ℕ
+charge_of x = 1
 
 -- an instruction is paid for before its effect
-abbrev pub pay : Ins → World → Res (Unit {0})
-pay i w = pays (charge_of i) w
+abbrev pub pay : Instruction → World → Res (Unit {0})
+pay x w = pays (charge_of x) w
 
-abbrev pub effect : Host → Ins → Config → Next
-effect host (EmitRaw text) c = emit_raw_of text c
-effect host (Lookup name) c = lookup_of host name c
-effect host Emit c = emit_of c
+abbrev pub effect : Host → Base → Instruction → Config → Next
+effect host f (i.EmitRaw t) c = emit_raw_of f t c
+effect host f i.Emit c = emit_of host f c
+effect host f (i.Lookup x) c = lookup_of host x c
+effect host f (i.LoadConst v) c = load_const_of v c
+effect host f (i.GetAttr x) c = get_attr_of host x c
+effect host f i.Eq c = eq_of host c
+effect host f i.Not c = not_instruction_of host c
+effect host f (i.Jump n) c = jump_of n c
+effect host f (i.JumpIfFalse n) c = jump_if_false_of host n c
+effect host f (i.JumpIfFalseOrPop n) c = jump_if_false_or_pop_of host n c
+effect host f (i.JumpIfTrueOrPop n) c = jump_if_true_or_pop_of host n c
+effect host f (i.CallFunction x n) c = call_function_of host x n c
+effect host f (i.CallBlock b) c = call_block_of host f b c
 
--- Behind the last instruction the run is over, with each capture closed that it opened.
-abbrev pub finish : Frame → Config → Next
-finish f c =
-    if nat_eq c.run.place (length c.run.stream) && nat_eq (length c.captures) f.floor
-    then Over (Finished c.captures c.world)
-    else stuck c.world
+abbrev pub is_empty : {A : Type 0} → List A → Bool
+is_empty [] = true
+is_empty (x ∷ xs) = false
 
-abbrev pub act : Host → Frame → Option Ins → Config → Next
-act host f None c = finish f c
-act host f (Some i) c = after (pay i c.world) (λ _ w. effect host i (record c { world = w }))
+-- all that the run opened is closed, and the place is the stream's end
+abbrev pub closed : Base → Config → Bool
+closed f c =
+    nat_eq f.captures (length c.captures) && nat_eq f.scopes (length c.world.scopes.frames) && is_empty c.run.escapes && is_empty c.run.loops
+
+-- Behind the last instruction the run is over, with all closed that it opened.
+abbrev pub finish : ℕ → Base → Config → Next
+finish size f c = choose (nat_eq c.run.place size && closed f c) (λ _. Over (Finished c.captures c.world)) (λ _. stuck c.world)
+
+abbrev pub act : Program → Base → Option Instruction → Config → Next
+act p f None c = finish (length (p.code c.run.stream)) f c
+act p f (Some x) c = after (pay x c.world) (λ _ w. effect p.host f x (with_world w c))
 
 -- one step: the instruction at the place is paid for and takes effect
-abbrev pub step : Host → Frame → Config → Next
-step host f c = act host f (slice_get c.run.stream c.run.place) c
+abbrev pub step : Program → Base → Config → Next
+step p f c = act p f (slice_get (p.code c.run.stream) c.run.place) c
+
+-- ---------------------------------------------------------------- whole runs
+-- An end, and the text that the writer has got by then.
+pub record Final : Type 0 where
+  pub text : List ℕ
+  pub end : End
+
+abbrev pub final : List ℕ → End → Final
+final t e = record { text = t; end = e }
+
+-- Once the writer has got this text, what a step gave leads to an end.
+pub data Leads (p : Program) : Base → List ℕ → Next → Final → Type 0 where
+  over : {f : Base} {t : List ℕ} {n : Next} {e : End} {o : Final} → n ≡ Over e → o ≡ final t e → Leads p f t n o
+  more : {f : Base} {t d : List ℕ} {n : Next} {c : Config} {o : Final} → n ≡ More d c → Leads p f (t ++ d) (step p f c) o → Leads p f t n o
+  nest : {f g : Base} {t : List ℕ} {n : Next} {c : Config} {back : Back} {e o : Final} →
+      n ≡ Nest g c back → Leads p g t (step p g c) e → Leads p f e.text (back_to back e.end) o → Leads p f t n o
+
+-- From a configuration, once the writer has got this text, the machine comes to an end.
+abbrev pub Reaches : Program → Base → List ℕ → Config → Final → Type 0
+Reaches p f t c o = Leads p f t (step p f c) o
+
+-- The same as a function, with at most so many steps one inside the other.
+abbrev pub and_on : Option Final → (Final → Option Final) → Option Final
+and_on None g = None
+and_on (Some o) g = g o
+
+abbrev pub run_for : ℕ → Program → Base → List ℕ → Next → Option Final
+run_for zero p f t n = None
+run_for (suc k) p f t (More d c) = run_for k p f (t ++ d) (step p f c)
+run_for (suc k) p f t (Over e) = Some (final t e)
+run_for (suc k) p f t (Nest g c back) = and_on (run_for k p g t (step p g c)) (λ o. run_for k p f o.text (back_to back o.end))

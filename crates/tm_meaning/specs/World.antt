@@ -1,37 +1,149 @@
 -- What a state is to the meaning and to the machine, and what both do to it.
-use Rattle.std.specs.Prelude.{◌≡◌, ◌≤◌, nat_eq, ℕ, ◌+◌, ◌-◌, ◌^◌, List, [], ◌∷◌, length, Option, Some, None, Ok, Err, false, nat_lt, if◌then◌else◌}
-use Rattle.tm_values.specs.Val.{Val, undefined}
+use Rattle.std.specs.Prelude.{ℕ, zero, suc, ◌+◌, ◌-◌, List, [], ◌∷◌, length, map as each, Option, Some, None, option_and_then, Bool, true, false, ◌&&◌, nat_lt, nat_eq, if◌then◌else◌, Ok, Err, slice_get, codes}
+pub use Rattle.tm_syntax.specs.Named.{Named, same_name, find, put, put_each}
+use Rattle.tm_values.specs.Answer.{Answer, invalid}
 use Rattle.tm_values.specs.Map.{member}
-use Rattle.tm_values.specs.Records.{RecordData}
-use Rattle.tm_values.specs.declared.escape.AutoEscape.TheVariants as escape
+use Rattle.tm_values.specs.Map as maps
+use Rattle.tm_values.specs.Records.{RecordData, LoopData, namespace_at}
+use Rattle.tm_values.specs.Val.{Val, undefined, text, namespace, loop}
+use Rattle.tm_values.specs.declared.error.ErrorKind.{ErrorKind}
+use Rattle.tm_values.specs.declared.error.ErrorKind.TheVariants.{OutOfFuel, InvalidOperation}
+use Rattle.tm_values.specs.declared.escape.AutoEscape.{AutoEscape}
+use Rattle.tm_values.specs.declared.escape.AutoEscape.TheVariants as escapes
+use Rattle.tm_values.specs.declared.undefined.UndefinedBehavior.{UndefinedBehavior}
+use Rattle.tm_values.specs.declared.undefined.UndefinedUse.TheVariants.{Emission}
+pub use Rattle.tm_meaning.specs.declared.stream.TemplateId.{TemplateId}
+pub use Rattle.tm_meaning.specs.declared.stream.TemplateId.TheVariants.{Own as own, Entry as entry}
+pub use Rattle.tm_meaning.specs.declared.stream.StreamId.{StreamId}
+use Rattle.tm_operations.specs.Undefined.{refusal_of, unless}
 use Rattle.tm_printing.specs.Emitted.{emission_verdict, emitted_text}
 use Rattle.tm_printing.specs.Refused.{Verdict}
-use Rattle.tm_values.specs.declared.error.ErrorKind.{ErrorKind}
-use Rattle.tm_values.specs.declared.error.ErrorKind.TheVariants.{OutOfFuel}
 
--- A scope: the value whose attributes are its names.
+-- one of two, where only that one is computed
+abbrev pub choose : {A : Type 0} → Bool → (Unit {0} → A) → (Unit {0} → A) → A
+choose true f g = f tt
+choose false f g = g tt
+
+abbrev pub Bindings : Type 0
+Bindings = Named Val
+
+abbrev pub or_else : {A : Type 0} → Option A → Option A → Option A
+or_else (Some a) other = Some a
+or_else None other = other
+
+abbrev pub or_is : {A : Type 0} → Option A → A → A
+or_is None a = a
+or_is (Some b) a = b
+
+-- ---------------------------------------------------------------- templates and streams
+abbrev pub root_of : TemplateId → StreamId
+root_of t = record { template = t; block = None }
+
+abbrev pub block_of : TemplateId → List ℕ → StreamId
+block_of t b = record { template = t; block = Some b }
+
+-- What is known of a stream beside its content: whether it is a required block, and how many arguments each of its macros takes, in source order.
+pub record Card : Type 0 where
+  pub required : Bool
+  pub macros : List ℕ
+
+pub record Template : Type 0 where
+  pub name : List ℕ
+  pub escape : AutoEscape
+  pub root : Card
+  pub blocks : Named Card
+
+-- ---------------------------------------------------------------- a state
+-- A scope's loop: its record's number, and whether the scope has the name `loop`.
+pub record LoopMark : Type 0 where
+  pub number : ℕ
+  pub variable : Bool
+
+-- A scope: its names, the value whose keys are names too, its loop, the closure made in it, the closure it reads.
 pub record Scope : Type 0 where
+  pub locals : Bindings
   pub context : Val
+  pub mark : Option LoopMark
+  pub own_closure : Option ℕ
+  pub reads : Option ℕ
 
 -- The scopes, innermost first, and the depth at which the outermost stands.
 pub record Scopes : Type 0 where
   pub frames : List Scope
-  pub outer_depth : ℕ
+  pub outer : ℕ
 
--- The state of a render: its number, scopes, kept values, template's name, the fuel that was set, and the fuel left.
+-- A loop's record: its items, how often the next one was asked for, its depth, its number in its stream in source order, and the arguments of `changed`.
+pub record Loop : Type 0 where
+  pub items : List Val
+  pub turns : ℕ
+  pub depth : ℕ
+  pub number : ℕ
+  pub recursive : Bool
+  pub stream : StreamId
+  pub kept : Option (List Val)
+
+-- The templates that have a block of one name, from child to root, and the place in them.
+pub record Layers : Type 0 where
+  pub templates : List TemplateId
+  pub place : ℕ
+
+-- A state: its id, scopes and records, the streams that declared macros, the kept values, the blocks, the names loaded so far,
+-- the block that runs, the escape, the stream that runs, the fuel that was set, and the fuel left.
 pub record World : Type 0 where
   pub id : ℕ
   pub scopes : Scopes
-  pub temps : List (List ℕ × Val)
-  pub name : List ℕ
+  pub namespaces : List (List (Val × Val))
+  pub loops : List Loop
+  pub closures : List Bindings
+  pub streams : List StreamId
+  pub temps : Bindings
+  pub blocks : Named Layers
+  pub loaded : List (List ℕ)
+  pub block : Option (List ℕ)
+  pub escape : AutoEscape
+  pub stream : StreamId
   pub fuel_set : Option ℕ
   pub fuel : ℕ
 
--- What the environment gives: its globals by name, and how deep scopes may lie.
+-- What an object of the caller sees.
+pub record View : Type 0 where
+  pub id : ℕ
+  pub frames : List Scope
+  pub closures : List Bindings
+  pub records : RecordData
+  pub globals : Bindings
+  pub temps : Bindings
+  pub name : List ℕ
+  pub escape : AutoEscape
+  pub undefined : UndefinedBehavior
+
+-- What a callable answers: values to keep, in order, and a value or a fault.
+pub data Reply : Type 0 where
+  gives : Val → Reply
+  faults : List ErrorKind → Reply
+
+pub record Stated : Type 0 where
+  pub temps : Bindings
+  pub reply : Reply
+
+-- A function that the environment has.
+pub data Function : Type 0 where
+  callers : (List Val → View → Stated) → Function
+
+-- What the environment gives. Trees and code aren't here: they are functions of a stream.
 pub record Host : Type 0 where
-  pub globals : List ℕ → Option Val
+  pub own : Template
+  pub templates : Named Template
+  pub globals : Bindings
+  pub functions : List Function
+  pub filters : Named Function
+  pub tests : Named Function
+  pub join : List ℕ → List ℕ → List ℕ
+  pub formatter : Option (Val → View → Answer (List ℕ))
+  pub undefined : UndefinedBehavior
   pub limit : ℕ
 
+-- ---------------------------------------------------------------- results
 -- A value and a new world, or a chain of kinds and the world that is left.
 pub data Res (A : Type 0) : Type 0 where
   Good : A → World → Res A
@@ -41,13 +153,32 @@ abbrev pub bind : {A B : Type 0} → Res A → (A → World → Res B) → Res B
 bind (Good a w) f = f a w
 bind (Bad chain w) f = Bad chain w
 
+-- a fault without a cause
+abbrev pub bad : {A : Type 0} → ErrorKind → World → Res A
+bad kind w = Bad (kind ∷ []) w
+
+-- a value that has to be there
+abbrev pub need : {A : Type 0} → Option A → ErrorKind → World → Res A
+need (Some a) kind w = Good a w
+need None kind w = bad kind w
+
+abbrev pub check : Bool → ErrorKind → World → Res (Unit {0})
+check true kind w = Good tt w
+check false kind w = bad kind w
+
+-- what an operation answers, in a world that it leaves as it is
+abbrev pub answered : {A : Type 0} → Answer A → World → Res A
+answered (Ok a) w = Good a w
+answered (Err chain) w = Bad chain w
+
+-- ---------------------------------------------------------------- fuel
 -- The fuel that is left behind a charge: all of it where the charge is 0; and none, with the fuel out, where no more than the charge was left.
 abbrev pub charged : ℕ → ℕ → Option ℕ
 charged charge left = if nat_eq charge 0 then Some left else if nat_lt charge left then Some (left - charge) else None
 
 abbrev pub with_fuel : Option ℕ → World → Res (Unit {0})
 with_fuel (Some left) w = Good tt (record w { fuel = left })
-with_fuel None w = Bad (OutOfFuel ∷ []) (record w { fuel = 0 })
+with_fuel None w = bad OutOfFuel (record w { fuel = 0 })
 
 -- A state pays a charge, or its fuel is out and none is left.
 abbrev pub pays : ℕ → World → Res (Unit {0})
@@ -57,85 +188,160 @@ pays charge w = with_fuel (charged charge w.fuel) w
 abbrev pub tick : World → Res (Unit {0})
 tick w = pays 1 w
 
-abbrev pub or_else : Option Val → Option Val → Option Val
-or_else (Some v) other = Some v
-or_else None other = other
+abbrev pub ticked : {A : Type 0} → World → (World → Res A) → Res A
+ticked w f = bind (tick w) (λ _ w1. f w1)
 
--- A scope gives what its context value has at the text.
-abbrev pub in_scope : List ℕ → Scope → Option Val
-in_scope name scope = member name scope.context
+-- ---------------------------------------------------------------- what is known of a world
+abbrev pub template_at : Host → TemplateId → Template
+template_at host own = host.own
+template_at host (entry x) = or_is (find x host.templates) host.own
 
--- An inner scope gives before an outer one.
-abbrev pub in_frames : List ℕ → List Scope → Option Val
-in_frames name [] = None
-in_frames name (scope ∷ scopes) = or_else (in_scope name scope) (in_frames name scopes)
+abbrev pub card_in : Template → Option (List ℕ) → Option Card
+card_in t None = Some t.root
+card_in t (Some b) = find b t.blocks
+
+abbrev pub card_at : Host → StreamId → Option Card
+card_at host s = card_in (template_at host s.template) s.block
+
+abbrev pub name_of : Host → World → List ℕ
+name_of host w = (template_at host w.stream.template).name
+
+-- the place of a loop's item, of how often the next one was asked for: none before the first
+abbrev pub place_of : ℕ → Option ℕ
+place_of zero = None
+place_of (suc n) = Some n
+
+abbrev pub previous_of : List Val → ℕ → Option Val
+previous_of items n = option_and_then (slice_get items) (option_and_then place_of (place_of n))
+
+abbrev pub following_of : List Val → ℕ → Option Val
+following_of items n = option_and_then (λ _. slice_get items n) (place_of n)
+
+abbrev pub loop_data : Loop → LoopData
+loop_data l = record {
+  place = place_of l.turns;
+  count = length l.items;
+  depth = l.depth;
+  previous = previous_of l.items l.turns;
+  following = following_of l.items l.turns;
+}
+
+-- what stands in the state's loops and namespaces
+abbrev pub records_of : World → RecordData
+records_of w = record { state = w.id; namespaces = w.namespaces; loops = each loop_data w.loops }
+
+abbrev pub view_of : Host → World → View
+view_of host w = record {
+  id = w.id;
+  frames = w.scopes.frames;
+  closures = w.closures;
+  records = records_of w;
+  globals = host.globals;
+  temps = w.temps;
+  name = name_of host w;
+  escape = w.escape;
+  undefined = host.undefined;
+}
+
+-- ---------------------------------------------------------------- look-up
+abbrev pub marked_loop : ℕ → Option LoopMark → List ℕ → Option Val
+marked_loop id None x = None
+marked_loop id (Some m) x = if m.variable && same_name x (codes "loop") then Some (loop id m.number) else None
+
+abbrev pub read_closure : List Bindings → Option ℕ → List ℕ → Option Val
+read_closure closures None x = None
+read_closure closures (Some n) x = option_and_then (find x) (slice_get closures n)
+
+-- a scope's own: its locals, then `loop`, then the closure that it reads
+abbrev pub in_scope : View → List ℕ → Scope → Option Val
+in_scope view x s = or_else (find x s.locals) (or_else (marked_loop view.id s.mark x) (read_closure view.closures s.reads x))
+
+abbrev pub namespace_member : Option (List (Val × Val)) → List ℕ → Answer (Option Val)
+namespace_member None x = invalid
+namespace_member (Some ps) x = Ok (maps.find (text x false) ps)
+
+-- what a context value has at a name; that of a record of another state can't be known
+abbrev pub context_member : RecordData → List ℕ → Val → Answer (Option Val)
+context_member r x (namespace state n) = namespace_member (namespace_at r state n) x
+context_member r x v = Ok (member x v)
+
+abbrev pub or_on : Option Val → (Unit {0} → Answer (Option Val)) → Answer (Option Val)
+or_on (Some v) f = Ok (Some v)
+or_on None f = f tt
+
+abbrev pub or_on_answer : Answer (Option Val) → (Unit {0} → Answer (Option Val)) → Answer (Option Val)
+or_on_answer (Ok found) f = or_on found f
+or_on_answer (Err chain) f = Err chain
+
+-- An inner scope gives before an outer one, and its own names before its context value.
+abbrev pub in_frames : View → List ℕ → List Scope → Answer (Option Val)
+in_frames view x [] = Ok None
+in_frames view x (s ∷ ss) =
+    or_on (in_scope view x s) (λ _.
+    or_on_answer (context_member view.records x s.context) (λ _.
+    in_frames view x ss))
+
+-- The value of a name, of the scopes or else of the globals.
+abbrev pub find_name : View → List ℕ → Answer (Option Val)
+find_name view x = or_on_answer (in_frames view x view.frames) (λ _. Ok (find x view.globals))
 
 abbrev pub or_undefined : Option Val → Val
 or_undefined (Some v) = v
 or_undefined None = undefined false
 
--- The value of a name: of the scopes, else of the globals, else undefined.
-abbrev pub lookup : Host → List ℕ → World → Val
-lookup host name w = or_undefined (or_else (in_frames name w.scopes.frames) (host.globals name))
+abbrev pub lookup : Host → List ℕ → World → Res (Option Val)
+lookup host x w = answered (find_name (view_of host w) x) w
 
--- How deep the scopes lie.
+abbrev pub looked_up : Host → List ℕ → World → Res Val
+looked_up host x w = bind (lookup host x w) (λ found w1. Good (or_undefined found) w1)
+
+-- ---------------------------------------------------------------- scopes
 abbrev pub depth : Scopes → ℕ
-depth scopes = length scopes.frames + scopes.outer_depth
+depth scopes = length scopes.frames + scopes.outer
 
 abbrev pub plain : Val → Scope
-plain context = record { context = context }
+plain context = record { locals = []; context = context; mark = None; own_closure = None; reads = None }
+
+abbrev pub with_frames : List Scope → World → World
+with_frames frames w = record w { scopes = record w.scopes { frames = frames } }
 
 -- One scope more, unless it would lie deeper than the limit.
-abbrev pub push_scope : ℕ → Scope → Scopes → Option Scopes
-push_scope limit scope scopes =
-    if nat_lt (depth scopes) limit then Some (record scopes { frames = scope ∷ scopes.frames }) else None
+abbrev pub push : Host → Scope → World → Res (Unit {0})
+push host s w =
+    choose (nat_lt (depth w.scopes) host.limit) (λ _. Good tt (with_frames (s ∷ w.scopes.frames) w)) (λ _. bad InvalidOperation w)
 
-abbrev pub without_first : List Scope → List Scope
+abbrev pub without_first : {A : Type 0} → List A → List A
 without_first [] = []
-without_first (scope ∷ scopes) = scopes
+without_first (x ∷ xs) = xs
 
 -- The innermost scope is left.
-abbrev pub pop_scope : Scopes → Scopes
-pop_scope scopes = record scopes { frames = without_first scopes.frames }
+abbrev pub pop : World → World
+pop w = with_frames (without_first w.scopes.frames) w
 
--- What stands in the state's loops and namespaces, of which there are none yet.
-abbrev pub records_of : World → RecordData
-records_of w = record { state = w.id; namespaces = []; loops = [] }
-
+-- ---------------------------------------------------------------- emission
 -- an answer behind a verdict
-abbrev pub where_fine : {A : Type 0} → Verdict → A → World → Res A
-where_fine (Ok u) a w = Good a w
-where_fine (Err chain) a w = Bad chain w
+abbrev pub where_fine : {A : Type 0} → Verdict → A → Answer A
+where_fine (Ok u) a = Ok a
+where_fine (Err chain) a = Err chain
 
--- What a value is written as, where it can be. Nothing is escaped yet.
-abbrev pub emitted : Val → World → Res (List ℕ)
-emitted v w = where_fine (emission_verdict escape.None (records_of w) v) (emitted_text escape.None (records_of w) v) w
+abbrev pub formatted : Option (Val → View → Answer (List ℕ)) → Val → View → Answer (List ℕ)
+formatted None v view =
+    where_fine (emission_verdict view.escape view.records v) (emitted_text view.escape view.records v)
+formatted (Some f) v view = f v view
 
--- the fuel that a render starts with: what was set, else the greatest u64
-abbrev pub first_fuel : Option ℕ → ℕ
-first_fuel None = 2 ^ 64 - 1
-first_fuel (Some fuel) = fuel
+-- What a value is written as: an undefined one is refused where the behavior says so, and then the formatter is asked, else the escape.
+abbrev pub emitted : Host → Val → World → Res (List ℕ)
+emitted host v w = answered (unless (refusal_of host.undefined Emission v) (formatted host.formatter v (view_of host w))) w
 
--- What a render starts from: one scope over the context value, and the fuel that was set.
-abbrev pub first_world : ℕ → List ℕ → Option ℕ → Val → World
-first_world id name fuel context = record {
-  id = id;
-  scopes = record { frames = plain context ∷ []; outer_depth = 0 };
-  temps = [];
-  name = name;
-  fuel_set = fuel;
-  fuel = first_fuel fuel;
-}
+abbrev pub is_safe : AutoEscape → Bool
+is_safe escapes.None = false
+is_safe escape = true
 
--- What a run keeps of its state whatever it answers: what was set at the start, the kept values, and how deep the scopes lie. Its fuel doesn't rise.
-pub record Kept (old new : World) : Type 0 where
-  pub same_id : new.id ≡ old.id
-  pub same_name : new.name ≡ old.name
-  pub same_fuel_set : new.fuel_set ≡ old.fuel_set
-  pub same_temps : new.temps ≡ old.temps
-  pub same_depth : depth new.scopes ≡ depth old.scopes
-  pub no_more_fuel : new.fuel ≤ old.fuel
+-- a captured text as a value, at its end
+abbrev pub captured_text : List ℕ → World → Val
+captured_text t w = text t (is_safe w.escape)
 
+-- ---------------------------------------------------------------- the fuel levels
 abbrev pub levels_of : Option ℕ → ℕ → Option (ℕ × ℕ)
 levels_of None left = None
 levels_of (Some set) left = Some (set - left, left)

@@ -2,22 +2,25 @@
 #![tactic(auto)]
 
 ghost use Rattle.std.specs.Prelude.{◌≡◌, ◌++◌, ℕ, List};
-ghost use Rattle.tm_meaning.specs.World.{Host};
-ghost use Rattle.tm_meaning.specs.Machine.{Frame, Next, Final};
-ghost use Rattle.tm_meaning.specs.Runs.{Leads};
+ghost use Rattle.tm_meaning.specs.Machine.{Program, Base, Next};
+ghost use Rattle.tm_meaning.specs.Steps.{Final, Leads};
 
+mod base;
 mod rows;
+mod stream;
 
-pub use rows::{empty_row, hello_row, two_names_row};
+pub use base::Base;
+pub use rows::{attribute_rows, block_rows, call_rows, condition_rows, hello_rows, operator_rows};
+pub use stream::{StreamId, TemplateId};
 
 /// A run has one end.
 pub fn one_end()
-    ensures { (host : Host) (f : Frame) (t : List ℕ) (n : Next) (o q : Final) →
-        Leads host f t n o → Leads host f t n q → o ≡ q }
+    ensures { (p : Program) (f : Base) (t : List ℕ) (n : Next) (o q : Final) →
+        Leads p f t n o → Leads p f t n q → o ≡ q }
 {}
 
 /// What the writer has got it keeps.
 pub fn text_grows()
-    ensures { (host : Host) (f : Frame) (t : List ℕ) (n : Next) (o : Final) →
-        Leads host f t n o → (rest : List ℕ) × (o.text ≡ t ++ rest) }
+    ensures { (p : Program) (f : Base) (t : List ℕ) (n : Next) (o : Final) →
+        Leads p f t n o → (rest : List ℕ) × (o.text ≡ t ++ rest) }
 {}

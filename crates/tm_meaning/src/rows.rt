@@ -1,30 +1,59 @@
-//! Worked renders: each law says what one tree means under some fuels.
-ghost use Rattle.std.specs.Prelude.{◌≡◌, ◌-◌, ◌^◌, [], ◌∷◌, Some, None, false, codes};
-ghost use Rattle.tm_values.specs.Val.{undefined};
-ghost use Rattle.tm_values.specs.declared.error.ErrorKind.TheVariants.{OutOfFuel};
-ghost use Rattle.tm_compiler.specs.Tree.{no_sts};
-ghost use Rattle.tm_meaning.specs.Rows.{Says, render, hello, two_names, named_world, named_x};
+//! Worked renders: each clause says what a page means, and what its code and the machine come to.
+ghost use Rattle.std.specs.Prelude.{[], ◌∷◌, ◌++◌, true, codes};
+ghost use Rattle.std.specs.Fmt.{decimal};
+ghost use Rattle.tm_values.specs.Val.{boolean, map, no_pairs};
+ghost use Rattle.tm_values.specs.declared.error.ErrorKind.TheVariants.{InvalidOperation, MissingArgument, UndefinedError, UnknownFunction, OutOfFuel, WriteFailure, BadStream, OutOfMemory};
+ghost use Rattle.tm_meaning.specs.Rows.{Says, Charges, Fails, nothing, with_value, hello, either_text, of_three, empty_condition, shown, a_and_b_c, a_or_x, not_equal, a_b, in_block, block_not_reached, last_function, faulty, calling, keep_and_read, unknown_behind};
 
 /// `Hello {{ name }}!` with the name World takes 4 charges, so 5 units of fuel; with fewer it ends where the fuel does.
-pub fn hello_row()
-    ensures no_fuel_set { Says (render hello named_world None) (codes "Hello World!") (2 ^ 64 - 5) [] }
-    ensures five { Says (render hello named_world (Some 5)) (codes "Hello World!") 1 [] }
-    ensures four { Says (render hello named_world (Some 4)) (codes "Hello World") 0 (OutOfFuel ∷ []) }
-    ensures three { Says (render hello named_world (Some 3)) (codes "Hello ") 0 (OutOfFuel ∷ []) }
-    ensures two { Says (render hello named_world (Some 2)) (codes "Hello ") 0 (OutOfFuel ∷ []) }
-    ensures one { Says (render hello named_world (Some 1)) [] 0 (OutOfFuel ∷ []) }
-    ensures zero { Says (render hello named_world (Some 0)) [] 0 (OutOfFuel ∷ []) }
+pub fn hello_rows()
+    ensures charges { Charges hello (codes "Hello World!") 4 }
+    ensures five { Says hello 5 (codes "Hello World!") 1 [] }
+    ensures four { Says hello 4 (codes "Hello World") 0 (OutOfFuel ∷ []) }
+    ensures three { Says hello 3 (codes "Hello ") 0 (OutOfFuel ∷ []) }
+    ensures two { Says hello 2 (codes "Hello ") 0 (OutOfFuel ∷ []) }
+    ensures one { Says hello 1 [] 0 (OutOfFuel ∷ []) }
+    ensures zero { Says hello 0 [] 0 (OutOfFuel ∷ []) }
 {}
 
-/// `{{ a }}{{ b }}` where a is `x` and b is nothing.
-pub fn two_names_row()
-    ensures five { Says (render two_names named_x (Some 5)) (codes "x") 1 [] }
-    ensures four { Says (render two_names named_x (Some 4)) (codes "x") 0 (OutOfFuel ∷ []) }
-    ensures three { Says (render two_names named_x (Some 3)) (codes "x") 0 (OutOfFuel ∷ []) }
-    ensures two { Says (render two_names named_x (Some 2)) [] 0 (OutOfFuel ∷ []) }
+/// `{% if a %}x{% else %}y{% endif %}`, `{% if a %}1{% elif b %}2{% else %}3{% endif %}` and `{% if a %}{% endif %}`.
+pub fn condition_rows()
+    ensures other { Charges (either_text nothing) (codes "y") 3 }
+    ensures first { Charges (either_text (with_value (codes "a") (boolean true))) (codes "x") 4 }
+    ensures second { Charges (of_three (with_value (codes "b") (boolean true))) (codes "2") 6 }
+    ensures empty { Charges empty_condition [] 2 }
 {}
 
-/// The empty template needs no fuel.
-pub fn empty_row()
-    ensures { Says (render no_sts (undefined false) (Some 0)) [] 0 [] }
+/// `{{ a and b.c }}`, `{{ a or "x" }}` and `{{ not a == b }}`, of undefined names.
+pub fn operator_rows()
+    ensures and { Charges (shown a_and_b_c nothing) [] 3 }
+    ensures or { Charges (shown a_or_x nothing) (codes "x") 4 }
+    ensures not { Charges (shown not_equal nothing) (codes "false") 5 }
+{}
+
+/// `{{ a.b }}`, of an undefined name, and of a map that has no b.
+pub fn attribute_rows()
+    ensures undefined { Fails (shown a_b nothing) [] (UndefinedError ∷ []) }
+    ensures missing { Charges (shown a_b (with_value (codes "a") (map no_pairs))) [] 3 }
+{}
+
+/// `{% block b %}x{{ a }}{% endblock %}y`, and a block that isn't reached.
+pub fn block_rows()
+    ensures charges { Charges (in_block 500) (codes "xy") 5 }
+    ensures deep_enough { Charges (in_block 2) (codes "xy") 5 }
+    ensures too_deep { Fails (in_block 1) [] (InvalidOperation ∷ []) }
+    ensures out_of_fuel { Says (in_block 500) 3 (codes "x") 0 (OutOfFuel ∷ []) }
+    ensures not_reached { Charges block_not_reached (codes "[") 3 }
+{}
+
+/// `{{ f("a", 1) }}`, `{{ f() }}{{ g() }}` and `a{{ nope(f()) }}`, by what f answers.
+pub fn call_rows()
+    ensures last { Charges (calling last_function) (decimal 1) 4 }
+    ensures fault { Fails (calling (faulty (MissingArgument ∷ []))) [] (MissingArgument ∷ []) }
+    ensures write { Fails (calling (faulty (WriteFailure ∷ []))) [] (WriteFailure ∷ []) }
+    ensures stream { Fails (calling (faulty (BadStream ∷ []))) [] (BadStream ∷ []) }
+    ensures memory { Fails (calling (faulty (OutOfMemory ∷ []))) [] (OutOfMemory ∷ []) }
+    ensures kept { Charges keep_and_read (decimal 2 ++ decimal 1) 4 }
+    ensures arguments_first { Fails (unknown_behind (faulty (MissingArgument ∷ []))) (codes "a") (MissingArgument ∷ []) }
+    ensures not_found { Fails (unknown_behind last_function) (codes "a") (UnknownFunction ∷ []) }
 {}

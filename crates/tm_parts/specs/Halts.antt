@@ -3,6 +3,7 @@ use Rattle.std.specs.Prelude.{◌≡◌, ◌≢◌, ℕ, List, [], ◌∷◌, Op
 use Rattle.tm_values.specs.declared.error.ErrorKind.{ErrorKind}
 use Rattle.tm_values.specs.declared.error.ErrorKind.TheVariants.{WriteFailure, BadStream, OutOfMemory}
 use Rattle.tm_output.specs.Counts.{one_more}
+use Rattle.tm_meaning.specs.Machine.{Capture}
 use Rattle.tm_parts.specs.declared.halt.Halt.{Halt}
 use Rattle.tm_parts.specs.declared.halt.Halt.TheVariants.{Writer, Stuck, Fault}
 
@@ -20,7 +21,7 @@ faults_after (Err Stuck) faults = faults
 faults_after (Err (Fault chain)) faults = faults
 
 -- Why a text was not put: the writer failed, and no capture was open; or a capture found no memory, and the writer got nothing.
-abbrev pub PutHalts : Halt → List (List ℕ) → Option (List ℕ) → Option (List ℕ) → Type 0
+abbrev pub PutHalts : Halt → List Capture → Option (List ℕ) → Option (List ℕ) → Type 0
 PutHalts Writer captures told now = captures ≡ []
 PutHalts Stuck captures told now = ⊥
 PutHalts (Fault chain) captures told now = (chain ≡ OutOfMemory ∷ []) × (captures ≢ []) × (now ≡ told)

@@ -1,12 +1,11 @@
 //! Fuel: how many charges a run may take.
 ghost use Rattle.std.specs.Prelude.{◌≡◌, ◌+◌, ◌≤◌, [], ◌∷◌, Some, None, OnOk, IfErr};
 ghost use Rattle.tm_values.specs.declared.error.ErrorKind.TheVariants.{OutOfFuel};
-ghost use Rattle.tm_compiler.specs.Code.{ins_of};
 ghost use Rattle.tm_meaning.specs.World.{charged};
 ghost use Rattle.tm_meaning.specs.Steps.{charge_of};
 
 use std::marker::Model;
-use tm_compiler::Instruction;
+use tm_syntax::Instruction;
 use tm_values::{Error, ErrorKind};
 
 /// The fuel of a run: what was set at its start, and what is left of it.
@@ -27,13 +26,11 @@ impl Model for FuelTracker {
     ghost invariant = { λ tracker. tracker.remaining ≤ tracker.initial };
 }
 
-/// What an instruction is charged.
-fn charge(instruction: &Instruction) -> u64
-    ensures { result ≡ charge_of (ins_of instruction.now) }
+/// What an instruction is charged; none is free yet.
+fn charge(_instruction: &Instruction) -> u64
+    ensures { result ≡ charge_of _instruction.now }
 {
-    match instruction {
-        Instruction::EmitRaw(_) | Instruction::Lookup(_) | Instruction::Emit => 1,
-    }
+    1
 }
 
 impl FuelTracker {
@@ -47,12 +44,13 @@ impl FuelTracker {
         }
     }
 
-    /// Charges an instruction; a free one takes nothing. OutOfFuel, with nothing left, where no more than the charge was left.
+    /// Charges an instruction; a free one takes nothing. OutOfFuel, with nothing left, where no
+    /// more than the charge was left.
     pub fn track(&mut self, instruction: &Instruction) -> Result<(), Error>
         ensures ok { OnOk result
-            (charged (charge_of (ins_of instruction.now)) self.old.left ≡ Some self.new.left) }
+            (charged (charge_of instruction.now) self.old.left ≡ Some self.new.left) }
         ensures err { IfErr result (λ e. (e ≡ OutOfFuel ∷ []) × (self.new.left ≡ 0)
-            × (charged (charge_of (ins_of instruction.now)) self.old.left ≡ None)) }
+            × (charged (charge_of instruction.now) self.old.left ≡ None)) }
         ensures set { self.new.set ≡ self.old.set }
         ensures falls { self.new.left ≤ self.old.left }
     {

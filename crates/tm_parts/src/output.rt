@@ -1,8 +1,8 @@
 //! Output: captures that take a text before the writer does.
-ghost use Rattle.std.specs.Prelude.{◌≡◌, ◌≢◌, ◌⊎◌, ◌<◌, ℕ, List, [], ◌∷◌, length, Option, Some, None, Err, IsOk, IsSome, OnOk, OnErr, IfErr, MatchOption, string_bytes};
+ghost use Rattle.std.specs.Prelude.{◌≡◌, ◌≢◌, ◌⊎◌, Bool, [], ◌∷◌, length, None, Err, IsOk, IsSome, OnOk, OnErr, IfErr, MatchOption, string_bytes};
 ghost use Rattle.std.specs.Io.KnownBytes.{Appends};
 ghost use Rattle.tm_values.specs.declared.error.ErrorKind.TheVariants.{WriteFailure, OutOfMemory};
-ghost use Rattle.tm_meaning.specs.Texts.{put_in, put_out};
+ghost use Rattle.tm_meaning.specs.Machine.{first_heard, new_capture, put_in, put_out};
 ghost use Rattle.tm_output.specs.Counts.{one_more, AppendsBeginning};
 ghost use Rattle.tm_printing.specs.Emitted.{emitted_text};
 ghost use Rattle.tm_parts.specs.Halts.{faults_after, PutHalts};
@@ -15,18 +15,35 @@ use tm_output::{Sink, write_text};
 use tm_printing::emit;
 use tm_values::{AutoEscape, Error, ErrorKind, Records, Value};
 
-/// The texts of the open captures. A contract sees them innermost first.
+/// A text that waits for its capture's end, and whether it takes what is written.
+#[derive(Drop)]
+struct Capture {
+    heard: bool,
+    text: String,
+}
+
+impl Model for Capture {
+    ghost use Rattle.std.specs.Prelude.{string_bytes};
+    ghost use Rattle.tm_meaning.specs.Machine.{Capture as Waiting};
+
+    ghost Value = { Waiting };
+
+    ghost view = { λ capture. record { heard = capture.heard; text = string_bytes capture.text } };
+}
+
+/// The open captures. A contract sees them innermost first.
 #[derive(Drop)]
 pub struct Captures {
-    texts: Vec<String>,
+    open: Vec<Capture>,
 }
 
 impl Model for Captures {
-    ghost use Rattle.std.specs.Prelude.{ℕ, List, reverse, map, string_bytes};
+    ghost use Rattle.std.specs.Prelude.{List, reverse};
+    ghost use Rattle.tm_meaning.specs.Machine.{Capture as Waiting};
 
-    ghost Value = { List (List ℕ) };
+    ghost Value = { List Waiting };
 
-    ghost view = { λ captures. reverse (map string_bytes captures.texts.items) };
+    ghost view = { λ captures. reverse captures.open.items };
 }
 
 impl Captures {
@@ -35,7 +52,7 @@ impl Captures {
         ensures { result ≡ [] }
     {
         Captures {
-            texts: Vec::new(alloc),
+            open: Vec::new(alloc),
         }
     }
 
@@ -43,27 +60,45 @@ impl Captures {
     pub fn depth(&self) -> usize
         ensures { result ≡ length self.now }
     {
-        self.texts.len()
+        self.open.len()
     }
 
-    /// Opens a capture without text; where there is no memory, OutOfMemory, and all stays as it was.
-    pub fn begin(&mut self, alloc: Global) -> Result<(), Error>
-        ensures ok { OnOk result (self.new ≡ [] ∷ self.old) }
+    /// Whether the innermost capture takes what is written; so it is where none is open.
+    pub fn is_heard(&self) -> bool
+        ensures { result ≡ first_heard self.now }
+    {
+        match self.open.last() {
+            Some(innermost) => innermost.heard,
+            None => true,
+        }
+    }
+
+    /// Opens a capture without text; where there is no memory, OutOfMemory, and all stays as it
+    /// was.
+    pub fn begin(&mut self, alloc: Global, heard: bool) -> Result<(), Error>
+        ensures ok { OnOk result (self.new ≡ new_capture heard ∷ self.old) }
         ensures kind { IfErr result (λ e. e ≡ OutOfMemory ∷ []) }
         ensures err { OnErr result (self.new ≡ self.old) }
     {
-        self.texts.push(String::new(alloc))?;
+        self.open.push(Capture {
+            heard,
+            text: String::new(alloc),
+        })?;
         Ok(())
     }
 
     /// Closes the innermost capture and gives its text, where one is open.
     pub fn end(&mut self) -> Option<String>
-        ensures { MatchOption result ((self.old ≡ []) × (self.new ≡ [])) (λ text. self.old ≡ string_bytes text ∷ self.new) }
+        ensures { MatchOption result ((self.old ≡ []) × (self.new ≡ [])) (λ text. (heard : Bool)
+            × (self.old ≡ record { heard = heard; text = string_bytes text } ∷ self.new)) }
     {
-        self.texts.pop()
+        let Capture { text, .. } = self.open.pop()?;
+        Some(text)
     }
 
-    /// Puts a text into the innermost capture, and writes it where none is open. `Writer` where the writer fails or takes nothing, OutOfMemory where a capture finds no memory; then the captures stay as they were.
+    /// Puts a text into the innermost capture, and writes it where none is open. `Writer` where the
+    /// writer fails or takes nothing, OutOfMemory where a capture finds no memory; then the
+    /// captures stay as they were.
     pub fn write_str<W: Sink>(&mut self, writer: &mut W, text: &str) -> Result<(), Halt>
         ensures captured { OnOk result (self.new ≡ put_in self.old text.now) }
         ensures written { OnOk result (Appends (W.told writer.old) (W.told writer.new)
@@ -76,15 +111,15 @@ impl Captures {
         ensures unchanged { OnErr result (self.new ≡ self.old) }
         ensures empty { text.now ≡ [] → IsOk result }
     {
-        let Some(mut innermost) = self.texts.pop() else {
+        let Some(mut innermost) = self.open.pop() else {
             return match write_text(writer, text.as_bytes()) {
                 Ok(()) => Ok(()),
                 Err(_error) => Err(Halt::Writer),
             };
         };
-        let appended = innermost.push_str(text);
+        let appended = innermost.text.push_str(text);
         // The pop left room for it.
-        self.texts.push_reserved(innermost);
+        self.open.push_reserved(innermost);
         match appended {
             Ok(()) => Ok(()),
             Err(_lost) => Err(Halt::Fault(Error::from(ErrorKind::OutOfMemory))),
@@ -93,7 +128,9 @@ impl Captures {
 }
 
 impl Captures {
-    /// Puts what is emitted for a value into the innermost capture, and writes it where none is open, piece by piece; what `check_emission` refuses is emitted in no form. `Writer` where the writer fails or takes nothing, OutOfMemory where a capture finds no memory.
+    /// Puts what is emitted for a value into the innermost capture, and writes it where none is
+    /// open, piece by piece; what `check_emission` refuses is emitted in no form. `Writer` where
+    /// the writer fails or takes nothing, OutOfMemory where a capture finds no memory.
     pub fn emit<R: Records, W: Sink>(
         &mut self,
         writer: &mut W,
@@ -111,15 +148,15 @@ impl Captures {
             PutHalts halt self.old (W.told writer.old) (W.told writer.new)) }
         ensures faults { W.faults writer.new ≡ faults_after result (W.faults writer.old) }
     {
-        let Some(mut innermost) = self.texts.pop() else {
+        let Some(mut innermost) = self.open.pop() else {
             return match emit(value, escape, records, writer) {
                 Ok(()) => Ok(()),
                 Err(_failed) => Err(Halt::Writer),
             };
         };
-        let appended = emit(value, escape, records, &mut innermost);
+        let appended = emit(value, escape, records, &mut innermost.text);
         // The pop left room for it.
-        self.texts.push_reserved(innermost);
+        self.open.push_reserved(innermost);
         match appended {
             Ok(()) => Ok(()),
             Err(_failed) => Err(Halt::Fault(Error::from(ErrorKind::OutOfMemory))),
@@ -153,7 +190,8 @@ impl<W: Sink> Output<W> {
         }
     }
 
-    /// Puts a text into the innermost capture, and writes it where none is open; WriteFailure where the writer fails or takes nothing, OutOfMemory where a capture finds no memory.
+    /// Puts a text into the innermost capture, and writes it where none is open; WriteFailure where
+    /// the writer fails or takes nothing, OutOfMemory where a capture finds no memory.
     pub fn write_str(&mut self, text: &str) -> Result<(), Error>
         ensures captured { OnOk result (self.new.captures ≡ put_in self.old.captures text.now) }
         ensures written { OnOk result (Appends (W.told self.old.writer) (W.told self.new.writer)
@@ -206,7 +244,8 @@ impl<W: Sink> WriteWrapper<W> {
         WriteWrapper { w, err: None }
     }
 
-    /// Writes a text; WriteFailure where the writer fails or takes nothing, and its error is kept in `err`.
+    /// Writes a text; WriteFailure where the writer fails or takes nothing, and its error is kept
+    /// in `err`.
     pub fn write_str(&mut self, text: &str) -> Result<(), Error>
         ensures written { OnOk result (Appends (W.told self.old.w) (W.told self.new.w) text.now) }
         ensures no_fault { OnOk result (W.faults self.new.w ≡ W.faults self.old.w) }
@@ -226,7 +265,8 @@ impl<W: Sink> WriteWrapper<W> {
         }
     }
 
-    /// Takes out what `err` holds: WriteFailure without a cause where it held an error, and else the error that was given.
+    /// Takes out what `err` holds: WriteFailure without a cause where it held an error, and else
+    /// the error that was given.
     pub fn take_err(&mut self, original: Error) -> Error
         ensures writer { self.new.w ≡ self.old.w }
         ensures emptied { self.new.err ≡ None }

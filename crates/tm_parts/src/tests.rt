@@ -7,58 +7,27 @@ use super::*;
 use std::alloc::Global;
 use std::io::{self, Write};
 use std::process::Abort;
-use std::rc::RcStr;
 use std::test::Fail;
-use tm_compiler::Instruction;
-use tm_values::{Error, ErrorKind};
+use tm_syntax::Instruction;
+use tm_values::{Error, ErrorKind, Value};
 
-/// A writer that takes at most `step` bytes a call until `room` is spent, and then fails, also at a flush, or takes nothing where it has no error.
+/// A writer that fails.
 #[derive(Drop)]
-struct Fake {
-    bytes: Vec<u8>,
-    calls: u64,
-    step: usize,
-    room: usize,
-    error: Option<io::ErrorKind>,
-}
+struct Broken;
 
-impl Fake {
-    fn new(alloc: Global, step: usize, room: usize, error: Option<io::ErrorKind>) -> Fake {
-        Fake {
-            bytes: Vec::new(alloc),
-            calls: 0,
-            step,
-            room,
-            error,
-        }
-    }
-}
-
-impl Write for Fake {
-    fn write(&mut self, bytes: &[u8]) -> io::Result<usize> {
-        self.calls = self.calls.saturating_add(1);
-        let taken = bytes.len().min(self.step).min(self.room);
-        if taken == 0 {
-            return match self.error {
-                None => Ok(0),
-                Some(kind) => Err(io::Error::from(kind)),
-            };
-        }
-        self.bytes.extend_from_slice(&bytes[..taken])?;
-        self.room -= taken;
-        Ok(taken)
+impl Write for Broken {
+    fn write(&mut self, _bytes: &[u8]) -> io::Result<usize> {
+        Err(io::Error::from(io::ErrorKind::BrokenPipe))
     }
 
     fn flush(&mut self) -> io::Result<()> {
-        match self.error {
-            Some(kind) if self.room == 0 => Err(io::Error::from(kind)),
-            _ => Ok(()),
-        }
+        Ok(())
     }
 }
 
-fn kind_of(answer: &Result<(), Error>) -> Option<ErrorKind> {
-    match answer {
+/// The kind that a charge is refused with.
+fn refused(tracker: &mut FuelTracker) -> Option<ErrorKind> {
+    match tracker.track(&Instruction::Emit) {
         Ok(()) => None,
         Err(error) => Some(error.kind()),
     }
@@ -67,12 +36,9 @@ fn kind_of(answer: &Result<(), Error>) -> Option<ErrorKind> {
 #[test]
 fn fuel_of_two(rt: HostRuntime) {
     let mut tracker = FuelTracker::new(2);
-    assert_eq!(rt; kind_of(&tracker.track(&Instruction::Emit)), None);
+    assert_eq!(rt; refused(&mut tracker), None);
     assert_eq!(rt; (tracker.consumed(), tracker.remaining()), (1, 1));
-    assert_eq!(rt;
-        kind_of(&tracker.track(&Instruction::Emit)),
-        Some(ErrorKind::OutOfFuel)
-    );
+    assert_eq!(rt; refused(&mut tracker), Some(ErrorKind::OutOfFuel));
     assert_eq!(rt; (tracker.consumed(), tracker.remaining()), (2, 0));
     assert_eq!(rt; tracker.initial(), 2);
 }
@@ -80,24 +46,11 @@ fn fuel_of_two(rt: HostRuntime) {
 #[test]
 fn no_fuel(rt: HostRuntime) {
     let mut tracker = FuelTracker::new(0);
-    assert_eq!(rt;
-        kind_of(&tracker.track(&Instruction::Emit)),
-        Some(ErrorKind::OutOfFuel)
-    );
+    assert_eq!(rt; refused(&mut tracker), Some(ErrorKind::OutOfFuel));
     assert_eq!(rt; (tracker.consumed(), tracker.remaining()), (0, 0));
 }
 
-#[test]
-fn text_and_a_lookup_are_charged(rt: HostRuntime) -> Result<(), Fail> {
-    let mut tracker = FuelTracker::new(9);
-    let text = RcStr::from_str(rt.alloc(), "a")?;
-    tracker.track(&Instruction::EmitRaw(text.clone()?))?;
-    tracker.track(&Instruction::Lookup(text))?;
-    assert_eq!(rt; tracker.consumed(), 2);
-    Ok(())
-}
-
-/// Writes `Hello!` to an output over the fake, and compares what comes of it.
+/// Writes two texts to an output.
 fn write_both<W: Sink>(output: &mut Output<W>, first: &str, second: &str) -> Result<(), Error>
     ensures written { output.old.captures ≡ [] → OnOk result
         (Appends (W.told output.old.writer) (W.told output.new.writer) (first.now ++ second.now)) }
@@ -122,45 +75,97 @@ fn an_output_over_a_vector(rt: HostRuntime) -> Result<(), Fail> {
     Ok(())
 }
 
-#[test]
-fn a_capture_takes_the_text(rt: HostRuntime) -> Result<(), Fail> {
-    let alloc = rt.alloc();
-    let mut sink = Counted::new(Vec::<u8>::new(alloc));
-    let mut captures = Captures::new(alloc);
-    assert_eq!(rt; captures.depth(), 0);
-    captures.begin(alloc)?;
-    captures.write_str(&mut sink, "a").map_err(Error::from)?;
-    captures.begin(alloc)?;
-    captures.write_str(&mut sink, "b").map_err(Error::from)?;
-    captures.write_str(&mut sink, "cd").map_err(Error::from)?;
-    assert_eq!(rt; captures.depth(), 2);
-    assert_eq!(rt; captures.end().ok_or("inner")?.as_str(), "bcd");
-    assert_eq!(rt; captures.end().ok_or("outer")?.as_str(), "a");
-    assert!(rt; captures.end().is_none());
-    assert!(rt; captures.write_str(&mut NullWriter, "e").is_ok());
-    assert_eq!(rt; sink.inner().as_slice(), b"".as_slice());
+/// Opens an unheard capture and a heard one in it, with a text in the first and two in the second.
+fn nest(alloc: Global, captures: &mut Captures) -> Result<(), Error> {
+    captures.begin(alloc, false)?;
+    captures.write_str(&mut NullWriter, "a")?;
+    captures.begin(alloc, true)?;
+    captures.write_str(&mut NullWriter, "b")?;
+    captures.write_str(&mut NullWriter, "cd")?;
     Ok(())
+}
+
+/// Whether the innermost capture closes with this text.
+fn ends_with(captures: &mut Captures, expected: &str) -> bool {
+    match captures.end() {
+        Some(text) => text.as_str() == expected,
+        None => false,
+    }
+}
+
+#[test]
+fn a_capture_takes_the_text(rt: HostRuntime) {
+    let alloc = rt.alloc();
+    let mut captures = Captures::new(alloc);
+    assert!(rt; nest(alloc, &mut captures).is_ok());
+    assert_eq!(rt; (captures.depth(), captures.is_heard()), (2, true));
+    assert!(rt; ends_with(&mut captures, "bcd"));
+    assert_eq!(rt; (captures.depth(), captures.is_heard()), (1, false));
+    assert!(rt; ends_with(&mut captures, "a"));
+    assert!(rt; captures.end().is_none());
+}
+
+/// The kind that a write is refused with.
+fn write_refused<W: Sink>(wrapper: &mut WriteWrapper<W>) -> Option<ErrorKind> {
+    match wrapper.write_str("Hello!") {
+        Ok(()) => None,
+        Err(error) => Some(error.kind()),
+    }
+}
+
+/// The kind of the error that is taken out, where InvalidOperation is given.
+fn taken_out<W: Sink>(wrapper: &mut WriteWrapper<W>) -> ErrorKind {
+    wrapper
+        .take_err(Error::from(ErrorKind::InvalidOperation))
+        .kind()
 }
 
 #[test]
 fn a_wrapper_keeps_the_error(rt: HostRuntime) {
-    let alloc = rt.alloc();
-    let fake = Fake::new(alloc, 9, 2, Some(io::ErrorKind::BrokenPipe));
-    let mut wrapper = WriteWrapper::new(Counted::new(fake));
-    assert_eq!(rt;
-        kind_of(&wrapper.write_str("Hello!")),
-        Some(ErrorKind::WriteFailure)
-    );
+    let mut wrapper = WriteWrapper::new(Counted::new(Broken));
+    assert_eq!(rt; write_refused(&mut wrapper), Some(ErrorKind::WriteFailure));
     assert_eq!(rt;
         wrapper.err.as_ref().map(|error| error.kind()),
         Some(io::ErrorKind::BrokenPipe)
     );
-    let original = Error::from(ErrorKind::InvalidOperation);
-    assert_eq!(rt; wrapper.take_err(original).kind(), ErrorKind::WriteFailure);
-    assert!(rt; wrapper.err.is_none());
-    let original = Error::from(ErrorKind::InvalidOperation);
-    assert_eq!(rt;
-        wrapper.take_err(original).kind(),
-        ErrorKind::InvalidOperation
-    );
+    assert_eq!(rt; taken_out(&mut wrapper), ErrorKind::WriteFailure);
+    assert_eq!(rt; taken_out(&mut wrapper), ErrorKind::InvalidOperation);
+}
+
+/// Puts three whole numbers on top.
+fn push_three(stack: &mut Stack) -> Result<(), Error> {
+    stack.push(Value::number(1))?;
+    stack.push(Value::number(2))?;
+    stack.push(Value::number(3))
+}
+
+/// Puts a whole number in place of the topmost, and gives that one.
+fn replaced(stack: &mut Stack, whole: i128) -> Option<i128> {
+    stack.replace(Value::number(whole))?.as_whole()
+}
+
+/// Whether these are the whole numbers.
+fn are(values: Option<&[Value]>, wholes: &[i128]) -> bool {
+    let Some(values) = values else {
+        return false;
+    };
+    values.len() == wholes.len()
+        && values
+            .iter()
+            .zip(wholes.iter())
+            .all(|(value, whole)| value.as_whole() == Some(*whole))
+}
+
+#[test]
+fn operands_are_taken_from_the_top(rt: HostRuntime) {
+    let mut stack = Stack::new(rt.alloc());
+    assert!(rt; push_three(&mut stack).is_ok());
+    assert!(rt; are(stack.args(2), &[2, 3]));
+    assert!(rt; stack.args(4).is_none());
+    assert_eq!(rt; replaced(&mut stack, 4), Some(3));
+    assert!(rt; are(stack.args(3), &[1, 2, 4]));
+    stack.remove(2);
+    assert!(rt; are(stack.args(1), &[1]));
+    stack.remove(5);
+    assert_eq!(rt; replaced(&mut stack, 6), None);
 }

@@ -1,108 +1,166 @@
 -- What a result, an outcome or a step is followed by, on the way to an end.
-use Rattle.std.proofs.Common.{◌≡◌, ℕ, List, [], ◌∷◌, ◌++◌, length, Some, refl, sym, ap, subst, append_assoc}
-use Rattle.std.specs.Prelude.{slice_get}
+use Rattle.std.proofs.Common.{◌≡◌, ℕ, zero, suc, ◌+◌, ◌<◌, ◌⊎◌, inl, inr, List, [], ◌∷◌, ◌++◌, length, Option, Some, None, Bool, true, false, refl, sym, subst, ap, ◌∙◌, arith, length-append}
 use Rattle.std.proofs.lemmas.List.{append-nil}
+use Rattle.std.specs.Prelude.{slice_get}
 use Rattle.tm_values.specs.Val.{Val}
-use Rattle.tm_compiler.specs.Code.{Ins}
-use Rattle.tm_meaning.specs.Texts.{put_in, put_out}
-use Rattle.tm_meaning.specs.World.{World, Host, Res, Good, Bad, bind}
-use Rattle.tm_meaning.specs.Machine.{Config, Frame, Final, Failed, Next, More, after}
-use Rattle.tm_meaning.specs.Steps.{act}
-use Rattle.tm_meaning.specs.Meaning.{Run, Outcome, Done, Fault, use_it, then_do}
-use Rattle.tm_simulation.proofs.Keeps as Kept
-use Rattle.tm_meaning.specs.Runs.{Leads, Reaches, over, more, final}
+use Rattle.tm_values.specs.declared.error.ErrorKind.{ErrorKind}
+use Rattle.tm_syntax.specs.declared.instruction.Instruction.{Instruction}
+use Rattle.tm_meaning.specs.World.{choose, World, Res, Good, Bad, bind}
+use Rattle.tm_meaning.specs.Meaning.{Run, Outcome, Ending, done, leave, next, fault, ended, so_far, use_it, then_do}
+use Rattle.tm_simulation.proofs.Keeps.{Kept, Gives, EndsBy as EndsKept, Ends as KeptEnds}
+use Rattle.tm_meaning.specs.Machine.{Capture, Activation, Config, Failed, Next, More, Program, after, goes, jumps}
+use Rattle.tm_meaning.specs.Steps.{act, step, Final, final, Leads, over, more}
+use Rattle.tm_meaning.specs.declared.stream.TemplateId.{TemplateId}
+use Rattle.tm_meaning.specs.declared.base.Base.{Base}
 
--- one text behind another, over captures
-pub put_in-put_in : (captures : List (List ℕ)) (a b : List ℕ) → put_in (put_in captures a) b ≡ put_in captures (a ++ b)
-put_in-put_in [] a b = refl
-put_in-put_in (c ∷ cs) a b = ap (λ t. t ∷ cs) (append_assoc c a b)
+-- Where what is heard goes: out, or into the innermost capture, over the text that the writer has and the captures below.
+pub data Bed : Type 0 where
+  air : Bed
+  inside : Bool → List ℕ → List Capture → Bed
 
-pub put_out-put_in : (captures : List (List ℕ)) (t a b : List ℕ) → (t ++ put_out captures a) ++ put_out (put_in captures a) b ≡ t ++ put_out captures (a ++ b)
-put_out-put_in [] t a b = append_assoc t a b
-put_out-put_in (c ∷ cs) t a b = append-nil (t ++ [])
+abbrev pub captures_of : Bed → List ℕ → List Capture
+captures_of air out = []
+captures_of (inside h t ks) out = record { heard = h; text = out } ∷ ks
 
-pub put_in-nil : (captures : List (List ℕ)) → put_in captures [] ≡ captures
-put_in-nil [] = refl
-put_in-nil (c ∷ cs) = ap (λ t. t ∷ cs) (append-nil c)
+abbrev pub told_by : Bed → List ℕ → List ℕ
+told_by air out = out
+told_by (inside h t ks) out = t
 
-pub put_out-nil : (captures : List (List ℕ)) → put_out captures [] ≡ []
-put_out-nil [] = refl
-put_out-nil (c ∷ cs) = refl
+-- Where a run stands beside its place and operands: what of it stays, the parent that waits, where its text goes, and the text so far.
+pub record Spot : Type 0 where
+  pub run : Activation
+  pub parent : Option TemplateId
+  pub bed : Bed
+  pub out : List ℕ
 
-pub length-put_in : (captures : List (List ℕ)) (t : List ℕ) → length (put_in captures t) ≡ length captures
-length-put_in [] t = refl
-length-put_in (c ∷ cs) t = refl
+abbrev pub told : Spot → List ℕ
+told s = told_by s.bed s.out
 
--- A run over captures, once the writer has got a text; all is said of one end.
-module _ (host : Host) (f : Frame) (stream : List Ins) (captures : List (List ℕ)) (text : List ℕ) (o : Final) where
-  -- what the writer has got by the time the run has this text
-  abbrev pub told : List ℕ → List ℕ
-  told out = text ++ put_out captures out
+abbrev pub cfg : Spot → ℕ → List Val → World → Config
+cfg s pc stack w = record {
+  run = record s.run { place = pc; operands = stack; parent = s.parent };
+  captures = captures_of s.bed s.out;
+  world = w;
+}
 
-  abbrev pub here : ℕ → List Val → List ℕ → World → Config
-  here pc operands out w = record { run = record { stream = stream; place = pc; operands = operands }; captures = put_in captures out; world = w }
+-- the same run, at another text and parent
+abbrev pub later : Spot → Option TemplateId → List ℕ → Spot
+later s q out = record s { parent = q; out = out }
 
-  -- from here the machine comes to the end
-  abbrev pub Go : ℕ → List Val → List ℕ → World → Type 0
-  Go pc operands out w = Reaches host f (told out) (here pc operands out w) o
+-- K holds of the value and the world, or the end r is the fault
+abbrev pub Follows : {A : Type 0} → Final → List ℕ → Res A → (A → World → Type 0) → Type 0
+Follows r t (Good a w) K = K a w
+Follows r t (Bad chain w) K = r ≡ final t (Failed chain w)
 
-  -- K holds of the value and the world, or the end is the fault
-  abbrev pub Follows : {A : Type 0} → Res A → List ℕ → (A → World → Type 0) → Type 0
-  Follows (Good a w) out K = K a w
-  Follows (Bad chain w) out K = o ≡ final (told out) (Failed w chain)
+-- what a statement goes on with: behind itself, behind its loop, at the next item
+abbrev pub Then : Type 1
+Then = Option TemplateId → List ℕ → World → Type 0
 
-  -- K holds of the text and the world, or the end is the fault
-  abbrev pub Ends : Outcome → (Run → List ℕ → World → Type 0) → Type 0
-  Ends (Done run out w) K = K run out w
-  Ends (Fault out w chain) K = o ≡ final (told out) (Failed w chain)
+abbrev pub EndsBy : Final → Bed → Ending → Outcome → Then → Then → Then → Type 0
+EndsBy r b done o D L N = D o.parent o.text o.world
+EndsBy r b leave o D L N = L o.parent o.text o.world
+EndsBy r b next o D L N = N o.parent o.text o.world
+EndsBy r b (fault chain) o D L N = r ≡ final (told_by b o.text) (Failed chain o.world)
 
-  pub bind_then : {A B : Type 0} (m : Res A) (g : A → World → Res B) (out : List ℕ) (K : B → World → Type 0) (L : A → World → Type 0) →
-      Follows (bind m g) out K → ((a : A) (w : World) → Follows (g a w) out K → L a w) → Follows m out L
-  bind_then (Good a w) g out K L h k = k a w h
-  bind_then (Bad chain w) g out K L h k = h
+-- sealed, so that a proof needs no outcome spelled out
+unfoldable pub Ends : Final → Bed → Outcome → Then → Then → Then → Type 0
+Ends r b o D L N = EndsBy r b o.ending o D L N
 
-  pub use_then : {A : Type 0} (m : Res A) (out : List ℕ) (g : A → World → Outcome) (K : Run → List ℕ → World → Type 0) (L : A → World → Type 0) →
-      Ends (use_it m out g) K → ((a : A) (w : World) → Ends (g a w) K → L a w) → Follows m out L
-  use_then (Good a w) out g K L h k = k a w h
-  use_then (Bad chain w) out g K L h k = h
+pub follows_map : {A : Type 0} (r : Final) (t : List ℕ) (m : Res A) (K L : A → World → Type 0) → Follows r t m K → ((a : A) (w : World) → K a w → L a w) → Follows r t m L
+follows_map r t (Good a w) K L h g = g a w h
+follows_map r t (Bad chain w) K L h g = h
 
-  pub do_then : (m : Outcome) (g : Run → List ℕ → World → Outcome) (K L : Run → List ℕ → World → Type 0) →
-      Ends (then_do m g) K → ((run : Run) (out : List ℕ) (w : World) → Ends (g run out w) K → L run out w) → Ends m L
-  do_then (Done run out w) g K L h k = k run out w h
-  do_then (Fault out w chain) g K L h k = h
+-- the first part of what is bound, and what it keeps
+pub bind_then : {A B : Type 0} (r : Final) (t : List ℕ) (w : World) (m : Res A) (g : A → World → Res B) (K : B → World → Type 0) (L : A → World → Type 0) →
+    Gives w m → Follows r t (bind m g) K → ((a : A) (w1 : World) → Kept w w1 → Follows r t (g a w1) K → L a w1) → Follows r t m L
+bind_then r t w (Good a w1) g K L e h k = k a w1 e h
+bind_then r t w (Bad chain w1) g K L e h k = h
 
-  -- the same where the statements keep their run
-  pub do_kept : (run : Run) (w : World) (m : Outcome) (g : Run → List ℕ → World → Outcome) (K : Run → List ℕ → World → Type 0) (L : Run → List ℕ → World → Type 0) →
-      Kept.Ends run w m → Ends (then_do m g) K → ((out : List ℕ) (w' : World) → Ends (g run out w') K → L run out w') → Ends m L
-  do_kept run w (Done run1 out w') g K L kept h k =
-      subst (λ r. L r out w') (sym kept.0) (k out w' (subst (λ r. Ends (g r out w') K) kept.0 h))
-  do_kept run w (Fault out w' chain) g K L kept h k = h
+pub use_then : {A : Type 0} (r : Final) (b : Bed) (w : World) (m : Res A) (run : Run) (out : List ℕ) (g : A → World → Outcome) (D L N : Then) (K : A → World → Type 0) →
+    Gives w m → Ends r b (use_it m run out g) D L N → ((a : A) (w1 : World) → Kept w w1 → Ends r b (g a w1) D L N → K a w1) → Follows r (told_by b out) m K
+unfolding Ends
+use_then r b w (Good a w1) run out g D L N K e h k = k a w1 e h
+use_then r b w (Bad chain w1) run out g D L N K e h k = h
 
-  -- what follows, in other words
-  pub ends_as : (m : Outcome) (K L : Run → List ℕ → World → Type 0) → Ends m K → ((run : Run) (out : List ℕ) (w : World) → K run out w → L run out w) → Ends m L
-  ends_as (Done run out w) K L h k = k run out w h
-  ends_as (Fault out w chain) K L h k = h
+-- what is done goes on
+pub so_far_then : (r : Final) (b : Bed) (run : Run) (out : List ℕ) (w : World) (D L N : Then) → Ends r b (so_far run out w) D L N → D run.parent out w
+unfolding Ends
+so_far_then r b run out w D L N h = h
 
-  -- an instruction at its place
-  pub at : (i : Ins) (pc : ℕ) (operands : List Val) (out : List ℕ) (w : World) → slice_get stream pc ≡ Some i →
-      Leads host f (told out) (act host f (Some i) (here pc operands out w)) o → Go pc operands out w
-  at i pc operands out w e l = subst (λ s. Leads host f (told out) (act host f s (here pc operands out w)) o) (sym e) l
+pub so_far_ends : (r : Final) (b : Bed) (run : Run) (out : List ℕ) (w : World) (D L N : Then) → D run.parent out w → Ends r b (so_far run out w) D L N
+unfolding Ends
+so_far_ends r b run out w D L N h = h
 
-  -- a part of a step
-  pub lands_after : {A : Type 0} (m : Res A) (g : A → World → Next) (out : List ℕ) →
-      Follows m out (λ a w. Leads host f (told out) (g a w) o) → Leads host f (told out) (after m g) o
-  lands_after (Good a w) g out h = h
-  lands_after (Bad chain w) g out h = over refl h
+pub fault_then : (r : Final) (b : Bed) (run : Run) (out : List ℕ) (w : World) (chain : List ErrorKind) (D L N : Then) → Ends r b (ended (fault chain) run out w) D L N → r ≡ final (told_by b out) (Failed chain w)
+unfolding Ends
+fault_then r b run out w chain D L N h = h
+
+-- an outcome by its parts
+abbrev pub whole_of : Ending → Option TemplateId → List ℕ → World → Outcome
+whole_of e parent out w = record { ending = e; parent = parent; text = out; world = w }
+
+kept_by : (w : World) (e : Ending) (parent : Option TemplateId) (out : List ℕ) (w1 : World) → KeptEnds w (whole_of e parent out w1) → EndsKept w e w1
+unfolding KeptEnds
+kept_by w e parent out w1 h = h
+
+do_by : (r : Final) (b : Bed) (run : Run) (w : World) (e : Ending) (parent : Option TemplateId) (out : List ℕ) (w1 : World) (g : Run → List ℕ → World → Outcome) (D L N : Then) (K : Then) → EndsKept w e w1 →
+    Ends r b (then_do run (whole_of e parent out w1) g) D L N → (Kept w w1 → Ends r b (g (record run { parent = parent }) out w1) D L N → K parent out w1) → Ends r b (whole_of e parent out w1) K L N
+unfolding Ends
+do_by r b run w done parent out w1 g D L N K e h k = k e h
+do_by r b run w leave parent out w1 g D L N K e h k = h
+do_by r b run w next parent out w1 g D L N K e h k = h
+do_by r b run w (fault chain) parent out w1 g D L N K e h k = h
+
+pub do_then : (r : Final) (b : Bed) (run : Run) (w : World) (o : Outcome) (g : Run → List ℕ → World → Outcome) (D L N : Then) (K : Then) → KeptEnds w o →
+    Ends r b (then_do run o g) D L N → ((parent : Option TemplateId) (out : List ℕ) (w1 : World) → Kept w w1 → Ends r b (g (record run { parent = parent }) out w1) D L N → K parent out w1) → Ends r b o K L N
+do_then r b run w o g D L N K e h k =
+    do_by r b run w o.ending o.parent o.text o.world g D L N K (kept_by w o.ending o.parent o.text o.world e) h (k o.parent o.text o.world)
+
+-- what follows, in other words
+ends_by_map : (r : Final) (b : Bed) (e : Ending) (parent : Option TemplateId) (out : List ℕ) (w : World) (D K L N : Then) → Ends r b (whole_of e parent out w) D L N →
+    (D parent out w → K parent out w) → Ends r b (whole_of e parent out w) K L N
+unfolding Ends
+ends_by_map r b done parent out w D K L N h k = k h
+ends_by_map r b leave parent out w D K L N h k = h
+ends_by_map r b next parent out w D K L N h k = h
+ends_by_map r b (fault chain) parent out w D K L N h k = h
+
+pub ends_map : (r : Final) (b : Bed) (o : Outcome) (D K L N : Then) → Ends r b o D L N → ((parent : Option TemplateId) (out : List ℕ) (w : World) → D parent out w → K parent out w) → Ends r b o K L N
+ends_map r b o D K L N h k = ends_by_map r b o.ending o.parent o.text o.world D K L N h (k o.parent o.text o.world)
+
+module _ (p : Program) (f : Base) (r : Final) where
+  -- the machine comes from here to the end
+  abbrev pub Go : Spot → ℕ → List Val → World → Type 0
+  Go s pc stack w = Leads p f (told s) (step p f (cfg s pc stack w)) r
 
   -- a step that writes nothing
-  pub lands_more : (c : Config) (out : List ℕ) → Reaches host f (told out) c o → Leads host f (told out) (More [] c) o
-  lands_more c out r = more refl (subst (λ t. Reaches host f t c o) (sym (append-nil (told out))) r)
+  pub silent : (t : List ℕ) (c : Config) → Leads p f t (step p f c) r → Leads p f t (More [] c) r
+  silent t c l = more refl (subst (λ u. Leads p f u (step p f c) r) (sym (append-nil t)) l)
 
-  -- a step that writes a text
-  pub lands_put : (pc : ℕ) (operands : List Val) (out t : List ℕ) (w : World) → Go pc operands (out ++ t) w →
-      Leads host f (told out) (More (put_out (put_in captures out) t)
-      (record { run = record { stream = stream; place = pc; operands = operands }; captures = put_in (put_in captures out) t; world = w })) o
-  lands_put pc operands out t w r =
-      more refl
-      (subst (λ s. Reaches host f s (record { run = record { stream = stream; place = pc; operands = operands }; captures = put_in (put_in captures out) t; world = w }) o) (sym (put_out-put_in captures text out t))
-      (subst (λ cs. Reaches host f (told (out ++ t)) (record { run = record { stream = stream; place = pc; operands = operands }; captures = cs; world = w }) o) (sym (put_in-put_in captures out t)) r))
+  -- an instruction at its place
+  pub at : (i : Instruction) (s : Spot) (pc : ℕ) (stack : List Val) (w : World) → slice_get (p.code s.run.stream) pc ≡ Some i →
+      Leads p f (told s) (act p f (Some i) (cfg s pc stack w)) r → Go s pc stack w
+  at i s pc stack w e l = subst (λ o. Leads p f (told s) (act p f o (cfg s pc stack w)) r) (sym e) l
+
+  pub after_then : {A : Type 0} (t : List ℕ) (m : Res A) (g : A → World → Next) → Follows r t m (λ a w. Leads p f t (g a w) r) → Leads p f t (after m g) r
+  after_then t (Good a w) g h = h
+  after_then t (Bad chain w) g h = over refl h
+
+  pub move : (s : Spot) (m n : ℕ) (stack : List Val) (w : World) → m ≡ n → Go s n stack w → Go s m stack w
+  move s m n stack w e g = subst (λ k. Go s k stack w) (sym e) g
+
+  -- a value is pushed, and the next place follows
+  pub pushes : (s : Spot) (pc : ℕ) (stack old : List Val) (w : World) (m : Res Val) →
+      Follows r (told s) m (λ v w1. Go s (pc + 1) (v ∷ stack) w1) → Leads p f (told s) (after m (λ v w1. goes (v ∷ stack) w1 (cfg s pc old w))) r
+  pushes s pc stack old w m h = after_then (told s) m _ (follows_map r (told s) m _ _ h (λ v w1 g. silent (told s) _ g))
+
+  -- one of two, by a truth value
+  pub choose_then : {A : Type 0} (b : Bool) (m1 m2 : Res A) (n1 n2 : Next) (t : List ℕ) (K : A → World → Type 0) →
+      Follows r t (choose b (λ _. m1) (λ _. m2)) K → (Follows r t m1 K → Leads p f t n1 r) → (Follows r t m2 K → Leads p f t n2 r) → Leads p f t (choose b (λ _. n1) (λ _. n2)) r
+  choose_then true m1 m2 n1 n2 t K h k l = k h
+  choose_then false m1 m2 n1 n2 t K h k l = l h
+
+  pub choose_ends : (b : Bool) (o1 o2 : Outcome) (n1 n2 : Next) (t : List ℕ) (bed : Bed) (D L N : Then) →
+      Ends r bed (choose b (λ _. o1) (λ _. o2)) D L N → (Ends r bed o1 D L N → Leads p f t n1 r) → (Ends r bed o2 D L N → Leads p f t n2 r) → Leads p f t (choose b (λ _. n1) (λ _. n2)) r
+  choose_ends true o1 o2 n1 n2 t bed D L N h k l = k h
+  choose_ends false o1 o2 n1 n2 t bed D L N h k l = l h

@@ -1,72 +1,315 @@
--- What statements keep: of a world all but the fuel, and whether the run is heard.
-use Rattle.std.proofs.Common.{Some, None, Ok, Err, ◌≡◌, ℕ, List, [], refl, sym, ◌∙◌, ap, subst}
-use Rattle.tm_values.specs.Val.{Val}
-use Rattle.tm_values.specs.declared.escape.AutoEscape.TheVariants as escape
-use Rattle.tm_printing.specs.Emitted.{emission_verdict, emitted_text}
-use Rattle.tm_printing.specs.Refused.{Verdict}
-use Rattle.tm_compiler.specs.Tree.{Ex, name, St, raw, emit, Sts, no_sts, st}
-use Rattle.tm_meaning.specs.World.{World, Host, Res, Good, Bad, bind, charged, with_fuel, tick, records_of, where_fine, emitted}
-use Rattle.tm_meaning.specs.Meaning.{Run, Outcome, Done, Fault, Nests, use_it, then_do, ev, ex, exs}
+-- What statements keep, whatever they do: how many scopes lie over how deep an outermost one. A fault leaves them as they are then.
+use Rattle.std.proofs.Common.{◌≡◌, ℕ, zero, suc, ◌+◌, ◌<◌, List, [], ◌∷◌, length, Option, Some, None, Bool, true, false, Ok, Err, nat_lt, refl, sym, subst, ap, ◌∙◌, arith, ltb-true, ◌≤◌}
+use Rattle.std.specs.Prelude.{slice_get, not}
+use Rattle.tm_values.specs.Answer.{Answer}
+use Rattle.tm_values.specs.Val.{Val, undefined, function, none, boolean, number, text, list, map, keywords, exports, macro, loop, namespace}
+use Rattle.tm_values.specs.declared.error.ErrorKind.{ErrorKind}
+use Rattle.tm_values.specs.declared.error.ErrorKind.TheVariants.{InvalidOperation, UnknownBlock, UnknownFunction}
+use Rattle.tm_syntax.specs.declared.tree.UnaryOperator.{UnaryOperator}
+use Rattle.tm_syntax.specs.declared.tree.UnaryOperator.TheVariants as unaries
+use Rattle.tm_syntax.specs.declared.tree.BinaryOperator.{BinaryOperator}
+use Rattle.tm_syntax.specs.declared.tree.BinaryOperator.TheVariants as binaries
+use Rattle.tm_syntax.specs.declared.tree.Expr.{Expr, Var, Const, Call', Row_of-Argument, end_of-Argument as no_argument, more_of-Argument as argument, Row_of-Step, end_of-Step as no_step, more_of-Step as step}
+use Rattle.tm_syntax.specs.declared.tree.Argument.{Argument}
+use Rattle.tm_syntax.specs.declared.tree.Step.{Step, Attribute}
+use Rattle.tm_syntax.specs.declared.tree.Stmt.{Stmt, EmitRaw, EmitExpr, If', Block', Row_of-Stmt, end_of-Stmt as no_statement, more_of-Stmt as statement, Held-Stmt-If-2 as Otherwise, None' as no_else, Some' as otherwise}
+use Rattle.tm_syntax.specs.Forms.{unary, chained, plain, binary, and_then, or_else}
+use Rattle.tm_meaning.specs.World.{choose, find, block_of, with_frames, World, Host, Scopes, Scope, Res, Good, Bad, bind, need, check, answered, charged, with_fuel, tick, push, pop, depth, without_first, emitted, looked_up, lookup, Function, callers, Reply, gives, faults, plain as plain_scope}
+use Rattle.tm_meaning.specs.Calls.{Callee, whole, Call, Undo, of_block, undone, wrapped, Asked, has, refused, runs, ask, enter_block, call_named, call_value, call_by, replied, required_alone}
+use Rattle.tm_meaning.specs.Meaning.{Run, Outcome, Ending, done, leave, next, fault, Nests, Under, use_it, then_do, on_done, so_far, ended, say, audible, none_waits, value_of, value_behind, in_place_of, behind, block_tag, truth, applied_unary, applied, attribute, not_of, equal_of, eval, eval_argument, eval_arguments, eval_step, eval_steps, emit, behind_first, exec, execs, exec_else, at_end, new_run, nests_of}
+use Rattle.tm_meaning.specs.Tree.{Trees}
+use Rattle.tm_meaning.specs.declared.stream.TemplateId.{TemplateId}
 
--- all but the fuel is as it was
-abbrev pub Keeps : World → World → Type 0
-Keeps w w' = w' ≡ record w { fuel = w'.fuel }
+pub record Kept (old new : World) : Type 0 where
+  pub frames : length new.scopes.frames ≡ length old.scopes.frames
+  pub outer : new.scopes.outer ≡ old.scopes.outer
 
-keeps_then : (a b c : World) → Keeps a b → Keeps b c → Keeps a c
-keeps_then a b c h k = k ∙ ap (λ (w : World). record w { fuel = c.fuel }) h
+pub kept_same : (w : World) → Kept w w
+kept_same w = record { frames = refl; outer = refl }
+
+pub kept_then : {a b c : World} → Kept a b → Kept b c → Kept a c
+kept_then h k = record { frames = k.frames ∙ h.frames; outer = k.outer ∙ h.outer }
+
+pub kept_depth : {a b : World} → Kept a b → depth b.scopes ≡ depth a.scopes
+kept_depth h = omega (arith, h.frames, h.outer)
 
 abbrev pub Gives : {A : Type 0} → World → Res A → Type 0
-Gives w (Good a w') = Keeps w w'
-Gives w (Bad chain w') = Keeps w w'
+Gives w (Good a w1) = Kept w w1
+Gives w (Bad chain w1) = Unit {0}
 
-abbrev pub Ends : Run → World → Outcome → Type 0
-Ends run w (Done run1 out w') = (run1 ≡ run) × Keeps w w'
-Ends run w (Fault out w' chain) = Keeps w w'
+abbrev pub EndsBy : World → Ending → World → Type 0
+EndsBy w done w1 = Kept w w1
+EndsBy w leave w1 = Kept w w1
+EndsBy w next w1 = Kept w w1
+EndsBy w (fault chain) w1 = Unit {0}
 
-tick_gives : (w : World) → Gives w (tick w)
-tick_gives w = elim (charged 1 w.fuel) as (λ left. Gives w (with_fuel left w)) [ Some left ↦ refl | None ↦ refl ]
+-- sealed, so that a proof needs no outcome spelled out
+unfoldable pub Ends : World → Outcome → Type 0
+Ends w o = EndsBy w o.ending o.world
 
-fine_gives : {A : Type 0} (verdict : Verdict) (a : A) (w : World) → Gives w (where_fine verdict a w)
-fine_gives (Ok u) a w = refl
-fine_gives (Err chain) a w = refl
+-- ---------------------------------------------------------------- results
+gives_then : {A : Type 0} (w w1 : World) (m : Res A) → Kept w w1 → Gives w1 m → Gives w m
+gives_then w w1 (Good a w2) h k = kept_then h k
+gives_then w w1 (Bad chain w2) h k = tt
 
-emitted_gives : (v : Val) (w : World) → Gives w (emitted v w)
-emitted_gives v w = fine_gives (emission_verdict escape.None (records_of w) v) (emitted_text escape.None (records_of w) v) w
+pub gives_bind : {A B : Type 0} (w : World) (m : Res A) (g : A → World → Res B) → Gives w m → ((a : A) (w1 : World) → Gives w1 (g a w1)) → Gives w (bind m g)
+gives_bind w (Good a w1) g h k = gives_then w w1 (g a w1) h (k a w1)
+gives_bind w (Bad chain w1) g h k = tt
 
-gives_bind : {A B : Type 0} (w : World) (m : Res A) (f : A → World → Res B) → Gives w m → ((a : A) (w' : World) → Gives w' (f a w')) → Gives w (bind m f)
-gives_bind w (Good a w') f h k = gives_then w w' (f a w') h (k a w')
-  where
-    gives_then : {B : Type 0} (w w' : World) (m : Res B) → Keeps w w' → Gives w' m → Gives w m
-    gives_then w w' (Good b w'') h k = keeps_then w w' w'' h k
-    gives_then w w' (Bad chain w'') h k = keeps_then w w' w'' h k
-gives_bind w (Bad chain w') f h k = h
+fuel_gives : (left : Option ℕ) (w : World) → Gives w (with_fuel left w)
+fuel_gives (Some left) w = record { frames = refl; outer = refl }
+fuel_gives None w = tt
 
-ends_after : (run : Run) (w w' : World) (o : Outcome) → Keeps w w' → Ends run w' o → Ends run w o
-ends_after run w w' (Done run1 out w'') h k = (k.0, keeps_then w w' w'' h k.1)
-ends_after run w w' (Fault out w'' chain) h k = keeps_then w w' w'' h k
+pub tick_gives : (w : World) → Gives w (tick w)
+tick_gives w = fuel_gives (charged 1 w.fuel) w
 
-ends_use : {A : Type 0} (run : Run) (w : World) (m : Res A) (out : List ℕ) (f : A → World → Outcome) → Gives w m → ((a : A) (w' : World) → Ends run w' (f a w')) → Ends run w (use_it m out f)
-ends_use run w (Good a w') out f h k = ends_after run w w' (f a w') h (k a w')
-ends_use run w (Bad chain w') out f h k = h
+pub answered_gives : {A : Type 0} (answer : Answer A) (w : World) → Gives w (answered answer w)
+answered_gives (Ok a) w = kept_same w
+answered_gives (Err chain) w = tt
 
-ends_do : (run : Run) (w : World) (o : Outcome) (f : Run → List ℕ → World → Outcome) → Ends run w o → ((out : List ℕ) (w' : World) → Ends run w' (f run out w')) → Ends run w (then_do o f)
-ends_do run w (Done run1 out w') f h k =
-    ends_after run w w' (f run1 out w') h.1 (let e : run ≡ run1 = sym h.0 in subst (λ r. Ends run w' (f r out w')) e (k out w'))
-ends_do run w (Fault out w' chain) f h k = h
+-- ---------------------------------------------------------------- outcomes
+ends_by_then : (w w1 : World) (e : Ending) (w2 : World) → Kept w w1 → EndsBy w1 e w2 → EndsBy w e w2
+ends_by_then w w1 done w2 h k = kept_then h k
+ends_by_then w w1 leave w2 h k = kept_then h k
+ends_by_then w w1 next w2 h k = kept_then h k
+ends_by_then w w1 (fault chain) w2 h k = tt
 
-ev_gives : (host : Host) (nests : Nests) (e : Ex) (w : World) → Gives w (ev host nests e w)
-ev_gives host nests (name x) w = gives_bind w (tick w) _ (tick_gives w) (λ _ w'. refl)
+pub ends_here : (w w1 : World) (run : Run) (out : List ℕ) → Kept w w1 → Ends w (so_far run out w1)
+unfolding Ends
+ends_here w w1 run out h = h
 
--- a statement keeps all but the fuel
-pub ex_ends : (host : Host) (nests : Nests) (s : St) (run : Run) (out : List ℕ) (w : World) → Ends run w (ex host nests s run out w)
-ex_ends host nests (raw t) run out w = ends_use run w (tick w) out _ (tick_gives w) (λ _ w'. (refl, refl))
-ex_ends host nests (emit e) run out w =
-    ends_use run w (ev host nests e w) out _ (ev_gives host nests e w) (λ v w'.
-    ends_use run w' (tick w') out _ (tick_gives w') (λ _ w''.
-    ends_use run w'' (emitted v w'') out _ (emitted_gives v w'') (λ _ w'''.
-    (refl, refl))))
+ends_fault : (w w1 : World) (run : Run) (out : List ℕ) (chain : List ErrorKind) → Ends w (ended (fault chain) run out w1)
+unfolding Ends
+ends_fault w w1 run out chain = tt
 
-pub exs_end : (host : Host) (nests : Nests) (ss : Sts) (run : Run) (out : List ℕ) (w : World) → Ends run w (exs host nests ss run out w)
-exs_end host nests no_sts run out w = (refl, refl)
-exs_end host nests (st s ss) run out w =
-    ends_do run w (ex host nests s run out w) _ (ex_ends host nests s run out w) (λ out1 w'. exs_end host nests ss run out1 w')
+pub ends_then : (w w1 : World) (o : Outcome) → Kept w w1 → Ends w1 o → Ends w o
+unfolding Ends
+ends_then w w1 o h k = ends_by_then w w1 o.ending o.world h k
+
+pub ends_use : {A : Type 0} (w : World) (m : Res A) (run : Run) (out : List ℕ) (g : A → World → Outcome) → Gives w m → ((a : A) (w1 : World) → Ends w1 (g a w1)) → Ends w (use_it m run out g)
+ends_use w (Good a w1) run out g h k = ends_then w w1 (g a w1) h (k a w1)
+ends_use w (Bad chain w1) run out g h k = ends_fault w w1 run out chain
+
+ends_on_done : (w : World) (run : Run) (e : Ending) (parent : Option TemplateId) (out : List ℕ) (w1 : World) (g : Run → List ℕ → World → Outcome) →
+    EndsBy w e w1 → ((run1 : Run) (out1 : List ℕ) (w2 : World) → Ends w2 (g run1 out1 w2)) → Ends w (then_do run (record { ending = e; parent = parent; text = out; world = w1 }) g)
+unfolding Ends
+ends_on_done w run done parent out w1 g h k = ends_then w w1 (g (record run { parent = parent }) out w1) h (k (record run { parent = parent }) out w1)
+ends_on_done w run leave parent out w1 g h k = h
+ends_on_done w run next parent out w1 g h k = h
+ends_on_done w run (fault chain) parent out w1 g h k = tt
+
+pub ends_do : (w : World) (run : Run) (o : Outcome) (g : Run → List ℕ → World → Outcome) → Ends w o → ((run1 : Run) (out1 : List ℕ) (w2 : World) → Ends w2 (g run1 out1 w2)) → Ends w (then_do run o g)
+unfolding Ends
+ends_do w run o g h k = ends_on_done w run o.ending o.parent o.text o.world g h k
+
+-- ---------------------------------------------------------------- calls
+-- A value keeps the scopes; a run starts one level deeper, within the limit, and what is put back behind one that keeps its scopes gives these back.
+abbrev pub Asks : ℕ → World → Asked → Type 0
+Asks limit w (has v w1) = Kept w w1
+Asks limit w (refused chain w1) = Unit {0}
+Asks limit w (runs c w1) = (depth w1.scopes ≡ depth w.scopes + 1) × (depth w1.scopes ≤ limit) × ((w2 : World) → Kept w1 w2 → Kept w (undone c.undo w2))
+
+asks_then : (limit : ℕ) (w w1 : World) (q : Asked) → Kept w w1 → Asks limit w1 q → Asks limit w q
+asks_then limit w w1 (has v w2) h k = kept_then h k
+asks_then limit w w1 (refused chain w2) h k = tt
+asks_then limit w w1 (runs c w2) h k = (k.0 ∙ ap (λ n. n + 1) (kept_depth h), k.1, λ w3 l. kept_then h (k.2 w3 l))
+
+ask_then : {A : Type 0} (limit : ℕ) (w : World) (m : Res A) (g : A → World → Asked) → Gives w m → ((a : A) (w1 : World) → Asks limit w1 (g a w1)) → Asks limit w (ask m g)
+ask_then limit w (Good a w1) g h k = asks_then limit w w1 (g a w1) h (k a w1)
+ask_then limit w (Bad chain w1) g h k = tt
+
+-- where something is there, the world is as it was
+ask_need : {A : Type 0} (limit : ℕ) (w : World) (found : Option A) (kind : ErrorKind) (g : A → World → Asked) → ((a : A) → Asks limit w (g a w)) → Asks limit w (ask (need found kind w) g)
+ask_need limit w (Some a) kind g k = k a
+ask_need limit w None kind g k = tt
+
+ask_check : (limit : ℕ) (w : World) (b : Bool) (kind : ErrorKind) (g : Unit {0} → World → Asked) → Asks limit w (g tt w) → Asks limit w (ask (check b kind w) g)
+ask_check limit w true kind g k = k
+ask_check limit w false kind g k = tt
+
+without_first_of : (n : ℕ) (frames : List Scope) → length frames ≡ suc n → length (without_first frames) ≡ n
+without_first_of n [] e = absurd (cc e)
+without_first_of n (s ∷ ss) e = omega (arith, e)
+
+ask_push : (limit : ℕ) (w : World) (s : Scope) (room : Bool) (g : Unit {0} → World → Asked) →
+    (room ≡ true → Asks limit w (g tt (with_frames (s ∷ w.scopes.frames) w))) →
+    Asks limit w (ask (choose room (λ _. Good tt (with_frames (s ∷ w.scopes.frames) w)) (λ _. Bad (InvalidOperation ∷ []) w)) g)
+ask_push limit w s true g k = k refl
+ask_push limit w s false g k = tt
+
+-- a scope more, and what stands in it, is one level deeper
+entered_asks : (limit : ℕ) (c : Call) (s : Scope) (w w1 : World) → c.undo ≡ of_block w → w1.scopes ≡ record w.scopes { frames = s ∷ w.scopes.frames } → nat_lt (depth w.scopes) limit ≡ true → Asks limit w (runs c w1)
+entered_asks limit c s w w1 e d room =
+    let deep : depth w1.scopes ≡ depth w.scopes + 1 = ap depth d ∙ omega arith in
+    let frames : length w1.scopes.frames ≡ suc (length w.scopes.frames) = ap (λ (x : Scopes). length x.frames) d in (
+      deep,
+      omega (arith, deep, ltb-true (depth w.scopes) limit room),
+      λ w2 k. subst (λ n. Kept w (undone n w2)) (sym e) (record {
+        frames = without_first_of (length w.scopes.frames) w2.scopes.frames (k.frames ∙ frames);
+        outer = refl;
+      }),
+    )
+
+pub block_asks : (host : Host) (b : List ℕ) (w : World) → Asks host.limit w (enter_block host b w)
+block_asks host b w =
+    ask_need host.limit w (find b w.blocks) UnknownBlock _ (λ l.
+    ask_need host.limit w (slice_get l.templates l.place) UnknownBlock _ (λ t.
+    ask_check host.limit w (not (required_alone host (block_of t b) l)) InvalidOperation _ (
+    ask_push host.limit w (plain_scope (undefined false)) (nat_lt (depth w.scopes) host.limit) _ (λ room.
+    entered_asks host.limit (record { callee = whole (block_of t b); undo = of_block w; wrap = None }) (plain_scope (undefined false)) w
+    (record (with_frames (plain_scope (undefined false) ∷ w.scopes.frames) w) { stream = block_of t b; block = Some b }) refl refl room))))
+
+replied_asks : (limit : ℕ) (reply : Reply) (w : World) → Asks limit w (replied reply w)
+replied_asks limit (gives v) w = kept_same w
+replied_asks limit (faults chain) w = tt
+
+by_asks : (host : Host) (f : Function) (args : List Val) (w : World) → Asks host.limit w (call_by host f args w)
+by_asks host (callers f) args w = asks_then host.limit w _ _ (record { frames = refl; outer = refl }) (replied_asks host.limit _ _)
+
+value_asks : (host : Host) (v : Val) (args : List Val) (w : World) → Asks host.limit w (call_value host v args w)
+value_asks host (function n) args w = ask_need host.limit w (slice_get host.functions n) InvalidOperation (λ f w1. call_by host f args w1) (λ f. by_asks host f args w)
+value_asks host (undefined s) args w = tt
+value_asks host none args w = tt
+value_asks host (boolean b) args w = tt
+value_asks host (number z) args w = tt
+value_asks host (text t s) args w = tt
+value_asks host (list vs) args w = tt
+value_asks host (map ps) args w = tt
+value_asks host (keywords ps) args w = tt
+value_asks host (exports ps t) args w = tt
+value_asks host (macro m) args w = tt
+value_asks host (loop i n) args w = tt
+value_asks host (namespace i n) args w = tt
+
+pub named_asks : (host : Host) (x : List ℕ) (args : List Val) (w : World) → Asks host.limit w (call_named host x args w)
+named_asks host x args w =
+    ask_then host.limit w (lookup host x w) _ (answered_gives _ w) (λ found w1. ask_need host.limit w1 found UnknownFunction (λ f w2. call_value host f args w2) (λ f. value_asks host f args w1))
+
+-- ---------------------------------------------------------------- trees
+module _ (u : Under) (nest_ends : (k : Callee) (heard : Bool) (out : List ℕ) (w : World) → Ends w (u.nests k heard out w)) where
+  value_by : (w w1 : World) (c : Call) (e : Ending) (o : Outcome) → EndsBy w1 e o.world → ((w2 : World) → Kept w1 w2 → Kept w (undone c.undo w2)) → Gives w (value_behind e c o)
+  value_by w w1 c done o h k = k o.world h
+  value_by w w1 c leave o h k = k o.world h
+  value_by w w1 c next o h k = k o.world h
+  value_by w w1 c (fault chain) o h k = tt
+
+  nest_by : (k : Callee) (heard : Bool) (out : List ℕ) (w : World) → EndsBy w (u.nests k heard out w).ending (u.nests k heard out w).world
+  unfolding Ends
+  nest_by k heard out w = nest_ends k heard out w
+
+  value_gives : (w : World) (q : Asked) → Asks u.host.limit w q → Gives w (value_of u q)
+  value_gives w (has v w1) h = h
+  value_gives w (refused chain w1) h = tt
+  value_gives w (runs c w1) h = let o = u.nests c.callee true [] w1 in value_by w w1 c o.ending o (nest_by c.callee true [] w1) h.2
+
+  place_by : (w w1 : World) (c : Call) (run : Run) (e : Ending) (o : Outcome) → EndsBy w1 e o.world → ((w2 : World) → Kept w1 w2 → Kept w (undone c.undo w2)) → Ends w (behind e c run o)
+  place_by w w1 c run done o h k = ends_here w _ run o.text (k o.world h)
+  place_by w w1 c run leave o h k = ends_here w _ run o.text (k o.world h)
+  place_by w w1 c run next o h k = ends_here w _ run o.text (k o.world h)
+  place_by w w1 c run (fault chain) o h k = ends_fault w o.world run o.text (wrapped c.wrap chain)
+
+  place_ends : (w : World) (run : Run) (out : List ℕ) (q : Asked) → Asks u.host.limit w q → Ends w (in_place_of u run out q)
+  place_ends w run out (has v w1) h = ends_here w w1 run out h
+  place_ends w run out (refused chain w1) h = ends_fault w w1 run out chain
+  place_ends w run out (runs c w1) h =
+      let o = u.nests c.callee (audible run) out w1 in place_by w w1 c run o.ending o (nest_by c.callee (audible run) out w1) h.2
+
+  choose_gives : {A : Type 0} (w : World) (b : Bool) (m n : Res A) → Gives w m → Gives w n → Gives w (choose b (λ _. m) (λ _. n))
+  choose_gives w true m n h k = h
+  choose_gives w false m n h k = k
+
+  choose_ends : (w : World) (b : Bool) (o q : Outcome) → Ends w o → Ends w q → Ends w (choose b (λ _. o) (λ _. q))
+  choose_ends w true o q h k = h
+  choose_ends w false o q h k = k
+
+  pub unary_gives : (op : UnaryOperator) (v : Val) (w : World) → Gives w (applied_unary u.host op v w)
+  unary_gives unaries.Not v w = answered_gives _ w
+
+  pub binary_gives : (op : BinaryOperator) (a b : Val) (w : World) → Gives w (applied u.host op a b w)
+  binary_gives binaries.Equal a b w = answered_gives _ w
+
+  pub looked_up_gives : (x : List ℕ) (w : World) → Gives w (looked_up u.host x w)
+  looked_up_gives x w = gives_bind w (lookup u.host x w) _ (answered_gives _ w) (λ found w1. kept_same w1)
+
+  mutual
+    pub eval_gives : (run : Run) (e : Expr) (w : World) → Gives w (eval u run e w)
+    eval_gives run (Var x) w = gives_bind w (tick w) _ (tick_gives w) (λ _ w1. looked_up_gives x w1)
+    eval_gives run (Const v) w = gives_bind w (tick w) _ (tick_gives w) (λ _ w1. kept_same w1)
+    eval_gives run (Call' f _ given) w =
+        gives_bind w (eval_arguments u run given w) _ (arguments_give run given w) (λ vs w1.
+        gives_bind w1 (tick w1) _ (tick_gives w1) (λ _ w2. value_gives w2 _ (named_asks u.host f vs w2)))
+    eval_gives run (unary op a) w =
+        gives_bind w (eval u run a w) _ (eval_gives run a w) (λ v w1. gives_bind w1 (tick w1) _ (tick_gives w1) (λ _ w2. unary_gives op v w2))
+    eval_gives run (chained a _ ss) w = gives_bind w (eval u run a w) _ (eval_gives run a w) (λ v w1. steps_give run ss v w1)
+
+    pub argument_gives : (run : Run) (a : Argument) (w : World) → Gives w (eval_argument u run a w)
+    argument_gives run (plain a) w = eval_gives run a w
+
+    pub arguments_give : {n : _} → (run : Run) (given : Row_of-Argument n) (w : World) → Gives w (eval_arguments u run given w)
+    arguments_give run no_argument w = kept_same w
+    arguments_give run (argument a more) w =
+        gives_bind w (eval_argument u run a w) _ (argument_gives run a w) (λ v w1.
+        gives_bind w1 (eval_arguments u run more w1) _ (arguments_give run more w1) (λ vs w2. kept_same w2))
+
+    pub step_gives : (run : Run) (s : Step) (v : Val) (w : World) → Gives w (eval_step u run s v w)
+    step_gives run (Attribute x) v w = gives_bind w (tick w) _ (tick_gives w) (λ _ w1. answered_gives _ w1)
+    step_gives run (binary op a) v w =
+        gives_bind w (eval u run a w) _ (eval_gives run a w) (λ y w1. gives_bind w1 (tick w1) _ (tick_gives w1) (λ _ w2. binary_gives op v y w2))
+    step_gives run (and_then a) v w =
+        gives_bind w (tick w) _ (tick_gives w) (λ _ w1. gives_bind w1 (truth u.host v w1) _ (answered_gives _ w1) (λ b w2. choose_gives w2 b _ _ (eval_gives run a w2) (kept_same w2)))
+    step_gives run (or_else a) v w =
+        gives_bind w (tick w) _ (tick_gives w) (λ _ w1. gives_bind w1 (truth u.host v w1) _ (answered_gives _ w1) (λ b w2. choose_gives w2 b _ _ (kept_same w2) (eval_gives run a w2)))
+
+    pub steps_give : {n : _} → (run : Run) (ss : Row_of-Step n) (v : Val) (w : World) → Gives w (eval_steps u run ss v w)
+    steps_give run no_step v w = kept_same w
+    steps_give run (step s ss) v w = gives_bind w (eval_step u run s v w) _ (step_gives run s v w) (λ x w1. steps_give run ss x w1)
+
+  emit_ends : (run : Run) (out : List ℕ) (v : Val) (w : World) → Ends w (emit u run out v w)
+  emit_ends run out v w =
+      ends_use w (tick w) run out _ (tick_gives w) (λ _ w1. ends_use w1 (emitted u.host v w1) run out _ (answered_gives _ w1) (λ t w2. ends_here w2 w2 run (say run t out) (kept_same w2)))
+
+  behind_first_ends : (other : Otherwise) (run : Run) (w : World) (o : Outcome) → Ends w o → Ends w (behind_first other run o)
+  behind_first_ends no_else run w o h = h
+  behind_first_ends (otherwise _ body) run w o h =
+      ends_do w run o _ h (λ run1 out1 w1. ends_use w1 (tick w1) run1 out1 _ (tick_gives w1) (λ _ w2. ends_here w2 w2 run1 out1 (kept_same w2)))
+
+  tag_ends : (run : Run) (b : List ℕ) (out : List ℕ) (w : World) → Ends w (block_tag u run b out w)
+  tag_ends run b out w = choose_ends w _ _ _ (place_ends w run out _ (block_asks u.host b w)) (ends_here w w run out (kept_same w))
+
+  mutual
+    pub exec_ends : (s : Stmt) (run : Run) (out : List ℕ) (w : World) → Ends w (exec u s run out w)
+    exec_ends (EmitRaw t) run out w = ends_use w (tick w) run out _ (tick_gives w) (λ _ w1. ends_here w1 w1 run (say run t out) (kept_same w1))
+    exec_ends (EmitExpr e) run out w = ends_use w (eval u run e w) run out _ (eval_gives run e w) (λ v w1. emit_ends run out v w1)
+    exec_ends (If' c _ body other) run out w =
+        ends_use w (eval u run c w) run out _ (eval_gives run c w) (λ v w1.
+        ends_use w1 (tick w1) run out _ (tick_gives w1) (λ _ w2.
+        ends_use w2 (truth u.host v w2) run out _ (answered_gives _ w2) (λ b w3.
+        choose_ends w3 b _ _ (behind_first_ends other run w3 _ (execs_end body run out w3)) (else_ends other run out w3))))
+    exec_ends (Block' b _ body) run out w = ends_use w (tick w) run out _ (tick_gives w) (λ _ w1. tag_ends run b out w1)
+
+    pub execs_end : {n : _} → (ss : Row_of-Stmt n) (run : Run) (out : List ℕ) (w : World) → Ends w (execs u ss run out w)
+    execs_end no_statement run out w = ends_here w w run out (kept_same w)
+    execs_end (statement s ss) run out w = ends_do w run (exec u s run out w) _ (exec_ends s run out w) (λ run1 out1 w1. execs_end ss run1 out1 w1)
+
+    else_ends : (other : Otherwise) (run : Run) (out : List ℕ) (w : World) → Ends w (exec_else u other run out w)
+    else_ends no_else run out w = ends_here w w run out (kept_same w)
+    else_ends (otherwise _ body) run out w = execs_end body run out w
+
+at_end_ends : (w : World) (e : Ending) (parent : Option TemplateId) (out : List ℕ) (w1 : World) → EndsBy w e w1 → Ends w (at_end e (record { ending = e; parent = parent; text = out; world = w1 }))
+unfolding Ends
+at_end_ends w done parent out w1 h = h
+at_end_ends w leave parent out w1 h = h
+at_end_ends w next parent out w1 h = h
+at_end_ends w (fault chain) parent out w1 h = tt
+
+pub ends_as : (w : World) (o : Outcome) → Ends w o → EndsBy w o.ending o.world
+unfolding Ends
+ends_as w o h = h
+
+-- What nests keeps the scopes too.
+pub nests_end : (host : Host) (trees : Trees) (n : ℕ) (k : Callee) (heard : Bool) (out : List ℕ) (w : World) → Ends w (nests_of host trees n k heard out w)
+nests_end host trees zero k heard out w = ends_fault w w (new_run heard w) out (InvalidOperation ∷ [])
+nests_end host trees (suc n) (whole s) heard out w =
+    let u : Under = record { host = host; nests = nests_of host trees n } in
+    let o = execs u (trees s).row (new_run heard w) out w in
+    at_end_ends w o.ending o.parent o.text o.world (ends_as w o (execs_end u (nests_end host trees n) (trees s).row (new_run heard w) out w))

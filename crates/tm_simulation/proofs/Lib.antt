@@ -1,4 +1,5 @@
 pub mod Place
 pub mod Keeps
 pub mod Follow
+pub mod Forms
 pub mod Simulation

@@ -1,103 +1,429 @@
--- The code of a tree reaches the end that the tree means.
-use Rattle.std.proofs.Common.{◌≡◌, ℕ, ◌+◌, List, [], ◌∷◌, ◌++◌, length, None, true, refl, ◌∙◌, ap, subst, arith, nat_eq}
-use Rattle.std.specs.Prelude.{slice_get, ◌&&◌, if◌then◌else◌}
-use Rattle.std.proofs.lemmas.Option.{slice_get_past}
-use Rattle.std.proofs.lemmas.Bool.{eq-eqb}
+-- The code of trees comes to what the trees mean.
+use Rattle.std.proofs.Common.{◌≡◌, ℕ, zero, suc, ◌+◌, ◌<◌, ◌≤◌, ◌⊎◌, inl, inr, List, [], ◌∷◌, ◌++◌, length, Option, Some, None, Bool, true, false, refl, sym, ap, ◌∙◌, subst, arith, length-append, eq-eqb}
+use Rattle.std.specs.Prelude.{slice_get, ◌&&◌, nat_eq}
 use Rattle.std.proofs.lemmas.List.{append-nil}
+use Rattle.std.proofs.lemmas.Option.{slice_get_past}
 use Rattle.tm_values.specs.Val.{Val}
-use Rattle.tm_compiler.specs.Tree.{Ex, name, St, raw, emit, Sts, no_sts, st}
-use Rattle.tm_compiler.specs.Code.{Ins, EmitRaw, Lookup, Emit, ex_code, ex_size, size, sizes, code, codes}
-use Rattle.tm_meaning.specs.Texts.{put_in, put_out}
-use Rattle.tm_meaning.specs.World.{World, Host, tick, emitted}
-use Rattle.tm_meaning.specs.Machine.{Config, Frame, Final, Finished, Failed, Stuck, Over, stuck}
-use Rattle.tm_meaning.specs.Steps.{act}
-use Rattle.tm_meaning.specs.Meaning.{Run, Outcome, Done, Fault, Nests, say, ev, ex, exs, heard}
-use Rattle.tm_meaning.specs.Runs.{Reaches, over, start, final}
+use Rattle.tm_syntax.specs.declared.tree.UnaryOperator.{UnaryOperator}
+use Rattle.tm_syntax.specs.declared.tree.UnaryOperator.TheVariants as unaries
+use Rattle.tm_syntax.specs.declared.tree.BinaryOperator.{BinaryOperator}
+use Rattle.tm_syntax.specs.declared.tree.BinaryOperator.TheVariants as binaries
+use Rattle.tm_syntax.specs.declared.tree.Expr.{Expr, Var, Const, Call', Row_of-Argument, end_of-Argument as no_argument, more_of-Argument as argument, Row_of-Step, end_of-Step as no_step, more_of-Step as step_and}
+use Rattle.tm_syntax.specs.declared.tree.Argument.{Argument}
+use Rattle.tm_syntax.specs.declared.tree.Step.{Step, Attribute}
+use Rattle.tm_syntax.specs.declared.tree.Stmt.{Stmt, EmitRaw, EmitExpr, If', Block', Row_of-Stmt, end_of-Stmt as no_statement, more_of-Stmt as statement, Held-Stmt-If-2 as Otherwise, None' as no_else, Some' as otherwise}
+use Rattle.tm_syntax.specs.declared.instruction.Instruction.{Instruction}
+use Rattle.tm_syntax.specs.declared.instruction.Instruction.TheVariants as i
+use Rattle.tm_syntax.specs.Forms.{unary, chained, plain, binary, and_then, or_else}
+use Rattle.tm_syntax.specs.Code.{expr_code, argument_code, arguments_code, step_code, steps_code, count, unary_code, binary_code, statement_code, statements_code, otherwise_code, jump_over}
+use Rattle.tm_meaning.specs.World.{choose, World, Host, Res, Good, Bad, bind, tick, depth, emitted, looked_up}
+use Rattle.tm_meaning.specs.Calls.{Callee, whole, Call, Asked, has, refused, runs, enter_block, call_named}
+use Rattle.tm_meaning.specs.Tree.{Trees, Body}
+use Rattle.tm_meaning.specs.Meaning.{Run, Outcome, Ending, done, leave, next, fault, Nests, Under, so_far, say, use_it, then_do, value_of, in_place_of, block_tag, truth, applied_unary, applied, not_of, equal_of, attribute, audible as heard_here, none_waits, eval, eval_argument, eval_arguments, eval_step, eval_steps, emit, behind_first, exec, execs, exec_else, new_run, at_end, stream_run, nests_of, rendered}
+use Rattle.tm_meaning.specs.Machine.{Activation, Config, Finished, Failed, Stuck, Next, More, Over, Program, after, goes, taken, on_taken, asked, asked_in_place, base_of, start, run_from, stuck, audible}
+use Rattle.tm_meaning.specs.Steps.{act, step, closed, finish, Final, final, Leads, over}
+use Rattle.tm_meaning.specs.Compiled.{IsCompiled, code_of}
 use Rattle.tm_meaning.proofs.Ends.{one_end}
-use Rattle.tm_simulation.specs.Reached.{final_of}
-use Rattle.tm_simulation.proofs.Place.{HasAt, has_front, has_back, has_whole, ex_length, length-code, length-codes}
-use Rattle.tm_simulation.proofs.Follow.{Go, Follows, Ends, bind_then, use_then, at, lands_after, lands_more, lands_put, do_kept, ends_as, put_in-nil, put_out-nil, length-put_in}
-use Rattle.tm_simulation.proofs.Keeps.{ex_ends}
+use Rattle.tm_simulation.specs.Reached.{final_by, final_of, Renders}
+use Rattle.tm_simulation.proofs.Place.{HasAt, has_front, has_behind, has_whole}
+use Rattle.tm_simulation.proofs.Keeps.{Kept, kept_depth, kept_same, Gives, EndsBy as EndsKept, Ends as KeptEnds, ends_as, tick_gives, answered_gives, Asks, block_asks, named_asks, eval_gives, argument_gives, arguments_give, step_gives, steps_give, unary_gives, binary_gives, looked_up_gives, exec_ends, execs_end, nests_end}
+use Rattle.tm_simulation.proofs.Follow.{Bed, air, inside, captures_of, told_by, Spot, told, cfg, later, Follows, Then, Ends, whole_of, follows_map, bind_then, use_then, so_far_then, fault_then, do_then, ends_map, Go, silent, at, after_then, move, pushes, choose_then, choose_ends}
+use Rattle.tm_simulation.proofs.Forms.{Fits, audible_is, writes_then, end_by, end_of, Entered, call_in_place, call_as_value}
+use Rattle.tm_meaning.specs.declared.stream.TemplateId.{TemplateId}
+use Rattle.tm_meaning.specs.declared.stream.StreamId.{StreamId}
+use Rattle.tm_meaning.specs.declared.base.Base.{Base}
 
--- a run that is heard adds the text
-say_heard : (run : Run) (t out : List ℕ) → run.heard ≡ true → say run t out ≡ out ++ t
-say_heard run t out e = ap (λ b. if b then out ++ t else out) e
+-- ---------------------------------------------------------------- operands
+-- values on a stack, the last on top
+abbrev pub onto : List Val → List Val → List Val
+onto [] stack = stack
+onto (v ∷ vs) stack = onto vs (v ∷ stack)
 
-module _ (host : Host) (nests : Nests) (f : Frame) (stream : List Ins) (captures : List (List ℕ)) (text : List ℕ) (o : Final) where
-  abbrev Goes : ℕ → List Val → List ℕ → World → Type 0
-  Goes pc operands out w = Go host f stream captures text o pc operands out w
+taken_onto : (vs : List Val) (m : ℕ) (acc stack : List Val) → taken (length vs + m) acc (onto vs stack) ≡ taken m (vs ++ acc) stack
+taken_onto [] m acc stack = let e : 0 + m ≡ m = omega arith in ap (λ k. taken k acc stack) e
+taken_onto (v ∷ vs) m acc stack =
+    let e : suc (length vs) + m ≡ length vs + suc m = omega arith in
+    ap (λ k. taken k acc (onto vs (v ∷ stack))) e ∙ taken_onto vs (suc m) acc (v ∷ stack)
 
-  -- the code of an expression, at any place, over any operands
-  ev_runs : (e : Ex) (pc : ℕ) (operands : List Val) (out : List ℕ) (w : World) → HasAt stream pc (ex_code e) →
-      Follows host f stream captures text o (ev host nests e w) out (λ v w'. Goes (pc + ex_size e) (v ∷ operands) out w') → Goes pc operands out w
-  ev_runs (name x) pc operands out w has h =
-      at host f stream captures text o (Lookup x) pc operands out w has.0
-      (lands_after host f stream captures text o (tick w) _ out (bind_then host f stream captures text o (tick w) _ out _ _ h (λ _ w' k.
-      lands_more host f stream captures text o _ out k)))
+taken_all : (vs : List Val) (n : ℕ) (stack : List Val) → length vs ≡ n → taken n [] (onto vs stack) ≡ Some (vs, stack)
+taken_all vs n stack e =
+    let d : n ≡ length vs + 0 = omega (arith, e) in
+    ap (λ k. taken k [] (onto vs stack)) d ∙ taken_onto vs 0 [] stack ∙ ap (λ l. Some (l, stack)) (append-nil vs)
 
-  -- the code of a statement
-  ex_runs : (s : St) (run : Run) (pc : ℕ) (operands : List Val) (out : List ℕ) (w : World) → run.heard ≡ true → HasAt stream pc (code pc s) →
-      Ends host f stream captures text o (ex host nests s run out w) (λ run1 out1 w'. Goes (pc + size s) operands out1 w') → Goes pc operands out w
-  ex_runs (raw t) run pc operands out w loud has h =
-      at host f stream captures text o (EmitRaw t) pc operands out w has.0
-      (lands_after host f stream captures text o (tick w) _ out (use_then host f stream captures text o (tick w) out _ _ _ h (λ _ w' k.
-      lands_put host f stream captures text o (pc + 1) operands out t w' (subst (λ x. Goes (pc + 1) operands x w') (say_heard run t out loud) k))))
-  ex_runs (emit e) run pc operands out w loud has h =
-      let back = has_back stream pc (ex_code e) _ (ex_size e) (ex_length e) has in
-      let place : pc + (ex_size e + 1) ≡ pc + ex_size e + 1 = omega arith in
-      ev_runs e pc operands out w (has_front stream pc (ex_code e) _ has) (use_then host f stream captures text o (ev host nests e w) out _ _ _ h (λ v w' h1.
-      at host f stream captures text o Emit (pc + ex_size e) (v ∷ operands) out w' back.0
-      (lands_after host f stream captures text o (tick w') _ out (use_then host f stream captures text o (tick w') out _ _ _ h1 (λ _ w'' h2.
-      lands_after host f stream captures text o (emitted v w'') _ out (use_then host f stream captures text o (emitted v w'') out _ _ _ h2 (λ t w''' h3.
-      lands_put host f stream captures text o (pc + ex_size e + 1) operands out t w'''
-      (subst (λ n. Goes n operands (out ++ t) w''') place (subst (λ x. Goes (pc + (ex_size e + 1)) operands x w''') (say_heard run t out loud) h3)))))))))
+-- as many values as arguments
+abbrev IsLong : ℕ → Res (List Val) → Type 0
+IsLong n (Good vs w) = length vs ≡ n
+IsLong n (Bad chain w) = Unit {0}
 
-  -- the code of statements, of a run that is heard
-  exs_runs : (ss : Sts) (run : Run) (pc : ℕ) (operands : List Val) (out : List ℕ) (w : World) → run.heard ≡ true → HasAt stream pc (codes pc ss) →
-      Ends host f stream captures text o (exs host nests ss run out w) (λ run1 out1 w'. Goes (pc + sizes ss) operands out1 w') → Goes pc operands out w
-  exs_runs no_sts run pc operands out w loud has h = let e : pc + 0 ≡ pc = omega arith in subst (λ n. Goes n operands out w) e h
-  exs_runs (st s ss) run pc operands out w loud has h =
-      let place : pc + (size s + sizes ss) ≡ pc + size s + sizes ss = omega arith in
-      let rest : HasAt stream (pc + size s) (codes (pc + size s) ss) = has_back stream pc (code pc s) _ (size s) (length-code s pc) has in
-      ex_runs s run pc operands out w loud (has_front stream pc (code pc s) _ has)
-      (do_kept host f stream captures text o run w (ex host nests s run out w) _ _ _ (ex_ends host nests s run out w) h (λ out1 w' k.
-      exs_runs ss run (pc + size s) operands out1 w' loud rest
-      (ends_as host f stream captures text o (exs host nests ss run out1 w') _ _ k (λ run2 out2 w'' g. subst (λ n. Goes n operands out2 w'') place g))))
+long_bind : {A : Type 0} (n : ℕ) (m : Res A) (g : A → World → Res (List Val)) → ((a : A) (w : World) → IsLong n (g a w)) → IsLong n (bind m g)
+long_bind n (Good a w) g k = k a w
+long_bind n (Bad chain w) g k = tt
 
--- behind the last instruction of a stream
-at_end : (host : Host) (ss : Sts) (captures : List (List ℕ)) (text : List ℕ) (m : Outcome) →
-    Ends host (record { floor = length captures }) (codes 0 ss) captures text (final_of captures text m) m
-    (λ run out w. Go host (record { floor = length captures }) (codes 0 ss) captures text (final_of captures text m) (0 + sizes ss) [] out w)
-at_end host ss captures text (Done run out w) =
-    let f : Frame = record { floor = length captures } in
-    let c : Config = record { run = record { stream = codes 0 ss; place = 0 + sizes ss; operands = [] }; captures = put_in captures out; world = w } in
-    let last : 0 + sizes ss ≡ length (codes 0 ss) = omega (arith, length-codes ss 0) in
-    let past : slice_get (codes 0 ss) (0 + sizes ss) ≡ None = slice_get_past (codes 0 ss) (0 + sizes ss) (omega arith) in
-    over
-    (ap (λ i. act host f i c) past
-    ∙ ap (λ b. if b && nat_eq (length (put_in captures out)) (length captures) then Over (Finished (put_in captures out) w) else stuck w) (eq-eqb (0 + sizes ss) (length (codes 0 ss)) last)
-    ∙ ap (λ b. if b then Over (Finished (put_in captures out) w) else stuck w) (eq-eqb (length (put_in captures out)) (length captures) (length-put_in captures out)))
-    refl
-at_end host ss captures text (Fault out w chain) = refl
+long_more : (v : Val) (n : ℕ) (m : Res (List Val)) → IsLong n m → IsLong (n + 1) (bind m (λ vs w. Good (v ∷ vs) w))
+long_more v n (Good vs w) e = omega (arith, e)
+long_more v n (Bad chain w) e = tt
 
--- The code of statements, from its start, over any captures and behind any text, reaches the end that they mean.
-pub reaches_meaning : (host : Host) (nests : Nests) (ss : Sts) (captures : List (List ℕ)) (text : List ℕ) (w : World) →
-    Reaches host (record { floor = length captures }) text (start (codes 0 ss) captures w) (final_of captures text (exs host nests ss heard [] w))
-reaches_meaning host nests ss captures text w =
-    let f : Frame = record { floor = length captures } in
-    let m = exs host nests ss heard [] w in
-    let o = final_of captures text m in
-    let go : Go host f (codes 0 ss) captures text o 0 [] [] w =
-    exs_runs host nests f (codes 0 ss) captures text o ss heard 0 [] [] w refl (has_whole (codes 0 ss)) (at_end host ss captures text m) in
-    subst (λ t. Reaches host f t (start (codes 0 ss) captures w) o) (ap (λ t. text ++ t) (put_out-nil captures) ∙ append-nil text)
-    (subst (λ cs. Reaches host f (text ++ put_out captures []) (start (codes 0 ss) cs w) o) (put_in-nil captures) go)
+arguments_long : {n : _} → (u : Under) (run : Run) (given : Row_of-Argument n) (w : World) → IsLong (count given) (eval_arguments u run given w)
+arguments_long u run no_argument w = refl
+arguments_long u run (argument a more) w =
+    long_bind _ (eval_argument u run a w) _ (λ v w1. long_more v (count more) (eval_arguments u run more w1) (arguments_long u run more w1))
 
--- what statements mean is no end of a stream that can't go on
-meant_goes_on : (captures : List (List ℕ)) (text got : List ℕ) (left : World) (m : Outcome) → final_of captures text m ≡ final got (Stuck left) → ⊥
-meant_goes_on captures text got left (Done run out w) e = let ends : Finished (put_in captures out) w ≡ Stuck left = ap (λ (o : Final). o.end) e in absurd (cc)
-meant_goes_on captures text got left (Fault out w chain) e = let ends : Failed w chain ≡ Stuck left = ap (λ (o : Final). o.end) e in absurd (cc)
+-- the same as `bind_then`, of as many values as were asked for
+bind_long : {B : Type 0} (r : Final) (t : List ℕ) (w : World) (n : ℕ) (m : Res (List Val)) (g : List Val → World → Res B) (K : B → World → Type 0) (L : List Val → World → Type 0) →
+    Gives w m → IsLong n m → Follows r t (bind m g) K → ((vs : List Val) (w1 : World) → Kept w w1 → length vs ≡ n → Follows r t (g vs w1) K → L vs w1) → Follows r t m L
+bind_long r t w n (Good vs w1) g K L e l h k = k vs w1 e l h
+bind_long r t w n (Bad chain w1) g K L e l h k = h
 
-pub never_stuck : (host : Host) (nests : Nests) (ss : Sts) (captures : List (List ℕ)) (text got : List ℕ) (w left : World) →
-    Reaches host (record { floor = length captures }) text (start (codes 0 ss) captures w) (final got (Stuck left)) → ⊥
-never_stuck host nests ss captures text got w left reached =
-    meant_goes_on captures text got left (exs host nests ss heard [] w) (one_end (reaches_meaning host nests ss captures text w) reached)
+-- the run of a meaning, with the parent that waits at a spot
+abbrev as_at : Run → Spot → Run
+as_at run s = record run { parent = s.parent }
+
+module _ (p : Program) (f : Base) (r : Final) (trees : Trees) (n : ℕ)
+    (entered : (k : Callee) (heard : Bool) (b : Bed) (out : List ℕ) (w : World) → p.host.limit + 1 ≤ n + depth w.scopes → depth w.scopes ≤ p.host.limit →
+    Entered p k heard b out w (nests_of p.host trees n k heard out w)) where
+  abbrev u : Under
+  u = record { host = p.host; nests = nests_of p.host trees n }
+
+  nest_ends : (k : Callee) (heard : Bool) (out : List ℕ) (w : World) → KeptEnds w (nests_of p.host trees n k heard out w)
+  nest_ends k heard out w = nests_end p.host trees n k heard out w
+
+  -- so many levels are left
+  abbrev Deep : World → Type 0
+  Deep w = p.host.limit + 1 ≤ suc n + depth w.scopes
+
+  deep_kept : {w w1 : World} → Kept w w1 → Deep w → Deep w1
+  deep_kept k d = omega (arith, kept_depth k, d)
+
+  -- what a call comes to, as a value
+  asked_then : (s : Spot) (pc : ℕ) (stack old : List Val) (w w1 : World) (q : Asked) → Asks p.host.limit w1 q → Deep w1 →
+      Follows r (told s) (value_of u q) (λ v w2. Go p f r s (pc + 1) (v ∷ stack) w2) → Leads p f (told s) (asked (cfg s pc old w) stack q) r
+  asked_then s pc stack old w w1 (has v w2) e d h = silent p f r (told s) _ h
+  asked_then s pc stack old w w1 (refused chain w2) e d h = over refl h
+  asked_then s pc stack old w w1 (runs c w2) e d h =
+      call_as_value p f r u c s pc old stack w w2 _ (entered c.callee true (inside true (told s) (captures_of s.bed s.out)) [] w2 (omega (arith, e.0, d)) e.1) h (λ x w3 g. g)
+
+  -- and in place
+  placed_then : (run : Run) (s : Spot) (pc : ℕ) (stack old : List Val) (w w1 : World) (q : Asked) (D L N : Then) → Fits f run s.bed → Asks p.host.limit w1 q → Deep w1 →
+      Ends r s.bed (in_place_of u (as_at run s) s.out q) D L N → ((out1 : List ℕ) (w2 : World) → D s.parent out1 w2 → Go p f r (later s s.parent out1) (pc + 1) stack w2) →
+      Leads p f (told s) (asked_in_place f (cfg s pc old w) stack q) r
+  placed_then run s pc stack old w w1 (has v w2) D L N fits e d h g = silent p f r (told s) _ (g s.out w2 (so_far_then r s.bed (as_at run s) s.out w2 D L N h))
+  placed_then run s pc stack old w w1 (refused chain w2) D L N fits e d h g = over refl (fault_then r s.bed (as_at run s) s.out w2 chain D L N h)
+  placed_then run s pc stack old w w1 (runs c w2) D L N fits e d h g =
+      call_in_place p f r u c (as_at run s) s pc old stack w w2 D L N refl fits (entered c.callee (heard_here (as_at run s)) s.bed s.out w2 (omega (arith, e.0, d)) e.1) h g
+
+  -- an operator behind its operands
+  unary_then : (op : UnaryOperator) (s : Spot) (pc : ℕ) (v : Val) (stack : List Val) (w : World) → slice_get (p.code s.run.stream) pc ≡ Some (unary_code op) →
+      Follows r (told s) (bind (tick w) (λ _ w1. applied_unary p.host op v w1)) (λ x w1. Go p f r s (pc + 1) (x ∷ stack) w1) → Go p f r s pc (v ∷ stack) w
+  unary_then unaries.Not s pc v stack w e h =
+      at p f r i.Not s pc (v ∷ stack) w e (after_then p f r (told s) (tick w) _ (bind_then r (told s) w (tick w) _ _ _ (tick_gives w) h (λ _ w1 k h1.
+      pushes p f r s pc stack (v ∷ stack) w1 (not_of p.host v w1) h1)))
+
+  binary_then : (op : BinaryOperator) (s : Spot) (pc : ℕ) (a b : Val) (stack : List Val) (w : World) → slice_get (p.code s.run.stream) pc ≡ Some (binary_code op) →
+      Follows r (told s) (bind (tick w) (λ _ w1. applied p.host op a b w1)) (λ x w1. Go p f r s (pc + 1) (x ∷ stack) w1) → Go p f r s pc (b ∷ a ∷ stack) w
+  binary_then binaries.Equal s pc a b stack w e h =
+      at p f r i.Eq s pc (b ∷ a ∷ stack) w e (after_then p f r (told s) (tick w) _ (bind_then r (told s) w (tick w) _ _ _ (tick_gives w) h (λ _ w1 k h1.
+      pushes p f r s pc stack (b ∷ a ∷ stack) w1 (equal_of p.host a b w1) h1)))
+
+  mutual
+    -- An expression's code pushes what it means, over any operands.
+    pub expr_runs : (e : Expr) (run : Run) (s : Spot) (pc : ℕ) (stack : List Val) (w : World) → Deep w → HasAt (p.code s.run.stream) pc (expr_code pc e) →
+        Follows r (told s) (eval u run e w) (λ v w1. Go p f r s (pc + length (expr_code pc e)) (v ∷ stack) w1) → Go p f r s pc stack w
+    expr_runs (Var x) run s pc stack w d is h =
+        at p f r (i.Lookup x) s pc stack w is.0 (after_then p f r (told s) (tick w) _ (bind_then r (told s) w (tick w) _ _ _ (tick_gives w) h (λ _ w1 k h1.
+        pushes p f r s pc stack stack w1 (looked_up p.host x w1) h1)))
+    expr_runs (Const v) run s pc stack w d is h =
+        at p f r (i.LoadConst v) s pc stack w is.0 (after_then p f r (told s) (tick w) _ (bind_then r (told s) w (tick w) _ _ _ (tick_gives w) h (λ _ w1 k h1.
+        silent p f r (told s) _ h1)))
+    expr_runs (Call' g _ given) run s pc stack w d is h =
+        let c = arguments_code pc given in
+        let behind = has_behind (p.code s.run.stream) pc c (i.CallFunction g (count given) ∷ []) is in
+        let place : pc + length c + 1 ≡ pc + length (c ++ i.CallFunction g (count given) ∷ []) = omega (arith, length-append c (i.CallFunction g (count given) ∷ [])) in
+        arguments_run given run s pc stack w d (has_front (p.code s.run.stream) pc c _ is)
+        (bind_long r (told s) w (count given) (eval_arguments u run given w) _ _ _ (arguments_give u nest_ends run given w) (arguments_long u run given w) h (λ vs w1 k l h1.
+        at p f r (i.CallFunction g (count given)) s (pc + length c) (onto vs stack) w1 behind.0
+        (after_then p f r (told s) (tick w1) _ (bind_then r (told s) w1 (tick w1) _ _ _ (tick_gives w1) h1 (λ _ w2 k2 h2.
+        subst (λ t. Leads p f (told s) (on_taken t w2 (λ xs rest. asked (cfg s (pc + length c) (onto vs stack) w2) rest (call_named p.host g xs w2))) r) (sym (taken_all vs (count given) stack l))
+        (asked_then s (pc + length c) stack (onto vs stack) w2 w2 (call_named p.host g vs w2) (named_asks p.host g vs w2) (deep_kept k2 (deep_kept k d))
+        (follows_map r (told s) (value_of u (call_named p.host g vs w2)) _ _ h2 (λ v w3 g3. move p f r s _ _ (v ∷ stack) w3 place g3))))))))
+    expr_runs (unary op a) run s pc stack w d is h =
+        let c = expr_code pc a in
+        let behind = has_behind (p.code s.run.stream) pc c (unary_code op ∷ []) is in
+        let place : pc + length c + 1 ≡ pc + length (c ++ unary_code op ∷ []) = omega (arith, length-append c (unary_code op ∷ [])) in
+        expr_runs a run s pc stack w d (has_front (p.code s.run.stream) pc c _ is)
+        (bind_then r (told s) w (eval u run a w) _ _ _ (eval_gives u nest_ends run a w) h (λ v w1 k h1.
+        unary_then op s (pc + length c) v stack w1 behind.0
+        (follows_map r (told s) (bind (tick w1) (λ _ w2. applied_unary p.host op v w2)) _ _ h1 (λ x w2 g. move p f r s _ _ (x ∷ stack) w2 place g))))
+    expr_runs (chained a _ ss) run s pc stack w d is h =
+        let c = expr_code pc a in
+        let rest = steps_code (pc + length c) ss in
+        let place : pc + length c + length rest ≡ pc + length (c ++ rest) = omega (arith, length-append c rest) in
+        expr_runs a run s pc stack w d (has_front (p.code s.run.stream) pc c rest is)
+        (bind_then r (told s) w (eval u run a w) _ _ _ (eval_gives u nest_ends run a w) h (λ v w1 k h1.
+        steps_run ss run s (pc + length c) v stack w1 (deep_kept k d) (has_behind (p.code s.run.stream) pc c rest is)
+        (follows_map r (told s) (eval_steps u run ss v w1) _ _ h1 (λ x w2 g. move p f r s _ _ (x ∷ stack) w2 place g))))
+
+    argument_runs : (a : Argument) (run : Run) (s : Spot) (pc : ℕ) (stack : List Val) (w : World) → Deep w → HasAt (p.code s.run.stream) pc (argument_code pc a) →
+        Follows r (told s) (eval_argument u run a w) (λ v w1. Go p f r s (pc + length (argument_code pc a)) (v ∷ stack) w1) → Go p f r s pc stack w
+    argument_runs (plain a) run s pc stack w d is h = expr_runs a run s pc stack w d is h
+
+    arguments_run : {m : _} → (given : Row_of-Argument m) (run : Run) (s : Spot) (pc : ℕ) (stack : List Val) (w : World) → Deep w → HasAt (p.code s.run.stream) pc (arguments_code pc given) →
+        Follows r (told s) (eval_arguments u run given w) (λ vs w1. Go p f r s (pc + length (arguments_code pc given)) (onto vs stack) w1) → Go p f r s pc stack w
+    arguments_run no_argument run s pc stack w d is h = move p f r s pc (pc + 0) stack w (omega arith) h
+    arguments_run (argument a more) run s pc stack w d is h =
+        let c = argument_code pc a in
+        let rest = arguments_code (pc + length c) more in
+        let place : pc + length c + length rest ≡ pc + length (c ++ rest) = omega (arith, length-append c rest) in
+        argument_runs a run s pc stack w d (has_front (p.code s.run.stream) pc c rest is)
+        (bind_then r (told s) w (eval_argument u run a w) _ _ _ (argument_gives u nest_ends run a w) h (λ v w1 k h1.
+        arguments_run more run s (pc + length c) (v ∷ stack) w1 (deep_kept k d) (has_behind (p.code s.run.stream) pc c rest is)
+        (bind_then r (told s) w1 (eval_arguments u run more w1) _ _ _ (arguments_give u nest_ends run more w1) h1 (λ vs w2 k2 g.
+        move p f r s _ _ (onto vs (v ∷ stack)) w2 place g))))
+
+    -- A step's code replaces the value on top.
+    step_runs : (x : Step) (run : Run) (s : Spot) (pc : ℕ) (v : Val) (stack : List Val) (w : World) → Deep w → HasAt (p.code s.run.stream) pc (step_code pc x) →
+        Follows r (told s) (eval_step u run x v w) (λ y w1. Go p f r s (pc + length (step_code pc x)) (y ∷ stack) w1) → Go p f r s pc (v ∷ stack) w
+    step_runs (Attribute x) run s pc v stack w d is h =
+        at p f r (i.GetAttr x) s pc (v ∷ stack) w is.0 (after_then p f r (told s) (tick w) _ (bind_then r (told s) w (tick w) _ _ _ (tick_gives w) h (λ _ w1 k h1.
+        pushes p f r s pc stack (v ∷ stack) w1 (attribute p.host v x w1) h1)))
+    step_runs (binary op a) run s pc v stack w d is h =
+        let c = expr_code pc a in
+        let behind = has_behind (p.code s.run.stream) pc c (binary_code op ∷ []) is in
+        let place : pc + length c + 1 ≡ pc + length (c ++ binary_code op ∷ []) = omega (arith, length-append c (binary_code op ∷ [])) in
+        expr_runs a run s pc (v ∷ stack) w d (has_front (p.code s.run.stream) pc c _ is)
+        (bind_then r (told s) w (eval u run a w) _ _ _ (eval_gives u nest_ends run a w) h (λ y w1 k h1.
+        binary_then op s (pc + length c) v y stack w1 behind.0
+        (follows_map r (told s) (bind (tick w1) (λ _ w2. applied p.host op v y w2)) _ _ h1 (λ x w2 g. move p f r s _ _ (x ∷ stack) w2 place g))))
+    step_runs (and_then a) run s pc v stack w d is h =
+        let c = expr_code (pc + 1) a in
+        let place : pc + 1 + length c ≡ pc + suc (length c) = omega arith in
+        at p f r (i.JumpIfFalseOrPop (pc + 1 + length c)) s pc (v ∷ stack) w is.0
+        (after_then p f r (told s) (tick w) _ (bind_then r (told s) w (tick w) _ _ _ (tick_gives w) h (λ _ w1 k h1.
+        after_then p f r (told s) (truth p.host v w1) _ (bind_then r (told s) w1 (truth p.host v w1) _ _ _ (answered_gives _ w1) h1 (λ b w2 k2 h2.
+        choose_then p f r b (eval u run a w2) (Good v w2) _ _ (told s) _ h2
+        (λ h3. silent p f r (told s) _ (expr_runs a run s (pc + 1) stack w2 (deep_kept k2 (deep_kept k d)) is.1
+        (follows_map r (told s) (eval u run a w2) _ _ h3 (λ y w3 g. move p f r s _ _ (y ∷ stack) w3 place g))))
+        (λ g. silent p f r (told s) _ (move p f r s _ _ (v ∷ stack) w2 place g)))))))
+    step_runs (or_else a) run s pc v stack w d is h =
+        let c = expr_code (pc + 1) a in
+        let place : pc + 1 + length c ≡ pc + suc (length c) = omega arith in
+        at p f r (i.JumpIfTrueOrPop (pc + 1 + length c)) s pc (v ∷ stack) w is.0
+        (after_then p f r (told s) (tick w) _ (bind_then r (told s) w (tick w) _ _ _ (tick_gives w) h (λ _ w1 k h1.
+        after_then p f r (told s) (truth p.host v w1) _ (bind_then r (told s) w1 (truth p.host v w1) _ _ _ (answered_gives _ w1) h1 (λ b w2 k2 h2.
+        choose_then p f r b (Good v w2) (eval u run a w2) _ _ (told s) _ h2
+        (λ g. silent p f r (told s) _ (move p f r s _ _ (v ∷ stack) w2 place g))
+        (λ h3. silent p f r (told s) _ (expr_runs a run s (pc + 1) stack w2 (deep_kept k2 (deep_kept k d)) is.1
+        (follows_map r (told s) (eval u run a w2) _ _ h3 (λ y w3 g. move p f r s _ _ (y ∷ stack) w3 place g)))))))))
+
+    steps_run : {m : _} → (ss : Row_of-Step m) (run : Run) (s : Spot) (pc : ℕ) (v : Val) (stack : List Val) (w : World) → Deep w → HasAt (p.code s.run.stream) pc (steps_code pc ss) →
+        Follows r (told s) (eval_steps u run ss v w) (λ y w1. Go p f r s (pc + length (steps_code pc ss)) (y ∷ stack) w1) → Go p f r s pc (v ∷ stack) w
+    steps_run no_step run s pc v stack w d is h = move p f r s pc (pc + 0) (v ∷ stack) w (omega arith) h
+    steps_run (step_and x ss) run s pc v stack w d is h =
+        let c = step_code pc x in
+        let rest = steps_code (pc + length c) ss in
+        let place : pc + length c + length rest ≡ pc + length (c ++ rest) = omega (arith, length-append c rest) in
+        step_runs x run s pc v stack w d (has_front (p.code s.run.stream) pc c rest is)
+        (bind_then r (told s) w (eval_step u run x v w) _ _ _ (step_gives u nest_ends run x v w) h (λ y w1 k h1.
+        steps_run ss run s (pc + length c) y stack w1 (deep_kept k d) (has_behind (p.code s.run.stream) pc c rest is)
+        (follows_map r (told s) (eval_steps u run ss y w1) _ _ h1 (λ z w2 g. move p f r s _ _ (z ∷ stack) w2 place g))))
+
+  -- what is emitted
+  emit_then : (run : Run) (s : Spot) (pc : ℕ) (v : Val) (stack : List Val) (w : World) (D L N : Then) → Fits f run s.bed → slice_get (p.code s.run.stream) pc ≡ Some i.Emit →
+      Ends r s.bed (emit u (as_at run s) s.out v w) D L N → ((out1 : List ℕ) (w1 : World) → D s.parent out1 w1 → Go p f r (later s s.parent out1) (pc + 1) stack w1) → Go p f r s pc (v ∷ stack) w
+  emit_then run s pc v stack w D L N fits e h g =
+      at p f r i.Emit s pc (v ∷ stack) w e (after_then p f r (told s) (tick w) _ (use_then r s.bed w (tick w) (as_at run s) s.out _ D L N _ (tick_gives w) h (λ _ w1 k h1.
+      after_then p f r (told s) (emitted p.host v w1) _ (use_then r s.bed w1 (emitted p.host v w1) (as_at run s) s.out _ D L N _ (answered_gives _ w1) h1 (λ t w2 k2 h2.
+      writes_then p f r (as_at run s) t s (pc + 1) stack w2 refl fits (g (say (as_at run s) t s.out) w2 (so_far_then r s.bed (as_at run s) (say (as_at run s) t s.out) w2 D L N h2)))))))
+
+  -- a block's tag: where it is heard the block is run in place, and else nothing is
+  tag_then : (run : Run) (s : Spot) (pc : ℕ) (b : List ℕ) (stack : List Val) (w : World) (D L N : Then) → Fits f run s.bed → Deep w → slice_get (p.code s.run.stream) pc ≡ Some (i.CallBlock b) →
+      Ends r s.bed (use_it (tick w) (as_at run s) s.out (λ _ w1. block_tag u (as_at run s) b s.out w1)) D L N →
+      ((out1 : List ℕ) (w1 : World) → D s.parent out1 w1 → Go p f r (later s s.parent out1) (pc + 1) stack w1) → Go p f r s pc stack w
+  tag_then run s pc b stack w D L N fits d e h g =
+      at p f r (i.CallBlock b) s pc stack w e (after_then p f r (told s) (tick w) _ (use_then r s.bed w (tick w) (as_at run s) s.out _ D L N _ (tick_gives w) h (λ _ w1 k h1.
+      subst (λ x. Leads p f (told s) (choose (none_waits s.parent && x) (λ _. asked_in_place f (cfg s pc stack w1) stack (enter_block p.host b w1)) (λ _. goes stack w1 (cfg s pc stack w1))) r)
+      (sym (audible_is f (as_at run s) s.run s.parent s.bed s.out pc stack w1 refl fits))
+      (choose_ends p f r (none_waits s.parent && heard_here (as_at run s)) (in_place_of u (as_at run s) s.out (enter_block p.host b w1)) (so_far (as_at run s) s.out w1) _ _ (told s) s.bed D L N h1
+      (λ h2. placed_then run s pc stack stack w1 w1 (enter_block p.host b w1) D L N fits (block_asks p.host b w1) (deep_kept k d) h2 g)
+      (λ h2. silent p f r (told s) _ (g s.out w1 (so_far_then r s.bed (as_at run s) s.out w1 D L N h2)))))))
+
+  -- The code of statements comes behind itself with what they mean, or to their fault.
+  abbrev StmtsRun : {m : _} → Row_of-Stmt m → Type 1
+  StmtsRun ss =
+      (run : Run) (s : Spot) (pc : ℕ) (stack : List Val) (w : World) (L N : Then) → Fits f run s.bed → Deep w → HasAt (p.code s.run.stream) pc (statements_code pc ss) →
+      Ends r s.bed (execs u ss (as_at run s) s.out w) (λ q out1 w1. Go p f r (later s q out1) (pc + length (statements_code pc ss)) stack w1) L N → Go p f r s pc stack w
+
+  -- the part that runs where the condition is true, and the jump over the other
+  first_runs : {m : _} → (body : Row_of-Stmt m) → StmtsRun body → (other : Otherwise) (run : Run) (s : Spot) (pc end : ℕ) (stack : List Val) (w : World) (L N : Then) → Fits f run s.bed → Deep w →
+      pc + length (statements_code pc body) + length (otherwise_code (pc + length (statements_code pc body)) other) ≡ end →
+      HasAt (p.code s.run.stream) pc (statements_code pc body ++ otherwise_code (pc + length (statements_code pc body)) other) →
+      Ends r s.bed (behind_first other (as_at run s) (execs u body (as_at run s) s.out w)) (λ q out1 w1. Go p f r (later s q out1) end stack w1) L N → Go p f r s pc stack w
+  first_runs body part no_else run s pc end stack w L N fits d place is h =
+      let bc = statements_code pc body in
+      let here : pc + length bc ≡ end = omega (arith, place) in
+      part run s pc stack w L N fits d (has_front (p.code s.run.stream) pc bc [] is)
+      (ends_map r s.bed (execs u body (as_at run s) s.out w) _ _ L N h (λ q out1 w1 g. move p f r (later s q out1) _ _ stack w1 here g))
+  first_runs body part (otherwise _ eb) run s pc end stack w L N fits d place is h =
+      let bc = statements_code pc body in
+      let ec = statements_code (pc + length bc + 1) eb in
+      let to = pc + length bc + 1 + length ec in
+      let jumped : to ≡ end = omega (arith, place) in
+      let behind = has_behind (p.code s.run.stream) pc bc (i.Jump to ∷ ec) is in
+      let D : Then = λ q out1 w1. Go p f r (later s q out1) end stack w1 in
+      part run s pc stack w L N fits d (has_front (p.code s.run.stream) pc bc (i.Jump to ∷ ec) is)
+      (do_then r s.bed (as_at run s) w (execs u body (as_at run s) s.out w) (λ run1 out1 w1. use_it (tick w1) run1 out1 (λ _ w2. so_far run1 out1 w2)) D L N _
+      (execs_end u nest_ends body (as_at run s) s.out w) h (λ q out1 w1 k h1.
+      at p f r (i.Jump to) (later s q out1) (pc + length bc) stack w1 behind.0 (after_then p f r (told (later s q out1)) (tick w1) _
+      (use_then r s.bed w1 (tick w1) (record run { parent = q }) out1 (λ _ w2. so_far (record run { parent = q }) out1 w2) D L N _ (tick_gives w1) h1 (λ _ w2 k2 h2.
+      silent p f r (told (later s q out1)) _ (move p f r (later s q out1) to end stack w2 jumped (so_far_then r s.bed (record run { parent = q }) out1 w2 D L N h2)))))))
+
+  mutual
+    -- A statement's code comes behind itself with what it means, or to its fault.
+    pub stmt_runs : (x : Stmt) (run : Run) (s : Spot) (pc : ℕ) (stack : List Val) (w : World) (L N : Then) → Fits f run s.bed → Deep w → HasAt (p.code s.run.stream) pc (statement_code pc x) →
+        Ends r s.bed (exec u x (as_at run s) s.out w) (λ q out1 w1. Go p f r (later s q out1) (pc + length (statement_code pc x)) stack w1) L N → Go p f r s pc stack w
+    stmt_runs (EmitRaw t) run s pc stack w L N fits d is h =
+        at p f r (i.EmitRaw t) s pc stack w is.0 (after_then p f r (told s) (tick w) _ (use_then r s.bed w (tick w) (as_at run s) s.out _ _ L N _ (tick_gives w) h (λ _ w1 k h1.
+        writes_then p f r (as_at run s) t s (pc + 1) stack w1 refl fits (so_far_then r s.bed (as_at run s) (say (as_at run s) t s.out) w1 _ L N h1))))
+    stmt_runs (EmitExpr e) run s pc stack w L N fits d is h =
+        let c = expr_code pc e in
+        let behind = has_behind (p.code s.run.stream) pc c (i.Emit ∷ []) is in
+        let place : pc + length c + 1 ≡ pc + length (c ++ i.Emit ∷ []) = omega (arith, length-append c (i.Emit ∷ [])) in
+        expr_runs e (as_at run s) s pc stack w d (has_front (p.code s.run.stream) pc c _ is)
+        (use_then r s.bed w (eval u (as_at run s) e w) (as_at run s) s.out _ _ L N _ (eval_gives u nest_ends (as_at run s) e w) h (λ v w1 k h1.
+        emit_then run s (pc + length c) v stack w1 _ L N fits behind.0 h1 (λ out1 w2 g. move p f r (later s s.parent out1) _ _ stack w2 place g)))
+    stmt_runs (If' c z body other) run s pc stack w L N fits d is h =
+        let test = expr_code pc c in
+        let pc1 = pc + length test in
+        let bc = statements_code (pc1 + 1) body in
+        let oc = otherwise_code (pc1 + 1 + length bc) other in
+        let to = pc1 + 1 + length bc + jump_over other in
+        let end = pc + length (statement_code pc (If' c z body other)) in
+        let place : pc1 + 1 + length bc + length oc ≡ end = omega (arith, length-append test (i.JumpIfFalse to ∷ (bc ++ oc)), length-append bc oc) in
+        let behind = has_behind (p.code s.run.stream) pc test (i.JumpIfFalse to ∷ (bc ++ oc)) is in
+        expr_runs c (as_at run s) s pc stack w d (has_front (p.code s.run.stream) pc test (i.JumpIfFalse to ∷ (bc ++ oc)) is)
+        (use_then r s.bed w (eval u (as_at run s) c w) (as_at run s) s.out _ _ L N _ (eval_gives u nest_ends (as_at run s) c w) h (λ v w1 k h1.
+        at p f r (i.JumpIfFalse to) s pc1 (v ∷ stack) w1 behind.0 (after_then p f r (told s) (tick w1) _
+        (use_then r s.bed w1 (tick w1) (as_at run s) s.out _ _ L N _ (tick_gives w1) h1 (λ _ w2 k2 h2.
+        after_then p f r (told s) (truth p.host v w2) _ (use_then r s.bed w2 (truth p.host v w2) (as_at run s) s.out _ _ L N _ (answered_gives _ w2) h2 (λ b w3 k3 h3.
+        let d3 = deep_kept k3 (deep_kept k2 (deep_kept k d)) in
+        choose_ends p f r b (behind_first other (as_at run s) (execs u body (as_at run s) s.out w3)) (exec_else u other (as_at run s) s.out w3) _ _ (told s) s.bed _ L N h3
+        (λ h4. silent p f r (told s) _ (first_runs body (stmts_run body) other run s (pc1 + 1) end stack w3 L N fits d3 place behind.1 h4))
+        (λ h4. silent p f r (told s) _ (second_runs body other run s (pc1 + 1) end stack w3 L N fits d3 place behind.1 h4)))))))))
+    stmt_runs (Block' b _ body) run s pc stack w L N fits d is h = tag_then run s pc b stack w _ L N fits d is.0 h (λ out1 w1 g. g)
+
+    pub stmts_run : {m : _} → (ss : Row_of-Stmt m) (run : Run) (s : Spot) (pc : ℕ) (stack : List Val) (w : World) (L N : Then) → Fits f run s.bed → Deep w → HasAt (p.code s.run.stream) pc (statements_code pc ss) →
+        Ends r s.bed (execs u ss (as_at run s) s.out w) (λ q out1 w1. Go p f r (later s q out1) (pc + length (statements_code pc ss)) stack w1) L N → Go p f r s pc stack w
+    stmts_run no_statement run s pc stack w L N fits d is h = move p f r s pc (pc + 0) stack w (omega arith) (so_far_then r s.bed (as_at run s) s.out w _ L N h)
+    stmts_run (statement x ss) run s pc stack w L N fits d is h =
+        let c = statement_code pc x in
+        let rest = statements_code (pc + length c) ss in
+        let place : pc + length c + length rest ≡ pc + length (c ++ rest) = omega (arith, length-append c rest) in
+        let end = pc + length (c ++ rest) in
+        let D : Then = λ q out1 w1. Go p f r (later s q out1) end stack w1 in
+        stmt_runs x run s pc stack w L N fits d (has_front (p.code s.run.stream) pc c rest is)
+        (do_then r s.bed (as_at run s) w (exec u x (as_at run s) s.out w) (λ run1 out1 w1. execs u ss run1 out1 w1) D L N _ (exec_ends u nest_ends x (as_at run s) s.out w) h (λ q out1 w1 k h1.
+        stmts_run ss run (later s q out1) (pc + length c) stack w1 L N fits (deep_kept k d) (has_behind (p.code s.run.stream) pc c rest is)
+        (ends_map r s.bed (execs u ss (record run { parent = q }) out1 w1) D _ L N h1 (λ q2 out2 w2 g. move p f r (later s q2 out2) _ end stack w2 place g))))
+
+    -- the other part
+    second_runs : {m : _} → (body : Row_of-Stmt m) (other : Otherwise) (run : Run) (s : Spot) (pc end : ℕ) (stack : List Val) (w : World) (L N : Then) → Fits f run s.bed → Deep w →
+        pc + length (statements_code pc body) + length (otherwise_code (pc + length (statements_code pc body)) other) ≡ end →
+        HasAt (p.code s.run.stream) pc (statements_code pc body ++ otherwise_code (pc + length (statements_code pc body)) other) →
+        Ends r s.bed (exec_else u other (as_at run s) s.out w) (λ q out1 w1. Go p f r (later s q out1) end stack w1) L N → Go p f r s (pc + length (statements_code pc body) + jump_over other) stack w
+    second_runs body no_else run s pc end stack w L N fits d place is h =
+        let here : pc + length (statements_code pc body) + 0 ≡ end = omega (arith, place) in
+        move p f r s _ _ stack w here (so_far_then r s.bed (as_at run s) s.out w _ L N h)
+    second_runs body (otherwise _ eb) run s pc end stack w L N fits d place is h =
+        let bc = statements_code pc body in
+        let ec = statements_code (pc + length bc + 1) eb in
+        let here : pc + length bc + 1 + length ec ≡ end = omega (arith, place) in
+        let behind = has_behind (p.code s.run.stream) pc bc (i.Jump (pc + length bc + 1 + length ec) ∷ ec) is in
+        stmts_run eb run s (pc + length bc + 1) stack w L N fits d behind.1
+        (ends_map r s.bed (execs u eb (as_at run s) s.out w) _ _ L N h (λ q out1 w1 g. move p f r (later s q out1) _ _ stack w1 here g))
+
+-- ---------------------------------------------------------------- streams
+fits_start : (b : Bed) (out : List ℕ) (heard : Bool) (w : World) → Fits (base_of heard (captures_of b out) w) (new_run heard w) b
+fits_start air out heard w = (refl, refl, refl)
+fits_start (inside x t ks) out heard w = inl (refl, refl, refl)
+
+same_captures : (b : Bed) (out out1 : List ℕ) → length (captures_of b out) ≡ length (captures_of b out1)
+same_captures air out out1 = refl
+same_captures (inside x t ks) out out1 = refl
+
+-- where a stream's run stands
+abbrev spot_of : StreamId → Bed → List ℕ → Spot
+spot_of id b out = record { run = run_from id (length (captures_of b out)); parent = None; bed = b; out = out }
+
+module _ (p : Program) (trees : Trees) (compiled : IsCompiled trees p) where
+  -- behind the last instruction all is closed, and the run is over
+  finishes : (id : StreamId) (heard : Bool) (b : Bed) (out : List ℕ) (w : World) (q : Option TemplateId) (x : List ℕ) (v : World) (r : Final) → Kept w v →
+      r ≡ final (told_by b x) (Finished (captures_of b x) v) →
+      Go p (base_of heard (captures_of b out) w) r (later (spot_of id b out) q x) (length (p.code id)) [] v
+  finishes id heard b out w q x v r k e =
+      let f = base_of heard (captures_of b out) w in
+      let s = later (spot_of id b out) q x in
+      let c = cfg s (length (p.code id)) [] v in
+      let past : slice_get (p.code id) (length (p.code id)) ≡ None = slice_get_past (p.code id) (length (p.code id)) (omega arith) in
+      let place : nat_eq (length (p.code id)) (length (p.code id)) ≡ true = eq-eqb (length (p.code id)) (length (p.code id)) refl in
+      let captures : nat_eq (length (captures_of b out)) (length (captures_of b x)) ≡ true = eq-eqb _ _ (same_captures b out x) in
+      let scopes : nat_eq (length w.scopes.frames) (length v.scopes.frames) ≡ true = eq-eqb (length w.scopes.frames) (length v.scopes.frames) (sym k.frames) in
+      let ends : finish (length (p.code id)) f c ≡ Over (Finished (captures_of b x) v) = rw (place, captures, scopes) refl in
+      over (ap (λ o. act p f o c) past ∙ ends) e
+
+  end_then : (id : StreamId) (heard : Bool) (b : Bed) (out : List ℕ) (w : World) (e : Ending) (q : Option TemplateId) (x : List ℕ) (v : World) → EndsKept w e v →
+      Ends (end_of b (at_end e (whole_of e q x v))) b (whole_of e q x v)
+      (λ q1 x1 v1. Go p (base_of heard (captures_of b out) w) (end_of b (at_end e (whole_of e q x v))) (later (spot_of id b out) q1 x1) (length (p.code id)) [] v1)
+      (λ q1 x1 v1. Unit {0}) (λ q1 x1 v1. Unit {0})
+  unfolding Ends
+  end_then id heard b out w done q x v k = finishes id heard b out w q x v _ k refl
+  end_then id heard b out w leave q x v k = tt
+  end_then id heard b out w next q x v k = tt
+  end_then id heard b out w (fault chain) q x v k = refl
+
+  -- A stream's run comes to what its tree means, where what nests does so a level below.
+  stream_runs : (n : ℕ) (id : StreamId) (heard : Bool) (b : Bed) (out : List ℕ) (w : World) → p.host.limit + 1 ≤ suc n + depth w.scopes →
+      ((k : Callee) (heard : Bool) (b : Bed) (out : List ℕ) (w : World) → p.host.limit + 1 ≤ n + depth w.scopes → depth w.scopes ≤ p.host.limit → Entered p k heard b out w (nests_of p.host trees n k heard out w)) →
+      Entered p (whole id) heard b out w (nests_of p.host trees (suc n) (whole id) heard out w)
+  stream_runs n id heard b out w deep below =
+      let u : Under = record { host = p.host; nests = nests_of p.host trees n } in
+      let o = execs u (trees id).row (new_run heard w) out w in
+      let r = end_of b (at_end o.ending o) in
+      let f = base_of heard (captures_of b out) w in
+      let s = spot_of id b out in
+      let code = statements_code 0 (trees id).row in
+      let stands : HasAt (p.code id) 0 code = subst (λ c. HasAt c 0 code) (sym (compiled id)) (has_whole code) in
+      let size : length (p.code id) ≡ 0 + length code = ap length (compiled id) ∙ omega arith in
+      let ends = end_then id heard b out w o.ending o.parent o.text o.world (ends_as w o (execs_end u (nests_end p.host trees n) (trees id).row (new_run heard w) out w)) in
+      let placed = ends_map r b o _ (λ q x v. Go p f r (later s q x) (0 + length code) [] v) (λ q x v. Unit {0}) (λ q x v. Unit {0}) ends (λ q x v g. move p f r (later s q x) _ _ [] v (sym size) g) in
+      stmts_run p f r trees n below (trees id).row (new_run heard w) s 0 [] w (λ q x v. Unit {0}) (λ q x v. Unit {0}) (fits_start b out heard w) deep stands placed
+
+  -- What nests comes to what it means. Level zero isn't reached, since a run stands one level deeper than the one that needs it, within the limit.
+  pub nests_run : (n : ℕ) (k : Callee) (heard : Bool) (b : Bed) (out : List ℕ) (w : World) → p.host.limit + 1 ≤ n + depth w.scopes → depth w.scopes ≤ p.host.limit →
+      Entered p k heard b out w (nests_of p.host trees n k heard out w)
+  nests_run zero k heard b out w deep within = absurd (omega (arith, deep, within))
+  nests_run (suc n) (whole id) heard b out w deep within = stream_runs n id heard b out w deep (nests_run n)
+
+  -- A render's run comes to what its trees mean, from any world, heard by the writer or by captures.
+  pub render_runs : (b : Bed) (w : World) → Entered p (whole w.stream) true b [] w (rendered p.host trees w)
+  render_runs b w =
+      let e : suc p.host.limit ≡ p.host.limit + 1 = omega arith in
+      let run : Entered p (whole w.stream) true b [] w (nests_of p.host trees (suc p.host.limit) (whole w.stream) true [] w) =
+      stream_runs p.host.limit w.stream true b [] w (omega arith) (nests_run p.host.limit) in
+      subst (λ n. Entered p (whole w.stream) true b [] w (nests_of p.host trees n (whole w.stream) true [] w)) e run
+
+-- ---------------------------------------------------------------- renders
+heard_out : (o : Outcome) → end_of air o ≡ final_of o
+heard_out o = elim o.ending as (λ e. end_by e air o.text o.world ≡ final_by e o.text o.world) [ done ↦ refl | leave ↦ refl | next ↦ refl | fault chain ↦ refl ]
+
+pub comes_to_meaning : (trees : Trees) (p : Program) (w : World) → IsCompiled trees p → Renders p w (final_of (rendered p.host trees w))
+comes_to_meaning trees p w compiled = subst (λ o. Renders p w o) (heard_out (rendered p.host trees w)) (render_runs p trees compiled air w)
+
+not_stuck_by : (e : Ending) (t got : List ℕ) (w left : World) → final_by e t w ≡ final got (Stuck left) → ⊥
+not_stuck_by done t got w left e = let ends : Finished [] w ≡ Stuck left = ap (λ (o : Final). o.end) e in absurd (cc)
+not_stuck_by leave t got w left e = let ends : Finished [] w ≡ Stuck left = ap (λ (o : Final). o.end) e in absurd (cc)
+not_stuck_by next t got w left e = let ends : Finished [] w ≡ Stuck left = ap (λ (o : Final). o.end) e in absurd (cc)
+not_stuck_by (fault chain) t got w left e = let ends : Failed chain w ≡ Stuck left = ap (λ (o : Final). o.end) e in absurd (cc)
+
+pub never_stuck : (trees : Trees) (p : Program) (w left : World) (got : List ℕ) → IsCompiled trees p → Renders p w (final got (Stuck left)) → ⊥
+never_stuck trees p w left got compiled reached =
+    let o = rendered p.host trees w in
+    not_stuck_by o.ending o.text got o.world left (one_end (comes_to_meaning trees p w compiled) reached)

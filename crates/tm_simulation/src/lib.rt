@@ -1,24 +1,23 @@
-//! Proofs: the machine follows the trees. The functions here are laws: they run nothing, and their contracts say what is proved.
+//! Proofs: the code of trees comes to what the trees mean. The functions here are laws: they run nothing, and their contracts say what is proved.
 #![tactic(auto)]
 
-ghost use Rattle.std.specs.Prelude.{ℕ, List, [], length};
-ghost use Rattle.tm_compiler.specs.Tree.{Sts};
-ghost use Rattle.tm_compiler.specs.Code.{codes};
-ghost use Rattle.tm_meaning.specs.World.{World, Host};
+ghost use Rattle.std.specs.Prelude.{ℕ, List};
+ghost use Rattle.tm_meaning.specs.World.{World};
+ghost use Rattle.tm_meaning.specs.Tree.{Trees};
 ghost use Rattle.tm_meaning.specs.Meaning.{rendered};
-ghost use Rattle.tm_meaning.specs.Machine.{Stuck};
-ghost use Rattle.tm_meaning.specs.Runs.{Reaches, start, final};
-ghost use Rattle.tm_simulation.specs.Reached.{final_of};
+ghost use Rattle.tm_meaning.specs.Machine.{Program, Stuck};
+ghost use Rattle.tm_meaning.specs.Steps.{final};
+ghost use Rattle.tm_meaning.specs.Compiled.{IsCompiled};
+ghost use Rattle.tm_simulation.specs.Reached.{final_of, Renders};
 
-/// The code of a tree, run from its start over any captures, reaches the end that the tree means: its text behind what the writer had got, its world, and its end.
-pub fn code_reaches_meaning()
-    ensures { (host : Host) (tree : Sts) (captures : List (List ℕ)) (text : List ℕ) (w : World) →
-        Reaches host (record { floor = length captures }) text (start (codes 0 tree) captures w) (final_of captures text (rendered host tree w)) }
+/// The code of trees, from any world, comes to what the trees mean: its text, its world, and its end.
+pub fn code_comes_to_its_meaning()
+    ensures { (trees : Trees) (p : Program) (w : World) → IsCompiled trees p →
+        Renders p w (final_of (rendered p.host trees w)) }
 {}
 
-/// The code of a tree, run from its start over any captures, is never stuck.
+/// The code of trees is never stuck.
 pub fn code_is_never_stuck()
-    ensures { (host : Host) (tree : Sts) (captures : List (List ℕ)) (text got : List ℕ)
-        (w left : World) → Reaches host (record { floor = length captures }) text
-        (start (codes 0 tree) captures w) (final got (Stuck left)) → ⊥ }
+    ensures { (trees : Trees) (p : Program) (w left : World) (got : List ℕ) → IsCompiled trees p →
+        Renders p w (final got (Stuck left)) → ⊥ }
 {}

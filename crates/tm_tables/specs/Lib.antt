@@ -1,3 +1,7 @@
+pub mod Found
+pub mod Places
 pub mod Scopes
+pub mod Sources
+pub mod Stated
 pub mod Templates
-pub mod Names
+pub mod Views

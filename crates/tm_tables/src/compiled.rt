@@ -1,18 +1,18 @@
 //! Compiled templates.
-ghost use Rattle.std.specs.Prelude.{◌≡◌, ◌⊎◌, [], ◌∷◌, map, IfOk, IfErr, MatchResult};
-ghost use Rattle.std.specs.Rc.{rc_str_bytes};
-ghost use Rattle.std.specs.Str.{chars};
-ghost use Rattle.tm_compiler.specs.Syntax.{default_syntax};
-ghost use Rattle.tm_compiler.specs.Tree.{Sts};
-ghost use Rattle.tm_compiler.specs.Code.{codes, ins_of};
-ghost use Rattle.tm_compiler.specs.Spells.{Spells};
-ghost use Rattle.tm_tables.specs.Templates.{IsTemplate, IsRefused};
+ghost use Rattle.std.specs.Prelude.{◌≡◌, IfOk, IfErr};
+ghost use Rattle.tm_syntax.specs.Blocks.{code_of};
+ghost use Rattle.tm_syntax.specs.Named.{find};
+ghost use Rattle.tm_scanner.specs.Syntax.{default_syntax};
+ghost use Rattle.tm_values.specs.Answer.{IsLent};
+ghost use Rattle.tm_meaning.specs.Tree.{part_of};
+ghost use Rattle.tm_tables.specs.Templates.{IsTemplate, IsRefused, body, block_codes, tree_of};
+ghost use Rattle.tm_tables.specs.Sources.{source_bytes};
 
+use sqlite_items::Items;
 use std::alloc::Global;
 use std::marker::Model;
-use std::rc::RcStr;
-use tm_compiler::{Instruction, Streams, SyntaxConfig, Tree, Verified, generate, parse};
-use tm_values::{Error, ErrorKind};
+use tm_compiler::{Instruction, Name, NameMap, Streams, SyntaxConfig, Tree, generate, parse};
+use tm_values::Error;
 
 /// How templates are compiled.
 #[derive(Drop)]
@@ -32,31 +32,51 @@ impl Default for TemplateConfig {
     }
 }
 
-/// A template that is compiled: its name, its source, the tree that the source spells, and the tree's code.
+/// A source: a text that the caller keeps, or one of its own.
+#[derive(Drop)]
+pub enum Source<'source> {
+    /// The caller's.
+    Lent(&'source str),
+    /// Its own.
+    Owned(String),
+}
+
+impl<'source> Source<'source> {
+    /// The text.
+    pub fn as_str(&self) -> &str
+        ensures { result.now ≡ source_bytes self.now }
+    {
+        match self {
+            Source::Lent(text) => text,
+            Source::Owned(text) => text.as_str(),
+        }
+    }
+}
+
+/// A template that is compiled: its name, its source, the tree that the source spells, and the tree's streams.
 #[derive(Drop)]
 pub struct CompiledTemplate<'source> {
-    name: RcStr,
-    source: &'source str,
+    name: Name,
+    source: Source<'source>,
     tree: Tree,
-    root: Verified,
+    streams: Streams,
 }
 
 impl<'source> Model for CompiledTemplate<'source> {
-    ghost use Rattle.std.specs.Prelude.{◌≡◌};
-    ghost use Rattle.std.specs.Rc.{rc_str_bytes};
-    ghost use Rattle.tm_compiler.specs.Tree.{tree_of};
-    ghost use Rattle.tm_compiler.specs.Code.{codes};
-    ghost use Rattle.tm_compiler.specs.Streams.{stream_of};
-    ghost use Rattle.tm_tables.specs.Templates.{Template, coded_Sts};
-    ghost use Rattle.std.specs.Coded.{codes as coding};
+    ghost use Rattle.std.specs.Coded.{codes};
+    ghost use Rattle.tm_syntax.specs.contracts.tree.Stmt as statement;
+    ghost use Rattle.tm_tables.specs.Templates.{Compiled};
 
-    ghost Value = { Template };
+    ghost Value = { Compiled };
 
-    ghost coded = { Prim.hlevel (coding, coded_Sts) };
+    ghost coded = { Prim.hlevel (codes, statement.the_row.coded) };
 
-    ghost view = { λ a. record { name = rc_str_bytes a.name; source = a.source.now; tree = tree_of a.tree } };
+    ghost use Rattle.tm_tables.specs.Sources.{source_bytes};
+    ghost use Rattle.tm_tables.specs.Templates.{AreStreams};
 
-    ghost invariant = { λ a. stream_of a.root ≡ codes 0 (tree_of a.tree) };
+    ghost view = { λ a. record { name = a.name; source = source_bytes a.source; tree = a.tree } };
+
+    ghost invariant = { λ a. AreStreams a.tree a.streams.root a.streams.blocks };
 }
 
 impl<'source> CompiledTemplate<'source> {
@@ -64,26 +84,28 @@ impl<'source> CompiledTemplate<'source> {
     pub fn new(
         alloc: Global,
         name: &str,
-        source: &'source str,
+        source: Source<'source>,
         config: &TemplateConfig,
     ) -> Result<CompiledTemplate<'source>, Error>
-        ensures compiled { IfOk result (λ t. IsTemplate config.now.syntax_config name.now source.now t) }
-        ensures refused { IfErr result (IsRefused config.now.syntax_config source.now) }
+        ensures compiled { IfOk result
+            (IsTemplate config.now.syntax_config name.now (source_bytes source.entry)) }
+        ensures refused { IfErr result
+            (IsRefused config.now.syntax_config (source_bytes source.entry)) }
     {
-        let tree = match parse(alloc, source, &config.syntax_config) {
+        let tree = match parse(alloc, source.as_str(), &config.syntax_config) {
             Ok(tree) => tree,
             Err(error) => return Err(error),
         };
-        let Streams { root } = match generate(alloc, &tree) {
+        let streams = match generate(alloc, &tree) {
             Ok(streams) => streams,
             Err(error) => return Err(error),
         };
-        let name = RcStr::from_str(alloc, name)?;
+        let name = Name::new(alloc, name)?;
         Ok(CompiledTemplate {
             name,
             source,
             tree,
-            root: Verified::unchecked(root),
+            streams,
         })
     }
 
@@ -94,24 +116,47 @@ impl<'source> CompiledTemplate<'source> {
         self.name.as_str()
     }
 
-    /// A second owner of the name. Fails by OutOfMemory alone.
-    pub fn shared_name(&self) -> Result<RcStr, Error>
-        ensures { MatchResult result (λ name. rc_str_bytes name ≡ self.now.name) (λ e. e ≡ ErrorKind.OutOfMemory ∷ []) }
-    {
-        Ok(self.name.clone()?)
-    }
-
     /// The source that was compiled.
-    pub fn source(&self) -> &'source str
+    pub fn source(&self) -> &str
         ensures { result.now ≡ self.now.source }
     {
-        self.source
+        self.source.as_str()
     }
 
     /// The code of its tree.
     pub fn instructions(&self) -> &[Instruction]
-        ensures { map ins_of result.now ≡ codes 0 self.now.tree }
+        ensures { result.now ≡ code_of (body self.now.tree) }
     {
-        self.root.instructions()
+        self.streams.root.as_slice()
+    }
+
+    /// The code of its blocks, by name.
+    pub fn blocks(&self) -> &NameMap<Items<Instruction>>
+        ensures { result.now ≡ block_codes self.now.tree }
+    {
+        &self.streams.blocks
+    }
+
+    /// The code of its block of a name, where there is one.
+    pub fn block(&self, name: &str) -> Option<&[Instruction]>
+        ensures { IsLent result (find name.now (block_codes self.now.tree)) }
+    {
+        match self.streams.blocks.get(name) {
+            Some(code) => Some(code.as_slice()),
+            None => None,
+        }
+    }
+
+    /// The code of a part: of the block of a name, or of all its tree. Of a block that isn't there, none.
+    pub fn stream(&self, block: &Option<Name>) -> &[Instruction]
+        ensures { result.now ≡ code_of (part_of (tree_of self.now) block.now) }
+    {
+        match block {
+            None => self.instructions(),
+            Some(name) => match self.block(name.as_str()) {
+                Some(code) => code,
+                None => &[],
+            },
+        }
     }
 }

@@ -1,29 +1,30 @@
 //! Scopes.
-ghost use Rattle.std.specs.Prelude.{◌≡◌, ◌≤◌, ◌<◌, ◌+◌, [], ◌∷◌, Some, None, length, OnOk, OnErr, IfErr, IfOk, MatchOption, MatchResult};
-ghost use Rattle.tm_meaning.specs.World.{plain, in_scope, in_frames, depth, push_scope, pop_scope};
-ghost use Rattle.std.specs.Prelude.{◌^◌, ◌-◌, min};
+ghost use Rattle.std.specs.Prelude.{◌≡◌, ◌<◌, ◌^◌, ◌-◌, [], ◌∷◌, true, false, length, min, nat_lt, OnOk, IfErr, MatchOption};
+ghost use Rattle.tm_values.specs.Answer.{OkOrOutOfMemory};
+ghost use Rattle.tm_meaning.specs.World.{plain, depth, without_first};
+ghost use Rattle.tm_tables.specs.Found.{IsFoundIn};
 ghost use Rattle.tm_tables.specs.Scopes.{one_scope, PushFails};
 
 use std::alloc::Global;
 use std::marker::Model;
-use tm_values::{Error, ErrorKind, Value};
+use tm_values::{Error, ErrorKind, Node, Records, Value, find_namespace};
 
-/// A scope: the value whose attributes are its names.
+/// A scope: the value whose keys are its names. It has no names of its own.
 #[derive(Drop)]
 pub struct Frame {
     context: Value,
 }
 
 impl Model for Frame {
-    ghost use Rattle.tm_meaning.specs.World.{Scope};
     ghost use Rattle.std.specs.Coded.{codes};
+    ghost use Rattle.tm_meaning.specs.World.{Scope, plain};
     ghost use Rattle.tm_values.specs.Code.{coded_Val};
 
     ghost Value = { Scope };
 
     ghost coded = { Prim.hlevel (codes, coded_Val) };
 
-    ghost view = { λ f. record { context = f.context } };
+    ghost view = { λ f. plain f.context };
 }
 
 impl Frame {
@@ -34,11 +35,21 @@ impl Frame {
         Frame { context }
     }
 
-    /// The value of a name: what the context value has at the text.
-    pub fn get(&self, name: &str) -> Option<&Value>
-        ensures { MatchOption result (in_scope name.now self.now ≡ None) (λ v. in_scope name.now self.now ≡ Some v.now) }
+    /// What the context value has at a name. InvalidOperation where it is a namespace whose record isn't there.
+    pub fn get<'a, R: Records>(
+        &'a self,
+        name: &str,
+        records: &'a R,
+    ) -> Result<Option<&'a Value>, Error>
+        ensures { IsFoundIn (R.records records.now) name.now (self.now ∷ []) result }
     {
-        self.context.member(name)
+        match &self.context.node {
+            Node::Namespace(state, index) => match find_namespace(records, *state, *index) {
+                Some(pairs) => Ok(pairs.member(name)),
+                None => Err(Error::from(ErrorKind::InvalidOperation)),
+            },
+            _ => Ok(self.context.member(name)),
+        }
     }
 }
 
@@ -46,61 +57,86 @@ impl Frame {
 #[derive(Drop)]
 pub struct Context {
     frames: Vec<Frame>,
-    outer_depth: usize,
+    outer: usize,
 }
 
 impl Model for Context {
+    ghost use Rattle.std.specs.Coded.{codes};
     ghost use Rattle.std.specs.Prelude.{reverse};
     ghost use Rattle.tm_meaning.specs.World.{Scopes};
-    ghost use Rattle.std.specs.Coded.{codes};
     ghost use Rattle.tm_values.specs.Code.{coded_Val};
 
     ghost Value = { Scopes };
 
     ghost coded = { Prim.hlevel (codes, coded_Val) };
 
-    ghost view = { λ c. record { frames = reverse c.frames.items; outer_depth = c.outer_depth } };
+    ghost view = { λ c. record { frames = reverse c.frames.items; outer = c.outer } };
 }
 
 impl Context {
     /// One scope, whose depth isn't tested. Fails by OutOfMemory alone.
     pub fn new_with_frame(alloc: Global, frame: Frame) -> Result<Context, Error>
-        ensures { MatchResult result (λ c. c ≡ one_scope frame) (λ e. e ≡ ErrorKind.OutOfMemory ∷ []) }
+        ensures { OkOrOutOfMemory result (λ c. c ≡ one_scope frame) }
     {
         let mut frames = Vec::new(alloc);
         frames.push(frame)?;
-        Ok(Context {
-            frames,
-            outer_depth: 0,
-        })
+        Ok(Context { frames, outer: 0 })
+    }
+
+    /// How many scopes there are.
+    pub fn height(&self) -> usize
+        ensures { result ≡ length self.now.frames }
+    {
+        self.frames.len()
+    }
+
+    /// The depth at which the outermost scope stands.
+    pub fn outer(&self) -> usize
+        ensures { result ≡ self.now.outer }
+    {
+        self.outer
     }
 
     /// How deep the scopes lie, at most the greatest usize.
     pub fn depth(&self) -> usize
         ensures { result ≡ min (depth self.now) (2 ^ 64 - 1) }
     {
-        self.frames.len().saturating_add(self.outer_depth)
+        self.frames.len().saturating_add(self.outer)
     }
 
-    /// The value of a name: an inner scope's before an outer one's.
-    pub fn find(&self, name: &str) -> Option<&Value>
-        ensures { MatchOption result (in_frames name.now self.now.frames ≡ None) (λ v. in_frames name.now self.now.frames ≡ Some v.now) }
+    /// Lets the outermost scope stand at another depth.
+    pub fn set_outer(&mut self, outer: usize)
+        ensures { self.new ≡ record self.old { outer = outer } }
+    {
+        self.outer = outer;
+    }
+
+    /// The value of a name: an inner scope's before an outer one's. InvalidOperation where a context value on the way is a namespace whose record isn't there.
+    pub fn find<'a, R: Records>(
+        &'a self,
+        name: &str,
+        records: &'a R,
+    ) -> Result<Option<&'a Value>, Error>
+        ensures { IsFoundIn (R.records records.now) name.now self.now.frames result }
     {
         let mut i = self.frames.len();
         while i > 0 {
             i -= 1;
             let frame = &self.frames[i];
-            if let Some(value) = frame.get(name) {
-                return Some(value);
+            match frame.get(name, records) {
+                Ok(None) => {}
+                found => return found,
             }
         }
-        None
+        Ok(None)
     }
 
     /// One scope more. InvalidOperation where it would lie deeper than the limit, OutOfMemory where there is no memory; then the scopes stay as they were.
     pub fn push_frame(&mut self, frame: Frame, limit: usize) -> Result<(), Error>
-        ensures ok { OnOk result (push_scope limit frame self.old ≡ Some self.new) }
-        ensures err { IfErr result (λ e. self.new ≡ self.old × PushFails e (push_scope limit frame self.old)) }
+        ensures fits { OnOk result (nat_lt (depth self.old) limit ≡ true) }
+        ensures ok { OnOk result (self.new ≡ record self.old { frames = frame ∷ self.old.frames }) }
+        ensures kind { IfErr result (PushFails (nat_lt (depth self.old) limit)) }
+        ensures err { IfErr result (λ _. self.new ≡ self.old) }
     {
         if self.depth() >= limit {
             return Err(Error::from(ErrorKind::InvalidOperation));
@@ -111,8 +147,9 @@ impl Context {
 
     /// Leaves the innermost scope, and gives it, where there is one.
     pub fn pop_frame(&mut self) -> Option<Frame>
-        ensures left { self.new ≡ pop_scope self.old }
-        ensures given { MatchOption result (self.old.frames ≡ []) (λ frame. self.old.frames ≡ frame ∷ self.new.frames) }
+        ensures left { self.new ≡ record self.old { frames = without_first self.old.frames } }
+        ensures given { MatchOption result (self.old.frames ≡ [])
+            (λ frame. self.old.frames ≡ frame ∷ self.new.frames) }
     {
         self.frames.pop()
     }

@@ -1,18 +1,58 @@
-//! What the machine asks of the environment.
-ghost use Rattle.std.specs.Prelude.{◌≡◌, Some, None, MatchOption};
-ghost use Rattle.tm_meaning.specs.World.{Host as Meaning};
+//! What the machine asks of the environment and the objects of the caller.
+ghost use Rattle.std.specs.Prelude.{◌≡◌, List, Some, None, MatchOption, IsSomeAnd, slice_get};
+ghost use Rattle.tm_syntax.specs.declared.instruction.Instruction.{Instruction as Code};
+ghost use Rattle.tm_meaning.specs.World.{Host as Meaning, template_at, card_at};
+ghost use Rattle.tm_meaning.specs.declared.stream.StreamId.{StreamId as Stream};
+ghost use Rattle.tm_meaning.specs.Calls.{is_required};
+ghost use Rattle.tm_tables.specs.Stated.{IsStated, stated_by};
 
-use tm_values::Value;
+use crate::callable::Answer;
+use crate::view::View;
+use std::alloc::Global;
+use tm_meaning::{StreamId, TemplateId};
+use tm_syntax::{Instruction, NameMap};
+use tm_values::{UndefinedBehavior, Value};
 
-/// What the environment gives to the machine. Its meaning is the host record of the definitions.
+/// What a render runs under: the environment, the rendered template and all objects of the caller, as one. Its meaning is the host record of the definitions.
 pub trait Host {
     ghost meaning: { Self → Meaning };
 
-    /// The global of a name, where there is one.
-    fn global(&self, name: &str) -> Option<&Value>
-        ensures { MatchOption result ((meaning self.now).globals name.now ≡ None) (λ v. (meaning self.now).globals name.now ≡ Some v.now) };
+    ghost code: { Self → Stream → List Code };
+
+    /// The globals.
+    fn globals(&self) -> &NameMap<Value>
+        ensures { result.now ≡ (meaning self.now).globals };
 
     /// How deep scopes may lie.
     fn recursion_limit(&self) -> usize
         ensures { result ≡ (meaning self.now).limit };
+
+    /// How undefined values behave.
+    fn undefined_behavior(&self) -> UndefinedBehavior
+        ensures { result ≡ (meaning self.now).undefined };
+
+    /// The name of a template.
+    fn template_name(&self, template: &TemplateId) -> &str
+        ensures { result.now ≡ (template_at (meaning self.now) template.now).name };
+
+    /// Whether a stream is a required block.
+    fn is_required(&self, stream: &StreamId) -> bool
+        ensures { result ≡ is_required (card_at (meaning self.now) stream.now) };
+
+    /// The instructions of a stream.
+    fn instructions(&self, stream: &StreamId) -> &[Instruction]
+        ensures { result.now ≡ code self.now stream.now };
+
+    /// What the function of a number answers; none where there is no such function.
+    fn call_function(
+        &self,
+        alloc: Global,
+        number: usize,
+        args: &[Value],
+        view: &View<'_>,
+    ) -> Option<Answer>
+        ensures { MatchOption (slice_get (meaning self.now).functions number) (result ≡ None)
+            (λ f. IsSomeAnd result (λ a. IsStated a (stated_by f args.now view.now))) };
+
+    ghost unformatted: { (host : Self) → (meaning host).formatter ≡ None };
 }

@@ -1,14 +1,22 @@
-//! Operands, scopes, what the environment gives to the machine, and compiled templates.
+//! Scopes, what objects of the caller see and answer, what the machine asks of the environment, and compiled templates.
 #![tactic(auto)]
 
+mod callable;
 mod compiled;
 mod context;
 mod host;
-mod stack;
+mod objects;
+mod plain;
 mod templates;
+#[cfg(test)]
+mod tests;
+mod view;
 
-pub use compiled::{CompiledTemplate, TemplateConfig};
+pub use callable::{Answer, Callable, Reply};
+pub use compiled::{CompiledTemplate, Source, TemplateConfig};
 pub use context::{Context, Frame};
 pub use host::Host;
-pub use stack::Stack;
+pub use objects::{Objects, Parties};
+pub use plain::{Answering, Plain};
 pub use templates::Templates;
+pub use view::View;

@@ -1,31 +1,34 @@
 //! Templates by name.
-ghost use Rattle.std.specs.Prelude.{◌≡◌, [], ◌∷◌, Some, None, OnOk, OnErr, IfErr, MatchOption};
-ghost use Rattle.tm_tables.specs.Templates.{put_template, find_template};
+ghost use Rattle.std.specs.Prelude.{◌≡◌, [], ◌∷◌, OnOk, OnErr, IfErr, MatchResult};
+ghost use Rattle.tm_syntax.specs.Named.{find, put};
+ghost use Rattle.tm_values.specs.Answer.{IsLent};
+ghost use Rattle.tm_tables.specs.Places.{IsPlaceOf, IsGapFor};
 
 use crate::compiled::CompiledTemplate;
 use std::alloc::Global;
-use std::collections::BTreeMap;
+use std::cmp::Ordering;
 use std::marker::Model;
-use std::rc::RcStr;
+use tm_compiler::Name;
 use tm_values::{Error, ErrorKind};
 
 /// The templates of an environment. A contract sees them as pairs of a name and a template, in the order of names.
 #[derive(Drop)]
 pub struct Templates<'source> {
-    by_name: BTreeMap<RcStr, CompiledTemplate<'source>>,
+    // No map of the library's: in one, a template can't be lent for less long than its source is.
+    entries: Vec<(Name, CompiledTemplate<'source>)>,
 }
 
 impl<'source> Model for Templates<'source> {
-    ghost use Rattle.tm_tables.specs.Templates.{Entries, coded_Sts};
     ghost use Rattle.std.specs.Coded.{codes};
+    ghost use Rattle.tm_syntax.specs.Named.{Named};
+    ghost use Rattle.tm_syntax.specs.contracts.tree.Stmt as statement;
+    ghost use Rattle.tm_tables.specs.Templates.{Compiled};
 
-    ghost Value = { Entries };
+    ghost Value = { Named Compiled };
 
-    ghost coded = { Prim.hlevel (codes, coded_Sts) };
+    ghost coded = { Prim.hlevel (codes, statement.the_row.coded) };
 
-    ghost use Rattle.tm_tables.specs.Names.{entries_of};
-
-    ghost view = { λ a. entries_of a.by_name.entries };
+    ghost view = { λ a. a.entries.items };
 }
 
 impl<'source> Templates<'source> {
@@ -34,25 +37,55 @@ impl<'source> Templates<'source> {
         ensures { result ≡ [] }
     {
         Templates {
-            by_name: BTreeMap::new(alloc),
+            entries: Vec::new(alloc),
         }
     }
 
     /// The template of a name, where there is one.
     pub fn get(&self, name: &str) -> Option<&CompiledTemplate<'source>>
-        ensures { MatchOption result (find_template name.now self.now ≡ None) (λ t. find_template name.now self.now ≡ Some t.now) }
+        ensures { IsLent result (find name.now self.now) }
     {
-        self.by_name.get(name)
+        let mut i = 0;
+        while i < self.entries.len() {
+            let entry = &self.entries[i];
+            if name.cmp(entry.0.as_str()) == Ordering::Equal {
+                return Some(&entry.1);
+            }
+            i += 1;
+        }
+        None
     }
 
-    /// Puts a template at its name, in place of one that is there. Where there is no memory, OutOfMemory, and all stays as it was.
-    pub fn insert(&mut self, template: CompiledTemplate<'source>) -> Result<(), Error>
-        ensures ok { OnOk result (self.new ≡ put_template template.entry.name template.entry self.old) }
+    /// Puts a template at a name, in place of one that is there. Where there is no memory, OutOfMemory, and all stays as it was.
+    pub fn insert(&mut self, name: Name, template: CompiledTemplate<'source>) -> Result<(), Error>
+        ensures ok { OnOk result (self.new ≡ put name template.entry self.old) }
         ensures kind { IfErr result (λ e. e ≡ ErrorKind.OutOfMemory ∷ []) }
         ensures err { OnErr result (self.new ≡ self.old) }
     {
-        let name = template.shared_name()?;
-        self.by_name.insert(name, template)?;
-        Ok(())
+        match self.place(name.as_str()) {
+            Ok(at) => {
+                self.entries[at].1 = template;
+                Ok(())
+            }
+            Err(at) => {
+                self.entries.insert(at, (name, template))?;
+                Ok(())
+            }
+        }
+    }
+
+    /// Where the template of a name stands, or where it would stand.
+    fn place(&self, name: &str) -> Result<usize, usize>
+        ensures { MatchResult result (IsPlaceOf name.now self.now) (IsGapFor name.now self.now) }
+    {
+        let mut i = 0;
+        while i < self.entries.len() {
+            match name.cmp(self.entries[i].0.as_str()) {
+                Ordering::Less => return Err(i),
+                Ordering::Equal => return Ok(i),
+                Ordering::Greater => i += 1,
+            }
+        }
+        Err(i)
     }
 }

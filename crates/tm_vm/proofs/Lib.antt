@@ -1,2 +1,4 @@
+pub mod Shift
 pub mod Loop
-pub mod Emission
+pub mod Blocks
+pub mod Performed

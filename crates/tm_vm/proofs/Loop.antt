@@ -1,50 +1,51 @@
 -- Where the loop stands in a run, and what it answers there.
-use Rattle.std.proofs.Common.{◌≡◌, ℕ, List, [], ◌++◌, take, zero, suc, Option, Result, Ok, refl, sym, ◌∙◌, ap, subst, append_assoc, arith}
+use Rattle.std.proofs.Common.{◌≡◌, ◌<◌, ◌≤◌, ◌+◌, ℕ, List, [], ◌∷◌, length, ◌++◌, take, zero, suc, Option, None, Result, Ok, Err, Bool, true, false, refl, sym, ◌∙◌, ap, subst, append_assoc, arith}
 use Rattle.std.specs.Io.KnownBytes.{Appends}
 use Rattle.std.proofs.lemmas.List.{append-nil}
-use Rattle.tm_meaning.specs.World.{Host, World, Kept}
-use Rattle.tm_meaning.specs.Machine.{Config, Frame, Final, End, Finished, Failed, Stuck, Next, More, Over, output}
-use Rattle.tm_meaning.specs.Steps.{step}
-use Rattle.tm_meaning.specs.Runs.{Leads, Reaches, over, more}
-use Rattle.tm_meaning.proofs.Ends.{text_grows, more_only}
+use Rattle.tm_meaning.specs.World.{World, Scope, depth, without_first}
+use Rattle.tm_meaning.specs.Calls.{whole, undone, of_block}
+use Rattle.tm_meaning.specs.Machine.{Activation, Capture, Config, End, Finished, Failed, Stuck, Next, More, Over, Nest, Program, Back, back_to, back_with, base_of, start}
+use Rattle.tm_meaning.specs.Steps.{step, Final, final, Leads, Reaches, over, more, nest}
+use Rattle.tm_meaning.specs.declared.base.Base.{Base}
+use Rattle.tm_meaning.proofs.Ends.{one_end, text_grows, more_only}
 use Rattle.tm_output.specs.Counts.{AppendsBeginning}
-use Rattle.tm_parts.proofs.Pieces.{appends_then, appends_nothing, appends_beginning, appends_then_beginning_longer}
+use Rattle.tm_parts.proofs.Pieces.{appends_then, appends_nothing, appends_beginning, appends_then_beginning, appends_then_beginning_longer}
 use Rattle.tm_parts.specs.declared.halt.Halt.{Halt}
 use Rattle.tm_parts.specs.declared.halt.Halt.TheVariants as halt
-use Rattle.tm_vm.specs.declared.machine.Flow.{Flow}
-use Rattle.tm_vm.specs.declared.machine.Flow.TheVariants as flow
-use Rattle.tm_vm.specs.Answers.{Did, HaltsAs, Comes, frame}
+use Rattle.tm_vm.specs.declared.flow.Entry.{Entry}
+use Rattle.tm_vm.specs.declared.flow.Flow.{Flow}
+use Rattle.tm_vm.specs.declared.flow.Flow.TheVariants as flow
+use Rattle.tm_vm.specs.Answers.{Did, Depths, Enters, entered, HaltsAs, Comes, Keeps, output}
+use Rattle.tm_vm.specs.Nested.{Went, EndsIn, Begins, behind, start_in, base_in}
+use Rattle.tm_vm.specs.State.{saved_of, put_back}
+use Rattle.tm_vm.specs.declared.flow.Saved.{Saved}
+use Rattle.tm_vm.proofs.Shift.{behind as after_text, Alone, alone, behind_text}
 
-pub kept_then : {a b c : World} → Kept a b → Kept b c → Kept a c
+pub kept_same : (w : World) → Keeps w w
+kept_same w = record { same_id = refl; same_fuel_set = refl; no_more_fuel = omega arith }
+
+pub kept_then : {a b c : World} → Keeps a b → Keeps b c → Keeps a c
 kept_then h k = record {
   same_id = k.same_id ∙ h.same_id;
-  same_name = k.same_name ∙ h.same_name;
   same_fuel_set = k.same_fuel_set ∙ h.same_fuel_set;
-  same_temps = k.same_temps ∙ h.same_temps;
-  same_depth = k.same_depth ∙ h.same_depth;
   no_more_fuel = omega (arith, h.no_more_fuel, k.no_more_fuel);
 }
 
--- a step under the frame of the run
-pub at_floor : (h : Host) (old new : Config) (told now : Option (List ℕ)) (r : Result Flow Halt) (floor floor' : ℕ) → floor ≡ floor' →
-    Did r told now new (step h (record { floor = floor }) old) → Did r told now new (step h (record { floor = floor' }) old)
-at_floor h old new told now r floor floor' e did = subst (λ n. Did r told now new (step h (record { floor = n }) old)) e did
-
 -- The writer has got a text since the run began at a, and the machine has come from a to c.
-pub record Stands (h : Host) (f : Frame) (a : Config) (told now : Option (List ℕ)) (c : Config) : Type 0 where
+pub record Stands (p : Program) (f : Base) (a : Config) (told now : Option (List ℕ)) (c : Config) : Type 0 where
   pub text : List ℕ
   pub appended : Appends told now text
-  pub onward : (o : Final) → Reaches h f text c o → Reaches h f [] a o
-  pub back : (o : Final) → Reaches h f [] a o → Reaches h f text c o
+  pub onward : (o : Final) → Reaches p f text c o → Reaches p f [] a o
+  pub back : (o : Final) → Reaches p f [] a o → Reaches p f text c o
 
-pub stands_first : (h : Host) (f : Frame) (a : Config) (told : Option (List ℕ)) → Stands h f a told told a
-stands_first h f a told = record { text = []; appended = appends_nothing told; onward = λ o r. r; back = λ o r. r }
+pub stands_first : (p : Program) (f : Base) (a : Config) (told : Option (List ℕ)) → Stands p f a told told a
+stands_first p f a told = record { text = []; appended = appends_nothing told; onward = λ o r. r; back = λ o r. r }
 
 -- one step more
-pub stands_next : {h : Host} {f : Frame} {a c : Config} {told now : Option (List ℕ)} (d : Config) (new : Option (List ℕ)) → Stands h f a told now c →
-    Did (Ok flow.GoOn) now new d (step h f c) → Stands h f a told new d
-stands_next {h = h} {f = f} {c = c} {told = told} {now = now} d new s did =
-    let t = output (step h f c) in
+pub stands_next : {p : Program} {f : Base} {a c : Config} {told now : Option (List ℕ)} (d : Config) (new : Option (List ℕ)) → Stands p f a told now c →
+    Did (Ok flow.GoOn) now new d (step p f c) → Stands p f a told new d
+stands_next {p = p} {f = f} {c = c} {told = told} {now = now} d new s did =
+    let t = output (step p f c) in
     record {
       text = s.text ++ t;
       appended = appends_then told now new s.text t s.appended did.1;
@@ -52,19 +53,76 @@ stands_next {h = h} {f = f} {c = c} {told = told} {now = now} d new s did =
       back = λ o r. more_only did.0 (s.back o r);
     }
 
--- what the writer has got at an answer that stopped the loop is a beginning of what it gets at the end
-output_first : {h : Host} {f : Frame} {t : List ℕ} {n : Next} {o : Final} → Leads h f t n o → (rest : List ℕ) × (o.text ≡ t ++ (output n ++ rest))
-output_first {h = h} {f = f} {t = t} {n = Over e} {o = o} l = text_grows l
-output_first {h = h} {f = f} {t = t} {n = More d c} {o = o} l =
-    let grown = text_grows (more_only refl l) in (grown.0, grown.1 ∙ append_assoc t d grown.0)
-output_first {h = h} {f = f} {t = t} {n = Rattle.tm_meaning.specs.Machine.Nest g c b} {o = o} l = text_grows l
+-- ---------------------------------------------------------------- nested runs
+-- what follows a nested run, of a run over it
+pub nest_only : {p : Program} {f g : Base} {t : List ℕ} {n : Next} {c : Config} {back : Back} {e o : Final} → n ≡ Nest g c back → Reaches p g [] c e
+    → Leads p f t n o → Leads p f (t ++ e.text) (back_to back e.end) o
+nest_only at run (over x y) = absurd cc
+nest_only at run (more x y) = absurd cc
+nest_only {p = p} {f = f} {g = g} {t = t} {c = c} {back = back} {e = e} {o = o} at run (nest {g = g2} {c = c2} {back = b2} {e = e2} x y z) =
+    let kg : g2 ≡ g = cc in
+    let kc : c2 ≡ c = cc in
+    let kb : b2 ≡ back = cc in
+    let y1 : Leads p g t (step p g c) e2 = subst (λ c. Leads p g t (step p g c) e2) kc (subst (λ g. Leads p g t (step p g c2) e2) kg y) in
+    let ke : e2 ≡ after_text t e = one_end y1 (behind_text c t run) in
+    subst (λ (e : Final). Leads p f e.text (back_to back e.end) o) ke (subst (λ b. Leads p f e2.text (back_to b e2.end) o) kb z)
 
-pub beginning_at : {h : Host} {f : Frame} {a c : Config} {told now : Option (List ℕ)} (new : Option (List ℕ)) → Stands h f a told now c →
-    AppendsBeginning now new (output (step h f c)) → (o : Final) → Reaches h f [] a o → AppendsBeginning told new o.text
-beginning_at {h = h} {f = f} {c = c} {told = told} {now = now} new s begun o r =
+-- what a nested run's end leads to, by what is put back behind it
+behind_is : (e : Entry) (b : World) (r : Activation) (end : End) → e.saved ≡ saved_of b →
+    back_to (record { run = r; call = record { callee = whole e.stream; undo = of_block b; wrap = e.wrap }; value = e.value }) end ≡ behind e r end
+behind_is e b r (Finished ks w) saved = sym (ap (λ x. back_with e.value r ks (put_back x w)) saved)
+behind_is e b r (Failed chain w) saved = refl
+behind_is e b r (Stuck w) saved = refl
+
+-- a nested run that is done, and what follows it
+pub stands_behind : {p : Program} {f : Base} {a c : Config} {told now : Option (List ℕ)} (entry : Entry) (mid d : Config) (at new : Option (List ℕ)) → Stands p f a told now c
+    → Did (Ok (flow.Enter entry)) now at mid (step p f c) → Went p entry mid d at new → Stands p f a told new d
+stands_behind {p = p} {f = f} {c = c} {told = told} {now = now} entry mid d at new s did ran =
+    let enters = did.0 in
+    let b = enters.0 in
+    let goes = behind_is entry b mid.run (Finished ran.captures ran.world) enters.1 ∙ ran.goes in
+    record {
+      text = s.text ++ ran.text;
+      appended = appends_then told now new s.text ran.text s.appended (subst (λ o. Appends o new ran.text) did.1 ran.appended);
+      onward = λ o l. s.onward o (nest enters.2 (behind_text (start_in entry mid) s.text ran.reaches) (more goes (subst (λ u. Leads p f u (step p f d) o) (sym (append-nil (s.text ++ ran.text))) l)));
+      back = λ o l. subst (λ u. Leads p f u (step p f d) o) (append-nil (s.text ++ ran.text)) (more_only goes (nest_only enters.2 ran.reaches (s.back o l)));
+    }
+
+-- ---------------------------------------------------------------- ends
+-- what the writer has got at an answer that stopped the loop is a beginning of what it gets at the end
+output_first : {p : Program} {f : Base} {t : List ℕ} {n : Next} {o : Final} → Leads p f t n o → (rest : List ℕ) × (o.text ≡ t ++ (output n ++ rest))
+output_first {p = p} {f = f} {t = t} {n = Over e} {o = o} l = text_grows l
+output_first {p = p} {f = f} {t = t} {n = More d c} {o = o} l =
+    let grown = text_grows (more_only refl l) in (grown.0, grown.1 ∙ append_assoc t d grown.0)
+output_first {p = p} {f = f} {t = t} {n = Nest g c b} {o = o} l = text_grows l
+
+pub beginning_at : {p : Program} {f : Base} {a c : Config} {told now : Option (List ℕ)} (new : Option (List ℕ)) → Stands p f a told now c →
+    AppendsBeginning now new (output (step p f c)) → Begins p f a told new
+beginning_at {p = p} {f = f} {c = c} {told = told} {now = now} new s begun = λ o r.
     let first = output_first (s.back o r) in
     subst (λ t. AppendsBeginning told new t) (sym first.1)
-    (appends_then_beginning_longer told now new s.text (output (step h f c)) first.0 s.appended begun)
+    (appends_then_beginning_longer told now new s.text (output (step p f c)) first.0 s.appended begun)
+
+-- the same, in a nested run
+begun_in : {p : Program} {f g : Base} {t : List ℕ} {n : Next} {c : Config} {back : Back} {o : Final} (told now new : Option (List ℕ)) → n ≡ Nest g c back → Appends told now t
+    → Begins p g c now new → Leads p f t n o → AppendsBeginning told new o.text
+begun_in told now new at first begins (over x y) = absurd cc
+begun_in told now new at first begins (more x y) = absurd cc
+begun_in {p = p} {f = f} {g = g} {t = t} {c = c} {o = o} told now new at first begins (nest {g = g2} {c = c2} {e = e2} x y z) =
+    let kg : g2 ≡ g = cc in
+    let kc : c2 ≡ c = cc in
+    let y1 : Leads p g t (step p g c) e2 = subst (λ c. Leads p g t (step p g c) e2) kc (subst (λ g. Leads p g t (step p g c2) e2) kg y) in
+    let inner = alone y1 in
+    let grown = text_grows z in
+    let same : o.text ≡ t ++ (inner.end.text ++ grown.0) =
+    grown.1 ∙ ap (λ u. u ++ grown.0) (ap (λ (x : Final). x.text) inner.same) ∙ append_assoc t inner.end.text grown.0 in
+    subst (λ u. AppendsBeginning told new u) (sym same)
+    (appends_then_beginning_longer told now new t inner.end.text grown.0 first (begins inner.end inner.leads))
+
+pub beginning_in : {p : Program} {f : Base} {a c : Config} {told now : Option (List ℕ)} (entry : Entry) (mid : Config) (at new : Option (List ℕ)) → Stands p f a told now c
+    → Did (Ok (flow.Enter entry)) now at mid (step p f c) → Begins p (base_in entry mid) (start_in entry mid) at new → Begins p f a told new
+beginning_in {p = p} {told = told} {now = now} entry mid at new s did begins = λ o r.
+    begun_in told now new did.0.2 s.appended (subst (λ x. Begins p (base_in entry mid) (start_in entry mid) x new) did.1 begins) (s.back o r)
 
 take-nil : (n : ℕ) → take {A = ℕ} n [] ≡ []
 take-nil zero = refl
@@ -76,27 +134,102 @@ nothing_more a b c t first begun =
     subst (λ w. Appends a c w) (append-nil t) (appends_then a b c t [] first (subst (λ w. Appends b c w) (take-nil begun.0) begun.1))
 
 -- the end of a run that halted
-pub ended_at : {h : Host} {a c : Config} {told now : Option (List ℕ)} (new : Option (List ℕ)) (why : Halt) (w : World) → Stands h (frame a.captures) a told now c →
-    HaltsAs why w (λ e. step h (frame a.captures) c ≡ Over e) → AppendsBeginning now new (output (step h (frame a.captures) c)) → HaltsAs why w (Comes h a told new)
-ended_at {h = h} {a = a} {c = c} {told = told} {now = now} new why w s ends begun = by_halt why ends
+pub ended_at : {p : Program} {f : Base} {a c : Config} {told now : Option (List ℕ)} (new : Option (List ℕ)) (why : Halt) (w : World) → Stands p f a told now c →
+    HaltsAs why w (λ e. step p f c ≡ Over e) → AppendsBeginning now new (output (step p f c)) → HaltsAs why w (Comes p f a told new)
+ended_at {p = p} {f = f} {a = a} {c = c} {told = told} {now = now} new why w s ends begun = by_halt why ends
   where
-    comes : (e : End) → step h (frame a.captures) c ≡ Over e → Comes h a told new e
+    comes : (e : End) → step p f c ≡ Over e → Comes p f a told new e
     comes e at =
         (s.text, nothing_more told now new s.text s.appended (subst (λ t. AppendsBeginning now new t) (ap output at) begun), s.onward _ (over at refl))
 
-    by_halt : (why : Halt) → HaltsAs why w (λ e. step h (frame a.captures) c ≡ Over e) → HaltsAs why w (Comes h a told new)
+    by_halt : (why : Halt) → HaltsAs why w (λ e. step p f c ≡ Over e) → HaltsAs why w (Comes p f a told new)
     by_halt halt.Writer ends = tt
     by_halt halt.Stuck ends = comes (Stuck w) ends
-    by_halt (halt.Fault chain) ends = λ own. comes (Failed w chain) (ends own)
+    by_halt (halt.Fault chain) ends = λ own. comes (Failed chain w) (ends own)
+
+-- the end of a run whose nested run halted
+pub ended_in : {p : Program} {f : Base} {a c : Config} {told now : Option (List ℕ)} (entry : Entry) (mid : Config) (at new : Option (List ℕ)) (why : Halt) (w : World) → Stands p f a told now c
+    → Did (Ok (flow.Enter entry)) now at mid (step p f c) → HaltsAs why w (EndsIn p entry mid at new) → HaltsAs why w (Comes p f a told new)
+ended_in {p = p} {f = f} {a = a} {c = c} {told = told} {now = now} entry mid at new why w s did ends = by_halt why ends
+  where
+    comes : (x : End) → EndsIn p entry mid at new x → Comes p f a told new x
+    comes x ended =
+        let run = ended.1 in
+        let enters = did.0 in (
+          s.text ++ run.0,
+          appends_then told now new s.text run.0 s.appended (subst (λ o. Appends o new run.0) did.1 run.1),
+          s.onward _ (nest enters.2 (behind_text (start_in entry mid) s.text run.2) (over (behind_is entry enters.0 mid.run ended.0 enters.1 ∙ ended.2) refl)),
+        )
+
+    by_halt : (why : Halt) → HaltsAs why w (EndsIn p entry mid at new) → HaltsAs why w (Comes p f a told new)
+    by_halt halt.Writer ends = tt
+    by_halt halt.Stuck ends = comes (Stuck w) ends
+    by_halt (halt.Fault chain) ends = λ own. comes (Failed chain w) (ends own)
 
 -- the end of a run that is done
-pub done_at : {h : Host} {a c : Config} {told now : Option (List ℕ)} (d : Config) (new : Option (List ℕ)) → Stands h (frame a.captures) a told now c →
-    Did (Ok flow.Done) now new d (step h (frame a.captures) c) → Comes h a told new (Finished d.captures d.world)
+pub done_at : {p : Program} {f : Base} {a c : Config} {told now : Option (List ℕ)} (d : Config) (new : Option (List ℕ)) → Stands p f a told now c →
+    Did (Ok flow.Done) now new d (step p f c) → Comes p f a told new (Finished d.captures d.world)
 done_at {told = told} d new s did = (s.text, subst (λ t. Appends told t s.text) (sym did.1) s.appended, s.onward _ (over did.0 refl))
 
 -- then the writer has got the whole text
-pub whole_at : {h : Host} {f : Frame} {a c : Config} {told now : Option (List ℕ)} (new : Option (List ℕ)) → Stands h f a told now c → new ≡ now →
-    (o : Final) → Reaches h f [] a o → AppendsBeginning told new o.text
-whole_at {told = told} {now = now} new s same o r =
+pub whole_at : {p : Program} {f : Base} {a c : Config} {told now : Option (List ℕ)} (new : Option (List ℕ)) → Stands p f a told now c → new ≡ now → Begins p f a told new
+whole_at {told = told} {now = now} new s same = λ o r.
     let grown = text_grows (s.back o r) in
     subst (λ b. AppendsBeginning told b o.text) (sym same) (subst (λ t. AppendsBeginning told now t) (sym grown.1) (appends_beginning told now s.text grown.0 s.appended))
+
+-- ---------------------------------------------------------------- for the loop
+-- a step over the run's own base
+pub at_base : (p : Program) (old new : Config) (told now : Option (List ℕ)) (r : Result Flow Halt) (f g : Base) → f ≡ g → Did r told now new (step p f old) → Did r told now new (step p g old)
+at_base p old new told now r f g e did = subst (λ x. Did r told now new (step p x old)) e did
+
+short : {A : Type 0} (xs : List A) (n : ℕ) → length xs ≡ n + 1 → length (without_first xs) ≡ n
+short [] n e = absurd (omega (arith, e))
+short (x ∷ xs) n e = omega (arith, e)
+
+put_back_depth : (w : World) (saved : Saved) (n outer : ℕ) → length w.scopes.frames ≡ n + 1 → saved.outer ≡ outer → depth (put_back saved w).scopes ≡ n + outer
+put_back_depth w saved n outer e same = ap (λ k. k + saved.outer) (short w.scopes.frames n e) ∙ ap (λ o. n + o) same
+
+abbrev world_in : Next → World
+world_in (More t c) = c.world
+world_in (Over (Finished ks w)) = w
+world_in (Over (Failed chain w)) = w
+world_in (Over (Stuck w)) = w
+world_in (Nest f c b) = c.world
+
+back_world : (value : Bool) (r : Activation) (ks : List Capture) (w : World) (d : Config) → back_with value r ks w ≡ More [] d → d.world ≡ w
+back_world false r ks w d e = sym (ap world_in e)
+back_world true r [] w d e = absurd cc
+back_world true r (k ∷ ks) w d e = sym (ap world_in e)
+
+-- behind a nested run the scopes lie as deep as before it
+pub depth_behind : {p : Program} {e : Entry} {mid d : Config} {told now : Option (List ℕ)} (limit : ℕ) (f : Base) (old : World) → Depths limit f (Ok (flow.Enter e)) old mid.world
+    → Went p e mid d told now → depth d.world.scopes ≡ depth old.scopes
+depth_behind {e = e} {mid = mid} {d = d} limit f old deep went =
+    ap (λ (w : World). depth w.scopes) (back_world e.value mid.run went.captures (put_back e.saved went.world) d went.goes)
+    ∙ put_back_depth went.world e.saved (length old.scopes.frames) old.scopes.outer (went.closed ∙ deep.0) deep.2
+
+-- ---------------------------------------------------------------- behind a nested run
+-- a run that was done, and what follows for the one that waited over the same captures and world
+pub went : (p : Program) (e : Entry) (a begun m d : Config) (told now : Option (List ℕ)) → begun ≡ start_in e a
+    → Comes p (base_of e.heard begun.captures begun.world) begun told now (Finished m.captures m.world)
+    → length m.world.scopes.frames ≡ length begun.world.scopes.frames
+    → behind e a.run (Finished m.captures m.world) ≡ More [] d → Went p e a d told now
+went p e a begun m d told now first comes same_height goes =
+    let from = subst (λ (c : Config). Comes p (base_of e.heard c.captures c.world) c told now (Finished m.captures m.world)) first comes in
+    record {
+      text = from.0;
+      captures = m.captures;
+      world = m.world;
+      appended = from.1;
+      reaches = from.2;
+      closed = same_height ∙ ap (λ (c : Config). length c.world.scopes.frames) first;
+      goes = goes;
+    }
+
+-- behind what was put back, the scopes lie at most one less deep
+pub put_back_deep : (old w : World) (saved : Saved) → saved.outer ≡ old.scopes.outer → length w.scopes.frames ≡ length old.scopes.frames → depth old.scopes ≤ depth (put_back saved w).scopes + 1
+put_back_deep old w saved outer same = by_frames w.scopes.frames same
+  where
+    by_frames : (xs : List Scope) → length xs ≡ length old.scopes.frames → depth old.scopes ≤ length (without_first xs) + saved.outer + 1
+    by_frames [] e = omega (arith, e, outer)
+    by_frames (x ∷ xs) e = omega (arith, e, outer)

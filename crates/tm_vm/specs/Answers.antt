@@ -1,92 +1,170 @@
 -- What the machine's functions answer, beside what the definitions say.
-use Rattle.std.specs.Prelude.{◌≡◌, ◌+◌, ◌<◌, ℕ, List, [], Option, Some, None, slice_get, true, false, length, Result, Ok, Err}
+use Rattle.std.specs.Prelude.{◌≡◌, ◌+◌, ◌<◌, ◌≤◌, ◌^◌, ◌-◌, ℕ, List, [], length, Option, Some, None, Result, Ok, Err, Bool, true, false}
 use Rattle.std.specs.Io.KnownBytes.{Appends}
 use Rattle.tm_values.specs.Chain.{ends_in_memory}
-use Rattle.tm_compiler.specs.Code.{Ins}
-use Rattle.tm_meaning.specs.World.{World, Host, Kept, Res, Good, Bad}
-use Rattle.tm_meaning.specs.Texts.{put_in, put_out}
-use Rattle.tm_meaning.specs.Machine.{Activation, Config, Frame, End, Finished, Failed, Stuck, Next, More, Over, output}
-use Rattle.tm_meaning.specs.Runs.{Reaches, final}
+use Rattle.tm_values.specs.declared.error.ErrorKind.{ErrorKind}
+use Rattle.tm_syntax.specs.Named.{put_each}
+use Rattle.tm_tables.specs.Stated.{is_for_memory}
+use Rattle.tm_syntax.specs.declared.instruction.Instruction.{Instruction}
+use Rattle.tm_meaning.specs.World.{World, Host, Res, Good, Bad, Stated, depth}
+use Rattle.tm_meaning.specs.Calls.{Asked, refused, replied, whole, of_block}
+use Rattle.tm_meaning.specs.Machine.{Activation, Capture, Config, End, Finished, Failed, Stuck, Next, More, Over, Nest, Program, base_of, start}
+use Rattle.tm_meaning.specs.Instructions.{jump_if_true_or_pop_of, jump_if_false_or_pop_of}
+use Rattle.tm_meaning.specs.Steps.{Reaches, final}
+use Rattle.tm_meaning.specs.declared.base.Base.{Base}
+use Rattle.tm_meaning.specs.declared.stream.StreamId.{StreamId}
 use Rattle.tm_output.specs.Counts.{AppendsBeginning}
 use Rattle.tm_parts.specs.Halts.{faults_after}
 use Rattle.tm_parts.specs.declared.halt.Halt.{Halt}
 use Rattle.tm_parts.specs.declared.halt.Halt.TheVariants as halt
-use Rattle.tm_vm.specs.declared.machine.Flow.{Flow}
-use Rattle.tm_vm.specs.declared.machine.Flow.TheVariants as flow
+use Rattle.tm_vm.specs.State.{saved_of}
+use Rattle.tm_vm.specs.declared.flow.Entry.{Entry}
+use Rattle.tm_vm.specs.declared.flow.Flow.{Flow}
+use Rattle.tm_vm.specs.declared.flow.Flow.TheVariants as flow
 
+-- the environment's meaning and the instructions of its streams
+abbrev pub program : Host → (StreamId → List Instruction) → Program
+program host code = record { host = host; code = code }
+
+-- ---------------------------------------------------------------- ends
 -- The end that a halt is has a property. A halt by the writer, or by want of memory, is no end of the definitions.
 abbrev pub HaltsAs : Halt → World → (End → Type 0) → Type 0
 HaltsAs halt.Writer w Holds = Unit {0}
 HaltsAs halt.Stuck w Holds = Holds (Stuck w)
-HaltsAs (halt.Fault chain) w Holds = ends_in_memory chain ≡ false → Holds (Failed w chain)
+HaltsAs (halt.Fault chain) w Holds = ends_in_memory chain ≡ false → Holds (Failed chain w)
 
 -- The end that a run answered has a property.
-abbrev pub EndsAs : Result (Unit {0}) Halt → List (List ℕ) → World → (End → Type 0) → Type 0
+abbrev pub EndsAs : Result (Unit {0}) Halt → List Capture → World → (End → Type 0) → Type 0
 EndsAs (Ok _) captures w Holds = Holds (Finished captures w)
 EndsAs (Err why) captures w Holds = HaltsAs why w Holds
 
--- A step was done, of which the writer got the text; or the run is over by it; or it halted, and the writer got a beginning.
+-- From here the machine comes to this end, by when the writer has got the text.
+abbrev pub Comes : Program → Base → Config → Option (List ℕ) → Option (List ℕ) → End → Type 0
+Comes p f c told now e = (text : List ℕ) × Appends told now text × Reaches p f [] c (final text e)
+
+-- ---------------------------------------------------------------- steps
+-- what a step writes itself
+abbrev pub output : Next → List ℕ
+output (More t c) = t
+output (Over e) = []
+output (Nest f c back) = []
+
+-- the run that is needed first, where the world before it was b, and the configuration is c
+abbrev pub entered : Entry → World → Config → Next
+entered e b c =
+    Nest (base_of e.heard c.captures c.world) (start (whole e.stream) c.captures c.world)
+    (record { run = c.run; call = record { callee = whole e.stream; undo = of_block b; wrap = e.wrap }; value = e.value })
+
+abbrev pub Enters : Entry → Config → Next → Type 0
+Enters e c n = (b : World) × (e.saved ≡ saved_of b) × (n ≡ entered e b c)
+
+-- A step was done, of which the writer got the text; or it first needs a run of its own; or the run is over by it; or it halted, and the writer got a beginning.
 abbrev pub Did : Result Flow Halt → Option (List ℕ) → Option (List ℕ) → Config → Next → Type 0
 Did (Ok flow.GoOn) told now c n = (n ≡ More (output n) c) × Appends told now (output n)
 Did (Ok flow.Done) told now c n = (n ≡ Over (Finished c.captures c.world)) × (now ≡ told)
+Did (Ok (flow.Enter e)) told now c n = Enters e c n × (now ≡ told)
 Did (Err why) told now c n = HaltsAs why c.world (λ e. n ≡ Over e) × AppendsBeginning told now (output n)
 
--- the place is of an instruction
-abbrev pub IsWithin : Activation → Type 0
-IsWithin run = run.place < length run.stream
+-- What every answer keeps, also where it is a halt.
+pub record Keeps (old new : World) : Type 0 where
+  pub same_id : new.id ≡ old.id
+  pub same_fuel_set : new.fuel_set ≡ old.fuel_set
+  pub no_more_fuel : new.fuel ≤ old.fuel
 
--- the instruction at the place
-abbrev pub StandsAt : Activation → Ins → Type 0
-StandsAt run i = slice_get run.stream run.place ≡ Some i
-
--- the place is behind the last instruction
-abbrev pub IsBehind : Activation → Type 0
-IsBehind run = (slice_get run.stream run.place ≡ None) × (run.place ≡ length run.stream)
-
--- Where it goes on, it does so at the next place of its stream.
-abbrev pub Goes : Result Flow Halt → Activation → Activation → Type 0
-Goes (Ok flow.GoOn) old new = IsWithin old × (new.stream ≡ old.stream) × (new.place ≡ old.place + 1)
-Goes _ old new = Unit {0}
+-- How deep the scopes lie behind a step: as before; or one deeper, within the limit, where a run of its own is needed; and a run that is over has closed what it opened.
+abbrev pub Depths : ℕ → Base → Result Flow Halt → World → World → Type 0
+Depths limit f (Ok flow.GoOn) old new = depth new.scopes ≡ depth old.scopes
+Depths limit f (Ok flow.Done) old new = (depth new.scopes ≡ depth old.scopes) × (f.scopes ≡ length new.scopes.frames)
+Depths limit f (Ok (flow.Enter e)) old new =
+    (length new.scopes.frames ≡ length old.scopes.frames + 1) × (new.scopes.outer ≡ old.scopes.outer) × (e.saved.outer ≡ old.scopes.outer) × (depth new.scopes ≤ limit)
+Depths limit f (Err why) old new = depth new.scopes ≡ depth old.scopes
 
 -- An instruction, or a step, did what its definition says: by its answer, with the writer that had got `told` and has got `now`, and whose count of faults was `faults` and is `count`.
-pub record Performs (does : Config → Next) (old new : Config) (told now : Option (List ℕ)) (faults count : ℕ) (result : Result Flow Halt) : Type 0 where
-  pub did : Did result told now new (does old)
+pub record Performs (limit : ℕ) (f : Base) (n : Next) (old new : Config) (told now : Option (List ℕ)) (faults count : ℕ) (result : Result Flow Halt) : Type 0 where
+  pub did : Did result told now new n
   pub counted : count ≡ faults_after result faults
-  pub kept : Kept old.world new.world
-  pub goes : Goes result old.run new.run
+  pub kept : Keeps old.world new.world
+  pub depths : Depths limit f result old.world new.world
+  pub same_stream : new.run.stream ≡ old.run.stream
 
--- The same of what writes nothing.
+-- a step is paid for
+abbrev pub Paid : Result Flow Halt → World → World → Type 0
+Paid (Ok flow.GoOn) old new = new.fuel < old.fuel
+Paid (Ok (flow.Enter e)) old new = new.fuel < old.fuel
+Paid _ old new = Unit {0}
+
+-- The same of an instruction that needs no run.
+abbrev pub Wrote : Result Flow Halt → Option (List ℕ) → Option (List ℕ) → Config → Next → Type 0
+Wrote (Ok flow.GoOn) told now c n = (n ≡ More (output n) c) × Appends told now (output n)
+Wrote (Ok flow.Done) told now c n = ⊥
+Wrote (Ok (flow.Enter e)) told now c n = ⊥
+Wrote (Err why) told now c n = HaltsAs why c.world (λ e. n ≡ Over e) × AppendsBeginning told now (output n)
+
+pub record Writes (n : Next) (old new : Config) (told now : Option (List ℕ)) (faults count : ℕ) (result : Result Flow Halt) : Type 0 where
+  pub did : Wrote result told now new n
+  pub counted : count ≡ faults_after result faults
+  pub kept : Keeps old.world new.world
+  pub same_depth : depth new.world.scopes ≡ depth old.world.scopes
+  pub same_stream : new.run.stream ≡ old.run.stream
+
+-- And of one that writes nothing.
 abbrev pub Quietly : Result Flow Halt → Config → Next → Type 0
 Quietly (Ok flow.GoOn) c n = n ≡ More [] c
-Quietly (Ok flow.Done) c n = n ≡ Over (Finished c.captures c.world)
+Quietly (Ok flow.Done) c n = ⊥
+Quietly (Ok (flow.Enter e)) c n = ⊥
 Quietly (Err halt.Writer) c n = ⊥
 Quietly (Err halt.Stuck) c n = n ≡ Over (Stuck c.world)
-Quietly (Err (halt.Fault chain)) c n = ends_in_memory chain ≡ false → n ≡ Over (Failed c.world chain)
+Quietly (Err (halt.Fault chain)) c n = ends_in_memory chain ≡ false → n ≡ Over (Failed chain c.world)
 
-pub record Silently (does : Config → Next) (old new : Config) (result : Result Flow Halt) : Type 0 where
-  pub did : Quietly result new (does old)
-  pub kept : Kept old.world new.world
-  pub goes : Goes result old.run new.run
+pub record Silently (n : Next) (old new : Config) (result : Result Flow Halt) : Type 0 where
+  pub did : Quietly result new n
+  pub kept : Keeps old.world new.world
+  pub same_depth : depth new.world.scopes ≡ depth old.world.scopes
+  pub same_stream : new.run.stream ≡ old.run.stream
 
--- The writer, or want of memory, made the halt.
-abbrev pub IsExcused : Halt → Type 0
-IsExcused halt.Writer = Unit {0}
-IsExcused halt.Stuck = ⊥
-IsExcused (halt.Fault chain) = ends_in_memory chain ≡ true
+-- And of one that may need a run of its own.
+abbrev pub Needed : Result Flow Halt → Config → Next → Type 0
+Needed (Ok flow.GoOn) c n = n ≡ More [] c
+Needed (Ok flow.Done) c n = ⊥
+Needed (Ok (flow.Enter e)) c n = Enters e c n
+Needed (Err halt.Writer) c n = ⊥
+Needed (Err halt.Stuck) c n = n ≡ Over (Stuck c.world)
+Needed (Err (halt.Fault chain)) c n = ends_in_memory chain ≡ false → n ≡ Over (Failed chain c.world)
 
--- A value was emitted as it means, into a capture or to the writer; or it halted by the writer or for want of memory, with a beginning; or it can't be emitted, and nothing was written.
-abbrev pub Emits : Result (Unit {0}) Halt → List (List ℕ) → List (List ℕ) → Option (List ℕ) → Option (List ℕ) → Res (List ℕ) → Type 0
-Emits (Ok _) captures new told now (Good text w) = (new ≡ put_in captures text) × Appends told now (put_out captures text)
-Emits (Ok _) captures new told now (Bad chain w) = ⊥
-Emits (Err why) captures new told now (Good text w) = IsExcused why × AppendsBeginning told now (put_out captures text)
-Emits (Err halt.Writer) captures new told now (Bad chain w) = ⊥
-Emits (Err halt.Stuck) captures new told now (Bad chain w) = ⊥
-Emits (Err (halt.Fault answer)) captures new told now (Bad chain w) = (ends_in_memory answer ≡ false → answer ≡ chain) × (now ≡ told)
+-- how deep the scopes lie behind an instruction
+abbrev pub Deepens : ℕ → Result Flow Halt → World → World → Type 0
+Deepens limit (Ok (flow.Enter e)) old new =
+    (length new.scopes.frames ≡ length old.scopes.frames + 1) × (new.scopes.outer ≡ old.scopes.outer) × (e.saved.outer ≡ old.scopes.outer) × (depth new.scopes ≤ limit)
+Deepens limit _ old new = depth new.scopes ≡ depth old.scopes
 
--- the frame of a run over these captures
-abbrev pub frame : List (List ℕ) → Frame
-frame captures = record { floor = length captures }
+pub record Needs (limit : ℕ) (n : Next) (old new : Config) (result : Result Flow Halt) : Type 0 where
+  pub did : Needed result new n
+  pub kept : Keeps old.world new.world
+  pub deepens : Deepens limit result old.world new.world
+  pub same_stream : new.run.stream ≡ old.run.stream
 
--- From here the machine comes to this end, by when the writer has got the text.
-abbrev pub Comes : Host → Config → Option (List ℕ) → Option (List ℕ) → End → Type 0
-Comes host c told now e = (text : List ℕ) × Appends told now text × Reaches host (frame c.captures) [] c (final text e)
+-- A run is over behind its last instruction, where it has closed what it opened, and else stuck.
+abbrev pub Finishes : Result Flow Halt → Base → Config → Next → Type 0
+Finishes (Ok flow.Done) f c n = (n ≡ Over (Finished c.captures c.world)) × (f.scopes ≡ length c.world.scopes.frames)
+Finishes (Err halt.Stuck) f c n = n ≡ Over (Stuck c.world)
+Finishes _ f c n = ⊥
+
+-- a place from which a run can go on
+abbrev pub CanGoOn : Activation → Type 0
+CanGoOn run = run.place < 2 ^ 64 - 1
+
+-- Goes on at a place where the topmost value has this truth, and leaves it there; else pops it.
+abbrev pub jump_or_pop_of : Host → Bool → ℕ → Config → Next
+jump_or_pop_of host true = jump_if_true_or_pop_of host
+jump_or_pop_of host false = jump_if_false_or_pop_of host
+
+-- ---------------------------------------------------------------- emission and calls
+-- A value can be emitted as this text, or it can't be.
+abbrev pub CanBeEmitted : Result (Unit {0}) (List ErrorKind) → Res (List ℕ) → List ℕ → World → Type 0
+CanBeEmitted (Ok _) emitted text w = emitted ≡ Good text w
+CanBeEmitted (Err chain) emitted text w = ends_in_memory chain ≡ false → emitted ≡ Bad chain w
+
+-- What a call comes to: what was answered, with its values kept; or the call is refused.
+abbrev pub Calls : Result Stated (List ErrorKind) → Asked → World → Type 0
+Calls (Ok answer) asked w = is_for_memory answer.reply ≡ false → asked ≡ replied answer.reply (record w { temps = put_each answer.temps w.temps })
+Calls (Err chain) asked w = ends_in_memory chain ≡ false → asked ≡ refused chain w

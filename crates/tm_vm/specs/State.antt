@@ -1,16 +1,67 @@
--- What a state's fields stand for.
-use Rattle.std.specs.Prelude.{ℕ, List, map, Option, Some, None, Bool, true, false}
-use Rattle.std.specs.Rc.{rc_str_bytes}
-use Rattle.std.specs.declared.rc.RcStr.{RcStr}
-use Rattle.std.specs.declared.alloc.Global.{Global}
-use Rattle.tm_values.specs.Val.{Val}
+-- What a state's fields stand for, and what is put back behind a block.
+use Rattle.std.specs.Prelude.{◌≡◌, ℕ, List, [], ◌∷◌, map as each, Option, Some, None, Bool, true, false}
+use Rattle.tm_values.specs.Val.{Val, undefined}
+use Rattle.tm_values.specs.declared.escape.AutoEscape.{AutoEscape}
+use Rattle.tm_syntax.specs.declared.instruction.Instruction.{Instruction}
+use Rattle.tm_meaning.specs.World.{Named, World, Layers, Scopes, root_of, block_of, plain, with_frames, pop}
+use Rattle.tm_meaning.specs.Calls.{Asked, runs, whole, of_block, with_outer}
+use Rattle.tm_meaning.specs.Meaning.{first_fuel}
+use Rattle.tm_meaning.specs.declared.stream.TemplateId.TheVariants.{Own}
 use Rattle.tm_parts.specs.Fuel.{Fuel}
-
--- kept values by name
-abbrev pub temps_of : List (RcStr Global × Val) → List (List ℕ × Val)
-temps_of es = map (λ (e : RcStr Global × Val). (rc_str_bytes e.0, e.1)) es
+use Rattle.tm_vm.specs.declared.flow.Saved.{Saved}
 
 -- the fuel that was set, where one was
 abbrev pub fuel_set_of : Bool → Fuel → Option ℕ
 fuel_set_of true fuel = Some fuel.set
 fuel_set_of false fuel = None
+
+-- The layers of one template.
+abbrev pub alone : Layers
+alone = record { templates = Own ∷ []; place = 0 }
+
+-- the blocks of the render's own template, each alone
+abbrev pub layered : List ℕ × List Instruction → List ℕ × Layers
+layered b = (b.0, alone)
+
+abbrev pub layers_of : Named (List Instruction) → Named Layers
+layers_of bs = each layered bs
+
+-- What a render of a template starts from, whose blocks have this code.
+abbrev pub started : ℕ → Named (List Instruction) → AutoEscape → Option ℕ → Val → World
+started id blocks escape fuel context = record {
+  id = id;
+  scopes = record { frames = plain context ∷ []; outer = 0 };
+  namespaces = [];
+  loops = [];
+  closures = [];
+  streams = [];
+  temps = [];
+  blocks = layers_of blocks;
+  loaded = [];
+  block = None;
+  escape = escape;
+  stream = root_of Own;
+  fuel_set = fuel;
+  fuel = first_fuel fuel;
+}
+
+-- what is put back behind a block, of the world before it
+abbrev pub saved_of : World → Saved
+saved_of w = record { stream = w.stream; block = w.block; escape = w.escape; outer = w.scopes.outer }
+
+-- the world behind a block
+abbrev pub put_back : Saved → World → World
+put_back saved w = record (with_outer saved.outer (pop w)) { stream = saved.stream; block = saved.block; escape = saved.escape }
+
+-- the run of a block of the render's own template, from a world; the world before it was b
+abbrev pub runs_block : List ℕ → World → World → Asked
+runs_block x b w = runs (record { callee = whole (block_of Own x); undo = of_block b; wrap = None }) w
+
+-- whether there is a block
+abbrev pub IsThere : Bool → Option Layers → Type 0
+IsThere true found = found ≡ Some alone
+IsThere false found = found ≡ None
+
+-- one scope more, over no context
+abbrev pub scoped : World → World
+scoped w = with_frames (plain (undefined false) ∷ w.scopes.frames) w

@@ -1,54 +1,72 @@
 //! The data of a state.
-ghost use Rattle.std.specs.Prelude.{◌≡◌, ◌+◌, [], ◌∷◌, Some, None, OnOk, IfErr, IfSome, MatchOption, MatchResult};
-ghost use Rattle.tm_compiler.specs.Code.{ins_of};
-ghost use Rattle.tm_meaning.specs.World.{first_world, fuel_levels, in_frames, Kept, Good, Bad};
+ghost use Rattle.std.specs.Prelude.{◌≡◌, ◌+◌, ◌≤◌, ◌<◌, List, [], ◌∷◌, Some, None, false, true, length, nat_lt, OnOk, OnErr, IfErr, IfOk, IfSome, MatchOption, MatchResult};
+ghost use Rattle.tm_values.specs.Answer.{OkOrOutOfMemory, IsLent};
+ghost use Rattle.tm_values.specs.Chain.{ends_in_memory};
+ghost use Rattle.tm_syntax.specs.Named.{find, put_each};
+ghost use Rattle.tm_meaning.specs.World.{depth, emitted, records_of, fuel_levels, find_name, view_of, name_of, Good, Bad, block_of};
+ghost use Rattle.tm_meaning.specs.Calls.{enter_block, call_named, refused};
 ghost use Rattle.tm_meaning.specs.Steps.{pay};
+ghost use Rattle.tm_printing.specs.Emitted.{emitted_text};
+ghost use Rattle.tm_tables.specs.Found.{IsFound};
+ghost use Rattle.tm_tables.specs.Scopes.{PushFails};
+ghost use Rattle.tm_vm.specs.Answers.{Keeps, CanBeEmitted, Calls};
+ghost use Rattle.tm_vm.specs.State.{started, put_back, saved_of, runs_block, IsThere, scoped};
 
+use crate::flow::Saved;
+use sqlite_items::Items;
 use std::alloc::Global;
-use std::collections::BTreeMap;
 use std::marker::Model;
-use std::rc::RcStr;
-use tm_compiler::Instruction;
+use std::mem;
+use tm_meaning::{StreamId, TemplateId};
+use tm_operations::check_defined;
 use tm_parts::FuelTracker;
-use tm_tables::{Context, Frame};
-use tm_values::{Error, ErrorKind, LoopPosition, Records, Value, ValueMap};
+use tm_printing::check_emission;
+use tm_syntax::{Instruction, Name, NameMap};
+use tm_tables::{Answer, Context, Frame, Host, View};
+use tm_values::{
+    AutoEscape, Error, ErrorKind, LoopPosition, Node, Records, UndefinedUse, Value, ValueMap,
+};
 
 /// What a state keeps. A contract sees it as a world of the definitions.
 #[derive(Drop)]
 pub struct StateData<'env> {
     id: u64,
     context: Context,
-    temps: BTreeMap<RcStr, Value>,
-    name: &'env str,
+    temps: NameMap<Value>,
+    blocks: &'env NameMap<Items<Instruction>>,
+    block: Option<Name>,
+    escape: AutoEscape,
+    stream: StreamId,
     fuel: FuelTracker,
     fuel_is_set: bool,
 }
 
 impl<'env> Model for StateData<'env> {
-    ghost use Rattle.tm_meaning.specs.World.{World};
+    ghost use Rattle.std.specs.Prelude.{[]};
     ghost use Rattle.std.specs.Coded.{codes};
     ghost use Rattle.tm_values.specs.Code.{coded_Val};
+    ghost use Rattle.tm_meaning.specs.World.{World};
+    ghost use Rattle.tm_vm.specs.State.{fuel_set_of, layers_of};
 
     ghost Value = { World };
 
     ghost coded = { Prim.hlevel (codes, coded_Val) };
 
-    ghost use Rattle.tm_vm.specs.State.{temps_of, fuel_set_of};
-
-    ghost view = { λ s. record { id = s.id; scopes = s.context; temps = temps_of s.temps.entries; name = s.name.now; fuel_set = fuel_set_of s.fuel_is_set s.fuel; fuel = s.fuel.left } };
+    ghost view = { λ s. record { id = s.id; scopes = s.context; namespaces = []; loops = []; closures = []; streams = []; temps = s.temps; blocks = layers_of s.blocks.now; loaded = []; block = s.block; escape = s.escape; stream = s.stream; fuel_set = fuel_set_of s.fuel_is_set s.fuel; fuel = s.fuel.left } };
 }
 
 impl<'env> StateData<'env> {
-    /// The state that a render starts from: one scope over the context value, and the fuel, or the greatest u64 where none is set. Fails by OutOfMemory alone.
+    /// The state that a render starts from: one scope over the context value, the blocks of the render's own template, and the fuel, or the greatest u64 where none is set. Fails by OutOfMemory alone.
     pub fn new(
         alloc: Global,
         id: u64,
-        name: &'env str,
+        blocks: &'env NameMap<Items<Instruction>>,
+        escape: AutoEscape,
         fuel: Option<u64>,
         context: Value,
     ) -> Result<StateData<'env>, Error>
-        ensures { MatchResult result (λ s. s ≡ first_world id name.entry.now fuel context)
-            (λ e. e ≡ ErrorKind.OutOfMemory ∷ []) }
+        ensures { OkOrOutOfMemory result
+            (λ s. s ≡ started id blocks.entry.now escape fuel context) }
     {
         let context = match Context::new_with_frame(alloc, Frame::new(context)) {
             Ok(context) => context,
@@ -57,18 +75,14 @@ impl<'env> StateData<'env> {
         Ok(StateData {
             id,
             context,
-            temps: BTreeMap::new(alloc),
-            name,
+            temps: NameMap::new(alloc),
+            blocks,
+            block: None,
+            escape,
+            stream: StreamId::root(TemplateId::Own),
             fuel: FuelTracker::new(fuel.unwrap_or(u64::MAX)),
             fuel_is_set: fuel.is_some(),
         })
-    }
-
-    /// The name of the template that is running.
-    pub fn name(&self) -> &'env str
-        ensures { result.now ≡ self.now.name }
-    {
-        self.name
     }
 
     /// The fuel consumed and the fuel left, where fuel was set; together they are what was set.
@@ -85,24 +99,217 @@ impl<'env> StateData<'env> {
 
     /// Charges an instruction; OutOfFuel where no more than its charge is left.
     pub fn charge(&mut self, instruction: &Instruction) -> Result<(), Error>
-        ensures ok { OnOk result (pay (ins_of instruction.now) self.old ≡ Good tt self.new) }
+        ensures ok { OnOk result (pay instruction.now self.old ≡ Good tt self.new) }
         ensures err { IfErr result (λ e. (e ≡ ErrorKind.OutOfFuel ∷ [])
-            × (pay (ins_of instruction.now) self.old ≡ Bad e self.new)) }
-        ensures kept { Kept self.old self.new }
+            × (pay instruction.now self.old ≡ Bad e self.new)) }
+        ensures falls { OnOk result (self.new.fuel < self.old.fuel) }
+        ensures kept { Keeps self.old self.new }
+        ensures rest { self.new ≡ record self.old { fuel = self.new.fuel } }
     {
         self.fuel.track(instruction)
     }
 
-    /// The value of a name in the scopes, the innermost first.
-    pub fn find(&self, name: &str) -> Option<&Value>
-        ensures { MatchOption result (in_frames name.now self.now.scopes.frames ≡ None)
-            (λ v. in_frames name.now self.now.scopes.frames ≡ Some v.now) }
+    /// What an object of the caller sees of the state.
+    pub fn view<'a, H: Host>(&'a self, host: &'a H) -> View<'a>
+        ensures { result ≡ view_of (H.meaning host.now) self.now }
     {
-        self.context.find(name)
+        View::new(
+            self.id,
+            &self.context,
+            host.globals(),
+            &self.temps,
+            host.template_name(&self.stream.template),
+            self.escape,
+            host.undefined_behavior(),
+        )
+    }
+
+    /// The value of a name: of the scopes, an inner one's first, else of the globals. InvalidOperation where a context value on the way can't be known.
+    pub fn lookup<'a, H: Host>(
+        &'a self,
+        host: &'a H,
+        name: &str,
+    ) -> Result<Option<&'a Value>, Error>
+        ensures { IsFound result (find_name (view_of (H.meaning host.now) self.now) name.now) }
+    {
+        match self.context.find(name, self) {
+            Ok(None) => Ok(host.globals().get(name)),
+            found => found,
+        }
+    }
+
+    /// The value that was kept at a name, where there is one.
+    pub fn get_temp(&self, name: &str) -> Option<&Value>
+        ensures { IsLent result (find name.now self.now.temps) }
+    {
+        self.temps.get(name)
+    }
+
+    /// Keeps values by name, one behind the other. Fails by OutOfMemory alone, and then only what is kept has changed.
+    pub fn keep(&mut self, temps: Vec<(Name, Value)>) -> Result<(), Error>
+        ensures ok { OnOk result (self.new.temps ≡ put_each temps.items self.old.temps) }
+        ensures kind { IfErr result (λ e. e ≡ ErrorKind.OutOfMemory ∷ []) }
+        ensures rest { self.new ≡ record self.old { temps = self.new.temps } }
+    {
+        keep_each(&mut self.temps, temps)
+    }
+
+    /// What the function of a name answers to these arguments. UnknownFunction where the name isn't found, InvalidOperation where its value can't be called or a context value on the way can't be known.
+    pub fn call<H: Host>(
+        &self,
+        alloc: Global,
+        host: &H,
+        name: &Name,
+        args: &[Value],
+    ) -> Result<Answer, Error>
+        ensures { Calls result (call_named (H.meaning host.now) name.now args.now self.now) self.now }
+    {
+        let found = match self.lookup(host, name.as_str()) {
+            Ok(Some(value)) => value,
+            Ok(None) => return Err(Error::from(ErrorKind::UnknownFunction)),
+            Err(error) => return Err(error),
+        };
+        let Node::Function(number) = &found.node else {
+            return Err(Error::from(ErrorKind::InvalidOperation));
+        };
+        let view = self.view(host);
+        match host.call_function(alloc, *number, args, &view) {
+            Some(answer) => Ok(answer),
+            None => Err(Error::from(ErrorKind::InvalidOperation)),
+        }
+    }
+
+    /// Whether a value can be emitted: UndefinedError where it is undefined and the behaviour refuses that, else what the escape refuses.
+    pub fn check_value<H: Host>(&self, alloc: Global, host: &H, value: &Value) -> Result<(), Error>
+        ensures { CanBeEmitted result (emitted (H.meaning host.now) value.now self.now)
+            (emitted_text self.now.escape (records_of self.now) value.now) self.now }
+    {
+        if let Err(error) = check_defined(
+            value,
+            host.undefined_behavior(),
+            UndefinedUse::Emission,
+        ) {
+            return Err(error);
+        }
+        check_emission(alloc, value, self.escape, self)
+    }
+
+    /// How many scopes there are.
+    pub fn height(&self) -> usize
+        ensures { result ≡ length self.now.scopes.frames }
+    {
+        self.context.height()
+    }
+
+    /// The stream that runs.
+    pub fn stream(&self) -> &StreamId
+        ensures { result.now ≡ self.now.stream }
+    {
+        &self.stream
+    }
+
+    /// How what is emitted is escaped.
+    pub fn escape(&self) -> AutoEscape
+        ensures { result ≡ self.now.escape }
+    {
+        self.escape
+    }
+
+    /// Enters the block of a name, in a scope of its own, and gives its stream and what is put back behind it. UnknownBlock where there is none, InvalidOperation where it is required and nothing fills it, or where its scope would lie deeper than the limit; OutOfMemory where there is no memory. Then the state stays as it was.
+    pub fn enter_block<H: Host>(
+        &mut self,
+        host: &H,
+        name: &Name,
+    ) -> Result<(StreamId, Saved), Error>
+        ensures ok { IfOk result (λ r. (r.0 ≡ block_of TemplateId.Own name.now)
+            × (r.1 ≡ saved_of self.old)
+            × (enter_block (H.meaning host.now) name.now self.old ≡ runs_block name.now self.old self.new)) }
+        ensures deeper { OnOk result
+            ((length self.new.scopes.frames ≡ length self.old.scopes.frames + 1)
+            × (self.new.scopes.outer ≡ self.old.scopes.outer)
+            × (depth self.new.scopes ≤ (H.meaning host.now).limit)) }
+        ensures err { IfErr result (λ e. ends_in_memory e ≡ false →
+            enter_block (H.meaning host.now) name.now self.old ≡ refused e self.old) }
+        ensures unchanged { OnErr result (self.new ≡ self.old) }
+        ensures kept { Keeps self.old self.new }
+    {
+        if !self.has_block(name.as_str()) {
+            return Err(Error::from(ErrorKind::UnknownBlock));
+        }
+        let stream = StreamId::block(TemplateId::Own, name.share()?);
+        if host.is_required(&stream) {
+            return Err(Error::from(ErrorKind::InvalidOperation));
+        }
+        let running = StreamId::block(TemplateId::Own, name.share()?);
+        let block = name.share()?;
+        if let Err(error) = self.push_scope(host.recursion_limit()) {
+            return Err(error);
+        }
+        let saved = self.run_block(running, block);
+        Ok((stream, saved))
+    }
+
+    /// Whether the render's own template has a block of this name.
+    fn has_block(&self, name: &str) -> bool
+        ensures { IsThere result (find name.now self.now.blocks) }
+    {
+        self.blocks.get(name).is_some()
+    }
+
+    /// One scope more, over no context. InvalidOperation where it would lie deeper than the limit, OutOfMemory where there is no memory; then the state stays as it was.
+    fn push_scope(&mut self, limit: usize) -> Result<(), Error>
+        ensures ok { OnOk result (self.new ≡ scoped self.old) }
+        ensures fits { OnOk result (nat_lt (depth self.old.scopes) limit ≡ true) }
+        ensures kind { IfErr result (PushFails (nat_lt (depth self.old.scopes) limit)) }
+        ensures err { OnErr result (self.new ≡ self.old) }
+    {
+        self.context
+            .push_frame(Frame::new(Value::undefined()), limit)
+    }
+
+    /// Lets a block run, and gives what that replaces.
+    fn run_block(&mut self, stream: StreamId, block: Name) -> Saved
+        ensures saved { result ≡ saved_of self.old }
+        ensures runs { self.new ≡ record self.old { stream = stream; block = Some block } }
+    {
+        Saved {
+            stream: mem::replace(&mut self.stream, stream),
+            block: mem::replace(&mut self.block, Some(block)),
+            escape: self.escape,
+            outer: self.context.outer(),
+        }
+    }
+
+    /// Leaves the innermost scope, and puts back what a block replaced.
+    pub fn leave_block(&mut self, saved: Saved)
+        ensures { self.new ≡ put_back saved self.old }
+    {
+        let Saved {
+            stream,
+            block,
+            escape,
+            outer,
+        } = saved;
+        self.context.pop_frame();
+        self.context.set_outer(outer);
+        self.stream = stream;
+        self.block = block;
+        self.escape = escape;
     }
 }
 
-/// There are no loops and namespaces yet.
+/// Keeps values by name, one behind the other. Fails by OutOfMemory alone.
+fn keep_each(temps: &mut NameMap<Value>, kept: Vec<(Name, Value)>) -> Result<(), Error>
+    ensures ok { OnOk result (temps.new ≡ put_each kept.items temps.old) }
+    ensures kind { IfErr result (λ e. e ≡ ErrorKind.OutOfMemory ∷ []) }
+{
+    for (name, value) in kept {
+        temps.insert(name, value)?;
+    }
+    Ok(())
+}
+
+/// There are no loops and namespaces yet. Each call reads a field, since a proof knows nothing of a state that isn't read.
 impl Records for StateData<'_> {
     ghost use Rattle.tm_meaning.specs.World.{records_of};
 
@@ -113,22 +320,27 @@ impl Records for StateData<'_> {
     }
 
     fn namespace_count(&self) -> usize {
+        let _state = self.id;
         0
     }
 
     fn namespace(&self, _index: usize) -> Option<&ValueMap> {
+        let _state = self.id;
         None
     }
 
     fn loop_position(&self, _index: usize) -> Option<LoopPosition> {
+        let _state = self.id;
         None
     }
 
     fn previous_item(&self, _index: usize) -> Option<&Value> {
+        let _state = self.id;
         None
     }
 
     fn following_item(&self, _index: usize) -> Option<&Value> {
+        let _state = self.id;
         None
     }
 }

@@ -1,5 +1,5 @@
 use Rattle.std.proofs.Common.{◌≡◌, [], ap, ◌∙◌}
-use Rattle.tm_meaning.specs.Texts.{put_in}
+use Rattle.tm_meaning.specs.Machine.{put_in}
 use Rattle.tm_parts.proofs.Pieces.{appends_then_beginning, beginning_longer}
 use Rattle.tm_parts.proofs.tests.write_both.Goals as goal
 

@@ -1,0 +1,105 @@
+//! What a render runs under.
+ghost use Rattle.std.specs.Prelude.{◌≡◌};
+ghost use Rattle.template_machine.specs.Environment.{meant};
+
+use crate::environment::EnvironmentOf;
+use std::alloc::Global;
+use std::marker::Model;
+use tm_meaning::{StreamId, TemplateId};
+use tm_syntax::{Instruction, NameMap};
+use tm_tables::{Answer, CompiledTemplate, Host, Parties, View};
+use tm_values::{UndefinedBehavior, Value};
+
+/// The environment and the template that is rendered: the machine's one party.
+#[derive(Drop)]
+pub(crate) struct Rendering<'env, O: Drop> {
+    environment: &'env EnvironmentOf<'env, O>,
+    own: &'env CompiledTemplate<'env>,
+}
+
+impl<'env, O: Drop> Model for Rendering<'env, O> {
+    ghost use Rattle.std.specs.Coded.{codes};
+    ghost use Rattle.tm_syntax.specs.contracts.tree.Stmt as statement;
+    ghost use Rattle.tm_values.specs.Code.{coded_Val};
+    ghost use Rattle.template_machine.specs.Environment.{TemplateValue};
+
+    ghost Value = { TemplateValue O };
+
+    ghost coded = { Prim.hlevel (codes, coded_Val, statement.the_row.coded, O.code) };
+
+    ghost view = { λ r. record { environment = r.environment.now; template = r.own.now } };
+}
+
+impl<'env, O: Drop> Rendering<'env, O> {
+    /// A template that is rendered under an environment.
+    pub(crate) fn new(
+        environment: &'env EnvironmentOf<'env, O>,
+        own: &'env CompiledTemplate<'env>,
+    ) -> Rendering<'env, O>
+        ensures { result ≡ record {
+          environment = environment.entry.now;
+          template = own.entry.now;
+        } }
+    {
+        Rendering { environment, own }
+    }
+
+    /// The template that is meant.
+    fn template(&self, template: &TemplateId) -> &'env CompiledTemplate<'env>
+        ensures { result.now ≡ meant self.now template.now }
+    {
+        let TemplateId::Entry(name) = template else {
+            return self.own;
+        };
+        self.environment
+            .find_template(name.as_str())
+            .unwrap_or(self.own)
+    }
+}
+
+impl<O: Parties> Host for Rendering<'_, O> {
+    ghost use Rattle.std.specs.Prelude.{refl};
+    ghost use Rattle.template_machine.specs.Environment.{host_of, code};
+
+    ghost meaning = { host_of O.functions };
+
+    ghost code = { code };
+
+    fn globals(&self) -> &NameMap<Value> {
+        self.environment.globals()
+    }
+
+    fn recursion_limit(&self) -> usize {
+        self.environment.recursion_limit()
+    }
+
+    fn undefined_behavior(&self) -> UndefinedBehavior {
+        UndefinedBehavior::Lenient
+    }
+
+    fn template_name(&self, template: &TemplateId) -> &str {
+        self.template(template).name()
+    }
+
+    fn is_required(&self, _stream: &StreamId) -> bool {
+        false
+    }
+
+    fn instructions(&self, stream: &StreamId) -> &[Instruction] {
+        self.template(&stream.template).stream(&stream.block)
+    }
+
+    fn call_function(
+        &self,
+        alloc: Global,
+        number: usize,
+        args: &[Value],
+        view: &View<'_>,
+    ) -> Option<Answer> {
+        self.environment
+            .objects()
+            .call_function(alloc, number, args, view)
+    }
+
+    ghost unformatted = { λ host. refl };
+}

@@ -1,4 +1,0 @@
-mod Answered
-mod Meant
-mod Runs
-mod Started

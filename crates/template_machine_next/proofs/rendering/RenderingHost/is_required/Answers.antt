@@ -1,5 +1,0 @@
-use Rattle.template_machine_next.proofs.Meant.{not_required}
-use Rattle.template_machine_next.proofs.rendering.RenderingHost.is_required.Goals as goal
-
-pub returns : goal.returns
-returns g c = not_required g.O.Parties.functions c.args.self.now c.args._stream.now

@@ -1,3 +1,0 @@
-pub mod Environment
-pub mod Held
-pub mod Renders

@@ -1,0 +1,22 @@
+-- What the tokens of a source say of its tree.
+use Rattle.std.proofs.Common.{ℕ, List, subst}
+use Rattle.tm_syntax.specs.declared.token.Token.{Token}
+use Rattle.tm_syntax.specs.declared.tree.Tree.{Tree}
+use Rattle.tm_scanner.specs.Syntax.{Syntax}
+use Rattle.tm_scanner.specs.Spells.{SpellsTokens}
+use Rattle.tm_scanner.proofs.Sources.{one_list_of}
+use Rattle.tm_parser.specs.Template as template
+use Rattle.tm_compiler.specs.Spells.{Spells, SpellsNone}
+
+-- a source that spells no tokens
+pub no_tokens : (s : Syntax) (source : List ℕ) → ((ts : List Token) → SpellsTokens s source ts → ⊥) → SpellsNone s source
+no_tokens s source none tree h = none h.tokens h.scanned
+
+-- any tokens of a source are those that were found
+pub of_tokens : (s : Syntax) (source : List ℕ) (ts : List Token) (tree : Tree) → SpellsTokens s source ts → Spells s source tree → template.SpellsTemplate ts tree
+of_tokens s source ts tree found h =
+    subst (λ us. template.SpellsTemplate us tree) (one_list_of s source h.tokens ts h.scanned found) h.parsed
+
+-- a source whose tokens spell no tree
+pub no_tree : (s : Syntax) (source : List ℕ) (ts : List Token) → SpellsTokens s source ts → template.SpellsNone ts → SpellsNone s source
+no_tree s source ts found none tree h = none tree (of_tokens s source ts tree found h)

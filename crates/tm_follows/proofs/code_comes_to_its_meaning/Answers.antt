@@ -1,5 +1,0 @@
-use Rattle.tm_follows.proofs.Simulation.{comes_to_meaning}
-use Rattle.tm_follows.proofs.code_comes_to_its_meaning.Goals as goal
-
-pub returns : goal.returns
-returns c = comes_to_meaning

@@ -1,0 +1,41 @@
+-- Templates as trees, and the trees of their streams.
+use Rattle.std.specs.Prelude.{ℕ, List, [], map as each, Option, Some, None, false}
+use Rattle.tm_values.specs.declared.escape.AutoEscape.{AutoEscape}
+pub use Rattle.tm_syntax.specs.Blocks.{Body, body_of, empty, blocks_in}
+use Rattle.tm_syntax.specs.Named.{by_name}
+use Rattle.tm_meaning.specs.World.{Named, find, TemplateId, own, entry, StreamId, Card, Template, or_is}
+
+-- A template as a tree: its name, its escape, and its statements.
+pub record TemplateTree : Type 0 where
+  pub name : List ℕ
+  pub escape : AutoEscape
+  pub root : Body
+
+abbrev pub card : Card
+card = record { required = false; macros = [] }
+
+abbrev pub carded : List ℕ × Body → List ℕ × Card
+carded b = (b.0, card)
+
+abbrev pub template_of : TemplateTree → Template
+template_of t = record { name = t.name; escape = t.escape; root = card; blocks = each carded (by_name (blocks_in t.root.row)) }
+
+-- the trees of the streams
+abbrev pub Trees : Type 0
+Trees = StreamId → Body
+
+abbrev pub or_empty : Option Body → Body
+or_empty None = empty
+or_empty (Some body) = body
+
+abbrev pub part_of : TemplateTree → Option (List ℕ) → Body
+part_of t None = t.root
+part_of t (Some b) = or_empty (find b (by_name (blocks_in t.root.row)))
+
+abbrev pub tree_at : TemplateTree → Named TemplateTree → TemplateId → TemplateTree
+tree_at t ts own = t
+tree_at t ts (entry x) = or_is (find x ts) t
+
+-- of the render's own template, over the environment's
+abbrev pub trees_of : TemplateTree → Named TemplateTree → Trees
+trees_of t ts s = part_of (tree_at t ts s.template) s.block

@@ -1,0 +1,58 @@
+//! What runs: the streams of templates, by name.
+ghost use Rattle.std.specs.Prelude.{◌≡◌, None, Some, IfOk};
+ghost use Rattle.tm_meaning.specs.World.{root_of, block_of};
+
+use std::alloc::AllocError;
+use tm_syntax::Name;
+
+/// A template: the render's own, or an entry of the environment.
+#[derive(Drop)]
+pub enum TemplateId {
+    /// The one that is rendered.
+    Own,
+    /// The one that the environment has at a name.
+    Entry(Name),
+}
+
+impl TemplateId {
+    /// The same template. Fails only where the owners of a name can't be counted.
+    pub fn share(&self) -> Result<TemplateId, AllocError>
+        ensures { IfOk result (λ template. template ≡ self.now) }
+    {
+        match self {
+            TemplateId::Own => Ok(TemplateId::Own),
+            TemplateId::Entry(name) => Ok(TemplateId::Entry(name.share()?)),
+        }
+    }
+}
+
+/// A stream: a template's root, or its block of a name.
+#[derive(Drop)]
+pub struct StreamId {
+    /// The template.
+    pub template: TemplateId,
+    /// The name of the block; none for the root.
+    pub block: Option<Name>,
+}
+
+impl StreamId {
+    /// The root of a template.
+    pub fn root(template: TemplateId) -> StreamId
+        ensures { result ≡ root_of template }
+    {
+        StreamId {
+            template,
+            block: None,
+        }
+    }
+
+    /// A block of a template.
+    pub fn block(template: TemplateId, name: Name) -> StreamId
+        ensures { result ≡ block_of template name }
+    {
+        StreamId {
+            template,
+            block: Some(name),
+        }
+    }
+}

@@ -1,3 +1,0 @@
-pub mod Fuel
-pub mod Outgoing
-pub mod Halts

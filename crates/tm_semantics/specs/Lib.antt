@@ -1,9 +1,0 @@
-pub mod World
-pub mod Calls
-pub mod Tree
-pub mod Meaning
-pub mod Machine
-pub mod Instructions
-pub mod Steps
-pub mod Rows
-pub mod Compiled

@@ -1,0 +1,96 @@
+//! What callables of the caller answer.
+ghost use Rattle.std.specs.Prelude.{◌≡◌, ◌++◌, [], ◌∷◌, List, OnOk, IfErr};
+ghost use Rattle.tm_values.specs.Val.{Val};
+ghost use Rattle.tm_meaning.specs.World.{View as Seen, Stated, gives, faults};
+ghost use Rattle.tm_tables.specs.Stated.{IsStated, just, keeping};
+
+use crate::view::View;
+use std::alloc::Global;
+use std::marker::Model;
+use tm_syntax::Name;
+use tm_values::{Error, Value};
+
+/// The end of a call: a value, or a fault.
+#[derive(Drop)]
+pub enum Reply {
+    /// The value of the call.
+    Value(Value),
+    /// Why there is none.
+    Fault(Error),
+}
+
+/// What a callable answers: values that the state keeps by name, in order, and its reply. They are kept where the reply is a fault, too.
+#[derive(Drop)]
+pub struct Answer {
+    /// What is kept.
+    pub temps: Vec<(Name, Value)>,
+    /// Its reply.
+    pub result: Reply,
+}
+
+impl Model for Answer {
+    ghost use Rattle.std.specs.Coded.{codes};
+    ghost use Rattle.tm_values.specs.Code.{coded_Val};
+    ghost use Rattle.tm_meaning.specs.World.{Stated};
+
+    ghost Value = { Stated };
+
+    ghost coded = { Prim.hlevel (codes, coded_Val) };
+
+    ghost use Rattle.tm_tables.specs.Stated.{reply_of};
+
+    ghost view = { λ a. record { temps = a.temps.items; reply = reply_of a.result } };
+}
+
+impl Answer {
+    /// A value, and nothing to keep.
+    pub fn value(alloc: Global, value: Value) -> Answer
+        ensures { result ≡ just (gives value) }
+    {
+        Answer {
+            temps: Vec::new(alloc),
+            result: Reply::Value(value),
+        }
+    }
+
+    /// A fault, and nothing to keep.
+    pub fn fault(alloc: Global, error: Error) -> Answer
+        ensures { result ≡ just (faults error) }
+    {
+        Answer {
+            temps: Vec::new(alloc),
+            result: Reply::Fault(error),
+        }
+    }
+
+    /// One value more to keep, behind the others; a fault of OutOfMemory where there is no memory for it.
+    pub fn keep(self, alloc: Global, name: &str, value: Value) -> Answer
+        ensures { IsStated result (keeping name.now value self) }
+    {
+        let Answer { mut temps, result } = self;
+        match Name::new(alloc, name) {
+            Ok(name) => match temps.push((name, value)) {
+                Ok(()) => Answer { temps, result },
+                Err(error) => Answer::fault(alloc, Error::from(error)),
+            },
+            Err(error) => Answer::fault(alloc, Error::from(error)),
+        }
+    }
+}
+
+/// An object of the caller that templates call. What it means is a function of its arguments and of what it sees.
+pub trait Callable: Drop {
+    ghost answers: { Self → List Val → Seen → Stated };
+
+    /// What it states of these arguments; a fault that ends in OutOfMemory where there is no memory for it.
+    fn call(&self, alloc: Global, args: &[Value], view: &View<'_>) -> Answer
+        ensures { IsStated result (answers self.now args.now view.now) };
+}
+
+impl Callable for Box<dyn Callable> {
+    ghost answers = { λ b. (Callable-box b).answers b.value };
+
+    fn call(&self, alloc: Global, args: &[Value], view: &View<'_>) -> Answer {
+        (**self).call(alloc, args, view)
+    }
+}

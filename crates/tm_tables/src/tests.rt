@@ -1,0 +1,69 @@
+//! What no clause says: that calls succeed with ample memory, and an object of a caller.
+ghost use Rattle.std.specs.Prelude.{codes, true};
+ghost use Rattle.tm_values.specs.Val.{boolean, none};
+ghost use Rattle.tm_meaning.specs.World.{gives};
+ghost use Rattle.tm_tables.specs.Stated.{just, keeping};
+
+use super::*;
+use std::alloc::Global;
+use std::test::Fail;
+use tm_compiler::NameMap;
+use tm_values::{AutoEscape, Error, UndefinedBehavior, Value};
+
+/// Keeps that it was called, and gives none.
+#[derive(Drop)]
+struct Counts;
+
+impl Callable for Counts {
+    ghost answers = { λ _ args view. keeping (codes "called") (boolean true) (just (gives none)) };
+
+    fn call(&self, alloc: Global, _args: &[Value], _view: &View<'_>) -> Answer {
+        Answer::value(alloc, Value::none()).keep(alloc, "called", Value::boolean(true))
+    }
+}
+
+/// How many values the function of a number keeps, over a scope without names; none where there is no such function.
+fn kept(
+    alloc: Global,
+    objects: &Objects<Box<dyn Callable>>,
+    number: usize,
+) -> Result<usize, Error> {
+    let context = Context::new_with_frame(alloc, Frame::new(Value::undefined()))?;
+    let globals = NameMap::new(alloc);
+    let temps = NameMap::new(alloc);
+    let view = View::new(
+        0,
+        &context,
+        &globals,
+        &temps,
+        "page",
+        AutoEscape::None,
+        UndefinedBehavior::Lenient,
+    );
+    match objects.call_function(alloc, number, &[], &view) {
+        Some(answer) => Ok(answer.temps.len()),
+        None => Ok(0),
+    }
+}
+
+#[test]
+fn objects_are_called_by_number(rt: HostRuntime) -> Result<(), Fail> {
+    let alloc = rt.alloc();
+    let mut objects: Objects<Box<dyn Callable>> = Objects::new(alloc);
+    let counts = Box::new(alloc, Counts)?;
+    objects.add(counts)?;
+    assert_eq!(rt; kept(alloc, &objects, 0)?, 1);
+    assert_eq!(rt; kept(alloc, &objects, 1)?, 0);
+    Ok(())
+}
+
+#[test]
+fn sources_are_compiled(rt: HostRuntime) -> Result<(), Fail> {
+    let alloc = rt.alloc();
+    let source = Source::Lent("{% block b %}x{{ a }}{% endblock %}y");
+    let template = CompiledTemplate::new(alloc, "page", source, &TemplateConfig::default())?;
+    assert_eq!(rt; template.instructions().len(), 2);
+    assert!(rt; template.block("b").is_some());
+    assert!(rt; template.block("c").is_none());
+    Ok(())
+}

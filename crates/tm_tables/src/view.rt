@@ -1,0 +1,145 @@
+//! What an object of the caller sees of a state.
+ghost use Rattle.std.specs.Prelude.{◌≡◌, [], ◌∷◌};
+ghost use Rattle.tm_syntax.specs.Named.{find};
+ghost use Rattle.tm_values.specs.Answer.{IsLent};
+ghost use Rattle.tm_meaning.specs.World.{find_name};
+ghost use Rattle.tm_tables.specs.Found.{IsFound};
+ghost use Rattle.tm_tables.specs.Views.{no_records_of};
+
+use crate::context::Context;
+use std::marker::Model;
+use tm_syntax::NameMap;
+use tm_values::{AutoEscape, Error, LoopPosition, Records, UndefinedBehavior, Value, ValueMap};
+
+/// What an object of the caller sees of a state: its scopes, what was kept, the environment's globals, and what is running.
+#[derive(Drop)]
+pub struct View<'a> {
+    id: u64,
+    context: &'a Context,
+    globals: &'a NameMap<Value>,
+    temps: &'a NameMap<Value>,
+    name: &'a str,
+    escape: AutoEscape,
+    undefined: UndefinedBehavior,
+}
+
+impl<'a> Model for View<'a> {
+    ghost use Rattle.std.specs.Prelude.{[]};
+    ghost use Rattle.std.specs.Coded.{codes};
+    ghost use Rattle.tm_meaning.specs.World.{View as Seen};
+    ghost use Rattle.tm_values.specs.Code.{coded_Val};
+    ghost use Rattle.tm_tables.specs.Views.{no_records_of};
+
+    ghost Value = { Seen };
+
+    ghost coded = { Prim.hlevel (codes, coded_Val) };
+
+    ghost view = { λ v. record { id = v.id; frames = v.context.now.frames; closures = []; records = no_records_of v.id; globals = v.globals.now; temps = v.temps.now; name = v.name.now; escape = v.escape; undefined = v.undefined } };
+}
+
+impl<'a> View<'a> {
+    /// A view of a state's id and scopes, the environment's globals, the kept values, the name of the template that runs, and how it is written.
+    pub fn new(
+        id: u64,
+        context: &'a Context,
+        globals: &'a NameMap<Value>,
+        temps: &'a NameMap<Value>,
+        name: &'a str,
+        escape: AutoEscape,
+        undefined: UndefinedBehavior,
+    ) -> View<'a>
+        ensures { result ≡ record {
+          id = id;
+          frames = context.entry.now.frames;
+          closures = [];
+          records = no_records_of id;
+          globals = globals.entry.now;
+          temps = temps.entry.now;
+          name = name.entry.now;
+          escape = escape;
+          undefined = undefined;
+        } }
+    {
+        View {
+            id,
+            context,
+            globals,
+            temps,
+            name,
+            escape,
+            undefined,
+        }
+    }
+
+    /// The value of a name: of the scopes, an inner one's first, else of the globals. InvalidOperation where a scope on the way is over a namespace whose record isn't there.
+    pub fn lookup(&self, name: &str) -> Result<Option<&Value>, Error>
+        ensures { IsFound result (find_name self.now name.now) }
+    {
+        match self.context.find(name, self) {
+            Ok(None) => Ok(self.globals.get(name)),
+            found => found,
+        }
+    }
+
+    /// The value that was kept at a name, where there is one.
+    pub fn get_temp(&self, name: &str) -> Option<&Value>
+        ensures { IsLent result (find name.now self.now.temps) }
+    {
+        self.temps.get(name)
+    }
+
+    /// The name of the template that runs.
+    pub fn name(&self) -> &str
+        ensures { result.now ≡ self.now.name }
+    {
+        self.name
+    }
+
+    /// How emitted values are escaped.
+    pub fn auto_escape(&self) -> AutoEscape
+        ensures { result ≡ self.now.escape }
+    {
+        self.escape
+    }
+
+    /// How undefined values behave.
+    pub fn undefined_behavior(&self) -> UndefinedBehavior
+        ensures { result ≡ self.now.undefined }
+    {
+        self.undefined
+    }
+}
+
+/// There are no loops and namespaces yet. Each call reads a field, since a proof knows nothing of a view that isn't read.
+impl Records for View<'_> {
+    ghost records = { λ v. v.records };
+
+    fn state(&self) -> u64 {
+        self.id
+    }
+
+    fn namespace_count(&self) -> usize {
+        let _state = self.id;
+        0
+    }
+
+    fn namespace(&self, _index: usize) -> Option<&ValueMap> {
+        let _state = self.id;
+        None
+    }
+
+    fn loop_position(&self, _index: usize) -> Option<LoopPosition> {
+        let _state = self.id;
+        None
+    }
+
+    fn previous_item(&self, _index: usize) -> Option<&Value> {
+        let _state = self.id;
+        None
+    }
+
+    fn following_item(&self, _index: usize) -> Option<&Value> {
+        let _state = self.id;
+        None
+    }
+}

@@ -1,3 +1,0 @@
-pub mod Named
-mod Places
-pub mod Streams

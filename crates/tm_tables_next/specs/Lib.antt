@@ -1,7 +1,0 @@
-pub mod Found
-pub mod Places
-pub mod Scopes
-pub mod Sources
-pub mod Stated
-pub mod Templates
-pub mod Views

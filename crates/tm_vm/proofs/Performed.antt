@@ -1,0 +1,59 @@
+-- What instructions of each kind did, as what every step says.
+use Rattle.std.proofs.Common.{◌≡◌, ◌+◌, ◌<◌, ◌≤◌, ℕ, suc, List, [], length, Option, Result, Ok, Err, refl, sym, ◌∙◌, ap, subst, arith}
+use Rattle.std.specs.Io.KnownBytes.{Appends}
+use Rattle.tm_meaning.specs.World.{World, depth, without_first}
+use Rattle.tm_meaning.specs.Machine.{Config, End, Next, More, Over}
+use Rattle.tm_meaning.specs.declared.base.Base.{Base}
+use Rattle.tm_output.specs.Counts.{AppendsBeginning}
+use Rattle.tm_parts.proofs.Pieces.{appends_nothing, beginning_nothing}
+use Rattle.tm_parts.specs.Halts.{faults_after}
+use Rattle.tm_parts.specs.declared.halt.Halt.{Halt}
+use Rattle.tm_parts.specs.declared.halt.Halt.TheVariants as halt
+use Rattle.tm_vm.specs.Answers.{Did, HaltsAs, Depths, Deepens, Performs, Writes, Silently, Needs, Finishes, Enters, output}
+use Rattle.tm_vm.specs.declared.flow.Flow.{Flow}
+use Rattle.tm_vm.specs.declared.flow.Flow.TheVariants as flow
+
+nothing_written : {n : Next} {c : Config} (told : Option (List ℕ)) → n ≡ More [] c → (n ≡ More (output n) c) × Appends told told (output n)
+nothing_written {c = c} told at =
+    (at ∙ ap (λ t. More t c) (sym (ap output at)), subst (λ t. Appends told told t) (sym (ap output at)) (appends_nothing told))
+
+pub silent : {limit : ℕ} {f : Base} {n : Next} {old new : Config} {told : Option (List ℕ)} {faults : ℕ} (result : Result Flow Halt) → Silently n old new result
+    → Performs limit f n old new told told faults faults result
+silent {n = n} {told = told} (Ok flow.GoOn) s =
+    record { did = nothing_written told s.did; counted = refl; kept = s.kept; depths = s.same_depth; same_stream = s.same_stream }
+silent (Ok flow.Done) s = absurd s.did
+silent (Ok (flow.Enter e)) s = absurd s.did
+silent (Err halt.Writer) s = absurd s.did
+silent {n = n} {told = told} (Err halt.Stuck) s = record {
+  did = (s.did, beginning_nothing told (output n));
+  counted = refl;
+  kept = s.kept;
+  depths = s.same_depth;
+  same_stream = s.same_stream;
+}
+silent {n = n} {told = told} (Err (halt.Fault chain)) s = record {
+  did = (s.did, beginning_nothing told (output n));
+  counted = refl;
+  kept = s.kept;
+  depths = s.same_depth;
+  same_stream = s.same_stream;
+}
+
+pub wrote : {limit : ℕ} {f : Base} {n : Next} {old new : Config} {told now : Option (List ℕ)} {faults count : ℕ} (result : Result Flow Halt)
+    → Writes n old new told now faults count result → Performs limit f n old new told now faults count result
+wrote (Ok flow.GoOn) s = record { did = s.did; counted = s.counted; kept = s.kept; depths = s.same_depth; same_stream = s.same_stream }
+wrote (Ok flow.Done) s = absurd s.did
+wrote (Ok (flow.Enter e)) s = absurd s.did
+wrote (Err why) s = record { did = s.did; counted = s.counted; kept = s.kept; depths = s.same_depth; same_stream = s.same_stream }
+
+pub needed : {limit : ℕ} {f : Base} {n : Next} {old new : Config} {told : Option (List ℕ)} {faults : ℕ} (result : Result Flow Halt) → Needs limit n old new result
+    → Performs limit f n old new told told faults faults result
+needed {told = told} (Ok flow.GoOn) s =
+    record { did = nothing_written told s.did; counted = refl; kept = s.kept; depths = s.deepens; same_stream = s.same_stream }
+needed (Ok flow.Done) s = absurd s.did
+needed (Ok (flow.Enter e)) s = record { did = (s.did, refl); counted = refl; kept = s.kept; depths = s.deepens; same_stream = s.same_stream }
+needed (Err halt.Writer) s = absurd s.did
+needed {n = n} {told = told} (Err halt.Stuck) s =
+    record { did = (s.did, beginning_nothing told (output n)); counted = refl; kept = s.kept; depths = s.deepens; same_stream = s.same_stream }
+needed {n = n} {told = told} (Err (halt.Fault chain)) s =
+    record { did = (s.did, beginning_nothing told (output n)); counted = refl; kept = s.kept; depths = s.deepens; same_stream = s.same_stream }

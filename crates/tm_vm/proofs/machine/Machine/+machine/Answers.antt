@@ -1,0 +1,114 @@
+use Rattle.std.proofs.Common.{◌≡◌, Ok, Err, refl, ap, ◌∙◌, arith}
+use Rattle.tm_meaning.specs.Machine.{base_of}
+use Rattle.tm_meaning.specs.World.{depth}
+use Rattle.tm_vm.specs.Answers.{program}
+use Rattle.tm_vm.specs.declared.flow.Flow.TheVariants as flow
+use Rattle.tm_vm.proofs.Loop.{at_base, kept_same, kept_then, stands_first, stands_next, stands_behind, beginning_at, beginning_in, ended_at, ended_in, done_at, whole_at, depth_behind, went}
+use Rattle.tm_vm.proofs.machine.Machine.+machine.Goals as goal
+
+pub run-loop-entry-init : goal.run-loop-entry-init
+run-loop-entry-init g t c =
+    let p = program (g.H.Host.meaning c.args.host.now) (g.H.Host.code c.args.host.now) in
+    let a = c.args.self.now in
+    let far : depth a.world.scopes ≡ depth a.world.scopes = refl in
+    record {
+      faults = refl;
+      kept = kept_same a.world;
+      no_shallower = omega (arith, far);
+      same_stream = refl;
+      stands = stands_first p (base_of c.args.heard a.captures a.world) a (g.W.Sink.told c.args.writer.now);
+    }
+
+pub run-loop-entry-preserved-in-Ok-GoOn : goal.run-loop-entry-preserved-in-Ok-GoOn
+run-loop-entry-preserved-in-Ok-GoOn g t c =
+    let p = program (g.H.Host.meaning c.args.host.now) (g.H.Host.code c.args.host.now) in
+    let a = c.args.self.now in
+    let now = g.W.Sink.told c.loop-entry.writer in
+    let new = g.W.Sink.told c.step.new.writer in
+    let step = rw c.in-Ok-GoOn.field-0-is at c.in-Ok-GoOn.ensures.performs in
+    let did = at_base p c.loop-entry.self c.step.new.self now new (Ok flow.GoOn) c.base-base.result (base_of c.args.heard a.captures a.world) c.base-base.ensures step.did in
+    record {
+      faults = step.counted ∙ c.loop-entry.invariant.faults;
+      kept = kept_then c.loop-entry.invariant.kept step.kept;
+      no_shallower = omega (arith, step.depths, c.loop-entry.invariant.no_shallower);
+      same_stream = step.same_stream ∙ c.loop-entry.invariant.same_stream;
+      stands = stands_next c.step.new.self new c.loop-entry.invariant.stands did;
+    }
+
+pub run-loop-entry-preserved : goal.run-loop-entry-preserved
+run-loop-entry-preserved g t c =
+    let p = program (g.H.Host.meaning c.args.host.now) (g.H.Host.code c.args.host.now) in
+    let a = c.args.self.now in
+    let limit = (g.H.Host.meaning c.args.host.now).limit in
+    let now = g.W.Sink.told c.loop-entry.writer in
+    let at = g.W.Sink.told c.step.new.writer in
+    let new = g.W.Sink.told c.run_nested.new.writer in
+    let e = c.in-Ok-Enter.entry in
+    let step = rw c.in-Ok-Enter.field-0-is at c.in-Ok-Enter.ensures.performs in
+    let did = at_base p c.loop-entry.self c.step.new.self now at (Ok (flow.Enter e)) c.base-base.result (base_of c.args.heard a.captures a.world) c.base-base.ensures step.did in
+    let went = c.in_default.ensures.ran in
+    let far = depth_behind limit c.base-base.result c.loop-entry.self.world step.depths went in
+    record {
+      faults = c.in_default.ensures.faults ∙ step.counted ∙ c.loop-entry.invariant.faults;
+      kept = kept_then c.loop-entry.invariant.kept (kept_then step.kept c.in_default.ensures.kept);
+      no_shallower = omega (arith, far, c.loop-entry.invariant.no_shallower);
+      same_stream = c.in_default.ensures.same_stream ∙ step.same_stream ∙ c.loop-entry.invariant.same_stream;
+      stands = stands_behind e c.step.new.self c.run_nested.new.self at new c.loop-entry.invariant.stands did went;
+    }
+
+pub run-returns-in-Err-run_nested-clause-ended : goal.run-returns-in-Err-run_nested-clause-ended
+run-returns-in-Err-run_nested-clause-ended g t c =
+    let p = program (g.H.Host.meaning c.args.host.now) (g.H.Host.code c.args.host.now) in
+    let a = c.args.self.now in
+    let now = g.W.Sink.told c.loop-entry.writer in
+    let at = g.W.Sink.told c.step.new.writer in
+    let new = g.W.Sink.told c.run_nested.new.writer in
+    let e = c.in-Ok-Enter.entry in
+    let step = rw c.in-Ok-Enter.field-0-is at c.in-Ok-Enter.ensures.performs in
+    let did = at_base p c.loop-entry.self c.step.new.self now at (Ok (flow.Enter e)) c.base-base.result (base_of c.args.heard a.captures a.world) c.base-base.ensures step.did in
+    ended_in e c.step.new.self at new c.in-Err-run_nested.halt c.run_nested.new.self.world c.loop-entry.invariant.stands did c.in-Err-run_nested.ensures.ran
+
+pub run-returns-in-Err-run_nested-clause-beginning : goal.run-returns-in-Err-run_nested-clause-beginning
+run-returns-in-Err-run_nested-clause-beginning g t c =
+    let p = program (g.H.Host.meaning c.args.host.now) (g.H.Host.code c.args.host.now) in
+    let a = c.args.self.now in
+    let now = g.W.Sink.told c.loop-entry.writer in
+    let at = g.W.Sink.told c.step.new.writer in
+    let new = g.W.Sink.told c.run_nested.new.writer in
+    let e = c.in-Ok-Enter.entry in
+    let step = rw c.in-Ok-Enter.field-0-is at c.in-Ok-Enter.ensures.performs in
+    let did = at_base p c.loop-entry.self c.step.new.self now at (Ok (flow.Enter e)) c.base-base.result (base_of c.args.heard a.captures a.world) c.base-base.ensures step.did in
+    beginning_in e c.step.new.self at new c.loop-entry.invariant.stands did c.in-Err-run_nested.ensures.beginning
+
+pub run-returns-in-Ok-Done-clause-ended : goal.run-returns-in-Ok-Done-clause-ended
+run-returns-in-Ok-Done-clause-ended g t c =
+    let p = program (g.H.Host.meaning c.args.host.now) (g.H.Host.code c.args.host.now) in
+    let a = c.args.self.now in
+    let now = g.W.Sink.told c.loop-entry.writer in
+    let new = g.W.Sink.told c.step.new.writer in
+    let step = rw c.in-Ok-Done.field-0-is at c.in-Ok-Done.ensures.performs in
+    let did = at_base p c.loop-entry.self c.step.new.self now new (Ok flow.Done) c.base-base.result (base_of c.args.heard a.captures a.world) c.base-base.ensures step.did in
+    done_at c.step.new.self new c.loop-entry.invariant.stands did
+
+pub run-returns-in-Ok-Done-clause-beginning : goal.run-returns-in-Ok-Done-clause-beginning
+run-returns-in-Ok-Done-clause-beginning g t c =
+    let step = rw c.in-Ok-Done.field-0-is at c.in-Ok-Done.ensures.performs in
+    whole_at (g.W.Sink.told c.step.new.writer) c.loop-entry.invariant.stands step.did.1
+
+pub run-returns-in-Err-clause-ended : goal.run-returns-in-Err-clause-ended
+run-returns-in-Err-clause-ended g t c =
+    let p = program (g.H.Host.meaning c.args.host.now) (g.H.Host.code c.args.host.now) in
+    let a = c.args.self.now in
+    let now = g.W.Sink.told c.loop-entry.writer in
+    let new = g.W.Sink.told c.step.new.writer in
+    let did = at_base p c.loop-entry.self c.step.new.self now new (Err c.in-Err.halt) c.base-base.result (base_of c.args.heard a.captures a.world) c.base-base.ensures c.in-Err.ensures.performs.did in
+    ended_at new c.in-Err.halt c.step.new.self.world c.loop-entry.invariant.stands did.0 did.1
+
+pub run-returns-in-Err-clause-beginning : goal.run-returns-in-Err-clause-beginning
+run-returns-in-Err-clause-beginning g t c =
+    let p = program (g.H.Host.meaning c.args.host.now) (g.H.Host.code c.args.host.now) in
+    let a = c.args.self.now in
+    let now = g.W.Sink.told c.loop-entry.writer in
+    let new = g.W.Sink.told c.step.new.writer in
+    let did = at_base p c.loop-entry.self c.step.new.self now new (Err c.in-Err.halt) c.base-base.result (base_of c.args.heard a.captures a.world) c.base-base.ensures c.in-Err.ensures.performs.did in
+    beginning_at new c.loop-entry.invariant.stands did.1

@@ -1,0 +1,24 @@
+use Rattle.std.proofs.Common.{◌≡◌, ◌+◌, ◌-◌, ◌*◌, ◌≤◌, length}
+use Rattle.tm_meaning.specs.World.{depth}
+use Rattle.tm_meaning.specs.Machine.{base_of}
+use Rattle.tm_vm.specs.Answers.{Keeps, program}
+use Rattle.tm_vm.proofs.Loop.{Stands}
+use Rattle.tm_vm.proofs.machine.Machine.+machine.Given as goal
+
+abbrev pub decreases-run_nested : goal.decreases-run_nested
+decreases-run_nested g l = ((g.H.Host.meaning l.host.now).limit + 1 - depth l.self.now.world.scopes) * 2 + 1
+
+abbrev pub decreases-run : goal.decreases-run
+decreases-run g l = ((g.H.Host.meaning l.host.now).limit + 1 - depth l.self.now.world.scopes) * 2
+
+abbrev pub invariant-run-loop-entry : goal.invariant-run-loop-entry
+invariant-run-loop-entry g l = record {
+  faults : g.W.Sink.faults l.writer ≡ g.W.Sink.faults l.initial.writer;
+  kept : Keeps l.initial.self.world l.self.world;
+  no_shallower : depth l.initial.self.world.scopes ≤ depth l.self.world.scopes;
+  same_stream : l.self.run.stream ≡ l.initial.self.run.stream;
+  stands : Stands (program (g.H.Host.meaning l.host) (g.H.Host.code l.host)) (base_of l.heard l.initial.self.captures l.initial.self.world) l.initial.self (g.W.Sink.told l.initial.writer) (g.W.Sink.told l.writer) l.self;
+}
+
+abbrev pub decreases-run-loop-entry : goal.decreases-run-loop-entry
+decreases-run-loop-entry g l = l.self.world.fuel

@@ -1,0 +1,66 @@
+-- A run that an instruction needed, and the machine behind it.
+use Rattle.std.specs.Prelude.{◌≡◌, ◌⊎◌, ℕ, List, [], ◌∷◌, length, Option, Result, Ok, Err, true}
+use Rattle.std.specs.Io.KnownBytes.{Appends}
+use Rattle.tm_meaning.specs.World.{World}
+use Rattle.tm_values.specs.Chain.{ends_in_memory}
+use Rattle.tm_values.specs.declared.error.ErrorKind.{ErrorKind}
+use Rattle.tm_values.specs.declared.error.ErrorKind.TheVariants.{OutOfMemory}
+use Rattle.tm_meaning.specs.Calls.{whole, wrapped}
+use Rattle.tm_meaning.specs.Machine.{Activation, Capture, Config, End, Finished, Failed, Stuck, Next, More, Over, Program, back_with, stuck, base_of, start}
+use Rattle.tm_meaning.specs.Steps.{Final, Reaches, final}
+use Rattle.tm_meaning.specs.declared.base.Base.{Base}
+use Rattle.tm_output.specs.Counts.{AppendsBeginning}
+use Rattle.tm_parts.specs.declared.halt.Halt.{Halt}
+use Rattle.tm_parts.specs.declared.halt.Halt.TheVariants as halt
+use Rattle.tm_vm.specs.Answers.{Comes, HaltsAs}
+use Rattle.tm_vm.specs.State.{put_back}
+use Rattle.tm_vm.specs.declared.flow.Entry.{Entry}
+
+-- what the run stands on, and where it starts, where the configuration is c
+abbrev pub base_in : Entry → Config → Base
+base_in e c = base_of e.heard c.captures c.world
+
+abbrev pub start_in : Entry → Config → Config
+start_in e c = start (whole e.stream) c.captures c.world
+
+-- What its end leads to, for the run that waits: as it was, or with the captured text on top.
+abbrev pub behind : Entry → Activation → End → Next
+behind e r (Finished ks w) = back_with e.value r ks (put_back e.saved w)
+behind e r (Failed chain w) = Over (Failed (wrapped e.wrap chain) w)
+behind e r (Stuck w) = stuck w
+
+-- The run was done, the writer got its text, and the run that waited goes on.
+pub record Went (p : Program) (e : Entry) (old new : Config) (told now : Option (List ℕ)) : Type 0 where
+  pub text : List ℕ
+  pub captures : List Capture
+  pub world : World
+  pub appended : Appends told now text
+  pub reaches : Reaches p (base_in e old) [] (start_in e old) (final text (Finished captures world))
+  pub closed : length world.scopes.frames ≡ length old.world.scopes.frames
+  pub goes : behind e old.run (Finished captures world) ≡ More [] new
+
+-- The run came to an end that leads to the end of the run that waits.
+abbrev pub EndsIn : Program → Entry → Config → Option (List ℕ) → Option (List ℕ) → End → Type 0
+EndsIn p e old told now x = (inner : End) × Comes p (base_in e old) (start_in e old) told now inner × (behind e old.run inner ≡ Over x)
+
+-- The run was done, or the halt is the end that it leads to.
+abbrev pub Ran : Program → Entry → Config → Config → Option (List ℕ) → Option (List ℕ) → Result (Unit {0}) Halt → Type 0
+Ran p e old new told now (Ok _) = Went p e old new told now
+Ran p e old new told now (Err why) = HaltsAs why new.world (EndsIn p e old told now)
+
+-- A kind is put before a fault, and touches neither the writer's failure nor what is stuck; no memory may be found for it.
+abbrev pub IsWrapped : Option ErrorKind → Halt → Halt → Type 0
+IsWrapped wrap halt.Writer now = now ≡ halt.Writer
+IsWrapped wrap halt.Stuck now = now ≡ halt.Stuck
+IsWrapped wrap (halt.Fault chain) now = (now ≡ halt.Fault (wrapped wrap chain)) ⊎ (now ≡ halt.Fault (OutOfMemory ∷ []))
+
+-- The innermost capture's text was put on top; or none was open; or no memory was found.
+abbrev pub IsCaptured : Result (Unit {0}) Halt → Config → Config → Type 0
+IsCaptured (Ok _) old new = back_with true old.run old.captures old.world ≡ More [] new
+IsCaptured (Err halt.Writer) old new = ⊥
+IsCaptured (Err halt.Stuck) old new = old.captures ≡ []
+IsCaptured (Err (halt.Fault chain)) old new = ends_in_memory chain ≡ true
+
+-- What the writer has got is a beginning of all that the run writes.
+abbrev pub Begins : Program → Base → Config → Option (List ℕ) → Option (List ℕ) → Type 0
+Begins p f c told now = (o : Final) → Reaches p f [] c o → AppendsBeginning told now o.text

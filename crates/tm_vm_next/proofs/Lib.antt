@@ -1,4 +1,0 @@
-pub mod Shift
-pub mod Loop
-pub mod Blocks
-pub mod Performed
