@@ -3,8 +3,12 @@
 
 mod environment;
 mod rendering;
+#[cfg(test)]
+mod rows;
 mod state;
 mod template;
+#[cfg(test)]
+mod tests;
 
 pub use environment::{Environment, EnvironmentOf};
 pub use state::{Captured, CapturedOf, State, StateOf};
@@ -18,7 +22,8 @@ pub use tm_output::{Target, TargetFailed};
 pub use tm_parts::{Counted, FuelTracker, NullWriter, Output, Sink, WriteWrapper};
 pub use tm_printing as printing;
 pub use tm_tables::{
-    Answer, Callable, CompiledTemplate, Objects, Parties, Reply, Source, TemplateConfig, View,
+    Answer, Answering, Callable, CompiledTemplate, Objects, Parties, Plain, Reply, Source,
+    TemplateConfig, View,
 };
 pub use tm_values::{
     AutoEscape, Error, ErrorKind, LoopPosition, NoRecords, Records, UndefinedBehavior,
