@@ -124,39 +124,6 @@ fn context(alloc: Global) -> Result<Value, Error> {
     Value::from_map(alloc, map)
 }
 
-/// Makes a fault a function of the name.
-fn add_fault(
-    alloc: Global,
-    environment: &mut Environment<'static>,
-    name: &str,
-    kind: ErrorKind,
-) -> Result<(), Error> {
-    let object = Box::new(alloc, Faulty { kind })?;
-    environment.add_function(name, object)
-}
-
-/// An environment with the functions of the rows.
-fn environment(alloc: Global) -> Result<Environment<'static>, Error> {
-    let mut environment = Environment::new(alloc)?;
-    environment.set_fuel(Some(1000));
-    let second = Box::new(alloc, Second)?;
-    environment.add_function("second", second)?;
-    let keeper = Box::new(alloc, Keeper)?;
-    environment.add_function("keep", keeper)?;
-    let reader = Box::new(alloc, Reader)?;
-    environment.add_function("read", reader)?;
-    add_fault(
-        alloc,
-        &mut environment,
-        "missing",
-        ErrorKind::MissingArgument,
-    )?;
-    add_fault(alloc, &mut environment, "failing", ErrorKind::WriteFailure)?;
-    add_fault(alloc, &mut environment, "stuck", ErrorKind::BadStream)?;
-    add_fault(alloc, &mut environment, "hungry", ErrorKind::OutOfMemory)?;
-    Ok(environment)
-}
-
 /// How many charges a render of the source takes, or the kind of its error.
 fn charges(
     environment: &Environment<'static>,
@@ -180,7 +147,42 @@ fn charges(
 #[test]
 fn rows_render(rt: HostRuntime) -> Result<(), Fail> {
     let alloc = rt.alloc();
-    let environment = environment(alloc)?;
+    let mut environment = Environment::new(alloc)?;
+    environment.set_fuel(Some(1000));
+    let second = Box::new(alloc, Second)?;
+    environment.add_function("second", second)?;
+    let keeper = Box::new(alloc, Keeper)?;
+    environment.add_function("keep", keeper)?;
+    let reader = Box::new(alloc, Reader)?;
+    environment.add_function("read", reader)?;
+    let missing = Box::new(
+        alloc,
+        Faulty {
+            kind: ErrorKind::MissingArgument,
+        },
+    )?;
+    environment.add_function("missing", missing)?;
+    let failing = Box::new(
+        alloc,
+        Faulty {
+            kind: ErrorKind::WriteFailure,
+        },
+    )?;
+    environment.add_function("failing", failing)?;
+    let stuck = Box::new(
+        alloc,
+        Faulty {
+            kind: ErrorKind::BadStream,
+        },
+    )?;
+    environment.add_function("stuck", stuck)?;
+    let hungry = Box::new(
+        alloc,
+        Faulty {
+            kind: ErrorKind::OutOfMemory,
+        },
+    )?;
+    environment.add_function("hungry", hungry)?;
     for Row(source, text, end) in ROWS {
         let mut writer = Counted::new(Vec::<u8>::new(alloc));
         let answer = charges(&environment, source, context(alloc)?, &mut writer);
