@@ -1,5 +1,5 @@
 -- What renders mean, leave and answer.
-use Rattle.std.specs.Prelude.{◌≡◌, ◌⊎◌, ◌-◌, ◌^◌, ℕ, List, [], ◌∷◌, true, Option, Result, Ok, Err, String, string_bytes}
+use Rattle.std.specs.Prelude.{◌≡◌, ◌⊎◌, ◌+◌, ◌-◌, ◌^◌, ℕ, List, [], ◌∷◌, true, Option, Result, Ok, Err, String, string_bytes}
 use Rattle.std.specs.Io.KnownBytes.{Appends}
 use Rattle.std.specs.declared.alloc.Global.{Global}
 use Rattle.tm_values.specs.Answer.{Answer}
@@ -83,11 +83,11 @@ pub data RenderedText (m : Outcome) (result : Result (String Global) (List Error
   text_as_meant : IsText result m → RenderedText m result
   text_by_memory : IsMemory result → RenderedText m result
 
--- How a render of a source ended, whose template would have this name: refused, since it spells no template or no memory was found; or rendered, as the template that it spells.
-pub data RenderedSource {O : Type 0} (functions : O → List Function) (e : EnvironmentValue O) (name source : List ℕ) (id : ℕ) (context : Val) (result : Result (String Global) (List ErrorKind)) : Type 0 where
-  source_refused : (chain : List ErrorKind) → result ≡ Err chain → IsRefused e.syntax source chain → RenderedSource functions e name source id context result
-  source_rendered : (t : Compiled) → IsTemplate e.syntax name source t → RenderedText (meaning functions (record { environment = e; template = t }) id context) result →
-      RenderedSource functions e name source id context result
+-- How a render of a source ended, whose template has this name: refused, since it spells no template or no memory was found, and no state was numbered; or rendered, as the template that it spells.
+pub data RenderedSource {O : Type 0} (functions : O → List Function) (e : EnvironmentValue O) (name source : List ℕ) (old new : ℕ) (context : Val) (result : Result (String Global) (List ErrorKind)) : Type 0 where
+  source_refused : (chain : List ErrorKind) → result ≡ Err chain → IsRefused e.syntax source chain → new ≡ old → RenderedSource functions e name source old new context result
+  source_rendered : (t : Compiled) → IsTemplate e.syntax name source t → RenderedText (meaning functions (record { environment = e; template = t }) old context) result → new ≡ old + 1 →
+      RenderedSource functions e name source old new context result
 
 -- ---------------------------------------------------------------- runs
 -- No capture is open, or one without text.

@@ -1,18 +1,22 @@
 //! The environment.
-ghost use Rattle.std.specs.Prelude.{◌≡◌, [], ◌∷◌, Some, None, codes, min, OnOk, OnErr, IfOk, IfErr, MatchResult, length, slice_get};
+ghost use Rattle.std.specs.Prelude.{◌≡◌, ◌<◌, [], ◌∷◌, Some, None, codes, min, OnOk, OnErr, IfOk, IfErr, MatchResult, length, slice_get};
 ghost use Rattle.tm_syntax.specs.Named.{find, put};
 ghost use Rattle.tm_tables_next.specs.Templates.{Compiled, IsTemplate, IsRefused};
 ghost use Rattle.tm_values.specs.Answer.{IsLent, OkOrOutOfMemory};
 ghost use Rattle.std.specs.Prelude.{string_bytes};
 ghost use Rattle.tm_tables_next.specs.Sources.{source_bytes};
+ghost use Rattle.template_machine_next.specs.Renders.{greatest, RenderedSource};
 ghost use Rattle.template_machine_next.specs.Environment.{empty_environment, with_function, greatest_limit};
 
 use crate::template::{Held, TemplateOf};
 use std::alloc::Global;
 use std::marker::Model;
 use tm_syntax::{Name, NameMap};
-use tm_tables_next::{Callable, CompiledTemplate, Objects, Source, TemplateConfig, Templates};
+use tm_tables_next::{
+    Callable, CompiledTemplate, Objects, Parties, Source, TemplateConfig, Templates,
+};
 use tm_values::{Error, ErrorKind, Value};
+use tm_vm_next::StateIds;
 
 /// How deep scopes may lie at most.
 const GREATEST_LIMIT: usize = 500;
@@ -178,6 +182,39 @@ impl<'source, O: Drop> EnvironmentOf<'source, O> {
         ensures { IsLent result (find name.now self.now.templates) }
     {
         self.templates.get(name)
+    }
+}
+
+impl<'source, O: Parties> EnvironmentOf<'source, O> {
+    /// Renders a source, which the environment doesn't keep, under the name `<string>`, as `render_named_str` does.
+    pub fn render_str(
+        &self,
+        ids: &mut StateIds,
+        source: &'source str,
+        context: Value,
+    ) -> Result<String, Error>
+        ensures { ids.old < greatest → RenderedSource O.functions self.now (codes "<string>")
+            source.entry.now ids.old ids.new context result }
+    {
+        self.render_named_str(ids, UNNAMED, source, context)
+    }
+
+    /// Renders a source, which the environment doesn't keep, under a name, as the next state of the counter. SyntaxError where the source spells no template; else as a template's `render`.
+    pub fn render_named_str(
+        &self,
+        ids: &mut StateIds,
+        name: &str,
+        source: &'source str,
+        context: Value,
+    ) -> Result<String, Error>
+        ensures { ids.old < greatest → RenderedSource O.functions self.now name.now
+            source.entry.now ids.old ids.new context result }
+    {
+        let template = match self.template_from_named_str(name, source) {
+            Ok(template) => template,
+            Err(error) => return Err(error),
+        };
+        template.render(ids, context)
     }
 }
 

@@ -5,6 +5,8 @@ mod environment;
 mod rendering;
 mod state;
 mod template;
+#[cfg(test)]
+mod tests;
 
 pub use environment::{Environment, EnvironmentOf};
 pub use state::{Captured, CapturedOf, State, StateOf};

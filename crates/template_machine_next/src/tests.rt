@@ -1,0 +1,74 @@
+//! What no clause says: that calls succeed with ample memory.
+ghost use Rattle.tm_values.specs.Val.{boolean};
+ghost use Rattle.tm_semantics.specs.World.{gives};
+ghost use Rattle.tm_tables_next.specs.Stated.{just};
+ghost use Rattle.std.specs.Prelude.{true};
+
+use super::*;
+use std::alloc::Global;
+use std::process::Abort;
+use std::test::Fail;
+
+/// Answers true.
+#[derive(Drop)]
+struct Yes;
+
+impl Callable for Yes {
+    ghost answers = { λ _ args view. just (gives (boolean true)) };
+
+    fn call(&self, alloc: Global, _args: &[Value], _view: &View<'_>) -> Answer {
+        Answer::value(alloc, Value::boolean(true))
+    }
+}
+
+/// Renders sources over nothing, and compares the texts.
+fn expect_texts(
+    rt: &impl Abort,
+    environment: &Environment<'static>,
+    rows: &[(&'static str, &'static str)],
+) -> Result<(), Fail> {
+    let mut ids = StateIds::new();
+    for &(source, want) in rows {
+        let text = environment.render_str(&mut ids, source, Value::undefined())?;
+        assert_eq!(rt; text.as_str(), want, "at {source}");
+    }
+    Ok(())
+}
+
+#[test]
+fn sources_render(rt: HostRuntime) -> Result<(), Fail> {
+    let alloc = rt.alloc();
+    let mut environment = Environment::new(alloc)?;
+    let yes = Box::new(alloc, Yes)?;
+    environment.add_function("yes", yes)?;
+    expect_texts(
+        &rt,
+        &environment,
+        &[
+            ("Hello {{ name }}!", "Hello !"),
+            ("{% if yes() %}x{% else %}y{% endif %}", "x"),
+            ("{% block b %}x{{ a }}{% endblock %}y", "xy"),
+        ],
+    )
+}
+
+/// Renders the template of a name into no writer, and gives its name and the fuel that it took.
+fn consumed(environment: &Environment<'_>, name: &str) -> Result<u64, Error> {
+    let template = environment.get_template(name)?;
+    let mut ids = StateIds::new();
+    let captured = template.render_captured_to(&mut ids, Value::undefined(), &mut NullWriter)?;
+    match captured.state().fuel_levels() {
+        Some((consumed, _left)) => Ok(consumed),
+        None => Ok(0),
+    }
+}
+
+#[test]
+fn templates_render_by_name(rt: HostRuntime) -> Result<(), Fail> {
+    let alloc = rt.alloc();
+    let mut environment = Environment::new(alloc)?;
+    environment.set_fuel(Some(100));
+    environment.add_template("page", "Hello {{ name }}!")?;
+    assert_eq!(rt; consumed(&environment, "page")?, 4);
+    Ok(())
+}
