@@ -14,7 +14,7 @@ use std::io::{self, BufWriter, Read};
 use std::process::ExitCode;
 use std::{env, fs};
 use tell::tell_refusal;
-use template_machine_next::Counted;
+use tm_parts_next::Counted;
 
 /// The files of the system, and its standard input.
 #[derive(Drop)]

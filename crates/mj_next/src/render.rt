@@ -7,7 +7,10 @@ ghost use Rattle.mj_next.specs.Program.{context_of, limit_of, IsRendered, IsFaul
 use crate::arguments::Arguments;
 use std::alloc::Global;
 use std::io::Write;
-use template_machine_next::{Counted, Environment, Error, ErrorKind, StateIds, Value, ValueMap};
+use template_machine_next::Environment;
+use tm_parts_next::Counted;
+use tm_values::{Error, ErrorKind, Value, ValueMap};
+use tm_vm_next::StateIds;
 
 /// Renders the source and flushes, also after a render that failed, whose error is the one that
 /// counts. SyntaxError where the source spells no template, WriteFailure where a write or the flush

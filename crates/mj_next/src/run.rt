@@ -11,7 +11,7 @@ use crate::render::render;
 use crate::tell::{tell_error, tell_refusal};
 use std::alloc::Global;
 use std::io::{self, Write};
-use template_machine_next::Counted;
+use tm_parts_next::Counted;
 
 /// The status of a run without a fault.
 const SUCCESS: u8 = 0;

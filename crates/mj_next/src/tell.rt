@@ -6,8 +6,8 @@ ghost use Rattle.mj_next.specs.Told.{IsTold, IsWritten, line, message, refusal_m
 
 use crate::arguments::Refusal;
 use std::io::{self, Write};
-use template_machine_next::{Counted, Error, ErrorKind};
-use tm_parts_next::write_text;
+use tm_parts_next::{Counted, write_text};
+use tm_values::{Error, ErrorKind};
 
 /// The line that tells how the program is called.
 const USAGE: &str = "usage: mj [-D name=text].. [--json FILE] [--fuel N] [--limit N] FILE..\n";

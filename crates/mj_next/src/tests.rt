@@ -5,7 +5,7 @@ use std::alloc::Global;
 use std::io::{self, Write};
 use std::process::Abort;
 use std::test::Fail;
-use template_machine_next::Counted;
+use tm_parts_next::Counted;
 
 const USAGE_LINE: &str = "usage: mj [-D name=text].. [--json FILE] [--fuel N] [--limit N] FILE..\n";
 
