@@ -9,7 +9,7 @@ use Rattle.std.specs.declared.cmp.Ordering.TheVariants.{Less, Equal, Greater}
 use Rattle.std.specs.Ordering.{match_ordering}
 use Rattle.std.specs.BTreeMap.{insert_entry, is_at}
 use Rattle.std.specs.Map.{lookup}
-use Rattle.tm_syntax.specs.Named.{Named, name_cmp, find, put, named_of}
+use Rattle.tm_syntax.specs.Named.{name_cmp, find, put, named_of}
 
 map_match_ordering : {A B : Type 0} (f : A → B) (o : Ordering) (x y z : List A) → map f (match_ordering o x y z) ≡ match_ordering o (map f x) (map f y) (map f z)
 map_match_ordering f Less x y z = refl

@@ -4,23 +4,48 @@ use Rattle.tm_syntax.specs.declared.tree.UnaryOperator.{UnaryOperator}
 use Rattle.tm_syntax.specs.declared.tree.UnaryOperator.TheVariants as unaries
 use Rattle.tm_syntax.specs.declared.tree.BinaryOperator.{BinaryOperator}
 use Rattle.tm_syntax.specs.declared.tree.BinaryOperator.TheVariants as binaries
-use Rattle.tm_syntax.specs.declared.tree.Expr.{Expr, Var, Const, Call', Row_of-Argument, end_of-Argument as no_argument, more_of-Argument as argument, Row_of-Step, end_of-Step as no_step, more_of-Step as step}
+use Rattle.tm_syntax.specs.declared.tree.Expr.{Expr, Var, Const, List', Tuple', Map', Call', Row_of-Expr, end_of-Expr as no_expr, more_of-Expr as expr, Row_of-Pair, end_of-Pair as no_pair, more_of-Pair as with_pair, Row_of-Argument, end_of-Argument as no_argument, more_of-Argument as argument, Row_of-Step, end_of-Step as no_step, more_of-Step as step}
 use Rattle.tm_syntax.specs.declared.tree.Argument.{Argument}
+use Rattle.tm_syntax.specs.declared.tree.Pair.{Pair}
 use Rattle.tm_syntax.specs.declared.tree.Step.{Step, Attribute}
 use Rattle.tm_syntax.specs.declared.tree.Stmt.{Stmt, EmitRaw, EmitExpr, If', Block', Row_of-Stmt, end_of-Stmt as no_statement, more_of-Stmt as statement, Held-Stmt-If-2 as Otherwise, None' as no_else, Some' as otherwise}
 use Rattle.tm_syntax.specs.declared.instruction.Instruction.{Instruction}
 use Rattle.tm_syntax.specs.declared.instruction.Instruction.TheVariants as i
-use Rattle.tm_syntax.specs.Forms.{unary, chained, plain, binary, and_then, or_else}
+use Rattle.tm_syntax.specs.Forms.{unary, chained, pair, plain, item, slice, binary, and_then, or_else}
 
 abbrev pub unary_code : UnaryOperator → Instruction
 unary_code unaries.Not = i.Not
+unary_code unaries.Negate = i.Neg
 
-abbrev pub binary_code : BinaryOperator → Instruction
-binary_code binaries.Equal = i.Eq
+abbrev pub binary_code : BinaryOperator → List Instruction
+binary_code binaries.Equal = i.Eq ∷ []
+binary_code binaries.NotEqual = i.Ne ∷ []
+binary_code binaries.Less = i.Lt ∷ []
+binary_code binaries.LessOrEqual = i.Lte ∷ []
+binary_code binaries.Greater = i.Gt ∷ []
+binary_code binaries.GreaterOrEqual = i.Gte ∷ []
+binary_code binaries.In = i.In ∷ []
+binary_code binaries.NotIn = i.In ∷ i.Not ∷ []
+binary_code binaries.Add = i.Add ∷ []
+binary_code binaries.Subtract = i.Sub ∷ []
+binary_code binaries.Concatenate = i.StringConcat ∷ []
+binary_code binaries.Multiply = i.Mul ∷ []
+binary_code binaries.Divide = i.Div ∷ []
+binary_code binaries.FloorDivide = i.IntDiv ∷ []
+binary_code binaries.Remainder = i.Rem ∷ []
+binary_code binaries.Power = i.Pow ∷ []
 
 abbrev pub count : {n : _} → Row_of-Argument n → ℕ
 count no_argument = 0
 count (argument a more) = count more + 1
+
+abbrev pub count_exprs : {n : _} → Row_of-Expr n → ℕ
+count_exprs no_expr = 0
+count_exprs (expr e more) = count_exprs more + 1
+
+abbrev pub count_pairs : {n : _} → Row_of-Pair n → ℕ
+count_pairs no_pair = 0
+count_pairs (with_pair p more) = count_pairs more + 1
 
 -- code, and then what follows at the place behind it
 abbrev pub before : ℕ → List Instruction → (ℕ → List Instruction) → List Instruction
@@ -30,9 +55,23 @@ abbrev mutual
   pub expr_code : ℕ → Expr → List Instruction
   expr_code pc (Var x) = i.Lookup x ∷ []
   expr_code pc (Const v) = i.LoadConst v ∷ []
+  expr_code pc (List' _ es) = exprs_code pc es ++ i.BuildList (count_exprs es) ∷ []
+  expr_code pc (Tuple' _ es) = exprs_code pc es ++ i.BuildTuple (count_exprs es) ∷ []
+  expr_code pc (Map' _ ps) = pairs_code pc ps ++ i.BuildMap (count_pairs ps) ∷ []
   expr_code pc (Call' f _ given) = arguments_code pc given ++ i.CallFunction f (count given) ∷ []
   expr_code pc (unary op a) = expr_code pc a ++ unary_code op ∷ []
   expr_code pc (chained a _ ss) = before pc (expr_code pc a) (λ pc1. steps_code pc1 ss)
+
+  pub exprs_code : {n : _} → ℕ → Row_of-Expr n → List Instruction
+  exprs_code pc no_expr = []
+  exprs_code pc (expr e more) = before pc (expr_code pc e) (λ pc1. exprs_code pc1 more)
+
+  pub pair_code : ℕ → Pair → List Instruction
+  pair_code pc (pair k v) = before pc (expr_code pc k) (λ pc1. expr_code pc1 v)
+
+  pub pairs_code : {n : _} → ℕ → Row_of-Pair n → List Instruction
+  pairs_code pc no_pair = []
+  pairs_code pc (with_pair p more) = before pc (pair_code pc p) (λ pc1. pairs_code pc1 more)
 
   pub argument_code : ℕ → Argument → List Instruction
   argument_code pc (plain a) = expr_code pc a
@@ -43,7 +82,10 @@ abbrev mutual
 
   pub step_code : ℕ → Step → List Instruction
   step_code pc (Attribute x) = i.GetAttr x ∷ []
-  step_code pc (binary op a) = expr_code pc a ++ binary_code op ∷ []
+  step_code pc (item a) = expr_code pc a ++ i.GetItem ∷ []
+  step_code pc (slice a b c) =
+      before pc (expr_code pc a) (λ pc1. before pc1 (expr_code pc1 b) (λ pc2. expr_code pc2 c ++ i.Slice ∷ []))
+  step_code pc (binary op a) = expr_code pc a ++ binary_code op
   step_code pc (and_then a) = i.JumpIfFalseOrPop (pc + 1 + length (expr_code (pc + 1) a)) ∷ expr_code (pc + 1) a
   step_code pc (or_else a) = i.JumpIfTrueOrPop (pc + 1 + length (expr_code (pc + 1) a)) ∷ expr_code (pc + 1) a
 

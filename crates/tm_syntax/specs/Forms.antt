@@ -1,12 +1,12 @@
 -- The forms of a tree that hold boxes, as patterns: a box is what it holds.
-use Rattle.std.specs.Prelude.{ℕ, List}
 use mathlib.Core.Former.{arity, this}
 use Rattle.sqlite_items.specs.formers.items.Items as items
 use Rattle.tm_syntax.specs.declared.tree.UnaryOperator.{UnaryOperator}
 use Rattle.tm_syntax.specs.declared.tree.BinaryOperator.{BinaryOperator}
 use Rattle.tm_syntax.specs.declared.tree.Expr.{Expr, Unary', Chain', end_of-Expr, more_of-Expr, Row_of-Step}
 use Rattle.tm_syntax.specs.declared.tree.Argument.{Argument, Plain'}
-use Rattle.tm_syntax.specs.declared.tree.Step.{Step, Binary', And', Or'}
+use Rattle.tm_syntax.specs.declared.tree.Pair.{Pair, Pair'}
+use Rattle.tm_syntax.specs.declared.tree.Step.{Step, Item', Slice', Binary', And', Or'}
 
 pattern abbrev pub unary : UnaryOperator → Expr → Expr
 unary op a = Unary' op tt (more_of-Expr a end_of-Expr)
@@ -16,6 +16,15 @@ chained a n ss = Chain' tt (more_of-Expr a end_of-Expr) n ss
 
 pattern abbrev pub plain : Expr → Argument
 plain a = Plain' tt (more_of-Expr a end_of-Expr)
+
+pattern abbrev pub pair : Expr → Expr → Pair
+pair k v = Pair' tt (more_of-Expr k end_of-Expr) tt (more_of-Expr v end_of-Expr)
+
+pattern abbrev pub item : Expr → Step
+item a = Item' tt (more_of-Expr a end_of-Expr)
+
+pattern abbrev pub slice : Expr → Expr → Expr → Step
+slice a b c = Slice' tt (more_of-Expr a end_of-Expr) tt (more_of-Expr b end_of-Expr) tt (more_of-Expr c end_of-Expr)
 
 pattern abbrev pub binary : BinaryOperator → Expr → Step
 binary op a = Binary' op tt (more_of-Expr a end_of-Expr)

@@ -15,8 +15,48 @@ pub enum Instruction {
     LoadConst(Value),
     /// Replaces a value by its attribute.
     GetAttr(Name),
+    /// Replaces a value and a key by the value's item there.
+    GetItem,
+    /// Replaces a value, a start, a stop and a step by the value's slice.
+    Slice,
+    /// Replaces so many values by a list of them.
+    BuildList(usize),
+    /// Replaces so many values by a tuple of them.
+    BuildTuple(usize),
+    /// Replaces so many keys, each with its value, by a map of them.
+    BuildMap(usize),
     /// Replaces two values by whether they are equal.
     Eq,
+    /// Replaces two values by whether they differ.
+    Ne,
+    /// Replaces two values by whether the first is less.
+    Lt,
+    /// Replaces two values by whether the first is less or equal.
+    Lte,
+    /// Replaces two values by whether the first is greater.
+    Gt,
+    /// Replaces two values by whether the first is greater or equal.
+    Gte,
+    /// Replaces two values by whether the first is in the second.
+    In,
+    /// Replaces two values by their sum.
+    Add,
+    /// Replaces two values by their difference.
+    Sub,
+    /// Replaces two values by their printed texts, one behind the other.
+    StringConcat,
+    /// Replaces two values by their product.
+    Mul,
+    /// Replaces two values by what `/` gives, which is nothing.
+    Div,
+    /// Replaces two values by their whole quotient.
+    IntDiv,
+    /// Replaces two values by their remainder.
+    Rem,
+    /// Replaces two values by the first raised to the second.
+    Pow,
+    /// Replaces a value by the number with the other sign.
+    Neg,
     /// Replaces a value by whether it is false.
     Not,
     /// Goes to a place.

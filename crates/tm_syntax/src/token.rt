@@ -15,12 +15,48 @@ pub enum Sign {
     OpenRound,
     /// `)`
     CloseRound,
+    /// `[`
+    OpenSquare,
+    /// `]`
+    CloseSquare,
+    /// `{`
+    OpenCurly,
+    /// `}`
+    CloseCurly,
     /// `,`
     Comma,
     /// `.`
     Dot,
+    /// `:`
+    Colon,
     /// `==`
     Equal,
+    /// `!=`
+    NotEqual,
+    /// `<`
+    Less,
+    /// `<=`
+    LessOrEqual,
+    /// `>`
+    Greater,
+    /// `>=`
+    GreaterOrEqual,
+    /// `+`
+    Plus,
+    /// `-`
+    Minus,
+    /// `~`
+    Tilde,
+    /// `*`
+    Star,
+    /// `/`
+    Slash,
+    /// `//`
+    DoubleSlash,
+    /// `%`
+    Percent,
+    /// `**`
+    DoubleStar,
     /// `and`
     And,
     /// `or`

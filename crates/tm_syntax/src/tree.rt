@@ -8,6 +8,8 @@ use tm_values::Value;
 pub enum UnaryOperator {
     /// `not`
     Not,
+    /// `-`
+    Negate,
 }
 
 /// An operator between two operands that both run.
@@ -15,6 +17,36 @@ pub enum UnaryOperator {
 pub enum BinaryOperator {
     /// `==`
     Equal,
+    /// `!=`
+    NotEqual,
+    /// `<`
+    Less,
+    /// `<=`
+    LessOrEqual,
+    /// `>`
+    Greater,
+    /// `>=`
+    GreaterOrEqual,
+    /// `in`
+    In,
+    /// `not in`
+    NotIn,
+    /// `+`
+    Add,
+    /// `-`
+    Subtract,
+    /// `~`
+    Concatenate,
+    /// `*`
+    Multiply,
+    /// `/`
+    Divide,
+    /// `//`
+    FloorDivide,
+    /// `%`
+    Remainder,
+    /// `**`
+    Power,
 }
 
 /// An expression.
@@ -25,12 +57,26 @@ pub enum Expr {
     Var(Name),
     /// A literal.
     Const(Value),
+    /// A list of the values of expressions.
+    List(Items<Expr>),
+    /// A tuple of them.
+    Tuple(Items<Expr>),
+    /// A map of pairs.
+    Map(Items<Pair>),
     /// A call of a name, with its arguments.
     Call(Name, Items<Argument>),
     /// A prefix operator and its operand.
     Unary(UnaryOperator, Boxed<Expr>),
     /// A value and the steps behind it, from the left.
     Chain(Boxed<Expr>, Items<Step>),
+}
+
+/// A key of a map with its value.
+#[cycle(expr)]
+#[derive(Drop)]
+pub enum Pair {
+    /// The key, and the value.
+    Pair(Boxed<Expr>, Boxed<Expr>),
 }
 
 /// An argument of a call.
@@ -47,6 +93,10 @@ pub enum Argument {
 pub enum Step {
     /// Its attribute of a name.
     Attribute(Name),
+    /// Its item at a key.
+    Item(Boxed<Expr>),
+    /// Its slice from a start to a stop by a step, each the literal none where it is missing.
+    Slice(Boxed<Expr>, Boxed<Expr>, Boxed<Expr>),
     /// The operator with this right side.
     Binary(BinaryOperator, Boxed<Expr>),
     /// The value where it is false, else this.
