@@ -1,9 +1,11 @@
 -- What each instruction does once it is paid for.
-use Rattle.std.specs.Prelude.{ℕ, List, [], ◌∷◌, Bool, ◌&&◌}
+use Rattle.std.specs.Prelude.{ℕ, ◌+◌, List, [], ◌∷◌, Bool, ◌&&◌}
 use Rattle.tm_values.specs.Val.{Val}
+use Rattle.tm_syntax.specs.declared.tree.UnaryOperator.{UnaryOperator}
+use Rattle.tm_syntax.specs.declared.tree.BinaryOperator.{BinaryOperator}
 use Rattle.tm_meaning.specs.World.{choose, World, Host, Res, Good, looked_up, emitted}
 use Rattle.tm_meaning.specs.Calls.{enter_block, call_named}
-use Rattle.tm_meaning.specs.Meaning.{none_waits, truth, not_of, equal_of, attribute}
+use Rattle.tm_meaning.specs.Meaning.{none_waits, truth, applied_unary, operated, attribute, item_at, slice_of, list_of_values, map_of_pairs}
 use Rattle.tm_meaning.specs.Machine.{Config, Base, Next, More, after, on_top, take_n, on, goes, jumps, with_world, audible, writes, asked, asked_in_place}
 
 -- ---------------------------------------------------------------- output
@@ -32,11 +34,32 @@ replaces_two g c =
 abbrev pub get_attr_of : Host → List ℕ → Config → Next
 get_attr_of host x c = replaces_one (λ v w. attribute host v x w) c
 
-abbrev pub not_instruction_of : Host → Config → Next
-not_instruction_of host c = replaces_one (not_of host) c
+abbrev pub unary_of : Host → UnaryOperator → Config → Next
+unary_of host op c = replaces_one (applied_unary host op) c
 
-abbrev pub eq_of : Host → Config → Next
-eq_of host c = replaces_two (equal_of host) c
+abbrev pub binary_of : Host → BinaryOperator → Config → Next
+binary_of host op c = replaces_two (operated host op) c
+
+abbrev pub get_item_of : Host → Config → Next
+get_item_of host c = replaces_two (item_at host) c
+
+-- four operands are replaced, a value below its start, stop and step
+abbrev pub slice_instruction_of : Host → Config → Next
+slice_instruction_of host c =
+    on_top c.run.operands c.world (λ by vs. on_top vs c.world (λ stop us. on_top us c.world (λ start ts. on_top ts c.world (λ v rest.
+    after (slice_of host v start stop by c.world) (λ x w. goes (x ∷ rest) w c)))))
+
+-- ---------------------------------------------------------------- lists and maps
+abbrev pub build_list_of : ℕ → Config → Next
+build_list_of n c = take_n n c.run.operands c.world (λ vs rest. goes (list_of_values vs ∷ rest) c.world c)
+
+-- keys, each with its value behind it
+abbrev pub paired : List Val → List (Val × Val)
+paired (k ∷ v ∷ vs) = (k, v) ∷ paired vs
+paired _ = []
+
+abbrev pub build_map_of : ℕ → Config → Next
+build_map_of n c = take_n (n + n) c.run.operands c.world (λ vs rest. goes (map_of_pairs (paired vs) ∷ rest) c.world c)
 
 -- ---------------------------------------------------------------- jumps
 abbrev pub jump_of : ℕ → Config → Next

@@ -2,23 +2,30 @@
 use Rattle.std.specs.Prelude.{ℕ, zero, suc, ◌+◌, ◌^◌, ◌-◌, List, [], ◌∷◌, ◌++◌, Option, Some, None, Bool, true, false, not, ◌&&◌, Ok, Err}
 use Rattle.std.specs.Result.{result_map_both}
 use Rattle.tm_values.specs.Answer.{Answer}
-use Rattle.tm_values.specs.Val.{Val, boolean}
+use Rattle.tm_values.specs.Map.{put_all}
+use Rattle.tm_values.specs.Val.{Val, boolean, list, map, vals_of, pairs_of}
 use Rattle.tm_values.specs.declared.error.ErrorKind.{ErrorKind}
 use Rattle.tm_values.specs.declared.error.ErrorKind.TheVariants.{InvalidOperation}
 use Rattle.tm_values.specs.declared.escape.AutoEscape.{AutoEscape}
+use Rattle.tm_operations.specs.Arithmetic as arithmetic
 use Rattle.tm_operations.specs.Truth.{truth_of}
 use Rattle.tm_operations.specs.Comparison.{compared}
-use Rattle.tm_operations.specs.Members.{attribute_of}
+use Rattle.tm_operations.specs.Concatenation.{concatenated}
+use Rattle.tm_operations.specs.Containment.{contained}
+use Rattle.tm_operations.specs.Members.{attribute_of, item_of}
+use Rattle.tm_operations.specs.Slices.{sliced}
+use Rattle.tm_operations.specs.declared.comparisons.Comparison.{Comparison}
 use Rattle.tm_operations.specs.declared.comparisons.Comparison.TheVariants as comparison
 use Rattle.tm_syntax.specs.declared.tree.UnaryOperator.{UnaryOperator}
 use Rattle.tm_syntax.specs.declared.tree.UnaryOperator.TheVariants as unaries
 use Rattle.tm_syntax.specs.declared.tree.BinaryOperator.{BinaryOperator}
 use Rattle.tm_syntax.specs.declared.tree.BinaryOperator.TheVariants as binaries
-use Rattle.tm_syntax.specs.declared.tree.Expr.{Expr, Var, Const, Call', Row_of-Argument, end_of-Argument as no_argument, more_of-Argument as argument, Row_of-Step, end_of-Step as no_step, more_of-Step as step}
+use Rattle.tm_syntax.specs.declared.tree.Expr.{Expr, Var, Const, List', Tuple', Map', Call', Row_of-Expr, end_of-Expr as no_expr, more_of-Expr as expr, Row_of-Pair, end_of-Pair as no_pair, more_of-Pair as with_pair, Row_of-Argument, end_of-Argument as no_argument, more_of-Argument as argument, Row_of-Step, end_of-Step as no_step, more_of-Step as step}
 use Rattle.tm_syntax.specs.declared.tree.Argument.{Argument}
+use Rattle.tm_syntax.specs.declared.tree.Pair.{Pair}
 use Rattle.tm_syntax.specs.declared.tree.Step.{Step, Attribute}
 use Rattle.tm_syntax.specs.declared.tree.Stmt.{Stmt, EmitRaw, EmitExpr, If', Block', Row_of-Stmt, end_of-Stmt as no_statement, more_of-Stmt as statement, Held-Stmt-If-2 as Otherwise, None' as no_else, Some' as otherwise}
-use Rattle.tm_syntax.specs.Forms.{unary, chained, plain, binary, and_then, or_else}
+use Rattle.tm_syntax.specs.Forms.{unary, chained, pair, plain, item, slice, binary, and_then, or_else}
 use Rattle.tm_meaning.specs.World.{choose, TemplateId, root_of, StreamId, World, Host, Res, Good, Bad, bind, answered, tick, ticked, looked_up, records_of, template_at, emitted, captured_text, plain as plain_scope}
 use Rattle.tm_meaning.specs.Calls.{Callee, whole, Call, Asked, has, refused, runs, undone, wrapped, enter_block, call_named, own_blocks}
 use Rattle.tm_meaning.specs.Tree.{Body, Trees}
@@ -123,26 +130,78 @@ negated answer = result_map_both (λ b. boolean (not b)) (λ e. e) answer
 abbrev pub not_of : Host → Val → World → Res Val
 not_of host v w = answered (negated (truth_of host.undefined v)) w
 
-abbrev pub equal_of : Host → Val → Val → World → Res Val
-equal_of host a b w = answered (as_value (compared comparison.Equal host.undefined a b)) w
+abbrev pub compared_by : Comparison → Host → Val → Val → World → Res Val
+compared_by c host a b w = answered (as_value (compared c host.undefined a b)) w
 
 abbrev pub applied_unary : Host → UnaryOperator → Val → World → Res Val
 applied_unary host unaries.Not v w = not_of host v w
+applied_unary host unaries.Negate v w = answered (arithmetic.negated v) w
 
+-- what an operator gives of two values
+abbrev pub operated : Host → BinaryOperator → Val → Val → World → Res Val
+operated host binaries.Equal a b w = compared_by comparison.Equal host a b w
+operated host binaries.NotEqual a b w = compared_by comparison.NotEqual host a b w
+operated host binaries.Less a b w = compared_by comparison.Less host a b w
+operated host binaries.LessOrEqual a b w = compared_by comparison.LessOrEqual host a b w
+operated host binaries.Greater a b w = compared_by comparison.Greater host a b w
+operated host binaries.GreaterOrEqual a b w = compared_by comparison.GreaterOrEqual host a b w
+operated host binaries.In a b w = answered (as_value (contained host.undefined (records_of w) b a)) w
+operated host binaries.NotIn a b w = answered (negated (contained host.undefined (records_of w) b a)) w
+operated host binaries.Add a b w = answered (arithmetic.added a b) w
+operated host binaries.Subtract a b w = answered (arithmetic.subtracted a b) w
+operated host binaries.Concatenate a b w = answered (concatenated host.undefined (records_of w) a b) w
+operated host binaries.Multiply a b w = answered (arithmetic.multiplied a b) w
+operated host binaries.Divide a b w = answered (arithmetic.divided a b) w
+operated host binaries.FloorDivide a b w = answered (arithmetic.floor_divided a b) w
+operated host binaries.Remainder a b w = answered (arithmetic.remaining a b) w
+operated host binaries.Power a b w = answered (arithmetic.raised a b) w
+
+-- the same in an expression, where `not in` is `in` and then `not`, which is charged too
 abbrev pub applied : Host → BinaryOperator → Val → Val → World → Res Val
-applied host binaries.Equal a b w = equal_of host a b w
+applied host binaries.NotIn a b w = bind (operated host binaries.In a b w) (λ v w1. ticked w1 (λ w2. not_of host v w2))
+applied host op a b w = operated host op a b w
 
 abbrev pub attribute : Host → Val → List ℕ → World → Res Val
 attribute host v x w = answered (attribute_of host.undefined (records_of w) v x) w
+
+abbrev pub item_at : Host → Val → Val → World → Res Val
+item_at host v k w = answered (item_of host.undefined (records_of w) v k) w
+
+-- from a start to a stop by a step
+abbrev pub slice_of : Host → Val → Val → Val → Val → World → Res Val
+slice_of host v start stop by w = answered (sliced host.undefined v start stop by) w
+
+abbrev pub list_of_values : List Val → Val
+list_of_values vs = list (vals_of vs)
+
+-- of equal keys the first spelling and the last value
+abbrev pub map_of_pairs : List (Val × Val) → Val
+map_of_pairs ps = map (pairs_of (put_all ps))
 
 -- ---------------------------------------------------------------- expressions
 abbrev mutual
   pub eval : Under → Run → Expr → World → Res Val
   eval u run (Var x) w = ticked w (λ w1. looked_up u.host x w1)
   eval u run (Const v) w = ticked w (λ w1. Good v w1)
+  eval u run (List' _ es) w = bind (eval_all u run es w) (λ vs w1. ticked w1 (λ w2. Good (list_of_values vs) w2))
+  eval u run (Tuple' _ es) w = bind (eval_all u run es w) (λ vs w1. ticked w1 (λ w2. Good (list_of_values vs) w2))
+  eval u run (Map' _ ps) w = bind (eval_pairs u run ps w) (λ es w1. ticked w1 (λ w2. Good (map_of_pairs es) w2))
   eval u run (Call' f _ given) w = bind (eval_arguments u run given w) (λ vs w1. ticked w1 (λ w2. value_of u (call_named u.host f vs w2)))
   eval u run (unary op a) w = bind (eval u run a w) (λ v w1. ticked w1 (λ w2. applied_unary u.host op v w2))
   eval u run (chained a _ ss) w = bind (eval u run a w) (λ v w1. eval_steps u run ss v w1)
+
+  -- from the first to the last
+  pub eval_all : {n : _} → Under → Run → Row_of-Expr n → World → Res (List Val)
+  eval_all u run no_expr w = Good [] w
+  eval_all u run (expr e more) w = bind (eval u run e w) (λ v w1. bind (eval_all u run more w1) (λ vs w2. Good (v ∷ vs) w2))
+
+  -- a key before its value
+  pub eval_pair : Under → Run → Pair → World → Res (Val × Val)
+  eval_pair u run (pair k v) w = bind (eval u run k w) (λ x w1. bind (eval u run v w1) (λ y w2. Good (x, y) w2))
+
+  pub eval_pairs : {n : _} → Under → Run → Row_of-Pair n → World → Res (List (Val × Val))
+  eval_pairs u run no_pair w = Good [] w
+  eval_pairs u run (with_pair p more) w = bind (eval_pair u run p w) (λ x w1. bind (eval_pairs u run more w1) (λ xs w2. Good (x ∷ xs) w2))
 
   pub eval_argument : Under → Run → Argument → World → Res Val
   eval_argument u run (plain a) w = eval u run a w
@@ -155,6 +214,9 @@ abbrev mutual
   -- a value goes on; `and` and `or` charge their test, and give the operand that ran last
   pub eval_step : Under → Run → Step → Val → World → Res Val
   eval_step u run (Attribute x) v w = ticked w (λ w1. attribute u.host v x w1)
+  eval_step u run (item a) v w = bind (eval u run a w) (λ k w1. ticked w1 (λ w2. item_at u.host v k w2))
+  eval_step u run (slice a b c) v w =
+      bind (eval u run a w) (λ x w1. bind (eval u run b w1) (λ y w2. bind (eval u run c w2) (λ z w3. ticked w3 (λ w4. slice_of u.host v x y z w4))))
   eval_step u run (binary op a) v w = bind (eval u run a w) (λ y w1. ticked w1 (λ w2. applied u.host op v y w2))
   eval_step u run (and_then a) v w =
       ticked w (λ w1. bind (truth u.host v w1) (λ b w2. choose b (λ _. eval u run a w2) (λ _. Good v w2)))

@@ -3,9 +3,11 @@ use Rattle.std.specs.Prelude.{◌≡◌, ℕ, zero, suc, List, [], ◌∷◌, �
 use Rattle.tm_values.specs.declared.escape.AutoEscape.{AutoEscape}
 use Rattle.tm_syntax.specs.declared.instruction.Instruction.{Instruction}
 use Rattle.tm_syntax.specs.declared.instruction.Instruction.TheVariants as i
+use Rattle.tm_syntax.specs.declared.tree.UnaryOperator.TheVariants as unaries
+use Rattle.tm_syntax.specs.declared.tree.BinaryOperator.TheVariants as binaries
 use Rattle.tm_meaning.specs.World.{choose, World, Host, Res, pays}
 use Rattle.tm_meaning.specs.Machine.{Config, Return, Base, End, Finished, Back, back_to, Next, More, Over, Nest, Program, after, stuck, with_world}
-use Rattle.tm_meaning.specs.Instructions.{emit_raw_of, emit_of, lookup_of, load_const_of, get_attr_of, not_instruction_of, eq_of, jump_of, jump_if_false_of, jump_if_false_or_pop_of, jump_if_true_or_pop_of, call_function_of, call_block_of}
+use Rattle.tm_meaning.specs.Instructions.{emit_raw_of, emit_of, lookup_of, load_const_of, get_attr_of, unary_of, binary_of, get_item_of, slice_instruction_of, build_list_of, build_map_of, jump_of, jump_if_false_of, jump_if_false_or_pop_of, jump_if_true_or_pop_of, call_function_of, call_block_of}
 
 -- what an instruction is charged: 0 where it is free, which none is yet
 abbrev pub charge_of : Instruction → ℕ
@@ -21,8 +23,28 @@ effect host f i.Emit c = emit_of host f c
 effect host f (i.Lookup x) c = lookup_of host x c
 effect host f (i.LoadConst v) c = load_const_of v c
 effect host f (i.GetAttr x) c = get_attr_of host x c
-effect host f i.Eq c = eq_of host c
-effect host f i.Not c = not_instruction_of host c
+effect host f i.GetItem c = get_item_of host c
+effect host f i.Slice c = slice_instruction_of host c
+effect host f (i.BuildList n) c = build_list_of n c
+effect host f (i.BuildTuple n) c = build_list_of n c
+effect host f (i.BuildMap n) c = build_map_of n c
+effect host f i.Eq c = binary_of host binaries.Equal c
+effect host f i.Ne c = binary_of host binaries.NotEqual c
+effect host f i.Lt c = binary_of host binaries.Less c
+effect host f i.Lte c = binary_of host binaries.LessOrEqual c
+effect host f i.Gt c = binary_of host binaries.Greater c
+effect host f i.Gte c = binary_of host binaries.GreaterOrEqual c
+effect host f i.In c = binary_of host binaries.In c
+effect host f i.Add c = binary_of host binaries.Add c
+effect host f i.Sub c = binary_of host binaries.Subtract c
+effect host f i.StringConcat c = binary_of host binaries.Concatenate c
+effect host f i.Mul c = binary_of host binaries.Multiply c
+effect host f i.Div c = binary_of host binaries.Divide c
+effect host f i.IntDiv c = binary_of host binaries.FloorDivide c
+effect host f i.Rem c = binary_of host binaries.Remainder c
+effect host f i.Pow c = binary_of host binaries.Power c
+effect host f i.Neg c = unary_of host unaries.Negate c
+effect host f i.Not c = unary_of host unaries.Not c
 effect host f (i.Jump n) c = jump_of n c
 effect host f (i.JumpIfFalse n) c = jump_if_false_of host n c
 effect host f (i.JumpIfFalseOrPop n) c = jump_if_false_or_pop_of host n c
