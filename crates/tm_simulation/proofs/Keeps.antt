@@ -9,14 +9,15 @@ use Rattle.tm_syntax.specs.declared.tree.UnaryOperator.{UnaryOperator}
 use Rattle.tm_syntax.specs.declared.tree.UnaryOperator.TheVariants as unaries
 use Rattle.tm_syntax.specs.declared.tree.BinaryOperator.{BinaryOperator}
 use Rattle.tm_syntax.specs.declared.tree.BinaryOperator.TheVariants as binaries
-use Rattle.tm_syntax.specs.declared.tree.Expr.{Expr, Var, Const, Call', Row_of-Argument, end_of-Argument as no_argument, more_of-Argument as argument, Row_of-Step, end_of-Step as no_step, more_of-Step as step}
+use Rattle.tm_syntax.specs.declared.tree.Expr.{Expr, Var, Const, List', Tuple', Map', Call', Row_of-Expr, end_of-Expr as no_expr, more_of-Expr as expr, Row_of-Pair, end_of-Pair as no_pair, more_of-Pair as with_pair, Row_of-Argument, end_of-Argument as no_argument, more_of-Argument as argument, Row_of-Step, end_of-Step as no_step, more_of-Step as step}
 use Rattle.tm_syntax.specs.declared.tree.Argument.{Argument}
+use Rattle.tm_syntax.specs.declared.tree.Pair.{Pair}
 use Rattle.tm_syntax.specs.declared.tree.Step.{Step, Attribute}
 use Rattle.tm_syntax.specs.declared.tree.Stmt.{Stmt, EmitRaw, EmitExpr, If', Block', Row_of-Stmt, end_of-Stmt as no_statement, more_of-Stmt as statement, Held-Stmt-If-2 as Otherwise, None' as no_else, Some' as otherwise}
-use Rattle.tm_syntax.specs.Forms.{unary, chained, plain, binary, and_then, or_else}
+use Rattle.tm_syntax.specs.Forms.{unary, chained, pair, plain, item, slice, binary, and_then, or_else}
 use Rattle.tm_meaning.specs.World.{choose, find, block_of, with_frames, World, Host, Scopes, Scope, Res, Good, Bad, bind, need, check, answered, charged, with_fuel, tick, push, pop, depth, without_first, emitted, looked_up, lookup, Function, callers, Reply, gives, faults, plain as plain_scope}
 use Rattle.tm_meaning.specs.Calls.{Callee, whole, Call, Undo, of_block, undone, wrapped, Asked, has, refused, runs, ask, enter_block, call_named, call_value, call_by, replied, required_alone}
-use Rattle.tm_meaning.specs.Meaning.{Run, Outcome, Ending, done, leave, next, fault, Nests, Under, use_it, then_do, on_done, so_far, ended, say, audible, none_waits, value_of, value_behind, in_place_of, behind, block_tag, truth, applied_unary, applied, attribute, not_of, equal_of, eval, eval_argument, eval_arguments, eval_step, eval_steps, emit, behind_first, exec, execs, exec_else, at_end, new_run, nests_of}
+use Rattle.tm_meaning.specs.Meaning.{Run, Outcome, Ending, done, leave, next, fault, Nests, Under, use_it, then_do, on_done, so_far, ended, say, audible, none_waits, value_of, value_behind, in_place_of, behind, block_tag, truth, applied_unary, operated, applied, attribute, not_of, eval, eval_all, eval_pair, eval_pairs, eval_argument, eval_arguments, eval_step, eval_steps, emit, behind_first, exec, execs, exec_else, at_end, new_run, nests_of}
 use Rattle.tm_meaning.specs.Tree.{Trees}
 use Rattle.tm_meaning.specs.declared.stream.TemplateId.{TemplateId}
 
@@ -224,9 +225,26 @@ module _ (u : Under) (nest_ends : (k : Callee) (heard : Bool) (out : List ℕ) (
 
   pub unary_gives : (op : UnaryOperator) (v : Val) (w : World) → Gives w (applied_unary u.host op v w)
   unary_gives unaries.Not v w = answered_gives _ w
+  unary_gives unaries.Negate v w = answered_gives _ w
 
   pub binary_gives : (op : BinaryOperator) (a b : Val) (w : World) → Gives w (applied u.host op a b w)
   binary_gives binaries.Equal a b w = answered_gives _ w
+  binary_gives binaries.NotEqual a b w = answered_gives _ w
+  binary_gives binaries.Less a b w = answered_gives _ w
+  binary_gives binaries.LessOrEqual a b w = answered_gives _ w
+  binary_gives binaries.Greater a b w = answered_gives _ w
+  binary_gives binaries.GreaterOrEqual a b w = answered_gives _ w
+  binary_gives binaries.In a b w = answered_gives _ w
+  binary_gives binaries.NotIn a b w =
+      gives_bind w (operated u.host binaries.In a b w) _ (answered_gives _ w) (λ v w1. gives_bind w1 (tick w1) _ (tick_gives w1) (λ _ w2. answered_gives _ w2))
+  binary_gives binaries.Add a b w = answered_gives _ w
+  binary_gives binaries.Subtract a b w = answered_gives _ w
+  binary_gives binaries.Concatenate a b w = answered_gives _ w
+  binary_gives binaries.Multiply a b w = answered_gives _ w
+  binary_gives binaries.Divide a b w = tt
+  binary_gives binaries.FloorDivide a b w = answered_gives _ w
+  binary_gives binaries.Remainder a b w = answered_gives _ w
+  binary_gives binaries.Power a b w = answered_gives _ w
 
   pub looked_up_gives : (x : List ℕ) (w : World) → Gives w (looked_up u.host x w)
   looked_up_gives x w = gives_bind w (lookup u.host x w) _ (answered_gives _ w) (λ found w1. kept_same w1)
@@ -235,12 +253,32 @@ module _ (u : Under) (nest_ends : (k : Callee) (heard : Bool) (out : List ℕ) (
     pub eval_gives : (run : Run) (e : Expr) (w : World) → Gives w (eval u run e w)
     eval_gives run (Var x) w = gives_bind w (tick w) _ (tick_gives w) (λ _ w1. looked_up_gives x w1)
     eval_gives run (Const v) w = gives_bind w (tick w) _ (tick_gives w) (λ _ w1. kept_same w1)
+    eval_gives run (List' _ es) w =
+        gives_bind w (eval_all u run es w) _ (all_give run es w) (λ vs w1. gives_bind w1 (tick w1) _ (tick_gives w1) (λ _ w2. kept_same w2))
+    eval_gives run (Tuple' _ es) w =
+        gives_bind w (eval_all u run es w) _ (all_give run es w) (λ vs w1. gives_bind w1 (tick w1) _ (tick_gives w1) (λ _ w2. kept_same w2))
+    eval_gives run (Map' _ ps) w =
+        gives_bind w (eval_pairs u run ps w) _ (pairs_give run ps w) (λ xs w1. gives_bind w1 (tick w1) _ (tick_gives w1) (λ _ w2. kept_same w2))
     eval_gives run (Call' f _ given) w =
         gives_bind w (eval_arguments u run given w) _ (arguments_give run given w) (λ vs w1.
         gives_bind w1 (tick w1) _ (tick_gives w1) (λ _ w2. value_gives w2 _ (named_asks u.host f vs w2)))
     eval_gives run (unary op a) w =
         gives_bind w (eval u run a w) _ (eval_gives run a w) (λ v w1. gives_bind w1 (tick w1) _ (tick_gives w1) (λ _ w2. unary_gives op v w2))
     eval_gives run (chained a _ ss) w = gives_bind w (eval u run a w) _ (eval_gives run a w) (λ v w1. steps_give run ss v w1)
+
+    pub all_give : {n : _} → (run : Run) (es : Row_of-Expr n) (w : World) → Gives w (eval_all u run es w)
+    all_give run no_expr w = kept_same w
+    all_give run (expr e more) w =
+        gives_bind w (eval u run e w) _ (eval_gives run e w) (λ v w1. gives_bind w1 (eval_all u run more w1) _ (all_give run more w1) (λ vs w2. kept_same w2))
+
+    pub pair_gives : (run : Run) (x : Pair) (w : World) → Gives w (eval_pair u run x w)
+    pair_gives run (pair k v) w =
+        gives_bind w (eval u run k w) _ (eval_gives run k w) (λ x w1. gives_bind w1 (eval u run v w1) _ (eval_gives run v w1) (λ y w2. kept_same w2))
+
+    pub pairs_give : {n : _} → (run : Run) (ps : Row_of-Pair n) (w : World) → Gives w (eval_pairs u run ps w)
+    pairs_give run no_pair w = kept_same w
+    pairs_give run (with_pair x more) w =
+        gives_bind w (eval_pair u run x w) _ (pair_gives run x w) (λ y w1. gives_bind w1 (eval_pairs u run more w1) _ (pairs_give run more w1) (λ ys w2. kept_same w2))
 
     pub argument_gives : (run : Run) (a : Argument) (w : World) → Gives w (eval_argument u run a w)
     argument_gives run (plain a) w = eval_gives run a w
@@ -253,6 +291,12 @@ module _ (u : Under) (nest_ends : (k : Callee) (heard : Bool) (out : List ℕ) (
 
     pub step_gives : (run : Run) (s : Step) (v : Val) (w : World) → Gives w (eval_step u run s v w)
     step_gives run (Attribute x) v w = gives_bind w (tick w) _ (tick_gives w) (λ _ w1. answered_gives _ w1)
+    step_gives run (item a) v w =
+        gives_bind w (eval u run a w) _ (eval_gives run a w) (λ k w1. gives_bind w1 (tick w1) _ (tick_gives w1) (λ _ w2. answered_gives _ w2))
+    step_gives run (slice a b c) v w =
+        gives_bind w (eval u run a w) _ (eval_gives run a w) (λ x w1.
+        gives_bind w1 (eval u run b w1) _ (eval_gives run b w1) (λ y w2.
+        gives_bind w2 (eval u run c w2) _ (eval_gives run c w2) (λ z w3. gives_bind w3 (tick w3) _ (tick_gives w3) (λ _ w4. answered_gives _ w4))))
     step_gives run (binary op a) v w =
         gives_bind w (eval u run a w) _ (eval_gives run a w) (λ y w1. gives_bind w1 (tick w1) _ (tick_gives w1) (λ _ w2. binary_gives op v y w2))
     step_gives run (and_then a) v w =

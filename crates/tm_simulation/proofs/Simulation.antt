@@ -8,25 +8,27 @@ use Rattle.tm_syntax.specs.declared.tree.UnaryOperator.{UnaryOperator}
 use Rattle.tm_syntax.specs.declared.tree.UnaryOperator.TheVariants as unaries
 use Rattle.tm_syntax.specs.declared.tree.BinaryOperator.{BinaryOperator}
 use Rattle.tm_syntax.specs.declared.tree.BinaryOperator.TheVariants as binaries
-use Rattle.tm_syntax.specs.declared.tree.Expr.{Expr, Var, Const, Call', Row_of-Argument, end_of-Argument as no_argument, more_of-Argument as argument, Row_of-Step, end_of-Step as no_step, more_of-Step as step_and}
+use Rattle.tm_syntax.specs.declared.tree.Expr.{Expr, Var, Const, List', Tuple', Map', Call', Row_of-Expr, end_of-Expr as no_expr, more_of-Expr as expr, Row_of-Pair, end_of-Pair as no_pair, more_of-Pair as with_pair, Row_of-Argument, end_of-Argument as no_argument, more_of-Argument as argument, Row_of-Step, end_of-Step as no_step, more_of-Step as step_and}
 use Rattle.tm_syntax.specs.declared.tree.Argument.{Argument}
+use Rattle.tm_syntax.specs.declared.tree.Pair.{Pair}
 use Rattle.tm_syntax.specs.declared.tree.Step.{Step, Attribute}
 use Rattle.tm_syntax.specs.declared.tree.Stmt.{Stmt, EmitRaw, EmitExpr, If', Block', Row_of-Stmt, end_of-Stmt as no_statement, more_of-Stmt as statement, Held-Stmt-If-2 as Otherwise, None' as no_else, Some' as otherwise}
 use Rattle.tm_syntax.specs.declared.instruction.Instruction.{Instruction}
 use Rattle.tm_syntax.specs.declared.instruction.Instruction.TheVariants as i
-use Rattle.tm_syntax.specs.Forms.{unary, chained, plain, binary, and_then, or_else}
-use Rattle.tm_syntax.specs.Code.{expr_code, argument_code, arguments_code, step_code, steps_code, count, unary_code, binary_code, statement_code, statements_code, otherwise_code, jump_over}
+use Rattle.tm_syntax.specs.Forms.{unary, chained, pair, plain, item, slice, binary, and_then, or_else}
+use Rattle.tm_syntax.specs.Code.{expr_code, exprs_code, pair_code, pairs_code, argument_code, arguments_code, step_code, steps_code, count, count_exprs, count_pairs, unary_code, binary_code, statement_code, statements_code, otherwise_code, jump_over}
 use Rattle.tm_meaning.specs.World.{choose, World, Host, Res, Good, Bad, bind, tick, depth, emitted, looked_up}
 use Rattle.tm_meaning.specs.Calls.{Callee, whole, Call, Asked, has, refused, runs, enter_block, call_named}
 use Rattle.tm_meaning.specs.Tree.{Trees, Body}
-use Rattle.tm_meaning.specs.Meaning.{Run, Outcome, Ending, done, leave, next, fault, Nests, Under, so_far, say, use_it, then_do, value_of, in_place_of, block_tag, truth, applied_unary, applied, not_of, equal_of, attribute, audible as heard_here, none_waits, eval, eval_argument, eval_arguments, eval_step, eval_steps, emit, behind_first, exec, execs, exec_else, new_run, at_end, stream_run, nests_of, rendered}
+use Rattle.tm_meaning.specs.Meaning.{Run, Outcome, Ending, done, leave, next, fault, Nests, Under, so_far, say, use_it, then_do, value_of, in_place_of, block_tag, truth, applied_unary, operated, applied, attribute, item_at, slice_of, list_of_values, map_of_pairs, audible as heard_here, none_waits, eval, eval_all, eval_pair, eval_pairs, eval_argument, eval_arguments, eval_step, eval_steps, emit, behind_first, exec, execs, exec_else, new_run, at_end, stream_run, nests_of, rendered}
 use Rattle.tm_meaning.specs.Machine.{Activation, Config, Finished, Failed, Stuck, Next, More, Over, Program, after, goes, taken, on_taken, asked, asked_in_place, base_of, start, run_from, stuck, audible}
-use Rattle.tm_meaning.specs.Steps.{act, step, closed, finish, Final, final, Leads, over}
+use Rattle.tm_meaning.specs.Instructions.{binary_of, paired}
+use Rattle.tm_meaning.specs.Steps.{effect, act, step, closed, finish, Final, final, Leads, over}
 use Rattle.tm_meaning.specs.Compiled.{IsCompiled, code_of}
 use Rattle.tm_meaning.proofs.Ends.{one_end}
 use Rattle.tm_simulation.specs.Reached.{final_by, final_of, Renders}
 use Rattle.tm_simulation.proofs.Place.{HasAt, has_front, has_behind, has_whole}
-use Rattle.tm_simulation.proofs.Keeps.{Kept, kept_depth, kept_same, Gives, EndsBy as EndsKept, Ends as KeptEnds, ends_as, tick_gives, answered_gives, Asks, block_asks, named_asks, eval_gives, argument_gives, arguments_give, step_gives, steps_give, unary_gives, binary_gives, looked_up_gives, exec_ends, execs_end, nests_end}
+use Rattle.tm_simulation.proofs.Keeps.{Kept, kept_depth, kept_same, Gives, EndsBy as EndsKept, Ends as KeptEnds, ends_as, tick_gives, answered_gives, Asks, block_asks, named_asks, eval_gives, all_give, pair_gives, pairs_give, argument_gives, arguments_give, step_gives, steps_give, unary_gives, binary_gives, looked_up_gives, exec_ends, execs_end, nests_end}
 use Rattle.tm_simulation.proofs.Follow.{Bed, air, inside, captures_of, told_by, Spot, told, cfg, later, Follows, Then, Ends, whole_of, follows_map, bind_then, use_then, so_far_then, fault_then, do_then, ends_map, Go, silent, at, after_then, move, pushes, choose_then, choose_ends}
 use Rattle.tm_simulation.proofs.Forms.{Fits, audible_is, writes_then, end_by, end_of, Entered, call_in_place, call_as_value}
 use Rattle.tm_meaning.specs.declared.stream.TemplateId.{TemplateId}
@@ -50,29 +52,52 @@ taken_all vs n stack e =
     let d : n ≡ length vs + 0 = omega (arith, e) in
     ap (λ k. taken k [] (onto vs stack)) d ∙ taken_onto vs 0 [] stack ∙ ap (λ l. Some (l, stack)) (append-nil vs)
 
--- as many values as arguments
-abbrev IsLong : ℕ → Res (List Val) → Type 0
-IsLong n (Good vs w) = length vs ≡ n
+-- as many as were asked for
+abbrev IsLong : {A : Type 0} → ℕ → Res (List A) → Type 0
+IsLong n (Good xs w) = length xs ≡ n
 IsLong n (Bad chain w) = Unit {0}
 
-long_bind : {A : Type 0} (n : ℕ) (m : Res A) (g : A → World → Res (List Val)) → ((a : A) (w : World) → IsLong n (g a w)) → IsLong n (bind m g)
+long_bind : {A B : Type 0} (n : ℕ) (m : Res A) (g : A → World → Res (List B)) → ((a : A) (w : World) → IsLong n (g a w)) → IsLong n (bind m g)
 long_bind n (Good a w) g k = k a w
 long_bind n (Bad chain w) g k = tt
 
-long_more : (v : Val) (n : ℕ) (m : Res (List Val)) → IsLong n m → IsLong (n + 1) (bind m (λ vs w. Good (v ∷ vs) w))
-long_more v n (Good vs w) e = omega (arith, e)
-long_more v n (Bad chain w) e = tt
+long_more : {A : Type 0} (x : A) (n : ℕ) (m : Res (List A)) → IsLong n m → IsLong (n + 1) (bind m (λ xs w. Good (x ∷ xs) w))
+long_more x n (Good xs w) e = omega (arith, e)
+long_more x n (Bad chain w) e = tt
 
 arguments_long : {n : _} → (u : Under) (run : Run) (given : Row_of-Argument n) (w : World) → IsLong (count given) (eval_arguments u run given w)
 arguments_long u run no_argument w = refl
 arguments_long u run (argument a more) w =
     long_bind _ (eval_argument u run a w) _ (λ v w1. long_more v (count more) (eval_arguments u run more w1) (arguments_long u run more w1))
 
--- the same as `bind_then`, of as many values as were asked for
-bind_long : {B : Type 0} (r : Final) (t : List ℕ) (w : World) (n : ℕ) (m : Res (List Val)) (g : List Val → World → Res B) (K : B → World → Type 0) (L : List Val → World → Type 0) →
-    Gives w m → IsLong n m → Follows r t (bind m g) K → ((vs : List Val) (w1 : World) → Kept w w1 → length vs ≡ n → Follows r t (g vs w1) K → L vs w1) → Follows r t m L
-bind_long r t w n (Good vs w1) g K L e l h k = k vs w1 e l h
+all_long : {n : _} → (u : Under) (run : Run) (es : Row_of-Expr n) (w : World) → IsLong (count_exprs es) (eval_all u run es w)
+all_long u run no_expr w = refl
+all_long u run (expr e more) w =
+    long_bind _ (eval u run e w) _ (λ v w1. long_more v (count_exprs more) (eval_all u run more w1) (all_long u run more w1))
+
+pairs_long : {n : _} → (u : Under) (run : Run) (ps : Row_of-Pair n) (w : World) → IsLong (count_pairs ps) (eval_pairs u run ps w)
+pairs_long u run no_pair w = refl
+pairs_long u run (with_pair x more) w =
+    long_bind _ (eval_pair u run x w) _ (λ y w1. long_more y (count_pairs more) (eval_pairs u run more w1) (pairs_long u run more w1))
+
+-- the same as `bind_then`, of as many as were asked for
+bind_long : {A B : Type 0} (r : Final) (t : List ℕ) (w : World) (n : ℕ) (m : Res (List A)) (g : List A → World → Res B) (K : B → World → Type 0) (L : List A → World → Type 0) →
+    Gives w m → IsLong n m → Follows r t (bind m g) K → ((xs : List A) (w1 : World) → Kept w w1 → length xs ≡ n → Follows r t (g xs w1) K → L xs w1) → Follows r t m L
+bind_long r t w n (Good xs w1) g K L e l h k = k xs w1 e l h
 bind_long r t w n (Bad chain w1) g K L e l h k = h
+
+-- keys, each with its value behind it
+abbrev flat : List (Val × Val) → List Val
+flat [] = []
+flat (x ∷ xs) = x.0 ∷ x.1 ∷ flat xs
+
+flat_long : (n : ℕ) (xs : List (Val × Val)) → length xs ≡ n → length (flat xs) ≡ n + n
+flat_long n [] e = omega (arith, e)
+flat_long n (x ∷ xs) e = omega (arith, e, flat_long (length xs) xs refl)
+
+paired_flat : (xs : List (Val × Val)) → paired (flat xs) ≡ xs
+paired_flat [] = refl
+paired_flat ((k, v) ∷ xs) = ap (λ l. (k, v) ∷ l) (paired_flat xs)
 
 -- the run of a meaning, with the parent that waits at a spot
 abbrev as_at : Run → Spot → Run
@@ -116,13 +141,48 @@ module _ (p : Program) (f : Base) (r : Final) (trees : Trees) (n : ℕ)
       Follows r (told s) (bind (tick w) (λ _ w1. applied_unary p.host op v w1)) (λ x w1. Go p f r s (pc + 1) (x ∷ stack) w1) → Go p f r s pc (v ∷ stack) w
   unary_then unaries.Not s pc v stack w e h =
       at p f r i.Not s pc (v ∷ stack) w e (after_then p f r (told s) (tick w) _ (bind_then r (told s) w (tick w) _ _ _ (tick_gives w) h (λ _ w1 k h1.
-      pushes p f r s pc stack (v ∷ stack) w1 (not_of p.host v w1) h1)))
+      pushes p f r s pc stack (v ∷ stack) w1 (applied_unary p.host unaries.Not v w1) h1)))
+  unary_then unaries.Negate s pc v stack w e h =
+      at p f r i.Neg s pc (v ∷ stack) w e (after_then p f r (told s) (tick w) _ (bind_then r (told s) w (tick w) _ _ _ (tick_gives w) h (λ _ w1 k h1.
+      pushes p f r s pc stack (v ∷ stack) w1 (applied_unary p.host unaries.Negate v w1) h1)))
 
-  binary_then : (op : BinaryOperator) (s : Spot) (pc : ℕ) (a b : Val) (stack : List Val) (w : World) → slice_get (p.code s.run.stream) pc ≡ Some (binary_code op) →
-      Follows r (told s) (bind (tick w) (λ _ w1. applied p.host op a b w1)) (λ x w1. Go p f r s (pc + 1) (x ∷ stack) w1) → Go p f r s pc (b ∷ a ∷ stack) w
-  binary_then binaries.Equal s pc a b stack w e h =
-      at p f r i.Eq s pc (b ∷ a ∷ stack) w e (after_then p f r (told s) (tick w) _ (bind_then r (told s) w (tick w) _ _ _ (tick_gives w) h (λ _ w1 k h1.
-      pushes p f r s pc stack (b ∷ a ∷ stack) w1 (equal_of p.host a b w1) h1)))
+  -- an instruction that is an operator
+  operates : (op : BinaryOperator) (x : Instruction) → ((c : Config) → effect p.host f x c ≡ binary_of p.host op c) →
+      (s : Spot) (pc : ℕ) (a b : Val) (stack : List Val) (w : World) → slice_get (p.code s.run.stream) pc ≡ Some x →
+      Follows r (told s) (bind (tick w) (λ _ w1. operated p.host op a b w1)) (λ y w1. Go p f r s (pc + 1) (y ∷ stack) w1) → Go p f r s pc (b ∷ a ∷ stack) w
+  operates op x is s pc a b stack w e h =
+      at p f r x s pc (b ∷ a ∷ stack) w e (after_then p f r (told s) (tick w) _ (bind_then r (told s) w (tick w) _ _ _ (tick_gives w) h (λ _ w1 k h1.
+      subst (λ n. Leads p f (told s) n r) (sym (is (cfg s pc (b ∷ a ∷ stack) w1))) (pushes p f r s pc stack (b ∷ a ∷ stack) w1 (operated p.host op a b w1) h1))))
+
+  binary_then : (op : BinaryOperator) (s : Spot) (pc : ℕ) (a b : Val) (stack : List Val) (w : World) → HasAt (p.code s.run.stream) pc (binary_code op) →
+      Follows r (told s) (bind (tick w) (λ _ w1. applied p.host op a b w1)) (λ x w1. Go p f r s (pc + length (binary_code op)) (x ∷ stack) w1) → Go p f r s pc (b ∷ a ∷ stack) w
+  binary_then binaries.Equal s pc a b stack w is h = operates binaries.Equal i.Eq (λ c. refl) s pc a b stack w is.0 h
+  binary_then binaries.NotEqual s pc a b stack w is h = operates binaries.NotEqual i.Ne (λ c. refl) s pc a b stack w is.0 h
+  binary_then binaries.Less s pc a b stack w is h = operates binaries.Less i.Lt (λ c. refl) s pc a b stack w is.0 h
+  binary_then binaries.LessOrEqual s pc a b stack w is h = operates binaries.LessOrEqual i.Lte (λ c. refl) s pc a b stack w is.0 h
+  binary_then binaries.Greater s pc a b stack w is h = operates binaries.Greater i.Gt (λ c. refl) s pc a b stack w is.0 h
+  binary_then binaries.GreaterOrEqual s pc a b stack w is h = operates binaries.GreaterOrEqual i.Gte (λ c. refl) s pc a b stack w is.0 h
+  binary_then binaries.In s pc a b stack w is h = operates binaries.In i.In (λ c. refl) s pc a b stack w is.0 h
+  binary_then binaries.NotIn s pc a b stack w is h =
+      let place : pc + 1 + 1 ≡ pc + 2 = omega arith in
+      at p f r i.In s pc (b ∷ a ∷ stack) w is.0 (after_then p f r (told s) (tick w) _ (bind_then r (told s) w (tick w) _ _ _ (tick_gives w) h (λ _ w1 k h1.
+      pushes p f r s pc stack (b ∷ a ∷ stack) w1 (operated p.host binaries.In a b w1) (bind_then r (told s) w1 (operated p.host binaries.In a b w1) _ _ _ (answered_gives _ w1) h1 (λ v w2 k2 h2.
+      unary_then unaries.Not s (pc + 1) v stack w2 is.1.0
+      (follows_map r (told s) (bind (tick w2) (λ _ w3. applied_unary p.host unaries.Not v w3)) _ _ h2 (λ x w3 g. move p f r s _ _ (x ∷ stack) w3 place g)))))))
+  binary_then binaries.Add s pc a b stack w is h = operates binaries.Add i.Add (λ c. refl) s pc a b stack w is.0 h
+  binary_then binaries.Subtract s pc a b stack w is h = operates binaries.Subtract i.Sub (λ c. refl) s pc a b stack w is.0 h
+  binary_then binaries.Concatenate s pc a b stack w is h = operates binaries.Concatenate i.StringConcat (λ c. refl) s pc a b stack w is.0 h
+  binary_then binaries.Multiply s pc a b stack w is h = operates binaries.Multiply i.Mul (λ c. refl) s pc a b stack w is.0 h
+  binary_then binaries.Divide s pc a b stack w is h = operates binaries.Divide i.Div (λ c. refl) s pc a b stack w is.0 h
+  binary_then binaries.FloorDivide s pc a b stack w is h = operates binaries.FloorDivide i.IntDiv (λ c. refl) s pc a b stack w is.0 h
+  binary_then binaries.Remainder s pc a b stack w is h = operates binaries.Remainder i.Rem (λ c. refl) s pc a b stack w is.0 h
+  binary_then binaries.Power s pc a b stack w is h = operates binaries.Power i.Pow (λ c. refl) s pc a b stack w is.0 h
+
+  -- values become one
+  built_then : (made : List Val → Val) (s : Spot) (pc n : ℕ) (vs stack : List Val) (w : World) → length vs ≡ n → Go p f r s (pc + 1) (made vs ∷ stack) w →
+      Leads p f (told s) (on_taken (taken n [] (onto vs stack)) w (λ xs rest. goes (made xs ∷ rest) w (cfg s pc (onto vs stack) w))) r
+  built_then made s pc n vs stack w l g =
+      subst (λ t. Leads p f (told s) (on_taken t w (λ xs rest. goes (made xs ∷ rest) w (cfg s pc (onto vs stack) w))) r) (sym (taken_all vs n stack l)) (silent p f r (told s) _ g)
 
   mutual
     -- An expression's code pushes what it means, over any operands.
@@ -134,6 +194,38 @@ module _ (p : Program) (f : Base) (r : Final) (trees : Trees) (n : ℕ)
     expr_runs (Const v) run s pc stack w d is h =
         at p f r (i.LoadConst v) s pc stack w is.0 (after_then p f r (told s) (tick w) _ (bind_then r (told s) w (tick w) _ _ _ (tick_gives w) h (λ _ w1 k h1.
         silent p f r (told s) _ h1)))
+    expr_runs (List' _ es) run s pc stack w d is h =
+        let c = exprs_code pc es in
+        let last = i.BuildList (count_exprs es) in
+        let behind = has_behind (p.code s.run.stream) pc c (last ∷ []) is in
+        let place : pc + length c + 1 ≡ pc + length (c ++ last ∷ []) = omega (arith, length-append c (last ∷ [])) in
+        exprs_run es run s pc stack w d (has_front (p.code s.run.stream) pc c _ is)
+        (bind_long r (told s) w (count_exprs es) (eval_all u run es w) _ _ _ (all_give u nest_ends run es w) (all_long u run es w) h (λ vs w1 k l h1.
+        at p f r last s (pc + length c) (onto vs stack) w1 behind.0
+        (after_then p f r (told s) (tick w1) _ (bind_then r (told s) w1 (tick w1) _ _ _ (tick_gives w1) h1 (λ _ w2 k2 h2.
+        built_then list_of_values s (pc + length c) (count_exprs es) vs stack w2 l (move p f r s _ _ (list_of_values vs ∷ stack) w2 place h2))))))
+    expr_runs (Tuple' _ es) run s pc stack w d is h =
+        let c = exprs_code pc es in
+        let last = i.BuildTuple (count_exprs es) in
+        let behind = has_behind (p.code s.run.stream) pc c (last ∷ []) is in
+        let place : pc + length c + 1 ≡ pc + length (c ++ last ∷ []) = omega (arith, length-append c (last ∷ [])) in
+        exprs_run es run s pc stack w d (has_front (p.code s.run.stream) pc c _ is)
+        (bind_long r (told s) w (count_exprs es) (eval_all u run es w) _ _ _ (all_give u nest_ends run es w) (all_long u run es w) h (λ vs w1 k l h1.
+        at p f r last s (pc + length c) (onto vs stack) w1 behind.0
+        (after_then p f r (told s) (tick w1) _ (bind_then r (told s) w1 (tick w1) _ _ _ (tick_gives w1) h1 (λ _ w2 k2 h2.
+        built_then list_of_values s (pc + length c) (count_exprs es) vs stack w2 l (move p f r s _ _ (list_of_values vs ∷ stack) w2 place h2))))))
+    expr_runs (Map' _ ps) run s pc stack w d is h =
+        let c = pairs_code pc ps in
+        let n = count_pairs ps in
+        let last = i.BuildMap n in
+        let behind = has_behind (p.code s.run.stream) pc c (last ∷ []) is in
+        let place : pc + length c + 1 ≡ pc + length (c ++ last ∷ []) = omega (arith, length-append c (last ∷ [])) in
+        pairs_run ps run s pc stack w d (has_front (p.code s.run.stream) pc c _ is)
+        (bind_long r (told s) w n (eval_pairs u run ps w) _ _ _ (pairs_give u nest_ends run ps w) (pairs_long u run ps w) h (λ xs w1 k l h1.
+        at p f r last s (pc + length c) (onto (flat xs) stack) w1 behind.0
+        (after_then p f r (told s) (tick w1) _ (bind_then r (told s) w1 (tick w1) _ _ _ (tick_gives w1) h1 (λ _ w2 k2 h2.
+        built_then (λ vs. map_of_pairs (paired vs)) s (pc + length c) (n + n) (flat xs) stack w2 (flat_long n xs l)
+        (subst (λ ys. Go p f r s (pc + length c + 1) (map_of_pairs ys ∷ stack) w2) (sym (paired_flat xs)) (move p f r s _ _ (map_of_pairs xs ∷ stack) w2 place h2)))))))
     expr_runs (Call' g _ given) run s pc stack w d is h =
         let c = arguments_code pc given in
         let behind = has_behind (p.code s.run.stream) pc c (i.CallFunction g (count given) ∷ []) is in
@@ -162,6 +254,45 @@ module _ (p : Program) (f : Base) (r : Final) (trees : Trees) (n : ℕ)
         steps_run ss run s (pc + length c) v stack w1 (deep_kept k d) (has_behind (p.code s.run.stream) pc c rest is)
         (follows_map r (told s) (eval_steps u run ss v w1) _ _ h1 (λ x w2 g. move p f r s _ _ (x ∷ stack) w2 place g))))
 
+    exprs_run : {m : _} → (es : Row_of-Expr m) (run : Run) (s : Spot) (pc : ℕ) (stack : List Val) (w : World) → Deep w → HasAt (p.code s.run.stream) pc (exprs_code pc es) →
+        Follows r (told s) (eval_all u run es w) (λ vs w1. Go p f r s (pc + length (exprs_code pc es)) (onto vs stack) w1) → Go p f r s pc stack w
+    exprs_run no_expr run s pc stack w d is h = move p f r s pc (pc + 0) stack w (omega arith) h
+    exprs_run (expr e more) run s pc stack w d is h =
+        let c = expr_code pc e in
+        let rest = exprs_code (pc + length c) more in
+        let place : pc + length c + length rest ≡ pc + length (c ++ rest) = omega (arith, length-append c rest) in
+        expr_runs e run s pc stack w d (has_front (p.code s.run.stream) pc c rest is)
+        (bind_then r (told s) w (eval u run e w) _ _ _ (eval_gives u nest_ends run e w) h (λ v w1 k h1.
+        exprs_run more run s (pc + length c) (v ∷ stack) w1 (deep_kept k d) (has_behind (p.code s.run.stream) pc c rest is)
+        (bind_then r (told s) w1 (eval_all u run more w1) _ _ _ (all_give u nest_ends run more w1) h1 (λ vs w2 k2 g.
+        move p f r s _ _ (onto vs (v ∷ stack)) w2 place g))))
+
+    -- A pair's code pushes its key and then its value.
+    pair_runs : (x : Pair) (run : Run) (s : Spot) (pc : ℕ) (stack : List Val) (w : World) → Deep w → HasAt (p.code s.run.stream) pc (pair_code pc x) →
+        Follows r (told s) (eval_pair u run x w) (λ y w1. Go p f r s (pc + length (pair_code pc x)) (y.1 ∷ y.0 ∷ stack) w1) → Go p f r s pc stack w
+    pair_runs (pair k v) run s pc stack w d is h =
+        let c = expr_code pc k in
+        let rest = expr_code (pc + length c) v in
+        let place : pc + length c + length rest ≡ pc + length (c ++ rest) = omega (arith, length-append c rest) in
+        expr_runs k run s pc stack w d (has_front (p.code s.run.stream) pc c rest is)
+        (bind_then r (told s) w (eval u run k w) _ _ _ (eval_gives u nest_ends run k w) h (λ x w1 e h1.
+        expr_runs v run s (pc + length c) (x ∷ stack) w1 (deep_kept e d) (has_behind (p.code s.run.stream) pc c rest is)
+        (bind_then r (told s) w1 (eval u run v w1) _ _ _ (eval_gives u nest_ends run v w1) h1 (λ y w2 e2 g.
+        move p f r s _ _ (y ∷ x ∷ stack) w2 place g))))
+
+    pairs_run : {m : _} → (ps : Row_of-Pair m) (run : Run) (s : Spot) (pc : ℕ) (stack : List Val) (w : World) → Deep w → HasAt (p.code s.run.stream) pc (pairs_code pc ps) →
+        Follows r (told s) (eval_pairs u run ps w) (λ xs w1. Go p f r s (pc + length (pairs_code pc ps)) (onto (flat xs) stack) w1) → Go p f r s pc stack w
+    pairs_run no_pair run s pc stack w d is h = move p f r s pc (pc + 0) stack w (omega arith) h
+    pairs_run (with_pair x more) run s pc stack w d is h =
+        let c = pair_code pc x in
+        let rest = pairs_code (pc + length c) more in
+        let place : pc + length c + length rest ≡ pc + length (c ++ rest) = omega (arith, length-append c rest) in
+        pair_runs x run s pc stack w d (has_front (p.code s.run.stream) pc c rest is)
+        (bind_then r (told s) w (eval_pair u run x w) _ _ _ (pair_gives u nest_ends run x w) h (λ y w1 k h1.
+        pairs_run more run s (pc + length c) (y.1 ∷ y.0 ∷ stack) w1 (deep_kept k d) (has_behind (p.code s.run.stream) pc c rest is)
+        (bind_then r (told s) w1 (eval_pairs u run more w1) _ _ _ (pairs_give u nest_ends run more w1) h1 (λ ys w2 k2 g.
+        move p f r s _ _ (onto (flat ys) (y.1 ∷ y.0 ∷ stack)) w2 place g))))
+
     argument_runs : (a : Argument) (run : Run) (s : Spot) (pc : ℕ) (stack : List Val) (w : World) → Deep w → HasAt (p.code s.run.stream) pc (argument_code pc a) →
         Follows r (told s) (eval_argument u run a w) (λ v w1. Go p f r s (pc + length (argument_code pc a)) (v ∷ stack) w1) → Go p f r s pc stack w
     argument_runs (plain a) run s pc stack w d is h = expr_runs a run s pc stack w d is h
@@ -185,13 +316,42 @@ module _ (p : Program) (f : Base) (r : Final) (trees : Trees) (n : ℕ)
     step_runs (Attribute x) run s pc v stack w d is h =
         at p f r (i.GetAttr x) s pc (v ∷ stack) w is.0 (after_then p f r (told s) (tick w) _ (bind_then r (told s) w (tick w) _ _ _ (tick_gives w) h (λ _ w1 k h1.
         pushes p f r s pc stack (v ∷ stack) w1 (attribute p.host v x w1) h1)))
+    step_runs (item a) run s pc v stack w d is h =
+        let c = expr_code pc a in
+        let behind = has_behind (p.code s.run.stream) pc c (i.GetItem ∷ []) is in
+        let place : pc + length c + 1 ≡ pc + length (c ++ i.GetItem ∷ []) = omega (arith, length-append c (i.GetItem ∷ [])) in
+        expr_runs a run s pc (v ∷ stack) w d (has_front (p.code s.run.stream) pc c _ is)
+        (bind_then r (told s) w (eval u run a w) _ _ _ (eval_gives u nest_ends run a w) h (λ k w1 e h1.
+        at p f r i.GetItem s (pc + length c) (k ∷ v ∷ stack) w1 behind.0 (after_then p f r (told s) (tick w1) _ (bind_then r (told s) w1 (tick w1) _ _ _ (tick_gives w1) h1 (λ _ w2 e2 h2.
+        pushes p f r s (pc + length c) stack (k ∷ v ∷ stack) w2 (item_at p.host v k w2)
+        (follows_map r (told s) (item_at p.host v k w2) _ _ h2 (λ x w3 g. move p f r s _ _ (x ∷ stack) w3 place g)))))))
+    step_runs (slice a b c) run s pc v stack w d is h =
+        let ac = expr_code pc a in
+        let pc1 = pc + length ac in
+        let bc = expr_code pc1 b in
+        let pc2 = pc1 + length bc in
+        let cc = expr_code pc2 c in
+        let all = p.code s.run.stream in
+        let from_b = has_behind all pc ac (bc ++ (cc ++ i.Slice ∷ [])) is in
+        let from_c = has_behind all pc1 bc (cc ++ i.Slice ∷ []) from_b in
+        let last = has_behind all pc2 cc (i.Slice ∷ []) from_c in
+        let place : pc2 + length cc + 1 ≡ pc + length (ac ++ (bc ++ (cc ++ i.Slice ∷ []))) =
+            omega (arith, length-append ac (bc ++ (cc ++ i.Slice ∷ [])), length-append bc (cc ++ i.Slice ∷ []), length-append cc (i.Slice ∷ [])) in
+        expr_runs a run s pc (v ∷ stack) w d (has_front all pc ac (bc ++ (cc ++ i.Slice ∷ [])) is)
+        (bind_then r (told s) w (eval u run a w) _ _ _ (eval_gives u nest_ends run a w) h (λ x w1 k1 h1.
+        expr_runs b run s pc1 (x ∷ v ∷ stack) w1 (deep_kept k1 d) (has_front all pc1 bc (cc ++ i.Slice ∷ []) from_b)
+        (bind_then r (told s) w1 (eval u run b w1) _ _ _ (eval_gives u nest_ends run b w1) h1 (λ y w2 k2 h2.
+        expr_runs c run s pc2 (y ∷ x ∷ v ∷ stack) w2 (deep_kept k2 (deep_kept k1 d)) (has_front all pc2 cc (i.Slice ∷ []) from_c)
+        (bind_then r (told s) w2 (eval u run c w2) _ _ _ (eval_gives u nest_ends run c w2) h2 (λ z w3 k3 h3.
+        at p f r i.Slice s (pc2 + length cc) (z ∷ y ∷ x ∷ v ∷ stack) w3 last.0 (after_then p f r (told s) (tick w3) _ (bind_then r (told s) w3 (tick w3) _ _ _ (tick_gives w3) h3 (λ _ w4 k4 h4.
+        pushes p f r s (pc2 + length cc) stack (z ∷ y ∷ x ∷ v ∷ stack) w4 (slice_of p.host v x y z w4)
+        (follows_map r (told s) (slice_of p.host v x y z w4) _ _ h4 (λ q w5 g. move p f r s _ _ (q ∷ stack) w5 place g)))))))))))
     step_runs (binary op a) run s pc v stack w d is h =
         let c = expr_code pc a in
-        let behind = has_behind (p.code s.run.stream) pc c (binary_code op ∷ []) is in
-        let place : pc + length c + 1 ≡ pc + length (c ++ binary_code op ∷ []) = omega (arith, length-append c (binary_code op ∷ [])) in
+        let place : pc + length c + length (binary_code op) ≡ pc + length (c ++ binary_code op) = omega (arith, length-append c (binary_code op)) in
         expr_runs a run s pc (v ∷ stack) w d (has_front (p.code s.run.stream) pc c _ is)
         (bind_then r (told s) w (eval u run a w) _ _ _ (eval_gives u nest_ends run a w) h (λ y w1 k h1.
-        binary_then op s (pc + length c) v y stack w1 behind.0
+        binary_then op s (pc + length c) v y stack w1 (has_behind (p.code s.run.stream) pc c (binary_code op) is)
         (follows_map r (told s) (bind (tick w1) (λ _ w2. applied p.host op v y w2)) _ _ h1 (λ x w2 g. move p f r s _ _ (x ∷ stack) w2 place g))))
     step_runs (and_then a) run s pc v stack w d is h =
         let c = expr_code (pc + 1) a in
