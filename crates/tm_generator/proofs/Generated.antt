@@ -3,22 +3,25 @@ use Rattle.std.proofs.Common.{◌≡◌, ℕ, ◌+◌, ◌<◌, List, [], ◌∷
 use Rattle.std.specs.Prelude.{get_or, slice_set}
 use Rattle.std.proofs.Math.Seq.{set-append_seam}
 use borrow.Enum.Total.{values_d}
-use denote.Hole.Carrier.{hidden}
+use denote.Hole.Carrier.{hidden, out, shown}
 use Rattle.tm_syntax.specs.declared.tree.UnaryOperator.{UnaryOperator}
 use Rattle.tm_syntax.specs.declared.tree.BinaryOperator.{BinaryOperator}
 use Rattle.tm_syntax.specs.declared.tree.Expr.{Expr}
 use Rattle.tm_syntax.specs.declared.tree.Expr.TheVariants as e
 use Rattle.tm_syntax.specs.declared.tree.Argument.{Argument}
-use Rattle.tm_syntax.specs.declared.tree.Argument.TheVariants as a
-use Rattle.tm_syntax.specs.declared.tree.Argument.TheBlock.{shape-the_row-Argument-1, shape-the_row-Step-2, hidden-the_row-Expr-0, hidden-the_row-Argument-1 as arguments, hidden-the_row-Step-2 as steps}
+use Rattle.tm_syntax.specs.declared.tree.Argument.TheBlock.{shown-the_row-Expr-0, hidden-the_row-Expr-0, hidden-the_row-Expr-1 as exprs, hidden-the_row-Pair-2 as pairs, hidden-the_row-Argument-3 as arguments, hidden-the_row-Step-4 as steps}
+use Rattle.tm_syntax.specs.declared.tree.Argument.TheViews.{out-Pair}
+use Rattle.tm_syntax.specs.declared.tree.Pair.{Pair}
 use Rattle.tm_syntax.specs.declared.tree.Step.{Step}
 use Rattle.tm_syntax.specs.declared.tree.Step.TheVariants as s
 use Rattle.tm_syntax.specs.declared.instruction.Instruction.{Instruction}
 use Rattle.tm_syntax.specs.declared.instruction.Instruction.TheVariants as i
-use Rattle.tm_syntax.specs.Code.{unary_code, binary_code, expr_code, argument_code, arguments_code, step_code, steps_code, count}
+use Rattle.tm_syntax.specs.Code.{unary_code, binary_code, expr_code, exprs_code, pair_code, pairs_code, argument_code, arguments_code, step_code, steps_code, before, count, count_exprs, count_pairs}
+use Rattle.tm_syntax.specs.Forms.{pair}
 use Rattle.tm_syntax.specs.contracts.tree.Argument.{enum as the_enum}
+use Rattle.tm_syntax.specs.contracts.tree.Pair.{enum as the_pair}
 use Rattle.tm_syntax.proofs.Forms.{whole}
-use Rattle.tm_generator.proofs.Rows.{count-arguments}
+use Rattle.tm_generator.proofs.Rows.{count-exprs, count-pairs, count-arguments}
 
 -- ---------------------------------------------------------------- the code of forms as the program holds them
 code-unary : (pc : ℕ) (op : UnaryOperator) (x : Expr) → expr_code pc (e.Unary op x) ≡ expr_code pc x ++ unary_code op ∷ []
@@ -29,7 +32,15 @@ code-chain : (pc : ℕ) (x : Expr) (ss : List Step) → expr_code pc (e.Chain x 
 unfolding hidden hidden-the_row-Expr-0
 code-chain pc x ss = refl
 
-code-binary : (pc : ℕ) (op : BinaryOperator) (x : Expr) → step_code pc (s.Binary op x) ≡ expr_code pc x ++ binary_code op ∷ []
+code-item : (pc : ℕ) (x : Expr) → step_code pc (s.Item x) ≡ expr_code pc x ++ i.GetItem ∷ []
+unfolding hidden hidden-the_row-Expr-0
+code-item pc x = refl
+
+code-slice : (pc : ℕ) (x y z : Expr) → step_code pc (s.Slice x y z) ≡ before pc (expr_code pc x) (λ pc1. before pc1 (expr_code pc1 y) (λ pc2. expr_code pc2 z ++ i.Slice ∷ []))
+unfolding hidden hidden-the_row-Expr-0
+code-slice pc x y z = refl
+
+code-binary : (pc : ℕ) (op : BinaryOperator) (x : Expr) → step_code pc (s.Binary op x) ≡ expr_code pc x ++ binary_code op
 unfolding hidden hidden-the_row-Expr-0
 code-binary pc op x = refl
 
@@ -41,36 +52,71 @@ code-or : (pc : ℕ) (x : Expr) → step_code pc (s.Or x) ≡ i.JumpIfTrueOrPop 
 unfolding hidden hidden-the_row-Expr-0
 code-or pc x = refl
 
+-- what the program takes out of a pair is all that stands in it
+whole_pair : (x : Pair) (h g : _) (k v : Expr) → k ≡ (values_d the_pair 0 h x).0 → v ≡ (values_d the_pair 0 g x).1.0 → x ≡ pair k v
+unfolding out-Pair out shown-the_row-Expr-0 shown
+whole_pair (pair y z) h g k v ek ev = ap (λ j. pair j z) (sym ek) ∙ ap (λ j. pair k j) (sym ev)
+
 -- ---------------------------------------------------------------- loops
 pub next : {X : Type 0} → (xs : List X) (k : ℕ) (x : X) → k < length xs → x ≡ get_or xs k x → drop k xs ≡ x ∷ drop (k + 1) xs
 next xs k x lt d = grind (arith, drop-cons xs k x lt, d)
 
 -- ---------------------------------------------------------------- forms
-pub made_plain : (base c1 : List Instruction) (x : Argument) (h : _) (y : Expr) → y ≡ (values_d the_enum 0 h x).0 → c1 ≡ base ++ expr_code (length base) y → c1 ≡ base ++ argument_code (length base) x
-made_plain base c1 x h y e d = d ∙ ap (λ z. base ++ expr_code (length base) z) e ∙ ap (λ z. base ++ argument_code (length base) z) (sym (whole x h))
+-- one part, and what is put behind it
+behind : (base c1 c2 first rest : List Instruction) → c1 ≡ base ++ first → c2 ≡ c1 ++ rest → c2 ≡ base ++ (first ++ rest)
+behind base c1 c2 first rest d d2 = d2 ∙ ap (λ l. l ++ rest) d ∙ append_assoc base first rest
+
+-- one part, and another at the place behind it
+placed : (base c1 c2 first : List Instruction) (rest : ℕ → List Instruction) → c1 ≡ base ++ first → c2 ≡ c1 ++ rest (length c1) → c2 ≡ base ++ before (length base) first rest
+placed base c1 c2 first rest d d2 = behind base c1 c2 first (rest (length base + length first)) d (d2 ∙ ap (λ n. c1 ++ rest n) (ap length d ∙ length-append base first))
+
+-- parts, and the instruction that takes so many
+counted : (take_all : ℕ → Instruction) (base c1 c2 parts : List Instruction) (n m : ℕ) → c1 ≡ base ++ parts → n ≡ m → c2 ≡ c1 ++ take_all n ∷ [] → c2 ≡ base ++ (parts ++ take_all m ∷ [])
+counted take_all base c1 c2 parts n m d k d2 = behind base c1 c2 parts (take_all m ∷ []) d (d2 ∙ ap (λ j. c1 ++ take_all j ∷ []) k)
+
+pub made_list : (base c1 c2 : List Instruction) (n : ℕ) (xs : List Expr) → c1 ≡ base ++ exprs_code (length base) (exprs xs) → n ≡ length xs → c2 ≡ c1 ++ i.BuildList n ∷ [] → c2 ≡ base ++ expr_code (length base) (e.List xs)
+made_list base c1 c2 n xs d k d2 = counted i.BuildList base c1 c2 (exprs_code (length base) (exprs xs)) n (count_exprs (exprs xs)) d (k ∙ sym (count-exprs xs)) d2
+
+pub made_tuple : (base c1 c2 : List Instruction) (n : ℕ) (xs : List Expr) → c1 ≡ base ++ exprs_code (length base) (exprs xs) → n ≡ length xs → c2 ≡ c1 ++ i.BuildTuple n ∷ [] → c2 ≡ base ++ expr_code (length base) (e.Tuple xs)
+made_tuple base c1 c2 n xs d k d2 = counted i.BuildTuple base c1 c2 (exprs_code (length base) (exprs xs)) n (count_exprs (exprs xs)) d (k ∙ sym (count-exprs xs)) d2
+
+pub made_map : (base c1 c2 : List Instruction) (n : ℕ) (xs : List Pair) → c1 ≡ base ++ pairs_code (length base) (pairs xs) → n ≡ length xs → c2 ≡ c1 ++ i.BuildMap n ∷ [] → c2 ≡ base ++ expr_code (length base) (e.Map xs)
+made_map base c1 c2 n xs d k d2 = counted i.BuildMap base c1 c2 (pairs_code (length base) (pairs xs)) n (count_pairs (pairs xs)) d (k ∙ sym (count-pairs xs)) d2
 
 pub made_call : (base c1 c2 : List Instruction) (n : ℕ) (f g : List ℕ) (xs : List Argument) → c1 ≡ base ++ arguments_code (length base) (arguments xs) → n ≡ length xs → g ≡ f → c2 ≡ c1 ++ i.CallFunction g n ∷ [] →
     c2 ≡ base ++ expr_code (length base) (e.Call f xs)
 made_call base c1 c2 n f g xs d m k d2 =
-    d2 ∙ ap (λ l. l ++ i.CallFunction g n ∷ []) d ∙ append_assoc base _ _ ∙ ap (λ j. base ++ (arguments_code (length base) (arguments xs) ++ i.CallFunction g j ∷ [])) (m ∙ sym (count-arguments xs))
-    ∙ ap (λ h. base ++ (arguments_code (length base) (arguments xs) ++ i.CallFunction h (count (arguments xs)) ∷ [])) k
+    counted (i.CallFunction f) base c1 c2 (arguments_code (length base) (arguments xs)) n (count (arguments xs)) d (m ∙ sym (count-arguments xs)) (d2 ∙ ap (λ h. c1 ++ i.CallFunction h n ∷ []) k)
 
 pub made_unary : (base c1 c2 : List Instruction) (o : Instruction) (op : UnaryOperator) (x : Expr) → c1 ≡ base ++ expr_code (length base) x → o ≡ unary_code op → c2 ≡ c1 ++ o ∷ [] → c2 ≡ base ++ expr_code (length base) (e.Unary op x)
 made_unary base c1 c2 o op x d k d2 =
-    d2 ∙ ap (λ l. l ++ o ∷ []) d ∙ append_assoc base _ _ ∙ ap (λ j. base ++ (expr_code (length base) x ++ j ∷ [])) k ∙ ap (λ l. base ++ l) (sym (code-unary (length base) op x))
-
--- one part, and another at the place behind it
-behind : (base c1 first : List Instruction) (rest : ℕ → List Instruction) → c1 ≡ base ++ first → c1 ++ rest (length c1) ≡ base ++ (first ++ rest (length base + length first))
-behind base c1 first rest d =
-    ap (λ n. c1 ++ rest n) (ap length d ∙ length-append base first) ∙ ap (λ l. l ++ rest (length base + length first)) d ∙ append_assoc base first _
+    behind base c1 c2 (expr_code (length base) x) (unary_code op ∷ []) d (d2 ∙ ap (λ j. c1 ++ j ∷ []) k) ∙ ap (λ l. base ++ l) (sym (code-unary (length base) op x))
 
 pub made_chain : (base c1 c2 : List Instruction) (x : Expr) (ss : List Step) → c1 ≡ base ++ expr_code (length base) x → c2 ≡ c1 ++ steps_code (length c1) (steps ss) → c2 ≡ base ++ expr_code (length base) (e.Chain x ss)
 made_chain base c1 c2 x ss d d2 =
-    d2 ∙ behind base c1 (expr_code (length base) x) (λ n. steps_code n (steps ss)) d ∙ ap (λ l. base ++ l) (sym (code-chain (length base) x ss))
+    placed base c1 c2 (expr_code (length base) x) (λ n. steps_code n (steps ss)) d d2 ∙ ap (λ l. base ++ l) (sym (code-chain (length base) x ss))
 
-pub made_binary : (base c1 c2 : List Instruction) (o : Instruction) (op : BinaryOperator) (x : Expr) → c1 ≡ base ++ expr_code (length base) x → o ≡ binary_code op → c2 ≡ c1 ++ o ∷ [] → c2 ≡ base ++ step_code (length base) (s.Binary op x)
-made_binary base c1 c2 o op x d k d2 =
-    d2 ∙ ap (λ l. l ++ o ∷ []) d ∙ append_assoc base _ _ ∙ ap (λ j. base ++ (expr_code (length base) x ++ j ∷ [])) k ∙ ap (λ l. base ++ l) (sym (code-binary (length base) op x))
+pub made_pair : (base c1 c2 : List Instruction) (x : Pair) (h g : _) (k v : Expr) → k ≡ (values_d the_pair 0 h x).0 → v ≡ (values_d the_pair 0 g x).1.0 → c1 ≡ base ++ expr_code (length base) k → c2 ≡ c1 ++ expr_code (length c1) v →
+    c2 ≡ base ++ pair_code (length base) x
+made_pair base c1 c2 x h g k v ek ev d d2 =
+    placed base c1 c2 (expr_code (length base) k) (λ n. expr_code n v) d d2 ∙ ap (λ z. base ++ pair_code (length base) z) (sym (whole_pair x h g k v ek ev))
+
+pub made_plain : (base c1 : List Instruction) (x : Argument) (h : _) (y : Expr) → y ≡ (values_d the_enum 0 h x).0 → c1 ≡ base ++ expr_code (length base) y → c1 ≡ base ++ argument_code (length base) x
+made_plain base c1 x h y e d = d ∙ ap (λ z. base ++ expr_code (length base) z) e ∙ ap (λ z. base ++ argument_code (length base) z) (sym (whole x h))
+
+pub made_item : (base c1 c2 : List Instruction) (x : Expr) → c1 ≡ base ++ expr_code (length base) x → c2 ≡ c1 ++ i.GetItem ∷ [] → c2 ≡ base ++ step_code (length base) (s.Item x)
+made_item base c1 c2 x d d2 = behind base c1 c2 (expr_code (length base) x) (i.GetItem ∷ []) d d2 ∙ ap (λ l. base ++ l) (sym (code-item (length base) x))
+
+pub made_slice : (base c1 c2 c3 c4 : List Instruction) (x y z : Expr) → c1 ≡ base ++ expr_code (length base) x → c2 ≡ c1 ++ expr_code (length c1) y → c3 ≡ c2 ++ expr_code (length c2) z → c4 ≡ c3 ++ i.Slice ∷ [] →
+    c4 ≡ base ++ step_code (length base) (s.Slice x y z)
+made_slice base c1 c2 c3 c4 x y z d1 d2 d3 d4 =
+    let last : ℕ → List Instruction = λ n. expr_code n z ++ i.Slice ∷ [] in
+    placed base c1 c4 (expr_code (length base) x) (λ n. before n (expr_code n y) last) d1
+    (placed c1 c2 c4 (expr_code (length c1) y) last d2 (behind c2 c3 c4 (expr_code (length c2) z) (i.Slice ∷ []) d3 d4))
+    ∙ ap (λ l. base ++ l) (sym (code-slice (length base) x y z))
+
+pub made_binary : (base c1 c2 : List Instruction) (op : BinaryOperator) (x : Expr) → c1 ≡ base ++ expr_code (length base) x → c2 ≡ c1 ++ binary_code op → c2 ≡ base ++ step_code (length base) (s.Binary op x)
+made_binary base c1 c2 op x d d2 = behind base c1 c2 (expr_code (length base) x) (binary_code op) d d2 ∙ ap (λ l. base ++ l) (sym (code-binary (length base) op x))
 
 -- a jump that is set behind what it leads over
 pub patched : (jump : ℕ → Instruction) (base c1 c2 c3 : List Instruction) (x : Instruction) (code : ℕ → List Instruction) (n1 n2 : ℕ) → n1 ≡ length base → c1 ≡ base ++ x ∷ [] → c2 ≡ c1 ++ code (length c1) → n2 ≡ length c2 → c3 ≡ slice_set c2 n1 (jump n2) →

@@ -2,34 +2,62 @@
 use Rattle.std.proofs.Common.{◌≡◌, ℕ, ◌+◌, List, [], ◌∷◌, ◌++◌, length, refl, sym, ap, ◌∙◌, arith, append_assoc, length-append}
 use Rattle.std.proofs.lemmas.List.{append-nil}
 use denote.Hole.Carrier.{hidden}
+use Rattle.tm_syntax.specs.declared.tree.Expr.{Expr}
+use Rattle.tm_syntax.specs.declared.tree.Pair.{Pair}
 use Rattle.tm_syntax.specs.declared.tree.Argument.{Argument}
-use Rattle.tm_syntax.specs.declared.tree.Argument.TheBlock.{shape-the_row-Argument-1, shape-the_row-Step-2, hidden-the_row-Argument-1 as arguments, hidden-the_row-Step-2 as steps}
+use Rattle.tm_syntax.specs.declared.tree.Argument.TheBlock.{shape-the_row-Expr-1, shape-the_row-Pair-2, shape-the_row-Argument-3, shape-the_row-Step-4, hidden-the_row-Expr-1 as exprs, hidden-the_row-Pair-2 as pairs, hidden-the_row-Argument-3 as arguments, hidden-the_row-Step-4 as steps}
 use Rattle.tm_syntax.specs.declared.tree.Step.{Step}
 use Rattle.tm_syntax.specs.declared.tree.Stmt.{Stmt}
 use Rattle.tm_syntax.specs.declared.tree.Stmt.TheBlock.{shape-the_row-Stmt-0, hidden-the_row-Stmt-0 as statements}
 use Rattle.tm_syntax.specs.declared.instruction.Instruction.{Instruction}
-use Rattle.tm_syntax.specs.Code.{argument_code, arguments_code, step_code, steps_code, statement_code, statements_code, count}
+use Rattle.tm_syntax.specs.Code.{expr_code, exprs_code, pair_code, pairs_code, argument_code, arguments_code, step_code, steps_code, statement_code, statements_code, count, count_exprs, count_pairs}
 use Rattle.tm_syntax.specs.Blocks.{blocks_of, blocks_in}
 
+exprs-nil : (pc : ℕ) → exprs_code pc (exprs []) ≡ []
+unfolding hidden exprs shape-the_row-Expr-1
+exprs-nil pc = refl
+
+exprs-cons : (pc : ℕ) (x : Expr) (xs : List Expr) → exprs_code pc (exprs (x ∷ xs)) ≡ expr_code pc x ++ exprs_code (pc + length (expr_code pc x)) (exprs xs)
+unfolding hidden exprs shape-the_row-Expr-1
+exprs-cons pc x xs = refl
+
+pub count-exprs : (xs : List Expr) → count_exprs (exprs xs) ≡ length xs
+unfolding hidden exprs shape-the_row-Expr-1
+count-exprs [] = refl
+count-exprs (x ∷ xs) = omega (arith, count-exprs xs)
+
+pairs-nil : (pc : ℕ) → pairs_code pc (pairs []) ≡ []
+unfolding hidden pairs shape-the_row-Pair-2
+pairs-nil pc = refl
+
+pairs-cons : (pc : ℕ) (x : Pair) (xs : List Pair) → pairs_code pc (pairs (x ∷ xs)) ≡ pair_code pc x ++ pairs_code (pc + length (pair_code pc x)) (pairs xs)
+unfolding hidden pairs shape-the_row-Pair-2
+pairs-cons pc x xs = refl
+
+pub count-pairs : (xs : List Pair) → count_pairs (pairs xs) ≡ length xs
+unfolding hidden pairs shape-the_row-Pair-2
+count-pairs [] = refl
+count-pairs (x ∷ xs) = omega (arith, count-pairs xs)
+
 arguments-nil : (pc : ℕ) → arguments_code pc (arguments []) ≡ []
-unfolding hidden arguments shape-the_row-Argument-1
+unfolding hidden arguments shape-the_row-Argument-3
 arguments-nil pc = refl
 
 arguments-cons : (pc : ℕ) (x : Argument) (xs : List Argument) → arguments_code pc (arguments (x ∷ xs)) ≡ argument_code pc x ++ arguments_code (pc + length (argument_code pc x)) (arguments xs)
-unfolding hidden arguments shape-the_row-Argument-1
+unfolding hidden arguments shape-the_row-Argument-3
 arguments-cons pc x xs = refl
 
 pub count-arguments : (xs : List Argument) → count (arguments xs) ≡ length xs
-unfolding hidden arguments shape-the_row-Argument-1
+unfolding hidden arguments shape-the_row-Argument-3
 count-arguments [] = refl
 count-arguments (x ∷ xs) = omega (arith, count-arguments xs)
 
 steps-nil : (pc : ℕ) → steps_code pc (steps []) ≡ []
-unfolding hidden steps shape-the_row-Step-2
+unfolding hidden steps shape-the_row-Step-4
 steps-nil pc = refl
 
 steps-cons : (pc : ℕ) (x : Step) (xs : List Step) → steps_code pc (steps (x ∷ xs)) ≡ step_code pc x ++ steps_code (pc + length (step_code pc x)) (steps xs)
-unfolding hidden steps shape-the_row-Step-2
+unfolding hidden steps shape-the_row-Step-4
 steps-cons pc x xs = refl
 
 statements-nil : (pc : ℕ) → statements_code pc (statements []) ≡ []
@@ -59,6 +87,20 @@ module _ {X : Type 0} (one : ℕ → X → List Instruction) (all : ℕ → List
 
   no_more : ((pc : ℕ) → all pc [] ≡ []) → (l goal : List Instruction) (xs : List X) → xs ≡ [] → l ++ all (length l) xs ≡ goal → l ≡ goal
   no_more nil l goal xs e g = sym (append-nil l) ∙ ap (λ k. l ++ k) (sym (nil (length l))) ∙ ap (λ k. l ++ all (length l) k) (sym e) ∙ g
+
+pub more_exprs : (old new goal : List Instruction) (xs rest : List Expr) (x : Expr) → xs ≡ x ∷ rest → new ≡ old ++ expr_code (length old) x →
+    old ++ exprs_code (length old) (exprs xs) ≡ goal → new ++ exprs_code (length new) (exprs rest) ≡ goal
+more_exprs = more expr_code (λ pc xs. exprs_code pc (exprs xs)) exprs-cons
+
+pub no_more_exprs : (l goal : List Instruction) (xs : List Expr) → xs ≡ [] → l ++ exprs_code (length l) (exprs xs) ≡ goal → l ≡ goal
+no_more_exprs = no_more expr_code (λ pc xs. exprs_code pc (exprs xs)) exprs-nil
+
+pub more_pairs : (old new goal : List Instruction) (xs rest : List Pair) (x : Pair) → xs ≡ x ∷ rest → new ≡ old ++ pair_code (length old) x →
+    old ++ pairs_code (length old) (pairs xs) ≡ goal → new ++ pairs_code (length new) (pairs rest) ≡ goal
+more_pairs = more pair_code (λ pc xs. pairs_code pc (pairs xs)) pairs-cons
+
+pub no_more_pairs : (l goal : List Instruction) (xs : List Pair) → xs ≡ [] → l ++ pairs_code (length l) (pairs xs) ≡ goal → l ≡ goal
+no_more_pairs = no_more pair_code (λ pc xs. pairs_code pc (pairs xs)) pairs-nil
 
 pub more_arguments : (old new goal : List Instruction) (xs rest : List Argument) (x : Argument) → xs ≡ x ∷ rest → new ≡ old ++ argument_code (length old) x →
     old ++ arguments_code (length old) (arguments xs) ≡ goal → new ++ arguments_code (length new) (arguments rest) ≡ goal

@@ -1,9 +1,9 @@
 //! Instructions from trees.
 ghost use Rattle.std.specs.Prelude.{◌≡◌, ◌++◌, [], ◌∷◌, OnOk, IfOk, IfErr, length};
 ghost use Rattle.tm_syntax.specs.Blocks.{blocks_of, blocks_in, compiled_blocks};
-ghost use Rattle.tm_syntax.specs.Code.{unary_code, binary_code, expr_code, argument_code, arguments_code, step_code, steps_code, statement_code, statements_code};
+ghost use Rattle.tm_syntax.specs.Code.{unary_code, binary_code, expr_code, exprs_code, pair_code, pairs_code, argument_code, arguments_code, step_code, steps_code, statement_code, statements_code};
 ghost use Rattle.tm_syntax.specs.Named.{put_each, by_name};
-ghost use Rattle.tm_syntax.specs.declared.tree.Argument.TheBlock.{hidden-the_row-Argument-1 as arguments, hidden-the_row-Step-2 as steps};
+ghost use Rattle.tm_syntax.specs.declared.tree.Argument.TheBlock.{hidden-the_row-Expr-1 as exprs, hidden-the_row-Pair-2 as pairs, hidden-the_row-Argument-3 as arguments, hidden-the_row-Step-4 as steps};
 ghost use Rattle.tm_syntax.specs.declared.tree.Stmt.TheBlock.{hidden-the_row-Stmt-0 as statements};
 ghost use Rattle.tm_values.specs.declared.error.ErrorKind.TheVariants.{OutOfMemory};
 
@@ -11,7 +11,7 @@ use crate::patches::put;
 use sqlite_items::{Boxed, Items};
 use std::alloc::Global;
 use tm_syntax::{
-    Argument, BinaryOperator, Expr, Instruction, NameMap, Step, Stmt, Tree, UnaryOperator,
+    Argument, BinaryOperator, Expr, Instruction, NameMap, Pair, Step, Stmt, Tree, UnaryOperator,
 };
 use tm_values::Error;
 
@@ -30,16 +30,37 @@ fn unary(operator: UnaryOperator) -> Instruction
 {
     match operator {
         UnaryOperator::Not => Instruction::Not,
+        UnaryOperator::Negate => Instruction::Neg,
     }
 }
 
-/// The instruction of an operator.
-fn binary(operator: BinaryOperator) -> Instruction
-    ensures { result ≡ binary_code operator }
+/// Adds the code of an operator; OutOfMemory.
+fn push_binary(code: &mut Items<Instruction>, operator: BinaryOperator) -> Result<(), Error>
+    ensures ok { OnOk result (code.new ≡ code.old ++ binary_code operator) }
+    ensures err { IfErr result (λ e. e ≡ OutOfMemory ∷ []) }
 {
-    match operator {
+    let instruction = match operator {
         BinaryOperator::Equal => Instruction::Eq,
-    }
+        BinaryOperator::NotEqual => Instruction::Ne,
+        BinaryOperator::Less => Instruction::Lt,
+        BinaryOperator::LessOrEqual => Instruction::Lte,
+        BinaryOperator::Greater => Instruction::Gt,
+        BinaryOperator::GreaterOrEqual => Instruction::Gte,
+        BinaryOperator::In => Instruction::In,
+        BinaryOperator::NotIn => {
+            put(code, Instruction::In)?;
+            Instruction::Not
+        }
+        BinaryOperator::Add => Instruction::Add,
+        BinaryOperator::Subtract => Instruction::Sub,
+        BinaryOperator::Concatenate => Instruction::StringConcat,
+        BinaryOperator::Multiply => Instruction::Mul,
+        BinaryOperator::Divide => Instruction::Div,
+        BinaryOperator::FloorDivide => Instruction::IntDiv,
+        BinaryOperator::Remainder => Instruction::Rem,
+        BinaryOperator::Power => Instruction::Pow,
+    };
+    put(code, instruction)
 }
 
 /// Adds the code of an expression; OutOfMemory.
@@ -51,6 +72,21 @@ fn push_expr(code: &mut Items<Instruction>, expr: &Expr) -> Result<(), Error>
     match expr {
         Expr::Var(name) => put(code, Instruction::Lookup(name.share()?)),
         Expr::Const(value) => put(code, Instruction::LoadConst(value.share()?)),
+        Expr::List(items) => {
+            push_exprs(code, items.as_slice())?;
+            put(code, Instruction::BuildList(items.len()))?;
+            Ok(())
+        }
+        Expr::Tuple(items) => {
+            push_exprs(code, items.as_slice())?;
+            put(code, Instruction::BuildTuple(items.len()))?;
+            Ok(())
+        }
+        Expr::Map(entries) => {
+            push_pairs(code, entries.as_slice())?;
+            put(code, Instruction::BuildMap(entries.len()))?;
+            Ok(())
+        }
         Expr::Call(name, given) => {
             push_arguments(code, given.as_slice())?;
             put(code, Instruction::CallFunction(name.share()?, given.len()))?;
@@ -67,6 +103,44 @@ fn push_expr(code: &mut Items<Instruction>, expr: &Expr) -> Result<(), Error>
             Ok(())
         }
     }
+}
+
+/// Adds the code of expressions; OutOfMemory.
+#[cycle(expressions)]
+fn push_exprs(code: &mut Items<Instruction>, items: &[Expr]) -> Result<(), Error>
+    ensures ok { OnOk result
+        (code.new ≡ code.old ++ exprs_code (length code.old) (exprs items.now)) }
+    ensures err { IfErr result (λ e. e ≡ OutOfMemory ∷ []) }
+{
+    for item in items {
+        push_expr(code, item)?;
+    }
+    Ok(())
+}
+
+/// Adds the code of a pair; OutOfMemory.
+#[cycle(expressions)]
+fn push_pair(code: &mut Items<Instruction>, pair: &Pair) -> Result<(), Error>
+    ensures ok { OnOk result (code.new ≡ code.old ++ pair_code (length code.old) pair.now) }
+    ensures err { IfErr result (λ e. e ≡ OutOfMemory ∷ []) }
+{
+    let Pair::Pair(key, value) = pair;
+    push_expr(code, key.get())?;
+    push_expr(code, value.get())?;
+    Ok(())
+}
+
+/// Adds the code of pairs; OutOfMemory.
+#[cycle(expressions)]
+fn push_pairs(code: &mut Items<Instruction>, entries: &[Pair]) -> Result<(), Error>
+    ensures ok { OnOk result
+        (code.new ≡ code.old ++ pairs_code (length code.old) (pairs entries.now)) }
+    ensures err { IfErr result (λ e. e ≡ OutOfMemory ∷ []) }
+{
+    for entry in entries {
+        push_pair(code, entry)?;
+    }
+    Ok(())
 }
 
 /// Adds the code of an argument; OutOfMemory.
@@ -104,10 +178,20 @@ fn push_step(code: &mut Items<Instruction>, step: &Step) -> Result<(), Error>
 {
     match step {
         Step::Attribute(name) => put(code, Instruction::GetAttr(name.share()?)),
+        Step::Item(key) => {
+            push_expr(code, key.get())?;
+            put(code, Instruction::GetItem)
+        }
+        Step::Slice(start, stop, step) => {
+            push_expr(code, start.get())?;
+            push_expr(code, stop.get())?;
+            push_expr(code, step.get())?;
+            put(code, Instruction::Slice)?;
+            Ok(())
+        }
         Step::Binary(operator, operand) => {
             push_expr(code, operand.get())?;
-            put(code, binary(*operator))?;
-            Ok(())
+            push_binary(code, *operator)
         }
         Step::And(operand) => {
             let test = code.len();

@@ -3,10 +3,12 @@ use Rattle.std.specs.Prelude.{ℕ, zero, suc, ◌+◌, ◌^◌, ◌-◌, List, [
 use Rattle.std.specs.Result.{result_map_both}
 use Rattle.tm_values.specs.Answer.{Answer}
 use Rattle.tm_values.specs.Map.{put_all}
+use Rattle.tm_values.specs.Records.{RecordData}
 use Rattle.tm_values.specs.Val.{Val, boolean, list, map, vals_of, pairs_of}
 use Rattle.tm_values.specs.declared.error.ErrorKind.{ErrorKind}
 use Rattle.tm_values.specs.declared.error.ErrorKind.TheVariants.{InvalidOperation}
 use Rattle.tm_values.specs.declared.escape.AutoEscape.{AutoEscape}
+use Rattle.tm_values.specs.declared.undefined.UndefinedBehavior.{UndefinedBehavior}
 use Rattle.tm_operations.specs.Arithmetic as arithmetic
 use Rattle.tm_operations.specs.Truth.{truth_of}
 use Rattle.tm_operations.specs.Comparison.{compared}
@@ -14,7 +16,6 @@ use Rattle.tm_operations.specs.Concatenation.{concatenated}
 use Rattle.tm_operations.specs.Containment.{contained}
 use Rattle.tm_operations.specs.Members.{attribute_of, item_of}
 use Rattle.tm_operations.specs.Slices.{sliced}
-use Rattle.tm_operations.specs.declared.comparisons.Comparison.{Comparison}
 use Rattle.tm_operations.specs.declared.comparisons.Comparison.TheVariants as comparison
 use Rattle.tm_syntax.specs.declared.tree.UnaryOperator.{UnaryOperator}
 use Rattle.tm_syntax.specs.declared.tree.UnaryOperator.TheVariants as unaries
@@ -127,39 +128,40 @@ as_value answer = result_map_both boolean (λ e. e) answer
 abbrev pub negated : Answer Bool → Answer Val
 negated answer = result_map_both (λ b. boolean (not b)) (λ e. e) answer
 
-abbrev pub not_of : Host → Val → World → Res Val
-not_of host v w = answered (negated (truth_of host.undefined v)) w
-
-abbrev pub compared_by : Comparison → Host → Val → Val → World → Res Val
-compared_by c host a b w = answered (as_value (compared c host.undefined a b)) w
+-- what a prefix operator gives of a value
+abbrev pub result_of_unary : UnaryOperator → UndefinedBehavior → Val → Answer Val
+result_of_unary unaries.Not b v = negated (truth_of b v)
+result_of_unary unaries.Negate b v = arithmetic.negated v
 
 abbrev pub applied_unary : Host → UnaryOperator → Val → World → Res Val
-applied_unary host unaries.Not v w = not_of host v w
-applied_unary host unaries.Negate v w = answered (arithmetic.negated v) w
+applied_unary host op v w = answered (result_of_unary op host.undefined v) w
 
 -- what an operator gives of two values
+abbrev pub result_of : BinaryOperator → UndefinedBehavior → RecordData → Val → Val → Answer Val
+result_of binaries.Equal b r x y = as_value (compared comparison.Equal b x y)
+result_of binaries.NotEqual b r x y = as_value (compared comparison.NotEqual b x y)
+result_of binaries.Less b r x y = as_value (compared comparison.Less b x y)
+result_of binaries.LessOrEqual b r x y = as_value (compared comparison.LessOrEqual b x y)
+result_of binaries.Greater b r x y = as_value (compared comparison.Greater b x y)
+result_of binaries.GreaterOrEqual b r x y = as_value (compared comparison.GreaterOrEqual b x y)
+result_of binaries.In b r x y = as_value (contained b r y x)
+result_of binaries.NotIn b r x y = negated (contained b r y x)
+result_of binaries.Add b r x y = arithmetic.added x y
+result_of binaries.Subtract b r x y = arithmetic.subtracted x y
+result_of binaries.Concatenate b r x y = concatenated b r x y
+result_of binaries.Multiply b r x y = arithmetic.multiplied x y
+result_of binaries.Divide b r x y = arithmetic.divided x y
+result_of binaries.FloorDivide b r x y = arithmetic.floor_divided x y
+result_of binaries.Remainder b r x y = arithmetic.remaining x y
+result_of binaries.Power b r x y = arithmetic.raised x y
+
 abbrev pub operated : Host → BinaryOperator → Val → Val → World → Res Val
-operated host binaries.Equal a b w = compared_by comparison.Equal host a b w
-operated host binaries.NotEqual a b w = compared_by comparison.NotEqual host a b w
-operated host binaries.Less a b w = compared_by comparison.Less host a b w
-operated host binaries.LessOrEqual a b w = compared_by comparison.LessOrEqual host a b w
-operated host binaries.Greater a b w = compared_by comparison.Greater host a b w
-operated host binaries.GreaterOrEqual a b w = compared_by comparison.GreaterOrEqual host a b w
-operated host binaries.In a b w = answered (as_value (contained host.undefined (records_of w) b a)) w
-operated host binaries.NotIn a b w = answered (negated (contained host.undefined (records_of w) b a)) w
-operated host binaries.Add a b w = answered (arithmetic.added a b) w
-operated host binaries.Subtract a b w = answered (arithmetic.subtracted a b) w
-operated host binaries.Concatenate a b w = answered (concatenated host.undefined (records_of w) a b) w
-operated host binaries.Multiply a b w = answered (arithmetic.multiplied a b) w
-operated host binaries.Divide a b w = answered (arithmetic.divided a b) w
-operated host binaries.FloorDivide a b w = answered (arithmetic.floor_divided a b) w
-operated host binaries.Remainder a b w = answered (arithmetic.remaining a b) w
-operated host binaries.Power a b w = answered (arithmetic.raised a b) w
+operated host op x y w = answered (result_of op host.undefined (records_of w) x y) w
 
 -- the same in an expression, where `not in` is `in` and then `not`, which is charged too
 abbrev pub applied : Host → BinaryOperator → Val → Val → World → Res Val
-applied host binaries.NotIn a b w = bind (operated host binaries.In a b w) (λ v w1. ticked w1 (λ w2. not_of host v w2))
-applied host op a b w = operated host op a b w
+applied host binaries.NotIn x y w = bind (operated host binaries.In x y w) (λ v w1. ticked w1 (λ w2. applied_unary host unaries.Not v w2))
+applied host op x y w = operated host op x y w
 
 abbrev pub attribute : Host → Val → List ℕ → World → Res Val
 attribute host v x w = answered (attribute_of host.undefined (records_of w) v x) w

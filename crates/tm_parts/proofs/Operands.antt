@@ -35,11 +35,10 @@ below xs n within =
     ap (drop n) (cut xs n)
     ∙ drop_at (reverse (drop (length xs - n) xs)) (reverse (take (length xs - n) xs)) n (length_front xs n within)
 
--- The topmost n of as many as are held, the lowest first, are the last in memory.
-pub taken_last : (xs : List Val) (held n : ℕ) → held ≡ length xs → n ≤ held →
-    taken n [] (reverse xs) ≡ Some (take (length xs - (held - n)) (drop (held - n) xs), drop n (reverse xs))
-taken_last xs held n all within =
-    let same : length xs ≡ held = sym all in
+-- The topmost n of as many as are held, the lowest first, are the last in memory, and the others are left.
+pub taken_split : (xs : List Val) (held n : ℕ) → held ≡ length xs → n ≤ held →
+    taken n [] (reverse xs) ≡ Some (drop (held - n) xs, reverse (take (held - n) xs))
+taken_split xs held n all within =
     let front = drop (length xs - n) xs in
     let rest = reverse (take (length xs - n) xs) in
     let few : n ≤ length xs = omega (arith, all, within) in
@@ -47,9 +46,7 @@ taken_last xs held n all within =
     taken_above (reverse front) [] rest ∙ ap (λ (l : List Val). Some (l, rest)) (append-nil (reverse (reverse front)) ∙ reverse-reverse front) in
     let counted : taken n [] (reverse front ++ rest) ≡ Some (front, rest) =
     subst (λ (k : ℕ). taken k [] (reverse front ++ rest) ≡ Some (front, rest)) (length_front xs n few) whole in
-    let there : taken n [] (reverse xs) ≡ Some (front, drop n (reverse xs)) =
-    ap (taken n []) (cut xs n) ∙ (counted ∙ ap (λ (l : List Val). Some (front, l)) (sym (below xs n few))) in
-    rw all (there ∙ ap (λ (l : List Val). Some (l, drop n (reverse xs))) (sym (take_rest xs (length xs - n))))
+    rw all ((ap (taken n []) (cut xs n)) ∙ counted)
 
 -- no more than are held, or none
 pub taken_past : (xs : List Val) (held n : ℕ) → held ≡ length xs → held < n → taken n [] (reverse xs) ≡ None
@@ -67,3 +64,10 @@ left_by xs n (inr within) = sym (below xs n within)
 -- What is left without the topmost n, or nothing.
 pub left_below : (xs : List Val) (held n : ℕ) → held ≡ length xs → reverse (take (held - n) xs) ≡ drop n (reverse xs)
 left_below xs held n all = rw all (left_by xs n (cases_lt (length xs) n))
+
+-- The topmost n of as many as are held, by what was dropped of the stack.
+pub taken_last : (xs : List Val) (held n : ℕ) → held ≡ length xs → n ≤ held →
+    taken n [] (reverse xs) ≡ Some (take (length xs - (held - n)) (drop (held - n) xs), drop n (reverse xs))
+taken_last xs held n all within =
+    taken_split xs held n all within ∙ ap (λ (l : List Val). Some (drop (held - n) xs, l)) (left_below xs held n all)
+    ∙ ap (λ (l : List Val). Some (l, drop n (reverse xs))) (sym (take_rest xs (held - n)))

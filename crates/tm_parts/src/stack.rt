@@ -1,5 +1,5 @@
 //! The operand stack.
-ghost use Rattle.std.specs.Prelude.{◌≡◌, [], ◌∷◌, List, Some, None, drop, length, ◌↔◌, IsTrue, OnOk, OnErr, IfErr, MatchOption};
+ghost use Rattle.std.specs.Prelude.{◌≡◌, [], ◌∷◌, List, Some, None, drop, length, ◌↔◌, IsTrue, OnOk, OnErr, IfErr, MatchOption, MatchResult};
 ghost use Rattle.tm_values.specs.Val.{Val};
 ghost use Rattle.tm_meaning.specs.Machine.{taken};
 
@@ -96,6 +96,20 @@ impl Stack {
             return None;
         }
         Some(&self.values[held - count..])
+    }
+
+    /// Takes the topmost so many values, the lowest first, where there are so many. Fails by OutOfMemory alone.
+    pub fn take(&mut self, count: usize) -> Result<Option<Vec<Value>>, Error>
+        ensures { MatchResult result
+            (λ values. MatchOption values (taken count [] self.old ≡ None)
+                (λ vs. taken count [] self.old ≡ Some (vs.items, self.new)))
+            (λ e. e ≡ ErrorKind.OutOfMemory ∷ []) }
+    {
+        let held = self.values.len();
+        if held < count {
+            return Ok(None);
+        }
+        Ok(Some(self.values.split_off(held - count)?))
     }
 
     /// Drops the topmost so many values, or all where there are fewer.

@@ -17,7 +17,7 @@ use Rattle.tm_syntax.specs.declared.tree.Stmt.{Stmt, EmitRaw, EmitExpr, If', Blo
 use Rattle.tm_syntax.specs.Forms.{unary, chained, pair, plain, item, slice, binary, and_then, or_else}
 use Rattle.tm_meaning.specs.World.{choose, find, block_of, with_frames, World, Host, Scopes, Scope, Res, Good, Bad, bind, need, check, answered, charged, with_fuel, tick, push, pop, depth, without_first, emitted, looked_up, lookup, Function, callers, Reply, gives, faults, plain as plain_scope}
 use Rattle.tm_meaning.specs.Calls.{Callee, whole, Call, Undo, of_block, undone, wrapped, Asked, has, refused, runs, ask, enter_block, call_named, call_value, call_by, replied, required_alone}
-use Rattle.tm_meaning.specs.Meaning.{Run, Outcome, Ending, done, leave, next, fault, Nests, Under, use_it, then_do, on_done, so_far, ended, say, audible, none_waits, value_of, value_behind, in_place_of, behind, block_tag, truth, applied_unary, operated, applied, attribute, not_of, eval, eval_all, eval_pair, eval_pairs, eval_argument, eval_arguments, eval_step, eval_steps, emit, behind_first, exec, execs, exec_else, at_end, new_run, nests_of}
+use Rattle.tm_meaning.specs.Meaning.{Run, Outcome, Ending, done, leave, next, fault, Nests, Under, use_it, then_do, on_done, so_far, ended, say, audible, none_waits, value_of, value_behind, in_place_of, behind, block_tag, truth, applied_unary, operated, applied, attribute, eval, eval_all, eval_pair, eval_pairs, eval_argument, eval_arguments, eval_step, eval_steps, emit, behind_first, exec, execs, exec_else, at_end, new_run, nests_of}
 use Rattle.tm_meaning.specs.Tree.{Trees}
 use Rattle.tm_meaning.specs.declared.stream.TemplateId.{TemplateId}
 

@@ -1,7 +1,7 @@
-use Rattle.std.proofs.Common.{◌≡◌, ◌∙◌, length}
 use Rattle.std.proofs.lemmas.List.{drop_all}
-use Rattle.tm_generator.proofs.Rows.{more_arguments, no_more_arguments, more_steps, no_more_steps}
-use Rattle.tm_generator.proofs.Generated.{next, made_plain, made_call, made_unary, made_chain, made_binary, made_and, made_or}
+use Rattle.std.proofs.lemmas.Result.{on_ok_weaker}
+use Rattle.tm_generator.proofs.Rows.{more_exprs, no_more_exprs, more_pairs, no_more_pairs, more_arguments, no_more_arguments, more_steps, no_more_steps}
+use Rattle.tm_generator.proofs.Generated.{next, made_list, made_tuple, made_map, made_call, made_unary, made_chain, made_pair, made_plain, made_item, made_slice, made_binary, made_and, made_or}
 use Rattle.tm_generator.proofs.generator.+expressions.Goals as goal
 
 pub push_argument-returns-clause-ok : goal.push_argument-returns-clause-ok
@@ -15,10 +15,25 @@ push_arguments-loop-argument-preserved t c =
 pub push_arguments-returns-clause-ok : goal.push_arguments-returns-clause-ok
 push_arguments-returns-clause-ok t c = no_more_arguments _ _ _ (drop_all c.loop-argument.argument-index c.args.given.now c.loop-argument-test.false) c.loop-argument.invariant
 
+pub push_expr-returns-in_ok-put-in-List-clause-ok : goal.push_expr-returns-in_ok-put-in-List-clause-ok
+push_expr-returns-in_ok-put-in-List-clause-ok t c =
+    rw c.in-List.is (made_list c.args.code.now c.push_exprs.new.code c.put-in-List.new.code _ c.in-List.items
+    (rw (← c.as_slice.ensures) c.in_ok-push_exprs-in-List.ensures.ok) c.len.ensures c.in_ok-put-in-List.ensures.ok)
+
+pub push_expr-returns-in_ok-put-in-Tuple-clause-ok : goal.push_expr-returns-in_ok-put-in-Tuple-clause-ok
+push_expr-returns-in_ok-put-in-Tuple-clause-ok t c =
+    rw c.in-Tuple.is (made_tuple c.args.code.now c.push_exprs-in-Tuple.new.code c.put-in-Tuple.new.code _ c.in-Tuple.items
+    (rw (← c.as_slice-in-Tuple.ensures) c.in_ok-push_exprs-in-Tuple.ensures.ok) c.len-in-Tuple.ensures c.in_ok-put-in-Tuple.ensures.ok)
+
+pub push_expr-returns-in_ok-put-in-Map-clause-ok : goal.push_expr-returns-in_ok-put-in-Map-clause-ok
+push_expr-returns-in_ok-put-in-Map-clause-ok t c =
+    rw c.in-Map.is (made_map c.args.code.now c.push_pairs.new.code c.put-in-Map.new.code _ c.in-Map.entries
+    (rw (← c.as_slice-in-Map.ensures) c.in_ok-push_pairs-in-Map.ensures.ok) c.len-in-Map.ensures c.in_ok-put-in-Map.ensures.ok)
+
 pub push_expr-returns-in_ok-put-in-Call-clause-ok : goal.push_expr-returns-in_ok-put-in-Call-clause-ok
 push_expr-returns-in_ok-put-in-Call-clause-ok t c =
     rw c.in-Call.is (made_call c.args.code.now c.push_arguments.new.code c.put-in-Call.new.code _ c.in-Call.name _ c.in-Call.given
-    (rw (← c.as_slice.ensures) c.in_ok-push_arguments-in-Call.ensures.ok) c.len.ensures c.in_ok-share-in-Call.ensures c.in_ok-put-in-Call.ensures.ok)
+    (rw (← c.as_slice-in-Call.ensures) c.in_ok-push_arguments-in-Call.ensures.ok) c.len-in-Call.ensures c.in_ok-share-in-Call.ensures c.in_ok-put-in-Call.ensures.ok)
 
 pub push_expr-returns-in_ok-put-in-Unary-clause-ok : goal.push_expr-returns-in_ok-put-in-Unary-clause-ok
 push_expr-returns-in_ok-put-in-Unary-clause-ok t c =
@@ -30,10 +45,41 @@ push_expr-returns-in_ok-push_steps-in-Chain-clause-ok t c =
     rw c.in-Chain.is (made_chain c.args.code.now c.push_expr-in-Chain.new.code c.push_steps.new.code c.in-Chain.first c.in-Chain.behind
     (rw (← c.get-in-Chain.ensures) c.in_ok-push_expr-in-Chain.ensures.ok) (rw (← c.as_slice-in-Chain.ensures) c.in_ok-push_steps-in-Chain.ensures.ok))
 
-pub push_step-returns-in_ok-put-in-Binary-clause-ok : goal.push_step-returns-in_ok-put-in-Binary-clause-ok
-push_step-returns-in_ok-put-in-Binary-clause-ok t c =
-    rw c.in-Binary.is (made_binary c.args.code.now c.push_expr.new.code c.put-in-Binary.new.code c.binary.result c.in-Binary.operator c.in-Binary.operand
-    (rw (← c.get.ensures) c.in_ok-push_expr-in-Binary.ensures.ok) c.binary.ensures c.in_ok-put-in-Binary.ensures.ok)
+pub push_exprs-loop-item-preserved : goal.push_exprs-loop-item-preserved
+push_exprs-loop-item-preserved t c =
+    more_exprs _ _ _ _ _ c.item-item.result (next c.args.items.now c.loop-item.item-index c.item-item.result c.loop-item-test.true c.item-item.is) c.in_ok-push_expr.ensures.ok c.loop-item.invariant
+
+pub push_exprs-returns-clause-ok : goal.push_exprs-returns-clause-ok
+push_exprs-returns-clause-ok t c = no_more_exprs _ _ _ (drop_all c.loop-item.item-index c.args.items.now c.loop-item-test.false) c.loop-item.invariant
+
+pub push_pair-returns-clause-ok : goal.push_pair-returns-clause-ok
+push_pair-returns-clause-ok t c =
+    made_pair c.args.code.now c.push_expr.new.code c.push_expr-2.new.code c.args.pair.now _ _ c.get.result.now c.get-2.result.now c.get.ensures c.get-2.ensures
+    c.in_ok-push_expr.ensures.ok c.in_ok-push_expr-2.ensures.ok
+
+pub push_pairs-loop-entry-preserved : goal.push_pairs-loop-entry-preserved
+push_pairs-loop-entry-preserved t c =
+    more_pairs _ _ _ _ _ c.entry-item.result (next c.args.entries.now c.loop-entry.entry-index c.entry-item.result c.loop-entry-test.true c.entry-item.is) c.in_ok-push_pair.ensures.ok c.loop-entry.invariant
+
+pub push_pairs-returns-clause-ok : goal.push_pairs-returns-clause-ok
+push_pairs-returns-clause-ok t c = no_more_pairs _ _ _ (drop_all c.loop-entry.entry-index c.args.entries.now c.loop-entry-test.false) c.loop-entry.invariant
+
+pub push_step-returns-in_ok-push_expr-in-Item-clause-ok : goal.push_step-returns-in_ok-push_expr-in-Item-clause-ok
+push_step-returns-in_ok-push_expr-in-Item-clause-ok t c =
+    rw c.in-Item.is (on_ok_weaker c.put-in-Item.result (made_item c.args.code.now c.push_expr.new.code c.put-in-Item.new.code c.in-Item.key
+    (rw (← c.get.ensures) c.in_ok-push_expr-in-Item.ensures.ok)) c.put-in-Item.ensures.ok)
+
+pub push_step-returns-in_ok-put-in-Slice-clause-ok : goal.push_step-returns-in_ok-put-in-Slice-clause-ok
+push_step-returns-in_ok-put-in-Slice-clause-ok t c =
+    rw c.in-Slice.is (made_slice c.args.code.now c.push_expr-in-Slice.new.code c.push_expr-in-Slice-2.new.code c.push_expr-in-Slice-3.new.code c.put-in-Slice.new.code
+    c.in-Slice.start c.in-Slice.stop c.in-Slice.step
+    (rw (← c.get-in-Slice.ensures) c.in_ok-push_expr-in-Slice.ensures.ok) (rw (← c.get-in-Slice-2.ensures) c.in_ok-push_expr-in-Slice-2.ensures.ok)
+    (rw (← c.get-in-Slice-3.ensures) c.in_ok-push_expr-in-Slice-3.ensures.ok) c.in_ok-put-in-Slice.ensures.ok)
+
+pub push_step-returns-in_ok-push_expr-in-Binary-clause-ok : goal.push_step-returns-in_ok-push_expr-in-Binary-clause-ok
+push_step-returns-in_ok-push_expr-in-Binary-clause-ok t c =
+    rw c.in-Binary.is (on_ok_weaker c.push_binary.result (made_binary c.args.code.now c.push_expr-in-Binary.new.code c.push_binary.new.code c.in-Binary.operator c.in-Binary.operand
+    (rw (← c.get-in-Binary.ensures) c.in_ok-push_expr-in-Binary.ensures.ok)) c.push_binary.ensures.ok)
 
 pub push_step-returns-in_ok-push_expr-in-And-clause-ok : goal.push_step-returns-in_ok-push_expr-in-And-clause-ok
 push_step-returns-in_ok-push_expr-in-And-clause-ok t c =

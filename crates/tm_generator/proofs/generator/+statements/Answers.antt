@@ -1,8 +1,7 @@
-use Rattle.std.proofs.Common.{◌≡◌, ◌∙◌, ◌++◌, length, ap, sym}
 use Rattle.std.proofs.lemmas.List.{drop_all}
 use Rattle.tm_generator.proofs.Rows.{more_statements, no_more_statements}
 use Rattle.tm_generator.proofs.Generated.{next}
-use Rattle.tm_generator.proofs.Statements.{made_if, made_else, if_blocks, else_blocks, block_blocks, more_blocks, no_more_blocks}
+use Rattle.tm_generator.proofs.Statements.{made_if, made_else, else_blocks, block_blocks, more_blocks, no_more_blocks}
 use Rattle.tm_generator.proofs.generator.+statements.Goals as goal
 
 pub push_statement-returns-in_default-clause-code : goal.push_statement-returns-in_default-clause-code
