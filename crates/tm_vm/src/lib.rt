@@ -4,6 +4,7 @@
 mod flow;
 mod ids;
 mod machine;
+mod operators;
 mod state;
 
 pub use flow::{Entry, Flow, Saved};

@@ -1,12 +1,12 @@
 //! The machine: a run with its operands, the captures and the state. A method for each instruction, the step, and the loop.
-ghost use Rattle.std.specs.Prelude.{◌≡◌, ◌+◌, ◌<◌, ◌≤◌, ℕ, List, [], ◌∷◌, Option, Some, None, Ok, Err, Bool, false, OnOk, OnErr, IfOk, IfErr, MatchOption, length, drop};
+ghost use Rattle.std.specs.Prelude.{◌≡◌, ◌+◌, ◌<◌, ◌≤◌, ℕ, List, [], ◌∷◌, Option, Some, None, Ok, Err, Bool, false, OnOk, OnErr, IfOk, IfErr, MatchOption, MatchResult, length, drop};
 ghost use Rattle.tm_values.specs.Chain.{ends_in_memory};
 ghost use Rattle.tm_values.specs.Val.{Val};
 ghost use Rattle.tm_meaning.specs.World.{World, records_of, Res, Good, Bad, depth};
 ghost use Rattle.tm_meaning.specs.Calls.{whole};
-ghost use Rattle.tm_meaning.specs.Meaning.{none_waits, truth, not_of, equal_of, attribute};
-ghost use Rattle.tm_meaning.specs.Machine.{Next, audible, writes, base_of, goes, run_from, start, at_place};
-ghost use Rattle.tm_meaning.specs.Instructions.{emit_raw_of, emit_of, lookup_of, load_const_of, replaces_one, get_attr_of, not_instruction_of, eq_of, jump_of, jump_if_false_of, jump_if_false_or_pop_of, jump_if_true_or_pop_of, call_function_of, call_block_of};
+ghost use Rattle.tm_meaning.specs.Meaning.{none_waits, truth, attribute};
+ghost use Rattle.tm_meaning.specs.Machine.{Next, audible, writes, base_of, goes, run_from, start, taken, at_place};
+ghost use Rattle.tm_meaning.specs.Instructions.{emit_raw_of, emit_of, lookup_of, load_const_of, replaces_one, get_attr_of, unary_of, binary_of, get_item_of, slice_instruction_of, build_list_of, build_map_of, jump_of, jump_if_false_of, jump_if_false_or_pop_of, jump_if_true_or_pop_of, call_function_of, call_block_of};
 ghost use Rattle.tm_meaning.specs.Steps.{pay, effect, finish, step};
 ghost use Rattle.tm_printing.specs.Emitted.{emitted_text};
 ghost use Rattle.tm_operations.specs.Truth.{truth_of};
@@ -16,17 +16,18 @@ ghost use Rattle.tm_vm.specs.State.{put_back};
 ghost use Rattle.tm_vm.specs.Nested.{Ran, Begins, IsWrapped, IsCaptured, base_in, start_in};
 
 use crate::flow::{Entry, Flow, Saved};
+use crate::operators::{binary, paired, unary};
 use crate::state::StateData;
 use std::alloc::Global;
 use std::marker::Model;
 use std::mem;
 use tm_meaning::{Base, StreamId};
-use tm_operations::{Comparison, attribute, check_defined, compare, truth};
+use tm_operations::{attribute, check_defined, item, slice, truth};
 use tm_parts::{Captures, Halt, Sink, Stack};
 use tm_printing::check_emission;
-use tm_syntax::{Instruction, Name};
+use tm_syntax::{BinaryOperator, Instruction, Name, UnaryOperator};
 use tm_tables::{Answer, Host, Reply};
-use tm_values::{AutoEscape, Error, ErrorKind, UndefinedBehavior, Value};
+use tm_values::{AutoEscape, Error, ErrorKind, UndefinedBehavior, Value, ValueMap};
 
 /// What is a run's own: its stream and the place in it, its operands, and how many captures stood when it began.
 #[derive(Drop)]
@@ -111,6 +112,31 @@ impl Run {
         ensures { self.new ≡ record self.old { operands = drop 1 self.old.operands } }
     {
         self.operands.remove(1);
+    }
+
+    /// Takes the topmost so many operands, the lowest first, where there are so many. Fails by OutOfMemory alone.
+    fn take(&mut self, count: usize) -> Result<Option<Vec<Value>>, Error>
+        ensures taken { MatchResult result
+            (λ values. MatchOption values (taken count [] self.old.operands ≡ None)
+                (λ vs. taken count [] self.old.operands ≡ Some (vs.items, self.new.operands)))
+            (λ e. e ≡ ErrorKind.OutOfMemory ∷ []) }
+        ensures rest { self.new ≡ record self.old { operands = self.new.operands } }
+    {
+        self.operands.take(count)
+    }
+
+    /// Takes so many topmost pairs of operands, the lowest first, where there are so many. Fails by OutOfMemory alone.
+    fn take_pairs(&mut self, count: usize) -> Result<Option<Vec<Value>>, Error>
+        ensures taken { MatchResult result
+            (λ values. MatchOption values (taken (count + count) [] self.old.operands ≡ None)
+                (λ vs. taken (count + count) [] self.old.operands ≡ Some (vs.items, self.new.operands)))
+            (λ e. e ≡ ErrorKind.OutOfMemory ∷ []) }
+        ensures rest { self.new ≡ record self.old { operands = self.new.operands } }
+    {
+        if self.operands.len() / 2 < count {
+            return Ok(None);
+        }
+        self.take(count + count)
     }
 
     /// Takes the topmost operand, where there is one.
@@ -264,25 +290,36 @@ impl<'env> Machine<'env> {
         }
     }
 
-    /// Replaces a value by whether it is false.
-    fn do_not<H: Host>(&mut self, host: &H) -> Result<Flow, Halt>
+    /// Replaces a value by what a prefix operator gives of it.
+    fn do_unary<H: Host>(
+        &mut self,
+        alloc: Global,
+        host: &H,
+        operator: UnaryOperator,
+    ) -> Result<Flow, Halt>
         requires { CanGoOn self.old.run }
-        ensures { Silently (not_instruction_of (H.meaning host.now) self.old)
+        ensures { Silently (unary_of (H.meaning host.now) operator self.old)
             self.old self.new result }
     {
         let Some(value) = self.run.pop() else {
             return Err(Halt::Stuck);
         };
-        match truth(&value, host.undefined_behavior()) {
-            Ok(is_true) => self.push_next(Value::boolean(!is_true)),
+        match unary(alloc, operator, &value, host.undefined_behavior()) {
+            Ok(given) => self.push_next(given),
             Err(error) => Err(Halt::Fault(error)),
         }
     }
 
-    /// Replaces two values by whether they are equal.
-    fn do_eq<H: Host>(&mut self, host: &H) -> Result<Flow, Halt>
+    /// Replaces two values by what an operator gives of them.
+    fn do_binary<H: Host>(
+        &mut self,
+        alloc: Global,
+        host: &H,
+        operator: BinaryOperator,
+    ) -> Result<Flow, Halt>
         requires { CanGoOn self.old.run }
-        ensures { Silently (eq_of (H.meaning host.now) self.old) self.old self.new result }
+        ensures { Silently (binary_of (H.meaning host.now) operator self.old)
+            self.old self.new result }
     {
         let Some(right) = self.run.pop() else {
             return Err(Halt::Stuck);
@@ -290,10 +327,78 @@ impl<'env> Machine<'env> {
         let Some(left) = self.run.pop() else {
             return Err(Halt::Stuck);
         };
-        match compare(Comparison::Equal, &left, &right, host.undefined_behavior()) {
-            Ok(are_equal) => self.push_next(Value::boolean(are_equal)),
+        let undefined = host.undefined_behavior();
+        match binary(alloc, operator, &left, &right, &self.state, undefined) {
+            Ok(given) => self.push_next(given),
             Err(error) => Err(Halt::Fault(error)),
         }
+    }
+
+    /// Replaces a value and a key by the value's item there.
+    fn do_get_item<H: Host>(&mut self, alloc: Global, host: &H) -> Result<Flow, Halt>
+        requires { CanGoOn self.old.run }
+        ensures { Silently (get_item_of (H.meaning host.now) self.old) self.old self.new result }
+    {
+        let Some(key) = self.run.pop() else {
+            return Err(Halt::Stuck);
+        };
+        let Some(value) = self.run.pop() else {
+            return Err(Halt::Stuck);
+        };
+        let undefined = host.undefined_behavior();
+        match item(alloc, &value, &key, &self.state, undefined) {
+            Ok(found) => self.push_next(found),
+            Err(error) => Err(Halt::Fault(error)),
+        }
+    }
+
+    /// Replaces a value, a start, a stop and a step by the value's slice.
+    fn do_slice<H: Host>(&mut self, alloc: Global, host: &H) -> Result<Flow, Halt>
+        requires { CanGoOn self.old.run }
+        ensures { Silently (slice_instruction_of (H.meaning host.now) self.old)
+            self.old self.new result }
+    {
+        let Some(by) = self.run.pop() else {
+            return Err(Halt::Stuck);
+        };
+        let Some(stop) = self.run.pop() else {
+            return Err(Halt::Stuck);
+        };
+        let Some(start) = self.run.pop() else {
+            return Err(Halt::Stuck);
+        };
+        let Some(value) = self.run.pop() else {
+            return Err(Halt::Stuck);
+        };
+        let undefined = host.undefined_behavior();
+        match slice(alloc, &value, &start, &stop, &by, undefined) {
+            Ok(part) => self.push_next(part),
+            Err(error) => Err(Halt::Fault(error)),
+        }
+    }
+
+    // ------------------------------------------------------------ lists and maps
+    /// Replaces so many values by the list of them.
+    fn do_build_list(&mut self, alloc: Global, count: usize) -> Result<Flow, Halt>
+        requires { CanGoOn self.old.run }
+        ensures { Silently (build_list_of count self.old) self.old self.new result }
+    {
+        let Some(values) = self.run.take(count)? else {
+            return Err(Halt::Stuck);
+        };
+        self.push_next(Value::list(alloc, values)?)
+    }
+
+    /// Replaces so many keys, each with its value behind it, by the map of them.
+    fn do_build_map(&mut self, alloc: Global, count: usize) -> Result<Flow, Halt>
+        requires { CanGoOn self.old.run }
+        ensures { Silently (build_map_of count self.old) self.old self.new result }
+    {
+        let Some(values) = self.run.take_pairs(count)? else {
+            return Err(Halt::Stuck);
+        };
+        let pairs = ValueMap::from_pairs(paired(alloc, values)?)?;
+        self.push_next(Value::from_map(alloc, pairs)?)
     }
 
     // ------------------------------------------------------------ jumps
@@ -503,8 +608,29 @@ impl<'env> Machine<'env> {
             Instruction::Lookup(name) => self.do_lookup(host, name),
             Instruction::LoadConst(value) => self.do_load_const(value),
             Instruction::GetAttr(name) => self.do_get_attr(alloc, host, name),
-            Instruction::Eq => self.do_eq(host),
-            Instruction::Not => self.do_not(host),
+            Instruction::GetItem => self.do_get_item(alloc, host),
+            Instruction::Slice => self.do_slice(alloc, host),
+            Instruction::BuildList(count) | Instruction::BuildTuple(count) => {
+                self.do_build_list(alloc, *count)
+            }
+            Instruction::BuildMap(count) => self.do_build_map(alloc, *count),
+            Instruction::Eq => self.do_binary(alloc, host, BinaryOperator::Equal),
+            Instruction::Ne => self.do_binary(alloc, host, BinaryOperator::NotEqual),
+            Instruction::Lt => self.do_binary(alloc, host, BinaryOperator::Less),
+            Instruction::Lte => self.do_binary(alloc, host, BinaryOperator::LessOrEqual),
+            Instruction::Gt => self.do_binary(alloc, host, BinaryOperator::Greater),
+            Instruction::Gte => self.do_binary(alloc, host, BinaryOperator::GreaterOrEqual),
+            Instruction::In => self.do_binary(alloc, host, BinaryOperator::In),
+            Instruction::Add => self.do_binary(alloc, host, BinaryOperator::Add),
+            Instruction::Sub => self.do_binary(alloc, host, BinaryOperator::Subtract),
+            Instruction::StringConcat => self.do_binary(alloc, host, BinaryOperator::Concatenate),
+            Instruction::Mul => self.do_binary(alloc, host, BinaryOperator::Multiply),
+            Instruction::Div => self.do_binary(alloc, host, BinaryOperator::Divide),
+            Instruction::IntDiv => self.do_binary(alloc, host, BinaryOperator::FloorDivide),
+            Instruction::Rem => self.do_binary(alloc, host, BinaryOperator::Remainder),
+            Instruction::Pow => self.do_binary(alloc, host, BinaryOperator::Power),
+            Instruction::Neg => self.do_unary(alloc, host, UnaryOperator::Negate),
+            Instruction::Not => self.do_unary(alloc, host, UnaryOperator::Not),
             Instruction::Jump(place) => self.do_jump(*place),
             Instruction::JumpIfFalse(place) => self.do_jump_if_false(host, *place),
             Instruction::JumpIfFalseOrPop(place) => self.jump_or_pop(host, *place, false),

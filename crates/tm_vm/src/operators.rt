@@ -1,0 +1,87 @@
+//! What operators give.
+ghost use Rattle.std.specs.Prelude.{◌≡◌, IfErr, IfOk, [], ◌∷◌};
+ghost use Rattle.tm_meaning.specs.Instructions as instructions;
+ghost use Rattle.tm_meaning.specs.Meaning.{result_of, result_of_unary};
+ghost use Rattle.tm_values.specs.Answer.{IsAnswer};
+ghost use Rattle.tm_values.specs.declared.error.ErrorKind.TheVariants.{OutOfMemory};
+
+use std::alloc::Global;
+use tm_operations::{
+    Comparison, add, compare, concatenate, contains, divide, floor_divide, multiply, negate, power,
+    remainder, subtract, truth,
+};
+use tm_syntax::{BinaryOperator, UnaryOperator};
+use tm_values::{Error, Records, UndefinedBehavior, Value};
+
+/// What a prefix operator gives of a value, or why it gives nothing.
+pub(crate) fn unary(
+    alloc: Global,
+    operator: UnaryOperator,
+    value: &Value,
+    undefined: UndefinedBehavior,
+) -> Result<Value, Error>
+    ensures { IsAnswer result (result_of_unary operator undefined value.now) }
+{
+    match operator {
+        UnaryOperator::Not => Ok(Value::boolean(!truth(value, undefined)?)),
+        UnaryOperator::Negate => negate(alloc, value),
+    }
+}
+
+/// What an operator gives of two values, or why it gives nothing.
+#[inline(always)]
+pub(crate) fn binary<R: Records>(
+    alloc: Global,
+    operator: BinaryOperator,
+    left: &Value,
+    right: &Value,
+    records: &R,
+    undefined: UndefinedBehavior,
+) -> Result<Value, Error>
+    ensures { IsAnswer result
+        (result_of operator undefined (R.records records.now) left.now right.now) }
+{
+    let comparison = match operator {
+        BinaryOperator::Equal => Comparison::Equal,
+        BinaryOperator::NotEqual => Comparison::NotEqual,
+        BinaryOperator::Less => Comparison::Less,
+        BinaryOperator::LessOrEqual => Comparison::LessOrEqual,
+        BinaryOperator::Greater => Comparison::Greater,
+        BinaryOperator::GreaterOrEqual => Comparison::GreaterOrEqual,
+        BinaryOperator::In => {
+            return Ok(Value::boolean(contains(
+                alloc, right, left, records, undefined,
+            )?));
+        }
+        BinaryOperator::NotIn => {
+            return Ok(Value::boolean(!contains(
+                alloc, right, left, records, undefined,
+            )?));
+        }
+        BinaryOperator::Add => return add(alloc, left, right),
+        BinaryOperator::Subtract => return subtract(alloc, left, right),
+        BinaryOperator::Concatenate => return concatenate(alloc, left, right, records, undefined),
+        BinaryOperator::Multiply => return multiply(alloc, left, right),
+        BinaryOperator::Divide => return divide(alloc, left, right),
+        BinaryOperator::FloorDivide => return floor_divide(alloc, left, right),
+        BinaryOperator::Remainder => return remainder(alloc, left, right),
+        BinaryOperator::Power => return power(alloc, left, right),
+    };
+    Ok(Value::boolean(compare(comparison, left, right, undefined)?))
+}
+
+/// Keys, each with the value behind it; a last key without one is dropped. Fails by OutOfMemory alone.
+pub(crate) fn paired(alloc: Global, values: Vec<Value>) -> Result<Vec<(Value, Value)>, Error>
+    ensures ok { IfOk result (λ pairs. pairs.items ≡ instructions.paired values.items) }
+    ensures kind { IfErr result (λ e. e ≡ OutOfMemory ∷ []) }
+{
+    let mut pairs = Vec::with_capacity(alloc, values.len() / 2)?;
+    let mut left = values.into_iter();
+    while let Some(key) = left.next() {
+        let Some(value) = left.next() else {
+            break;
+        };
+        pairs.push((key, value))?;
+    }
+    Ok(pairs)
+}
