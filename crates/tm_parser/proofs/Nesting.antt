@@ -4,12 +4,22 @@ use Rattle.tm_syntax.specs.declared.token.Token.{Token}
 use Rattle.tm_syntax.specs.declared.tree.Expr.{Expr}
 use Rattle.tm_syntax.specs.declared.tree.Expr.TheVariants as exprs
 use Rattle.tm_syntax.specs.declared.tree.Step.{Step}
-use Rattle.tm_rules.specs.Combinators.{first, branch, ◌>>=◌, pure}
+use Rattle.tm_rules.specs.Meanings.{got}
+use Rattle.tm_rules.specs.Combinators.{branch, ◌>>=◌, pure}
 use Rattle.tm_parser.specs.Grammar.{Inside, inside, expr, operand, expr_at, primary, prefix, chained}
 use Rattle.tm_parser.specs.Statements.{inner, body, rest}
 
 suc-sub-one : (n : ℕ) → suc n - 1 ≡ n
 suc-sub-one n = omega arith
+
+pub no_room : (depth : ℕ) (ts : List Token) → depth ≡ 0 → (inside depth).room.reads ts ≡ None
+unfolding inside
+no_room depth ts h = ap (λ k. (inside k).room.reads ts) h
+
+pub some_room : (depth : ℕ) (ts : List Token) → ¬ (depth ≡ 0) → (inside depth).room.reads ts ≡ got tt ts
+unfolding inside
+some_room zero ts h = absurd (h refl)
+some_room (suc depth) ts h = refl
 
 pub no_expr : (depth : ℕ) (ts : List Token) → depth ≡ 0 → (inside depth).expr.reads ts ≡ None
 unfolding inside
@@ -29,18 +39,18 @@ unfolding inside
 inner_operand zero level ts h = absurd (h refl)
 inner_operand (suc depth) level ts h = ap (λ k. (operand (inside k) level).reads ts) (sym (suc-sub-one depth))
 
-pub ruleset expressions = (no_expr, inner_expr, no_operand, inner_operand)
+pub ruleset expressions = (no_room, some_room, no_expr, inner_expr, no_operand, inner_operand)
 
 pub tightest : (i : Inside) (level : ℕ) (ts : List Token) → level ≡ 0 → (operand i level).reads ts ≡ (primary i).reads ts
 unfolding operand
 tightest i level ts h = ap (λ k. (operand i k).reads ts) h
 
 pub tighter : (i : Inside) (level : ℕ) (ts : List Token) → ¬ (level ≡ 0) →
-    (operand i level).reads ts ≡ (branch (first (prefix level)) (λ op. i.operand level >>= (λ x. pure (exprs.Unary op x))) (expr_at i (level - 1))).reads ts
+    (operand i level).reads ts ≡ (branch (prefix level) (λ op. i.operand level >>= (λ x. pure (exprs.Unary op x))) (expr_at i (level - 1))).reads ts
 unfolding operand expr_at
 tighter i zero ts h = absurd (h refl)
 tighter i (suc level) ts h =
-    ap (λ k. (branch (first (prefix (suc level))) (λ op. i.operand (suc level) >>= (λ x. pure (exprs.Unary op x))) (expr_at i k)).reads ts) (sym (suc-sub-one level))
+    ap (λ k. (branch (prefix (suc level)) (λ op. i.operand (suc level) >>= (λ x. pure (exprs.Unary op x))) (expr_at i k)).reads ts) (sym (suc-sub-one level))
 
 pub ruleset levels = (tightest, tighter)
 

@@ -1,5 +1,5 @@
 -- The grammar of expressions.
-use Rattle.std.specs.Prelude.{ℕ, zero, suc, List, [], ◌∷◌, true, false, Option, Some, None, if◌then◌else◌, nat_eq}
+use Rattle.std.specs.Prelude.{ℕ, zero, suc, List, [], ◌∷◌, true, false, Bool, Option, Some, None, if◌then◌else◌, nat_eq}
 use denote.Enum.Bare.{sameb}
 use Rattle.tm_values.specs.Val as value
 use Rattle.tm_values.specs.Val.{Val}
@@ -16,6 +16,8 @@ use Rattle.tm_syntax.specs.declared.tree.Expr.{Expr}
 use Rattle.tm_syntax.specs.declared.tree.Expr.TheVariants as exprs
 use Rattle.tm_syntax.specs.declared.tree.Argument.{Argument}
 use Rattle.tm_syntax.specs.declared.tree.Argument.TheVariants as arguments
+use Rattle.tm_syntax.specs.declared.tree.Pair.{Pair}
+use Rattle.tm_syntax.specs.declared.tree.Pair.TheVariants as pairs
 use Rattle.tm_syntax.specs.declared.tree.Step.{Step}
 use Rattle.tm_syntax.specs.declared.tree.Step.TheVariants as steps
 use Rattle.tm_parser.specs.declared.tables.Link.{Link}
@@ -23,6 +25,7 @@ use Rattle.tm_parser.specs.declared.tables.Link.TheVariants as links
 use Rattle.tm_rules.specs.Rule as rules
 use Rattle.tm_rules.specs.Rule.{Look}
 use Rattle.tm_rules.specs.Combinators.{first, not_before, nothing, pure, ◌>>=◌, branch, token, one_more, many_from}
+use Rattle.tm_parser.specs.Looks.{or_else, before, ahead}
 
 abbrev pub Rule : Type 0 → Type 1
 Rule A = rules.Rule Token A
@@ -52,13 +55,34 @@ a_constant _ = None
 -- Each sign that goes on with a value: its level, and how.
 abbrev pub link_of : Sign → Option (ℕ × Link)
 link_of sign.Dot = Some (0, links.Attribute)
+link_of sign.OpenSquare = Some (0, links.Item)
+link_of sign.DoubleStar = Some (1, links.Operator binaries.Power)
+link_of sign.Star = Some (2, links.Operator binaries.Multiply)
+link_of sign.Slash = Some (2, links.Operator binaries.Divide)
+link_of sign.DoubleSlash = Some (2, links.Operator binaries.FloorDivide)
+link_of sign.Percent = Some (2, links.Operator binaries.Remainder)
+link_of sign.Tilde = Some (3, links.Operator binaries.Concatenate)
+link_of sign.Plus = Some (4, links.Operator binaries.Add)
+link_of sign.Minus = Some (4, links.Operator binaries.Subtract)
 link_of sign.Equal = Some (5, links.Comparison binaries.Equal)
+link_of sign.NotEqual = Some (5, links.Comparison binaries.NotEqual)
+link_of sign.Less = Some (5, links.Comparison binaries.Less)
+link_of sign.LessOrEqual = Some (5, links.Comparison binaries.LessOrEqual)
+link_of sign.Greater = Some (5, links.Comparison binaries.Greater)
+link_of sign.GreaterOrEqual = Some (5, links.Comparison binaries.GreaterOrEqual)
+link_of sign.In = Some (5, links.Comparison binaries.In)
 link_of sign.And = Some (6, links.And)
 link_of sign.Or = Some (7, links.Or)
 link_of _ = None
 
+-- Each sign that goes on with a value behind `not`.
+abbrev pub negated_link_of : Sign → Option (ℕ × Link)
+negated_link_of sign.In = Some (5, links.Comparison binaries.NotIn)
+negated_link_of _ = None
+
 -- Each sign before an operand: the level whose operands it stands before, and the operator.
 abbrev pub prefix_of : Sign → Option (ℕ × UnaryOperator)
+prefix_of sign.Minus = Some (1, unaries.Negate)
 prefix_of sign.Not = Some (6, unaries.Not)
 prefix_of _ = None
 
@@ -66,16 +90,22 @@ abbrev pub at_level : {A : Type 0} → ℕ → Option (ℕ × A) → Option A
 at_level level None = None
 at_level level (Some x) = if nat_eq x.0 level then Some x.1 else None
 
-abbrev pub link : ℕ → Token → Option Link
-link level (tokens.Sign s) = at_level level (link_of s)
-link level _ = None
+-- a sign that a table has at a level
+abbrev pub sign_at : {A : Type 0} → (Sign → Option (ℕ × A)) → ℕ → Token → Option A
+sign_at table level (tokens.Sign s) = at_level level (table s)
+sign_at table level _ = None
 
-abbrev pub prefix : ℕ → Token → Option UnaryOperator
-prefix level (tokens.Sign s) = at_level level (prefix_of s)
-prefix level _ = None
+-- what goes on with a value at a level: a sign, or `not` and a sign
+abbrev pub link : ℕ → Look Token Link
+link level = or_else (first (sign_at link_of level)) (before (is sign.Not) (sign_at negated_link_of level))
+
+abbrev pub prefix : ℕ → Look Token UnaryOperator
+prefix level = first (sign_at prefix_of level)
 
 -- What may stand inside one more bracket or behind one more prefix.
 pub record Inside : Type 1 where
+  -- no token; refused where no nesting is left
+  pub room : Rule (Unit {0})
   pub expr : Rule Expr
   -- an operand of a level
   pub operand : ℕ → Rule Expr
@@ -87,14 +117,14 @@ comma close = not_before (is sign.Comma) (is close)
 unfoldable pub more_items : {A : Type 0} → Sign → Rule A → List A → Rule (List A)
 more_items close item xs = many_from (comma close) (λ _. item) xs
 
--- items with commas between them, and behind the last one a comma or none, up to the sign
-unfoldable pub items : {A : Type 0} → Sign → Rule A → Rule (List A)
-items close item = branch (first (is close)) (λ _. pure []) (do
-  x ← one_more item []
-  xs ← more_items close item x
+-- Behind these items more, with commas between them and behind the last one a comma or none, up to the sign.
+unfoldable pub items : {A : Type 0} → Sign → Rule A → List A → Rule (List A)
+items close item xs = branch (first (is close)) (λ _. pure xs) (do
+  ys ← one_more item xs
+  zs ← more_items close item ys
   comma ← branch (first (is sign.Comma)) pure (pure tt)
   end ← token (is close)
-  pure xs)
+  pure zs)
 
 unfoldable pub argument : Inside → Rule Argument
 argument i = do
@@ -105,33 +135,105 @@ argument i = do
 unfoldable pub named : Inside → List ℕ → Rule Expr
 named i name = branch (first (is sign.OpenRound))
     (λ _. do
-      given ← items sign.CloseRound (argument i)
+      room ← i.room
+      given ← items sign.CloseRound (argument i) []
       pure (exprs.Call name given))
     (pure (exprs.Var name))
 
+-- a tuple behind its first item
+unfoldable pub tuple : Inside → Expr → Rule Expr
+tuple i x = do
+  comma ← token (is sign.Comma)
+  xs ← items sign.CloseRound i.expr (x ∷ [])
+  pure (exprs.Tuple xs)
+
+-- the empty tuple, an expression, or a tuple
 unfoldable pub bracketed : Inside → Rule Expr
 bracketed i = do
+  room ← i.room
+  branch (first (is sign.CloseRound)) (λ _. pure (exprs.Tuple [])) (do
+    x ← i.expr
+    branch (first (is sign.CloseRound)) (λ _. pure x) (tuple i x))
+
+unfoldable pub list_literal : Inside → Rule Expr
+list_literal i = do
+  room ← i.room
+  xs ← items sign.CloseSquare i.expr []
+  pure (exprs.List xs)
+
+unfoldable pub pair : Inside → Rule Pair
+pair i = do
+  key ← i.expr
+  colon ← token (is sign.Colon)
   x ← i.expr
-  end ← token (is sign.CloseRound)
-  pure x
+  pure (pairs.Pair key x)
+
+unfoldable pub map_literal : Inside → Rule Expr
+map_literal i = do
+  room ← i.room
+  ps ← items sign.CloseCurly (pair i) []
+  pure (exprs.Map ps)
 
 unfoldable pub primary : Inside → Rule Expr
 primary i =
     branch (first a_constant) (λ v. pure (exprs.Const v)) (
     branch (first a_name) (named i) (
-    branch (first (is sign.OpenRound)) (λ _. bracketed i)
-    nothing))
+    branch (first (is sign.OpenRound)) (λ _. bracketed i) (
+    branch (first (is sign.OpenSquare)) (λ _. list_literal i) (
+    branch (first (is sign.OpenCurly)) (λ _. map_literal i)
+    nothing))))
 
 unfoldable pub attribute : Rule Step
 attribute = do
   name ← token a_name
   pure (steps.Attribute name)
 
+-- what stands behind a part of a slice
+abbrev pub ends_part : Token → Bool
+ends_part (tokens.Sign sign.Colon) = true
+ends_part (tokens.Sign sign.CloseSquare) = true
+ends_part _ = false
+
+-- what stands for a part that is missing
+abbrev pub missing : Expr
+missing = exprs.Const value.none
+
+-- a part of a slice, which may be missing
+unfoldable pub part : Inside → Rule Expr
+part i = ahead ends_part (pure missing) i.expr
+
+-- the part behind the second colon of a slice, which may have one colon alone
+unfoldable pub last_part : Inside → Rule Expr
+last_part i = branch (first (is sign.Colon)) (λ _. part i) (pure missing)
+
+-- a slice behind its first colon
+unfoldable pub slice : Inside → Expr → Rule Step
+slice i start = do
+  stop ← part i
+  by ← last_part i
+  end ← token (is sign.CloseSquare)
+  pure (steps.Slice start stop by)
+
+-- an item or a slice
+unfoldable pub subscript : Inside → Rule Step
+subscript i = do
+  room ← i.room
+  branch (first (is sign.Colon)) (λ _. slice i missing) (do
+    x ← i.expr
+    branch (first (is sign.Colon)) (λ _. slice i x) (do
+      end ← token (is sign.CloseSquare)
+      pure (steps.Item x)))
+
+unfoldable pub operation : Rule Expr → BinaryOperator → Rule Step
+operation right op = do
+  y ← right
+  pure (steps.Binary op y)
+
 -- No other comparison stands behind it.
 unfoldable pub comparison : Rule Expr → ℕ → BinaryOperator → Rule Step
 comparison right level op = do
   y ← right
-  branch (first (link level)) (λ _. nothing) (pure (steps.Binary op y))
+  branch (link level) (λ _. nothing) (pure (steps.Binary op y))
 
 unfoldable pub conjunction : Rule Expr → Rule Step
 conjunction right = do
@@ -144,15 +246,17 @@ disjunction right = do
   pure (steps.Or y)
 
 -- what stands behind a link
-abbrev pub step : Rule Expr → ℕ → Link → Rule Step
-step right level links.Attribute = attribute
-step right level (links.Comparison op) = comparison right level op
-step right level links.And = conjunction right
-step right level links.Or = disjunction right
+abbrev pub step : Inside → Rule Expr → ℕ → Link → Rule Step
+step i right level links.Attribute = attribute
+step i right level links.Item = subscript i
+step i right level (links.Operator op) = operation right op
+step i right level (links.Comparison op) = comparison right level op
+step i right level links.And = conjunction right
+step i right level links.Or = disjunction right
 
 -- as many steps of a level as there are
-abbrev pub steps_from : Rule Expr → ℕ → List Step → Rule (List Step)
-steps_from right level xs = many_from (first (link level)) (step right level) xs
+abbrev pub steps_from : Inside → Rule Expr → ℕ → List Step → Rule (List Step)
+steps_from i right level xs = many_from (link level) (step i right level) xs
 
 -- a value and its steps
 abbrev pub chained : Expr → List Step → Expr
@@ -160,28 +264,28 @@ chained x [] = x
 chained x (s ∷ ss) = exprs.Chain x (s ∷ ss)
 
 -- an operand, and the steps of the level behind it
-abbrev pub with_steps : Rule Expr → ℕ → Rule Expr
-with_steps right level = do
+abbrev pub with_steps : Inside → Rule Expr → ℕ → Rule Expr
+with_steps i right level = do
   x ← right
-  xs ← steps_from right level []
+  xs ← steps_from i right level []
   pure (chained x xs)
 
 -- an operand of a level: behind a prefix of that level another one, else what binds tighter
 unfoldable pub operand : Inside → ℕ → Rule Expr
 operand i zero = primary i
-operand i (suc level) = branch (first (prefix (suc level)))
+operand i (suc level) = branch (prefix (suc level))
     (λ op. do
       x ← i.operand (suc level)
       pure (exprs.Unary op x))
-    (with_steps (operand i level) level)
+    (with_steps i (operand i level) level)
 
 unfoldable pub expr_at : Inside → ℕ → Rule Expr
-expr_at i level = with_steps (operand i level) level
+expr_at i level = with_steps i (operand i level) level
 
 unfoldable pub expr : Inside → Rule Expr
 expr i = expr_at i 8
 
 -- what may stand inside n nestings more
 unfoldable pub inside : ℕ → Inside
-inside zero = record { expr = nothing; operand = λ level. nothing }
-inside (suc n) = record { expr = expr (inside n); operand = operand (inside n) }
+inside zero = record { room = nothing; expr = nothing; operand = λ level. nothing }
+inside (suc n) = record { room = pure tt; expr = expr (inside n); operand = operand (inside n) }

@@ -1,4 +1,5 @@
 pub mod Gives
 pub mod Grammar
+pub mod Looks
 pub mod Statements
 pub mod Template

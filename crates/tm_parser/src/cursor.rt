@@ -1,12 +1,13 @@
 //! Tokens one after another.
 ghost use Rattle.std.specs.Prelude.{◌≡◌, ◌∷◌, [], ◌↔◌, IsTrue, MatchResult};
 ghost use Rattle.tm_parser.specs.Gives.{Gives, Takes, TakesSign};
-ghost use Rattle.tm_parser.specs.Grammar.{is, a_name, a_constant, comma, link, prefix};
+ghost use Rattle.tm_parser.specs.Grammar.{is, a_name, a_constant, comma, ends_part, link, prefix};
+ghost use Rattle.tm_parser.specs.Looks.{starts};
 ghost use Rattle.tm_parser.specs.Statements.{a_start, is_tag, lone, same_name};
 ghost use Rattle.tm_rules.specs.Combinators.{token};
 ghost use Rattle.tm_rules.specs.Meanings.{first_sees};
 
-use crate::tables::{Link, Start, constant_of, link_of, prefix_of, start_of};
+use crate::tables::{Link, Start, constant_of, link_of, negated_link_of, prefix_of, start_of};
 use std::marker::Model;
 use tm_syntax::{Name, Sign, Tag, Token, UnaryOperator};
 use tm_values::{Error, ErrorKind, Value};
@@ -53,6 +54,16 @@ impl<'t> Cursor<'t> {
         self.rest.is_empty()
     }
 
+    /// Whether a slice goes on or ends here.
+    pub fn ends_part(&self) -> bool
+        ensures { result ≡ starts ends_part self.now }
+    {
+        match self.rest {
+            [Token::Sign(Sign::Colon | Sign::CloseSquare), ..] => true,
+            _ => false,
+        }
+    }
+
     /// Takes this sign.
     pub fn take(&mut self, sign: Sign) -> bool
         ensures { TakesSign result self.old self.new (first_sees (is sign) self.old) }
@@ -84,8 +95,10 @@ impl<'t> Cursor<'t> {
         ensures { TakesSign result self.old self.new ((comma close).sees self.old) }
     {
         match self.rest {
-            [Token::Sign(Sign::Comma), Token::Sign(found), ..] if *found == close => false,
             [Token::Sign(Sign::Comma), rest @ ..] => {
+                if Cursor::new(rest).take(close) {
+                    return false;
+                }
                 self.rest = rest;
                 true
             }
@@ -128,25 +141,30 @@ impl<'t> Cursor<'t> {
         Ok(Some(value))
     }
 
-    /// Takes a sign that goes on with a value at this level.
+    /// Takes what goes on with a value at this level: a sign, or `not` and one.
     pub fn take_link(&mut self, level: u8) -> Option<Link>
-        ensures { Takes result self.old self.new (first_sees (link level) self.old) }
+        ensures { Takes result self.old self.new ((link level).sees self.old) }
     {
-        match self.rest {
-            [Token::Sign(sign), rest @ ..] => match link_of(*sign) {
-                Some((found, link)) if found == level => {
-                    self.rest = rest;
-                    Some(link)
-                }
-                _ => None,
-            },
+        let (found, rest) = match self.rest {
+            [Token::Sign(Sign::Not), Token::Sign(sign), rest @ ..] => (
+                negated_link_of(*sign),
+                rest,
+            ),
+            [Token::Sign(sign), rest @ ..] => (link_of(*sign), rest),
+            _ => return None,
+        };
+        match found {
+            Some((found, link)) if found == level => {
+                self.rest = rest;
+                Some(link)
+            }
             _ => None,
         }
     }
 
     /// Takes a sign before an operand of this level.
     pub fn take_prefix(&mut self, level: u8) -> Option<UnaryOperator>
-        ensures { Takes result self.old self.new (first_sees (prefix level) self.old) }
+        ensures { Takes result self.old self.new ((prefix level).sees self.old) }
     {
         match self.rest {
             [Token::Sign(sign), rest @ ..] => match prefix_of(*sign) {

@@ -2,7 +2,7 @@
 ghost use Rattle.std.specs.Prelude.{◌≡◌, ◌∷◌, [], MatchResult};
 ghost use Rattle.tm_parser.specs.Gives.{Gives};
 ghost use Rattle.tm_parser.specs.Grammar as grammar;
-ghost use Rattle.tm_parser.specs.Grammar.{inside, argument, attribute, bracketed, comparison, conjunction, disjunction, expr, expr_at, items, more_items, named, operand, primary, step, steps_from};
+ghost use Rattle.tm_parser.specs.Grammar.{inside, argument, attribute, bracketed, comparison, conjunction, disjunction, expr, expr_at, items, last_part, list_literal, map_literal, more_items, named, operand, operation, pair, part, primary, slice, step, steps_from, subscript, tuple};
 ghost use Rattle.tm_rules.specs.Combinators.{one_more};
 ghost use Rattle.tm_syntax.specs.declared.token.Sign.TheVariants as sign;
 ghost use Rattle.tm_values.specs.declared.error.ErrorKind.TheVariants.{OutOfMemory};
@@ -11,14 +11,25 @@ use crate::cursor::{Cursor, refusal};
 use crate::tables::Link;
 use sqlite_items::{Boxed, Items};
 use std::alloc::Global;
-use tm_syntax::{Argument, BinaryOperator, Expr, Name, Sign, Step};
-use tm_values::Error;
+use tm_syntax::{Argument, BinaryOperator, Expr, Name, Pair, Sign, Step};
+use tm_values::{Error, Value};
 
 /// The loosest level.
 const WHOLE: u8 = 8;
 
 // Each method reads one rule, with `depth` nestings to go. SyntaxError where no tokens spell it.
 impl Cursor<'_> {
+    /// Refuses a bracket for which no nesting is left.
+    #[tactic(auto, using(crate::proofs::Nesting::expressions))]
+    fn room(&self, depth: u8) -> Result<(), Error>
+        ensures { Gives result self.now ((inside depth).room.reads self.now) }
+    {
+        if depth == 0 {
+            return Err(refusal());
+        }
+        Ok(())
+    }
+
     /// An expression inside one nesting more.
     #[cycle(expressions)]
     #[tactic(auto, using(crate::proofs::Nesting::expressions))]
@@ -83,7 +94,7 @@ impl Cursor<'_> {
     #[cycle(expressions)]
     fn steps(&mut self, alloc: Global, depth: u8, level: u8) -> Result<Items<Step>, Error>
         ensures { Gives result self.new
-            ((steps_from (operand (inside depth) level) level []).reads self.old) }
+            ((steps_from (inside depth) (operand (inside depth) level) level []).reads self.old) }
     {
         let mut steps = Items::new(alloc);
         while let Some(link) = self.take_link(level) {
@@ -103,7 +114,8 @@ impl Cursor<'_> {
         steps: Items<Step>,
     ) -> Result<Items<Step>, Error>
         ensures { Gives result self.new
-            ((one_more (step (operand (inside depth) level) level link) steps).reads self.old) }
+            ((one_more (step (inside depth) (operand (inside depth) level) level link) steps).reads
+            self.old) }
     {
         let mut steps = steps;
         steps.push(self.step(alloc, depth, level, link)?)?;
@@ -114,10 +126,12 @@ impl Cursor<'_> {
     #[cycle(expressions)]
     fn step(&mut self, alloc: Global, depth: u8, level: u8, link: Link) -> Result<Step, Error>
         ensures { Gives result self.new
-            ((step (operand (inside depth) level) level link).reads self.old) }
+            ((step (inside depth) (operand (inside depth) level) level link).reads self.old) }
     {
         match link {
             Link::Attribute => self.attribute(),
+            Link::Item => self.subscript(alloc, depth),
+            Link::Operator(operator) => self.operation(alloc, depth, level, operator),
             Link::Comparison(operator) => self.comparison(alloc, depth, level, operator),
             Link::And => self.conjunction(alloc, depth, level),
             Link::Or => self.disjunction(alloc, depth, level),
@@ -130,6 +144,77 @@ impl Cursor<'_> {
         ensures { Gives result self.new (attribute.reads self.old) }
     {
         Ok(Step::Attribute(self.expect_name()?))
+    }
+
+    /// The item or slice in square brackets, and their end.
+    #[cycle(expressions)]
+    #[tactic(auto, unfolding(crate::specs::Grammar::subscript))]
+    fn subscript(&mut self, alloc: Global, depth: u8) -> Result<Step, Error>
+        ensures { Gives result self.new ((subscript (inside depth)).reads self.old) }
+    {
+        self.room(depth)?;
+        if self.take(Sign::Colon) {
+            let start = missing(alloc)?;
+            return self.slice(alloc, depth, start);
+        }
+        let item = self.inner_expr(alloc, depth)?;
+        if self.take(Sign::Colon) {
+            return self.slice(alloc, depth, item);
+        }
+        self.expect(Sign::CloseSquare)?;
+        Ok(Step::Item(item))
+    }
+
+    /// A slice behind its first colon, and the end of its brackets.
+    #[cycle(expressions)]
+    #[tactic(auto, unfolding(crate::specs::Grammar::slice))]
+    fn slice(&mut self, alloc: Global, depth: u8, start: Boxed<Expr>) -> Result<Step, Error>
+        ensures { Gives result self.new ((slice (inside depth) start).reads self.old) }
+    {
+        let stop = self.part(alloc, depth)?;
+        let by = self.last_part(alloc, depth)?;
+        self.expect(Sign::CloseSquare)?;
+        Ok(Step::Slice(start, stop, by))
+    }
+
+    /// The part behind the second colon of a slice, if it has one.
+    #[cycle(expressions)]
+    #[tactic(auto, unfolding(crate::specs::Grammar::last_part))]
+    fn last_part(&mut self, alloc: Global, depth: u8) -> Result<Boxed<Expr>, Error>
+        ensures { Gives result self.new ((last_part (inside depth)).reads self.old) }
+    {
+        if self.take(Sign::Colon) {
+            return self.part(alloc, depth);
+        }
+        missing(alloc)
+    }
+
+    /// A part of a slice, which may be missing.
+    #[cycle(expressions)]
+    #[tactic(auto, unfolding(crate::specs::Grammar::part))]
+    fn part(&mut self, alloc: Global, depth: u8) -> Result<Boxed<Expr>, Error>
+        ensures { Gives result self.new ((part (inside depth)).reads self.old) }
+    {
+        if self.ends_part() {
+            return missing(alloc);
+        }
+        self.inner_expr(alloc, depth)
+    }
+
+    /// The right side of an operator.
+    #[cycle(expressions)]
+    #[tactic(auto, unfolding(crate::specs::Grammar::operation))]
+    fn operation(
+        &mut self,
+        alloc: Global,
+        depth: u8,
+        level: u8,
+        operator: BinaryOperator,
+    ) -> Result<Step, Error>
+        ensures { Gives result self.new
+            ((operation (operand (inside depth) level) operator).reads self.old) }
+    {
+        Ok(Step::Binary(operator, self.operand(alloc, depth, level)?))
     }
 
     /// The right side of a comparison, with no other comparison behind it.
@@ -187,6 +272,12 @@ impl Cursor<'_> {
         if self.take(Sign::OpenRound) {
             return self.bracketed(alloc, depth);
         }
+        if self.take(Sign::OpenSquare) {
+            return self.list_literal(alloc, depth);
+        }
+        if self.take(Sign::OpenCurly) {
+            return self.map_literal(alloc, depth);
+        }
         Err(refusal())
     }
 
@@ -199,19 +290,176 @@ impl Cursor<'_> {
         if !self.take(Sign::OpenRound) {
             return Ok(Boxed::new(alloc, Expr::Var(name))?);
         }
+        self.room(depth)?;
         let arguments = self.arguments(alloc, depth)?;
         Ok(Boxed::new(alloc, Expr::Call(name, arguments))?)
     }
 
-    /// What stands in brackets, and their end.
+    /// The expression or tuple in round brackets, and their end.
     #[cycle(expressions)]
     #[tactic(auto, unfolding(crate::specs::Grammar::bracketed))]
     fn bracketed(&mut self, alloc: Global, depth: u8) -> Result<Boxed<Expr>, Error>
         ensures { Gives result self.new ((bracketed (inside depth)).reads self.old) }
     {
+        self.room(depth)?;
+        if self.take(Sign::CloseRound) {
+            return Ok(Boxed::new(alloc, Expr::Tuple(Items::new(alloc)))?);
+        }
+        let first = self.inner_expr(alloc, depth)?;
+        if self.take(Sign::CloseRound) {
+            return Ok(first);
+        }
+        self.tuple(alloc, depth, first)
+    }
+
+    /// A tuple behind its first item, and the end of its brackets.
+    #[cycle(expressions)]
+    #[tactic(auto, unfolding(crate::specs::Grammar::tuple))]
+    fn tuple(&mut self, alloc: Global, depth: u8, first: Boxed<Expr>) -> Result<Boxed<Expr>, Error>
+        ensures { Gives result self.new ((tuple (inside depth) first).reads self.old) }
+    {
+        self.expect(Sign::Comma)?;
+        let mut items = Items::new(alloc);
+        items.push(first.into_inner())?;
+        let items = self.exprs(alloc, depth, Sign::CloseRound, items)?;
+        Ok(Boxed::new(alloc, Expr::Tuple(items))?)
+    }
+
+    /// The items of a list, and the end of its brackets.
+    #[cycle(expressions)]
+    #[tactic(auto, unfolding(crate::specs::Grammar::list_literal))]
+    fn list_literal(&mut self, alloc: Global, depth: u8) -> Result<Boxed<Expr>, Error>
+        ensures { Gives result self.new ((list_literal (inside depth)).reads self.old) }
+    {
+        self.room(depth)?;
+        let items = self.exprs(alloc, depth, Sign::CloseSquare, Items::new(alloc))?;
+        Ok(Boxed::new(alloc, Expr::List(items))?)
+    }
+
+    /// The pairs of a map, and the end of its brackets.
+    #[cycle(expressions)]
+    #[tactic(auto, unfolding(crate::specs::Grammar::map_literal))]
+    fn map_literal(&mut self, alloc: Global, depth: u8) -> Result<Boxed<Expr>, Error>
+        ensures { Gives result self.new ((map_literal (inside depth)).reads self.old) }
+    {
+        self.room(depth)?;
+        let pairs = self.pairs(alloc, depth)?;
+        Ok(Boxed::new(alloc, Expr::Map(pairs))?)
+    }
+
+    /// More expressions behind others, up to a sign and with it.
+    #[cycle(expressions)]
+    #[tactic(auto, unfolding(crate::specs::Grammar::items))]
+    fn exprs(
+        &mut self,
+        alloc: Global,
+        depth: u8,
+        close: Sign,
+        first: Items<Expr>,
+    ) -> Result<Items<Expr>, Error>
+        ensures { Gives result self.new ((items close (inside depth).expr first).reads self.old) }
+    {
+        if self.take(close) {
+            return Ok(first);
+        }
+        let exprs = self.one_expr(alloc, depth, first)?;
+        let exprs = self.more_exprs(alloc, depth, close, exprs)?;
+        self.take(Sign::Comma);
+        self.expect(close)?;
+        Ok(exprs)
+    }
+
+    /// More expressions, each behind a comma.
+    #[cycle(expressions)]
+    #[tactic(auto, using(crate::proofs::Loops::commas))]
+    fn more_exprs(
+        &mut self,
+        alloc: Global,
+        depth: u8,
+        close: Sign,
+        first: Items<Expr>,
+    ) -> Result<Items<Expr>, Error>
+        ensures { Gives result self.new
+            ((more_items close (inside depth).expr first).reads self.old) }
+    {
+        let mut exprs = first;
+        while self.take_comma(close) {
+            exprs = self.one_expr(alloc, depth, exprs)?;
+        }
+        Ok(exprs)
+    }
+
+    /// An expression, at the end of others.
+    #[cycle(expressions)]
+    fn one_expr(
+        &mut self,
+        alloc: Global,
+        depth: u8,
+        exprs: Items<Expr>,
+    ) -> Result<Items<Expr>, Error>
+        ensures { Gives result self.new ((one_more (inside depth).expr exprs).reads self.old) }
+    {
+        let mut exprs = exprs;
         let value = self.inner_expr(alloc, depth)?;
-        self.expect(Sign::CloseRound)?;
-        Ok(value)
+        exprs.push(value.into_inner())?;
+        Ok(exprs)
+    }
+
+    /// The pairs of a map, and the end of its brackets.
+    #[cycle(expressions)]
+    #[tactic(auto, unfolding(crate::specs::Grammar::items))]
+    fn pairs(&mut self, alloc: Global, depth: u8) -> Result<Items<Pair>, Error>
+        ensures { Gives result self.new
+            ((items sign.CloseCurly (pair (inside depth)) []).reads self.old) }
+    {
+        let pairs = Items::new(alloc);
+        if self.take(Sign::CloseCurly) {
+            return Ok(pairs);
+        }
+        let pairs = self.one_pair(alloc, depth, pairs)?;
+        let pairs = self.more_pairs(alloc, depth, pairs)?;
+        self.take(Sign::Comma);
+        self.expect(Sign::CloseCurly)?;
+        Ok(pairs)
+    }
+
+    /// More pairs, each behind a comma.
+    #[cycle(expressions)]
+    #[tactic(auto, using(crate::proofs::Loops::commas))]
+    fn more_pairs(
+        &mut self,
+        alloc: Global,
+        depth: u8,
+        first: Items<Pair>,
+    ) -> Result<Items<Pair>, Error>
+        ensures { Gives result self.new
+            ((more_items sign.CloseCurly (pair (inside depth)) first).reads self.old) }
+    {
+        let mut pairs = first;
+        while self.take_comma(Sign::CloseCurly) {
+            pairs = self.one_pair(alloc, depth, pairs)?;
+        }
+        Ok(pairs)
+    }
+
+    /// A pair, at the end of others.
+    #[cycle(expressions)]
+    #[tactic(auto, unfolding(crate::specs::Grammar::pair))]
+    fn one_pair(
+        &mut self,
+        alloc: Global,
+        depth: u8,
+        pairs: Items<Pair>,
+    ) -> Result<Items<Pair>, Error>
+        ensures { Gives result self.new
+            ((one_more (pair (inside depth)) pairs).reads self.old) }
+    {
+        let mut pairs = pairs;
+        let key = self.inner_expr(alloc, depth)?;
+        self.expect(Sign::Colon)?;
+        let value = self.inner_expr(alloc, depth)?;
+        pairs.push(Pair::Pair(key, value))?;
+        Ok(pairs)
     }
 
     /// The arguments of a call, and the end of its brackets.
@@ -219,7 +467,7 @@ impl Cursor<'_> {
     #[tactic(auto, unfolding(crate::specs::Grammar::items))]
     fn arguments(&mut self, alloc: Global, depth: u8) -> Result<Items<Argument>, Error>
         ensures { Gives result self.new
-            ((items sign.CloseRound (argument (inside depth))).reads self.old) }
+            ((items sign.CloseRound (argument (inside depth)) []).reads self.old) }
     {
         let arguments = Items::new(alloc);
         if self.take(Sign::CloseRound) {
@@ -268,6 +516,15 @@ impl Cursor<'_> {
         arguments.push(Argument::Plain(value))?;
         Ok(arguments)
     }
+}
+
+/// What stands for a missing part. OutOfMemory for want of memory.
+fn missing(alloc: Global) -> Result<Boxed<Expr>, Error>
+    ensures { MatchResult result
+        (λ expr. expr ≡ grammar.missing)
+        (λ e. e ≡ OutOfMemory ∷ []) }
+{
+    Ok(Boxed::new(alloc, Expr::Const(Value::none()))?)
 }
 
 /// A value and its steps; the value itself where there are none. OutOfMemory for want of memory.

@@ -11,6 +11,10 @@ use tm_values::Value;
 pub enum Link {
     /// By a name, which is an attribute's.
     Attribute,
+    /// By what stands in square brackets.
+    Item,
+    /// By the right side of an operator.
+    Operator(BinaryOperator),
     /// By the right side of a comparison.
     Comparison(BinaryOperator),
     /// By the right side of `and`.
@@ -38,9 +42,34 @@ pub fn link_of(sign: Sign) -> Option<(u8, Link)>
 {
     Some(match sign {
         Sign::Dot => (0, Link::Attribute),
+        Sign::OpenSquare => (0, Link::Item),
+        Sign::DoubleStar => (1, Link::Operator(BinaryOperator::Power)),
+        Sign::Star => (2, Link::Operator(BinaryOperator::Multiply)),
+        Sign::Slash => (2, Link::Operator(BinaryOperator::Divide)),
+        Sign::DoubleSlash => (2, Link::Operator(BinaryOperator::FloorDivide)),
+        Sign::Percent => (2, Link::Operator(BinaryOperator::Remainder)),
+        Sign::Tilde => (3, Link::Operator(BinaryOperator::Concatenate)),
+        Sign::Plus => (4, Link::Operator(BinaryOperator::Add)),
+        Sign::Minus => (4, Link::Operator(BinaryOperator::Subtract)),
         Sign::Equal => (5, Link::Comparison(BinaryOperator::Equal)),
+        Sign::NotEqual => (5, Link::Comparison(BinaryOperator::NotEqual)),
+        Sign::Less => (5, Link::Comparison(BinaryOperator::Less)),
+        Sign::LessOrEqual => (5, Link::Comparison(BinaryOperator::LessOrEqual)),
+        Sign::Greater => (5, Link::Comparison(BinaryOperator::Greater)),
+        Sign::GreaterOrEqual => (5, Link::Comparison(BinaryOperator::GreaterOrEqual)),
+        Sign::In => (5, Link::Comparison(BinaryOperator::In)),
         Sign::And => (6, Link::And),
         Sign::Or => (7, Link::Or),
+        _ => return None,
+    })
+}
+
+/// How a sign behind `not` goes on with a value, and at which level.
+pub fn negated_link_of(sign: Sign) -> Option<(u8, Link)>
+    ensures { result ≡ grammar.negated_link_of sign }
+{
+    Some(match sign {
+        Sign::In => (5, Link::Comparison(BinaryOperator::NotIn)),
         _ => return None,
     })
 }
@@ -50,6 +79,7 @@ pub fn prefix_of(sign: Sign) -> Option<(u8, UnaryOperator)>
     ensures { result ≡ grammar.prefix_of sign }
 {
     Some(match sign {
+        Sign::Minus => (1, UnaryOperator::Negate),
         Sign::Not => (6, UnaryOperator::Not),
         _ => return None,
     })

@@ -1,29 +1,28 @@
 use Rattle.std.proofs.Common.{ap}
 use Rattle.std.proofs.lemmas.Result.{err_from_is_err_and}
 use Rattle.tm_syntax.specs.declared.token.Sign.TheVariants as sign
-use Rattle.tm_rules.specs.Combinators.{first}
-use Rattle.tm_parser.specs.Grammar.{inside, steps_from, link, step, operand, argument}
+use Rattle.tm_parser.specs.Grammar.{inside, steps_from, link, step, operand, argument, pair}
 use Rattle.tm_parser.proofs.Loops.{goes_on, comes_nearer, refuses, ends, comma_comes_nearer, comma_refuses}
 use Rattle.tm_parser.proofs.cursor.Cursor.+expressions.Goals as goal
 
 pub steps-loop-link-init : goal.steps-loop-link-init
-steps-loop-link-init t c = ap (λ xs. (steps_from (operand (inside c.args.depth) c.args.level) c.args.level xs).reads c.args.self.now) c.new-steps.ensures
+steps-loop-link-init t c = ap (λ xs. (steps_from (inside c.args.depth) (operand (inside c.args.depth) c.args.level) c.args.level xs).reads c.args.self.now) c.new-steps.ensures
 
 pub steps-loop-link-preserved : goal.steps-loop-link-preserved
 steps-loop-link-preserved t c =
-    goes_on (first (link c.args.level)) (step (operand (inside c.args.depth) c.args.level) c.args.level) _ _ _ _ _ _ _ c.loop-link.invariant c.in-Some.ensures c.in_ok-steps.ensures
+    goes_on (link c.args.level) (step (inside c.args.depth) (operand (inside c.args.depth) c.args.level) c.args.level) _ _ _ _ _ _ _ c.loop-link.invariant c.in-Some.ensures c.in_ok-steps.ensures
 
 pub steps-loop-link-smaller : goal.steps-loop-link-smaller
 steps-loop-link-smaller t c =
-    comes_nearer (first (link c.args.level)) (step (operand (inside c.args.depth) c.args.level) c.args.level) _ _ _ _ _ _ c.in-Some.ensures c.in_ok-steps.ensures
+    comes_nearer (link c.args.level) (step (inside c.args.depth) (operand (inside c.args.depth) c.args.level) c.args.level) _ _ _ _ _ _ c.in-Some.ensures c.in_ok-steps.ensures
 
 pub steps-returns-in_err-steps : goal.steps-returns-in_err-steps
 steps-returns-in_err-steps t c =
     let p = err_from_is_err_and c.from_residual.result c.from_residual.ensures.1 in
-    rw (p.1, p.2) (refuses (first (link c.args.level)) (step (operand (inside c.args.depth) c.args.level) c.args.level) _ _ _ _ _ _ c.loop-link.invariant c.in-Some.ensures c.in_err-steps.ensures)
+    rw (p.1, p.2) (refuses (link c.args.level) (step (inside c.args.depth) (operand (inside c.args.depth) c.args.level) c.args.level) _ _ _ _ _ _ c.loop-link.invariant c.in-Some.ensures c.in_err-steps.ensures)
 
 pub steps-returns : goal.steps-returns
-steps-returns t c = ends (first (link c.args.level)) (step (operand (inside c.args.depth) c.args.level) c.args.level) _ _ _ _ c.loop-link.invariant c.in_default.ensures
+steps-returns t c = ends (link c.args.level) (step (inside c.args.depth) (operand (inside c.args.depth) c.args.level) c.args.level) _ _ _ _ c.loop-link.invariant c.in_default.ensures
 
 pub more_arguments-loop-alloc-smaller : goal.more_arguments-loop-alloc-smaller
 more_arguments-loop-alloc-smaller t c = comma_comes_nearer sign.CloseRound (argument (inside c.args.depth)) _ _ _ _ _ c.loop-alloc-test.ensures c.in_ok-arguments.ensures
@@ -32,3 +31,19 @@ pub more_arguments-returns-in_err-arguments : goal.more_arguments-returns-in_err
 more_arguments-returns-in_err-arguments t c =
     let p = err_from_is_err_and c.from_residual.result c.from_residual.ensures.1 in
     rw (p.1, p.2) (comma_refuses sign.CloseRound (argument (inside c.args.depth)) _ _ _ _ _ c.loop-alloc.invariant c.loop-alloc-test.ensures c.in_err-arguments.ensures)
+
+pub more_exprs-loop-alloc-smaller : goal.more_exprs-loop-alloc-smaller
+more_exprs-loop-alloc-smaller t c = comma_comes_nearer c.args.close (inside c.args.depth).expr _ _ _ _ _ c.loop-alloc-test.ensures c.in_ok-exprs.ensures
+
+pub more_exprs-returns-in_err-exprs : goal.more_exprs-returns-in_err-exprs
+more_exprs-returns-in_err-exprs t c =
+    let p = err_from_is_err_and c.from_residual.result c.from_residual.ensures.1 in
+    rw (p.1, p.2) (comma_refuses c.args.close (inside c.args.depth).expr _ _ _ _ _ c.loop-alloc.invariant c.loop-alloc-test.ensures c.in_err-exprs.ensures)
+
+pub more_pairs-loop-alloc-smaller : goal.more_pairs-loop-alloc-smaller
+more_pairs-loop-alloc-smaller t c = comma_comes_nearer sign.CloseCurly (pair (inside c.args.depth)) _ _ _ _ _ c.loop-alloc-test.ensures c.in_ok-pairs.ensures
+
+pub more_pairs-returns-in_err-pairs : goal.more_pairs-returns-in_err-pairs
+more_pairs-returns-in_err-pairs t c =
+    let p = err_from_is_err_and c.from_residual.result c.from_residual.ensures.1 in
+    rw (p.1, p.2) (comma_refuses sign.CloseCurly (pair (inside c.args.depth)) _ _ _ _ _ c.loop-alloc.invariant c.loop-alloc-test.ensures c.in_err-pairs.ensures)

@@ -1,6 +1,6 @@
 use Rattle.std.proofs.Common.{◌≡◌, ◌+◌, ◌*◌, length, []}
 use Rattle.tm_syntax.specs.declared.token.Sign.TheVariants as sign
-use Rattle.tm_parser.specs.Grammar.{inside, operand, steps_from, more_items, argument}
+use Rattle.tm_parser.specs.Grammar.{inside, operand, steps_from, more_items, argument, pair}
 use Rattle.tm_parser.proofs.cursor.Cursor.+expressions.Given as goal
 
 -- each nesting has room for one call of each method, the higher above the lower
@@ -19,46 +19,88 @@ decreases-more_arguments l = 4096 * l.depth + 2
 abbrev pub decreases-arguments : goal.decreases-arguments
 decreases-arguments l = 4096 * l.depth + 3
 
+abbrev pub decreases-one_expr : goal.decreases-one_expr
+decreases-one_expr l = 4096 * l.depth + 1
+
+abbrev pub decreases-more_exprs : goal.decreases-more_exprs
+decreases-more_exprs l = 4096 * l.depth + 2
+
+abbrev pub decreases-exprs : goal.decreases-exprs
+decreases-exprs l = 4096 * l.depth + 3
+
+abbrev pub decreases-one_pair : goal.decreases-one_pair
+decreases-one_pair l = 4096 * l.depth + 1
+
+abbrev pub decreases-more_pairs : goal.decreases-more_pairs
+decreases-more_pairs l = 4096 * l.depth + 2
+
+abbrev pub decreases-pairs : goal.decreases-pairs
+decreases-pairs l = 4096 * l.depth + 3
+
+abbrev pub decreases-tuple : goal.decreases-tuple
+decreases-tuple l = 4096 * l.depth + 4
+
+abbrev pub decreases-list_literal : goal.decreases-list_literal
+decreases-list_literal l = 4096 * l.depth + 4
+
+abbrev pub decreases-map_literal : goal.decreases-map_literal
+decreases-map_literal l = 4096 * l.depth + 4
+
+abbrev pub decreases-part : goal.decreases-part
+decreases-part l = 4096 * l.depth + 1
+
+abbrev pub decreases-last_part : goal.decreases-last_part
+decreases-last_part l = 4096 * l.depth + 2
+
+abbrev pub decreases-slice : goal.decreases-slice
+decreases-slice l = 4096 * l.depth + 3
+
+abbrev pub decreases-subscript : goal.decreases-subscript
+decreases-subscript l = 4096 * l.depth + 4
+
 abbrev pub decreases-bracketed : goal.decreases-bracketed
-decreases-bracketed l = 4096 * l.depth + 4
+decreases-bracketed l = 4096 * l.depth + 5
 
 abbrev pub decreases-named : goal.decreases-named
 decreases-named l = 4096 * l.depth + 4
 
 abbrev pub decreases-primary : goal.decreases-primary
-decreases-primary l = 4096 * l.depth + 5
+decreases-primary l = 4096 * l.depth + 6
 
 -- and so has each level
 abbrev pub decreases-operand : goal.decreases-operand
-decreases-operand l = 4096 * l.depth + 8 * l.level + 6
+decreases-operand l = 4096 * l.depth + 8 * l.level + 7
+
+abbrev pub decreases-operation : goal.decreases-operation
+decreases-operation l = 4096 * l.depth + 8 * l.level + 8
 
 abbrev pub decreases-comparison : goal.decreases-comparison
-decreases-comparison l = 4096 * l.depth + 8 * l.level + 7
+decreases-comparison l = 4096 * l.depth + 8 * l.level + 8
 
 abbrev pub decreases-conjunction : goal.decreases-conjunction
-decreases-conjunction l = 4096 * l.depth + 8 * l.level + 7
+decreases-conjunction l = 4096 * l.depth + 8 * l.level + 8
 
 abbrev pub decreases-disjunction : goal.decreases-disjunction
-decreases-disjunction l = 4096 * l.depth + 8 * l.level + 7
+decreases-disjunction l = 4096 * l.depth + 8 * l.level + 8
 
 abbrev pub decreases-step : goal.decreases-step
-decreases-step l = 4096 * l.depth + 8 * l.level + 8
+decreases-step l = 4096 * l.depth + 8 * l.level + 9
 
 abbrev pub decreases-one_step : goal.decreases-one_step
-decreases-one_step l = 4096 * l.depth + 8 * l.level + 9
+decreases-one_step l = 4096 * l.depth + 8 * l.level + 10
 
 abbrev pub decreases-steps : goal.decreases-steps
-decreases-steps l = 4096 * l.depth + 8 * l.level + 10
+decreases-steps l = 4096 * l.depth + 8 * l.level + 11
 
 abbrev pub decreases-expr_at : goal.decreases-expr_at
-decreases-expr_at l = 4096 * l.depth + 8 * l.level + 11
+decreases-expr_at l = 4096 * l.depth + 8 * l.level + 12
 
 abbrev pub decreases-expr : goal.decreases-expr
 decreases-expr l = 4096 * l.depth + 128
 
 abbrev pub invariant-steps-loop-link : goal.invariant-steps-loop-link
 invariant-steps-loop-link l =
-    (steps_from (operand (inside l.depth) l.level) l.level l.steps).reads l.self ≡ (steps_from (operand (inside l.depth) l.level) l.level []).reads l.fn.self
+    (steps_from (inside l.depth) (operand (inside l.depth) l.level) l.level l.steps).reads l.self ≡ (steps_from (inside l.depth) (operand (inside l.depth) l.level) l.level []).reads l.fn.self
 
 abbrev pub decreases-steps-loop-link : goal.decreases-steps-loop-link
 decreases-steps-loop-link l = length l.self
@@ -69,3 +111,17 @@ invariant-more_arguments-loop-alloc l =
 
 abbrev pub decreases-more_arguments-loop-alloc : goal.decreases-more_arguments-loop-alloc
 decreases-more_arguments-loop-alloc l = length l.self
+
+abbrev pub invariant-more_exprs-loop-alloc : goal.invariant-more_exprs-loop-alloc
+invariant-more_exprs-loop-alloc l =
+    (more_items l.close (inside l.depth).expr l.exprs).reads l.self ≡ (more_items l.close (inside l.depth).expr l.fn.first).reads l.fn.self
+
+abbrev pub decreases-more_exprs-loop-alloc : goal.decreases-more_exprs-loop-alloc
+decreases-more_exprs-loop-alloc l = length l.self
+
+abbrev pub invariant-more_pairs-loop-alloc : goal.invariant-more_pairs-loop-alloc
+invariant-more_pairs-loop-alloc l =
+    (more_items sign.CloseCurly (pair (inside l.depth)) l.pairs).reads l.self ≡ (more_items sign.CloseCurly (pair (inside l.depth)) l.fn.first).reads l.fn.self
+
+abbrev pub decreases-more_pairs-loop-alloc : goal.decreases-more_pairs-loop-alloc
+decreases-more_pairs-loop-alloc l = length l.self

@@ -1,0 +1,47 @@
+-- Looks at two tokens, and at one that is not taken.
+use Rattle.std.specs.Prelude.{◌≡◌, ◌<◌, Bool, true, false, List, [], ◌∷◌, length, Option, Some, None, option_and_then, refl}
+use Rattle.std.proofs.Common.{arith, ◌∙◌}
+use Rattle.tm_rules.specs.Meanings.{Read, got, bind_reads, first_sees}
+use Rattle.tm_rules.specs.Rule.{Rule, Look}
+use Rattle.tm_rules.specs.Laws.{not_got, first_nearer}
+
+-- what was seen, and where nothing was seen the other
+abbrev pub or_seen : {T A : Type 0} → Read T A → Read T A → Read T A
+or_seen None other = other
+or_seen (Some x) other = Some x
+
+pub or_nearer : {T A : Type 0} (p q : Look T A) (ts : List T) (seen : Read T A) → p.sees ts ≡ seen → (a : A) (rest : List T) → or_seen seen (q.sees ts) ≡ got a rest → length rest < length ts
+or_nearer p q ts None e a rest h = q.nearer ts a rest h
+or_nearer p q ts (Some x) e a rest h = p.nearer ts a rest (e ∙ h)
+
+pub behind_nearer : {T A B : Type 0} (p : T → Option A) (q : T → Option B) (ts : List T) (seen : Read T A) → first_sees p ts ≡ seen → (b : B) (rest : List T) →
+    option_and_then (λ x. first_sees q x.1) seen ≡ got b rest → length rest < length ts
+behind_nearer p q ts None e b rest h = absurd (not_got b rest h)
+behind_nearer p q ts (Some x) e b rest h = omega (arith, first_nearer p ts x.0 x.1 e, first_nearer q x.1 b rest h)
+
+-- one look, and where it sees nothing another
+abbrev pub or_else : {T A : Type 0} → Look T A → Look T A → Look T A
+or_else p q = record { sees = λ ts. or_seen (p.sees ts) (q.sees ts); nearer = λ ts. or_nearer p q ts (p.sees ts) refl }
+
+-- a first token that p knows, with one behind it that q knows
+abbrev pub before : {T A B : Type 0} → (T → Option A) → (T → Option B) → Look T B
+before p q = record { sees = bind_reads (first_sees p) (λ _. first_sees q); nearer = λ ts. behind_nearer p q ts (first_sees p ts) refl }
+
+-- Whether the first token is one of these.
+abbrev pub starts : {T : Type 0} → (T → Bool) → List T → Bool
+starts p [] = false
+starts p (t ∷ ts) = p t
+
+abbrev pub either : {T A : Type 0} → Bool → Rule T A → Rule T A → Rule T A
+either true r other = r
+either false r other = other
+
+-- One rule where the first token, which is not taken, is one of these, and another where it is not.
+abbrev pub ahead : {T A : Type 0} → (T → Bool) → Rule T A → Rule T A → Rule T A
+ahead p r other = record {
+  spells = λ ts. (either (starts p ts) r other).spells ts;
+  reads = λ ts. (either (starts p ts) r other).reads ts;
+  found = λ ts. (either (starts p ts) r other).found ts;
+  only = λ ts. (either (starts p ts) r other).only ts;
+  shorter = λ ts. (either (starts p ts) r other).shorter ts;
+}
