@@ -1,14 +1,22 @@
--- Places among names.
-use Rattle.std.specs.Prelude.{◌≡◌, ◌<◌, ◌≤◌, ℕ, List, length, slice_index_or, slice_set}
-use Rattle.std.specs.List.{insert}
-use Rattle.tm_syntax.specs.Named.{Named, put}
+-- Places among names that ascend.
+use Rattle.std.specs.Prelude.{◌≡◌, ◌<◌, ◌≤◌, ℕ, List, length, slice_index_or}
+use Rattle.std.specs.List.Sorted.{IsStrictlySortedBy}
+use Rattle.std.specs.Map.{keys_of}
+use Rattle.std.specs.declared.cmp.Ordering.TheVariants.{Less, Equal, Greater}
+use Rattle.tm_syntax.specs.Named.{Named, name_cmp}
 
--- What is put at the name is put at i, over what stands there.
-pub record IsPlaceOf {A : Type 0} (x : List ℕ) (ps : Named A) (i : ℕ) : Type 0 where
+-- the names strictly ascend
+abbrev pub AreOrdered : {A : Type 0} → Named A → Type 0
+AreOrdered ps = IsStrictlySortedBy name_cmp (keys_of ps)
+
+-- the name stands at i
+pub record IsThere {A : Type 0} (x : List ℕ) (ps : Named A) (i : ℕ) : Type 0 where
   pub in_range : i < length ps
-  pub puts : (a : A) (d : List ℕ × A) → put x a ps ≡ slice_set ps i ((slice_index_or ps i d).0, a)
+  pub same_name : (d : List ℕ × A) → name_cmp (slice_index_or ps i d).0 x ≡ Equal
 
--- What is put at the name is put in between, at i.
+-- the name would stand at i: lower names before it, higher ones from it on
 pub record IsGapFor {A : Type 0} (x : List ℕ) (ps : Named A) (i : ℕ) : Type 0 where
   pub in_range : i ≤ length ps
-  pub puts : (a : A) → put x a ps ≡ insert ps i (x, a)
+  pub lower_before : (j : ℕ) (d : List ℕ × A) → j < i → name_cmp (slice_index_or ps j d).0 x ≡ Less
+  pub higher_after : (j : ℕ) (d : List ℕ × A)
+      → i ≤ j → j < length ps → name_cmp (slice_index_or ps j d).0 x ≡ Greater

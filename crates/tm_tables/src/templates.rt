@@ -1,12 +1,11 @@
 //! Templates by name.
 ghost use Rattle.std.specs.Prelude.{◌≡◌, [], ◌∷◌, OnOk, OnErr, IfErr, MatchResult};
-ghost use Rattle.tm_syntax.specs.Named.{find, put};
+ghost use Rattle.tm_syntax.specs.Named.{find, put, name_cmp};
 ghost use Rattle.tm_values.specs.Answer.{IsLent};
-ghost use Rattle.tm_tables.specs.Places.{IsPlaceOf, IsGapFor};
+ghost use Rattle.tm_tables.specs.Places.{IsThere, IsGapFor};
 
 use crate::compiled::CompiledTemplate;
 use std::alloc::Global;
-use std::cmp::Ordering;
 use std::marker::Model;
 use tm_compiler::Name;
 use tm_values::{Error, ErrorKind};
@@ -28,7 +27,11 @@ impl<'source> Model for Templates<'source> {
 
     ghost coded = { Prim.hlevel (codes, statement.the_row.coded) };
 
+    ghost use Rattle.tm_tables.specs.Places.{AreOrdered};
+
     ghost view = { λ a. a.entries.items };
+
+    ghost invariant = { λ a. AreOrdered a.entries.items };
 }
 
 impl<'source> Templates<'source> {
@@ -41,19 +44,14 @@ impl<'source> Templates<'source> {
         }
     }
 
-    /// The template of a name, where there is one.
+    /// The template of a name, where there is one. Makes log n comparisons for n templates.
     pub fn get(&self, name: &str) -> Option<&CompiledTemplate<'source>>
         ensures { IsLent result (find name.now self.now) }
     {
-        let mut i = 0;
-        while i < self.entries.len() {
-            let entry = &self.entries[i];
-            if name.cmp(entry.0.as_str()) == Ordering::Equal {
-                return Some(&entry.1);
-            }
-            i += 1;
+        match self.place(name) {
+            Ok(at) => Some(&self.entries[at].1),
+            Err(_) => None,
         }
-        None
     }
 
     /// Puts a template at a name, in place of one that is there. Where there is no memory, OutOfMemory, and all stays as it was.
@@ -76,16 +74,12 @@ impl<'source> Templates<'source> {
 
     /// Where the template of a name stands, or where it would stand.
     fn place(&self, name: &str) -> Result<usize, usize>
-        ensures { MatchResult result (IsPlaceOf name.now self.now) (IsGapFor name.now self.now) }
+        ensures { MatchResult result (IsThere name.now self.now) (IsGapFor name.now self.now) }
     {
-        let mut i = 0;
-        while i < self.entries.len() {
-            match name.cmp(self.entries[i].0.as_str()) {
-                Ordering::Less => return Err(i),
-                Ordering::Equal => return Ok(i),
-                Ordering::Greater => i += 1,
-            }
-        }
-        Err(i)
+        self.entries.binary_search_by(
+            |entry|
+                ensures { result ≡ name_cmp entry.now.0 name.entry.now }
+            { entry.0.compare(name) },
+        )
     }
 }

@@ -1,18 +1,15 @@
-use Rattle.std.proofs.Common.{arith}
-use Rattle.tm_tables.proofs.Places.{less_at, equal_at, end_at}
+use Rattle.std.proofs.Common.{ℕ, List, rules, length, subst, sym, ◌∙◌}
+use Rattle.std.proofs.lemmas.Fn.{always_returns_same}
+use Rattle.std.specs.List.Sorted.{IsSearchInRange, IsBinarySearchResult}
+use Rattle.tm_syntax.specs.Named.{Named, name_cmp}
+use Rattle.tm_tables.proofs.Places.{searched_in}
+use Rattle.tm_tables.specs.Templates.{Compiled}
 use Rattle.tm_tables.proofs.templates.Templates.place.Goals as goal
 
-pub returns-in-Less : goal.returns-in-Less
-returns-in-Less c =
-    less_at c.args.name.now c.as_str.result.now c.self.inside.entries.items c.args.self.now c.loop-i.i c.index.result.now c.cmp.result
-    c.self.view_is c.loop-i.invariant (omega (arith, c.loop-i-test.true, c.len.ensures)) c.index.ensures c.as_str.ensures c.cmp.ensures c.in-Less.is
-
-pub returns-in-Equal : goal.returns-in-Equal
-returns-in-Equal c =
-    equal_at c.args.name.now c.as_str.result.now c.self.inside.entries.items c.args.self.now c.loop-i.i c.index.result.now c.cmp.result
-    c.self.view_is c.loop-i.invariant (omega (arith, c.loop-i-test.true, c.len.ensures)) c.index.ensures c.as_str.ensures c.cmp.ensures c.in-Equal.is
-
+-- the closure compares a template's name with this one
 pub returns : goal.returns
 returns c =
-    end_at c.args.name.now c.self.inside.entries.items c.args.self.now c.loop-i.i
-    c.self.view_is c.loop-i.invariant (omega (arith, c.loop-i-test.false, c.len.ensures))
+    let x = c.args.name.now in
+    let facts = c.binary_search_by.ensures in
+    let by_name = facts.position (λ (p : List ℕ × Compiled). name_cmp p.0 x) (always_returns_same _ _ _ (λ a r f called. search rules)) in
+    searched_in x c.self.inside.entries.items c.deref.result.now c.args.self.now c.deref.ensures.value c.self.view_is c.self.invariant c.binary_search_by.result facts.bound by_name
