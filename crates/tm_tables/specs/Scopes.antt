@@ -1,8 +1,10 @@
 -- Words on scopes.
-use Rattle.std.specs.Prelude.{◌≡◌, List, [], ◌∷◌, Bool, true, false}
+use Rattle.std.specs.Borrow.{Bor}
+use Rattle.std.specs.Map.{keys_of}
+use Rattle.std.specs.Prelude.{◌≡◌, ℕ, List, [], ◌∷◌, map as each, filter, take, codes, Bool, true, false, not}
 use Rattle.tm_values.specs.declared.error.ErrorKind.{ErrorKind}
 use Rattle.tm_values.specs.declared.error.ErrorKind.TheVariants.{InvalidOperation, OutOfMemory}
-use Rattle.tm_meaning.specs.World.{Scope, Scopes}
+use Rattle.tm_meaning.specs.World.{Scope, Scopes, same_name}
 
 -- one scope, at the outermost depth
 abbrev pub one_scope : Scope → Scopes
@@ -12,3 +14,21 @@ one_scope scope = record { frames = scope ∷ []; outer = 0 }
 abbrev pub PushFails : Bool → List ErrorKind → Type 0
 PushFails false chain = chain ≡ InvalidOperation ∷ []
 PushFails true chain = chain ≡ OutOfMemory ∷ []
+
+-- A name is exported unless it begins with `_`.
+abbrev pub is_exported : List ℕ → Bool
+is_exported x = not (same_name (take 1 x) (codes "_"))
+
+-- the names that a scope exports, in the order of its locals, which is that of the names
+abbrev pub exported_by : Scope → List (List ℕ)
+exported_by s = filter is_exported (keys_of s.locals)
+
+-- the names that the outermost scope exports; none where there is no scope
+abbrev pub exported_of : List Scope → List (List ℕ)
+exported_of [] = []
+exported_of (s ∷ []) = exported_by s
+exported_of (s ∷ t ∷ ss) = exported_of (t ∷ ss)
+
+-- the texts that are lent
+abbrev pub texts_of : List (Bor (List ℕ)) → List (List ℕ)
+texts_of lent = each (λ text. text.now) lent

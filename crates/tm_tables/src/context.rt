@@ -3,7 +3,7 @@ ghost use Rattle.std.specs.Prelude.{◌≡◌, ◌<◌, ◌^◌, ◌-◌, [], �
 ghost use Rattle.tm_values.specs.Answer.{OkOrOutOfMemory};
 ghost use Rattle.tm_meaning.specs.World.{plain, depth, without_first};
 ghost use Rattle.tm_tables.specs.Found.{IsFoundIn};
-ghost use Rattle.tm_tables.specs.Scopes.{one_scope, PushFails};
+ghost use Rattle.tm_tables.specs.Scopes.{one_scope, PushFails, exported_by, exported_of, texts_of};
 
 use std::alloc::Global;
 use std::marker::Model;
@@ -50,6 +50,14 @@ impl Frame {
             },
             _ => Ok(self.context.member(name)),
         }
+    }
+
+    /// The names that it exports, in their order. It has no names of its own yet.
+    fn exports(&self, alloc: Global) -> Vec<&str>
+        ensures { texts_of result.items ≡ exported_by self.now }
+    {
+        let _context = &self.context;
+        Vec::new(alloc)
     }
 }
 
@@ -129,6 +137,17 @@ impl Context {
             }
         }
         Ok(None)
+    }
+
+    /// The names that the outermost scope exports, in their order: those of its own that don't begin with `_`. Fails by OutOfMemory alone.
+    pub fn exports(&self, alloc: Global) -> Result<Vec<&str>, Error>
+        ensures { OkOrOutOfMemory result
+            (λ names. texts_of names.items ≡ exported_of self.now.frames) }
+    {
+        match self.frames.first() {
+            Some(outermost) => Ok(outermost.exports(alloc)),
+            None => Ok(Vec::new(alloc)),
+        }
     }
 
     /// One scope more. InvalidOperation where it would lie deeper than the limit, OutOfMemory where there is no memory; then the scopes stay as they were.
