@@ -34,7 +34,17 @@ impl<'a> Model for View<'a> {
 
     ghost coded = { Prim.hlevel (codes, coded_Val) };
 
-    ghost view = { λ v. record { id = v.id; frames = v.context.now.frames; closures = []; records = no_records_of v.id; globals = v.globals.now; temps = v.temps.now; name = v.name.now; escape = v.escape; undefined = v.undefined } };
+    ghost view = { λ v. record {
+      id = v.id;
+      frames = v.context.now.frames;
+      closures = [];
+      records = no_records_of v.id;
+      globals = v.globals.now;
+      temps = v.temps.now;
+      name = v.name.now;
+      escape = v.escape;
+      undefined = v.undefined;
+    } };
 }
 
 impl<'a> View<'a> {
