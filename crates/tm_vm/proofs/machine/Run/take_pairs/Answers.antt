@@ -1,5 +1,4 @@
-use Rattle.std.proofs.Common.{◌≡◌, ◌<◌, ◌+◌, length, [], None, arith, sym}
-use Rattle.tm_meaning.specs.Machine.{taken}
+use Rattle.std.proofs.Common.{◌<◌, ◌+◌, length, [], arith, sym}
 use Rattle.tm_parts.proofs.Operands.{taken_too_many}
 use Rattle.tm_vm.proofs.machine.Run.take_pairs.Goals.{then-held-count-via-then-held-count, then-held-count-via-else-held-count+then-held-count-2}
 use Rattle.tm_vm.proofs.machine.Run.take_pairs.Goals as goal
