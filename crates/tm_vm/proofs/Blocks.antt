@@ -1,15 +1,14 @@
 -- What entering a block comes to.
-use Rattle.std.proofs.Common.{◌≡◌, ◌<◌, ◌≤◌, ◌+◌, ℕ, suc, List, [], ◌∷◌, length, nat_lt, Option, None, Some, option_map, Bool, true, false, is_some, MatchOption, refl, sym, ◌∙◌, ap, subst, arith}
+use Rattle.std.proofs.Common.{◌≡◌, ℕ, List, [], ◌∷◌, nat_lt, Option, None, Some, option_map, Bool, true, false, is_some, MatchOption, refl, sym, ◌∙◌, ap, subst}
 use Rattle.std.proofs.lemmas.Map.Made.{lookup-map_values}
 use Rattle.std.specs.BTreeMap.{is_at}
 use Rattle.tm_syntax.specs.Named.{find, name_cmp}
 use Rattle.tm_syntax.specs.declared.instruction.Instruction.{Instruction}
 use Rattle.tm_tables.specs.Scopes.{PushFails}
 use Rattle.tm_values.specs.Chain.{ends_in_memory}
-use Rattle.tm_values.specs.Val.{undefined}
 use Rattle.tm_values.specs.declared.error.ErrorKind.{ErrorKind}
 use Rattle.tm_values.specs.declared.error.ErrorKind.TheVariants.{InvalidOperation, UnknownBlock}
-use Rattle.tm_meaning.specs.World.{Named, World, Host, Layers, card_at, block_of, depth, plain, with_frames}
+use Rattle.tm_meaning.specs.World.{Named, World, Host, card_at, block_of, depth}
 use Rattle.tm_meaning.specs.Calls.{enter_block, is_required, refused}
 use Rattle.tm_meaning.specs.declared.stream.TemplateId.TheVariants.{Own}
 use Rattle.tm_vm.specs.State.{alone, layers_of, runs_block, scoped, IsThere}

@@ -1,25 +1,25 @@
 -- Where the loop stands in a run, and what it answers there.
-use Rattle.std.proofs.Common.{◌≡◌, ◌<◌, ◌≤◌, ◌+◌, ℕ, List, [], ◌∷◌, length, ◌++◌, take, zero, suc, Option, None, Result, Ok, Err, Bool, true, false, refl, sym, ◌∙◌, ap, subst, append_assoc, arith}
+use Rattle.std.proofs.Common.{◌≡◌, ◌≤◌, ◌+◌, ℕ, List, [], ◌∷◌, length, ◌++◌, take, zero, suc, Option, Result, Ok, Bool, true, false, refl, sym, ◌∙◌, ap, subst, append_assoc, arith}
 use Rattle.std.specs.Io.KnownBytes.{Appends}
 use Rattle.std.proofs.lemmas.List.{append-nil}
 use Rattle.tm_meaning.specs.World.{World, Scope, depth, without_first}
-use Rattle.tm_meaning.specs.Calls.{whole, undone, of_block}
-use Rattle.tm_meaning.specs.Machine.{Activation, Capture, Config, End, Finished, Failed, Stuck, Next, More, Over, Nest, Program, Back, back_to, back_with, base_of, start}
-use Rattle.tm_meaning.specs.Steps.{step, Final, final, Leads, Reaches, over, more, nest}
+use Rattle.tm_meaning.specs.Calls.{whole, of_block}
+use Rattle.tm_meaning.specs.Machine.{Activation, Capture, Config, End, Finished, Failed, Stuck, Next, More, Over, Nest, Program, Back, back_to, back_with, base_of}
+use Rattle.tm_meaning.specs.Steps.{step, Final, Leads, Reaches, over, more, nest}
 use Rattle.tm_meaning.specs.declared.base.Base.{Base}
 use Rattle.tm_meaning.proofs.Ends.{one_end, text_grows, more_only}
 use Rattle.tm_output.specs.Counts.{AppendsBeginning}
-use Rattle.tm_parts.proofs.Pieces.{appends_then, appends_nothing, appends_beginning, appends_then_beginning, appends_then_beginning_longer}
+use Rattle.tm_parts.proofs.Pieces.{appends_then, appends_nothing, appends_beginning, appends_then_beginning_longer}
 use Rattle.tm_parts.specs.declared.halt.Halt.{Halt}
 use Rattle.tm_parts.specs.declared.halt.Halt.TheVariants as halt
 use Rattle.tm_vm.specs.declared.flow.Entry.{Entry}
 use Rattle.tm_vm.specs.declared.flow.Flow.{Flow}
 use Rattle.tm_vm.specs.declared.flow.Flow.TheVariants as flow
-use Rattle.tm_vm.specs.Answers.{Did, Depths, Enters, entered, HaltsAs, Comes, Keeps, output}
+use Rattle.tm_vm.specs.Answers.{Did, Depths, HaltsAs, Comes, Keeps, output}
 use Rattle.tm_vm.specs.Nested.{Went, EndsIn, Begins, behind, start_in, base_in}
 use Rattle.tm_vm.specs.State.{saved_of, put_back}
 use Rattle.tm_vm.specs.declared.flow.Saved.{Saved}
-use Rattle.tm_vm.proofs.Shift.{behind as after_text, Alone, alone, behind_text}
+use Rattle.tm_vm.proofs.Shift.{behind as after_text, alone, behind_text}
 
 pub kept_same : (w : World) → Keeps w w
 kept_same w = record { same_id = refl; same_fuel_set = refl; no_more_fuel = omega arith }

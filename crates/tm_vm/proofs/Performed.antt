@@ -1,15 +1,12 @@
 -- What instructions of each kind did, as what every step says.
-use Rattle.std.proofs.Common.{◌≡◌, ◌+◌, ◌<◌, ◌≤◌, ℕ, suc, List, [], length, Option, Result, Ok, Err, refl, sym, ◌∙◌, ap, subst, arith}
+use Rattle.std.proofs.Common.{◌≡◌, ℕ, List, [], Option, Result, Ok, Err, refl, sym, ◌∙◌, ap, subst}
 use Rattle.std.specs.Io.KnownBytes.{Appends}
-use Rattle.tm_meaning.specs.World.{World, depth, without_first}
-use Rattle.tm_meaning.specs.Machine.{Config, End, Next, More, Over}
+use Rattle.tm_meaning.specs.Machine.{Config, Next, More}
 use Rattle.tm_meaning.specs.declared.base.Base.{Base}
-use Rattle.tm_output.specs.Counts.{AppendsBeginning}
 use Rattle.tm_parts.proofs.Pieces.{appends_nothing, beginning_nothing}
-use Rattle.tm_parts.specs.Halts.{faults_after}
 use Rattle.tm_parts.specs.declared.halt.Halt.{Halt}
 use Rattle.tm_parts.specs.declared.halt.Halt.TheVariants as halt
-use Rattle.tm_vm.specs.Answers.{Did, HaltsAs, Depths, Deepens, Performs, Writes, Silently, Needs, Finishes, Enters, output}
+use Rattle.tm_vm.specs.Answers.{Performs, Writes, Silently, Needs, output}
 use Rattle.tm_vm.specs.declared.flow.Flow.{Flow}
 use Rattle.tm_vm.specs.declared.flow.Flow.TheVariants as flow
 

@@ -3,7 +3,7 @@ use Rattle.std.specs.Prelude.{◌≡◌, ℕ, List, [], ◌∷◌, map as each, 
 use Rattle.tm_values.specs.Val.{Val, undefined}
 use Rattle.tm_values.specs.declared.escape.AutoEscape.{AutoEscape}
 use Rattle.tm_syntax.specs.declared.instruction.Instruction.{Instruction}
-use Rattle.tm_meaning.specs.World.{Named, World, Layers, Scopes, root_of, block_of, plain, with_frames, pop}
+use Rattle.tm_meaning.specs.World.{Named, World, Layers, root_of, block_of, plain, with_frames, pop}
 use Rattle.tm_meaning.specs.Calls.{Asked, runs, whole, of_block, with_outer}
 use Rattle.tm_meaning.specs.Meaning.{first_fuel}
 use Rattle.tm_meaning.specs.declared.stream.TemplateId.TheVariants.{Own}

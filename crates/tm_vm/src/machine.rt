@@ -118,7 +118,7 @@ impl Run {
     fn take(&mut self, count: usize) -> Result<Option<Vec<Value>>, Error>
         ensures taken { MatchResult result
             (λ values. MatchOption values (taken count [] self.old.operands ≡ None)
-                (λ vs. taken count [] self.old.operands ≡ Some (vs.items, self.new.operands)))
+            (λ vs. taken count [] self.old.operands ≡ Some (vs.items, self.new.operands)))
             (λ e. e ≡ ErrorKind.OutOfMemory ∷ []) }
         ensures rest { self.new ≡ record self.old { operands = self.new.operands } }
     {
@@ -129,11 +129,12 @@ impl Run {
     fn take_pairs(&mut self, count: usize) -> Result<Option<Vec<Value>>, Error>
         ensures taken { MatchResult result
             (λ values. MatchOption values (taken (count + count) [] self.old.operands ≡ None)
-                (λ vs. taken (count + count) [] self.old.operands ≡ Some (vs.items, self.new.operands)))
+            (λ vs. taken (count + count) [] self.old.operands ≡ Some (vs.items, self.new.operands)))
             (λ e. e ≡ ErrorKind.OutOfMemory ∷ []) }
         ensures rest { self.new ≡ record self.old { operands = self.new.operands } }
     {
-        if self.operands.len() / 2 < count {
+        let held = self.operands.len();
+        if held < count || held - count < count {
             return Ok(None);
         }
         self.take(count + count)

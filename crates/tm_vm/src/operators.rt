@@ -49,14 +49,10 @@ pub(crate) fn binary<R: Records>(
         BinaryOperator::Greater => Comparison::Greater,
         BinaryOperator::GreaterOrEqual => Comparison::GreaterOrEqual,
         BinaryOperator::In => {
-            return Ok(Value::boolean(contains(
-                alloc, right, left, records, undefined,
-            )?));
+            return Ok(Value::boolean(contains(alloc, right, left, records, undefined)?));
         }
         BinaryOperator::NotIn => {
-            return Ok(Value::boolean(!contains(
-                alloc, right, left, records, undefined,
-            )?));
+            return Ok(Value::boolean(!contains(alloc, right, left, records, undefined)?));
         }
         BinaryOperator::Add => return add(alloc, left, right),
         BinaryOperator::Subtract => return subtract(alloc, left, right),

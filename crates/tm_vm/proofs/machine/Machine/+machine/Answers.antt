@@ -1,9 +1,9 @@
-use Rattle.std.proofs.Common.{◌≡◌, Ok, Err, refl, ap, ◌∙◌, arith}
+use Rattle.std.proofs.Common.{◌≡◌, Ok, Err, refl, ◌∙◌, arith}
 use Rattle.tm_meaning.specs.Machine.{base_of}
 use Rattle.tm_meaning.specs.World.{depth}
 use Rattle.tm_vm.specs.Answers.{program}
 use Rattle.tm_vm.specs.declared.flow.Flow.TheVariants as flow
-use Rattle.tm_vm.proofs.Loop.{at_base, kept_same, kept_then, stands_first, stands_next, stands_behind, beginning_at, beginning_in, ended_at, ended_in, done_at, whole_at, depth_behind, went}
+use Rattle.tm_vm.proofs.Loop.{at_base, kept_same, kept_then, stands_first, stands_next, stands_behind, beginning_at, beginning_in, ended_at, ended_in, done_at, whole_at, depth_behind}
 use Rattle.tm_vm.proofs.machine.Machine.+machine.Goals as goal
 
 pub run-loop-entry-init : goal.run-loop-entry-init

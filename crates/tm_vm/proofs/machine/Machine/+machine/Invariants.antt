@@ -1,4 +1,4 @@
-use Rattle.std.proofs.Common.{◌≡◌, ◌+◌, ◌-◌, ◌*◌, ◌≤◌, length}
+use Rattle.std.proofs.Common.{◌≡◌, ◌+◌, ◌-◌, ◌*◌, ◌≤◌}
 use Rattle.tm_meaning.specs.World.{depth}
 use Rattle.tm_meaning.specs.Machine.{base_of}
 use Rattle.tm_vm.specs.Answers.{Keeps, program}
