@@ -5,3 +5,4 @@ pub mod Sources
 pub mod Stated
 pub mod Templates
 pub mod Views
+pub mod Defaults

@@ -8,26 +8,31 @@ ghost use Rattle.tm_meaning.specs.Tree.{part_of};
 ghost use Rattle.tm_tables.specs.Templates.{IsTemplate, IsRefused, body, block_codes, tree_of};
 ghost use Rattle.tm_tables.specs.Sources.{source_bytes};
 
+use crate::defaults::EscapeSetting;
 use sqlite_items::Items;
 use std::alloc::Global;
 use std::marker::Model;
 use tm_compiler::{Instruction, Name, NameMap, Streams, SyntaxConfig, Tree, generate, parse};
-use tm_values::Error;
+use tm_values::{AutoEscape, Error};
 
 /// How templates are compiled.
 #[derive(Drop)]
 pub struct TemplateConfig {
     /// The delimiters.
     pub syntax_config: SyntaxConfig,
+    /// How the escape of a template is chosen.
+    pub default_auto_escape: EscapeSetting,
 }
 
 impl Default for TemplateConfig {
-    /// The default delimiters.
+    /// The default delimiters, and escapes by name.
     fn default() -> TemplateConfig
-        ensures { result.syntax_config ≡ default_syntax }
+        ensures syntax { result.syntax_config ≡ default_syntax }
+        ensures escape { result.default_auto_escape ≡ EscapeSetting.ByName }
     {
         TemplateConfig {
             syntax_config: SyntaxConfig::default(),
+            default_auto_escape: EscapeSetting::ByName,
         }
     }
 }
@@ -53,11 +58,12 @@ impl<'source> Source<'source> {
     }
 }
 
-/// A template that is compiled: its name, its source, the tree that the source spells, and the tree's streams.
+/// A template that is compiled: its name, its source, how it is escaped, the tree that the source spells, and the tree's streams.
 #[derive(Drop)]
 pub struct CompiledTemplate<'source> {
     name: Name,
     source: Source<'source>,
+    escape: AutoEscape,
     tree: Tree,
     streams: Streams,
 }
@@ -74,7 +80,7 @@ impl<'source> Model for CompiledTemplate<'source> {
     ghost use Rattle.tm_tables.specs.Sources.{source_bytes};
     ghost use Rattle.tm_tables.specs.Templates.{AreStreams};
 
-    ghost view = { λ a. record { name = a.name; source = source_bytes a.source; tree = a.tree } };
+    ghost view = { λ a. record { name = a.name; source = source_bytes a.source; escape = a.escape; tree = a.tree } };
 
     ghost invariant = { λ a. AreStreams a.tree a.streams.root a.streams.blocks };
 }
@@ -88,7 +94,8 @@ impl<'source> CompiledTemplate<'source> {
         config: &TemplateConfig,
     ) -> Result<CompiledTemplate<'source>, Error>
         ensures compiled { IfOk result
-            (IsTemplate config.now.syntax_config name.now (source_bytes source.entry)) }
+            (IsTemplate config.now.syntax_config config.now.default_auto_escape
+            name.now (source_bytes source.entry)) }
         ensures refused { IfErr result
             (IsRefused config.now.syntax_config (source_bytes source.entry)) }
     {
@@ -100,10 +107,12 @@ impl<'source> CompiledTemplate<'source> {
             Ok(streams) => streams,
             Err(error) => return Err(error),
         };
+        let escape = config.default_auto_escape.escape(name);
         let name = Name::new(alloc, name)?;
         Ok(CompiledTemplate {
             name,
             source,
+            escape,
             tree,
             streams,
         })
@@ -121,6 +130,13 @@ impl<'source> CompiledTemplate<'source> {
         ensures { result.now ≡ self.now.source }
     {
         self.source.as_str()
+    }
+
+    /// How it is escaped.
+    pub fn escape(&self) -> AutoEscape
+        ensures { result ≡ self.now.escape }
+    {
+        self.escape
     }
 
     /// The code of its tree.

@@ -4,6 +4,7 @@
 mod callable;
 mod compiled;
 mod context;
+mod defaults;
 mod host;
 mod objects;
 mod plain;
@@ -15,6 +16,7 @@ mod view;
 pub use callable::{Answer, Callable, Reply};
 pub use compiled::{CompiledTemplate, Source, TemplateConfig};
 pub use context::{Context, Frame};
+pub use defaults::{EscapeSetting, default_auto_escape_callback};
 pub use host::Host;
 pub use objects::{Objects, Parties};
 pub use plain::{Answering, Plain};
