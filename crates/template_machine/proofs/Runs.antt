@@ -1,8 +1,9 @@
 -- What a run answered that was made of a template's rendering.
-use Rattle.std.proofs.Common.{◌≡◌, ◌+◌, ℕ, List, Option, Result, Ok, Err, String, true, refl, subst}
+use Rattle.std.proofs.Common.{◌≡◌, ◌+◌, ℕ, List, [], ◌∷◌, Option, Result, Ok, Err, String, true, inr, refl, sym, subst}
 use Rattle.std.specs.declared.alloc.Global.{Global}
 use Rattle.tm_values.specs.Val.{Val}
 use Rattle.tm_values.specs.declared.error.ErrorKind.{ErrorKind}
+use Rattle.tm_values.specs.declared.error.ErrorKind.TheVariants.{InvalidOperation}
 use Rattle.tm_meaning.specs.World.{Function, World}
 use Rattle.tm_meaning.specs.Calls.{whole}
 use Rattle.tm_meaning.specs.Machine.{Capture, Config, Finished, Program, base_of, start}
@@ -11,7 +12,7 @@ use Rattle.tm_parts.specs.declared.halt.Halt.{Halt}
 use Rattle.tm_vm.specs.Answers.{program, HaltsAs, Comes}
 use Rattle.tm_vm.specs.Nested.{Begins}
 use Rattle.template_machine.specs.Environment.{EnvironmentValue, TemplateValue, host_of, trees, code}
-use Rattle.template_machine.specs.Renders.{meaning, meaning_from, IsFresh, Ran, RenderedText, RenderedSource, source_rendered}
+use Rattle.template_machine.specs.Renders.{meaning, meaning_from, IsFresh, Ran, RenderedText, RenderedSource, source_rendered, IsUnnumbered}
 use Rattle.tm_tables.specs.Templates.{IsTemplate}
 use Rattle.template_machine.proofs.Answered.{run_done, run_halted}
 
@@ -40,3 +41,9 @@ pub source_done : {O : Type 0} (functions : O → List Function) (e : Environmen
     (t.environment ≡ e) × IsTemplate e.syntax name source t.template → RenderedText (meaning functions t old context) result → new ≡ old + 1 → RenderedSource functions e name source old new context result
 source_done functions e t name source old new context result made text counted =
     source_rendered t.template made.1 (subst (λ e. RenderedText (meaning functions (record { environment = e; template = t.template }) old context) result) made.0 text) counted
+
+-- one that spells a template, where the counter is full
+pub source_full : {O : Type 0} (e : EnvironmentValue O) (t : TemplateValue O) (name source : List ℕ) (result : Result (String Global) (List ErrorKind)) →
+    (t.environment ≡ e) × IsTemplate e.syntax name source t.template → result ≡ Err (InvalidOperation ∷ []) → IsUnnumbered e.syntax name source result
+source_full e t name source result made is =
+    subst (IsUnnumbered e.syntax name source) (sym is) (inr (t.template, made.1, refl))

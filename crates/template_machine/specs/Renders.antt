@@ -6,7 +6,7 @@ use Rattle.tm_values.specs.Answer.{Answer}
 use Rattle.tm_values.specs.Chain.{ends_in_memory}
 use Rattle.tm_values.specs.Val.{Val}
 use Rattle.tm_values.specs.declared.error.ErrorKind.{ErrorKind}
-use Rattle.tm_values.specs.declared.error.ErrorKind.TheVariants.{WriteFailure}
+use Rattle.tm_values.specs.declared.error.ErrorKind.TheVariants.{InvalidOperation, WriteFailure}
 use Rattle.tm_scanner.specs.Syntax.{Syntax}
 use Rattle.tm_meaning.specs.World.{Function, World}
 use Rattle.tm_meaning.specs.declared.stream.TemplateId.TheVariants.{Own}
@@ -88,6 +88,12 @@ pub data RenderedSource {O : Type 0} (functions : O → List Function) (e : Envi
   source_refused : (chain : List ErrorKind) → result ≡ Err chain → IsRefused e.syntax source chain → new ≡ old → RenderedSource functions e name source old new context result
   source_rendered : (t : Compiled) → IsTemplate e.syntax name source t → RenderedText (meaning functions (record { environment = e; template = t }) old context) result → new ≡ old + 1 →
       RenderedSource functions e name source old new context result
+
+-- What is answered to a source where the counter is full, whose template has this name: why it was refused, or InvalidOperation, since no state can be numbered.
+abbrev pub IsUnnumbered : Syntax → List ℕ → List ℕ → Result (String Global) (List ErrorKind) → Type 0
+IsUnnumbered syntax name source (Ok text) = ⊥
+IsUnnumbered syntax name source (Err chain) =
+    IsRefused syntax source chain ⊎ ((t : Compiled) × IsTemplate syntax name source t × (chain ≡ InvalidOperation ∷ []))
 
 -- ---------------------------------------------------------------- runs
 -- No capture is open, or one without text.

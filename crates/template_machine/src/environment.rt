@@ -5,7 +5,7 @@ ghost use Rattle.tm_tables.specs.Templates.{Compiled, IsTemplate, IsRefused};
 ghost use Rattle.tm_values.specs.Answer.{IsLent, OkOrOutOfMemory};
 ghost use Rattle.std.specs.Prelude.{string_bytes};
 ghost use Rattle.tm_tables.specs.Sources.{source_bytes};
-ghost use Rattle.template_machine.specs.Renders.{greatest, RenderedSource};
+ghost use Rattle.template_machine.specs.Renders.{greatest, IsUnnumbered, RenderedSource};
 ghost use Rattle.template_machine.specs.Environment.{empty_environment, with_function, greatest_limit};
 
 use crate::template::{Held, TemplateOf};
@@ -47,7 +47,14 @@ impl<'source, O: Drop> Model for EnvironmentOf<'source, O> {
 
     ghost coded = { Prim.hlevel (coding, coded_Val, statement.the_row.coded, O.code) };
 
-    ghost view = { λ e. record { templates = e.templates; syntax = e.config.syntax_config; objects = e.objects; globals = e.globals; fuel = e.fuel; limit = e.limit } };
+    ghost view = { λ e. record {
+      templates = e.templates;
+      syntax = e.config.syntax_config;
+      objects = e.objects;
+      globals = e.globals;
+      fuel = e.fuel;
+      limit = e.limit;
+    } };
 }
 
 impl<'source, O: Drop> EnvironmentOf<'source, O> {
@@ -191,13 +198,17 @@ impl<'source, O: Parties> EnvironmentOf<'source, O> {
         source: &'source str,
         context: Value,
     ) -> Result<String, Error>
-        ensures { ids.old < greatest → RenderedSource O.functions self.now (codes "<string>")
-            source.entry.now ids.old ids.new context result }
+        ensures full { ids.old ≡ greatest →
+            IsUnnumbered self.now.syntax (codes "<string>") source.entry.now result
+            × (ids.new ≡ ids.old) }
+        ensures rendered { ids.old < greatest →
+            RenderedSource O.functions self.now (codes "<string>") source.entry.now
+            ids.old ids.new context result }
     {
         self.render_named_str(ids, UNNAMED, source, context)
     }
 
-    /// Renders a source, which the environment doesn't keep, under a name, as the next state of the counter. SyntaxError where the source spells no template; else as a template's `render`.
+    /// Renders a source, which the environment doesn't keep, under a name, as the next state of the counter. SyntaxError where the source spells no template; InvalidOperation, and nothing runs, where the counter is full; else as a template's `render`.
     pub fn render_named_str(
         &self,
         ids: &mut StateIds,
@@ -205,8 +216,11 @@ impl<'source, O: Parties> EnvironmentOf<'source, O> {
         source: &'source str,
         context: Value,
     ) -> Result<String, Error>
-        ensures { ids.old < greatest → RenderedSource O.functions self.now name.now
-            source.entry.now ids.old ids.new context result }
+        ensures full { ids.old ≡ greatest →
+            IsUnnumbered self.now.syntax name.now source.entry.now result × (ids.new ≡ ids.old) }
+        ensures rendered { ids.old < greatest →
+            RenderedSource O.functions self.now name.now source.entry.now
+            ids.old ids.new context result }
     {
         let template = match self.template_from_named_str(name, source) {
             Ok(template) => template,

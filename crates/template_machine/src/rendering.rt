@@ -44,6 +44,11 @@ impl<'env, O: Drop> Rendering<'env, O> {
         Rendering { environment, own }
     }
 
+    /// The allocator of what the environment makes.
+    pub(crate) fn allocator(&self) -> Global {
+        self.environment.allocator()
+    }
+
     /// The template that is meant.
     fn template(&self, template: &TemplateId) -> &'env CompiledTemplate<'env>
         ensures { result.now ≡ meant self.now template.now }

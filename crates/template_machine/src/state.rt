@@ -1,9 +1,11 @@
 //! States, and what a render leaves.
 ghost use Rattle.std.specs.Prelude.{◌≡◌, ◌+◌, Some, IfSome, string_bytes};
 ghost use Rattle.tm_syntax.specs.Named.{find};
-ghost use Rattle.tm_values.specs.Answer.{IsLent};
+ghost use Rattle.tm_values.specs.Answer.{IsLent, OkOrOutOfMemory};
 ghost use Rattle.tm_meaning.specs.World.{find_name, fuel_levels, name_of, view_of};
 ghost use Rattle.tm_tables.specs.Found.{IsFound};
+ghost use Rattle.tm_tables.specs.Scopes.{texts_of};
+ghost use Rattle.tm_vm.specs.State.{exported};
 ghost use Rattle.template_machine.specs.Environment.{host_of};
 
 use crate::rendering::Rendering;
@@ -56,6 +58,14 @@ impl<'env, O: Drop> StateOf<'env, O> {
         ensures { IsLent result (find name.now self.now.world.temps) }
     {
         self.kept.get_temp(name)
+    }
+
+    /// The names that the outermost scope exports, in their order: those of its own that don't begin with `_`. Fails by OutOfMemory alone.
+    pub fn exports(&self) -> Result<Vec<&str>, Error>
+        ensures { OkOrOutOfMemory result
+            (λ names. texts_of names.items ≡ exported self.now.world) }
+    {
+        self.kept.exports(self.rendering.allocator())
     }
 }
 

@@ -8,6 +8,7 @@ use Rattle.tm_meaning.specs.Calls.{Asked, runs, whole, of_block, with_outer}
 use Rattle.tm_meaning.specs.Meaning.{first_fuel}
 use Rattle.tm_meaning.specs.declared.stream.TemplateId.TheVariants.{Own}
 use Rattle.tm_parts.specs.Fuel.{Fuel}
+use Rattle.tm_tables.specs.Scopes.{exported_of}
 use Rattle.tm_vm.specs.declared.flow.Saved.{Saved}
 
 -- the fuel that was set, where one was
@@ -65,3 +66,7 @@ IsThere false found = found ≡ None
 -- one scope more, over no context
 abbrev pub scoped : World → World
 scoped w = with_frames (plain (undefined false) ∷ w.scopes.frames) w
+
+-- The names that a state exports: its outermost scope's own, in the order of the scope's locals, without those that begin with `_`.
+abbrev pub exported : World → List (List ℕ)
+exported w = exported_of w.scopes.frames

@@ -48,7 +48,15 @@ impl Model for Run {
 
     ghost coded = { Prim.hlevel (codes, coded_Val) };
 
-    ghost view = { λ run. record { stream = run.stream; place = run.place; operands = run.operands; escapes = []; loops = []; floor = run.floor; parent = None } };
+    ghost view = { λ run. record {
+      stream = run.stream;
+      place = run.place;
+      operands = run.operands;
+      escapes = [];
+      loops = [];
+      floor = run.floor;
+      parent = None;
+    } };
 }
 
 impl Run {

@@ -8,9 +8,9 @@ ghost use Rattle.tm_meaning.specs.Calls.{enter_block, call_named, refused};
 ghost use Rattle.tm_meaning.specs.Steps.{pay};
 ghost use Rattle.tm_printing.specs.Emitted.{emitted_text};
 ghost use Rattle.tm_tables.specs.Found.{IsFound};
-ghost use Rattle.tm_tables.specs.Scopes.{PushFails};
+ghost use Rattle.tm_tables.specs.Scopes.{PushFails, texts_of};
 ghost use Rattle.tm_vm.specs.Answers.{Keeps, CanBeEmitted, Calls};
-ghost use Rattle.tm_vm.specs.State.{started, put_back, saved_of, runs_block, IsThere, scoped};
+ghost use Rattle.tm_vm.specs.State.{exported, started, put_back, saved_of, runs_block, IsThere, scoped};
 
 use crate::flow::Saved;
 use sqlite_items::Items;
@@ -52,7 +52,22 @@ impl<'env> Model for StateData<'env> {
 
     ghost coded = { Prim.hlevel (codes, coded_Val) };
 
-    ghost view = { λ s. record { id = s.id; scopes = s.context; namespaces = []; loops = []; closures = []; streams = []; temps = s.temps; blocks = layers_of s.blocks.now; loaded = []; block = s.block; escape = s.escape; stream = s.stream; fuel_set = fuel_set_of s.fuel_is_set s.fuel; fuel = s.fuel.left } };
+    ghost view = { λ s. record {
+      id = s.id;
+      scopes = s.context;
+      namespaces = [];
+      loops = [];
+      closures = [];
+      streams = [];
+      temps = s.temps;
+      blocks = layers_of s.blocks.now;
+      loaded = [];
+      block = s.block;
+      escape = s.escape;
+      stream = s.stream;
+      fuel_set = fuel_set_of s.fuel_is_set s.fuel;
+      fuel = s.fuel.left;
+    } };
 }
 
 impl<'env> StateData<'env> {
@@ -143,6 +158,13 @@ impl<'env> StateData<'env> {
         ensures { IsLent result (find name.now self.now.temps) }
     {
         self.temps.get(name)
+    }
+
+    /// The names that the outermost scope exports, in their order: those of its own that don't begin with `_`. Fails by OutOfMemory alone.
+    pub fn exports(&self, alloc: Global) -> Result<Vec<&str>, Error>
+        ensures { OkOrOutOfMemory result (λ names. texts_of names.items ≡ exported self.now) }
+    {
+        self.context.exports(alloc)
     }
 
     /// Keeps values by name, one behind the other. Fails by OutOfMemory alone, and then only what is kept has changed.
