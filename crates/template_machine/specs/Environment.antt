@@ -1,6 +1,7 @@
 -- Environments and templates as plain data, over all objects of the caller as one.
 use Rattle.std.specs.Prelude.{ℕ, List, [], ◌∷◌, ◌++◌, length, map as each, Option, Some, None}
 use Rattle.tm_values.specs.Val.{Val, function}
+use Rattle.tm_values.specs.declared.undefined.UndefinedBehavior.{UndefinedBehavior}
 use Rattle.tm_values.specs.declared.undefined.UndefinedBehavior.TheVariants.{Lenient}
 use Rattle.tm_syntax.specs.declared.instruction.Instruction.{Instruction}
 use Rattle.tm_syntax.specs.Named.{Named, find, put}
@@ -11,14 +12,18 @@ use Rattle.tm_meaning.specs.declared.stream.TemplateId.{TemplateId}
 use Rattle.tm_meaning.specs.declared.stream.TemplateId.TheVariants.{Own, Entry}
 use Rattle.tm_meaning.specs.World.{Bindings, Host, Template, Function, or_is}
 use Rattle.tm_meaning.specs.Tree.{TemplateTree, Trees, template_of, trees_of}
-use Rattle.tm_tables.specs.Templates.{Compiled, tree_of}
+use Rattle.tm_tables.specs.Templates.{Compiled, IsTemplate, tree_of}
+use Rattle.tm_tables.specs.declared.defaults.EscapeSetting.{EscapeSetting}
+use Rattle.tm_tables.specs.declared.defaults.EscapeSetting.TheVariants as escapes
 
--- The templates by name, the delimiters of later ones, the caller's objects, the globals, the fuel that is set, and how deep scopes may lie.
+-- The templates by name, the delimiters and the escape of later ones, the caller's objects, the globals, what is done with undefined values, the fuel that is set, and how deep scopes may lie.
 pub record EnvironmentValue (O : Type 0) : Type 0 where
   pub templates : Named Compiled
   pub syntax : Syntax
+  pub escaping : EscapeSetting
   pub objects : O
   pub globals : Bindings
+  pub undefined : UndefinedBehavior
   pub fuel : Option ℕ
   pub limit : ℕ
 
@@ -35,11 +40,21 @@ abbrev pub empty_environment : {O : Type 0} → O → EnvironmentValue O
 empty_environment objects = record {
   templates = [];
   syntax = default_syntax;
+  escaping = escapes.Never;
   objects = objects;
   globals = [];
+  undefined = Lenient;
   fuel = None;
   limit = greatest_limit;
 }
+
+-- the same, with what a template may expect: it is escaped as its name asks
+abbrev pub new_environment : {O : Type 0} → O → EnvironmentValue O
+new_environment objects = record (empty_environment objects) { escaping = escapes.ByName }
+
+-- the template that a source is in an environment, under a name
+abbrev pub IsTemplateOf : {O : Type 0} → EnvironmentValue O → List ℕ → List ℕ → Compiled → Type 0
+IsTemplateOf e name source t = IsTemplate e.syntax e.escaping name source t
 
 -- the object under the next number, and the function of that number as the global of a name
 abbrev pub with_function : {C : Type 0} → List ℕ → C → EnvironmentValue (List C) → EnvironmentValue (List C)
@@ -64,7 +79,7 @@ host_of functions t = record {
   tests = [];
   join = λ x parent. x;
   formatter = None;
-  undefined = Lenient;
+  undefined = t.environment.undefined;
   limit = t.environment.limit;
 }
 

@@ -7,7 +7,6 @@ use Rattle.tm_values.specs.Chain.{ends_in_memory}
 use Rattle.tm_values.specs.Val.{Val}
 use Rattle.tm_values.specs.declared.error.ErrorKind.{ErrorKind}
 use Rattle.tm_values.specs.declared.error.ErrorKind.TheVariants.{InvalidOperation, WriteFailure}
-use Rattle.tm_scanner.specs.Syntax.{Syntax}
 use Rattle.tm_meaning.specs.World.{Function, World}
 use Rattle.tm_meaning.specs.declared.stream.TemplateId.TheVariants.{Own}
 use Rattle.tm_meaning.specs.Machine.{Capture, new_capture, put_in, put_out}
@@ -15,8 +14,8 @@ use Rattle.tm_meaning.specs.Meaning.{Ending, fault, Outcome, first_world, render
 use Rattle.tm_output.specs.Counts.{one_more, AppendsBeginning}
 use Rattle.tm_parts.specs.declared.halt.Halt.{Halt}
 use Rattle.tm_parts.specs.declared.halt.Halt.TheVariants as halt
-use Rattle.tm_tables.specs.Templates.{Compiled, IsTemplate, IsRefused}
-use Rattle.template_machine.specs.Environment.{EnvironmentValue, TemplateValue, host_of, trees}
+use Rattle.tm_tables.specs.Templates.{Compiled, IsRefused}
+use Rattle.template_machine.specs.Environment.{EnvironmentValue, TemplateValue, IsTemplateOf, host_of, trees}
 
 -- a template that is rendered, and the world that it leaves
 pub record StateValue (O : Type 0) : Type 0 where
@@ -86,14 +85,14 @@ pub data RenderedText (m : Outcome) (result : Result (String Global) (List Error
 -- How a render of a source ended, whose template has this name: refused, since it spells no template or no memory was found, and no state was numbered; or rendered, as the template that it spells.
 pub data RenderedSource {O : Type 0} (functions : O → List Function) (e : EnvironmentValue O) (name source : List ℕ) (old new : ℕ) (context : Val) (result : Result (String Global) (List ErrorKind)) : Type 0 where
   source_refused : (chain : List ErrorKind) → result ≡ Err chain → IsRefused e.syntax source chain → new ≡ old → RenderedSource functions e name source old new context result
-  source_rendered : (t : Compiled) → IsTemplate e.syntax name source t → RenderedText (meaning functions (record { environment = e; template = t }) old context) result → new ≡ old + 1 →
+  source_rendered : (t : Compiled) → IsTemplateOf e name source t → RenderedText (meaning functions (record { environment = e; template = t }) old context) result → new ≡ old + 1 →
       RenderedSource functions e name source old new context result
 
 -- What is answered to a source where the counter is full, whose template has this name: why it was refused, or InvalidOperation, since no state can be numbered.
-abbrev pub IsUnnumbered : Syntax → List ℕ → List ℕ → Result (String Global) (List ErrorKind) → Type 0
-IsUnnumbered syntax name source (Ok text) = ⊥
-IsUnnumbered syntax name source (Err chain) =
-    IsRefused syntax source chain ⊎ ((t : Compiled) × IsTemplate syntax name source t × (chain ≡ InvalidOperation ∷ []))
+abbrev pub IsUnnumbered : {O : Type 0} → EnvironmentValue O → List ℕ → List ℕ → Result (String Global) (List ErrorKind) → Type 0
+IsUnnumbered e name source (Ok text) = ⊥
+IsUnnumbered e name source (Err chain) =
+    IsRefused e.syntax source chain ⊎ ((t : Compiled) × IsTemplateOf e name source t × (chain ≡ InvalidOperation ∷ []))
 
 -- ---------------------------------------------------------------- runs
 -- No capture is open, or one without text.

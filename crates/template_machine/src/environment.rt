@@ -1,19 +1,22 @@
 //! The environment.
 ghost use Rattle.std.specs.Prelude.{◌≡◌, ◌<◌, [], ◌∷◌, Some, None, codes, min, OnOk, OnErr, IfOk, IfErr, MatchResult, length, slice_get};
 ghost use Rattle.tm_syntax.specs.Named.{find, put};
-ghost use Rattle.tm_tables.specs.Templates.{Compiled, IsTemplate, IsRefused};
+ghost use Rattle.tm_tables.specs.Templates.{Compiled, IsRefused};
 ghost use Rattle.tm_values.specs.Answer.{IsLent, OkOrOutOfMemory};
 ghost use Rattle.std.specs.Prelude.{string_bytes};
 ghost use Rattle.tm_tables.specs.Sources.{source_bytes};
 ghost use Rattle.template_machine.specs.Renders.{greatest, IsUnnumbered, RenderedSource};
-ghost use Rattle.template_machine.specs.Environment.{empty_environment, with_function, greatest_limit};
+ghost use Rattle.template_machine.specs.Environment.{IsTemplateOf, empty_environment, new_environment, with_function, greatest_limit};
 
 use crate::template::{Held, TemplateOf};
 use std::alloc::Global;
 use std::marker::Model;
+use tm_compiler::SyntaxConfig;
 use tm_syntax::{Name, NameMap};
-use tm_tables::{Callable, CompiledTemplate, Objects, Parties, Source, TemplateConfig, Templates};
-use tm_values::{Error, ErrorKind, Value};
+use tm_tables::{
+    Callable, CompiledTemplate, EscapeSetting, Objects, Parties, Source, TemplateConfig, Templates,
+};
+use tm_values::{Error, ErrorKind, UndefinedBehavior, Value};
 use tm_vm::StateIds;
 
 /// How deep scopes may lie at most.
@@ -30,6 +33,7 @@ pub struct EnvironmentOf<'source, O: Drop> {
     config: TemplateConfig,
     objects: O,
     globals: NameMap<Value>,
+    undefined: UndefinedBehavior,
     fuel: Option<u64>,
     limit: usize,
 }
@@ -50,8 +54,10 @@ impl<'source, O: Drop> Model for EnvironmentOf<'source, O> {
     ghost view = { λ e. record {
       templates = e.templates;
       syntax = e.config.syntax_config;
+      escaping = e.config.default_auto_escape;
       objects = e.objects;
       globals = e.globals;
+      undefined = e.undefined;
       fuel = e.fuel;
       limit = e.limit;
     } };
@@ -60,7 +66,7 @@ impl<'source, O: Drop> Model for EnvironmentOf<'source, O> {
 impl<'source, O: Drop> EnvironmentOf<'source, O> {
     /// Compiles a source and puts it at a name, in place of the template that is there. SyntaxError where the source spells no template, OutOfMemory where there is no memory; then the environment stays as it was.
     pub fn add_template(&mut self, name: &str, source: &'source str) -> Result<(), Error>
-        ensures ok { OnOk result ((t : Compiled) × IsTemplate self.old.syntax name.now source.entry.now t
+        ensures ok { OnOk result ((t : Compiled) × IsTemplateOf self.old name.now source.entry.now t
             × (self.new ≡ record self.old { templates = put name.now t self.old.templates })) }
         ensures refused { IfErr result (IsRefused self.old.syntax source.entry.now) }
         ensures err { OnErr result (self.new ≡ self.old) }
@@ -70,7 +76,7 @@ impl<'source, O: Drop> EnvironmentOf<'source, O> {
 
     /// Compiles a source of its own and puts it at a name, as `add_template` does.
     pub fn add_template_owned(&mut self, name: &str, source: String) -> Result<(), Error>
-        ensures ok { OnOk result ((t : Compiled) × IsTemplate self.old.syntax name.now (string_bytes source) t
+        ensures ok { OnOk result ((t : Compiled) × IsTemplateOf self.old name.now (string_bytes source) t
             × (self.new ≡ record self.old { templates = put name.now t self.old.templates })) }
         ensures refused { IfErr result (IsRefused self.old.syntax (string_bytes source)) }
         ensures err { OnErr result (self.new ≡ self.old) }
@@ -81,7 +87,7 @@ impl<'source, O: Drop> EnvironmentOf<'source, O> {
     /// Compiles a source and puts it at a name.
     fn put_template(&mut self, name: &str, source: Source<'source>) -> Result<(), Error>
         ensures ok { OnOk result ((t : Compiled)
-            × IsTemplate self.old.syntax name.now (source_bytes source.entry) t
+            × IsTemplateOf self.old name.now (source_bytes source.entry) t
             × (self.new ≡ record self.old { templates = put name.now t self.old.templates })) }
         ensures refused { IfErr result (IsRefused self.old.syntax (source_bytes source.entry)) }
         ensures err { OnErr result (self.new ≡ self.old) }
@@ -112,7 +118,7 @@ impl<'source, O: Drop> EnvironmentOf<'source, O> {
         source: &'source str,
     ) -> Result<TemplateOf<'_, 'source, O>, Error>
         ensures compiled { IfOk result (λ t. (t.environment ≡ self.now)
-            × IsTemplate self.now.syntax (codes "<string>") source.entry.now t.template) }
+            × IsTemplateOf self.now (codes "<string>") source.entry.now t.template) }
         ensures refused { IfErr result (IsRefused self.now.syntax source.entry.now) }
     {
         self.template_from_named_str(UNNAMED, source)
@@ -125,7 +131,7 @@ impl<'source, O: Drop> EnvironmentOf<'source, O> {
         source: &'source str,
     ) -> Result<TemplateOf<'_, 'source, O>, Error>
         ensures compiled { IfOk result (λ t. (t.environment ≡ self.now)
-            × IsTemplate self.now.syntax name.now source.entry.now t.template) }
+            × IsTemplateOf self.now name.now source.entry.now t.template) }
         ensures refused { IfErr result (IsRefused self.now.syntax source.entry.now) }
     {
         let source = Source::Lent(source);
@@ -161,6 +167,34 @@ impl<'source, O: Drop> EnvironmentOf<'source, O> {
         ensures { result ≡ self.now.limit }
     {
         self.limit
+    }
+
+    /// Sets what is done with undefined values in each later render.
+    pub fn set_undefined_behavior(&mut self, behavior: UndefinedBehavior)
+        ensures { self.new ≡ record self.old { undefined = behavior } }
+    {
+        self.undefined = behavior;
+    }
+
+    /// What is done with undefined values.
+    pub fn undefined_behavior(&self) -> UndefinedBehavior
+        ensures { result ≡ self.now.undefined }
+    {
+        self.undefined
+    }
+
+    /// Sets the delimiters of templates that are compiled from now on; those that are there stay as they are.
+    pub fn set_syntax(&mut self, syntax: SyntaxConfig)
+        ensures { self.new ≡ record self.old { syntax = syntax } }
+    {
+        self.config.syntax_config = syntax;
+    }
+
+    /// The delimiters of templates that are compiled from now on.
+    pub fn syntax(&self) -> &SyntaxConfig
+        ensures { result.now ≡ self.now.syntax }
+    {
+        &self.config.syntax_config
     }
 
     /// The allocator of what the environment makes.
@@ -199,7 +233,7 @@ impl<'source, O: Parties> EnvironmentOf<'source, O> {
         context: Value,
     ) -> Result<String, Error>
         ensures full { ids.old ≡ greatest →
-            IsUnnumbered self.now.syntax (codes "<string>") source.entry.now result
+            IsUnnumbered self.now (codes "<string>") source.entry.now result
             × (ids.new ≡ ids.old) }
         ensures rendered { ids.old < greatest →
             RenderedSource O.functions self.now (codes "<string>") source.entry.now
@@ -217,7 +251,7 @@ impl<'source, O: Parties> EnvironmentOf<'source, O> {
         context: Value,
     ) -> Result<String, Error>
         ensures full { ids.old ≡ greatest →
-            IsUnnumbered self.now.syntax name.now source.entry.now result × (ids.new ≡ ids.old) }
+            IsUnnumbered self.now name.now source.entry.now result × (ids.new ≡ ids.old) }
         ensures rendered { ids.old < greatest →
             RenderedSource O.functions self.now name.now source.entry.now
             ids.old ids.new context result }
@@ -231,23 +265,29 @@ impl<'source, O: Parties> EnvironmentOf<'source, O> {
 }
 
 impl<'source, C: Drop> EnvironmentOf<'source, Objects<C>> {
-    /// An environment with what a template may expect: so far the same as `empty`. Fails by OutOfMemory alone.
+    /// An environment with what a template may expect: what it emits is escaped as its name asks (`default_auto_escape_callback`); else the same as `empty`. Fails by OutOfMemory alone.
     pub fn new(alloc: Global) -> Result<EnvironmentOf<'source, Objects<C>>, Error>
-        ensures { OkOrOutOfMemory result (λ e. e ≡ empty_environment []) }
+        ensures { OkOrOutOfMemory result (λ e. e ≡ new_environment []) }
     {
-        Ok(EnvironmentOf::empty(alloc))
+        let mut environment = EnvironmentOf::empty(alloc);
+        environment.config.default_auto_escape = EscapeSetting::ByName;
+        Ok(environment)
     }
 
-    /// No templates, the default delimiters, no functions, no fuel set, and scopes at most 500 deep.
+    /// No templates, the default delimiters, nothing escaped, no functions, lenient undefined values, no fuel set, and scopes at most 500 deep.
     pub fn empty(alloc: Global) -> EnvironmentOf<'source, Objects<C>>
         ensures { result ≡ empty_environment [] }
     {
         EnvironmentOf {
             alloc,
             templates: Templates::new(alloc),
-            config: TemplateConfig::default(),
+            config: TemplateConfig {
+                syntax_config: SyntaxConfig::default(),
+                default_auto_escape: EscapeSetting::Never,
+            },
             objects: Objects::new(alloc),
             globals: NameMap::new(alloc),
+            undefined: UndefinedBehavior::Lenient,
             fuel: None,
             limit: GREATEST_LIMIT,
         }

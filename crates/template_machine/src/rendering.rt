@@ -79,7 +79,7 @@ impl<O: Parties> Host for Rendering<'_, O> {
     }
 
     fn undefined_behavior(&self) -> UndefinedBehavior {
-        UndefinedBehavior::Lenient
+        self.environment.undefined_behavior()
     }
 
     fn template_name(&self, template: &TemplateId) -> &str {

@@ -11,7 +11,7 @@ ghost use Rattle.template_machine.specs.Environment.{host_of};
 use crate::rendering::Rendering;
 use std::marker::Model;
 use tm_tables::{Callable, Host, Objects, Parties};
-use tm_values::{Error, Value};
+use tm_values::{AutoEscape, Error, Value};
 use tm_vm::StateData;
 
 /// The state of a render. A contract sees the template that was rendered, and a world of the definitions.
@@ -58,6 +58,13 @@ impl<'env, O: Drop> StateOf<'env, O> {
         ensures { IsLent result (find name.now self.now.world.temps) }
     {
         self.kept.get_temp(name)
+    }
+
+    /// How what is emitted is escaped.
+    pub fn auto_escape(&self) -> AutoEscape
+        ensures { result ≡ self.now.world.escape }
+    {
+        self.kept.escape()
     }
 
     /// The names that the outermost scope exports, in their order: those of its own that don't begin with `_`. Fails by OutOfMemory alone.

@@ -11,7 +11,7 @@ use std::marker::Model;
 use tm_meaning::{StreamId, TemplateId};
 use tm_parts::{Captures, Halt, NullWriter, Sink};
 use tm_tables::{Callable, CompiledTemplate, Objects, Parties};
-use tm_values::{AutoEscape, Error, ErrorKind, Value};
+use tm_values::{Error, ErrorKind, Value};
 use tm_vm::{Machine, StateData, StateIds};
 
 /// A compiled template: the environment's, or one of its own.
@@ -150,7 +150,7 @@ impl<'env, 'source, O: Parties> TemplateOf<'env, 'source, O> {
             environment.allocator(),
             id,
             self.compiled().blocks(),
-            AutoEscape::None,
+            self.compiled().escape(),
             environment.fuel(),
             context,
         )
