@@ -10,10 +10,11 @@ use Rattle.std.specs.Str.{IsUtf8, IsCharBoundary}
 use Rattle.memchr.specs.Find.{Nowhere, NoneBefore, Passes, is_byte3}
 use Rattle.tm_scanner.specs.declared.syntax.Kind.{Kind}
 use Rattle.tm_scanner.specs.declared.syntax.Kind.TheVariants as kind
-use Rattle.tm_scanner.specs.Front.{behind}
-use Rattle.tm_scanner.specs.Syntax.{Syntax, IsUsable}
-use Rattle.tm_scanner.specs.Pieces.{start_of, opens, second_if, longer, opening, begins, BeginsAt, raw_text}
-use Rattle.tm_scanner.proofs.Places.{until_some}
+use Rattle.tm_scanner.specs.Front.{behind, first_of}
+use Rattle.tm_scanner.specs.declared.trimming.Side.{Side}
+use Rattle.tm_scanner.specs.Syntax.{Syntax, HasAll}
+use Rattle.tm_scanner.specs.Starts.{start_of, opens, second_if, longer, opening, begins, BeginsAt, side_at, tag_start}
+use Rattle.tm_scanner.proofs.Places.{not_true, first_of-at, first_of-nowhere}
 
 some_bytes : (ws : List ℕ) → ws ≢ [] → 0 < length ws
 some_bytes [] h = absurd (h refl)
@@ -50,7 +51,7 @@ abbrev one_of : Syntax → ℕ → Bool
 one_of s c = is_byte3 (slice_index s.block_start 0) (slice_index s.variable_start 0) (slice_index s.comment_start 0) c
 
 -- where a start delimiter stands, the first byte of one stands
-begins_by : (s : Syntax) (bs : List ℕ) → IsUsable s → begins s bs ≡ true → (0 < length bs) × (one_of s (slice_index bs 0) ≡ true)
+begins_by : (s : Syntax) (bs : List ℕ) → HasAll s → begins s bs ≡ true → (0 < length bs) × (one_of s (slice_index bs 0) ≡ true)
 begins_by s bs u h = by_word (either (starts_with nat_eq bs s.block_start) (starts_with nat_eq bs s.variable_start) (starts_with nat_eq bs s.comment_start) h)
   where
     by_word : (starts_with nat_eq bs s.block_start ≡ true) ⊎ ((starts_with nat_eq bs s.variable_start ≡ true) ⊎ (starts_with nat_eq bs s.comment_start ≡ true)) → (0 < length bs) × (one_of s (slice_index bs 0) ≡ true)
@@ -65,7 +66,7 @@ begins_by s bs u h = by_word (either (starts_with nat_eq bs s.block_start) (star
         (f.0, ap (λ t. (slice_index bs 0 == slice_index s.block_start 0) || (slice_index bs 0 == slice_index s.variable_start 0) || t) (eq-eqb _ _ f.1) ∙ last_or (slice_index bs 0 == slice_index s.block_start 0) (slice_index bs 0 == slice_index s.variable_start 0))
 
 -- none stands before the first such byte
-none_before : (s : Syntax) (bs rest : List ℕ) (from n : ℕ) → IsUsable s → rest ≡ take (length bs - from) (drop from bs) → Nowhere (BeginsAt s bs) 0 from → Nowhere (Passes (one_of s) rest) 0 n → n ≤ length bs - from → Nowhere (BeginsAt s bs) 0 (from + n)
+none_before : (s : Syntax) (bs rest : List ℕ) (from n : ℕ) → HasAll s → rest ≡ take (length bs - from) (drop from bs) → Nowhere (BeginsAt s bs) 0 from → Nowhere (Passes (one_of s) rest) 0 n → n ≤ length bs - from → Nowhere (BeginsAt s bs) 0 (from + n)
 none_before s bs rest from n u e old h fits k low high p = by_place (suc k - from) refl
   where
     by_place : (j : ℕ) → suc k - from ≡ j → ⊥
@@ -82,13 +83,13 @@ left : (bs rest : List ℕ) (from : ℕ) → rest ≡ take (length bs - from) (d
 left bs rest from e = omega (arith, ap length e, length-take (length bs - from) (drop from bs), length-drop from bs)
 
 -- the search found no such byte
-ended : (s : Syntax) (bs rest : List ℕ) (from : ℕ) → IsUsable s → rest ≡ take (length bs - from) (drop from bs) → Nowhere (BeginsAt s bs) 0 from → Nowhere (Passes (one_of s) rest) 0 (length rest) → Nowhere (BeginsAt s bs) 0 (length bs)
+ended : (s : Syntax) (bs rest : List ℕ) (from : ℕ) → HasAll s → rest ≡ take (length bs - from) (drop from bs) → Nowhere (BeginsAt s bs) 0 from → Nowhere (Passes (one_of s) rest) 0 (length rest) → Nowhere (BeginsAt s bs) 0 (length bs)
 ended s bs rest from u e old h k low high p =
     let n = left bs rest from e in
     none_before s bs rest from (length bs - from) u e old (λ j a b. h j a (omega (arith, n, b))) (omega arith) k low (omega (arith, high)) p
 
 -- the search found one
-later : (s : Syntax) (bs rest : List ℕ) (from at : ℕ) → IsUsable s → rest ≡ take (length bs - from) (drop from bs) → Nowhere (BeginsAt s bs) 0 from → NoneBefore (Passes (one_of s) rest) 0 (length rest) at → (from + at < length bs) × Nowhere (BeginsAt s bs) 0 (from + at)
+later : (s : Syntax) (bs rest : List ℕ) (from at : ℕ) → HasAll s → rest ≡ take (length bs - from) (drop from bs) → Nowhere (BeginsAt s bs) 0 from → NoneBefore (Passes (one_of s) rest) 0 (length rest) at → (from + at < length bs) × Nowhere (BeginsAt s bs) 0 (from + at)
 later s bs rest from at u e old h =
     let n = left bs rest from e in
     let small : at < length bs - from = omega (arith, n, h.high) in
@@ -105,11 +106,11 @@ past_it s bs k old none j low high p = by_place (k - j) refl
         cc (sym p ∙ ap (λ i. begins s (drop i bs)) same ∙ none)
 
 -- the slice from a place on is what is left there
-rest_is : (bs rest : List ℕ) (k : ℕ) → rest ≡ take (length bs - k) (drop k bs) → rest ≡ drop k bs
+pub rest_is : (bs rest : List ℕ) (k : ℕ) → rest ≡ take (length bs - k) (drop k bs) → rest ≡ drop k bs
 rest_is bs rest k e = e ∙ take_all (length bs - k) (drop k bs) (omega (arith, length-drop k bs))
 
 -- a place where a start delimiter stands is between characters, since it begins with one
-pub boundary_at : (s : Syntax) (bs : List ℕ) (k : ℕ) → IsUsable s → IsUtf8 s.block_start → IsUtf8 s.variable_start → IsUtf8 s.comment_start → k ≤ length bs → BeginsAt s bs k → IsCharBoundary bs k
+pub boundary_at : (s : Syntax) (bs : List ℕ) (k : ℕ) → HasAll s → IsUtf8 s.block_start → IsUtf8 s.variable_start → IsUtf8 s.comment_start → k ≤ length bs → BeginsAt s bs k → IsCharBoundary bs k
 boundary_at s bs k u ub uv uc fits h = (fits, λ inside high. by_word inside high (either (starts_with nat_eq (drop k bs) s.block_start) (starts_with nat_eq (drop k bs) s.variable_start) (starts_with nat_eq (drop k bs) s.comment_start) h))
   where
     by : (w : List ℕ) → w ≢ [] → IsUtf8 w → starts_with nat_eq (drop k bs) w ≡ true → 128 ≤ slice_index bs k → 192 ≤ slice_index bs k
@@ -130,12 +131,12 @@ no_bytes : (s : Syntax) (x y z rest : List ℕ) (n : ℕ) → s.block_start ≡ 
 no_bytes s x y z rest n ex ey ez h = rw (ex, ey, ez) h
 
 -- what the search found
-pub found_at : (s : Syntax) (bs x y z : List ℕ) (from at : ℕ) → IsUsable s → s.block_start ≡ x → s.variable_start ≡ y → s.comment_start ≡ z → Nowhere (BeginsAt s bs) 0 from → NoneBefore (Passes (is_byte3 (slice_index x 0) (slice_index y 0) (slice_index z 0)) (take (length bs - from) (drop from bs))) 0 (length (take (length bs - from) (drop from bs))) at → (from + at < length bs) × Nowhere (BeginsAt s bs) 0 (from + at)
+pub found_at : (s : Syntax) (bs x y z : List ℕ) (from at : ℕ) → HasAll s → s.block_start ≡ x → s.variable_start ≡ y → s.comment_start ≡ z → Nowhere (BeginsAt s bs) 0 from → NoneBefore (Passes (is_byte3 (slice_index x 0) (slice_index y 0) (slice_index z 0)) (take (length bs - from) (drop from bs))) 0 (length (take (length bs - from) (drop from bs))) at → (from + at < length bs) × Nowhere (BeginsAt s bs) 0 (from + at)
 found_at s bs x y z from at u ex ey ez old h =
     let rest = take (length bs - from) (drop from bs) in
     later s bs rest from at u refl old (by_bytes s x y z rest (length rest) at ex ey ez h)
 
-pub found_none : (s : Syntax) (bs x y z : List ℕ) (from : ℕ) → IsUsable s → s.block_start ≡ x → s.variable_start ≡ y → s.comment_start ≡ z → Nowhere (BeginsAt s bs) 0 from → Nowhere (Passes (is_byte3 (slice_index x 0) (slice_index y 0) (slice_index z 0)) (take (length bs - from) (drop from bs))) 0 (length (take (length bs - from) (drop from bs))) → Nowhere (BeginsAt s bs) 0 (length bs)
+pub found_none : (s : Syntax) (bs x y z : List ℕ) (from : ℕ) → HasAll s → s.block_start ≡ x → s.variable_start ≡ y → s.comment_start ≡ z → Nowhere (BeginsAt s bs) 0 from → Nowhere (Passes (is_byte3 (slice_index x 0) (slice_index y 0) (slice_index z 0)) (take (length bs - from) (drop from bs))) 0 (length (take (length bs - from) (drop from bs))) → Nowhere (BeginsAt s bs) 0 (length bs)
 found_none s bs x y z from u ex ey ez old h =
     let rest = take (length bs - from) (drop from bs) in
     ended s bs rest from u refl old (no_bytes s x y z rest (length rest) ex ey ez h)
@@ -175,14 +176,59 @@ no_start s cs h =
     let inner = longer_none s (opens s kind.Block cs) (opens s kind.Variable cs) outer.0 in
     rw (not_there s kind.Block cs inner.0, not_there s kind.Variable cs inner.1, not_there s kind.Comment cs outer.1) refl
 
-no_longer : (s : Syntax) (cs : List ℕ) → length (raw_text s cs).1 ≤ length cs
-no_longer s [] = omega arith
-no_longer s (c ∷ cs) = by_test (no_longer s cs) (begins s (c ∷ cs))
+-- where no start delimiter stands, no tag opens
+pub nothing_behind : (w cs : List ℕ) → starts_with nat_eq cs w ≡ false → behind w cs ≡ None
+nothing_behind w cs h = by_rest (behind w cs) (sym (starts_is cs w) ∙ h)
   where
-    by_test : length (raw_text s cs).1 ≤ length cs → (b : Bool) → length (if◌then◌else◌ {A = List ℕ × List ℕ} b ([], c ∷ cs) (c ∷ (raw_text s cs).0, (raw_text s cs).1)).1 ≤ suc (length cs)
-    by_test ih true = omega arith
-    by_test ih false = omega (arith, ih)
+    by_rest : (r : Option (List ℕ)) → is_some r ≡ false → r ≡ None
+    by_rest None h = refl
+    by_rest (Some x) h = cc
 
-pub raw_shorter : (s : Syntax) (cs : List ℕ) → cs ≢ [] → begins s cs ≡ false → length (raw_text s cs).1 < length cs
-raw_shorter s [] some h = absurd (some refl)
-raw_shorter s (c ∷ cs) some h = omega (arith, ap (λ (r : List ℕ × List ℕ). length r.1) (until_some (begins s) c cs h), no_longer s cs)
+neither : (x y z : Bool) → (x || y || z) ≡ false → (x ≡ false) × ((y ≡ false) × (z ≡ false))
+neither false false false h = (refl, (refl, refl))
+neither false false true h = cc
+neither false true z h = cc
+neither true y z h = cc
+
+pub no_block_start : (s : Syntax) (cs : List ℕ) → begins s cs ≡ false → behind s.block_start cs ≡ None
+no_block_start s cs h =
+    nothing_behind s.block_start cs (neither (starts_with nat_eq cs s.block_start) (starts_with nat_eq cs s.variable_start) (starts_with nat_eq cs s.comment_start) h).0
+
+no_opening : (s : Syntax) (cs : List ℕ) → begins s cs ≡ false → opening s cs ≡ None
+no_opening s cs h =
+    let no = neither (starts_with nat_eq cs s.block_start) (starts_with nat_eq cs s.variable_start) (starts_with nat_eq cs s.comment_start) h in
+    rw (nothing_behind s.block_start cs no.0, nothing_behind s.variable_start cs no.1.0, nothing_behind s.comment_start cs no.1.1) refl
+
+-- what is found stands where a start delimiter does
+abbrev pub AtStart : {A : Type 0} → Syntax → (List ℕ → Option A) → Type 0
+AtStart s find = (cs : List ℕ) → begins s cs ≡ false → find cs ≡ None
+
+pub tags_start : (s : Syntax) → AtStart s (tag_start s)
+tags_start s cs h = ap (λ (r : Option (Kind × List ℕ)). option_map side_at r) (no_opening s cs h)
+
+pub never_at_end : (s : Syntax) (cs : List ℕ) → HasAll s → length cs ≡ 0 → begins s cs ≡ false
+never_at_end s cs u e = not_true (begins s cs) (λ h. omega (arith, e, (begins_by s cs u h).0))
+
+-- where no start delimiter stands from here on, nothing is found there
+pub none_found : {A : Type 0} (s : Syntax) (find : List ℕ → Option A) (bs : List ℕ) (k : ℕ) → HasAll s → AtStart s find → Nowhere (BeginsAt s bs) 0 (length bs) → k ≤ length bs → find (drop k bs) ≡ None
+none_found s find bs k u at none fits = by_place (length bs - k) refl
+  where
+    by_place : (left : ℕ) → length bs - k ≡ left → find (drop k bs) ≡ None
+    by_place zero e = at (drop k bs) (never_at_end s (drop k bs) u (omega (arith, e, length-drop k bs)))
+    by_place (suc left) e = at (drop k bs) (not_true (begins s (drop k bs)) (none k (omega arith) (omega (arith, e))))
+
+-- the next start of a tag
+pub next_none : (s : Syntax) (bs : List ℕ) → HasAll s → Nowhere (BeginsAt s bs) 0 (length bs) → first_of (tag_start s) bs ≡ None
+next_none s bs u none = first_of-nowhere (tag_start s) bs (λ k fits. none_found s (tag_start s) bs k u (tags_start s) none fits)
+
+pub next_some : (s : Syntax) (bs : List ℕ) (k : ℕ) (x : Side × List ℕ) → NoneBefore (BeginsAt s bs) 0 (length bs) k → tag_start s (drop k bs) ≡ Some x → first_of (tag_start s) bs ≡ Some (take k bs, x)
+next_some s bs k x first here =
+    first_of-at (tag_start s) bs k x (λ j less. tags_start s (drop j bs) (not_true (begins s (drop j bs)) (first.before j (omega arith) less))) (omega (arith, first.high)) here
+
+-- where a start delimiter stands, a tag starts
+pub tag_there : (s : Syntax) (cs : List ℕ) → begins s cs ≡ true → None ≡ tag_start s cs → ⊥
+tag_there s cs stands none = cc (sym stands ∙ no_start s cs (by_opening (opening s cs) (sym none)))
+  where
+    by_opening : (r : Option (Kind × List ℕ)) → option_map side_at r ≡ None → r ≡ None
+    by_opening None h = refl
+    by_opening (Some x) h = cc

@@ -4,12 +4,17 @@ use Rattle.tm_values.specs.Val.{Val}
 use Rattle.tm_syntax.specs.declared.token.Token.{Token}
 use Rattle.tm_syntax.specs.declared.token.Token.TheVariants as tokens
 use Rattle.tm_scanner.specs.declared.texts.Quote.{Quote}
+use Rattle.tm_scanner.specs.declared.whitespace.Whitespace.{Whitespace}
 use Rattle.tm_scanner.specs.Front.{past_blanks}
 use Rattle.tm_scanner.specs.Steps.{Steps}
 use Rattle.tm_scanner.specs.Texts.{quote_at, IsLiteral}
 use Rattle.tm_scanner.specs.Tokens.{IsToken, IsTokenBehind, depth_behind, Place, past_end, Passes, Content}
 use Rattle.tm_scanner.proofs.Steps.{OneStep, NoStep, append-nil, same_some, same_result, steps_last, one_end}
 use Rattle.tm_scanner.proofs.Literals.{one_literal}
+
+-- a tag's end: the mark there, and what is left behind it
+abbrev pub End : Type 0
+End = Whitespace × List ℕ
 
 -- where a quote stands and no text, there is no token
 pub no_literal : (cs behind : List ℕ) (q : Quote) → Some (q, behind) ≡ quote_at cs → ((v : Val) (rest : List ℕ) → IsLiteral q behind v rest → ⊥) → (t : Token) (rest : List ℕ) → IsToken cs t rest → ⊥
@@ -35,8 +40,8 @@ one_pass end = λ s t w u v h k.
     let depth : u.depth ≡ v.depth = same_some u.depth v.depth (sym h.depth ∙ ap (λ x. depth_behind x s.depth) same.0 ∙ k.depth) in
     (same.0, same_place u v (h.rest ∙ ap past_blanks same.1 ∙ sym k.rest) depth)
 
-no_pass : (end : List ℕ) (s : Place) (rest : List ℕ) → past_end end s.rest s.depth ≡ Some rest → NoStep (Passes end) s
-no_pass end s rest e = λ t u h. cc (sym e ∙ h.goes_on)
+no_pass : (end : List ℕ) (s : Place) (x : End) → past_end end s.rest s.depth ≡ Some x → NoStep (Passes end) s
+no_pass end s x e = λ t u h. cc (sym e ∙ h.goes_on)
 
 -- The tokens that were added lead from the start of the content to this place.
 pub record Begun (end cs : List ℕ) (old new : List Token) (rest : List ℕ) (depth : ℕ) : Type 0 where
@@ -59,14 +64,14 @@ goes_on end cs old new more rest next blank depth deeper t here unended token de
   items = grown ∙ ap (λ w. w ++ t ∷ []) here.items ∙ append_assoc old here.added (t ∷ []);
 }
 
-pub ends : (end cs : List ℕ) (old new : List Token) (rest behind : List ℕ) (depth : ℕ) → Begun end cs old new rest depth → past_end end rest depth ≡ Some behind → (ts : List Token) × Content end cs ts behind × (new ≡ old ++ ts)
-ends end cs old new rest behind depth here e = (here.added, (record { rest = rest; depth = depth }, here.steps, e), here.items)
+pub ends : (end cs : List ℕ) (old new : List Token) (rest : List ℕ) (depth : ℕ) (x : End) → Begun end cs old new rest depth → past_end end rest depth ≡ Some x → (ts : List Token) × Content end cs ts x × (new ≡ old ++ ts)
+ends end cs old new rest depth x here e = (here.added, (record { rest = rest; depth = depth }, here.steps, e), here.items)
 
 -- where the content neither ends nor goes on, there is none
-pub no_content : (end cs : List ℕ) (old new : List Token) (rest : List ℕ) (depth : ℕ) → Begun end cs old new rest depth → past_end end rest depth ≡ None → NoStep (Passes end) (record { rest = rest; depth = depth }) → (ts : List Token) (behind : List ℕ) → Content end cs ts behind → ⊥
-no_content end cs old new rest depth here unended stuck ts behind h =
+pub no_content : (end cs : List ℕ) (old new : List Token) (rest : List ℕ) (depth : ℕ) → Begun end cs old new rest depth → past_end end rest depth ≡ None → NoStep (Passes end) (record { rest = rest; depth = depth }) → (ts : List Token) (x : End) → Content end cs ts x → ⊥
+no_content end cs old new rest depth here unended stuck ts x h =
     let start : Place = record { rest = past_blanks cs; depth = 0 } in
-    let same = one_end (Passes end) start here.added (record { rest = rest; depth = depth }) ts h.0 (one_pass end) here.steps stuck h.1 (no_pass end h.0 behind h.2) in
+    let same = one_end (Passes end) start here.added (record { rest = rest; depth = depth }) ts h.0 (one_pass end) here.steps stuck h.1 (no_pass end h.0 x h.2) in
     cc (sym unended ∙ ap (λ (p : Place). past_end end p.rest p.depth) same.1 ∙ h.2)
 
 pub no_token : (end rest : List ℕ) (depth : ℕ) → ((t : Token) (next : List ℕ) → IsToken rest t next → ⊥) → NoStep (Passes end) (record { rest = rest; depth = depth })
@@ -77,7 +82,7 @@ too_deep end rest next depth t token deep = λ w u h.
     let same = one_token rest t w next h.next token h.token in
     cc (sym deep ∙ ap (λ x. depth_behind x depth) same.0 ∙ h.depth)
 
-pub one_content : (end cs : List ℕ) (ts us : List Token) (r s : List ℕ) → Content end cs ts r → Content end cs us s → (ts ≡ us) × (r ≡ s)
+pub one_content : (end cs : List ℕ) (ts us : List Token) (r s : End) → Content end cs ts r → Content end cs us s → (ts ≡ us) × (r ≡ s)
 one_content end cs ts us r s h k =
     let start : Place = record { rest = past_blanks cs; depth = 0 } in
     let same = one_end (Passes end) start ts h.0 us k.0 (one_pass end) h.1 (no_pass end h.0 r h.2) k.1 (no_pass end k.0 s k.2) in

@@ -6,5 +6,7 @@ pub mod Runs
 pub mod Refusals
 pub mod Literals
 pub mod Begins
+pub mod Raws
+pub mod Indents
 pub mod Contents
 pub mod Sources

@@ -1,12 +1,12 @@
 -- Words at the front of bytes, and places in them.
 use Rattle.std.proofs.Common.{◌≡◌, ◌≢◌, ℕ, zero, suc, ◌<◌, ◌≤◌, ◌++◌, List, [], ◌∷◌, Bool, true, false, nat_eq, Option, Some, None, length, drop, take, get_or, refl, sym, ◌∙◌, ap, arith, MatchOption, Bor}
-use Rattle.std.specs.Prelude.{if◌then◌else◌}
+use Rattle.std.specs.Prelude.{if◌then◌else◌, option_map}
 use Rattle.std.specs.Option.{option_or}
-use Rattle.std.specs.Str.Pattern.{FindsText, FindsTextPrefix, StripsPrefix, SplitsAroundMatch, LacksTextAt}
+use Rattle.std.specs.Str.Pattern.{FindsText, FindsTextPrefix, StripsPrefix, SplitsAroundMatch}
 use Rattle.std.proofs.lemmas.Bool.{eqb-true, eq-eqb}
 use Rattle.memchr.specs.Find.{IsFirstByte}
-use Rattle.tm_scanner.specs.Front.{behind, past_first, until, first_is}
-use Rattle.tm_scanner.specs.Views.{place_of}
+use Rattle.tm_scanner.specs.Front.{behind, first_of, until, first_is}
+use Rattle.tm_scanner.specs.Views.{place_of, cut_of}
 
 pub not_true : (b : Bool) → (b ≡ true → ⊥) → b ≡ false
 not_true true h = absurd (h refl)
@@ -39,21 +39,29 @@ pub strips : (text word : List ℕ) (r : Option (Bor (List ℕ))) → MatchOptio
 strips text word None h = sym (lacks text word h)
 strips text word (Some x) h = sym (ap (behind word) (h.1.1 ∙ ap (λ b. word ++ b) (sym h.2)) ∙ behind-append word x.now)
 
--- the first place where a word stands
-pub past_first-nowhere : (w cs : List ℕ) → ((i : ℕ) → i ≤ length cs → LacksTextAt w cs i) → past_first w cs ≡ None
-past_first-nowhere w [] h = lacks [] w (h 0 (omega arith))
-past_first-nowhere w (c ∷ cs) h =
-    ap (λ r. option_or r (past_first w cs)) (lacks (c ∷ cs) w (h 0 (omega arith))) ∙ past_first-nowhere w cs (λ i less. h (suc i) (omega (arith, less)))
+-- the first place where something is found
+pub first_of-at : {A : Type 0} (find : List ℕ → Option A) (cs : List ℕ) (i : ℕ) (x : A) → ((k : ℕ) → k < i → find (drop k cs) ≡ None) → i ≤ length cs → find (drop i cs) ≡ Some x → first_of find cs ≡ Some (take i cs, x)
+first_of-at {A = A} find [] zero x none fits here = ap (λ (r : Option A). option_map {U = List ℕ × A} (λ y. ([], y)) r) here
+first_of-at find [] (suc i) x none fits here = absurd (omega (arith, fits))
+first_of-at {A = A} find (c ∷ cs) zero x none fits here =
+    ap (λ (r : Option A). option_or (option_map {U = List ℕ × A} (λ y. ([], y)) r) (option_map (λ (w : List ℕ × A). (c ∷ w.0, w.1)) (first_of find cs))) here
+first_of-at {A = A} find (c ∷ cs) (suc i) x none fits here =
+    ap (λ (r : Option A). option_or (option_map {U = List ℕ × A} (λ y. ([], y)) r) (option_map (λ (w : List ℕ × A). (c ∷ w.0, w.1)) (first_of find cs))) (none 0 (omega arith))
+    ∙ ap (λ (r : Option (List ℕ × A)). option_map (λ (w : List ℕ × A). (c ∷ w.0, w.1)) r) (first_of-at find cs i x (λ k less. none (suc k) (omega (arith, less))) (omega (arith, fits)) here)
 
-past_first-at : (w cs rest : List ℕ) (i : ℕ) → ((k : ℕ) → k < i → LacksTextAt w cs k) → drop i cs ≡ w ++ rest → past_first w cs ≡ Some rest
-past_first-at w [] rest zero none here = ap (behind w) here ∙ behind-append w rest
-past_first-at w [] rest (suc i) none here = ap (behind w) here ∙ behind-append w rest
-past_first-at w (c ∷ cs) rest zero none here = ap (λ r. option_or r (past_first w cs)) (ap (behind w) here ∙ behind-append w rest)
-past_first-at w (c ∷ cs) rest (suc i) none here =
-    ap (λ r. option_or r (past_first w cs)) (lacks (c ∷ cs) w (none 0 (omega arith))) ∙ past_first-at w cs rest i (λ k less. none (suc k) (omega (arith, less))) here
+pub first_of-nowhere : {A : Type 0} (find : List ℕ → Option A) (cs : List ℕ) → ((k : ℕ) → k ≤ length cs → find (drop k cs) ≡ None) → first_of find cs ≡ None
+first_of-nowhere {A = A} find [] none = ap (λ (r : Option A). option_map {U = List ℕ × A} (λ y. ([], y)) r) (none 0 (omega arith))
+first_of-nowhere {A = A} find (c ∷ cs) none =
+    ap (λ (r : Option A). option_or (option_map {U = List ℕ × A} (λ y. ([], y)) r) (option_map (λ (w : List ℕ × A). (c ∷ w.0, w.1)) (first_of find cs))) (none 0 (omega arith))
+    ∙ ap (λ (r : Option (List ℕ × A)). option_map (λ (w : List ℕ × A). (c ∷ w.0, w.1)) r) (first_of-nowhere find cs (λ k less. none (suc k) (omega (arith, less))))
 
-pub past_first-found : (word text front back : List ℕ) → SplitsAroundMatch (FindsText word) text front back → past_first word text ≡ Some back
-past_first-found word text front back h = past_first-at word text back h.0 h.2.0 (h.2.1.split ∙ ap (λ b. word ++ b) (sym h.4))
+-- the same of a word
+pub cuts : (word text : List ℕ) (r : Option (Bor (List ℕ) × Bor (List ℕ))) → MatchOption r (FindsText word text None) (λ x. SplitsAroundMatch (FindsText word) text x.0.now x.1.now) → cut_of r ≡ first_of (behind word) text
+cuts word text None h = sym (first_of-nowhere (behind word) text (λ k less. lacks (drop k text) word (h k less)))
+cuts word text (Some x) h =
+    let here : behind word (drop h.0 text) ≡ Some x.1.now = ap (behind word) (h.2.1.split ∙ ap (λ b. word ++ b) (sym h.4)) ∙ behind-append word x.1.now in
+    let first = first_of-at (behind word) text h.0 x.1.now (λ k less. lacks (drop k text) word (h.2.0 k less)) (omega (arith, h.5, h.7)) here in
+    ap (λ (front : List ℕ). Some (front, x.1.now)) h.3 ∙ sym first
 
 -- cuts where p first holds
 pub until_none : (p : List ℕ → Bool) (cs : List ℕ) → p cs ≡ true → until p cs ≡ ([], cs)

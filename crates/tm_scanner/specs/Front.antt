@@ -1,5 +1,5 @@
 -- What stands at the front of bytes.
-use Rattle.std.specs.Prelude.{ℕ, List, [], ◌∷◌, Bool, true, nat_eq, nat_lt, ◌==◌, ◌||◌, Option, Some, None, if◌then◌else◌}
+use Rattle.std.specs.Prelude.{ℕ, List, [], ◌∷◌, Bool, true, nat_eq, nat_lt, ◌==◌, ◌||◌, Option, Some, None, option_map, if◌then◌else◌}
 use Rattle.std.specs.Option.{option_or}
 use Rattle.std.specs.Cmp.Lexicographic.{pointwise}
 
@@ -14,10 +14,11 @@ behind [] cs = Some cs
 behind (w ∷ ws) [] = None
 behind (w ∷ ws) (c ∷ cs) = if nat_eq w c then behind ws cs else None
 
--- what is left behind the first place where a word stands
-abbrev pub past_first : List ℕ → List ℕ → Option (List ℕ)
-past_first w [] = behind w []
-past_first w (c ∷ cs) = option_or (behind w (c ∷ cs)) (past_first w cs)
+-- what stands before the first place where something is found, and what is found there
+abbrev pub first_of : {A : Type 0} → (List ℕ → Option A) → List ℕ → Option (List ℕ × A)
+first_of find [] = option_map (λ x. ([], x)) (find [])
+first_of find (c ∷ cs) =
+    option_or (option_map (λ x. ([], x)) (find (c ∷ cs))) (option_map (λ r. (c ∷ r.0, r.1)) (first_of find cs))
 
 -- what stands before the first place where p holds, and what is left there
 abbrev pub until : (List ℕ → Bool) → List ℕ → List ℕ × List ℕ

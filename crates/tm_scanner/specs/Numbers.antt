@@ -1,39 +1,54 @@
 -- Whole numbers.
-use Rattle.std.specs.Prelude.{ℕ, ◌+◌, ◌*◌, ◌-◌, nat_lt, List, [], ◌∷◌, Bool, false, not, Option, Some, None, is_some, if◌then◌else◌, ◌||◌}
-use Rattle.std.specs.Char.{is_ascii_digit}
-use Rattle.std.specs.Str.{chars}
+use Rattle.std.specs.Prelude.{ℕ, ◌+◌, ◌*◌, nat_lt, List, [], ◌∷◌, Bool, false, Option, Some, None, is_some, codes, if◌then◌else◌, ◌==◌, ◌&&◌, ◌||◌}
+use Rattle.std.specs.Option.{option_or, unwrap_or}
+use Rattle.std.specs.Char.{digit_value}
 use Rattle.tm_scanner.specs.Front.{◌>>=◌, behind}
-use Rattle.tm_scanner.specs.Names.{leaves_name}
 
--- the digit at the front
-abbrev pub digit : List ℕ → Option (ℕ × List ℕ)
-digit [] = None
-digit (c ∷ cs) = if is_ascii_digit c then Some (c - 48, cs) else None
+-- the digit of a base at the front
+abbrev pub digit : ℕ → List ℕ → Option (ℕ × List ℕ)
+digit base [] = None
+digit base (c ∷ cs) = if nat_lt (digit_value c) base then Some (digit_value c, cs) else None
+
+abbrev pub starts_digits : ℕ → List ℕ → Bool
+starts_digits base cs = is_some (digit base cs)
 
 abbrev pub starts_number : List ℕ → Bool
-starts_number cs = is_some (digit cs)
+starts_number cs = starts_digits 10 cs
 
 -- the number with one more digit, up to 2 ^ 127 - 1
-abbrev pub with_digit : ℕ → ℕ → Option ℕ
-with_digit n d = if nat_lt (n * 10 + d) 170141183460469231731687303715884105728 then Some (n * 10 + d) else None
+abbrev pub with_digit : ℕ → ℕ → ℕ → Option ℕ
+with_digit base n d = if nat_lt (n * base + d) 170141183460469231731687303715884105728 then Some (n * base + d) else None
 
--- the number n with the digits at the front, and what is left behind them
-abbrev pub digits : ℕ → List ℕ → Option (ℕ × List ℕ)
-digits n [] = Some (n, [])
-digits n (c ∷ cs) = if is_ascii_digit c then with_digit n (c - 48) >>= (λ m. digits m cs) else Some (n, c ∷ cs)
+-- The number n with the digits at the front, which may have a `_` between two, and what is left behind them.
+abbrev pub digits : ℕ → ℕ → List ℕ → Option (ℕ × List ℕ)
+digits base n [] = Some (n, [])
+digits base n (c ∷ cs) =
+    if nat_lt (digit_value c) base then with_digit base n (digit_value c) >>= (λ m. digits base m cs)
+    else (if (c == 95) && starts_digits base cs then digits base n cs else Some (n, c ∷ cs))
 
--- whether a point with a digit stands first
-abbrev pub starts_fraction : Option (List ℕ) → Bool
-starts_fraction None = false
-starts_fraction (Some cs) = starts_number cs
+-- the digit at the front, or behind a `_` there
+abbrev pub next_digit : ℕ → List ℕ → Option (ℕ × List ℕ)
+next_digit base cs = option_or (digit base cs) (behind (codes "_") cs >>= digit base)
 
--- whether what stands behind digits makes them no whole number: what a name goes on with, or a fraction
-abbrev pub goes_on : List ℕ → Bool
-goes_on cs = not (leaves_name (chars cs)) || starts_fraction (behind (46 ∷ []) cs)
+-- the digits behind a prefix of a base, where one stands there
+abbrev pub based : List ℕ → ℕ → List ℕ → Option (ℕ × List ℕ)
+based prefix base cs = behind prefix cs >>= (λ rest. if starts_digits base rest then Some (base, rest) else None)
 
--- the whole number at the front
+-- the base of a number, and its digits
+abbrev pub prefixed : List ℕ → Option (ℕ × List ℕ)
+prefixed cs = option_or (based (codes "0x") 16 cs) (option_or (based (codes "0o") 8 cs) (based (codes "0b") 2 cs))
+
+abbrev pub base_of : List ℕ → ℕ × List ℕ
+base_of cs = unwrap_or (prefixed cs) (10, cs)
+
+-- whether a point or an `e` stands first, and a digit behind it
+abbrev pub starts_fraction : List ℕ → Bool
+starts_fraction [] = false
+starts_fraction (c ∷ cs) = ((c == 46) || (c == 101) || (c == 69)) && starts_number cs
+
+-- the whole number at the front: no decimal one with a fraction or an exponent
 abbrev pub number : List ℕ → Option (ℕ × List ℕ)
 number cs = do
-  first ← digit cs
-  x ← digits first.0 first.1
-  if goes_on x.1 then None else Some x
+  first ← digit (base_of cs).0 (base_of cs).1
+  x ← digits (base_of cs).0 first.0 first.1
+  if ((base_of cs).0 == 10) && starts_fraction x.1 then None else Some x

@@ -1,69 +1,52 @@
--- The pieces of a source: raw texts, comments and tags.
-use Rattle.std.specs.Prelude.{◌≡◌, ◌≢◌, ℕ, List, [], ◌∷◌, ◌++◌, Bool, true, nat_eq, Option, Some, None, option_map, drop, ◌||◌}
-use Rattle.std.specs.List.{starts_with}
+-- The pieces of a source: each a raw text and the tag behind it.
+use Rattle.std.specs.Prelude.{◌≡◌, ℕ, List, [], ◌∷◌, ◌++◌, Option, Some, None, codes, if◌then◌else◌}
+use Rattle.std.specs.Str.{chars}
 use Rattle.tm_syntax.specs.declared.token.Token.{Token}
 use Rattle.tm_syntax.specs.declared.token.Token.TheVariants as tokens
 use Rattle.tm_syntax.specs.declared.token.Sign.TheVariants as sign
 use Rattle.tm_syntax.specs.declared.token.Tag.{Tag}
 use Rattle.tm_scanner.specs.declared.syntax.Kind.{Kind}
 use Rattle.tm_scanner.specs.declared.syntax.Kind.TheVariants as kind
-use Rattle.tm_scanner.specs.Front.{◌>>=◌, behind, past_first, past_blanks, until}
-use Rattle.tm_scanner.specs.Names.{name_at, tag_of}
+use Rattle.tm_scanner.specs.declared.whitespace.Whitespace.{Whitespace}
+use Rattle.tm_scanner.specs.declared.trimming.Side.{Side}
+use Rattle.tm_scanner.specs.Front.{◌>>=◌, behind, first_of, past_blanks}
+use Rattle.tm_scanner.specs.Names.{leaves_name, name_at, tag_of}
 use Rattle.tm_scanner.specs.Syntax.{Syntax}
+use Rattle.tm_scanner.specs.Whitespace.{whitespace_at, ending, comment_end}
+use Rattle.tm_scanner.specs.Trimming.{trimmed}
+use Rattle.tm_scanner.specs.Starts.{tag_start}
 use Rattle.tm_scanner.specs.Tokens.{Content}
 
--- the delimiters of a kind
-abbrev pub start_of : Syntax → Kind → List ℕ
-start_of s kind.Block = s.block_start
-start_of s kind.Variable = s.variable_start
-start_of s kind.Comment = s.comment_start
+-- the token of a raw text; an empty one has none
+abbrev pub raw : List ℕ → List Token
+raw [] = []
+raw (c ∷ cs) = tokens.Raw (c ∷ cs) ∷ []
 
-abbrev pub end_of : Syntax → Kind → List ℕ
-end_of s kind.Block = s.block_end
-end_of s kind.Variable = s.variable_end
-end_of s kind.Comment = s.comment_end
+-- what is left behind blanks and a word with which no longer name begins
+abbrev pub past_word : List ℕ → List ℕ → Option (List ℕ)
+past_word word cs = behind word (past_blanks cs) >>= (λ rest. if leaves_name (chars rest) then Some rest else None)
 
--- the start delimiter of a kind at the front
-abbrev pub opens : Syntax → Kind → List ℕ → Option (Kind × List ℕ)
-opens s k cs = option_map (λ rest. (k, rest)) (behind (start_of s k) cs)
+-- an `endraw` tag at the front: the mark at its start, the mark at its end, and what is left
+abbrev pub endraw : Syntax → List ℕ → Option (Whitespace × (Whitespace × List ℕ))
+endraw s cs = do
+  inside ← behind s.block_start cs
+  rest ← past_word (codes "endraw") (whitespace_at inside).1
+  end ← ending s.block_end (past_blanks rest)
+  Some ((whitespace_at inside).0, end)
 
--- the second of two, where there is something
-abbrev pub second_if : Option (List ℕ) → Kind × List ℕ → Kind × List ℕ → Option (Kind × List ℕ)
-second_if None x y = Some x
-second_if (Some more) x y = Some y
+-- one side of a block tag
+abbrev pub block_side : Whitespace → Option Side
+block_side w = Some (record { kind = kind.Block; whitespace = w })
 
--- Of two start delimiters at one place the longer one, which begins with the other.
-abbrev pub longer : Syntax → Option (Kind × List ℕ) → Option (Kind × List ℕ) → Option (Kind × List ℕ)
-longer s None y = y
-longer s (Some x) None = Some x
-longer s (Some x) (Some y) = second_if (behind (start_of s x.0) (start_of s y.0)) x y
+-- Behind the word `raw`, what is left of the text up to the first `endraw` tag, and how that tag ends.
+abbrev pub raw_block : Syntax → List ℕ → Option (List ℕ × (Whitespace × List ℕ))
+raw_block s cs = do
+  opened ← ending s.block_end (past_blanks cs)
+  closed ← first_of (endraw s) opened.1
+  Some (trimmed s (block_side opened.0) (block_side closed.1.0) closed.0, closed.1.1)
 
--- the start delimiter at the front
-abbrev pub opening : Syntax → List ℕ → Option (Kind × List ℕ)
-opening s cs = longer s (longer s (opens s kind.Block cs) (opens s kind.Variable cs)) (opens s kind.Comment cs)
-
--- whether a start delimiter stands first
-abbrev pub begins : Syntax → List ℕ → Bool
-begins s cs = starts_with nat_eq cs s.block_start || starts_with nat_eq cs s.variable_start || starts_with nat_eq cs s.comment_start
-
-abbrev pub BeginsAt : Syntax → List ℕ → ℕ → Type 0
-BeginsAt s cs k = begins s (drop k cs) ≡ true
-
--- what stands before the next start delimiter
-abbrev pub raw_text : Syntax → List ℕ → List ℕ × List ℕ
-raw_text s cs = until (begins s) cs
-
-abbrev pub IsRaw : Syntax → List ℕ → List Token → List ℕ → Type 0
-IsRaw s cs ts rest = (ts ≡ tokens.Raw (raw_text s cs).0 ∷ []) × (rest ≡ (raw_text s cs).1)
-
--- A comment goes up to its first end delimiter, and is no token.
-abbrev pub IsComment : List ℕ → List ℕ → List Token → List ℕ → Type 0
-IsComment end cs ts rest = (ts ≡ []) × (past_first end cs ≡ Some rest)
-
-abbrev pub IsEmission : List ℕ → List ℕ → List Token → List ℕ → Type 0
-IsEmission end cs ts rest =
-    (inside : List Token) × Content end cs inside rest
-    × (ts ≡ tokens.Sign sign.VariableStart ∷ (inside ++ tokens.Sign sign.VariableEnd ∷ []))
+abbrev pub IsRawBlock : Syntax → List ℕ → List Token → Whitespace × List ℕ → Type 0
+IsRawBlock s cs ts end = (text : List ℕ) × (raw_block s cs ≡ Some (text, end)) × (ts ≡ raw text)
 
 -- the word of a block tag
 abbrev pub tag_word : List ℕ → Option (Tag × List ℕ)
@@ -72,21 +55,43 @@ tag_word cs = do
   tag ← tag_of name.0
   Some (tag, name.1)
 
-abbrev pub IsBlock : List ℕ → List ℕ → List Token → List ℕ → Type 0
-IsBlock end cs ts rest =
-    (word : Tag × List ℕ) × (tag_word cs ≡ Some word) × (inside : List Token) × Content end word.1 inside rest
+abbrev pub IsBlockTag : List ℕ → List ℕ → List Token → Whitespace × List ℕ → Type 0
+IsBlockTag by cs ts end =
+    (word : Tag × List ℕ) × (tag_word cs ≡ Some word) × (inside : List Token) × Content by word.1 inside end
     × (ts ≡ tokens.Tag word.0 ∷ (inside ++ tokens.Sign sign.BlockEnd ∷ []))
 
--- what stands behind the start delimiter of a kind
-abbrev pub IsTag : Syntax → Kind → List ℕ → List Token → List ℕ → Type 0
-IsTag s kind.Block cs ts rest = IsBlock s.block_end cs ts rest
-IsTag s kind.Variable cs ts rest = IsEmission s.variable_end cs ts rest
-IsTag s kind.Comment cs ts rest = IsComment s.comment_end cs ts rest
+-- A block begins with the word `raw` or is a block tag.
+abbrev pub IsBlockBehind : Syntax → Option (List ℕ) → List ℕ → List Token → Whitespace × List ℕ → Type 0
+IsBlockBehind s None cs ts end = IsBlockTag s.block_end cs ts end
+IsBlockBehind s (Some rest) cs ts end = IsRawBlock s rest ts end
 
-abbrev pub IsPieceBehind : Syntax → Option (Kind × List ℕ) → List ℕ → List Token → List ℕ → Type 0
-IsPieceBehind s None cs ts rest = IsRaw s cs ts rest
-IsPieceBehind s (Some x) cs ts rest = IsTag s x.0 x.1 ts rest
+abbrev pub IsBlock : Syntax → List ℕ → List Token → Whitespace × List ℕ → Type 0
+IsBlock s cs ts end = IsBlockBehind s (past_word (codes "raw") cs) cs ts end
 
--- the tokens of the piece at the front, and what is left behind it
-abbrev pub IsPiece : Syntax → List ℕ → List Token → List ℕ → Type 0
-IsPiece s cs ts rest = (cs ≢ []) × IsPieceBehind s (opening s cs) cs ts rest
+abbrev pub IsEmission : List ℕ → List ℕ → List Token → Whitespace × List ℕ → Type 0
+IsEmission by cs ts end =
+    (inside : List Token) × Content by cs inside end
+    × (ts ≡ tokens.Sign sign.VariableStart ∷ (inside ++ tokens.Sign sign.VariableEnd ∷ []))
+
+-- the tokens of a tag of a kind behind its start, the mark at its end, and what is left behind it
+abbrev pub IsTag : Syntax → Kind → List ℕ → List Token → Whitespace × List ℕ → Type 0
+IsTag s kind.Block cs ts end = IsBlock s cs ts end
+IsTag s kind.Variable cs ts end = IsEmission s.variable_end cs ts end
+IsTag s kind.Comment cs ts end = (ts ≡ []) × (comment_end s.comment_end cs ≡ Some end)
+
+-- A place in a source: the tag that ends there, none at the source's start, and what is left.
+pub record Place : Type 0 where
+  pub before : Option Side
+  pub rest : List ℕ
+
+-- A raw text up to the next tag, and that tag.
+pub record IsPiece (s : Syntax) (p : Place) (ts : List Token) (q : Place) : Type 0 where
+  pub text : List ℕ
+  pub start : Side
+  pub behind : List ℕ
+  pub next : first_of (tag_start s) p.rest ≡ Some (text, (start, behind))
+  pub inside : List Token
+  pub end : Whitespace × List ℕ
+  pub tag : IsTag s start.kind behind inside end
+  pub tokens : ts ≡ raw (trimmed s p.before (Some start) text) ++ inside
+  pub place : q ≡ record { before = Some (record { kind = start.kind; whitespace = end.0 }); rest = end.1 }

@@ -1,5 +1,5 @@
 -- Why nothing was made.
-use Rattle.std.specs.Prelude.{◌≡◌, ◌⊎◌, ℕ, List, [], ◌∷◌, Result, IfErr}
+use Rattle.std.specs.Prelude.{◌≡◌, ◌⊎◌, List, [], ◌∷◌, Result, IfErr}
 use Rattle.tm_values.specs.declared.error.ErrorKind.{ErrorKind}
 use Rattle.tm_values.specs.declared.error.ErrorKind.TheVariants.{OutOfMemory, SyntaxError}
 
@@ -8,5 +8,5 @@ abbrev pub Refused : List ErrorKind → Type 0 → Type 0
 Refused e none = (e ≡ OutOfMemory ∷ []) ⊎ ((e ≡ SyntaxError ∷ []) × none)
 
 -- No value with what is left behind it is P, unless memory ran out.
-abbrev pub Refuses : {T A : Type 0} → Result T (List ErrorKind) → (A → List ℕ → Type 0) → Type 0
-Refuses {A = A} r P = IfErr r (λ e. Refused e ((x : A) (rest : List ℕ) → P x rest → ⊥))
+abbrev pub Refuses : {T A B : Type 0} → Result T (List ErrorKind) → (A → B → Type 0) → Type 0
+Refuses {A = A} {B = B} r P = IfErr r (λ e. Refused e ((x : A) (left : B) → P x left → ⊥))

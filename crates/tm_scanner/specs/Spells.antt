@@ -1,9 +1,12 @@
 -- The tokens that a source spells.
-use Rattle.std.specs.Prelude.{◌≡◌, ℕ, List, [], ◌∷◌, Bool, false, if◌then◌else◌, ◌==◌, ◌&&◌}
+use Rattle.std.specs.Prelude.{◌≡◌, ℕ, List, [], ◌∷◌, ◌++◌, Bool, false, None, if◌then◌else◌, ◌==◌, ◌&&◌}
 use Rattle.tm_syntax.specs.declared.token.Token.{Token}
 use Rattle.tm_scanner.specs.Steps.{Steps, joined}
 use Rattle.tm_scanner.specs.Syntax.{Syntax}
-use Rattle.tm_scanner.specs.Pieces.{IsPiece}
+use Rattle.tm_scanner.specs.Front.{first_of}
+use Rattle.tm_scanner.specs.Trimming.{trimmed}
+use Rattle.tm_scanner.specs.Starts.{tag_start}
+use Rattle.tm_scanner.specs.Pieces.{raw, Place, IsPiece}
 
 -- `\n` or `\r\n`, and nothing behind it
 abbrev pub is_newline : List ℕ → Bool
@@ -17,7 +20,14 @@ abbrev pub without_final_newline : List ℕ → List ℕ
 without_final_newline [] = []
 without_final_newline (c ∷ cs) = if is_newline (c ∷ cs) then [] else c ∷ without_final_newline cs
 
--- The source, without its final newline, is pieces up to its end, and these are their tokens, in order.
+-- what is read of a source
+abbrev pub read_of : Syntax → List ℕ → List ℕ
+read_of s source = if s.keep_trailing_newline then source else without_final_newline source
+
+-- A source is pieces and, up to its end, a raw text behind the last; these are their tokens, in order.
 abbrev pub SpellsTokens : Syntax → List ℕ → List Token → Type 0
 SpellsTokens s source ts =
-    (pieces : List (List Token)) × Steps (IsPiece s) (without_final_newline source) pieces [] × (ts ≡ joined pieces)
+    (pieces : List (List Token)) × (last : Place)
+    × Steps (IsPiece s) (record { before = None; rest = read_of s source }) pieces last
+    × (first_of (tag_start s) last.rest ≡ None)
+    × (ts ≡ joined pieces ++ raw (trimmed s last.before None last.rest))

@@ -1,22 +1,29 @@
 -- The tokens of a tag's content.
 use Rattle.std.specs.Prelude.{◌≡◌, ℕ, zero, suc, ◌-◌, nat_lt, pos, List, [], ◌∷◌, Option, Some, None, option_map, if◌then◌else◌, codes}
-use Rattle.std.specs.Option.{option_or}
+use Rattle.std.specs.Option.{option_or, unwrap_or}
 use Rattle.tm_values.specs.Val as val
 use Rattle.tm_syntax.specs.declared.token.Token.{Token}
 use Rattle.tm_syntax.specs.declared.token.Token.TheVariants as tokens
 use Rattle.tm_syntax.specs.declared.token.Sign.{Sign}
 use Rattle.tm_syntax.specs.declared.token.Sign.TheVariants as sign
 use Rattle.tm_scanner.specs.declared.texts.Quote.{Quote}
+use Rattle.tm_scanner.specs.declared.whitespace.Whitespace.{Whitespace}
 use Rattle.tm_scanner.specs.Front.{behind, past_blanks}
+use Rattle.tm_scanner.specs.Whitespace.{ending}
 use Rattle.tm_scanner.specs.Steps.{Steps}
 use Rattle.tm_scanner.specs.Names.{name_at, reserved}
 use Rattle.tm_scanner.specs.Numbers.{number, starts_number}
 use Rattle.tm_scanner.specs.Texts.{quote_at, IsLiteral}
 
+-- The marks, the longer of two before the shorter one that it begins with.
 abbrev pub marks : List (List ℕ × Sign)
 marks =
-    (codes "(", sign.OpenRound) ∷ (codes ")", sign.CloseRound) ∷ (codes ",", sign.Comma) ∷ (codes ".", sign.Dot)
-    ∷ (codes "==", sign.Equal) ∷ []
+    (codes "**", sign.DoubleStar) ∷ (codes "*", sign.Star) ∷ (codes "//", sign.DoubleSlash) ∷ (codes "/", sign.Slash)
+    ∷ (codes "<=", sign.LessOrEqual) ∷ (codes "<", sign.Less) ∷ (codes ">=", sign.GreaterOrEqual) ∷ (codes ">", sign.Greater)
+    ∷ (codes "==", sign.Equal) ∷ (codes "!=", sign.NotEqual) ∷ (codes "+", sign.Plus) ∷ (codes "-", sign.Minus)
+    ∷ (codes "~", sign.Tilde) ∷ (codes "%", sign.Percent) ∷ (codes "(", sign.OpenRound) ∷ (codes ")", sign.CloseRound)
+    ∷ (codes "[", sign.OpenSquare) ∷ (codes "]", sign.CloseSquare) ∷ (codes "{", sign.OpenCurly) ∷ (codes "}", sign.CloseCurly)
+    ∷ (codes ",", sign.Comma) ∷ (codes ".", sign.Dot) ∷ (codes ":", sign.Colon) ∷ []
 
 -- the first mark of a table that stands at the front
 abbrev pub mark_in : List (List ℕ × Sign) → List ℕ → Option (Sign × List ℕ)
@@ -25,6 +32,10 @@ mark_in (m ∷ ms) cs = option_or (option_map (λ rest. (m.1, rest)) (behind m.0
 
 abbrev pub mark : List ℕ → Option (Sign × List ℕ)
 mark cs = mark_in marks cs
+
+-- the longer of two marks where a word stands behind the shorter one
+abbrev pub longer_mark : List ℕ → List ℕ → Sign → Sign → Sign × List ℕ
+longer_mark cs word longer shorter = unwrap_or (option_map (λ rest. (longer, rest)) (behind word cs)) (shorter, cs)
 
 abbrev pub name_or : List ℕ → Option Sign → Token
 name_or name None = tokens.Name name
@@ -49,10 +60,18 @@ IsTokenBehind (Some x) cs t rest = (v : val.Val) × IsLiteral x.0 x.1 v rest × 
 abbrev pub IsToken : List ℕ → Token → List ℕ → Type 0
 IsToken cs t rest = IsTokenBehind (quote_at cs) cs t rest
 
--- how many brackets are open behind a token; never more than 150
+-- one bracket more, up to 150
+abbrev pub deeper : ℕ → Option ℕ
+deeper depth = if nat_lt depth 150 then Some (suc depth) else None
+
+-- how many brackets are open behind a token
 abbrev pub depth_behind : Token → ℕ → Option ℕ
-depth_behind (tokens.Sign sign.OpenRound) depth = if nat_lt depth 150 then Some (suc depth) else None
+depth_behind (tokens.Sign sign.OpenRound) depth = deeper depth
+depth_behind (tokens.Sign sign.OpenSquare) depth = deeper depth
+depth_behind (tokens.Sign sign.OpenCurly) depth = deeper depth
 depth_behind (tokens.Sign sign.CloseRound) depth = Some (depth - 1)
+depth_behind (tokens.Sign sign.CloseSquare) depth = Some (depth - 1)
+depth_behind (tokens.Sign sign.CloseCurly) depth = Some (depth - 1)
 depth_behind _ depth = Some depth
 
 -- A place in a content: what is left, and how many brackets are open there.
@@ -60,21 +79,21 @@ pub record Place : Type 0 where
   pub rest : List ℕ
   pub depth : ℕ
 
--- what is left behind the end delimiter, where it stands and no bracket is open
-abbrev pub past_end : List ℕ → List ℕ → ℕ → Option (List ℕ)
-past_end end rest zero = behind end rest
-past_end end rest (suc depth) = None
+-- the end of the tag, where it stands and no bracket is open
+abbrev pub past_end : List ℕ → List ℕ → ℕ → Option (Whitespace × List ℕ)
+past_end by rest zero = ending by rest
+past_end by rest (suc depth) = None
 
 -- a token, where the content doesn't end, and the blanks behind it
-pub record Passes (end : List ℕ) (s : Place) (t : Token) (u : Place) : Type 0 where
-  pub goes_on : past_end end s.rest s.depth ≡ None
+pub record Passes (by : List ℕ) (s : Place) (t : Token) (u : Place) : Type 0 where
+  pub goes_on : past_end by s.rest s.depth ≡ None
   pub next : List ℕ
   pub token : IsToken s.rest t next
   pub depth : depth_behind t s.depth ≡ Some u.depth
   pub rest : u.rest ≡ past_blanks next
 
--- The content of a tag is these tokens, up to its end delimiter, behind which the rest is left.
-abbrev pub Content : List ℕ → List ℕ → List Token → List ℕ → Type 0
-Content end cs ts rest =
-    (at_end : Place) × Steps (Passes end) (record { rest = past_blanks cs; depth = 0 }) ts at_end
-    × (past_end end at_end.rest at_end.depth ≡ Some rest)
+-- The content of a tag is these tokens, up to its end: the mark there, and what is left behind it.
+abbrev pub Content : List ℕ → List ℕ → List Token → Whitespace × List ℕ → Type 0
+Content by cs ts end =
+    (at_end : Place) × Steps (Passes by) (record { rest = past_blanks cs; depth = 0 }) ts at_end
+    × (past_end by at_end.rest at_end.depth ≡ Some end)

@@ -24,10 +24,24 @@ step_of (Some x) = Some (x.0, x.1.now)
 abbrev pub Shortens : {A : Type 0} → Option (A × Bor (List ℕ)) → List ℕ → Type 0
 Shortens r cs = IfSome r (λ x. length x.1.now < length cs)
 
+-- three parts, of which the first and the last are texts
+abbrev pub parts_of : {A : Type 0} → Option (Bor (List ℕ) × A × Bor (List ℕ)) → Option (List ℕ × (A × List ℕ))
+parts_of None = None
+parts_of (Some x) = Some (x.0.now, (x.1, x.2.now))
+
+-- the same of a tag that ends
+abbrev pub closing_of : {A B : Type 0} → Option (A × (B × Bor (List ℕ))) → Option (A × (B × List ℕ))
+closing_of None = None
+closing_of (Some x) = Some (x.0, (x.1.0, x.1.1.now))
+
+abbrev pub closed_of : {A B : Type 0} → Option (Bor (List ℕ) × (A × (B × Bor (List ℕ)))) → Option (List ℕ × (A × (B × List ℕ)))
+closed_of None = None
+closed_of (Some x) = Some (x.0.now, (x.1.0, (x.1.1.0, x.1.1.1.now)))
+
 -- The new items are the old ones and then some that are, with what is left, P.
-abbrev pub Adds : {A E : Type 0} → Result (Bor (List ℕ)) E → List A → List A → (List A → List ℕ → Type 0) → Type 0
-Adds {A = A} r old new P = IfOk r (λ rest. (xs : List A) × P xs rest.now × (new ≡ old ++ xs))
+abbrev pub Adds : {A B E : Type 0} → Result (B × Bor (List ℕ)) E → List A → List A → (List A → B × List ℕ → Type 0) → Type 0
+Adds {A = A} r old new P = IfOk r (λ x. (xs : List A) × P xs (x.0, x.1.now) × (new ≡ old ++ xs))
 
 -- What is left is no longer than the bytes.
-abbrev pub IsNoLonger : {E : Type 0} → Result (Bor (List ℕ)) E → List ℕ → Type 0
-IsNoLonger r cs = IfOk r (λ rest. length rest.now ≤ length cs)
+abbrev pub IsNoLonger : {B E : Type 0} → Result (B × Bor (List ℕ)) E → List ℕ → Type 0
+IsNoLonger r cs = IfOk r (λ x. length x.1.now ≤ length cs)

@@ -1,7 +1,7 @@
 //! Bytes at the front of a text.
 ghost use Rattle.std.specs.Prelude.{◌≡◌, ◌+◌, ◌<◌, ◌≤◌, length, IfSome};
 ghost use Rattle.tm_scanner.specs.Front as spec;
-ghost use Rattle.tm_scanner.specs.Views.{IsFirst, Shortens, place_of, step_of};
+ghost use Rattle.tm_scanner.specs.Views.{IsFirst, Shortens, cut_of, place_of, step_of};
 
 /// What is left behind the word, where the text begins with it.
 #[inline(always)]
@@ -12,15 +12,12 @@ pub(crate) fn strip<'t>(text: &'t str, word: &str) -> Option<&'t str>
     text.strip_prefix(word)
 }
 
-/// What is left behind the first place where the word stands.
-pub(crate) fn past_first<'t>(text: &'t str, word: &str) -> Option<&'t str>
-    ensures value { place_of result ≡ spec.past_first word.now text.now }
-    ensures no_longer { IfSome result (λ rest. length rest.now ≤ length text.now) }
+/// What stands before the first place of the word, and what is left behind it.
+pub(crate) fn cut<'t>(text: &'t str, word: &str) -> Option<(&'t str, &'t str)>
+    ensures value { cut_of result ≡ spec.first_of (spec.behind word.now) text.now }
+    ensures no_longer { IfSome result (λ x. length x.1.now ≤ length text.now) }
 {
-    match text.split_once(word) {
-        Some((_, rest)) => Some(rest),
-        None => None,
-    }
+    text.split_once(word)
 }
 
 /// The first byte, where it is ASCII, and what is left behind it.

@@ -1,16 +1,25 @@
 //! From a source to its tokens.
 #![tactic(auto)]
 
+mod builder;
+mod delimiter;
 mod front;
 mod names;
 mod numbers;
 mod pieces;
+#[cfg(test)]
+mod printing;
+mod raw;
 mod source;
+mod starts;
 mod syntax;
 #[cfg(test)]
 mod tests;
 mod texts;
 mod tokens;
+mod trimming;
+mod whitespace;
 
+pub use builder::SyntaxConfigBuilder;
 pub use source::{one_list, scan};
 pub use syntax::SyntaxConfig;

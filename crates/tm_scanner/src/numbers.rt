@@ -4,36 +4,33 @@ ghost use Rattle.tm_scanner.specs.Numbers as spec;
 ghost use Rattle.tm_scanner.specs.Views.{Shortens, step_of};
 
 use crate::front::{ascii, strip};
-use crate::names::leaves_name;
 
-/// The digit at the front, and what is left behind it.
-fn digit_at(text: &str) -> Option<(u128, &str)>
-    ensures value { step_of result ≡ spec.digit text.now }
-    ensures small { IfSome result (λ x. x.0 < 10) }
+/// The digit of a base at the front, and what is left behind it.
+fn digit_at(base: u32, text: &str) -> Option<(u128, &str)>
+    requires low { 2 ≤ base }
+    requires high { base ≤ 16 }
+    ensures value { step_of result ≡ spec.digit base text.now }
+    ensures small { IfSome result (λ x. x.0 < 16) }
     ensures shorter { Shortens result text.now }
 {
     let (byte, rest) = ascii(text)?;
-    if byte.is_ascii_digit() {
-        Some((u128::from(byte - b'0'), rest))
-    } else {
-        None
-    }
+    let digit = char::from(byte).to_digit(base)?;
+    Some((u128::from(digit), rest))
 }
 
-/// Whether a digit stands first.
+/// Whether a decimal digit stands first.
 pub(crate) fn starts_number(text: &str) -> bool
     ensures { result ≡ spec.starts_number text.now }
 {
-    digit_at(text).is_some()
+    digit_at(10, text).is_some()
 }
 
 /// The number with one more digit, up to the largest.
-fn with_digit(number: u128, digit: u128) -> Option<u128>
-    requires { digit < 10 }
-    ensures value { result ≡ spec.with_digit number digit }
+fn with_digit(base: u32, number: u128, digit: u128) -> Option<u128>
+    ensures value { result ≡ spec.with_digit base number digit }
     ensures small { IfSome result (λ n. n < 2 ^ 127) }
 {
-    let larger = number.checked_mul(10)?.checked_add(digit)?;
+    let larger = number.checked_mul(u128::from(base))?.checked_add(digit)?;
     if larger < 170141183460469231731687303715884105728 {
         Some(larger)
     } else {
@@ -41,31 +38,76 @@ fn with_digit(number: u128, digit: u128) -> Option<u128>
     }
 }
 
+/// The digit at the front, or behind a `_` there, and what is left behind it.
+fn next_digit(base: u32, text: &str) -> Option<(u128, &str)>
+    requires low { 2 ≤ base }
+    requires high { base ≤ 16 }
+    ensures value { step_of result ≡ spec.next_digit base text.now }
+    ensures shorter { Shortens result text.now }
+{
+    match digit_at(base, text) {
+        Some(digit) => Some(digit),
+        None => digit_at(base, strip(text, "_")?),
+    }
+}
+
 /// The number with the digits at the front, up to the largest, and what is left behind them.
-fn digits(first: u128, text: &str) -> Option<(u128, &str)>
-    requires { first < 2 ^ 127 }
-    ensures value { step_of result ≡ spec.digits first text.now }
+fn digits(base: u32, first: u128, text: &str) -> Option<(u128, &str)>
+    requires low { 2 ≤ base }
+    requires high { base ≤ 16 }
+    requires small { first < 2 ^ 127 }
+    ensures value { step_of result ≡ spec.digits base first text.now }
     ensures small { IfSome result (λ x. x.0 < 2 ^ 127) }
     ensures no_longer { IfSome result (λ x. length x.1.now ≤ length text.now) }
 {
     let mut number = first;
     let mut rest = text;
-    while let Some((digit, behind)) = digit_at(rest) {
-        number = with_digit(number, digit)?;
+    while let Some((digit, behind)) = next_digit(base, rest) {
+        number = with_digit(base, number, digit)?;
         rest = behind;
     }
     Some((number, rest))
 }
 
-/// Whether the digits before the text are no whole number: a name or a fraction goes on there.
-fn goes_on(text: &str) -> bool
-    ensures { result ≡ spec.goes_on text.now }
+/// The digits behind a prefix of a base, where one stands there.
+fn based<'t>(prefix: &str, base: u32, text: &'t str) -> Option<(u32, &'t str)>
+    requires low { 2 ≤ base }
+    requires high { base ≤ 16 }
+    ensures value { step_of result ≡ spec.based prefix.now base text.now }
+    ensures low { IfSome result (λ x. 2 ≤ x.0) }
+    ensures high { IfSome result (λ x. x.0 ≤ 16) }
+    ensures no_longer { IfSome result (λ x. length x.1.now ≤ length text.now) }
 {
-    if !leaves_name(text) {
-        return true;
+    let rest = strip(text, prefix)?;
+    let _ = digit_at(base, rest)?;
+    Some((base, rest))
+}
+
+/// The base of a number, and its digits.
+fn base_of(text: &str) -> (u32, &str)
+    ensures value { (result.0, result.1.now) ≡ spec.base_of text.now }
+    ensures low { 2 ≤ result.0 }
+    ensures high { result.0 ≤ 16 }
+    ensures no_longer { length result.1.now ≤ length text.now }
+{
+    if let Some(hexadecimal) = based("0x", 16, text) {
+        return hexadecimal;
     }
-    match strip(text, ".") {
-        Some(fraction) => starts_number(fraction),
+    if let Some(octal) = based("0o", 8, text) {
+        return octal;
+    }
+    match based("0b", 2, text) {
+        Some(binary) => binary,
+        None => (10, text),
+    }
+}
+
+/// Whether a point or an `e` stands first, and a digit behind it.
+fn starts_fraction(text: &str) -> bool
+    ensures { result ≡ spec.starts_fraction text.now }
+{
+    match ascii(text) {
+        Some((byte, rest)) => matches!(byte, b'.' | b'e' | b'E') && starts_number(rest),
         None => false,
     }
 }
@@ -76,9 +118,10 @@ pub(crate) fn number(text: &str) -> Option<(u128, &str)>
     ensures small { IfSome result (λ x. x.0 < 2 ^ 127) }
     ensures shorter { Shortens result text.now }
 {
-    let (first, rest) = digit_at(text)?;
-    let (number, rest) = digits(first, rest)?;
-    if goes_on(rest) {
+    let (base, text) = base_of(text);
+    let (first, rest) = digit_at(base, text)?;
+    let (number, rest) = digits(base, first, rest)?;
+    if base == 10 && starts_fraction(rest) {
         None
     } else {
         Some((number, rest))

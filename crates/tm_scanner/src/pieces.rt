@@ -1,159 +1,51 @@
-//! The pieces of a source: raw texts, comments and tags.
-ghost use Rattle.std.specs.Prelude.{◌≡◌, ◌≢◌, ◌<◌, ◌≤◌, ℕ, List, [], ◌∷◌, false, length, IfOk, IfErr, IfSome};
-ghost use Rattle.std.specs.Str.{IsCharBoundary};
-ghost use Rattle.memchr.specs.Find.{IsFirst};
+//! The pieces of a source: each a raw text and the tag behind it.
+ghost use Rattle.std.specs.Prelude.{◌≡◌, ◌<◌, ◌≤◌, ◌++◌, ℕ, List, [], ◌∷◌, length, IfOk, IfErr, IfSome};
 ghost use Rattle.tm_scanner.specs.Pieces as spec;
 ghost use Rattle.tm_scanner.specs.Refused.{Refuses};
-ghost use Rattle.tm_scanner.specs.Syntax.{IsUsable};
-ghost use Rattle.tm_scanner.specs.Views.{Adds, IsNoLonger, Shortens, step_of};
+ghost use Rattle.tm_scanner.specs.Syntax.{HasAll};
+ghost use Rattle.tm_scanner.specs.Views.{Adds, IsNoLonger, Shortens, step_of, place_of};
 ghost use Rattle.tm_values.specs.declared.error.ErrorKind.TheVariants.{OutOfMemory};
 
-use crate::front::{past_blanks, past_first, strip};
+use crate::front::past_blanks;
 use crate::names::{name_at, tag_of};
+use crate::raw::{past_word, raw_block};
 use crate::syntax::{Kind, SyntaxConfig};
 use crate::tokens::content;
-use memchr::memchr3;
+use crate::whitespace::{Whitespace, comment_end};
 use std::alloc::Global;
 use tm_syntax::{Name, Sign, Tag, Token};
 use tm_values::{Error, ErrorKind};
 
-/// The start delimiter of a kind, where the text begins with it, and what is left behind it.
-#[inline(always)]
-fn opens<'s>(syntax: &SyntaxConfig, kind: Kind, text: &'s str) -> Option<(Kind, &'s str)>
-    requires { IsUsable syntax.now }
-    ensures value { step_of result ≡ spec.opens syntax.now kind text.now }
-    ensures shorter { Shortens result text.now }
-{
-    let rest = strip(text, syntax.start(kind))?;
-    Some((kind, rest))
-}
-
-/// Of two start delimiters at one place the longer one.
-#[inline(always)]
-fn longer<'s>(
-    syntax: &SyntaxConfig,
-    one: Option<(Kind, &'s str)>,
-    other: Option<(Kind, &'s str)>,
-) -> Option<(Kind, &'s str)>
-    ensures value { step_of result
-        ≡ spec.longer syntax.now (step_of one.entry) (step_of other.entry) }
-    ensures shorter { (cs : List ℕ) →
-        Shortens one.entry cs → Shortens other.entry cs → Shortens result cs }
-{
-    match (one, other) {
-        (None, other) => other,
-        (one, None) => one,
-        (Some(one), Some(other)) => {
-            if strip(syntax.start(other.0), syntax.start(one.0)).is_some() {
-                Some(other)
-            } else {
-                Some(one)
-            }
-        }
-    }
-}
-
-/// The start delimiter at the front, and what is left behind it.
-#[inline(always)]
-fn opening<'s>(syntax: &SyntaxConfig, text: &'s str) -> Option<(Kind, &'s str)>
-    requires { IsUsable syntax.now }
-    ensures value { step_of result ≡ spec.opening syntax.now text.now }
-    ensures shorter { Shortens result text.now }
-{
-    let block = opens(syntax, Kind::Block, text);
-    let variable = opens(syntax, Kind::Variable, text);
-    let comment = opens(syntax, Kind::Comment, text);
-    longer(syntax, longer(syntax, block, variable), comment)
-}
-
-/// Whether a start delimiter stands first.
-fn begins(syntax: &SyntaxConfig, bytes: &[u8]) -> bool
-    ensures { result ≡ spec.begins syntax.now bytes.now }
-{
-    bytes.starts_with(syntax.start(Kind::Block).as_bytes())
-        || bytes.starts_with(syntax.start(Kind::Variable).as_bytes())
-        || bytes.starts_with(syntax.start(Kind::Comment).as_bytes())
-}
-
-/// The first place at which a start delimiter stands.
-fn next_start(syntax: &SyntaxConfig, bytes: &[u8]) -> Option<usize>
-    requires usable { IsUsable syntax.now }
-    ensures first { IsFirst (spec.BeginsAt syntax.now bytes.now) 0 (length bytes.now) result }
-    ensures boundary { IfSome result (λ k. IsCharBoundary bytes.now k) }
-{
-    let block = syntax.start(Kind::Block).as_bytes()[0];
-    let variable = syntax.start(Kind::Variable).as_bytes()[0];
-    let comment = syntax.start(Kind::Comment).as_bytes()[0];
-    let mut from = 0;
-    while let Some(at) = memchr3(block, variable, comment, &bytes[from..]) {
-        let place = from + at;
-        if begins(syntax, &bytes[place..]) {
-            return Some(place);
-        }
-        from = place + 1;
-    }
-    None
-}
-
-/// The text before the next start delimiter, and what is left there.
-fn raw_text<'s>(syntax: &SyntaxConfig, text: &'s str) -> (&'s str, &'s str)
-    requires usable { IsUsable syntax.now }
-    ensures { (result.0.now, result.1.now) ≡ spec.raw_text syntax.now text.now }
-{
-    match next_start(syntax, text.as_bytes()) {
-        Some(place) => text.split_at(place),
-        None => (text, ""),
-    }
-}
-
-/// Adds the raw text at the front; what is left behind it. OutOfMemory.
-fn raw<'s>(
-    alloc: Global,
-    syntax: &SyntaxConfig,
-    text: &'s str,
-    tokens: &mut Vec<Token>,
-) -> Result<&'s str, Error>
-    requires usable { IsUsable syntax.now }
-    requires some { text.now ≢ [] }
-    requires none { spec.begins syntax.now text.now ≡ false }
-    ensures found { Adds result tokens.old.items tokens.new.items (spec.IsRaw syntax.now text.now) }
-    ensures shorter { IfOk result (λ rest. length rest.now < length text.now) }
+/// Adds the token of a raw text, where it isn't empty. OutOfMemory.
+pub(crate) fn raw(alloc: Global, text: &str, tokens: &mut Vec<Token>) -> Result<(), Error>
+    ensures added { IfOk result (λ _. tokens.new.items ≡ tokens.old.items ++ spec.raw text.now) }
     ensures refused { IfErr result (λ e. e ≡ OutOfMemory ∷ []) }
 {
-    let (text, rest) = raw_text(syntax, text);
-    tokens.push(Token::Raw(Name::new(alloc, text)?))?;
-    Ok(rest)
-}
-
-/// What is left behind a comment; SyntaxError where it has no end.
-fn comment<'s>(end: &str, text: &'s str, tokens: &mut Vec<Token>) -> Result<&'s str, Error>
-    ensures found { Adds result tokens.old.items tokens.new.items (spec.IsComment end.now text.now) }
-    ensures no_longer { IsNoLonger result text.now }
-    ensures refused { Refuses result (spec.IsComment end.now text.now) }
-{
-    match past_first(text, end) {
-        Some(rest) => Ok(rest),
-        None => Err(Error::from(ErrorKind::SyntaxError)),
+    if text.is_empty() {
+        return Ok(());
     }
+    tokens.push(Token::Raw(Name::new(alloc, text)?))?;
+    Ok(())
 }
 
-/// Adds the tokens of an emission behind its start delimiter; what is left behind it.
+/// Adds the tokens of an emission behind its start delimiter; its end.
 ///
 /// SyntaxError where it has something that is no token, or no end; OutOfMemory.
 fn emission<'s>(
     alloc: Global,
-    end: &str,
+    by: &str,
     text: &'s str,
     tokens: &mut Vec<Token>,
-) -> Result<&'s str, Error>
-    ensures found { Adds result tokens.old.items tokens.new.items (spec.IsEmission end.now text.now) }
+) -> Result<(Whitespace, &'s str), Error>
+    ensures found { Adds result tokens.old.items tokens.new.items
+        (spec.IsEmission by.now text.now) }
     ensures no_longer { IsNoLonger result text.now }
-    ensures refused { Refuses result (spec.IsEmission end.now text.now) }
+    ensures refused { Refuses result (spec.IsEmission by.now text.now) }
 {
     tokens.push(Token::Sign(Sign::VariableStart))?;
-    let rest = content(alloc, end, text, tokens)?;
+    let end = content(alloc, by, text, tokens)?;
     tokens.push(Token::Sign(Sign::VariableEnd))?;
-    Ok(rest)
+    Ok(end)
 }
 
 /// The word of a block tag, and what is left behind it.
@@ -165,50 +57,95 @@ fn tag_word(text: &str) -> Option<(Tag, &str)>
     Some((tag_of(name)?, rest))
 }
 
-/// Adds the tokens of a block tag behind its start delimiter; what is left behind it.
+/// Adds the tokens of a block tag behind its start delimiter; its end.
 ///
 /// SyntaxError where no word of a tag comes first, where something is no token, or where it has
 /// no end; OutOfMemory.
-fn block<'s>(
+fn block_tag<'s>(
     alloc: Global,
-    end: &str,
+    by: &str,
     text: &'s str,
     tokens: &mut Vec<Token>,
-) -> Result<&'s str, Error>
-    ensures found { Adds result tokens.old.items tokens.new.items (spec.IsBlock end.now text.now) }
+) -> Result<(Whitespace, &'s str), Error>
+    ensures found { Adds result tokens.old.items tokens.new.items
+        (spec.IsBlockTag by.now text.now) }
     ensures no_longer { IsNoLonger result text.now }
-    ensures refused { Refuses result (spec.IsBlock end.now text.now) }
+    ensures refused { Refuses result (spec.IsBlockTag by.now text.now) }
 {
     let Some((tag, rest)) = tag_word(text) else {
         return Err(Error::from(ErrorKind::SyntaxError));
     };
     tokens.push(Token::Tag(tag))?;
-    let rest = content(alloc, end, rest, tokens)?;
+    let end = content(alloc, by, rest, tokens)?;
     tokens.push(Token::Sign(Sign::BlockEnd))?;
-    Ok(rest)
+    Ok(end)
 }
 
-/// Adds the tokens of the piece at the front; what is left behind it.
+/// Adds the text of a raw block behind its first word; its end.
 ///
-/// SyntaxError where no piece stands there, OutOfMemory.
-pub(crate) fn piece<'s>(
+/// SyntaxError where its first tag or its `endraw` tag is none, OutOfMemory.
+fn raw_text<'s>(
     alloc: Global,
     syntax: &SyntaxConfig,
     text: &'s str,
     tokens: &mut Vec<Token>,
-) -> Result<&'s str, Error>
-    requires usable { IsUsable syntax.now }
-    requires some { text.now ≢ [] }
-    ensures found { Adds result tokens.old.items tokens.new.items (spec.IsPiece syntax.now text.now) }
-    ensures shorter { IfOk result (λ rest. length rest.now < length text.now) }
-    ensures refused { Refuses result (spec.IsPiece syntax.now text.now) }
+) -> Result<(Whitespace, &'s str), Error>
+    requires usable { HasAll syntax.now }
+    ensures found { Adds result tokens.old.items tokens.new.items
+        (spec.IsRawBlock syntax.now text.now) }
+    ensures no_longer { IsNoLonger result text.now }
+    ensures refused { Refuses result (spec.IsRawBlock syntax.now text.now) }
 {
-    match opening(syntax, text) {
-        None => raw(alloc, syntax, text, tokens),
-        Some((Kind::Block, behind)) => block(alloc, syntax.end(Kind::Block), behind, tokens),
-        Some((Kind::Variable, behind)) => {
-            emission(alloc, syntax.end(Kind::Variable), behind, tokens)
-        }
-        Some((Kind::Comment, behind)) => comment(syntax.end(Kind::Comment), behind, tokens),
+    let Some((inside, whitespace, rest)) = raw_block(syntax, text) else {
+        return Err(Error::from(ErrorKind::SyntaxError));
+    };
+    raw(alloc, inside, tokens)?;
+    Ok((whitespace, rest))
+}
+
+/// Adds the tokens of a raw block or a block tag behind its start delimiter; its end.
+///
+/// SyntaxError where it is none, OutOfMemory.
+fn block<'s>(
+    alloc: Global,
+    syntax: &SyntaxConfig,
+    text: &'s str,
+    tokens: &mut Vec<Token>,
+) -> Result<(Whitespace, &'s str), Error>
+    requires usable { HasAll syntax.now }
+    ensures found { Adds result tokens.old.items tokens.new.items
+        (spec.IsBlock syntax.now text.now) }
+    ensures no_longer { IsNoLonger result text.now }
+    ensures refused { Refuses result (spec.IsBlock syntax.now text.now) }
+{
+    match past_word("raw", text) {
+        Some(rest) => raw_text(alloc, syntax, rest, tokens),
+        None => block_tag(alloc, syntax.end(Kind::Block), text, tokens),
+    }
+}
+
+/// Adds the tokens of a tag behind its start; its end.
+///
+/// SyntaxError where no such tag stands there, OutOfMemory.
+pub(crate) fn tag<'s>(
+    alloc: Global,
+    syntax: &SyntaxConfig,
+    kind: Kind,
+    text: &'s str,
+    tokens: &mut Vec<Token>,
+) -> Result<(Whitespace, &'s str), Error>
+    requires usable { HasAll syntax.now }
+    ensures found { Adds result tokens.old.items tokens.new.items
+        (spec.IsTag syntax.now kind text.now) }
+    ensures no_longer { IsNoLonger result text.now }
+    ensures refused { Refuses result (spec.IsTag syntax.now kind text.now) }
+{
+    match kind {
+        Kind::Block => block(alloc, syntax, text, tokens),
+        Kind::Variable => emission(alloc, syntax.end(Kind::Variable), text, tokens),
+        Kind::Comment => match comment_end(syntax.end(Kind::Comment), text) {
+            Some(end) => Ok(end),
+            None => Err(Error::from(ErrorKind::SyntaxError)),
+        },
     }
 }

@@ -5,8 +5,10 @@ ghost use Rattle.tm_scanner.specs.Spells as spec;
 ghost use Rattle.tm_scanner.specs.Syntax.{Syntax};
 ghost use Rattle.tm_syntax.specs.declared.token.Token as declared;
 
-use crate::pieces::piece;
+use crate::pieces::{raw, tag};
+use crate::starts::next_tag;
 use crate::syntax::SyntaxConfig;
+use crate::trimming::{Side, trimmed};
 use std::alloc::Global;
 use tm_syntax::Token;
 use tm_values::Error;
@@ -24,6 +26,17 @@ fn without_final_newline(source: &str) -> &str
     }
 }
 
+/// What is read of a source.
+fn read_of<'s>(syntax: &SyntaxConfig, source: &'s str) -> &'s str
+    ensures { result.now ≡ spec.read_of syntax.now source.now }
+{
+    if syntax.keeps_newline() {
+        source
+    } else {
+        without_final_newline(source)
+    }
+}
+
 /// The tokens that a source spells; SyntaxError where it spells none, OutOfMemory.
 pub fn scan(alloc: Global, syntax: &SyntaxConfig, source: &str) -> Result<Vec<Token>, Error>
     ensures found { IfOk result (λ tokens. spec.SpellsTokens syntax.now source.now tokens.items) }
@@ -32,10 +45,22 @@ pub fn scan(alloc: Global, syntax: &SyntaxConfig, source: &str) -> Result<Vec<To
 {
     syntax.note_usable();
     let mut tokens = Vec::new(alloc);
-    let mut rest = without_final_newline(source);
-    while !rest.is_empty() {
-        rest = piece(alloc, syntax, rest, &mut tokens)?;
+    let mut before = None;
+    let mut rest = read_of(syntax, source);
+    while let Some((text, start, behind)) = next_tag(syntax, rest) {
+        raw(
+            alloc,
+            trimmed(syntax, before, Some(start), text),
+            &mut tokens,
+        )?;
+        let (whitespace, left) = tag(alloc, syntax, start.kind, behind, &mut tokens)?;
+        before = Some(Side {
+            kind: start.kind,
+            whitespace,
+        });
+        rest = left;
     }
+    raw(alloc, trimmed(syntax, before, None, rest), &mut tokens)?;
     Ok(tokens)
 }
 

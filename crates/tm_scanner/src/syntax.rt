@@ -1,8 +1,10 @@
-//! Delimiters.
-ghost use Rattle.std.specs.Prelude.{◌≡◌};
-ghost use Rattle.tm_scanner.specs.Pieces as pieces;
-ghost use Rattle.tm_scanner.specs.Syntax.{IsUsable, default_syntax};
+//! Delimiters and flags of templates.
+ghost use Rattle.std.specs.Prelude.{◌≡◌, Decides};
+ghost use Rattle.tm_scanner.specs.Starts as starts;
+ghost use Rattle.tm_scanner.specs.Syntax.{HasAll, StartsDiffer, IsUsable, default_syntax};
 
+use crate::builder::SyntaxConfigBuilder;
+use crate::delimiter::Delimiter;
 use std::marker::Model;
 
 /// What a tag is, by its delimiters.
@@ -13,15 +15,91 @@ pub(crate) enum Kind {
     Comment,
 }
 
-/// The delimiters of templates. A contract sees each as its bytes.
+/// Delimiters and flags, usable or not.
+#[derive(Drop)]
+pub(crate) struct Parts {
+    pub(crate) block_start: Delimiter,
+    pub(crate) block_end: Delimiter,
+    pub(crate) variable_start: Delimiter,
+    pub(crate) variable_end: Delimiter,
+    pub(crate) comment_start: Delimiter,
+    pub(crate) comment_end: Delimiter,
+    pub(crate) trim_blocks: bool,
+    pub(crate) lstrip_blocks: bool,
+    pub(crate) keep_trailing_newline: bool,
+}
+
+impl Model for Parts {
+    ghost use Rattle.tm_scanner.specs.Syntax.{Syntax};
+
+    ghost Value = { Syntax };
+
+    ghost view = { λ a. record {
+      block_start = a.block_start;
+      block_end = a.block_end;
+      variable_start = a.variable_start;
+      variable_end = a.variable_end;
+      comment_start = a.comment_start;
+      comment_end = a.comment_end;
+      trim_blocks = a.trim_blocks;
+      lstrip_blocks = a.lstrip_blocks;
+      keep_trailing_newline = a.keep_trailing_newline;
+    } };
+}
+
+impl Parts {
+    /// `{% %}`, `{{ }}` and `{# #}`, no flag set.
+    pub(crate) fn usual() -> Parts
+        ensures { result ≡ default_syntax }
+    {
+        Parts {
+            block_start: Delimiter::literal("{%"),
+            block_end: Delimiter::literal("%}"),
+            variable_start: Delimiter::literal("{{"),
+            variable_end: Delimiter::literal("}}"),
+            comment_start: Delimiter::literal("{#"),
+            comment_end: Delimiter::literal("#}"),
+            trim_blocks: false,
+            lstrip_blocks: false,
+            keep_trailing_newline: false,
+        }
+    }
+
+    /// Whether no delimiter is empty.
+    fn has_all(&self) -> bool
+        ensures { Decides result (HasAll self.now) }
+    {
+        !self.block_start.as_str().is_empty()
+            && !self.block_end.as_str().is_empty()
+            && !self.variable_start.as_str().is_empty()
+            && !self.variable_end.as_str().is_empty()
+            && !self.comment_start.as_str().is_empty()
+            && !self.comment_end.as_str().is_empty()
+    }
+
+    /// Whether no two starts are equal.
+    fn starts_differ(&self) -> bool
+        ensures { Decides result (StartsDiffer self.now) }
+    {
+        let block = self.block_start.as_str();
+        let variable = self.variable_start.as_str();
+        let comment = self.comment_start.as_str();
+        block != variable && block != comment && variable != comment
+    }
+
+    /// Whether tags can be told from one another.
+    pub(crate) fn is_usable(&self) -> bool
+        ensures { Decides result (IsUsable self.now) }
+    {
+        self.has_all() && self.starts_differ()
+    }
+}
+
+/// The delimiters of templates, and how newlines and indents beside them are treated. A contract
+/// sees each delimiter as its bytes.
 #[derive(Drop)]
 pub struct SyntaxConfig {
-    block_start: &'static str,
-    block_end: &'static str,
-    variable_start: &'static str,
-    variable_end: &'static str,
-    comment_start: &'static str,
-    comment_end: &'static str,
+    pub(crate) parts: Parts,
 }
 
 impl Model for SyntaxConfig {
@@ -29,54 +107,78 @@ impl Model for SyntaxConfig {
 
     ghost Value = { Syntax };
 
-    ghost view = { λ a. record { block_start = a.block_start.now; block_end = a.block_end.now; variable_start = a.variable_start.now; variable_end = a.variable_end.now; comment_start = a.comment_start.now; comment_end = a.comment_end.now } };
+    ghost view = { λ a. a.parts };
 
-    ghost invariant = { λ a. IsUsable (record { block_start = a.block_start.now; block_end = a.block_end.now; variable_start = a.variable_start.now; variable_end = a.variable_end.now; comment_start = a.comment_start.now; comment_end = a.comment_end.now }) };
+    ghost invariant = { λ a. IsUsable a.parts };
 }
 
 impl Default for SyntaxConfig {
-    /// `{% %}`, `{{ }}` and `{# #}`.
+    /// `{% %}`, `{{ }}` and `{# #}`, no flag set.
     fn default() -> SyntaxConfig
         ensures { result ≡ default_syntax }
     {
         SyntaxConfig {
-            block_start: "{%",
-            block_end: "%}",
-            variable_start: "{{",
-            variable_end: "}}",
-            comment_start: "{#",
-            comment_end: "#}",
+            parts: Parts::usual(),
         }
     }
 }
 
 impl SyntaxConfig {
+    /// A builder, which begins with the delimiters that are usual.
+    pub fn builder() -> SyntaxConfigBuilder
+        ensures { result ≡ default_syntax }
+    {
+        SyntaxConfigBuilder::new()
+    }
+
     /// Tells a proof that no delimiter is empty; when it runs it does nothing.
     pub(crate) fn note_usable(&self)
-        ensures { IsUsable self.now }
+        ensures { HasAll self.now }
     {
-        let _ = &self.block_start;
+        let _ = &self.parts;
     }
 
     /// The delimiter that begins a tag of the kind.
-    pub(crate) fn start(&self, kind: Kind) -> &'static str
-        ensures { result.now ≡ pieces.start_of self.now kind }
+    #[inline(always)]
+    pub(crate) fn start(&self, kind: Kind) -> &str
+        ensures { result.now ≡ starts.start_of self.now kind }
     {
         match kind {
-            Kind::Block => self.block_start,
-            Kind::Variable => self.variable_start,
-            Kind::Comment => self.comment_start,
+            Kind::Block => self.parts.block_start.as_str(),
+            Kind::Variable => self.parts.variable_start.as_str(),
+            Kind::Comment => self.parts.comment_start.as_str(),
         }
     }
 
     /// The delimiter that ends a tag of the kind.
-    pub(crate) fn end(&self, kind: Kind) -> &'static str
-        ensures { result.now ≡ pieces.end_of self.now kind }
+    pub(crate) fn end(&self, kind: Kind) -> &str
+        ensures { result.now ≡ starts.end_of self.now kind }
     {
         match kind {
-            Kind::Block => self.block_end,
-            Kind::Variable => self.variable_end,
-            Kind::Comment => self.comment_end,
+            Kind::Block => self.parts.block_end.as_str(),
+            Kind::Variable => self.parts.variable_end.as_str(),
+            Kind::Comment => self.parts.comment_end.as_str(),
         }
+    }
+
+    /// Whether one newline behind a block tag or a comment is removed.
+    pub(crate) fn trims_blocks(&self) -> bool
+        ensures { result ≡ self.now.trim_blocks }
+    {
+        self.parts.trim_blocks
+    }
+
+    /// Whether the indent before a block tag or a comment is removed.
+    pub(crate) fn strips_blocks(&self) -> bool
+        ensures { result ≡ self.now.lstrip_blocks }
+    {
+        self.parts.lstrip_blocks
+    }
+
+    /// Whether a source's final newline stays.
+    pub(crate) fn keeps_newline(&self) -> bool
+        ensures { result ≡ self.now.keep_trailing_newline }
+    {
+        self.parts.keep_trailing_newline
     }
 }

@@ -8,12 +8,25 @@ use crate::front::{ascii, past_blanks, strip};
 use crate::names::{name_at, reserved};
 use crate::numbers::{number, starts_number};
 use crate::texts::{literal, quote_at};
+use crate::whitespace::{Whitespace, ending};
 use std::alloc::Global;
 use tm_syntax::{Name, Sign, Token};
 use tm_values::{Error, ErrorKind, Value};
 
 /// How many brackets may be open at once.
 const DEEPEST: usize = 150;
+
+/// The longer mark where the word stands behind the shorter one, and what is left behind it.
+fn longer<'t>(text: &'t str, word: &str, longer: Sign, shorter: Sign) -> (Sign, &'t str)
+    ensures value { (result.0, result.1.now)
+        ≡ spec.longer_mark text.now word.now longer shorter }
+    ensures no_longer { length result.1.now ≤ length text.now }
+{
+    match strip(text, word) {
+        Some(rest) => (longer, rest),
+        None => (shorter, text),
+    }
+}
 
 /// The mark at the front, and what is left behind it.
 fn mark(text: &str) -> Option<(Sign, &str)>
@@ -24,9 +37,23 @@ fn mark(text: &str) -> Option<(Sign, &str)>
     match byte {
         b'(' => Some((Sign::OpenRound, rest)),
         b')' => Some((Sign::CloseRound, rest)),
+        b'[' => Some((Sign::OpenSquare, rest)),
+        b']' => Some((Sign::CloseSquare, rest)),
+        b'{' => Some((Sign::OpenCurly, rest)),
+        b'}' => Some((Sign::CloseCurly, rest)),
         b',' => Some((Sign::Comma, rest)),
         b'.' => Some((Sign::Dot, rest)),
+        b':' => Some((Sign::Colon, rest)),
+        b'+' => Some((Sign::Plus, rest)),
+        b'-' => Some((Sign::Minus, rest)),
+        b'~' => Some((Sign::Tilde, rest)),
+        b'%' => Some((Sign::Percent, rest)),
         b'=' => Some((Sign::Equal, strip(rest, "=")?)),
+        b'!' => Some((Sign::NotEqual, strip(rest, "=")?)),
+        b'<' => Some(longer(rest, "=", Sign::LessOrEqual, Sign::Less)),
+        b'>' => Some(longer(rest, "=", Sign::GreaterOrEqual, Sign::Greater)),
+        b'*' => Some(longer(rest, "*", Sign::DoubleStar, Sign::Star)),
+        b'/' => Some(longer(rest, "/", Sign::DoubleSlash, Sign::Slash)),
         _ => None,
     }
 }
@@ -90,44 +117,46 @@ fn depth_behind(token: &Token, depth: usize) -> Option<usize>
     ensures { result ≡ spec.depth_behind token.now depth }
 {
     match token {
-        Token::Sign(Sign::OpenRound) => {
+        Token::Sign(Sign::OpenRound | Sign::OpenSquare | Sign::OpenCurly) => {
             if depth < DEEPEST {
                 Some(depth + 1)
             } else {
                 None
             }
         }
-        Token::Sign(Sign::CloseRound) => Some(depth.saturating_sub(1)),
+        Token::Sign(Sign::CloseRound | Sign::CloseSquare | Sign::CloseCurly) => {
+            Some(depth.saturating_sub(1))
+        }
         _ => Some(depth),
     }
 }
 
-/// What is left behind the end delimiter, where it stands and no bracket is open.
-fn past_end<'t>(end: &str, depth: usize, rest: &'t str) -> Option<&'t str>
-    ensures value { place_of result ≡ spec.past_end end.now rest.now depth }
-    ensures no_longer { IfSome result (λ behind. length behind.now ≤ length rest.now) }
+/// The end of the tag, where it stands and no bracket is open.
+fn past_end<'t>(by: &str, depth: usize, rest: &'t str) -> Option<(Whitespace, &'t str)>
+    ensures value { step_of result ≡ spec.past_end by.now rest.now depth }
+    ensures no_longer { IfSome result (λ x. length x.1.now ≤ length rest.now) }
 {
-    if depth == 0 { strip(rest, end) } else { None }
+    if depth == 0 { ending(by, rest) } else { None }
 }
 
-/// Adds the tokens of a tag's content; what is left behind its end delimiter.
+/// Adds the tokens of a tag's content; the tag's end.
 ///
 /// SyntaxError where the content has something that is no token, or no end; OutOfMemory.
 pub(crate) fn content<'t>(
     alloc: Global,
-    end: &str,
+    by: &str,
     text: &'t str,
     tokens: &mut Vec<Token>,
-) -> Result<&'t str, Error>
-    ensures found { Adds result tokens.old.items tokens.new.items (spec.Content end.now text.now) }
+) -> Result<(Whitespace, &'t str), Error>
+    ensures found { Adds result tokens.old.items tokens.new.items (spec.Content by.now text.now) }
     ensures no_longer { IsNoLonger result text.now }
-    ensures refused { Refuses result (spec.Content end.now text.now) }
+    ensures refused { Refuses result (spec.Content by.now text.now) }
 {
     let mut depth = 0;
     let mut rest = past_blanks(text);
     'next: loop {
-        if let Some(behind) = past_end(end, depth, rest) {
-            return Ok(behind);
+        if let Some(end) = past_end(by, depth, rest) {
+            return Ok(end);
         }
         let (token, behind) = token(alloc, rest)?;
         let Some(deeper) = depth_behind(&token, depth) else {

@@ -1,16 +1,20 @@
-use Rattle.std.proofs.Common.{rules, sym, ◌∙◌}
+use Rattle.std.proofs.Common.{rules, sym}
 use Rattle.tm_scanner.proofs.Refusals.{refused_by, passed}
-use Rattle.tm_scanner.proofs.Sources.{goes_on, no_tokens, some_left}
+use Rattle.tm_scanner.proofs.Sources.{Next, goes_on, no_tokens}
 use Rattle.tm_scanner.proofs.source.scan.Goals as goal
 
-pub loop-rest-preserved : goal.loop-rest-preserved
-loop-rest-preserved c = (
-  search rules,
-  goes_on c.args.syntax.now _ _ _ c.loop-rest.rest.now c.in_ok-rest.rest.now c.in_ok-rest.ensures.found.0 c.loop-rest.invariant.1 c.in_ok-rest.ensures.found.1 c.in_ok-rest.ensures.found.2,
-)
+pub loop-text-preserved : goal.loop-text-preserved
+loop-text-preserved c =
+    let next : Next = (c.in-Some.text.now, (c.in-Some.start, c.in-Some.behind.now)) in
+    let found = c.in_ok-whitespace.ensures.found in (
+      search rules,
+      goes_on c.args.syntax.now _ _ _ _ c.loop-text.before c.loop-text.rest.now next found.0 (c.in_ok-whitespace.whitespace, c.in_ok-whitespace.left.now)
+          c.loop-text.invariant.1 (sym c.in-Some.ensures.value) (rw c.trimmed.ensures at c.in_ok-raw.ensures.added) found.1 found.2,
+    )
 
-pub returns-in_err-rest-clause-refused : goal.returns-in_err-rest-clause-refused
-returns-in_err-rest-clause-refused c =
-    let e = c.in_err-rest.field-0.0 in
-    passed c.from_residual.result _ e c.from_residual.ensures.1
-    (refused_by e (no_tokens c.args.syntax.now c.args.source.now _ c.loop-rest.rest.now c.loop-rest.invariant.1 (some_left c.loop-rest.rest.now (sym c.is_empty.ensures ∙ c.loop-rest-test.true))) c.in_err-rest.ensures.refused)
+pub returns-in_err-whitespace-clause-refused : goal.returns-in_err-whitespace-clause-refused
+returns-in_err-whitespace-clause-refused c =
+    let e = c.in_err-whitespace.field-0.0 in
+    let next : Next = (c.in-Some.text.now, (c.in-Some.start, c.in-Some.behind.now)) in
+    passed c.from_residual-in_err-whitespace.result _ e c.from_residual-in_err-whitespace.ensures.1
+    (refused_by e (no_tokens c.args.syntax.now c.args.source.now _ c.loop-text.before c.loop-text.rest.now next c.loop-text.invariant.1 (sym c.in-Some.ensures.value)) c.in_err-whitespace.ensures.refused)

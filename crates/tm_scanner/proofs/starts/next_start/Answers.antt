@@ -1,6 +1,6 @@
 use Rattle.std.proofs.Common.{arith, ◌+◌, sym, ◌∙◌}
 use Rattle.tm_scanner.proofs.Begins.{found_at, found_none, begins_there, past_it, boundary_at}
-use Rattle.tm_scanner.proofs.pieces.next_start.Goals as goal
+use Rattle.tm_scanner.proofs.starts.next_start.Goals as goal
 
 pub returns-clause-first : goal.returns-clause-first
 returns-clause-first c =

@@ -1,7 +1,7 @@
 use Rattle.std.proofs.Common.{length, ◌-◌, ◌≤◌}
 use Rattle.memchr.specs.Find.{Nowhere}
-use Rattle.tm_scanner.specs.Pieces.{BeginsAt}
-use Rattle.tm_scanner.proofs.pieces.next_start.Given as goal
+use Rattle.tm_scanner.specs.Starts.{BeginsAt}
+use Rattle.tm_scanner.proofs.starts.next_start.Given as goal
 
 abbrev pub invariant-loop-at : goal.invariant-loop-at
 invariant-loop-at l = (l.from ≤ length l.bytes) × Nowhere (BeginsAt l.syntax l.bytes) 0 l.from

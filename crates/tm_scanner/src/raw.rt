@@ -1,0 +1,80 @@
+//! Raw blocks, in which all is text.
+ghost use Rattle.std.specs.Prelude.{◌≡◌, ◌<◌, ◌≤◌, length, IfSome};
+ghost use Rattle.tm_scanner.specs.Front.{first_of};
+ghost use Rattle.tm_scanner.specs.Pieces as spec;
+ghost use Rattle.tm_scanner.specs.Syntax.{HasAll};
+ghost use Rattle.tm_scanner.specs.Views.{closing_of, closed_of, parts_of, place_of};
+
+use crate::front::{past_blanks, strip};
+use crate::names::leaves_name;
+use crate::starts::next_start;
+use crate::syntax::{Kind, SyntaxConfig};
+use crate::trimming::{Side, trimmed};
+use crate::whitespace::{Whitespace, ending, whitespace_at};
+
+/// What is left behind blanks and a word with which no longer name begins.
+pub(crate) fn past_word<'t>(word: &str, text: &'t str) -> Option<&'t str>
+    ensures value { place_of result ≡ spec.past_word word.now text.now }
+    ensures no_longer { IfSome result (λ rest. length rest.now ≤ length text.now) }
+{
+    let rest = strip(past_blanks(text), word)?;
+    if leaves_name(rest) { Some(rest) } else { None }
+}
+
+/// An `endraw` tag at the front: the mark at its start, and its end.
+fn endraw<'s>(syntax: &SyntaxConfig, text: &'s str) -> Option<(Whitespace, (Whitespace, &'s str))>
+    ensures value { closing_of result ≡ spec.endraw syntax.now text.now }
+    ensures no_longer { IfSome result (λ x. length x.1.1.now ≤ length text.now) }
+{
+    let behind = strip(text, syntax.start(Kind::Block))?;
+    let (whitespace, inside) = whitespace_at(behind);
+    let rest = past_word("endraw", inside)?;
+    let end = ending(syntax.end(Kind::Block), past_blanks(rest))?;
+    Some((whitespace, end))
+}
+
+/// The text before the first `endraw` tag, and that tag.
+fn to_endraw<'s>(
+    syntax: &SyntaxConfig,
+    text: &'s str,
+) -> Option<(&'s str, (Whitespace, (Whitespace, &'s str)))>
+    requires usable { HasAll syntax.now }
+    ensures value { closed_of result ≡ first_of (spec.endraw syntax.now) text.now }
+    ensures no_longer { IfSome result (λ x. length x.1.1.1.now ≤ length text.now) }
+{
+    let bytes = text.as_bytes();
+    let mut from = 0;
+    while let Some(at) = next_start(syntax, &bytes[from..]) {
+        let place = from + at;
+        let (front, tag) = text.split_at(place);
+        if let Some(end) = endraw(syntax, tag) {
+            return Some((front, end));
+        }
+        from = place + 1;
+    }
+    None
+}
+
+/// Behind the word `raw`, what is left of the text up to the first `endraw` tag, and how that
+/// tag ends.
+pub(crate) fn raw_block<'s>(
+    syntax: &SyntaxConfig,
+    text: &'s str,
+) -> Option<(&'s str, Whitespace, &'s str)>
+    requires usable { HasAll syntax.now }
+    ensures value { parts_of result ≡ spec.raw_block syntax.now text.now }
+    ensures no_longer { IfSome result (λ x. length x.2.now ≤ length text.now) }
+{
+    let kind = Kind::Block;
+    let (opened, body) = ending(syntax.end(kind), past_blanks(text))?;
+    let (inside, (closed, (end, rest))) = to_endraw(syntax, body)?;
+    let before = Some(Side {
+        kind,
+        whitespace: opened,
+    });
+    let after = Some(Side {
+        kind,
+        whitespace: closed,
+    });
+    Some((trimmed(syntax, before, after, inside), end, rest))
+}
