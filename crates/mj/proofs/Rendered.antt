@@ -6,16 +6,18 @@ use Rattle.std.proofs.lemmas.Cmp.{nat_list_cmp_total, tied_itself}
 use Rattle.tm_values.specs.Val.{Val}
 use Rattle.tm_values.specs.Chain.{ends_in_memory}
 use Rattle.tm_values.specs.declared.error.ErrorKind.{ErrorKind}
+use Rattle.tm_values.specs.declared.escape.AutoEscape.{AutoEscape}
 use Rattle.tm_values.specs.declared.error.ErrorKind.TheVariants.{WriteFailure, OutOfMemory}
 use Rattle.tm_scanner.specs.Syntax.{Syntax, default_syntax}
 use Rattle.tm_syntax.specs.declared.tree.Tree.{Tree}
 use Rattle.tm_syntax.specs.Named.{Named, find, put}
 use Rattle.tm_compiler.specs.Spells.{Spells, SpellsNone}
-use Rattle.tm_meaning.specs.World.{Bindings, Function, World}
+use Rattle.tm_meaning.specs.World.{Function, World}
 use Rattle.tm_meaning.specs.Meaning.{Ending, done, leave, next, fault, Outcome, chain_in, chain_of}
 use Rattle.tm_output.specs.Counts.{Tally, AppendsBeginning}
-use Rattle.tm_tables.specs.Templates.{Compiled, IsTemplate, IsRefused}
-use Rattle.template_machine.specs.Environment.{EnvironmentValue, TemplateValue, empty_environment, greatest_limit}
+use Rattle.tm_tables.specs.Defaults.{escape_by_name, escape_of}
+use Rattle.tm_tables.specs.Templates.{Compiled, IsRefused}
+use Rattle.template_machine.specs.Environment.{EnvironmentValue, TemplateValue, IsTemplateOf, new_environment, greatest_limit}
 use Rattle.template_machine.specs.Renders.{CapturedValue, answer_by, greatest, meaning, Rendered, as_meant, by_writer, by_memory}
 use Rattle.mj.specs.CommandLine.{Text, Asked}
 use Rattle.mj.specs.Program.{context_of, limit_of, template_in, meaning_of, IsRendered, IsBegun, IsFault, no_memory, write_failed, flush_failed, no_tree, meant}
@@ -28,30 +30,31 @@ found_is_put : (name : Text) (t u : Compiled) → find name (put name t []) ≡ 
 found_is_put name t u e = let there : find name (put name t []) ≡ Some t = found_there name t in cc
 
 -- Objects that are no functions: a template means what it means where there are none.
-abbrev template_over : {O : Type 0} → O → Named Compiled → Syntax → Bindings → Option ℕ → ℕ → Compiled → TemplateValue O
-template_over objects templates syntax globals fuel limit t = record {
-  environment = record { templates = templates; syntax = syntax; objects = objects; globals = globals; fuel = fuel; limit = limit };
+abbrev template_over : {O : Type 0} → O → Named Compiled → Option ℕ → ℕ → Compiled → TemplateValue O
+template_over objects templates fuel limit t = record {
+  environment = record (new_environment objects) { templates = templates; fuel = fuel; limit = limit };
   template = t;
 }
 
-means_same : {O P : Type 0} (fs gs : List Function) (o : O) (p : P) (templates : Named Compiled) (syntax : Syntax) (globals : Bindings) (fuel : Option ℕ) (limit : ℕ) (t : Compiled)
-    (id : ℕ) (context : Val) → fs ≡ gs →
-    meaning (λ _. fs) (template_over o templates syntax globals fuel limit t) id context ≡ meaning (λ _. gs) (template_over p templates syntax globals fuel limit t) id context
-means_same fs gs o p templates syntax globals fuel limit t id context same =
-    ap (λ (hs : List Function). meaning (λ x. x) (template_over hs templates syntax globals fuel limit t) id context) same
+means_same : {O P : Type 0} (fs gs : List Function) (o : O) (p : P) (templates : Named Compiled) (fuel : Option ℕ) (limit : ℕ) (t : Compiled) (id : ℕ) (context : Val) → fs ≡ gs →
+    meaning (λ _. fs) (template_over o templates fuel limit t) id context ≡ meaning (λ _. gs) (template_over p templates fuel limit t) id context
+means_same fs gs o p templates fuel limit t id context same =
+    ap (λ (hs : List Function). meaning (λ x. x) (template_over hs templates fuel limit t) id context) same
 
 -- no objects are no functions
 pub none_of : {C : Type 0} (f : C → Function) (objects : List C) → objects ≡ [] → map f objects ≡ []
 none_of f objects none = ap (map f) none
 
-compiled_is : (t : Compiled) (name source : Text) → t.name ≡ name → t.source ≡ source → t ≡ record { name = name; source = source; tree = t.tree }
-compiled_is t name source named from =
-    ap (λ (x : Text). let u : Compiled = record { name = x; source = t.source; tree = t.tree } in u) named
-    ∙ ap (λ (x : Text). let u : Compiled = record { name = name; source = x; tree = t.tree } in u) from
+compiled_is : (t : Compiled) (name source : Text) (escape : AutoEscape) → t.name ≡ name → t.source ≡ source → t.escape ≡ escape →
+    t ≡ record { name = name; source = source; escape = escape; tree = t.tree }
+compiled_is t name source escape named from escaped =
+    ap (λ (x : Text). let u : Compiled = record t { name = x } in u) named
+    ∙ ap (λ (x : Text). let u : Compiled = record t { name = name; source = x } in u) from
+    ∙ ap (λ (x : AutoEscape). let u : Compiled = record { name = name; source = source; escape = x; tree = t.tree } in u) escaped
 
 module _ {C : Type 0} where
   abbrev empty : EnvironmentValue (List C)
-  empty = empty_environment []
+  empty = new_environment []
 
   abbrev settled : Asked → EnvironmentValue (List C)
   settled a = record empty { fuel = a.fuel; limit = limit_of a.limit }
@@ -65,7 +68,7 @@ module _ {C : Type 0} where
 
   -- another template of the environment in which one was put alone
   abbrev put_there_as : Asked → Compiled → Compiled → TemplateValue (List C)
-  put_there_as a t u = template_over [] (put a.file t []) default_syntax [] a.fuel (limit_of a.limit) u
+  put_there_as a t u = template_over [] (put a.file t []) a.fuel (limit_of a.limit) u
 
   -- a template that was put alone
   abbrev put_alone : Asked → Compiled → TemplateValue (List C)
@@ -73,7 +76,7 @@ module _ {C : Type 0} where
 
   -- The template that is found means what the words and a tree of the source mean.
   pub is_meant : (fs : List Function) (a : Asked) (source : Text) (set added : EnvironmentValue (List C)) (t : Compiled) (found : TemplateValue (List C)) (context : Val) →
-      (found.environment.objects ≡ [] → fs ≡ []) → set ≡ settled a → IsTemplate set.syntax a.file source t → added ≡ record set { templates = put a.file t set.templates } →
+      (found.environment.objects ≡ [] → fs ≡ []) → set ≡ settled a → IsTemplateOf set a.file source t → added ≡ record set { templates = put a.file t set.templates } →
       (found.environment ≡ added) × (find a.file added.templates ≡ Some found.template) → context ≡ context_of a.texts →
       (tree : Tree) × Spells default_syntax source tree × (meaning (λ _. fs) found 0 context ≡ meaning_of a source tree)
   is_meant fs a source set added t found context none start is put_there (same, there) given =
@@ -84,12 +87,14 @@ module _ {C : Type 0} where
       ap (λ (e : EnvironmentValue (List C)). let v : TemplateValue (List C) = record { environment = e; template = found.template } in v) (same ∙ whole)
       ∙ ap (λ (u : Compiled). put_there_as a t u) (sym template) in
       let objects : found.environment.objects ≡ [] = ap (λ (e : EnvironmentValue (List C)). e.objects) (same ∙ whole) in
-      let named : t ≡ record { name = a.file; source = source; tree = t.tree } = compiled_is t a.file source is.name_is is.source_is in (
+      let escaped : t.escape ≡ escape_by_name a.file = is.escape_is ∙ ap (λ (e : EnvironmentValue (List C)). escape_of e.escaping a.file) start in
+      let named : t ≡ record { name = a.file; source = source; escape = escape_by_name a.file; tree = t.tree } =
+      compiled_is t a.file source (escape_by_name a.file) is.name_is is.source_is escaped in (
         t.tree,
         subst (λ (e : EnvironmentValue (List C)). Spells e.syntax source t.tree) start is.spelled,
         ap (λ (v : TemplateValue (List C)). meaning (λ _. fs) v 0 context) alone
             ∙ (ap (λ v. meaning (λ _. fs) (put_alone a t) 0 v) given
-            ∙ (means_same {O = List C} {P = List Function} fs [] [] [] (put a.file t []) default_syntax [] a.fuel (limit_of a.limit) t 0 (context_of a.texts) (none objects)
+            ∙ (means_same {O = List C} {P = List Function} fs [] [] [] (put a.file t []) a.fuel (limit_of a.limit) t 0 (context_of a.texts) (none objects)
             ∙ ap (λ (u : Compiled). meaning (λ fs. fs) (template_in a u) 0 (context_of a.texts)) named)),
       )
 

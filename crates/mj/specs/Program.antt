@@ -14,8 +14,9 @@ use Rattle.tm_compiler.specs.Spells.{Spells, SpellsNone}
 use Rattle.tm_meaning.specs.World.{Function}
 use Rattle.tm_meaning.specs.Meaning.{Outcome, chain_of}
 use Rattle.tm_output.specs.Counts.{Tally, one_more, AppendsBeginning}
+use Rattle.tm_tables.specs.Defaults.{escape_by_name}
 use Rattle.tm_tables.specs.Templates.{Compiled}
-use Rattle.template_machine.specs.Environment.{TemplateValue, empty_environment, greatest_limit}
+use Rattle.template_machine.specs.Environment.{TemplateValue, new_environment, greatest_limit}
 use Rattle.template_machine.specs.Renders.{meaning}
 use Rattle.mj.specs.CommandLine.{Text, Asked, asked}
 use Rattle.mj.specs.declared.arguments.Refusal.{Refusal}
@@ -34,16 +35,16 @@ abbrev pub limit_of : Option ℕ → ℕ
 limit_of None = greatest_limit
 limit_of (Some n) = min n greatest_limit
 
--- the one template of an environment that has no functions, with the fuel and the limit of the words
+-- the one template of a new environment, which has no functions, with the fuel and the limit of the words
 abbrev pub template_in : Asked → Compiled → TemplateValue (List Function)
 template_in a t = record {
-  environment = record (empty_environment []) { templates = put a.file t []; fuel = a.fuel; limit = limit_of a.limit };
+  environment = record (new_environment []) { templates = put a.file t []; fuel = a.fuel; limit = limit_of a.limit };
   template = t;
 }
 
--- the template that a source and its tree are under the name of the file
+-- the template that a source and its tree are under the name of the file, which says how it is escaped
 abbrev pub template_of : Asked → Text → Tree → TemplateValue (List Function)
-template_of a source tree = template_in a (record { name = a.file; source = source; tree = tree })
+template_of a source tree = template_in a (record { name = a.file; source = source; escape = escape_by_name a.file; tree = tree })
 
 -- what a render of this tree means, as the first state: over the texts that the words give, with their fuel
 abbrev pub meaning_of : Asked → Text → Tree → Outcome

@@ -113,7 +113,7 @@ const PAGE_EXPECTED: &str = "<!DOCTYPE html>
     <h1>Grüße aus Zürich</h1>
     <p>Schön, dass Sie da sind.</p>
     <p class=\"\"></p>
-    <footer>© 2024 Müller & Töchter</footer>
+    <footer>© 2024 Müller &amp; Töchter</footer>
   </body>
 </html>";
 

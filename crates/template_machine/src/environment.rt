@@ -269,21 +269,29 @@ impl<'source, C: Drop> EnvironmentOf<'source, Objects<C>> {
     pub fn new(alloc: Global) -> Result<EnvironmentOf<'source, Objects<C>>, Error>
         ensures { OkOrOutOfMemory result (λ e. e ≡ new_environment []) }
     {
-        let mut environment = EnvironmentOf::empty(alloc);
-        environment.config.default_auto_escape = EscapeSetting::ByName;
-        Ok(environment)
+        Ok(EnvironmentOf::escaping(alloc, EscapeSetting::ByName))
     }
 
     /// No templates, the default delimiters, nothing escaped, no functions, lenient undefined values, no fuel set, and scopes at most 500 deep.
     pub fn empty(alloc: Global) -> EnvironmentOf<'source, Objects<C>>
         ensures { result ≡ empty_environment [] }
     {
+        EnvironmentOf::escaping(alloc, EscapeSetting::Never)
+    }
+
+    /// The same, with the escapes that this setting chooses.
+    fn escaping(
+        alloc: Global,
+        default_auto_escape: EscapeSetting,
+    ) -> EnvironmentOf<'source, Objects<C>>
+        ensures { result ≡ record (empty_environment []) { escaping = default_auto_escape } }
+    {
         EnvironmentOf {
             alloc,
             templates: Templates::new(alloc),
             config: TemplateConfig {
                 syntax_config: SyntaxConfig::default(),
-                default_auto_escape: EscapeSetting::Never,
+                default_auto_escape,
             },
             objects: Objects::new(alloc),
             globals: NameMap::new(alloc),

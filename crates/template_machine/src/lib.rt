@@ -15,7 +15,7 @@ pub use state::{Captured, CapturedOf, State, StateOf};
 pub use template::{Template, TemplateOf};
 pub use tm_compiler::{
     Argument, BinaryOperator, Expr, Instruction, Name, NameMap, Pair, Step, Stmt, Streams,
-    SyntaxConfig, Tree, UnaryOperator, generate, parse,
+    SyntaxConfig, SyntaxConfigBuilder, Tree, UnaryOperator, generate, parse,
 };
 pub use tm_operations as operations;
 pub use tm_output::{Target, TargetFailed};

@@ -146,11 +146,12 @@ impl<'env, 'source, O: Parties> TemplateOf<'env, 'source, O> {
     {
         let id = ids.next()?;
         let environment = self.environment;
+        let compiled = self.compiled();
         StateData::new(
             environment.allocator(),
             id,
-            self.compiled().blocks(),
-            self.compiled().escape(),
+            compiled.blocks(),
+            compiled.escape(),
             environment.fuel(),
             context,
         )
