@@ -1,76 +1,67 @@
 //! Rows of expected renders: what a source gives, and what it is charged.
-ghost use Rattle.std.specs.Prelude.{◌≡◌, List, [], ◌∷◌, codes, pos, slice_get};
+ghost use Rattle.std.specs.Prelude.{◌≡◌, List, [], ◌∷◌, codes, option_copied, pos, slice_get};
 ghost use Rattle.tm_values.specs.Val.{number};
 ghost use Rattle.tm_syntax.specs.Named.{find};
 ghost use Rattle.tm_meaning.specs.World.{gives, faults, or_undefined};
-ghost use Rattle.tm_tables.specs.Stated.{just, keeping};
+ghost use Rattle.tm_tables.specs.Stated.{IsStated, just, keeping};
+ghost use Rattle.template_machine.specs.declared.rows.Party.TheVariants.{Second, Keeper, Reader, Faulty};
 
 use super::*;
 use std::alloc::Global;
 use std::process::Abort;
 use std::test::Fail;
 
-/// Answers its second argument.
+/// A function of the rows.
 #[derive(Drop)]
-struct Second;
+enum Party {
+    /// Answers its second argument.
+    Second,
+    /// Keeps 1 at `k`, and answers 2.
+    Keeper,
+    /// Answers what is kept at `k`.
+    Reader,
+    /// Answers a fault.
+    Faulty(ErrorKind),
+}
 
-impl Callable for Second {
-    ghost answers = { λ _ args view. just (gives (or_undefined (slice_get args 1))) };
+impl Callable for Party {
+    ghost answers = { elim [
+      | Second ↦ λ args view. just (gives (or_undefined (slice_get args 1)))
+      | Keeper ↦ λ args view.
+          keeping (codes "k") (number (pos 1)) (just (gives (number (pos 2))))
+      | Reader ↦ λ args view. just (gives (or_undefined (find (codes "k") view.temps)))
+      | Faulty kind ↦ λ args view. just (faults (kind ∷ []))
+    ] };
 
-    fn call(&self, alloc: Global, args: &[Value], _view: &View<'_>) -> Answer {
-        match args.get(1) {
-            Some(value) => match value.share() {
-                Ok(value) => Answer::value(alloc, value),
-                Err(error) => Answer::fault(alloc, error),
-            },
-            None => Answer::value(alloc, Value::undefined()),
+    fn call(&self, alloc: Global, args: &[Value], view: &View<'_>) -> Answer {
+        match self {
+            Party::Second => shared(alloc, args.get(1)),
+            Party::Keeper => Answer::value(alloc, Value::number(2)).keep(
+                alloc,
+                "k",
+                Value::number(1),
+            ),
+            Party::Reader => shared(alloc, view.get_temp("k")),
+            Party::Faulty(kind) => Answer::fault(alloc, Error::from(*kind)),
         }
     }
 }
 
-/// Answers a fault.
-#[derive(Drop)]
-struct Faulty {
-    kind: ErrorKind,
-}
-
-impl Callable for Faulty {
-    ghost answers = { λ f args view. just (faults (f.kind ∷ [])) };
-
-    fn call(&self, alloc: Global, _args: &[Value], _view: &View<'_>) -> Answer {
-        Answer::fault(alloc, Error::from(self.kind))
+/// Answers a value that is kept elsewhere; undefined where there is none.
+fn shared(alloc: Global, found: Option<&Value>) -> Answer
+    ensures { IsStated result (just (gives (or_undefined (option_copied found.entry)))) }
+{
+    match found {
+        Some(value) => match value.share() {
+            Ok(value) => Answer::value(alloc, value),
+            Err(error) => Answer::fault(alloc, error),
+        },
+        None => Answer::value(alloc, Value::undefined()),
     }
 }
 
-/// Keeps 1 at `k`, and answers 2.
-#[derive(Drop)]
-struct Keeper;
-
-impl Callable for Keeper {
-    ghost answers = { λ _ args view. keeping (codes "k") (number (pos 1)) (just (gives (number (pos 2)))) };
-
-    fn call(&self, alloc: Global, _args: &[Value], _view: &View<'_>) -> Answer {
-        Answer::value(alloc, Value::number(2)).keep(alloc, "k", Value::number(1))
-    }
-}
-
-/// Answers what is kept at `k`.
-#[derive(Drop)]
-struct Reader;
-
-impl Callable for Reader {
-    ghost answers = { λ _ args view. just (gives (or_undefined (find (codes "k") view.temps))) };
-
-    fn call(&self, alloc: Global, _args: &[Value], view: &View<'_>) -> Answer {
-        match view.get_temp("k") {
-            Some(value) => match value.share() {
-                Ok(value) => Answer::value(alloc, value),
-                Err(error) => Answer::fault(alloc, error),
-            },
-            None => Answer::value(alloc, Value::undefined()),
-        }
-    }
-}
+/// An environment of such functions.
+type Rows = EnvironmentOf<'static, Objects<Party>>;
 
 /// A source, what it writes, and how it ends: with so many charges, or by a fault.
 struct Row(&'static str, &'static str, Result<u64, ErrorKind>);
@@ -126,7 +117,7 @@ fn context(alloc: Global) -> Result<Value, Error> {
 
 /// How many charges a render of the source takes, or the kind of its error.
 fn charges(
-    environment: &Environment<'static>,
+    environment: &Rows,
     source: &'static str,
     context: Value,
     writer: &mut Counted<Vec<u8>>,
@@ -144,50 +135,36 @@ fn charges(
     }
 }
 
+/// Whether a value that was kept is there for `get_temp` alone, and no name is exported.
+fn keeps_apart(environment: &Rows) -> Result<bool, Error> {
+    let template = environment.template_from_str("{{ keep() }}{{ read() }}")?;
+    let mut ids = StateIds::new();
+    let captured = template.render_captured_to(&mut ids, Value::undefined(), &mut NullWriter)?;
+    let state = captured.state();
+    let Some(kept) = state.get_temp("k") else {
+        return Ok(false);
+    };
+    Ok(*kept == Value::number(1) && state.lookup("k")?.is_none() && state.exports()?.is_empty())
+}
+
 #[test]
 fn rows_render(rt: HostRuntime) -> Result<(), Fail> {
     let alloc = rt.alloc();
-    let mut environment = Environment::new(alloc)?;
+    let mut environment: Rows = EnvironmentOf::new(alloc)?;
     environment.set_fuel(Some(1000));
-    let second = Box::new(alloc, Second)?;
-    environment.add_function("second", second)?;
-    let keeper = Box::new(alloc, Keeper)?;
-    environment.add_function("keep", keeper)?;
-    let reader = Box::new(alloc, Reader)?;
-    environment.add_function("read", reader)?;
-    let missing = Box::new(
-        alloc,
-        Faulty {
-            kind: ErrorKind::MissingArgument,
-        },
-    )?;
-    environment.add_function("missing", missing)?;
-    let failing = Box::new(
-        alloc,
-        Faulty {
-            kind: ErrorKind::WriteFailure,
-        },
-    )?;
-    environment.add_function("failing", failing)?;
-    let stuck = Box::new(
-        alloc,
-        Faulty {
-            kind: ErrorKind::BadStream,
-        },
-    )?;
-    environment.add_function("stuck", stuck)?;
-    let hungry = Box::new(
-        alloc,
-        Faulty {
-            kind: ErrorKind::OutOfMemory,
-        },
-    )?;
-    environment.add_function("hungry", hungry)?;
+    environment.add_function("second", Party::Second)?;
+    environment.add_function("keep", Party::Keeper)?;
+    environment.add_function("read", Party::Reader)?;
+    environment.add_function("missing", Party::Faulty(ErrorKind::MissingArgument))?;
+    environment.add_function("failing", Party::Faulty(ErrorKind::WriteFailure))?;
+    environment.add_function("stuck", Party::Faulty(ErrorKind::BadStream))?;
+    environment.add_function("hungry", Party::Faulty(ErrorKind::OutOfMemory))?;
     for Row(source, text, end) in ROWS {
         let mut writer = Counted::new(Vec::<u8>::new(alloc));
         let answer = charges(&environment, source, context(alloc)?, &mut writer);
         assert!(rt; answer == *end, "at {source}");
         assert!(rt; writer.inner().as_slice() == text.as_bytes(), "at {source}");
     }
+    assert!(rt; keeps_apart(&environment)?);
     Ok(())
 }

@@ -52,8 +52,11 @@ fn sources_render(rt: HostRuntime) -> Result<(), Fail> {
     )
 }
 
-/// Renders the template of a name into no writer, and gives its name and the fuel that it took.
-fn consumed(environment: &Environment<'_>, name: &str) -> Result<u64, Error> {
+/// An environment without boxes.
+type Unboxed<'source> = EnvironmentOf<'source, Objects<Yes>>;
+
+/// Renders the template of a name into no writer, and gives the fuel that it took.
+fn consumed(environment: &Unboxed<'_>, name: &str) -> Result<u64, Error> {
     let template = environment.get_template(name)?;
     let mut ids = StateIds::new();
     let captured = template.render_captured_to(&mut ids, Value::undefined(), &mut NullWriter)?;
@@ -63,12 +66,33 @@ fn consumed(environment: &Environment<'_>, name: &str) -> Result<u64, Error> {
     }
 }
 
+/// The text of the template of a name.
+fn text_of(environment: &Unboxed<'_>, name: &str) -> Result<String, Error> {
+    let template = environment.get_template(name)?;
+    template.render(&mut StateIds::new(), Value::undefined())
+}
+
+/// The text of `x` as a template that isn't kept.
+fn text_of_x(environment: &Unboxed<'static>) -> Result<String, Error> {
+    let template = environment.template_from_named_str("named", "x")?;
+    template.render(&mut StateIds::new(), Value::undefined())
+}
+
+/// The text of `x`, rendered at once.
+fn text_at_once(environment: &Unboxed<'static>) -> Result<String, Error> {
+    environment.render_named_str(&mut StateIds::new(), "named", "x", Value::undefined())
+}
+
 #[test]
 fn templates_render_by_name(rt: HostRuntime) -> Result<(), Fail> {
     let alloc = rt.alloc();
-    let mut environment = Environment::new(alloc)?;
+    let mut environment = Unboxed::new(alloc)?;
     environment.set_fuel(Some(100));
     environment.add_template("page", "Hello {{ name }}!")?;
+    environment.add_template_owned("own", String::from_str(alloc, "x")?)?;
     assert_eq!(rt; consumed(&environment, "page")?, 4);
+    assert_eq!(rt; text_of(&environment, "own")?.as_str(), "x");
+    assert_eq!(rt; text_of_x(&environment)?.as_str(), "x");
+    assert_eq!(rt; text_at_once(&environment)?.as_str(), "x");
     Ok(())
 }
