@@ -96,3 +96,71 @@ fn templates_render_by_name(rt: HostRuntime) -> Result<(), Fail> {
     assert_eq!(rt; text_at_once(&environment)?.as_str(), "x");
     Ok(())
 }
+
+/// The text of a source under a name, rendered at once; the kind of its error.
+fn text_under(
+    environment: &Unboxed<'static>,
+    name: &str,
+    source: &'static str,
+) -> Result<String, ErrorKind> {
+    match environment.render_named_str(&mut StateIds::new(), name, source, Value::undefined()) {
+        Ok(text) => Ok(text),
+        Err(error) => Err(error.kind()),
+    }
+}
+
+/// A name, a source, and what is written.
+struct Named(&'static str, &'static str, &'static str);
+
+/// What names ask for.
+static NAMED: &[Named] = &[
+    Named("p.html", "{{ '<' }}{{ '<' ~ '>' }}", "&lt;&lt;&gt;"),
+    Named("p.html.j2", "{{ '<' }}", "&lt;"),
+    Named("html", "{{ '<' }}", "&lt;"),
+    Named("p.txt", "{{ '<' }}", "<"),
+    Named("p.json", "{{ {'a': [1, none]} }}", "{\"a\":[1,null]}"),
+];
+
+#[test]
+fn names_and_settings_are_heard(rt: HostRuntime) -> Result<(), Fail> {
+    let alloc = rt.alloc();
+    let mut environment = Unboxed::new(alloc)?;
+    for Named(name, source, text) in NAMED {
+        let answer = text_under(&environment, name, source);
+        assert!(rt;
+            matches!(&answer, Ok(given) if given.as_str() == *text),
+            "at {source}"
+        );
+    }
+    environment.set_undefined_behavior(UndefinedBehavior::Strict);
+    let strict = text_under(&environment, "p", "[{{ x }}]");
+    assert!(rt; matches!(&strict, Err(ErrorKind::UndefinedError)));
+    environment.set_undefined_behavior(UndefinedBehavior::Chainable);
+    let chained = text_under(&environment, "p", "[{{ x.y.z }}]");
+    assert!(rt; matches!(&chained, Ok(given) if given.as_str() == "[]"));
+    environment.set_syntax(
+        SyntaxConfig::builder()
+            .block_delimiters(
+                String::from_str(alloc, "<%")?,
+                String::from_str(alloc, "%>")?,
+            )
+            .comment_delimiters(
+                String::from_str(alloc, "<%#")?,
+                String::from_str(alloc, "%>")?,
+            )
+            .variable_delimiters(
+                String::from_str(alloc, "${")?,
+                String::from_str(alloc, "}")?,
+            )
+            .trim_blocks(true)
+            .lstrip_blocks(true)
+            .build()?,
+    );
+    let spelled = text_under(
+        &environment,
+        "p",
+        "a\n  <% if 1 %>\n b<%# c %>\n<% endif %>\n${ 2 }",
+    );
+    assert!(rt; matches!(&spelled, Ok(given) if given.as_str() == "a\n b2"));
+    Ok(())
+}

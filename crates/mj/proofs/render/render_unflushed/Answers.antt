@@ -2,7 +2,7 @@ use Rattle.std.proofs.Common.{map, ap, ◌∙◌}
 use Rattle.template_machine.specs.Environment.{EnvironmentValue}
 use Rattle.mj.specs.CommandLine.{asked_of, plain}
 use Rattle.mj.specs.Program.{context_of}
-use Rattle.mj.proofs.Rendered.{started, none_of, is_meant, is_found, is_refused, is_done, is_fault, at_first, passed}
+use Rattle.mj.proofs.Rendered.{started, none_of, is_meant, is_found, is_refused, is_done, is_fault, at_first, is_memory, passed}
 use Rattle.mj.proofs.render.render_unflushed.Goals as goal
 
 pub returns : goal.returns
@@ -45,3 +45,10 @@ returns-in_err-template g c =
     let put = c.in_ok-add_template.ensures.ok in
     let start = started a c.limit.result _ _ _ c.in_ok-environment.ensures c.set_fuel.ensures c.set_recursion_limit.ensures c.limit.ensures in
     is_found a.file _ _ put.0 (ap (λ (e : EnvironmentValue _). e.templates) start) put.2 c.in_err-template.ensures.1
+
+-- no memory for the names and texts
+pub returns-in_err-context : goal.returns-in_err-context
+returns-in_err-context g c =
+    let r = c.in_err-context in
+    passed c.from_residual-in_err-context.result _ _ r.field-0.0 c.from_residual-in_err-context.ensures.1
+    (is_memory g.O.Write.contents (asked_of c.args.arguments.now) c.args.source.now r.field-0.0 c.args.out.now r.ensures)
