@@ -102,7 +102,7 @@ impl Stack {
     pub fn take(&mut self, count: usize) -> Result<Option<Vec<Value>>, Error>
         ensures { MatchResult result
             (λ values. MatchOption values (taken count [] self.old ≡ None)
-                (λ vs. taken count [] self.old ≡ Some (vs.items, self.new)))
+            (λ vs. taken count [] self.old ≡ Some (vs.items, self.new)))
             (λ e. e ≡ ErrorKind.OutOfMemory ∷ []) }
     {
         let held = self.values.len();

@@ -336,7 +336,7 @@ module _ (p : Program) (f : Base) (r : Final) (trees : Trees) (n : ℕ)
         let from_c = has_behind all pc1 bc (cc ++ i.Slice ∷ []) from_b in
         let last = has_behind all pc2 cc (i.Slice ∷ []) from_c in
         let place : pc2 + length cc + 1 ≡ pc + length (ac ++ (bc ++ (cc ++ i.Slice ∷ []))) =
-            omega (arith, length-append ac (bc ++ (cc ++ i.Slice ∷ [])), length-append bc (cc ++ i.Slice ∷ []), length-append cc (i.Slice ∷ [])) in
+        omega (arith, length-append ac (bc ++ (cc ++ i.Slice ∷ [])), length-append bc (cc ++ i.Slice ∷ []), length-append cc (i.Slice ∷ [])) in
         expr_runs a run s pc (v ∷ stack) w d (has_front all pc ac (bc ++ (cc ++ i.Slice ∷ [])) is)
         (bind_then r (told s) w (eval u run a w) _ _ _ (eval_gives u nest_ends run a w) h (λ x w1 k1 h1.
         expr_runs b run s pc1 (x ∷ v ∷ stack) w1 (deep_kept k1 d) (has_front all pc1 bc (cc ++ i.Slice ∷ []) from_b)
