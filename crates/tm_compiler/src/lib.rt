@@ -2,8 +2,6 @@
 #![tactic(auto)]
 
 mod source;
-#[cfg(test)]
-mod tests;
 
 pub use source::{one_tree, parse};
 pub use tm_generator::{Streams, generate};

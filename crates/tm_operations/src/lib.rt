@@ -10,8 +10,6 @@ mod iteration;
 mod members;
 mod names;
 mod slices;
-#[cfg(test)]
-mod tests;
 mod undefined;
 
 pub use arithmetic::{add, divide, floor_divide, multiply, negate, power, remainder, subtract};

@@ -6,6 +6,3 @@ mod target;
 
 pub use sink::{Counted, NullWriter, Sink, write_text};
 pub use target::{Target, TargetFailed};
-
-#[cfg(test)]
-mod tests;

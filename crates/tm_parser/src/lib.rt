@@ -7,7 +7,5 @@ mod expressions;
 mod statements;
 mod tables;
 mod template;
-#[cfg(test)]
-mod tests;
 
 pub use template::{one_tree, parse_tokens};

@@ -12,6 +12,3 @@ pub use halt::Halt;
 pub use output::{Captures, Output, WriteWrapper};
 pub use stack::Stack;
 pub use tm_output::{Counted, NullWriter, Sink, write_text};
-
-#[cfg(test)]
-mod tests;

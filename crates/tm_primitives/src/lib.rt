@@ -3,6 +3,4 @@
 
 pub mod characters;
 pub mod places;
-#[cfg(test)]
-mod tests;
 pub mod whole;

@@ -14,8 +14,3 @@ pub use emission::{check_emission, emit, to_text};
 pub use printing::{print, write_html};
 pub use spelling::{Escape, Html, HtmlQuoted, Json, Quoted, Spelling, Verbatim};
 pub use text::{write_json_text, write_number, write_quoted, write_spelled};
-
-#[cfg(test)]
-mod tests;
-#[cfg(test)]
-mod value_tests;

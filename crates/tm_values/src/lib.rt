@@ -8,8 +8,6 @@ mod macros;
 mod map;
 mod order;
 mod records;
-#[cfg(test)]
-mod tests;
 mod undefined;
 mod value;
 

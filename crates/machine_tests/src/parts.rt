@@ -3,11 +3,11 @@ ghost use Rattle.std.specs.Prelude.{◌≡◌, [], ◌++◌, OnOk};
 ghost use Rattle.std.specs.Io.KnownBytes.{Appends};
 ghost use Rattle.tm_output.specs.Counts.{AppendsBeginning};
 
-use super::*;
 use std::alloc::Global;
 use std::io::{self, Write};
 use std::process::Abort;
 use std::test::Fail;
+use tm_parts::{Captures, Counted, FuelTracker, NullWriter, Output, Sink, Stack, WriteWrapper};
 use tm_syntax::Instruction;
 use tm_values::{Error, ErrorKind, Value};
 
@@ -33,21 +33,33 @@ fn refused(tracker: &mut FuelTracker) -> Option<ErrorKind> {
     }
 }
 
-#[test]
-fn fuel_of_two(rt: HostRuntime) {
-    let mut tracker = FuelTracker::new(2);
-    assert_eq!(rt; refused(&mut tracker), None);
-    assert_eq!(rt; (tracker.consumed(), tracker.remaining()), (1, 1));
-    assert_eq!(rt; refused(&mut tracker), Some(ErrorKind::OutOfFuel));
-    assert_eq!(rt; (tracker.consumed(), tracker.remaining()), (2, 0));
-    assert_eq!(rt; tracker.initial(), 2);
+/// So much fuel, how often a charge is taken from it, how the last one is refused, and then what
+/// is consumed and what remains.
+type Charges = (u64, u64, Option<ErrorKind>, u64, u64);
+
+static CHARGES: [Charges; 3] = [
+    (2, 1, None, 1, 1),
+    (2, 2, Some(ErrorKind::OutOfFuel), 2, 0),
+    (0, 1, Some(ErrorKind::OutOfFuel), 0, 0),
+];
+
+fn are_charged(charges: &Charges) -> bool {
+    let mut tracker = FuelTracker::new(charges.0);
+    let mut refusal = None;
+    for _ in 0..charges.1 {
+        refusal = refused(&mut tracker);
+    }
+    refusal == charges.2
+        && tracker.consumed() == charges.3
+        && tracker.remaining() == charges.4
+        && tracker.initial() == charges.0
 }
 
 #[test]
-fn no_fuel(rt: HostRuntime) {
-    let mut tracker = FuelTracker::new(0);
-    assert_eq!(rt; refused(&mut tracker), Some(ErrorKind::OutOfFuel));
-    assert_eq!(rt; (tracker.consumed(), tracker.remaining()), (0, 0));
+fn fuel_is_charged(rt: HostRuntime) {
+    for (place, charges) in CHARGES.iter().enumerate() {
+        assert!(rt; are_charged(charges), "at {place}");
+    }
 }
 
 /// Writes two texts to an output.
@@ -93,16 +105,23 @@ fn ends_with(captures: &mut Captures, expected: &str) -> bool {
     }
 }
 
+fn is_at(captures: &Captures, depth: usize, is_heard: bool) -> bool {
+    captures.depth() == depth && captures.is_heard() == is_heard
+}
+
+fn takes_texts(alloc: Global) -> bool {
+    let mut captures = Captures::new(alloc);
+    nest(alloc, &mut captures).is_ok()
+        && is_at(&captures, 2, true)
+        && ends_with(&mut captures, "bcd")
+        && is_at(&captures, 1, false)
+        && ends_with(&mut captures, "a")
+        && captures.end().is_none()
+}
+
 #[test]
 fn a_capture_takes_the_text(rt: HostRuntime) {
-    let alloc = rt.alloc();
-    let mut captures = Captures::new(alloc);
-    assert!(rt; nest(alloc, &mut captures).is_ok());
-    assert_eq!(rt; (captures.depth(), captures.is_heard()), (2, true));
-    assert!(rt; ends_with(&mut captures, "bcd"));
-    assert_eq!(rt; (captures.depth(), captures.is_heard()), (1, false));
-    assert!(rt; ends_with(&mut captures, "a"));
-    assert!(rt; captures.end().is_none());
+    assert!(rt; takes_texts(rt.alloc()));
 }
 
 /// The kind that a write is refused with.
@@ -120,16 +139,21 @@ fn taken_out<W: Sink>(wrapper: &mut WriteWrapper<W>) -> ErrorKind {
         .kind()
 }
 
+/// The kind of the writer's error that a wrapper keeps.
+fn kept<W: Sink>(wrapper: &WriteWrapper<W>) -> Option<io::ErrorKind> {
+    match &wrapper.err {
+        Some(error) => Some(error.kind()),
+        None => None,
+    }
+}
+
 #[test]
 fn a_wrapper_keeps_the_error(rt: HostRuntime) {
     let mut wrapper = WriteWrapper::new(Counted::new(Broken));
-    assert_eq!(rt; write_refused(&mut wrapper), Some(ErrorKind::WriteFailure));
-    assert_eq!(rt;
-        wrapper.err.as_ref().map(|error| error.kind()),
-        Some(io::ErrorKind::BrokenPipe)
-    );
-    assert_eq!(rt; taken_out(&mut wrapper), ErrorKind::WriteFailure);
-    assert_eq!(rt; taken_out(&mut wrapper), ErrorKind::InvalidOperation);
+    assert!(rt; write_refused(&mut wrapper) == Some(ErrorKind::WriteFailure));
+    assert!(rt; kept(&wrapper) == Some(io::ErrorKind::BrokenPipe));
+    assert!(rt; taken_out(&mut wrapper) == ErrorKind::WriteFailure);
+    assert!(rt; taken_out(&mut wrapper) == ErrorKind::InvalidOperation);
 }
 
 /// Puts three whole numbers on top.
@@ -156,16 +180,24 @@ fn are(values: Option<&[Value]>, wholes: &[i128]) -> bool {
             .all(|(value, whole)| value.as_whole() == Some(*whole))
 }
 
+fn gives_operands(stack: &mut Stack) -> bool {
+    push_three(stack).is_ok()
+        && are(stack.args(2), &[2, 3])
+        && stack.args(4).is_none()
+        && replaced(stack, 4) == Some(3)
+        && are(stack.args(3), &[1, 2, 4])
+}
+
+fn loses_operands(stack: &mut Stack) -> bool {
+    stack.remove(2);
+    let is_left = are(stack.args(1), &[1]);
+    stack.remove(5);
+    is_left && replaced(stack, 6).is_none()
+}
+
 #[test]
 fn operands_are_taken_from_the_top(rt: HostRuntime) {
     let mut stack = Stack::new(rt.alloc());
-    assert!(rt; push_three(&mut stack).is_ok());
-    assert!(rt; are(stack.args(2), &[2, 3]));
-    assert!(rt; stack.args(4).is_none());
-    assert_eq!(rt; replaced(&mut stack, 4), Some(3));
-    assert!(rt; are(stack.args(3), &[1, 2, 4]));
-    stack.remove(2);
-    assert!(rt; are(stack.args(1), &[1]));
-    stack.remove(5);
-    assert_eq!(rt; replaced(&mut stack, 6), None);
+    assert!(rt; gives_operands(&mut stack));
+    assert!(rt; loses_operands(&mut stack));
 }

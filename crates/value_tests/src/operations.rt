@@ -1,81 +1,20 @@
-//! Rows of operands and what the operations give for them, over records that the tests make up.
-ghost use Rattle.std.specs.Prelude.{[], ◌∷◌};
-ghost use Rattle.tm_values.specs.Records.{RecordData};
-
-use self::Given::{
-    Function, Keyed, Loop, Named, Namespace, Nothing, Number, Numbers, Parts, Safe, Silent, Text,
-    Truth, Undefined,
+//! Rows of operands and what the operations give for them.
+use crate::given::Given::{
+    Entries, Function, Items, Loop, Namespace, Nothing, Number, Safe, Silent, Text, Truth,
+    Undefined,
 };
-use crate::*;
+use crate::given::{Fake, Given, made, made_records};
 use std::alloc::Global;
 use std::process::Abort;
 use std::rc::Rc;
 use std::test::Fail;
-use tm_printing::to_text;
-use tm_values::{
-    Error, ErrorKind, LoopPosition, NoRecords, Node, Records, UndefinedBehavior, UndefinedUse,
-    Value, ValueMap,
+use tm_operations::{
+    Comparison, add, attribute, check_defined, check_settable, compare, concatenate, contains,
+    divide, floor_divide, is_callable, item, iterate, multiply, negate, power, remainder, slice,
+    subtract, truth, unpack,
 };
-
-/// The records of state 4: one namespace.
-#[derive(Drop)]
-struct Space {
-    entries: ValueMap,
-}
-
-impl Records for Space {
-    ghost records = { λ s. record { state = 4; namespaces = s.entries ∷ []; loops = [] } };
-
-    fn state(&self) -> u64 {
-        4
-    }
-
-    fn namespace_count(&self) -> usize {
-        1
-    }
-
-    fn namespace(&self, index: usize) -> Option<&ValueMap> {
-        match index {
-            0 => Some(&self.entries),
-            _ => None,
-        }
-    }
-
-    fn loop_position(&self, _index: usize) -> Option<LoopPosition> {
-        None
-    }
-
-    fn previous_item(&self, _index: usize) -> Option<&Value> {
-        None
-    }
-
-    fn following_item(&self, _index: usize) -> Option<&Value> {
-        None
-    }
-}
-
-/// An operand.
-#[derive(Clone, Copy)]
-enum Given {
-    Undefined,
-    Silent,
-    Nothing,
-    Truth(bool),
-    Number(i128),
-    Text(&'static str),
-    Safe(&'static str),
-    /// The list of these numbers.
-    Numbers(&'static [i128]),
-    /// The list of the parts of a slice, none where they are missing.
-    Parts(Option<i128>, Option<i128>, Option<i128>),
-    /// The map of each of these numbers to the text "a".
-    Keyed(&'static [i128]),
-    /// The map of this text to the text "a".
-    Named(&'static str),
-    Function,
-    Loop(u64),
-    Namespace(u64, usize),
-}
+use tm_printing::to_text;
+use tm_values::{Error, ErrorKind, NoRecords, Node, UndefinedBehavior, UndefinedUse, Value};
 
 /// What is done with the left operand, and with the right one if it takes one.
 #[derive(Clone, Copy)]
@@ -94,8 +33,8 @@ enum Operation {
     Contains,
     Test,
     Item,
-    /// The attribute "x".
-    Attribute,
+    /// The attribute of this name.
+    Attribute(&'static str),
     /// The number of the namespace, to set an attribute of it.
     Set,
     IsCallable,
@@ -119,7 +58,7 @@ const LESS: Operation = Operation::Compare(Comparison::Less);
 
 const EQUAL: Operation = Operation::Compare(Comparison::Equal);
 
-static ARITHMETIC: [Row; 18] = [
+static ARITHMETIC: [Row; 23] = [
     (Number(7), Operation::FloorDivide, Number(-2), "-3"),
     (Number(-7), Operation::FloorDivide, Number(2), "-4"),
     (Number(-7), Operation::Remainder, Number(2), "1"),
@@ -153,29 +92,46 @@ static ARITHMETIC: [Row; 18] = [
     (Number(i128::MAX), Operation::Add, Number(1), INVALID),
     (Number(3), Operation::Subtract, Number(5), "-2"),
     (Number(-3), Operation::Multiply, Number(5), "-15"),
+    (Number(2), Operation::Add, Number(3), "5"),
+    (Number(2), Operation::Subtract, Number(3), "-1"),
+    (Number(-4), Operation::Multiply, Number(5), "-20"),
+    (Number(i128::MIN), Operation::Multiply, Number(-1), INVALID),
+    (Number(7), Operation::Negate, Nothing, "-7"),
 ];
 
-static SUMS: [Row; 9] = [
+static SUMS: [Row; 11] = [
     (Safe("a"), Operation::Add, Text("b"), "ab"),
-    (Numbers(&[1]), Operation::Add, Numbers(&[2]), "[1, 2]"),
+    (
+        Items(&[Number(1)]),
+        Operation::Add,
+        Items(&[Number(2)]),
+        "[1, 2]",
+    ),
     (Number(1), Operation::Add, Truth(true), "2"),
     (Truth(true), Operation::Add, Truth(true), "2"),
     (Number(1), Operation::Add, Text("a"), INVALID),
     (Truth(true), Operation::Negate, Nothing, "-1"),
-    (Safe("<a>"), Operation::Join, Numbers(&[1, 2]), "<a>[1, 2]"),
+    (
+        Safe("<a>"),
+        Operation::Join,
+        Items(&[Number(1), Number(2)]),
+        "<a>[1, 2]",
+    ),
     (Undefined, Operation::Join, Safe("<a>"), "<a>"),
     (Text("a"), Operation::Join, Namespace(5, 0), INVALID),
+    (Number(1), Operation::Add, Truth(false), "1"),
+    (Text("1"), Operation::Subtract, Number(1), INVALID),
 ];
 
-static ORDER: [Row; 16] = [
+static ORDER: [Row; 18] = [
     (Undefined, LESS, Nothing, "true"),
     (Nothing, LESS, Truth(false), "true"),
     (Truth(false), LESS, Number(1), "true"),
     (Number(1), LESS, Number(2), "true"),
     (Number(2), LESS, Text(""), "true"),
-    (Text(""), LESS, Numbers(&[]), "true"),
-    (Numbers(&[]), LESS, Keyed(&[]), "true"),
-    (Keyed(&[]), LESS, Undefined, "false"),
+    (Text(""), LESS, Items(&[]), "true"),
+    (Items(&[]), LESS, Entries(&[]), "true"),
+    (Entries(&[]), LESS, Undefined, "false"),
     (Truth(false), EQUAL, Number(0), "true"),
     (Truth(true), EQUAL, Number(1), "true"),
     (Text("1"), EQUAL, Number(1), "false"),
@@ -204,86 +160,211 @@ static ORDER: [Row; 16] = [
         Truth(false),
         "false",
     ),
+    (Truth(true), EQUAL, Number(2), "false"),
+    (Undefined, EQUAL, Silent, "true"),
 ];
 
 static TRUTH: [Row; 8] = [
     (Number(0), Operation::Test, Nothing, "false"),
     (Text(""), Operation::Test, Nothing, "false"),
-    (Keyed(&[]), Operation::Test, Nothing, "false"),
-    (Function, Operation::Test, Nothing, "true"),
-    (Function, Operation::IsCallable, Nothing, "true"),
-    (Loop(0), Operation::IsCallable, Nothing, "true"),
+    (Entries(&[]), Operation::Test, Nothing, "false"),
+    (Function(0), Operation::Test, Nothing, "true"),
+    (Function(0), Operation::IsCallable, Nothing, "true"),
+    (Loop(0, 0), Operation::IsCallable, Nothing, "true"),
     (Namespace(0, 0), Operation::IsCallable, Nothing, "false"),
     (Number(1), Operation::IsCallable, Nothing, "false"),
 ];
 
-static ITEMS: [Row; 9] = [
+const ENTRIES: &[(Given, Given)] = &[
+    (Text("d"), Text("4")),
+    (Text("a"), Text("1")),
+    (Text("c"), Text("3")),
+    (Text("b"), Text("2")),
+    (Text("e"), Text("5")),
+];
+
+static ITEMS: [Row; 20] = [
     (Safe("größe"), Operation::Item, Number(2), "ö"),
     (Safe("größe"), Operation::Item, Number(-1), "e"),
     (Safe("größe"), Operation::Item, Number(-6), "undefined"),
     (Text("abc"), Operation::Item, Number(5), "undefined"),
-    (Numbers(&[1, 2]), Operation::Item, Number(-1), "2"),
-    (Numbers(&[1, 2]), Operation::Item, Truth(true), "undefined"),
-    (Keyed(&[1]), Operation::Item, Truth(true), "a"),
-    (Keyed(&[1]), Operation::Attribute, Nothing, "undefined"),
-    (Named("x"), Operation::Attribute, Nothing, "a"),
+    (
+        Items(&[Number(1), Number(2)]),
+        Operation::Item,
+        Number(-1),
+        "2",
+    ),
+    (
+        Items(&[Number(1), Number(2)]),
+        Operation::Item,
+        Truth(true),
+        "undefined",
+    ),
+    (
+        Entries(&[(Number(1), Text("a"))]),
+        Operation::Item,
+        Truth(true),
+        "a",
+    ),
+    (
+        Entries(&[(Number(1), Text("a"))]),
+        Operation::Attribute("x"),
+        Nothing,
+        "undefined",
+    ),
+    (
+        Entries(&[(Text("x"), Text("a"))]),
+        Operation::Attribute("x"),
+        Nothing,
+        "a",
+    ),
+    (Entries(ENTRIES), Operation::Attribute("d"), Nothing, "4"),
+    (Entries(ENTRIES), Operation::Attribute("a"), Nothing, "1"),
+    (Entries(ENTRIES), Operation::Attribute("c"), Nothing, "3"),
+    (Entries(ENTRIES), Operation::Attribute("b"), Nothing, "2"),
+    (Entries(ENTRIES), Operation::Attribute("e"), Nothing, "5"),
+    (
+        Entries(ENTRIES),
+        Operation::Attribute(""),
+        Nothing,
+        "undefined",
+    ),
+    (
+        Entries(ENTRIES),
+        Operation::Attribute("A"),
+        Nothing,
+        "undefined",
+    ),
+    (
+        Entries(ENTRIES),
+        Operation::Attribute("ab"),
+        Nothing,
+        "undefined",
+    ),
+    (
+        Entries(ENTRIES),
+        Operation::Attribute("f"),
+        Nothing,
+        "undefined",
+    ),
+    (Text("a"), Operation::Attribute("a"), Nothing, "undefined"),
+    (Entries(ENTRIES), Operation::Set, Nothing, INVALID),
 ];
 
 static MEMBERS: [Row; 8] = [
-    (Numbers(&[1, 2]), Operation::Contains, Truth(true), "true"),
-    (Numbers(&[1, 2]), Operation::Contains, Number(3), "false"),
-    (Named("key"), Operation::Contains, Text("key"), "true"),
-    (Named("key"), Operation::Contains, Text("a"), "false"),
+    (
+        Items(&[Number(1), Number(2)]),
+        Operation::Contains,
+        Truth(true),
+        "true",
+    ),
+    (
+        Items(&[Number(1), Number(2)]),
+        Operation::Contains,
+        Number(3),
+        "false",
+    ),
+    (
+        Entries(&[(Text("key"), Text("a"))]),
+        Operation::Contains,
+        Text("key"),
+        "true",
+    ),
+    (
+        Entries(&[(Text("key"), Text("a"))]),
+        Operation::Contains,
+        Text("a"),
+        "false",
+    ),
     (Text("größe"), Operation::Contains, Text("öß"), "true"),
     (Text("größe"), Operation::Contains, Text("ög"), "false"),
-    (Text("größe"), Operation::Contains, Numbers(&[1]), INVALID),
-    (Undefined, Operation::Contains, Numbers(&[1]), "false"),
+    (
+        Text("größe"),
+        Operation::Contains,
+        Items(&[Number(1)]),
+        INVALID,
+    ),
+    (Undefined, Operation::Contains, Items(&[Number(1)]), "false"),
 ];
 
-static SLICES: [Row; 9] = [
+static SLICES: [Row; 13] = [
     (
-        Numbers(&[1, 2, 3]),
+        Items(&[Number(1), Number(2), Number(3)]),
         Operation::Slice,
-        Parts(Some(-2), None, None),
+        Items(&[Number(-2), Nothing, Nothing]),
         "[2, 3]",
     ),
     (
-        Numbers(&[1, 2, 3]),
+        Items(&[Number(1), Number(2), Number(3)]),
         Operation::Slice,
-        Parts(Some(5), None, Some(-2)),
+        Items(&[Number(5), Nothing, Number(-2)]),
         "[3, 1]",
     ),
     (
-        Numbers(&[1, 2, 3]),
+        Items(&[Number(1), Number(2), Number(3)]),
         Operation::Slice,
-        Parts(None, None, Some(0)),
+        Items(&[Nothing, Nothing, Number(0)]),
         INVALID,
     ),
-    (Numbers(&[1, 2, 3]), Operation::Slice, Truth(true), INVALID),
-    (Numbers(&[1, 2, 3]), Operation::Slice, Nothing, "[1, 2, 3]"),
+    (
+        Items(&[Number(1), Number(2), Number(3)]),
+        Operation::Slice,
+        Truth(true),
+        INVALID,
+    ),
+    (
+        Items(&[Number(1), Number(2), Number(3)]),
+        Operation::Slice,
+        Nothing,
+        "[1, 2, 3]",
+    ),
     (
         Safe("abc"),
         Operation::Slice,
-        Parts(None, None, Some(-1)),
+        Items(&[Nothing, Nothing, Number(-1)]),
         "cba",
     ),
     (
         Nothing,
         Operation::Slice,
-        Parts(Some(1), Some(2), None),
+        Items(&[Number(1), Number(2), Nothing]),
         "[]",
     ),
     (
         Undefined,
         Operation::Slice,
-        Parts(Some(1), Some(2), None),
+        Items(&[Number(1), Number(2), Nothing]),
         "[]",
     ),
     (
-        Keyed(&[]),
+        Entries(&[]),
         Operation::Slice,
-        Parts(Some(1), Some(2), None),
+        Items(&[Number(1), Number(2), Nothing]),
         INVALID,
+    ),
+    (
+        Items(&[Number(1), Number(2), Number(3)]),
+        Operation::Slice,
+        Items(&[Nothing, Nothing, Number(-1)]),
+        "[3, 2, 1]",
+    ),
+    (
+        Items(&[Number(1), Number(2), Number(3)]),
+        Operation::Slice,
+        Items(&[Number(1), Nothing, Number(36893488147419103232)]),
+        "[2]",
+    ),
+    (
+        Text("größe"),
+        Operation::Slice,
+        Items(&[Nothing, Nothing, Number(-1)]),
+        "eßörg",
+    ),
+    (
+        Text("größe"),
+        Operation::Slice,
+        Items(&[Number(1), Number(-1), Number(1)]),
+        "röß",
     ),
 ];
 
@@ -294,20 +375,30 @@ static ITERATION: [Row; 13] = [
         Nothing,
         "[\"g\", \"r\", \"ö\", \"ß\", \"e\"]",
     ),
-    (Loop(7), Operation::Iterate, Nothing, NAMES_OF_LOOPS),
-    (Keyed(&[2, 1]), Operation::Iterate, Nothing, "[1, 2]"),
+    (Loop(7, 0), Operation::Iterate, Nothing, NAMES_OF_LOOPS),
+    (
+        Entries(&[(Number(2), Text("a")), (Number(1), Text("a"))]),
+        Operation::Iterate,
+        Nothing,
+        "[1, 2]",
+    ),
     (Nothing, Operation::Iterate, Nothing, INVALID),
     (Number(3), Operation::Iterate, Nothing, INVALID),
-    (Namespace(7, 0), Operation::Iterate, Nothing, INVALID),
+    (Namespace(5, 0), Operation::Iterate, Nothing, INVALID),
     (
-        Numbers(&[1, 2]),
+        Items(&[Number(1), Number(2)]),
         Operation::Unpack(1),
         Nothing,
         "CannotUnpack",
     ),
-    (Numbers(&[1, 2]), Operation::Unpack(2), Nothing, "[1, 2]"),
     (
-        Numbers(&[1, 2]),
+        Items(&[Number(1), Number(2)]),
+        Operation::Unpack(2),
+        Nothing,
+        "[1, 2]",
+    ),
+    (
+        Items(&[Number(1), Number(2)]),
         Operation::Unpack(3),
         Nothing,
         "CannotUnpack",
@@ -315,7 +406,7 @@ static ITERATION: [Row; 13] = [
     (Text("ab"), Operation::Unpack(2), Nothing, "CannotUnpack"),
     (Undefined, Operation::Unpack(2), Nothing, "CannotUnpack"),
     (Nothing, Operation::Unpack(2), Nothing, "CannotUnpack"),
-    (Namespace(7, 0), Operation::Unpack(2), Nothing, INVALID),
+    (Namespace(5, 0), Operation::Unpack(2), Nothing, INVALID),
 ];
 
 const NAMES_OF_LOOPS: &str =
@@ -323,18 +414,17 @@ const NAMES_OF_LOOPS: &str =
      \"last\", \"depth\", \"depth0\", \"previtem\", \"nextitem\"]";
 
 /// A namespace of the state at hand.
-static OWN_RECORD: [Row; 6] = [
-    (Namespace(4, 0), Operation::Attribute, Nothing, "a"),
-    (Namespace(4, 0), Operation::Item, Text("x"), "a"),
-    (Namespace(4, 0), Operation::Contains, Text("x"), "true"),
-    (Namespace(4, 0), Operation::Iterate, Nothing, "[\"x\"]"),
-    (Namespace(4, 0), Operation::Set, Nothing, "0"),
-    (Named("x"), Operation::Set, Nothing, INVALID),
+static OWN_RECORD: [Row; 5] = [
+    (Namespace(7, 1), Operation::Attribute("x"), Nothing, "1"),
+    (Namespace(7, 1), Operation::Item, Text("x"), "1"),
+    (Namespace(7, 1), Operation::Contains, Text("x"), "true"),
+    (Namespace(7, 1), Operation::Iterate, Nothing, "[\"x\"]"),
+    (Namespace(7, 1), Operation::Set, Nothing, "1"),
 ];
 
 /// What is done with a record that isn't there: what needs its content is refused, and nothing else.
 static NO_RECORD: [(Operation, &str); 8] = [
-    (Operation::Attribute, INVALID),
+    (Operation::Attribute("x"), INVALID),
     (Operation::Item, INVALID),
     (Operation::Contains, INVALID),
     (Operation::Set, INVALID),
@@ -361,10 +451,10 @@ type Cells = (
 );
 
 /// With a text to the right of it.
-static UNDEFINED_LEFT: [(Operation, Cells); 12] = [
+static UNDEFINED_LEFT: [(Operation, Cells); 17] = [
     (Operation::Iterate, (None, None, FAILS, FAILS)),
     (Operation::Item, (FAILS, None, FAILS, FAILS)),
-    (Operation::Attribute, (FAILS, None, FAILS, FAILS)),
+    (Operation::Attribute("x"), (FAILS, None, FAILS, FAILS)),
     (LESS, (None, None, None, FAILS)),
     (Operation::Join, (None, None, None, FAILS)),
     (Operation::Contains, (None, None, FAILS, FAILS)),
@@ -377,7 +467,29 @@ static UNDEFINED_LEFT: [(Operation, Cells); 12] = [
     ),
     (Operation::Use(UndefinedUse::ItemSpread), NEVER_REFUSED),
     (Operation::Use(UndefinedUse::Arithmetic), ALWAYS_REFUSED),
+    (
+        Operation::Use(UndefinedUse::Iteration),
+        (None, None, FAILS, FAILS),
+    ),
+    (
+        Operation::Use(UndefinedUse::Member),
+        (FAILS, None, FAILS, FAILS),
+    ),
+    (
+        Operation::Use(UndefinedUse::Comparison),
+        (None, None, None, FAILS),
+    ),
+    (
+        Operation::Use(UndefinedUse::Containment),
+        (None, None, FAILS, FAILS),
+    ),
+    (
+        Operation::Use(UndefinedUse::Slice),
+        (None, None, None, FAILS),
+    ),
 ];
+
+const ONE: Given = Items(&[Number(1)]);
 
 /// With a list to the left of it.
 static UNDEFINED_RIGHT: [(Operation, Cells); 4] = [
@@ -387,84 +499,29 @@ static UNDEFINED_RIGHT: [(Operation, Cells); 4] = [
     (Operation::Add, ALWAYS_REFUSED),
 ];
 
-static UNDEFINED_ALONE: [(Given, Operation, Cells); 6] = [
+static UNDEFINED_ALONE: [(Given, Operation, Cells); 8] = [
     (Undefined, Operation::Slice, (None, None, None, FAILS)),
     (Silent, Operation::Slice, (None, None, None, FAILS)),
     (Undefined, Operation::Test, (None, None, None, FAILS)),
     (Silent, Operation::Test, NEVER_REFUSED),
     (Undefined, EMISSION, (None, None, FAILS, FAILS)),
     (Silent, EMISSION, NEVER_REFUSED),
+    (
+        Undefined,
+        Operation::Use(UndefinedUse::Truth),
+        (None, None, None, FAILS),
+    ),
+    (Silent, Operation::Use(UndefinedUse::Truth), NEVER_REFUSED),
 ];
 
 const EMISSION: Operation = Operation::Use(UndefinedUse::Emission);
 
-fn made(alloc: Global, given: Given) -> Result<Value, Error> {
-    match given {
-        Undefined => Ok(Value::undefined()),
-        Silent => Ok(Value::silent_undefined()),
-        Nothing => Ok(Value::none()),
-        Truth(truth) => Ok(Value::boolean(truth)),
-        Number(whole) => Ok(Value::number(whole)),
-        Text(content) => Value::text(alloc, content),
-        Safe(content) => Value::safe_text(alloc, content),
-        Numbers(wholes) => numbers(alloc, wholes),
-        Parts(start, stop, step) => parts(alloc, start, stop, step),
-        Keyed(keys) => Value::from_map(alloc, keyed(alloc, keys)?),
-        Named(name) => Value::from_map(alloc, named(alloc, name)?),
-        Function => Ok(Value::function(0)),
-        Loop(state) => Ok(Value::loop_record(state, 0)),
-        Namespace(state, index) => Ok(Value::namespace(state, index)),
-    }
-}
-
-fn numbers(alloc: Global, wholes: &[i128]) -> Result<Value, Error> {
-    let mut items = Vec::new(alloc);
-    for whole in wholes {
-        items.push(Value::number(*whole))?;
-    }
-    Value::list(alloc, items)
-}
-
-fn parts(
-    alloc: Global,
-    start: Option<i128>,
-    stop: Option<i128>,
-    step: Option<i128>,
-) -> Result<Value, Error> {
-    let mut items = Vec::new(alloc);
-    items.push(part(start))?;
-    items.push(part(stop))?;
-    items.push(part(step))?;
-    Value::list(alloc, items)
-}
-
-fn part(bound: Option<i128>) -> Value {
-    match bound {
-        Some(whole) => Value::number(whole),
-        None => Value::none(),
-    }
-}
-
-fn keyed(alloc: Global, keys: &[i128]) -> Result<ValueMap, Error> {
-    let mut entries = ValueMap::new(alloc);
-    for key in keys {
-        entries.insert(Value::number(*key), Value::text(alloc, "a")?)?;
-    }
-    Ok(entries)
-}
-
-fn named(alloc: Global, name: &str) -> Result<ValueMap, Error> {
-    let mut entries = ValueMap::new(alloc);
-    entries.insert(Value::text(alloc, name)?, Value::text(alloc, "a")?)?;
-    Ok(entries)
-}
-
-fn applied<R: Records>(
+fn applied(
     alloc: Global,
     operation: Operation,
     left: &Value,
     right: &Value,
-    records: &R,
+    records: &Fake,
     behavior: UndefinedBehavior,
 ) -> Result<Value, Error> {
     match operation {
@@ -481,7 +538,7 @@ fn applied<R: Records>(
         Operation::Contains => truth_value(contains(alloc, left, right, records, behavior)),
         Operation::Test => truth_value(truth(left, behavior)),
         Operation::Item => item(alloc, left, right, records, behavior),
-        Operation::Attribute => attribute(alloc, left, "x", records, behavior),
+        Operation::Attribute(name) => attribute(alloc, left, name, records, behavior),
         Operation::Set => number_value(check_settable(alloc, left, records)),
         Operation::IsCallable => Ok(Value::boolean(is_callable(left))),
         Operation::Slice => cut(alloc, left, right, behavior),
@@ -522,24 +579,24 @@ fn cut(
     }
 }
 
-fn outcome<R: Records>(
+fn outcome(
     alloc: Global,
     left: Given,
     operation: Operation,
     right: Given,
-    records: &R,
+    records: &Fake,
     behavior: UndefinedBehavior,
 ) -> Result<Value, Error> {
     let left = made(alloc, left)?;
     outcome_of(alloc, &left, operation, right, records, behavior)
 }
 
-fn outcome_of<R: Records>(
+fn outcome_of(
     alloc: Global,
     left: &Value,
     operation: Operation,
     right: Given,
-    records: &R,
+    records: &Fake,
     behavior: UndefinedBehavior,
 ) -> Result<Value, Error> {
     let right = made(alloc, right)?;
@@ -565,80 +622,52 @@ fn prints(alloc: Global, value: &Value, wanted: &str) -> bool {
     }
 }
 
-fn check_row<R: Records>(rt: &impl Abort, alloc: Global, records: &R, row: Row) {
+fn is_row(alloc: Global, records: &Fake, row: Row) -> bool {
     let (left, operation, right, wanted) = row;
     let answer = outcome(alloc, left, operation, right, records, LENIENT);
-    assert!(rt; is_spelled(alloc, &answer, wanted), "{wanted}");
+    is_spelled(alloc, &answer, wanted)
 }
 
-fn check_rows(rt: &impl Abort, alloc: Global, rows: &[Row]) {
-    for row in rows {
-        check_row(rt, alloc, &NoRecords, *row);
+fn check_rows(rt: &impl Abort, alloc: Global, records: &Fake, name: &str, rows: &[Row]) {
+    for (place, row) in rows.iter().enumerate() {
+        assert!(rt; is_row(alloc, records, *row), "{name}, at {place}");
     }
 }
 
-#[test]
-fn arithmetic_is_euclidean_and_exact(rt: HostRuntime) {
-    check_rows(&rt, rt.alloc(), &ARITHMETIC);
-    check_rows(&rt, rt.alloc(), &SUMS);
-}
-
-#[test]
-fn kinds_ascend_and_have_a_truth(rt: HostRuntime) {
-    check_rows(&rt, rt.alloc(), &ORDER);
-    check_rows(&rt, rt.alloc(), &TRUTH);
-}
-
-#[test]
-fn items_and_what_is_in_a_value(rt: HostRuntime) {
-    check_rows(&rt, rt.alloc(), &ITEMS);
-    check_rows(&rt, rt.alloc(), &MEMBERS);
-}
-
-#[test]
-fn slices_go_both_ways(rt: HostRuntime) {
-    check_rows(&rt, rt.alloc(), &SLICES);
-}
-
-#[test]
-fn for_goes_over_characters_keys_and_names(rt: HostRuntime) {
-    check_rows(&rt, rt.alloc(), &ITERATION);
-}
-
-#[test]
-fn records_belong_to_their_state(rt: HostRuntime) -> Result<(), Fail> {
-    let alloc = rt.alloc();
-    let records = Space {
-        entries: named(alloc, "x")?,
-    };
-    check_records(&rt, alloc, &records);
-    Ok(())
-}
-
-fn check_records(rt: &impl Abort, alloc: Global, records: &Space) {
-    for row in &OWN_RECORD {
-        check_row(rt, alloc, records, *row);
+/// Asks for a record that isn't there.
+fn check_no_record(rt: &impl Abort, alloc: Global, records: &Fake, foreign: Given) {
+    for (place, (operation, wanted)) in NO_RECORD.iter().enumerate() {
+        assert!(rt;
+            is_row(alloc, records, (foreign, *operation, foreign, *wanted)),
+            "no record, at {place}"
+        );
     }
+}
+
+fn check_all(rt: &impl Abort, alloc: Global, records: &Fake) {
+    check_rows(rt, alloc, records, "arithmetic", &ARITHMETIC);
+    check_rows(rt, alloc, records, "sums", &SUMS);
+    check_rows(rt, alloc, records, "order", &ORDER);
+    check_rows(rt, alloc, records, "truth", &TRUTH);
+    check_rows(rt, alloc, records, "items", &ITEMS);
+    check_rows(rt, alloc, records, "members", &MEMBERS);
+    check_rows(rt, alloc, records, "slices", &SLICES);
+    check_rows(rt, alloc, records, "iteration", &ITERATION);
+    check_rows(rt, alloc, records, "own record", &OWN_RECORD);
     check_no_record(rt, alloc, records, Namespace(5, 0));
-    check_no_record(rt, alloc, records, Namespace(4, 1));
-    check_no_record(rt, alloc, records, Loop(4));
-}
-
-fn check_no_record(rt: &impl Abort, alloc: Global, records: &Space, foreign: Given) {
-    for (operation, wanted) in &NO_RECORD {
-        check_row(rt, alloc, records, (foreign, *operation, foreign, *wanted));
-    }
+    check_no_record(rt, alloc, records, Namespace(7, 3));
+    check_no_record(rt, alloc, records, Loop(7, 1));
 }
 
 /// What the operation is refused by.
 fn refusal(
     alloc: Global,
-    left: Given,
+    records: &Fake,
     operation: Operation,
-    right: Given,
+    operands: (Given, Given),
     behavior: UndefinedBehavior,
 ) -> Option<ErrorKind> {
-    match &outcome(alloc, left, operation, right, &NoRecords, behavior) {
+    match &outcome(alloc, operands.0, operation, operands.1, records, behavior) {
         Ok(_) => None,
         Err(error) => Some(error.kind()),
     }
@@ -647,9 +676,9 @@ fn refusal(
 fn check_cells(
     rt: &impl Abort,
     alloc: Global,
-    left: Given,
+    records: &Fake,
     operation: Operation,
-    right: Given,
+    operands: (Given, Given),
     cells: Cells,
 ) {
     for (behavior, wanted) in [
@@ -658,24 +687,45 @@ fn check_cells(
         (UndefinedBehavior::SemiStrict, cells.2),
         (UndefinedBehavior::Strict, cells.3),
     ] {
-        assert!(rt; refusal(alloc, left, operation, right, behavior) == wanted);
+        assert!(rt; refusal(alloc, records, operation, operands, behavior) == wanted);
     }
 }
 
-fn check_undefined(rt: &impl Abort, alloc: Global, undefined: Given) {
+fn check_undefined(rt: &impl Abort, alloc: Global, records: &Fake, undefined: Given) {
     for (operation, cells) in &UNDEFINED_LEFT {
-        check_cells(rt, alloc, undefined, *operation, Text("a"), *cells);
+        check_cells(
+            rt,
+            alloc,
+            records,
+            *operation,
+            (undefined, Text("a")),
+            *cells,
+        );
     }
     for (operation, cells) in &UNDEFINED_RIGHT {
-        check_cells(rt, alloc, Numbers(&[1]), *operation, undefined, *cells);
+        check_cells(rt, alloc, records, *operation, (ONE, undefined), *cells);
+    }
+}
+
+fn check_all_undefined(rt: &impl Abort, alloc: Global, records: &Fake) {
+    check_undefined(rt, alloc, records, Undefined);
+    check_undefined(rt, alloc, records, Silent);
+    for (undefined, operation, cells) in &UNDEFINED_ALONE {
+        check_cells(
+            rt,
+            alloc,
+            records,
+            *operation,
+            (*undefined, Nothing),
+            *cells,
+        );
     }
 }
 
 #[test]
-fn the_table_of_undefined_operands(rt: HostRuntime) {
-    check_undefined(&rt, rt.alloc(), Undefined);
-    check_undefined(&rt, rt.alloc(), Silent);
-    for (undefined, operation, cells) in &UNDEFINED_ALONE {
-        check_cells(&rt, rt.alloc(), *undefined, *operation, Nothing, *cells);
-    }
+fn operations_on_values(rt: HostRuntime) -> Result<(), Fail> {
+    let records = made_records(rt.alloc())?;
+    check_all(&rt, rt.alloc(), &records);
+    check_all_undefined(&rt, rt.alloc(), &records);
+    Ok(())
 }

@@ -1,7 +1,7 @@
 use Rattle.std.proofs.Common.{◌≡◌, [], ap, ◌∙◌}
 use Rattle.tm_meaning.specs.Machine.{put_in}
 use Rattle.tm_parts.proofs.Pieces.{appends_then_beginning, beginning_longer}
-use Rattle.tm_parts.proofs.tests.write_both.Goals as goal
+use Rattle.machine_tests.proofs.parts.write_both.Goals as goal
 
 pub returns-in-Ok-clause-beginning : goal.returns-in-Ok-clause-beginning
 returns-in-Ok-clause-beginning g c = λ none.

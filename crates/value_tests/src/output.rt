@@ -2,11 +2,11 @@
 ghost use Rattle.std.specs.Prelude.{◌++◌};
 ghost use Rattle.tm_output.specs.Targets.{Takes};
 
-use super::*;
-use std::alloc::Global;
+use std::alloc::{AllocError, Global};
 use std::io::{self, Write};
-use std::process::Abort;
 use std::test::Fail;
+use tm_output::{Counted, NullWriter, Target, TargetFailed, write_text};
+use tm_printing::{Html, write_spelled};
 
 /// A writer that takes at most `step` bytes a call until `room` is spent, and then fails, also at a
 /// flush, or takes nothing where it has no error.
@@ -62,16 +62,29 @@ fn take_both<T: Target>(target: &mut T, first: &str, second: &str) -> Result<(),
     target.take_text(second)
 }
 
-/// Gives `Hello` and `!` to a writer over the fake, and compares what comes of it: the answer, the
-/// bytes, the calls and the failures.
-fn hello(rt: &impl Abort, fake: Fake, expected: (Result<(), TargetFailed>, &[u8], u64, u64)) {
-    let (answer, bytes, calls, failures) = expected;
+/// What comes of texts that a writer is given: the answer, the bytes, the calls and the failures.
+type Told = (Result<(), TargetFailed>, &'static [u8], u64, u64);
+
+fn is_told(answer: Result<(), TargetFailed>, writer: &Counted<Fake>, told: Told) -> bool {
+    let fake = writer.inner();
+    answer == told.0
+        && fake.bytes.as_slice() == told.1
+        && fake.calls == told.2
+        && writer.failures() == told.3
+}
+
+/// Whether two texts come to that over the fake.
+fn tells(fake: Fake, texts: (&str, &str), told: Told) -> bool {
     let mut writer = Counted::new(fake);
-    assert!(rt; take_both(&mut writer, "Hello", "!") == answer);
-    assert!(rt; writer.failures() == failures);
-    let fake = writer.into_inner();
-    assert!(rt; fake.bytes.as_slice() == bytes);
-    assert!(rt; fake.calls == calls);
+    let answer = take_both(&mut writer, texts.0, texts.1);
+    is_told(answer, &writer, told)
+}
+
+/// Whether a text escaped for HTML comes to that over the fake.
+fn spells(fake: Fake, text: &str, told: Told) -> bool {
+    let mut writer = Counted::new(fake);
+    let answer = write_spelled::<Html, Counted<Fake>>(text, &mut writer);
+    is_told(answer, &writer, told)
 }
 
 #[test]
@@ -80,48 +93,49 @@ fn failing_writers(rt: HostRuntime) {
     let failed = Err(TargetFailed);
     let broken = Some(io::ErrorKind::BrokenPipe);
     let interrupted = Some(io::ErrorKind::Interrupted);
-    hello(&rt, Fake::new(alloc, 3, 3, broken), (failed, b"Hel", 2, 1));
-    hello(&rt, Fake::new(alloc, 9, 0, None), (failed, b"", 1, 1));
-    hello(
-        &rt,
-        Fake::new(alloc, 9, 0, interrupted),
-        (failed, b"", 1, 1),
-    );
-    hello(
-        &rt,
-        Fake::new(alloc, 1, 9, broken),
-        (Ok(()), b"Hello!", 6, 0),
-    );
+    for (step, room, error, told) in [
+        (3, 3, broken, (failed, b"Hel".as_slice(), 2, 1)),
+        (9, 0, None, (failed, b"".as_slice(), 1, 1)),
+        (9, 0, interrupted, (failed, b"".as_slice(), 1, 1)),
+        (1, 9, broken, (Ok(()), b"Hello!".as_slice(), 6, 0)),
+    ] {
+        assert!(rt; tells(Fake::new(alloc, step, room, error), ("Hello", "!"), told));
+    }
+    let nothing = (Ok(()), b"".as_slice(), 0, 0);
+    assert!(rt; tells(Fake::new(alloc, 9, 0, broken), ("", ""), nothing));
+    let beginning = (failed, b"a&lt;b".as_slice(), 7, 1);
+    assert!(rt; spells(Fake::new(alloc, 1, 6, None), "a<b>", beginning));
 }
 
-#[test]
-fn an_empty_text_makes_no_call(rt: HostRuntime) {
-    let alloc = rt.alloc();
-    let mut writer = Counted::new(Fake::new(alloc, 9, 0, Some(io::ErrorKind::BrokenPipe)));
-    assert!(rt; take_both(&mut writer, "", "").is_ok());
-    assert!(rt; writer.inner().calls == 0);
+fn takes_texts(alloc: Global) -> Result<bool, AllocError> {
+    let mut text = String::from_str(alloc, "a")?;
+    let answer = take_both(&mut text, "b", "cd");
+    Ok(answer.is_ok() && text.as_str() == "abcd")
 }
 
 #[test]
 fn a_string_takes_texts(rt: HostRuntime) -> Result<(), Fail> {
-    let mut text = String::from_str(rt.alloc(), "a")?;
-    assert!(rt; take_both(&mut text, "b", "cd").is_ok());
-    assert!(rt; text.as_str() == "abcd");
+    assert!(rt; takes_texts(rt.alloc())?);
     assert!(rt; take_both(&mut NullWriter, "b", "cd").is_ok());
     Ok(())
 }
 
+/// The kind that a flush is refused with.
+fn flush_refused(writer: &mut Counted<Fake>) -> Option<io::ErrorKind> {
+    match writer.flush() {
+        Ok(()) => None,
+        Err(error) => Some(error.kind()),
+    }
+}
+
 #[test]
-fn a_flush_is_no_write(rt: HostRuntime) -> Result<(), Fail> {
-    let alloc = rt.alloc();
+fn a_flush_is_no_write(rt: HostRuntime) {
     let full = Some(io::ErrorKind::StorageFull);
-    let mut counted = Counted::new(Fake::new(alloc, 9, 1, full));
-    counted.flush()?;
-    write_text(&mut counted, b"a")?;
-    assert!(rt; counted.flush().map_err(|error| error.kind()).err() == full);
-    assert!(rt; counted.failures() == 0);
-    assert!(rt; counted.inner().bytes.as_slice() == b"a".as_slice());
-    Ok(())
+    let mut writer = Counted::new(Fake::new(rt.alloc(), 9, 1, full));
+    assert!(rt; flush_refused(&mut writer).is_none());
+    assert!(rt; write_text(&mut writer, b"a").is_ok());
+    assert!(rt; flush_refused(&mut writer) == full);
+    assert!(rt; is_told(Ok(()), &writer, (Ok(()), b"a", 1, 0)));
 }
 
 /// The error of a text to a writer that takes nothing, or fails with this error.

@@ -1,0 +1,139 @@
+//! The code of a tree as a text.
+use std::alloc::{AllocError, Global};
+use tm_compiler::{Instruction, Streams, Tree, generate};
+use tm_values::{Error, Node, Value};
+
+static DIGITS: [&str; 10] = ["0", "1", "2", "3", "4", "5", "6", "7", "8", "9"];
+
+fn digit(number: usize) -> &'static str {
+    match DIGITS.get(number) {
+        Some(text) => text,
+        None => "?",
+    }
+}
+
+fn constant(value: &Value) -> &str {
+    match &value.node {
+        Node::None => "none",
+        Node::Boolean(true) => "true",
+        Node::Number(1) => "1",
+        Node::Text(content, false) => content.as_str(),
+        _ => "?",
+    }
+}
+
+fn word(instruction: &Instruction) -> &'static str {
+    match instruction {
+        Instruction::EmitRaw(_) => "raw:",
+        Instruction::Emit => "emit",
+        Instruction::Lookup(_) => "$",
+        Instruction::LoadConst(_) => "#",
+        Instruction::GetAttr(_) => ".",
+        Instruction::GetItem => "item",
+        Instruction::Slice => "slice",
+        Instruction::BuildList(_) => "list:",
+        Instruction::BuildTuple(_) => "tuple:",
+        Instruction::BuildMap(_) => "map:",
+        Instruction::Neg => "-",
+        Instruction::Not => "not",
+        Instruction::Jump(_) => "jump:",
+        Instruction::JumpIfFalse(_) => "if-false:",
+        Instruction::JumpIfFalseOrPop(_) => "and:",
+        Instruction::JumpIfTrueOrPop(_) => "or:",
+        Instruction::CallFunction(_, _) => "call:",
+        Instruction::CallBlock(_) => "block:",
+        _ => operator(instruction),
+    }
+}
+
+// The word of an operator between two operands.
+fn operator(instruction: &Instruction) -> &'static str {
+    match instruction {
+        Instruction::Eq => "==",
+        Instruction::Ne => "!=",
+        Instruction::Lt => "<",
+        Instruction::Lte => "<=",
+        Instruction::Gt => ">",
+        Instruction::Gte => ">=",
+        Instruction::In => "in",
+        Instruction::Add => "+",
+        Instruction::Sub => "minus",
+        Instruction::StringConcat => "~",
+        Instruction::Mul => "*",
+        Instruction::Div => "/",
+        Instruction::IntDiv => "//",
+        Instruction::Rem => "%",
+        Instruction::Pow => "**",
+        _ => "?",
+    }
+}
+
+// The name, the place or the number of an instruction.
+fn detail(instruction: &Instruction) -> &str {
+    match instruction {
+        Instruction::EmitRaw(name)
+        | Instruction::Lookup(name)
+        | Instruction::GetAttr(name)
+        | Instruction::CallFunction(name, _)
+        | Instruction::CallBlock(name) => name.as_str(),
+        Instruction::LoadConst(value) => constant(value),
+        Instruction::BuildList(number)
+        | Instruction::BuildTuple(number)
+        | Instruction::BuildMap(number)
+        | Instruction::Jump(number)
+        | Instruction::JumpIfFalse(number)
+        | Instruction::JumpIfFalseOrPop(number)
+        | Instruction::JumpIfTrueOrPop(number) => digit(*number),
+        _ => "",
+    }
+}
+
+fn count(instruction: &Instruction) -> &'static str {
+    match instruction {
+        Instruction::CallFunction(_, number) => digit(*number),
+        _ => "",
+    }
+}
+
+fn write_code(out: &mut String, code: &[Instruction]) -> Result<(), AllocError> {
+    for instruction in code {
+        out.push_str(" ")?;
+        out.push_str(word(instruction))?;
+        out.push_str(detail(instruction))?;
+        out.push_str(count(instruction))?;
+    }
+    Ok(())
+}
+
+fn write_block(out: &mut String, streams: &Streams, name: &str) -> Result<(), AllocError> {
+    match streams.blocks.get(name) {
+        Some(code) => {
+            out.push_str(" | ")?;
+            out.push_str(name)?;
+            write_code(out, code.as_slice())
+        }
+        None => Ok(()),
+    }
+}
+
+fn write_streams(out: &mut String, streams: &Streams) -> Result<(), AllocError> {
+    write_code(out, streams.root.as_slice())?;
+    write_block(out, streams, "x")?;
+    write_block(out, streams, "y")
+}
+
+/// The code of a tree, and of its blocks x and y.
+pub fn code_of(alloc: Global, tree: &Tree) -> Result<String, Error> {
+    let streams = generate(alloc, tree)?;
+    let mut out = String::new(alloc);
+    write_streams(&mut out, &streams)?;
+    Ok(out)
+}
+
+/// Whether this is the code that came.
+pub fn is(code: &Result<String, Error>, wanted: &str) -> bool {
+    match code {
+        Ok(code) => code.as_str() == wanted,
+        Err(_) => false,
+    }
+}

@@ -1,0 +1,109 @@
+//! Sources with their code, and what is no source of a template.
+use crate::code;
+use crate::parser::{Pieces, joined};
+use std::alloc::Global;
+use std::test::Fail;
+use tm_compiler::{SyntaxConfig, parse};
+use tm_values::{Error, ErrorKind};
+
+static CODES: [(&str, &str); 11] = [
+    ("{# c #}", ""),
+    ("{{ \"}}\" }}\n", " #}} emit"),
+    ("{{ a == none }}", " $a #none == emit"),
+    ("{{ not a == b and c }}", " $a $b == not and:6 $c emit"),
+    (
+        "{{ a and b or not c.d.e }}",
+        " $a and:3 $b or:8 $c .d .e not emit",
+    ),
+    ("{{ f(1, (a),) }}x", " #1 $a call:f2 emit raw:x"),
+    ("{{ f() == true }}", " call:f0 #true == emit"),
+    (
+        "{% if a %}x{% elif b %}{% else %}{% endif %}",
+        " $a if-false:4 raw:x jump:7 $b if-false:7 jump:7",
+    ),
+    ("{% if a %}{% endif %}", " $a if-false:2"),
+    (
+        "{% block x %}{% block y %}{% endblock y %}{% endblock %}",
+        " block:x | x block:y | y",
+    ),
+    (
+        "{% if a %}{% block y %}b{% endblock %}{% endif %}",
+        " $a if-false:3 block:y | y raw:b",
+    ),
+];
+
+fn code_of(alloc: Global, source: &str) -> Result<String, Error> {
+    let tree = parse(alloc, source, &SyntaxConfig::default())?;
+    code::code_of(alloc, &tree)
+}
+
+#[test]
+fn sources_have_their_code(rt: HostRuntime) {
+    for (source, wanted) in &CODES {
+        assert!(rt;
+            code::is(&code_of(rt.alloc(), source), wanted),
+            "at {source}"
+        );
+    }
+}
+
+static REFUSED: [&str; 9] = [
+    "a{#",
+    "{{ \"a }}",
+    "{{ 1.5 }}",
+    "{{ 1_ }}",
+    "{% if %}",
+    "{% if a %}",
+    "{% endif %}",
+    "{% block b %}{% endblock c %}",
+    "{% block b %}{% endblock %}{% block b %}{% endblock %}",
+];
+
+static NESTINGS: [Pieces; 2] = [
+    &[
+        (None, "{{"),
+        (Some(0), "("),
+        (None, "1"),
+        (Some(0), ")"),
+        (None, "}}"),
+    ],
+    &[
+        (Some(1), "{% if a %}"),
+        (None, "{{ (1) }}"),
+        (Some(1), "{% endif %}"),
+    ],
+];
+
+// Whether the source spells a template.
+fn spells(alloc: Global, source: &str) -> Result<bool, Error> {
+    match parse(alloc, source, &SyntaxConfig::default()) {
+        Ok(_) => Ok(true),
+        Err(error) => {
+            if error.kind() == ErrorKind::SyntaxError {
+                return Ok(false);
+            }
+            Err(error)
+        }
+    }
+}
+
+fn spells_joined(alloc: Global, pieces: Pieces, count: usize) -> Result<bool, Error> {
+    let source = joined(alloc, pieces, count)?;
+    spells(alloc, source.as_str())
+}
+
+#[test]
+fn what_is_no_template_is_refused(rt: HostRuntime) -> Result<(), Fail> {
+    for source in &REFUSED {
+        assert!(rt; !spells(rt.alloc(), source)?, "at {source}");
+    }
+    for (count, is_template) in [(150, true), (151, false)] {
+        for (place, pieces) in NESTINGS.iter().enumerate() {
+            assert!(rt;
+                spells_joined(rt.alloc(), *pieces, count)? == is_template,
+                "{count} at {place}"
+            );
+        }
+    }
+    Ok(())
+}

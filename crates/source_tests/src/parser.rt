@@ -1,0 +1,254 @@
+//! Templates by their tokens: what they spell, and how deep they may nest.
+use crate::code;
+use std::alloc::Global;
+use std::test::Fail;
+use tm_parser::parse_tokens;
+use tm_syntax::{Name, Sign, Tag, Token};
+use tm_values::{Error, ErrorKind};
+
+static SIGNS: [(&str, Sign); 31] = [
+    ("{{", Sign::VariableStart),
+    ("}}", Sign::VariableEnd),
+    ("%}", Sign::BlockEnd),
+    ("(", Sign::OpenRound),
+    (")", Sign::CloseRound),
+    ("[", Sign::OpenSquare),
+    ("]", Sign::CloseSquare),
+    ("{", Sign::OpenCurly),
+    ("}", Sign::CloseCurly),
+    (",", Sign::Comma),
+    (".", Sign::Dot),
+    (":", Sign::Colon),
+    ("==", Sign::Equal),
+    ("!=", Sign::NotEqual),
+    ("<", Sign::Less),
+    ("<=", Sign::LessOrEqual),
+    (">", Sign::Greater),
+    (">=", Sign::GreaterOrEqual),
+    ("in", Sign::In),
+    ("+", Sign::Plus),
+    ("-", Sign::Minus),
+    ("~", Sign::Tilde),
+    ("*", Sign::Star),
+    ("/", Sign::Slash),
+    ("//", Sign::DoubleSlash),
+    ("%", Sign::Percent),
+    ("**", Sign::DoubleStar),
+    ("and", Sign::And),
+    ("or", Sign::Or),
+    ("not", Sign::Not),
+    ("true", Sign::True),
+];
+
+static TAGS: [(&str, Tag); 6] = [
+    ("{%if", Tag::If),
+    ("{%elif", Tag::Elif),
+    ("{%else", Tag::Else),
+    ("{%endif", Tag::Endif),
+    ("{%block", Tag::Block),
+    ("{%endblock", Tag::Endblock),
+];
+
+// The token of a word; a word that is no sign and no tag is a name.
+fn token_of(alloc: Global, word: &str) -> Result<Token, Error> {
+    for (text, sign) in &SIGNS {
+        if *text == word {
+            return Ok(Token::Sign(*sign));
+        }
+    }
+    for (text, tag) in &TAGS {
+        if *text == word {
+            return Ok(Token::Tag(*tag));
+        }
+    }
+    Ok(Token::Name(Name::new(alloc, word)?))
+}
+
+fn tokens_of(alloc: Global, words: &str) -> Result<Vec<Token>, Error> {
+    let mut tokens = Vec::new(alloc);
+    for word in words.split(' ') {
+        tokens.push(token_of(alloc, word)?)?;
+    }
+    Ok(tokens)
+}
+
+// Templates by their words, each of which is a token, with their code.
+static CODES: [(&str, &str); 24] = [
+    ("{{ a ** b ** c }}", " $a $b ** $c ** emit"),
+    ("{{ - a ** b }}", " $a - $b ** emit"),
+    ("{{ a ~ b + c }}", " $a $b ~ $c + emit"),
+    ("{{ a ~ b * c }}", " $a $b $c * ~ emit"),
+    ("{{ not a == b }}", " $a $b == not emit"),
+    ("{{ a not in [ b ] }}", " $a $b list:1 in not emit"),
+    ("{{ a [ b : c ] }}", " $a $b $c #none slice emit"),
+    ("{{ a [ : ] }}", " $a #none #none #none slice emit"),
+    ("{{ a [ : : b ] }}", " $a #none #none $b slice emit"),
+    ("{{ a [ b ] . c }}", " $a $b item .c emit"),
+    ("{{ ( a , ) }}", " $a tuple:1 emit"),
+    ("{{ ( ) }}", " tuple:0 emit"),
+    ("{{ ( a ) }}", " $a emit"),
+    ("{{ [ a , b , ] }}", " $a $b list:2 emit"),
+    ("{{ { a : b } [ c ] }}", " $a $b map:1 $c item emit"),
+    ("{{ { } }}", " map:0 emit"),
+    ("{{ a + b * - c ** d }}", " $a $b $c - $d ** * + emit"),
+    ("{{ a ~ b not in c }}", " $a $b ~ $c in not emit"),
+    (
+        "{{ a // b % c - d / e }}",
+        " $a $b // $c % $d $e / minus emit",
+    ),
+    ("{{ a < b }} {{ a > b }}", " $a $b < emit $a $b > emit"),
+    ("{{ a >= b }}", " $a $b >= emit"),
+    (
+        "{{ a [ b ] [ c : ] }}",
+        " $a $b item $c #none #none slice emit",
+    ),
+    (
+        "{{ a <= [ b , ( c , ) ] }}",
+        " $a $b $c tuple:1 list:2 <= emit",
+    ),
+    (
+        "{{ { a : b , c : { } } != ( ) }}",
+        " $a $b $c map:0 map:2 tuple:0 != emit",
+    ),
+];
+
+fn code_of(alloc: Global, words: &str) -> Result<String, Error> {
+    let tokens = tokens_of(alloc, words)?;
+    let tree = parse_tokens(alloc, &tokens)?;
+    code::code_of(alloc, &tree)
+}
+
+#[test]
+fn tokens_have_their_code(rt: HostRuntime) {
+    for (words, wanted) in &CODES {
+        assert!(rt; code::is(&code_of(rt.alloc(), words), wanted), "at {words}");
+    }
+}
+
+static REFUSED: [&str; 17] = [
+    "{{ a == b == c }}",
+    "{{ f ( , ) }}",
+    "{{ ( a }}",
+    "{{ a [ ] }}",
+    "{{ a [ : : : ] }}",
+    "{{ ( , ) }}",
+    "{{ [ , ] }}",
+    "{{ a < b < c }}",
+    "{{ not in }}",
+    "{{ - }}",
+    "{{ { a } }}",
+    "{{ }}",
+    "}}",
+    "{%if a %} {%else %} {%elif b %} {%endif %}",
+    "{%block x %} {%endblock y %}",
+    "{%block x %} {%endblock %} {%if a %} {%else %} {%block x %} {%endblock %} {%endif %}",
+    "{%block x %} {%block x %} {%endblock %} {%endblock %}",
+];
+
+/// Words that stand once, or so many times less than a count.
+pub type Pieces = &'static [(Option<usize>, &'static str)];
+
+// What may nest 150 deep.
+static NESTINGS: [Pieces; 10] = [
+    &[
+        (None, "{{"),
+        (Some(0), "("),
+        (None, "a"),
+        (Some(0), ")"),
+        (None, "}}"),
+    ],
+    &[
+        (None, "{{"),
+        (Some(0), "f ("),
+        (None, "a"),
+        (Some(0), ")"),
+        (None, "}}"),
+    ],
+    &[(None, "{{"), (Some(0), "["), (Some(0), "]"), (None, "}}")],
+    &[(None, "{{"), (Some(0), "f ("), (Some(0), ")"), (None, "}}")],
+    &[
+        (None, "{{"),
+        (Some(0), "a ["),
+        (Some(0), ": ]"),
+        (None, "}}"),
+    ],
+    &[(None, "{{"), (Some(0), "not"), (None, "a }}")],
+    &[
+        (Some(0), "{%if a %}"),
+        (None, "{{ a }}"),
+        (Some(0), "{%endif %}"),
+    ],
+    &[
+        (None, "{%if a %}"),
+        (Some(2), "{%elif a %}"),
+        (None, "{%else %} {%endif %}"),
+    ],
+    &[
+        (Some(1), "{%if a %}"),
+        (None, "{{ ( a ) }}"),
+        (Some(1), "{%endif %}"),
+    ],
+    &[
+        (Some(2), "{%if a %}"),
+        (None, "{%if ( a ) %} {%endif %}"),
+        (Some(2), "{%endif %}"),
+    ],
+];
+
+// A long row nests no deeper than a short one.
+static LONG: Pieces = &[(None, "{{ a"), (Some(0), "and b . c"), (None, "}}")];
+
+/// The pieces behind one another, with a blank between them.
+pub fn joined(alloc: Global, pieces: Pieces, count: usize) -> Result<String, Error> {
+    let mut text = String::new(alloc);
+    for (less, words) in pieces {
+        for _ in 0..less.map_or(1, |less| count.saturating_sub(less)) {
+            if !text.is_empty() {
+                text.push_str(" ")?;
+            }
+            text.push_str(words)?;
+        }
+    }
+    Ok(text)
+}
+
+// Whether the tokens spell a tree.
+fn parses(alloc: Global, words: &str) -> Result<bool, Error> {
+    let tokens = tokens_of(alloc, words)?;
+    match parse_tokens(alloc, &tokens) {
+        Ok(_) => Ok(true),
+        Err(error) => {
+            if error.kind() == ErrorKind::SyntaxError {
+                return Ok(false);
+            }
+            Err(error)
+        }
+    }
+}
+
+fn parses_joined(alloc: Global, pieces: Pieces, count: usize) -> Result<bool, Error> {
+    let text = joined(alloc, pieces, count)?;
+    parses(alloc, text.as_str())
+}
+
+#[test]
+fn what_spells_nothing_is_refused(rt: HostRuntime) -> Result<(), Fail> {
+    for words in &REFUSED {
+        assert!(rt; !parses(rt.alloc(), words)?, "at {words}");
+    }
+    Ok(())
+}
+
+#[test]
+fn nestings_are_counted(rt: HostRuntime) -> Result<(), Fail> {
+    for (count, is_tree) in [(150, true), (151, false)] {
+        for (place, pieces) in NESTINGS.iter().enumerate() {
+            assert!(rt;
+                parses_joined(rt.alloc(), *pieces, count)? == is_tree,
+                "{count} at {place}"
+            );
+        }
+    }
+    assert!(rt; parses_joined(rt.alloc(), LONG, 20000)?);
+    Ok(())
+}
