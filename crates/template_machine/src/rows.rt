@@ -12,7 +12,7 @@ use std::process::Abort;
 use std::test::Fail;
 
 /// A function of the rows.
-#[derive(Drop)]
+#[derive(Clone, Copy)]
 enum Party {
     /// Answers its second argument.
     Second,
@@ -62,6 +62,26 @@ fn shared(alloc: Global, found: Option<&Value>) -> Answer
 
 /// An environment of such functions.
 type Rows = EnvironmentOf<'static, Objects<Party>>;
+
+static FUNCTIONS: &[(&str, Party)] = &[
+    ("second", Party::Second),
+    ("keep", Party::Keeper),
+    ("read", Party::Reader),
+    ("missing", Party::Faulty(ErrorKind::MissingArgument)),
+    ("failing", Party::Faulty(ErrorKind::WriteFailure)),
+    ("stuck", Party::Faulty(ErrorKind::BadStream)),
+    ("hungry", Party::Faulty(ErrorKind::OutOfMemory)),
+];
+
+/// The environment of the rows.
+fn row_environment(alloc: Global) -> Result<Rows, Error> {
+    let mut environment = Rows::new(alloc)?;
+    environment.set_fuel(Some(1000));
+    for &(name, party) in FUNCTIONS {
+        environment.add_function(name, party)?;
+    }
+    Ok(environment)
+}
 
 /// A source, what it writes, and how it ends: with so many charges, or by a fault.
 struct Row(&'static str, &'static str, Result<u64, ErrorKind>);
@@ -182,24 +202,21 @@ fn keeps_apart(environment: &Rows) -> Result<bool, Error> {
     Ok(*kept == Value::number(1) && state.lookup("k")?.is_none() && state.exports()?.is_empty())
 }
 
-#[test]
-fn rows_render(rt: HostRuntime) -> Result<(), Fail> {
-    let alloc = rt.alloc();
-    let mut environment: Rows = EnvironmentOf::new(alloc)?;
-    environment.set_fuel(Some(1000));
-    environment.add_function("second", Party::Second)?;
-    environment.add_function("keep", Party::Keeper)?;
-    environment.add_function("read", Party::Reader)?;
-    environment.add_function("missing", Party::Faulty(ErrorKind::MissingArgument))?;
-    environment.add_function("failing", Party::Faulty(ErrorKind::WriteFailure))?;
-    environment.add_function("stuck", Party::Faulty(ErrorKind::BadStream))?;
-    environment.add_function("hungry", Party::Faulty(ErrorKind::OutOfMemory))?;
+/// Renders the rows, and compares what they write and how they end.
+fn expect_rows(rt: &impl Abort, alloc: Global, environment: &Rows) -> Result<(), Fail> {
     for Row(source, text, end) in ROWS {
         let mut writer = Counted::new(Vec::<u8>::new(alloc));
-        let answer = charges(&environment, source, context(alloc)?, &mut writer);
+        let answer = charges(environment, source, context(alloc)?, &mut writer);
         assert!(rt; answer == *end, "at {source}");
         assert!(rt; writer.inner().as_slice() == text.as_bytes(), "at {source}");
     }
+    Ok(())
+}
+
+#[test]
+fn rows_render(rt: HostRuntime) -> Result<(), Fail> {
+    let environment = row_environment(rt.alloc())?;
+    expect_rows(&rt, rt.alloc(), &environment)?;
     assert!(rt; keeps_apart(&environment)?);
     Ok(())
 }

@@ -83,36 +83,45 @@ fn text_at_once(environment: &Unboxed<'static>) -> Result<String, Error> {
     environment.render_named_str(&mut StateIds::new(), "named", "x", Value::undefined())
 }
 
-#[test]
-fn templates_render_by_name(rt: HostRuntime) -> Result<(), Fail> {
-    let alloc = rt.alloc();
+/// An environment with a template whose source is the caller's, and one with a source of its own.
+fn with_templates(alloc: Global) -> Result<Unboxed<'static>, Error> {
+    let own = String::from_str(alloc, "x")?;
     let mut environment = Unboxed::new(alloc)?;
     environment.set_fuel(Some(100));
     environment.add_template("page", "Hello {{ name }}!")?;
-    environment.add_template_owned("own", String::from_str(alloc, "x")?)?;
-    assert_eq!(rt; consumed(&environment, "page")?, 4);
-    assert_eq!(rt; text_of(&environment, "own")?.as_str(), "x");
-    assert_eq!(rt; text_of_x(&environment)?.as_str(), "x");
-    assert_eq!(rt; text_at_once(&environment)?.as_str(), "x");
+    environment.add_template_owned("own", own)?;
+    Ok(environment)
+}
+
+/// Whether the templates render, and one that isn't kept.
+fn templates_render(environment: &Unboxed<'static>) -> Result<bool, Error> {
+    if consumed(environment, "page")? != 4 {
+        return Ok(false);
+    }
+    let own = text_of(environment, "own")?;
+    let named = text_of_x(environment)?;
+    let at_once = text_at_once(environment)?;
+    Ok(own.as_str() == "x" && named.as_str() == "x" && at_once.as_str() == "x")
+}
+
+#[test]
+fn templates_render_by_name(rt: HostRuntime) -> Result<(), Fail> {
+    let environment = with_templates(rt.alloc())?;
+    assert!(rt; templates_render(&environment)?);
     Ok(())
 }
 
-/// The text of a source under a name, rendered at once; the kind of its error.
-fn text_under(
-    environment: &Unboxed<'static>,
-    name: &str,
-    source: &'static str,
-) -> Result<String, ErrorKind> {
+/// Whether the text of a source under a name is this.
+fn writes(environment: &Unboxed<'static>, name: &str, source: &'static str, text: &str) -> bool {
     match environment.render_named_str(&mut StateIds::new(), name, source, Value::undefined()) {
-        Ok(text) => Ok(text),
-        Err(error) => Err(error.kind()),
+        Ok(written) => written.as_str() == text,
+        Err(_) => false,
     }
 }
 
 /// A name, a source, and what is written.
 struct Named(&'static str, &'static str, &'static str);
 
-/// What names ask for.
 static NAMED: &[Named] = &[
     Named("p.html", "{{ '<' }}{{ '<' ~ '>' }}", "&lt;&lt;&gt;"),
     Named("p.html.j2", "{{ '<' }}", "&lt;"),
@@ -121,46 +130,58 @@ static NAMED: &[Named] = &[
     Named("p.json", "{{ {'a': [1, none]} }}", "{\"a\":[1,null]}"),
 ];
 
-#[test]
-fn names_and_settings_are_heard(rt: HostRuntime) -> Result<(), Fail> {
-    let alloc = rt.alloc();
-    let mut environment = Unboxed::new(alloc)?;
+/// Whether all that is named is escaped as its name asks.
+fn hears_names(environment: &Unboxed<'static>) -> bool {
     for Named(name, source, text) in NAMED {
-        let answer = text_under(&environment, name, source);
-        assert!(rt;
-            matches!(&answer, Ok(given) if given.as_str() == *text),
-            "at {source}"
-        );
+        if !writes(environment, name, source, text) {
+            return false;
+        }
     }
+    true
+}
+
+#[test]
+fn names_are_heard(rt: HostRuntime) -> Result<(), Fail> {
+    let environment = Unboxed::new(rt.alloc())?;
+    assert!(rt; hears_names(&environment));
+    Ok(())
+}
+
+/// Other delimiters, with both trims of blocks.
+fn angles(alloc: Global) -> Result<SyntaxConfig, Error> {
+    let block = String::from_str(alloc, "<%")?;
+    let block_end = String::from_str(alloc, "%>")?;
+    let comment = String::from_str(alloc, "<%#")?;
+    let comment_end = String::from_str(alloc, "%>")?;
+    let variable = String::from_str(alloc, "${")?;
+    let variable_end = String::from_str(alloc, "}")?;
+    SyntaxConfig::builder()
+        .block_delimiters(block, block_end)
+        .comment_delimiters(comment, comment_end)
+        .variable_delimiters(variable, variable_end)
+        .trim_blocks(true)
+        .lstrip_blocks(true)
+        .build()
+}
+
+/// Whether an undefined value is refused where it is emitted.
+fn is_strict(environment: &Unboxed<'static>) -> bool {
+    match environment.render_str(&mut StateIds::new(), "[{{ x }}]", Value::undefined()) {
+        Ok(_) => false,
+        Err(error) => error.kind() == ErrorKind::UndefinedError,
+    }
+}
+
+#[test]
+fn settings_are_heard(rt: HostRuntime) -> Result<(), Fail> {
+    let syntax = angles(rt.alloc())?;
+    let mut environment = Unboxed::new(rt.alloc())?;
     environment.set_undefined_behavior(UndefinedBehavior::Strict);
-    let strict = text_under(&environment, "p", "[{{ x }}]");
-    assert!(rt; matches!(&strict, Err(ErrorKind::UndefinedError)));
+    assert!(rt; is_strict(&environment));
     environment.set_undefined_behavior(UndefinedBehavior::Chainable);
-    let chained = text_under(&environment, "p", "[{{ x.y.z }}]");
-    assert!(rt; matches!(&chained, Ok(given) if given.as_str() == "[]"));
-    environment.set_syntax(
-        SyntaxConfig::builder()
-            .block_delimiters(
-                String::from_str(alloc, "<%")?,
-                String::from_str(alloc, "%>")?,
-            )
-            .comment_delimiters(
-                String::from_str(alloc, "<%#")?,
-                String::from_str(alloc, "%>")?,
-            )
-            .variable_delimiters(
-                String::from_str(alloc, "${")?,
-                String::from_str(alloc, "}")?,
-            )
-            .trim_blocks(true)
-            .lstrip_blocks(true)
-            .build()?,
-    );
-    let spelled = text_under(
-        &environment,
-        "p",
-        "a\n  <% if 1 %>\n b<%# c %>\n<% endif %>\n${ 2 }",
-    );
-    assert!(rt; matches!(&spelled, Ok(given) if given.as_str() == "a\n b2"));
+    assert!(rt; writes(&environment, "p", "[{{ x.y.z }}]", "[]"));
+    environment.set_syntax(syntax);
+    let source = "a\n  <% if 1 %>\n b<%# c %>\n<% endif %>\n${ 2 }";
+    assert!(rt; writes(&environment, "p", source, "a\n b2"));
     Ok(())
 }
