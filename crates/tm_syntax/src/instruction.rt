@@ -1,5 +1,6 @@
 //! Instructions.
 use crate::name::Name;
+use crate::tree::BinaryOperator;
 use tm_values::Value;
 
 /// One instruction. docs/MACHINE.md says what each takes, leaves and is charged.
@@ -39,6 +40,8 @@ pub enum Instruction {
     Gte,
     /// Replaces two values by whether the first is in the second.
     In,
+    /// Replaces two values by the second one and, over it, whether they compare so.
+    CompareAndPreserve(BinaryOperator),
     /// Replaces two values by their sum.
     Add,
     /// Replaces two values by their difference.
@@ -59,6 +62,10 @@ pub enum Instruction {
     Neg,
     /// Replaces a value by whether it is false.
     Not,
+    /// Turns the two topmost values round.
+    Swap,
+    /// Drops a value.
+    DiscardTop,
     /// Goes to a place.
     Jump(usize),
     /// Pops a value, and goes to a place where it is false.
