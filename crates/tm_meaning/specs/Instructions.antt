@@ -40,6 +40,17 @@ unary_of host op c = replaces_one (applied_unary host op) c
 abbrev pub binary_of : Host → BinaryOperator → Config → Next
 binary_of host op c = replaces_two (operated host op) c
 
+-- two operands are replaced by the topmost and, over it, what is given
+abbrev pub compare_and_preserve_of : Host → BinaryOperator → Config → Next
+compare_and_preserve_of host op c =
+    on_top c.run.operands c.world (λ b vs. on_top vs c.world (λ a rest. after (operated host op a b c.world) (λ x w. goes (x ∷ b ∷ rest) w c)))
+
+abbrev pub swap_of : Config → Next
+swap_of c = on_top c.run.operands c.world (λ b vs. on_top vs c.world (λ a rest. goes (a ∷ b ∷ rest) c.world c))
+
+abbrev pub discard_top_of : Config → Next
+discard_top_of c = on_top c.run.operands c.world (λ v vs. goes vs c.world c)
+
 abbrev pub get_item_of : Host → Config → Next
 get_item_of host c = replaces_two (item_at host) c
 

@@ -7,11 +7,12 @@ use Rattle.tm_syntax.specs.declared.tree.UnaryOperator.TheVariants as unaries
 use Rattle.tm_syntax.specs.declared.tree.BinaryOperator.TheVariants as binaries
 use Rattle.tm_meaning.specs.World.{choose, World, Host, Res, pays}
 use Rattle.tm_meaning.specs.Machine.{Config, Return, Base, End, Finished, Back, back_to, Next, More, Over, Nest, Program, after, stuck, with_world}
-use Rattle.tm_meaning.specs.Instructions.{emit_raw_of, emit_of, lookup_of, load_const_of, get_attr_of, unary_of, binary_of, get_item_of, slice_instruction_of, build_list_of, build_map_of, jump_of, jump_if_false_of, jump_if_false_or_pop_of, jump_if_true_or_pop_of, call_function_of, call_block_of}
+use Rattle.tm_meaning.specs.Instructions.{emit_raw_of, emit_of, lookup_of, load_const_of, get_attr_of, unary_of, binary_of, compare_and_preserve_of, swap_of, discard_top_of, get_item_of, slice_instruction_of, build_list_of, build_map_of, jump_of, jump_if_false_of, jump_if_false_or_pop_of, jump_if_true_or_pop_of, call_function_of, call_block_of}
 
--- what an instruction is charged: 0 where it is free, which none is yet
+-- what an instruction is charged: 0 where it is free
 abbrev pub charge_of : Instruction → ℕ
-charge_of x = 1
+charge_of i.DiscardTop = 0
+charge_of _ = 1
 
 -- an instruction is paid for before its effect
 abbrev pub pay : Instruction → World → Res (Unit {0})
@@ -35,6 +36,7 @@ effect host f i.Lte c = binary_of host binaries.LessOrEqual c
 effect host f i.Gt c = binary_of host binaries.Greater c
 effect host f i.Gte c = binary_of host binaries.GreaterOrEqual c
 effect host f i.In c = binary_of host binaries.In c
+effect host f (i.CompareAndPreserve op) c = compare_and_preserve_of host op c
 effect host f i.Add c = binary_of host binaries.Add c
 effect host f i.Sub c = binary_of host binaries.Subtract c
 effect host f i.StringConcat c = binary_of host binaries.Concatenate c
@@ -45,6 +47,8 @@ effect host f i.Rem c = binary_of host binaries.Remainder c
 effect host f i.Pow c = binary_of host binaries.Power c
 effect host f i.Neg c = unary_of host unaries.Negate c
 effect host f i.Not c = unary_of host unaries.Not c
+effect host f i.Swap c = swap_of c
+effect host f i.DiscardTop c = discard_top_of c
 effect host f (i.Jump n) c = jump_of n c
 effect host f (i.JumpIfFalse n) c = jump_if_false_of host n c
 effect host f (i.JumpIfFalseOrPop n) c = jump_if_false_or_pop_of host n c
