@@ -10,7 +10,7 @@ use std::io::Write;
 use template_machine::Environment;
 use tm_parts::Counted;
 use tm_values::{Error, ErrorKind, Value, ValueMap};
-use tm_vm::StateIds;
+use tm_state::StateIds;
 
 /// Renders the source and flushes, also after a render that failed, whose error is the one that
 /// counts. SyntaxError where the source spells no template, WriteFailure where a write or the flush

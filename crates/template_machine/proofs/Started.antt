@@ -13,7 +13,7 @@ use Rattle.tm_meaning.specs.Tree.{carded}
 use Rattle.tm_meaning.specs.declared.stream.TemplateId.TheVariants.{Own}
 use Rattle.tm_tables.specs.Templates.{Compiled, body, block_codes}
 use Rattle.tm_tables.proofs.Named.{turned, by_name-turned}
-use Rattle.tm_vm.specs.State.{started, layers_of}
+use Rattle.tm_state.specs.State.{started, layers_of}
 use Rattle.template_machine.specs.Environment.{TemplateValue}
 use Rattle.template_machine.specs.Renders.{first}
 

@@ -17,7 +17,7 @@ use tm_tables::{
     Callable, CompiledTemplate, EscapeSetting, Objects, Parties, Source, TemplateConfig, Templates,
 };
 use tm_values::{Error, ErrorKind, UndefinedBehavior, Value};
-use tm_vm::StateIds;
+use tm_state::StateIds;
 
 /// How deep scopes may lie at most.
 const GREATEST_LIMIT: usize = 500;

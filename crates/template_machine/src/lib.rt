@@ -29,4 +29,4 @@ pub use tm_values::{
     AutoEscape, Error, ErrorKind, LoopPosition, NoRecords, Records, UndefinedBehavior,
     UndefinedUse, Value, ValueMap,
 };
-pub use tm_vm::StateIds;
+pub use tm_state::StateIds;

@@ -5,14 +5,14 @@ ghost use Rattle.tm_values.specs.Answer.{IsLent, OkOrOutOfMemory};
 ghost use Rattle.tm_meaning.specs.World.{find_name, fuel_levels, name_of, view_of};
 ghost use Rattle.tm_tables.specs.Found.{IsFound};
 ghost use Rattle.tm_tables.specs.Scopes.{texts_of};
-ghost use Rattle.tm_vm.specs.State.{exported};
+ghost use Rattle.tm_state.specs.State.{exported};
 ghost use Rattle.template_machine.specs.Environment.{host_of};
 
 use crate::rendering::Rendering;
 use std::marker::Model;
 use tm_tables::{Callable, Host, Objects, Parties};
 use tm_values::{AutoEscape, Error, Value};
-use tm_vm::StateData;
+use tm_state::StateData;
 
 /// The state of a render. A contract sees the template that was rendered, and a world of the definitions.
 #[derive(Drop)]

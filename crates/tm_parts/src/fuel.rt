@@ -26,11 +26,14 @@ impl Model for FuelTracker {
     ghost invariant = { λ tracker. tracker.remaining ≤ tracker.initial };
 }
 
-/// What an instruction is charged; none is free yet.
-fn charge(_instruction: &Instruction) -> u64
-    ensures { result ≡ charge_of _instruction.now }
+/// What an instruction is charged: 0 where it is free.
+fn charge(instruction: &Instruction) -> u64
+    ensures { result ≡ charge_of instruction.now }
 {
-    1
+    match instruction {
+        Instruction::DiscardTop => 0,
+        _ => 1,
+    }
 }
 
 impl FuelTracker {
@@ -53,6 +56,8 @@ impl FuelTracker {
             × (charged (charge_of instruction.now) self.old.left ≡ None)) }
         ensures set { self.new.set ≡ self.old.set }
         ensures falls { self.new.left ≤ self.old.left }
+        ensures spent { OnOk result
+            (self.new.left + charge_of instruction.now ≡ self.old.left) }
     {
         let charge = charge(instruction);
         if charge == 0 {

@@ -1,14 +1,15 @@
-//! Parts of a machine: the fuel that a run is charged, its operands, where its text goes, and why
-//! it may stop.
+//! Parts of a machine: the fuel that a run is charged, its operands and operators, where its text goes, and why it may stop.
 #![tactic(auto)]
 
 mod fuel;
 mod halt;
+mod operators;
 mod output;
 mod stack;
 
 pub use fuel::FuelTracker;
 pub use halt::Halt;
+pub use operators::{binary, paired, unary};
 pub use output::{Captures, Output, WriteWrapper};
 pub use stack::Stack;
 pub use tm_output::{Counted, NullWriter, Sink, write_text};

@@ -11,6 +11,4 @@ pub use instruction::Instruction;
 pub use name::Name;
 pub use name_map::NameMap;
 pub use token::{Sign, Tag, Token};
-pub use tree::{
-    Argument, BinaryOperator, Comparison, Condition, Expr, Pair, Step, Stmt, Tree, UnaryOperator,
-};
+pub use tree::{Argument, BinaryOperator, Expr, Pair, Step, Stmt, Tree, UnaryOperator};

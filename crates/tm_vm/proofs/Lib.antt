@@ -1,4 +1,4 @@
 pub mod Shift
 pub mod Loop
-pub mod Blocks
 pub mod Performed
+pub mod Weight

@@ -15,10 +15,11 @@ use Rattle.tm_parts.specs.declared.halt.Halt.TheVariants as halt
 use Rattle.tm_vm.specs.declared.flow.Entry.{Entry}
 use Rattle.tm_vm.specs.declared.flow.Flow.{Flow}
 use Rattle.tm_vm.specs.declared.flow.Flow.TheVariants as flow
-use Rattle.tm_vm.specs.Answers.{Did, Depths, HaltsAs, Comes, Keeps, output}
+use Rattle.tm_vm.specs.Answers.{Did, Depths, HaltsAs, Comes, Paid, weight, output}
+use Rattle.tm_state.specs.Answers.{Keeps}
 use Rattle.tm_vm.specs.Nested.{Went, EndsIn, Begins, behind, start_in, base_in}
-use Rattle.tm_vm.specs.State.{saved_of, put_back}
-use Rattle.tm_vm.specs.declared.flow.Saved.{Saved}
+use Rattle.tm_state.specs.State.{saved_of, put_back}
+use Rattle.tm_state.specs.declared.saved.Saved.{Saved}
 use Rattle.tm_vm.proofs.Shift.{behind as after_text, alone, behind_text}
 
 pub kept_same : (w : World) → Keeps w w

@@ -1,10 +1,8 @@
 -- What the machine's functions answer, beside what the definitions say.
-use Rattle.std.specs.Prelude.{◌≡◌, ◌+◌, ◌<◌, ◌≤◌, ◌^◌, ◌-◌, ℕ, List, [], length, Option, Result, Ok, Err, Bool, true, false}
+use Rattle.std.specs.Prelude.{◌≡◌, ◌+◌, ◌<◌, ◌≤◌, ◌^◌, ◌-◌, ◌*◌, ℕ, List, [], length, Option, Result, Ok, Err, Bool, true, false}
 use Rattle.std.specs.Io.KnownBytes.{Appends}
 use Rattle.tm_values.specs.Chain.{ends_in_memory}
 use Rattle.tm_values.specs.declared.error.ErrorKind.{ErrorKind}
-use Rattle.tm_syntax.specs.Named.{put_each}
-use Rattle.tm_tables.specs.Stated.{is_for_memory}
 use Rattle.tm_syntax.specs.declared.instruction.Instruction.{Instruction}
 use Rattle.tm_meaning.specs.World.{World, Host, Res, Good, Bad, Stated, depth}
 use Rattle.tm_meaning.specs.Calls.{Asked, refused, replied, whole, of_block}
@@ -17,7 +15,8 @@ use Rattle.tm_output.specs.Counts.{AppendsBeginning}
 use Rattle.tm_parts.specs.Halts.{faults_after}
 use Rattle.tm_parts.specs.declared.halt.Halt.{Halt}
 use Rattle.tm_parts.specs.declared.halt.Halt.TheVariants as halt
-use Rattle.tm_vm.specs.State.{saved_of}
+use Rattle.tm_state.specs.Answers.{Keeps}
+use Rattle.tm_state.specs.State.{saved_of}
 use Rattle.tm_vm.specs.declared.flow.Entry.{Entry}
 use Rattle.tm_vm.specs.declared.flow.Flow.{Flow}
 use Rattle.tm_vm.specs.declared.flow.Flow.TheVariants as flow
@@ -65,12 +64,6 @@ Did (Ok flow.Done) told now c n = (n ≡ Over (Finished c.captures c.world)) × 
 Did (Ok (flow.Enter e)) told now c n = Enters e c n × (now ≡ told)
 Did (Err why) told now c n = HaltsAs why c.world (λ e. n ≡ Over e) × AppendsBeginning told now (output n)
 
--- What every answer keeps, also where it is a halt.
-pub record Keeps (old new : World) : Type 0 where
-  pub same_id : new.id ≡ old.id
-  pub same_fuel_set : new.fuel_set ≡ old.fuel_set
-  pub no_more_fuel : new.fuel ≤ old.fuel
-
 -- How deep the scopes lie behind a step: as before; or one deeper, within the limit, where a run of its own is needed; and a run that is over has closed what it opened.
 abbrev pub Depths : ℕ → Base → Result Flow Halt → World → World → Type 0
 Depths limit f (Ok flow.GoOn) old new = depth new.scopes ≡ depth old.scopes
@@ -87,11 +80,15 @@ pub record Performs (limit : ℕ) (f : Base) (n : Next) (old new : Config) (told
   pub depths : Depths limit f result old.world new.world
   pub same_stream : new.run.stream ≡ old.run.stream
 
--- a step is paid for
-abbrev pub Paid : Result Flow Halt → World → World → Type 0
-Paid (Ok flow.GoOn) old new = new.fuel < old.fuel
-Paid (Ok (flow.Enter e)) old new = new.fuel < old.fuel
-Paid _ old new = Unit {0}
+-- what is left of a run of a stream of this size: its fuel, and of each unit the places up to the stream's end
+abbrev pub weight : ℕ → Config → ℕ
+weight size c = c.world.fuel * (size + 1) + (size - c.run.place)
+
+-- Less is left behind a step: it is paid for, or free and at the next place.
+abbrev pub Paid : ℕ → Result Flow Halt → Config → Config → Type 0
+Paid size (Ok flow.GoOn) old new = weight size new < weight size old
+Paid size (Ok (flow.Enter e)) old new = new.world.fuel < old.world.fuel
+Paid size _ old new = Unit {0}
 
 -- The same of an instruction that needs no run.
 abbrev pub Wrote : Result Flow Halt → Option (List ℕ) → Option (List ℕ) → Config → Next → Type 0
@@ -157,14 +154,3 @@ CanGoOn run = run.place < 2 ^ 64 - 1
 abbrev pub jump_or_pop_of : Host → Bool → ℕ → Config → Next
 jump_or_pop_of host true = jump_if_true_or_pop_of host
 jump_or_pop_of host false = jump_if_false_or_pop_of host
-
--- ---------------------------------------------------------------- emission and calls
--- A value can be emitted as this text, or it can't be.
-abbrev pub CanBeEmitted : Result (Unit {0}) (List ErrorKind) → Res (List ℕ) → List ℕ → World → Type 0
-CanBeEmitted (Ok _) emitted text w = emitted ≡ Good text w
-CanBeEmitted (Err chain) emitted text w = ends_in_memory chain ≡ false → emitted ≡ Bad chain w
-
--- What a call comes to: what was answered, with its values kept; or the call is refused.
-abbrev pub Calls : Result Stated (List ErrorKind) → Asked → World → Type 0
-Calls (Ok answer) asked w = is_for_memory answer.reply ≡ false → asked ≡ replied answer.reply (record w { temps = put_each answer.temps w.temps })
-Calls (Err chain) asked w = ends_in_memory chain ≡ false → asked ≡ refused chain w

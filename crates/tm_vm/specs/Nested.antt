@@ -13,7 +13,7 @@ use Rattle.tm_output.specs.Counts.{AppendsBeginning}
 use Rattle.tm_parts.specs.declared.halt.Halt.{Halt}
 use Rattle.tm_parts.specs.declared.halt.Halt.TheVariants as halt
 use Rattle.tm_vm.specs.Answers.{Comes, HaltsAs}
-use Rattle.tm_vm.specs.State.{put_back}
+use Rattle.tm_state.specs.State.{put_back}
 use Rattle.tm_vm.specs.declared.flow.Entry.{Entry}
 
 -- what the run stands on, and where it starts, where the configuration is c

@@ -1,20 +1,7 @@
 //! Where a run goes on behind a step.
 use tm_meaning::StreamId;
-use tm_syntax::Name;
-use tm_values::{AutoEscape, ErrorKind};
-
-/// What a block's run replaces in the state, and what is put back behind it.
-#[derive(Drop)]
-pub struct Saved {
-    /// The stream that ran.
-    pub stream: StreamId,
-    /// The block that ran.
-    pub block: Option<Name>,
-    /// The escape.
-    pub escape: AutoEscape,
-    /// The depth at which the outermost scope stood.
-    pub outer: usize,
-}
+use tm_state::Saved;
+use tm_values::ErrorKind;
 
 /// A run that an instruction needs before the next.
 #[derive(Drop)]

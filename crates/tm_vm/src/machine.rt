@@ -6,25 +6,24 @@ ghost use Rattle.tm_meaning.specs.World.{World, records_of, Res, Good, Bad, dept
 ghost use Rattle.tm_meaning.specs.Calls.{whole};
 ghost use Rattle.tm_meaning.specs.Meaning.{none_waits, truth, attribute};
 ghost use Rattle.tm_meaning.specs.Machine.{Next, audible, writes, base_of, goes, run_from, start, taken, at_place};
-ghost use Rattle.tm_meaning.specs.Instructions.{emit_raw_of, emit_of, lookup_of, load_const_of, replaces_one, get_attr_of, unary_of, binary_of, get_item_of, slice_instruction_of, build_list_of, build_map_of, jump_of, jump_if_false_of, jump_if_false_or_pop_of, jump_if_true_or_pop_of, call_function_of, call_block_of};
-ghost use Rattle.tm_meaning.specs.Steps.{pay, effect, finish, step};
+ghost use Rattle.tm_meaning.specs.Instructions.{emit_raw_of, emit_of, lookup_of, load_const_of, replaces_one, get_attr_of, unary_of, binary_of, compare_and_preserve_of, swap_of, discard_top_of, get_item_of, slice_instruction_of, build_list_of, build_map_of, jump_of, jump_if_false_of, jump_if_false_or_pop_of, jump_if_true_or_pop_of, call_function_of, call_block_of};
+ghost use Rattle.tm_meaning.specs.Steps.{charge_of, pay, effect, finish, step};
 ghost use Rattle.tm_printing.specs.Emitted.{emitted_text};
 ghost use Rattle.tm_operations.specs.Truth.{truth_of};
 ghost use Rattle.tm_parts.specs.Halts.{faults_after};
-ghost use Rattle.tm_vm.specs.Answers.{program, jump_or_pop_of, CanGoOn, Performs, Silently, Writes, Needs, Finishes, Paid, Keeps, EndsAs, Comes};
-ghost use Rattle.tm_vm.specs.State.{put_back};
+ghost use Rattle.tm_vm.specs.Answers.{program, jump_or_pop_of, CanGoOn, Performs, Silently, Writes, Needs, Finishes, Paid, EndsAs, Comes};
+ghost use Rattle.tm_state.specs.Answers.{Keeps};
+ghost use Rattle.tm_state.specs.State.{put_back};
 ghost use Rattle.tm_vm.specs.Nested.{Ran, Begins, IsWrapped, IsCaptured, base_in, start_in};
 
-use crate::flow::{Entry, Flow, Saved};
-use crate::operators::{binary, paired, unary};
-use crate::state::StateData;
+use crate::flow::{Entry, Flow};
 use std::alloc::Global;
 use std::marker::Model;
 use std::mem;
 use tm_meaning::{Base, StreamId};
-use tm_operations::{attribute, check_defined, item, slice, truth};
-use tm_parts::{Captures, Halt, Sink, Stack};
-use tm_printing::check_emission;
+use tm_operations::{attribute, item, slice, truth};
+use tm_parts::{Captures, Halt, Sink, Stack, binary, paired, unary};
+use tm_state::{Saved, StateData};
 use tm_syntax::{BinaryOperator, Instruction, Name, UnaryOperator};
 use tm_tables::{Answer, Host, Reply};
 use tm_values::{AutoEscape, Error, ErrorKind, UndefinedBehavior, Value, ValueMap};
@@ -343,6 +342,60 @@ impl<'env> Machine<'env> {
         }
     }
 
+    /// Replaces two values by the second and, over it, what an operator gives of them.
+    fn do_compare_and_preserve<H: Host>(
+        &mut self,
+        alloc: Global,
+        host: &H,
+        operator: BinaryOperator,
+    ) -> Result<Flow, Halt>
+        requires { CanGoOn self.old.run }
+        ensures { Silently (compare_and_preserve_of (H.meaning host.now) operator self.old)
+            self.old self.new result }
+    {
+        let Some(right) = self.run.pop() else {
+            return Err(Halt::Stuck);
+        };
+        let Some(left) = self.run.pop() else {
+            return Err(Halt::Stuck);
+        };
+        let undefined = host.undefined_behavior();
+        match binary(alloc, operator, &left, &right, &self.state, undefined) {
+            Ok(given) => {
+                self.run.push(right)?;
+                self.push_next(given)
+            }
+            Err(error) => Err(Halt::Fault(error)),
+        }
+    }
+
+    /// Turns the two topmost values round.
+    fn do_swap(&mut self) -> Result<Flow, Halt>
+        requires { CanGoOn self.old.run }
+        ensures { Silently (swap_of self.old) self.old self.new result }
+    {
+        let Some(top) = self.run.pop() else {
+            return Err(Halt::Stuck);
+        };
+        let Some(below) = self.run.pop() else {
+            return Err(Halt::Stuck);
+        };
+        self.run.push(top)?;
+        self.push_next(below)
+    }
+
+    /// Drops the topmost value.
+    fn do_discard_top(&mut self) -> Result<Flow, Halt>
+        requires { CanGoOn self.old.run }
+        ensures { Silently (discard_top_of self.old) self.old self.new result }
+    {
+        if self.run.pop().is_none() {
+            return Err(Halt::Stuck);
+        }
+        self.run.advance();
+        Ok(Flow::GoOn)
+    }
+
     /// Replaces a value and a key by the value's item there.
     fn do_get_item<H: Host>(&mut self, alloc: Global, host: &H) -> Result<Flow, Halt>
         requires { CanGoOn self.old.run }
@@ -630,6 +683,9 @@ impl<'env> Machine<'env> {
             Instruction::Gt => self.do_binary(alloc, host, BinaryOperator::Greater),
             Instruction::Gte => self.do_binary(alloc, host, BinaryOperator::GreaterOrEqual),
             Instruction::In => self.do_binary(alloc, host, BinaryOperator::In),
+            Instruction::CompareAndPreserve(operator) => {
+                self.do_compare_and_preserve(alloc, host, *operator)
+            }
             Instruction::Add => self.do_binary(alloc, host, BinaryOperator::Add),
             Instruction::Sub => self.do_binary(alloc, host, BinaryOperator::Subtract),
             Instruction::StringConcat => self.do_binary(alloc, host, BinaryOperator::Concatenate),
@@ -640,6 +696,8 @@ impl<'env> Machine<'env> {
             Instruction::Pow => self.do_binary(alloc, host, BinaryOperator::Power),
             Instruction::Neg => self.do_unary(alloc, host, UnaryOperator::Negate),
             Instruction::Not => self.do_unary(alloc, host, UnaryOperator::Not),
+            Instruction::Swap => self.do_swap(),
+            Instruction::DiscardTop => self.do_discard_top(),
             Instruction::Jump(place) => self.do_jump(*place),
             Instruction::JumpIfFalse(place) => self.do_jump_if_false(host, *place),
             Instruction::JumpIfFalseOrPop(place) => self.jump_or_pop(host, *place, false),
@@ -664,7 +722,8 @@ impl<'env> Machine<'env> {
             (pay instruction.now self.old.world ≡ Good tt self.new.world) }
         ensures err { IfErr result (λ e. (e ≡ ErrorKind.OutOfFuel ∷ [])
             × (pay instruction.now self.old.world ≡ Bad e self.new.world)) }
-        ensures falls { OnOk result (self.new.world.fuel < self.old.world.fuel) }
+        ensures spent { OnOk result
+            (self.new.world.fuel + charge_of instruction.now ≡ self.old.world.fuel) }
         ensures kept { Keeps self.old.world self.new.world }
         ensures rest { self.new ≡ record self.old {
           world = record self.old.world { fuel = self.new.world.fuel };
@@ -701,7 +760,7 @@ impl<'env> Machine<'env> {
             (step (program (H.meaning host.now) (H.code host.now)) base.now self.old)
             self.old self.new (W.told writer.old) (W.told writer.new)
             (W.faults writer.old) (W.faults writer.new) result }
-        ensures paid { Paid result self.old.world self.new.world }
+        ensures paid { Paid (length code.now) result self.old self.new }
     {
         let Some(instruction) = code.get(self.place()) else {
             return self.finish(base, code.len());

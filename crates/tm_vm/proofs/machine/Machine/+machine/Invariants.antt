@@ -1,7 +1,8 @@
-use Rattle.std.proofs.Common.{◌≡◌, ◌+◌, ◌-◌, ◌*◌, ◌≤◌}
+use Rattle.std.proofs.Common.{◌≡◌, ◌+◌, ◌-◌, ◌*◌, ◌≤◌, length}
 use Rattle.tm_meaning.specs.World.{depth}
 use Rattle.tm_meaning.specs.Machine.{base_of}
-use Rattle.tm_vm.specs.Answers.{Keeps, program}
+use Rattle.tm_state.specs.Answers.{Keeps}
+use Rattle.tm_vm.specs.Answers.{weight, program}
 use Rattle.tm_vm.proofs.Loop.{Stands}
 use Rattle.tm_vm.proofs.machine.Machine.+machine.Given as goal
 
@@ -21,4 +22,4 @@ invariant-run-loop-entry g l = record {
 }
 
 abbrev pub decreases-run-loop-entry : goal.decreases-run-loop-entry
-decreases-run-loop-entry g l = l.self.world.fuel
+decreases-run-loop-entry g l = weight (length l.code) l.self

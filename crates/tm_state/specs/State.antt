@@ -9,7 +9,7 @@ use Rattle.tm_meaning.specs.Meaning.{first_fuel}
 use Rattle.tm_meaning.specs.declared.stream.TemplateId.TheVariants.{Own}
 use Rattle.tm_parts.specs.Fuel.{Fuel}
 use Rattle.tm_tables.specs.Scopes.{exported_of}
-use Rattle.tm_vm.specs.declared.flow.Saved.{Saved}
+use Rattle.tm_state.specs.declared.saved.Saved.{Saved}
 
 -- the fuel that was set, where one was
 abbrev pub fuel_set_of : Bool → Fuel → Option ℕ

@@ -1,6 +1,6 @@
 use Rattle.std.proofs.Common.{◌≡◌, ◌++◌, length}
 use Rattle.tm_meaning.specs.Instructions.{paired}
-use Rattle.tm_vm.proofs.operators.paired.Given as goal
+use Rattle.tm_parts.proofs.operators.paired.Given as goal
 
 abbrev pub invariant-loop-key : goal.invariant-loop-key
 invariant-loop-key l = l.pairs.items ++ paired l.left.rest.items ≡ paired l.fn.values.items

@@ -11,7 +11,7 @@ use Rattle.tm_values.specs.declared.error.ErrorKind.TheVariants.{InvalidOperatio
 use Rattle.tm_meaning.specs.World.{Named, World, Host, card_at, block_of, depth}
 use Rattle.tm_meaning.specs.Calls.{enter_block, is_required, refused}
 use Rattle.tm_meaning.specs.declared.stream.TemplateId.TheVariants.{Own}
-use Rattle.tm_vm.specs.State.{alone, layers_of, runs_block, scoped, IsThere}
+use Rattle.tm_state.specs.State.{alone, layers_of, runs_block, scoped, IsThere}
 
 pub layers_found : (x : List ℕ) (bs : Named (List Instruction)) → find x (layers_of bs) ≡ option_map (λ _. alone) (find x bs)
 layers_found x bs = lookup-map_values (λ _. alone) (is_at (name_cmp x)) bs

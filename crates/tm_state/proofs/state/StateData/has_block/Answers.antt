@@ -1,9 +1,9 @@
 use Rattle.std.proofs.Common.{sym, subst, ◌∙◌}
 use Rattle.tm_syntax.specs.Named.{find}
 use Rattle.tm_meaning.specs.World.{World}
-use Rattle.tm_vm.proofs.Blocks.{is_there, lent}
-use Rattle.tm_vm.specs.State.{IsThere}
-use Rattle.tm_vm.proofs.state.StateData.has_block.Goals as goal
+use Rattle.tm_state.proofs.Blocks.{is_there, lent}
+use Rattle.tm_state.specs.State.{IsThere}
+use Rattle.tm_state.proofs.state.StateData.has_block.Goals as goal
 
 pub returns : goal.returns
 returns c =

@@ -14,7 +14,7 @@ use tm_syntax::{BinaryOperator, UnaryOperator};
 use tm_values::{Error, Records, UndefinedBehavior, Value};
 
 /// What a prefix operator gives of a value, or why it gives nothing.
-pub(crate) fn unary(
+pub fn unary(
     alloc: Global,
     operator: UnaryOperator,
     value: &Value,
@@ -30,7 +30,7 @@ pub(crate) fn unary(
 
 /// What an operator gives of two values, or why it gives nothing.
 #[inline(always)]
-pub(crate) fn binary<R: Records>(
+pub fn binary<R: Records>(
     alloc: Global,
     operator: BinaryOperator,
     left: &Value,
@@ -67,7 +67,7 @@ pub(crate) fn binary<R: Records>(
 }
 
 /// Keys, each with the value behind it; a last key without one is dropped. Fails by OutOfMemory alone.
-pub(crate) fn paired(alloc: Global, values: Vec<Value>) -> Result<Vec<(Value, Value)>, Error>
+pub fn paired(alloc: Global, values: Vec<Value>) -> Result<Vec<(Value, Value)>, Error>
     ensures ok { IfOk result (λ pairs. pairs.items ≡ instructions.paired values.items) }
     ensures kind { IfErr result (λ e. e ≡ OutOfMemory ∷ []) }
 {

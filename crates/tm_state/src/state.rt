@@ -5,14 +5,14 @@ ghost use Rattle.tm_values.specs.Chain.{ends_in_memory};
 ghost use Rattle.tm_syntax.specs.Named.{find, put_each};
 ghost use Rattle.tm_meaning.specs.World.{depth, emitted, records_of, fuel_levels, find_name, view_of, name_of, Good, Bad, block_of};
 ghost use Rattle.tm_meaning.specs.Calls.{enter_block, call_named, refused};
-ghost use Rattle.tm_meaning.specs.Steps.{pay};
+ghost use Rattle.tm_meaning.specs.Steps.{charge_of, pay};
 ghost use Rattle.tm_printing.specs.Emitted.{emitted_text};
 ghost use Rattle.tm_tables.specs.Found.{IsFound};
 ghost use Rattle.tm_tables.specs.Scopes.{PushFails, texts_of};
-ghost use Rattle.tm_vm.specs.Answers.{Keeps, CanBeEmitted, Calls};
-ghost use Rattle.tm_vm.specs.State.{exported, started, put_back, saved_of, runs_block, IsThere, scoped};
+ghost use Rattle.tm_state.specs.Answers.{Keeps, CanBeEmitted, Calls};
+ghost use Rattle.tm_state.specs.State.{exported, started, put_back, saved_of, runs_block, IsThere, scoped};
 
-use crate::flow::Saved;
+use crate::saved::Saved;
 use sqlite_items::Items;
 use std::alloc::Global;
 use std::marker::Model;
@@ -46,7 +46,7 @@ impl<'env> Model for StateData<'env> {
     ghost use Rattle.std.specs.Coded.{codes};
     ghost use Rattle.tm_values.specs.Code.{coded_Val};
     ghost use Rattle.tm_meaning.specs.World.{World};
-    ghost use Rattle.tm_vm.specs.State.{fuel_set_of, layers_of};
+    ghost use Rattle.tm_state.specs.State.{fuel_set_of, layers_of};
 
     ghost Value = { World };
 
@@ -117,7 +117,8 @@ impl<'env> StateData<'env> {
         ensures ok { OnOk result (pay instruction.now self.old ≡ Good tt self.new) }
         ensures err { IfErr result (λ e. (e ≡ ErrorKind.OutOfFuel ∷ [])
             × (pay instruction.now self.old ≡ Bad e self.new)) }
-        ensures falls { OnOk result (self.new.fuel < self.old.fuel) }
+        ensures spent { OnOk result
+            (self.new.fuel + charge_of instruction.now ≡ self.old.fuel) }
         ensures kept { Keeps self.old self.new }
         ensures rest { self.new ≡ record self.old { fuel = self.new.fuel } }
     {

@@ -1,0 +1,24 @@
+-- What a state's calls answer, beside what the definitions say.
+use Rattle.std.specs.Prelude.{◌≡◌, ◌≤◌, ℕ, List, Result, Ok, Err, false}
+use Rattle.tm_values.specs.Chain.{ends_in_memory}
+use Rattle.tm_values.specs.declared.error.ErrorKind.{ErrorKind}
+use Rattle.tm_syntax.specs.Named.{put_each}
+use Rattle.tm_tables.specs.Stated.{is_for_memory}
+use Rattle.tm_meaning.specs.World.{World, Res, Good, Bad, Stated}
+use Rattle.tm_meaning.specs.Calls.{Asked, refused, replied}
+
+-- What every answer keeps, also where it is a halt.
+pub record Keeps (old new : World) : Type 0 where
+  pub same_id : new.id ≡ old.id
+  pub same_fuel_set : new.fuel_set ≡ old.fuel_set
+  pub no_more_fuel : new.fuel ≤ old.fuel
+
+-- A value can be emitted as this text, or it can't be.
+abbrev pub CanBeEmitted : Result (Unit {0}) (List ErrorKind) → Res (List ℕ) → List ℕ → World → Type 0
+CanBeEmitted (Ok _) emitted text w = emitted ≡ Good text w
+CanBeEmitted (Err chain) emitted text w = ends_in_memory chain ≡ false → emitted ≡ Bad chain w
+
+-- What a call comes to: what was answered, with its values kept; or the call is refused.
+abbrev pub Calls : Result Stated (List ErrorKind) → Asked → World → Type 0
+Calls (Ok answer) asked w = is_for_memory answer.reply ≡ false → asked ≡ replied answer.reply (record w { temps = put_each answer.temps w.temps })
+Calls (Err chain) asked w = ends_in_memory chain ≡ false → asked ≡ refused chain w

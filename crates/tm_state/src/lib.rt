@@ -1,0 +1,10 @@
+//! The data of a state: what a render starts from, what its names and functions give, its blocks and its fuel.
+#![tactic(auto)]
+
+mod ids;
+mod saved;
+mod state;
+
+pub use ids::StateIds;
+pub use saved::Saved;
+pub use state::StateData;
