@@ -1,5 +1,7 @@
-//! Tests of the parts of the machine.
+//! Tests of the parts of the machine, and of its tables.
 #![tactic(auto)]
 
 #[cfg(test)]
 mod parts;
+#[cfg(test)]
+mod tables;

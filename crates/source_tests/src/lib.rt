@@ -7,3 +7,7 @@ mod code;
 mod compiler;
 #[cfg(test)]
 mod parser;
+#[cfg(test)]
+mod scanner;
+#[cfg(test)]
+mod tokens;

@@ -3,12 +3,8 @@
 
 mod environment;
 mod rendering;
-#[cfg(test)]
-mod rows;
 mod state;
 mod template;
-#[cfg(test)]
-mod tests;
 
 pub use environment::{Environment, EnvironmentOf};
 pub use state::{Captured, CapturedOf, State, StateOf};

@@ -21,12 +21,13 @@ use Rattle.tm_syntax.specs.declared.tree.UnaryOperator.{UnaryOperator}
 use Rattle.tm_syntax.specs.declared.tree.UnaryOperator.TheVariants as unaries
 use Rattle.tm_syntax.specs.declared.tree.BinaryOperator.{BinaryOperator}
 use Rattle.tm_syntax.specs.declared.tree.BinaryOperator.TheVariants as binaries
-use Rattle.tm_syntax.specs.declared.tree.Expr.{Expr, Var, Const, List', Tuple', Map', Call', Row_of-Expr, end_of-Expr as no_expr, more_of-Expr as expr, Row_of-Pair, end_of-Pair as no_pair, more_of-Pair as with_pair, Row_of-Argument, end_of-Argument as no_argument, more_of-Argument as argument, Row_of-Step, end_of-Step as no_step, more_of-Step as step}
+use Rattle.tm_syntax.specs.declared.tree.Expr.{Expr, Var, Const, List', Tuple', Map', Call', Row_of-Expr, end_of-Expr as no_expr, more_of-Expr as expr, Row_of-Pair, end_of-Pair as no_pair, more_of-Pair as with_pair, Row_of-Argument, end_of-Argument as no_argument, more_of-Argument as argument, Row_of-Step, end_of-Step as no_step, more_of-Step as step, Row_of-Condition, end_of-Condition as no_condition, more_of-Condition as with_condition}
 use Rattle.tm_syntax.specs.declared.tree.Argument.{Argument}
 use Rattle.tm_syntax.specs.declared.tree.Pair.{Pair}
-use Rattle.tm_syntax.specs.declared.tree.Step.{Step, Attribute}
+use Rattle.tm_syntax.specs.declared.tree.Condition.{Condition}
+use Rattle.tm_syntax.specs.declared.tree.Step.{Step, Attribute, Row_of-Comparison, end_of-Comparison as no_comparison, more_of-Comparison as with_comparison}
 use Rattle.tm_syntax.specs.declared.tree.Stmt.{Stmt, EmitRaw, EmitExpr, If', Block', Row_of-Stmt, end_of-Stmt as no_statement, more_of-Stmt as statement, Held-Stmt-If-2 as Otherwise, None' as no_else, Some' as otherwise}
-use Rattle.tm_syntax.specs.Forms.{unary, chained, pair, plain, item, slice, binary, and_then, or_else}
+use Rattle.tm_syntax.specs.Forms.{unary, chained, conditional, condition, comparison, pair, plain, item, slice, binary, compare, and_then, or_else}
 use Rattle.tm_meaning.specs.World.{choose, TemplateId, root_of, StreamId, World, Host, Res, Good, Bad, bind, answered, tick, ticked, looked_up, records_of, template_at, emitted, captured_text, plain as plain_scope}
 use Rattle.tm_meaning.specs.Calls.{Callee, whole, Call, Asked, has, refused, runs, undone, wrapped, enter_block, call_named, own_blocks}
 use Rattle.tm_meaning.specs.Tree.{Body, Trees}
@@ -191,6 +192,18 @@ abbrev mutual
   eval u run (Call' f _ given) w = bind (eval_arguments u run given w) (λ vs w1. ticked w1 (λ w2. value_of u (call_named u.host f vs w2)))
   eval u run (unary op a) w = bind (eval u run a w) (λ v w1. ticked w1 (λ w2. applied_unary u.host op v w2))
   eval u run (chained a _ ss) w = bind (eval u run a w) (λ v w1. eval_steps u run ss v w1)
+  eval u run (conditional a _ cs) w = eval_conditions u run cs (λ w1. eval u run a w1) w
+
+  -- what is guarded where the condition is true, with the jump behind it, and else what stands for it
+  pub eval_condition : Under → Run → Condition → (World → Res Val) → World → Res Val
+  eval_condition u run (condition c e) guarded w =
+      bind (eval u run c w) (λ v w1. ticked w1 (λ w2. bind (truth u.host v w2) (λ b w3.
+      choose b (λ _. bind (guarded w3) (λ x w4. ticked w4 (λ w5. Good x w5))) (λ _. eval u run e w3))))
+
+  -- the last condition first
+  pub eval_conditions : {n : _} → Under → Run → Row_of-Condition n → (World → Res Val) → World → Res Val
+  eval_conditions u run no_condition guarded w = guarded w
+  eval_conditions u run (with_condition c more) guarded w = eval_conditions u run more (λ w1. eval_condition u run c guarded w1) w
 
   -- from the first to the last
   pub eval_all : {n : _} → Under → Run → Row_of-Expr n → World → Res (List Val)
@@ -220,10 +233,18 @@ abbrev mutual
   eval_step u run (slice a b c) v w =
       bind (eval u run a w) (λ x w1. bind (eval u run b w1) (λ y w2. bind (eval u run c w2) (λ z w3. ticked w3 (λ w4. slice_of u.host v x y z w4))))
   eval_step u run (binary op a) v w = bind (eval u run a w) (λ y w1. ticked w1 (λ w2. applied u.host op v y w2))
+  eval_step u run (compare op a _ cs) v w = bind (eval u run a w) (λ y w1. eval_links u run op cs v y w1)
   eval_step u run (and_then a) v w =
       ticked w (λ w1. bind (truth u.host v w1) (λ b w2. choose b (λ _. eval u run a w2) (λ _. Good v w2)))
   eval_step u run (or_else a) v w =
       ticked w (λ w1. bind (truth u.host v w1) (λ b w2. choose b (λ _. Good v w2) (λ _. eval u run a w2)))
+
+  -- Comparisons in a row, from the first: each but the last charges its test; where it is false it is the value, and dropping its right side is charged. Behind the last one the jump is.
+  pub eval_links : {n : _} → Under → Run → BinaryOperator → Row_of-Comparison n → Val → Val → World → Res Val
+  eval_links u run op no_comparison x y w = ticked w (λ w1. bind (applied u.host op x y w1) (λ v w2. ticked w2 (λ w3. Good v w3)))
+  eval_links u run op (with_comparison (comparison op1 a) more) x y w =
+      ticked w (λ w1. bind (operated u.host op x y w1) (λ v w2. ticked w2 (λ w3. bind (truth u.host v w3) (λ b w4.
+      choose b (λ _. bind (eval u run a w4) (λ z w5. eval_links u run op1 more y z w5)) (λ _. ticked w4 (λ w5. Good v w5))))))
 
   pub eval_steps : {n : _} → Under → Run → Row_of-Step n → Val → World → Res Val
   eval_steps u run no_step v w = Good v w

@@ -7,14 +7,10 @@ mod front;
 mod names;
 mod numbers;
 mod pieces;
-#[cfg(test)]
-mod printing;
 mod raw;
 mod source;
 mod starts;
 mod syntax;
-#[cfg(test)]
-mod tests;
 mod texts;
 mod tokens;
 mod trimming;

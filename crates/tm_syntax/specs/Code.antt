@@ -4,14 +4,15 @@ use Rattle.tm_syntax.specs.declared.tree.UnaryOperator.{UnaryOperator}
 use Rattle.tm_syntax.specs.declared.tree.UnaryOperator.TheVariants as unaries
 use Rattle.tm_syntax.specs.declared.tree.BinaryOperator.{BinaryOperator}
 use Rattle.tm_syntax.specs.declared.tree.BinaryOperator.TheVariants as binaries
-use Rattle.tm_syntax.specs.declared.tree.Expr.{Expr, Var, Const, List', Tuple', Map', Call', Row_of-Expr, end_of-Expr as no_expr, more_of-Expr as expr, Row_of-Pair, end_of-Pair as no_pair, more_of-Pair as with_pair, Row_of-Argument, end_of-Argument as no_argument, more_of-Argument as argument, Row_of-Step, end_of-Step as no_step, more_of-Step as step}
+use Rattle.tm_syntax.specs.declared.tree.Expr.{Expr, Var, Const, List', Tuple', Map', Call', Row_of-Expr, end_of-Expr as no_expr, more_of-Expr as expr, Row_of-Pair, end_of-Pair as no_pair, more_of-Pair as with_pair, Row_of-Argument, end_of-Argument as no_argument, more_of-Argument as argument, Row_of-Step, end_of-Step as no_step, more_of-Step as step, Row_of-Condition, end_of-Condition as no_condition, more_of-Condition as with_condition}
 use Rattle.tm_syntax.specs.declared.tree.Argument.{Argument}
 use Rattle.tm_syntax.specs.declared.tree.Pair.{Pair}
-use Rattle.tm_syntax.specs.declared.tree.Step.{Step, Attribute}
+use Rattle.tm_syntax.specs.declared.tree.Condition.{Condition}
+use Rattle.tm_syntax.specs.declared.tree.Step.{Step, Attribute, Row_of-Comparison, end_of-Comparison as no_comparison, more_of-Comparison as with_comparison}
 use Rattle.tm_syntax.specs.declared.tree.Stmt.{Stmt, EmitRaw, EmitExpr, If', Block', Row_of-Stmt, end_of-Stmt as no_statement, more_of-Stmt as statement, Held-Stmt-If-2 as Otherwise, None' as no_else, Some' as otherwise}
 use Rattle.tm_syntax.specs.declared.instruction.Instruction.{Instruction}
 use Rattle.tm_syntax.specs.declared.instruction.Instruction.TheVariants as i
-use Rattle.tm_syntax.specs.Forms.{unary, chained, pair, plain, item, slice, binary, and_then, or_else}
+use Rattle.tm_syntax.specs.Forms.{unary, chained, conditional, condition, comparison, pair, plain, item, slice, binary, compare, and_then, or_else}
 
 abbrev pub unary_code : UnaryOperator → Instruction
 unary_code unaries.Not = i.Not
@@ -51,6 +52,10 @@ count_pairs (with_pair p more) = count_pairs more + 1
 abbrev pub before : ℕ → List Instruction → (ℕ → List Instruction) → List Instruction
 before pc first rest = first ++ rest (pc + length first)
 
+-- Comparisons in a row, given what they are for a place to which they jump where one is false: there the right side is dropped.
+abbrev pub in_a_row : (ℕ → List Instruction) → ℕ → List Instruction
+in_a_row links pc = links (pc + length (links 0) + 1) ++ i.Jump (pc + length (links 0) + 3) ∷ i.Swap ∷ i.DiscardTop ∷ []
+
 abbrev mutual
   pub expr_code : ℕ → Expr → List Instruction
   expr_code pc (Var x) = i.Lookup x ∷ []
@@ -61,6 +66,19 @@ abbrev mutual
   expr_code pc (Call' f _ given) = arguments_code pc given ++ i.CallFunction f (count given) ∷ []
   expr_code pc (unary op a) = expr_code pc a ++ unary_code op ∷ []
   expr_code pc (chained a _ ss) = before pc (expr_code pc a) (λ pc1. steps_code pc1 ss)
+  expr_code pc (conditional a _ cs) = conditions_code cs (λ pc1. expr_code pc1 a) pc
+
+  -- a condition before the code of a value, and what stands for the value behind it
+  pub condition_code : Condition → (ℕ → List Instruction) → ℕ → List Instruction
+  condition_code (condition c e) value pc = before pc (expr_code pc c) (λ pc1.
+      i.JumpIfFalse (pc1 + 1 + length (value (pc1 + 1)) + 1)
+      ∷ before (pc1 + 1) (value (pc1 + 1)) (λ pc2.
+      i.Jump (pc2 + 1 + length (expr_code (pc2 + 1) e)) ∷ expr_code (pc2 + 1) e))
+
+  -- the last condition first
+  pub conditions_code : {n : _} → Row_of-Condition n → (ℕ → List Instruction) → ℕ → List Instruction
+  conditions_code no_condition value pc = value pc
+  conditions_code (with_condition c more) value pc = conditions_code more (λ pc1. condition_code c value pc1) pc
 
   pub exprs_code : {n : _} → ℕ → Row_of-Expr n → List Instruction
   exprs_code pc no_expr = []
@@ -86,8 +104,15 @@ abbrev mutual
   step_code pc (slice a b c) =
       before pc (expr_code pc a) (λ pc1. before pc1 (expr_code pc1 b) (λ pc2. expr_code pc2 c ++ i.Slice ∷ []))
   step_code pc (binary op a) = expr_code pc a ++ binary_code op
+  step_code pc (compare op a _ cs) = before pc (expr_code pc a) (λ pc1. in_a_row (λ end. links_code end pc1 op cs) pc1)
   step_code pc (and_then a) = i.JumpIfFalseOrPop (pc + 1 + length (expr_code (pc + 1) a)) ∷ expr_code (pc + 1) a
   step_code pc (or_else a) = i.JumpIfTrueOrPop (pc + 1 + length (expr_code (pc + 1) a)) ∷ expr_code (pc + 1) a
+
+  -- A comparison and those behind it: each but the last leaves its right side below its answer, and jumps to this place where that is false.
+  pub links_code : {n : _} → ℕ → ℕ → BinaryOperator → Row_of-Comparison n → List Instruction
+  links_code end pc op no_comparison = binary_code op
+  links_code end pc op (with_comparison (comparison op1 a) more) =
+      i.CompareAndPreserve op ∷ i.JumpIfFalseOrPop end ∷ before (pc + 2) (expr_code (pc + 2) a) (λ pc1. links_code end pc1 op1 more)
 
   pub steps_code : {n : _} → ℕ → Row_of-Step n → List Instruction
   steps_code pc no_step = []

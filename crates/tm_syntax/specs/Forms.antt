@@ -3,16 +3,27 @@ use mathlib.Core.Former.{arity, this}
 use Rattle.sqlite_items.specs.formers.items.Items as items
 use Rattle.tm_syntax.specs.declared.tree.UnaryOperator.{UnaryOperator}
 use Rattle.tm_syntax.specs.declared.tree.BinaryOperator.{BinaryOperator}
-use Rattle.tm_syntax.specs.declared.tree.Expr.{Expr, Unary', Chain', end_of-Expr, more_of-Expr, Row_of-Step}
+use Rattle.tm_syntax.specs.declared.tree.Expr.{Expr, Unary', Chain', Conditional', end_of-Expr, more_of-Expr, Row_of-Step, Row_of-Condition}
 use Rattle.tm_syntax.specs.declared.tree.Argument.{Argument, Plain'}
 use Rattle.tm_syntax.specs.declared.tree.Pair.{Pair, Pair'}
-use Rattle.tm_syntax.specs.declared.tree.Step.{Step, Item', Slice', Binary', And', Or'}
+use Rattle.tm_syntax.specs.declared.tree.Condition.{Condition, Condition'}
+use Rattle.tm_syntax.specs.declared.tree.Comparison.{Comparison, Comparison'}
+use Rattle.tm_syntax.specs.declared.tree.Step.{Step, Item', Slice', Binary', Compare', And', Or', Row_of-Comparison}
 
 pattern abbrev pub unary : UnaryOperator → Expr → Expr
 unary op a = Unary' op tt (more_of-Expr a end_of-Expr)
 
 pattern abbrev pub chained : Expr → (n : (items.the_former (this {0})).Shape) → Row_of-Step (arity (items.the_former (this {0})) n) → Expr
 chained a n ss = Chain' tt (more_of-Expr a end_of-Expr) n ss
+
+pattern abbrev pub conditional : Expr → (n : (items.the_former (this {0})).Shape) → Row_of-Condition (arity (items.the_former (this {0})) n) → Expr
+conditional a n cs = Conditional' tt (more_of-Expr a end_of-Expr) n cs
+
+pattern abbrev pub condition : Expr → Expr → Condition
+condition c e = Condition' tt (more_of-Expr c end_of-Expr) tt (more_of-Expr e end_of-Expr)
+
+pattern abbrev pub comparison : BinaryOperator → Expr → Comparison
+comparison op a = Comparison' op tt (more_of-Expr a end_of-Expr)
 
 pattern abbrev pub plain : Expr → Argument
 plain a = Plain' tt (more_of-Expr a end_of-Expr)
@@ -28,6 +39,9 @@ slice a b c = Slice' tt (more_of-Expr a end_of-Expr) tt (more_of-Expr b end_of-E
 
 pattern abbrev pub binary : BinaryOperator → Expr → Step
 binary op a = Binary' op tt (more_of-Expr a end_of-Expr)
+
+pattern abbrev pub compare : BinaryOperator → Expr → (n : (items.the_former (this {0})).Shape) → Row_of-Comparison (arity (items.the_former (this {0})) n) → Step
+compare op a n cs = Compare' op tt (more_of-Expr a end_of-Expr) n cs
 
 pattern abbrev pub and_then : Expr → Step
 and_then a = And' tt (more_of-Expr a end_of-Expr)

@@ -11,4 +11,6 @@ pub use instruction::Instruction;
 pub use name::Name;
 pub use name_map::NameMap;
 pub use token::{Sign, Tag, Token};
-pub use tree::{Argument, BinaryOperator, Expr, Pair, Step, Stmt, Tree, UnaryOperator};
+pub use tree::{
+    Argument, BinaryOperator, Comparison, Condition, Expr, Pair, Step, Stmt, Tree, UnaryOperator,
+};

@@ -69,6 +69,8 @@ pub enum Expr {
     Unary(UnaryOperator, Boxed<Expr>),
     /// A value and the steps behind it, from the left.
     Chain(Boxed<Expr>, Items<Step>),
+    /// A value under conditions, the last of which is asked first.
+    Conditional(Boxed<Expr>, Items<Condition>),
 }
 
 /// A key of a map with its value.
@@ -87,6 +89,22 @@ pub enum Argument {
     Plain(Boxed<Expr>),
 }
 
+/// A condition of a value.
+#[cycle(expr)]
+#[derive(Drop)]
+pub enum Condition {
+    /// What is asked, and what stands for the value where it is false: the literal silent undefined where nothing does.
+    Condition(Boxed<Expr>, Boxed<Expr>),
+}
+
+/// A comparison behind another one.
+#[cycle(expr)]
+#[derive(Drop)]
+pub enum Comparison {
+    /// The operator, and the right side.
+    Comparison(BinaryOperator, Boxed<Expr>),
+}
+
 /// What goes on with a value.
 #[cycle(expr)]
 #[derive(Drop)]
@@ -99,6 +117,8 @@ pub enum Step {
     Slice(Boxed<Expr>, Boxed<Expr>, Boxed<Expr>),
     /// The operator with this right side.
     Binary(BinaryOperator, Boxed<Expr>),
+    /// The comparison with this right side, and each behind it with the right side before its own.
+    Compare(BinaryOperator, Boxed<Expr>, Items<Comparison>),
     /// The value where it is false, else this.
     And(Boxed<Expr>),
     /// The value where it is true, else this.

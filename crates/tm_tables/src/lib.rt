@@ -9,8 +9,6 @@ mod host;
 mod objects;
 mod plain;
 mod templates;
-#[cfg(test)]
-mod tests;
 mod view;
 
 pub use callable::{Answer, Callable, Reply};

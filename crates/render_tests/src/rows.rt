@@ -4,12 +4,12 @@ ghost use Rattle.tm_values.specs.Val.{number};
 ghost use Rattle.tm_syntax.specs.Named.{find};
 ghost use Rattle.tm_meaning.specs.World.{gives, faults, or_undefined};
 ghost use Rattle.tm_tables.specs.Stated.{IsStated, just, keeping};
-ghost use Rattle.template_machine.specs.declared.rows.Party.TheVariants.{Second, Keeper, Reader, Faulty};
+ghost use Rattle.render_tests.specs.declared.rows.Party.TheVariants.{Second, Keeper, Reader, Faulty};
 
-use super::*;
 use std::alloc::Global;
 use std::process::Abort;
 use std::test::Fail;
+use template_machine::*;
 
 /// A function of the rows.
 #[derive(Clone, Copy)]

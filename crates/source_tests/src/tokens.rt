@@ -1,6 +1,6 @@
 //! Tokens as the tests print them.
-use crate::{SyntaxConfig, scan};
 use std::alloc::{AllocError, Global};
+use tm_scanner::{SyntaxConfig, scan};
 use tm_syntax::{Sign, Tag, Token};
 use tm_values::{Error, Value};
 

@@ -4,10 +4,10 @@ ghost use Rattle.tm_values.specs.Val.{boolean, none};
 ghost use Rattle.tm_meaning.specs.World.{gives};
 ghost use Rattle.tm_tables.specs.Stated.{just, keeping};
 
-use super::*;
 use std::alloc::Global;
 use std::test::Fail;
-use tm_compiler::NameMap;
+use tm_compiler::{NameMap, SyntaxConfig};
+use tm_tables::{Answer, Callable, CompiledTemplate, Context, Frame, Objects, TemplateConfig, View};
 use tm_values::{AutoEscape, Error, UndefinedBehavior, Value};
 
 /// Keeps that it was called, and gives none.

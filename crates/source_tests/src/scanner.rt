@@ -1,6 +1,6 @@
-use crate::printing::spelled;
-use crate::{SyntaxConfig, scan};
+use crate::tokens::spelled;
 use std::alloc::Global;
+use tm_scanner::{SyntaxConfig, scan};
 use tm_values::{Error, ErrorKind};
 
 fn is_spelled(alloc: Global, syntax: &SyntaxConfig, source: &str, wanted: &str) -> bool {

@@ -4,10 +4,10 @@ ghost use Rattle.tm_meaning.specs.World.{gives};
 ghost use Rattle.tm_tables.specs.Stated.{just};
 ghost use Rattle.std.specs.Prelude.{true};
 
-use super::*;
 use std::alloc::Global;
 use std::process::Abort;
 use std::test::Fail;
+use template_machine::*;
 
 /// Answers true.
 #[derive(Drop)]

@@ -1,0 +1,7 @@
+//! Tests of templates in an environment, and of their renders.
+#![tactic(auto)]
+
+#[cfg(test)]
+mod rows;
+#[cfg(test)]
+mod templates;
