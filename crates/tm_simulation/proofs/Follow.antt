@@ -70,6 +70,11 @@ pub follows_map : {A : Type 0} (r : Final) (t : List ℕ) (m : Res A) (K L : A �
 follows_map r t (Good a w) K L h g = g a w h
 follows_map r t (Bad chain w) K L h g = h
 
+-- what is bound, of its parts
+pub follows_bind : {A B : Type 0} (r : Final) (t : List ℕ) (m : Res A) (g : A → World → Res B) (K : B → World → Type 0) → Follows r t m (λ a w. Follows r t (g a w) K) → Follows r t (bind m g) K
+follows_bind r t (Good a w) g K h = h
+follows_bind r t (Bad chain w) g K h = h
+
 -- the first part of what is bound, and what it keeps
 pub bind_then : {A B : Type 0} (r : Final) (t : List ℕ) (w : World) (m : Res A) (g : A → World → Res B) (K : B → World → Type 0) (L : A → World → Type 0) →
     Gives w m → Follows r t (bind m g) K → ((a : A) (w1 : World) → Kept w w1 → Follows r t (g a w1) K → L a w1) → Follows r t m L

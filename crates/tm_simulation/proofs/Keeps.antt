@@ -9,15 +9,16 @@ use Rattle.tm_syntax.specs.declared.tree.UnaryOperator.{UnaryOperator}
 use Rattle.tm_syntax.specs.declared.tree.UnaryOperator.TheVariants as unaries
 use Rattle.tm_syntax.specs.declared.tree.BinaryOperator.{BinaryOperator}
 use Rattle.tm_syntax.specs.declared.tree.BinaryOperator.TheVariants as binaries
-use Rattle.tm_syntax.specs.declared.tree.Expr.{Expr, Var, Const, List', Tuple', Map', Call', Row_of-Expr, end_of-Expr as no_expr, more_of-Expr as expr, Row_of-Pair, end_of-Pair as no_pair, more_of-Pair as with_pair, Row_of-Argument, end_of-Argument as no_argument, more_of-Argument as argument, Row_of-Step, end_of-Step as no_step, more_of-Step as step}
+use Rattle.tm_syntax.specs.declared.tree.Expr.{Expr, Var, Const, List', Tuple', Map', Call', Row_of-Expr, end_of-Expr as no_expr, more_of-Expr as expr, Row_of-Pair, end_of-Pair as no_pair, more_of-Pair as with_pair, Row_of-Argument, end_of-Argument as no_argument, more_of-Argument as argument, Row_of-Step, end_of-Step as no_step, more_of-Step as step, Row_of-Condition, end_of-Condition as no_condition, more_of-Condition as with_condition}
 use Rattle.tm_syntax.specs.declared.tree.Argument.{Argument}
 use Rattle.tm_syntax.specs.declared.tree.Pair.{Pair}
-use Rattle.tm_syntax.specs.declared.tree.Step.{Step, Attribute}
+use Rattle.tm_syntax.specs.declared.tree.Condition.{Condition}
+use Rattle.tm_syntax.specs.declared.tree.Step.{Step, Attribute, Row_of-Comparison, end_of-Comparison as no_comparison, more_of-Comparison as with_comparison}
 use Rattle.tm_syntax.specs.declared.tree.Stmt.{Stmt, EmitRaw, EmitExpr, If', Block', Row_of-Stmt, end_of-Stmt as no_statement, more_of-Stmt as statement, Held-Stmt-If-2 as Otherwise, None' as no_else, Some' as otherwise}
-use Rattle.tm_syntax.specs.Forms.{unary, chained, pair, plain, item, slice, binary, and_then, or_else}
+use Rattle.tm_syntax.specs.Forms.{unary, chained, conditional, condition, comparison, pair, plain, item, slice, binary, compare, and_then, or_else}
 use Rattle.tm_meaning.specs.World.{choose, find, block_of, with_frames, World, Host, Scopes, Scope, Res, Good, Bad, bind, need, check, answered, charged, with_fuel, tick, push, pop, depth, without_first, emitted, looked_up, lookup, Function, callers, Reply, gives, faults, plain as plain_scope}
 use Rattle.tm_meaning.specs.Calls.{Callee, whole, Call, Undo, of_block, undone, wrapped, Asked, has, refused, runs, ask, enter_block, call_named, call_value, call_by, replied, required_alone}
-use Rattle.tm_meaning.specs.Meaning.{Run, Outcome, Ending, done, leave, next, fault, Nests, Under, use_it, then_do, on_done, so_far, ended, say, audible, none_waits, value_of, value_behind, in_place_of, behind, block_tag, truth, applied_unary, operated, applied, attribute, eval, eval_all, eval_pair, eval_pairs, eval_argument, eval_arguments, eval_step, eval_steps, emit, behind_first, exec, execs, exec_else, at_end, new_run, nests_of}
+use Rattle.tm_meaning.specs.Meaning.{Run, Outcome, Ending, done, leave, next, fault, Nests, Under, use_it, then_do, on_done, so_far, ended, say, audible, none_waits, value_of, value_behind, in_place_of, behind, block_tag, truth, applied_unary, operated, applied, attribute, eval, eval_all, eval_pair, eval_pairs, eval_argument, eval_arguments, eval_condition, eval_conditions, eval_step, eval_links, eval_steps, emit, behind_first, exec, execs, exec_else, at_end, new_run, nests_of}
 use Rattle.tm_meaning.specs.Tree.{Trees}
 use Rattle.tm_meaning.specs.declared.stream.TemplateId.{TemplateId}
 
@@ -265,6 +266,20 @@ module _ (u : Under) (nest_ends : (k : Callee) (heard : Bool) (out : List ℕ) (
     eval_gives run (unary op a) w =
         gives_bind w (eval u run a w) _ (eval_gives run a w) (λ v w1. gives_bind w1 (tick w1) _ (tick_gives w1) (λ _ w2. unary_gives op v w2))
     eval_gives run (chained a _ ss) w = gives_bind w (eval u run a w) _ (eval_gives run a w) (λ v w1. steps_give run ss v w1)
+    eval_gives run (conditional a _ cs) w = conditions_give run cs (λ w1. eval u run a w1) (λ w1. eval_gives run a w1) w
+
+    -- where what is guarded does
+    pub condition_gives : (run : Run) (x : Condition) (guarded : World → Res Val) → ((w : World) → Gives w (guarded w)) → (w : World) → Gives w (eval_condition u run x guarded w)
+    condition_gives run (condition c e) guarded given w =
+        gives_bind w (eval u run c w) _ (eval_gives run c w) (λ v w1.
+        gives_bind w1 (tick w1) _ (tick_gives w1) (λ _ w2.
+        gives_bind w2 (truth u.host v w2) _ (answered_gives _ w2) (λ b w3.
+        choose_gives w3 b _ _ (gives_bind w3 (guarded w3) _ (given w3) (λ x w4. gives_bind w4 (tick w4) _ (tick_gives w4) (λ _ w5. kept_same w5))) (eval_gives run e w3))))
+
+    pub conditions_give : {n : _} → (run : Run) (cs : Row_of-Condition n) (guarded : World → Res Val) → ((w : World) → Gives w (guarded w)) → (w : World) → Gives w (eval_conditions u run cs guarded w)
+    conditions_give run no_condition guarded given w = given w
+    conditions_give run (with_condition c more) guarded given w =
+        conditions_give run more (λ w1. eval_condition u run c guarded w1) (λ w1. condition_gives run c guarded given w1) w
 
     pub all_give : {n : _} → (run : Run) (es : Row_of-Expr n) (w : World) → Gives w (eval_all u run es w)
     all_give run no_expr w = kept_same w
@@ -299,10 +314,24 @@ module _ (u : Under) (nest_ends : (k : Callee) (heard : Bool) (out : List ℕ) (
         gives_bind w2 (eval u run c w2) _ (eval_gives run c w2) (λ z w3. gives_bind w3 (tick w3) _ (tick_gives w3) (λ _ w4. answered_gives _ w4))))
     step_gives run (binary op a) v w =
         gives_bind w (eval u run a w) _ (eval_gives run a w) (λ y w1. gives_bind w1 (tick w1) _ (tick_gives w1) (λ _ w2. binary_gives op v y w2))
+    step_gives run (compare op a _ cs) v w = gives_bind w (eval u run a w) _ (eval_gives run a w) (λ y w1. links_give run op cs v y w1)
     step_gives run (and_then a) v w =
         gives_bind w (tick w) _ (tick_gives w) (λ _ w1. gives_bind w1 (truth u.host v w1) _ (answered_gives _ w1) (λ b w2. choose_gives w2 b _ _ (eval_gives run a w2) (kept_same w2)))
     step_gives run (or_else a) v w =
         gives_bind w (tick w) _ (tick_gives w) (λ _ w1. gives_bind w1 (truth u.host v w1) _ (answered_gives _ w1) (λ b w2. choose_gives w2 b _ _ (kept_same w2) (eval_gives run a w2)))
+
+    pub links_give : {n : _} → (run : Run) (op : BinaryOperator) (cs : Row_of-Comparison n) (x y : Val) (w : World) → Gives w (eval_links u run op cs x y w)
+    links_give run op no_comparison x y w =
+        gives_bind w (tick w) _ (tick_gives w) (λ _ w1.
+        gives_bind w1 (applied u.host op x y w1) _ (binary_gives op x y w1) (λ v w2. gives_bind w2 (tick w2) _ (tick_gives w2) (λ _ w3. kept_same w3)))
+    links_give run op (with_comparison (comparison op1 a) more) x y w =
+        gives_bind w (tick w) _ (tick_gives w) (λ _ w1.
+        gives_bind w1 (operated u.host op x y w1) _ (answered_gives _ w1) (λ v w2.
+        gives_bind w2 (tick w2) _ (tick_gives w2) (λ _ w3.
+        gives_bind w3 (truth u.host v w3) _ (answered_gives _ w3) (λ b w4.
+        choose_gives w4 b _ _
+        (gives_bind w4 (eval u run a w4) _ (eval_gives run a w4) (λ z w5. links_give run op1 more y z w5))
+        (gives_bind w4 (tick w4) _ (tick_gives w4) (λ _ w5. kept_same w5))))))
 
     pub steps_give : {n : _} → (run : Run) (ss : Row_of-Step n) (v : Val) (w : World) → Gives w (eval_steps u run ss v w)
     steps_give run no_step v w = kept_same w

@@ -8,28 +8,29 @@ use Rattle.tm_syntax.specs.declared.tree.UnaryOperator.{UnaryOperator}
 use Rattle.tm_syntax.specs.declared.tree.UnaryOperator.TheVariants as unaries
 use Rattle.tm_syntax.specs.declared.tree.BinaryOperator.{BinaryOperator}
 use Rattle.tm_syntax.specs.declared.tree.BinaryOperator.TheVariants as binaries
-use Rattle.tm_syntax.specs.declared.tree.Expr.{Expr, Var, Const, List', Tuple', Map', Call', Row_of-Expr, end_of-Expr as no_expr, more_of-Expr as expr, Row_of-Pair, end_of-Pair as no_pair, more_of-Pair as with_pair, Row_of-Argument, end_of-Argument as no_argument, more_of-Argument as argument, Row_of-Step, end_of-Step as no_step, more_of-Step as step_and}
+use Rattle.tm_syntax.specs.declared.tree.Expr.{Expr, Var, Const, List', Tuple', Map', Call', Row_of-Expr, end_of-Expr as no_expr, more_of-Expr as expr, Row_of-Pair, end_of-Pair as no_pair, more_of-Pair as with_pair, Row_of-Argument, end_of-Argument as no_argument, more_of-Argument as argument, Row_of-Step, end_of-Step as no_step, more_of-Step as step_and, Row_of-Condition, end_of-Condition as no_condition, more_of-Condition as with_condition}
 use Rattle.tm_syntax.specs.declared.tree.Argument.{Argument}
 use Rattle.tm_syntax.specs.declared.tree.Pair.{Pair}
-use Rattle.tm_syntax.specs.declared.tree.Step.{Step, Attribute}
+use Rattle.tm_syntax.specs.declared.tree.Condition.{Condition}
+use Rattle.tm_syntax.specs.declared.tree.Step.{Step, Attribute, Row_of-Comparison, end_of-Comparison as no_comparison, more_of-Comparison as with_comparison}
 use Rattle.tm_syntax.specs.declared.tree.Stmt.{Stmt, EmitRaw, EmitExpr, If', Block', Row_of-Stmt, end_of-Stmt as no_statement, more_of-Stmt as statement, Held-Stmt-If-2 as Otherwise, None' as no_else, Some' as otherwise}
 use Rattle.tm_syntax.specs.declared.instruction.Instruction.{Instruction}
 use Rattle.tm_syntax.specs.declared.instruction.Instruction.TheVariants as i
-use Rattle.tm_syntax.specs.Forms.{unary, chained, pair, plain, item, slice, binary, and_then, or_else}
-use Rattle.tm_syntax.specs.Code.{expr_code, exprs_code, pair_code, pairs_code, argument_code, arguments_code, step_code, steps_code, count, count_exprs, count_pairs, unary_code, binary_code, statement_code, statements_code, otherwise_code, jump_over}
+use Rattle.tm_syntax.specs.Forms.{unary, chained, conditional, condition, comparison, pair, plain, item, slice, binary, compare, and_then, or_else}
+use Rattle.tm_syntax.specs.Code.{expr_code, condition_code, conditions_code, exprs_code, pair_code, pairs_code, argument_code, arguments_code, step_code, links_code, steps_code, count, count_exprs, count_pairs, unary_code, binary_code, statement_code, statements_code, otherwise_code, jump_over}
 use Rattle.tm_meaning.specs.World.{choose, World, Host, Res, Good, Bad, bind, tick, depth, emitted, looked_up}
 use Rattle.tm_meaning.specs.Calls.{Callee, whole, Call, Asked, has, refused, runs, enter_block, call_named}
 use Rattle.tm_meaning.specs.Tree.{Trees, Body}
-use Rattle.tm_meaning.specs.Meaning.{Run, Outcome, Ending, done, leave, next, fault, Nests, Under, so_far, say, use_it, then_do, value_of, in_place_of, block_tag, truth, applied_unary, operated, applied, attribute, item_at, slice_of, list_of_values, map_of_pairs, audible as heard_here, none_waits, eval, eval_all, eval_pair, eval_pairs, eval_argument, eval_arguments, eval_step, eval_steps, emit, behind_first, exec, execs, exec_else, new_run, at_end, stream_run, nests_of, rendered}
-use Rattle.tm_meaning.specs.Machine.{Activation, Config, Finished, Failed, Stuck, Next, More, Over, Program, after, goes, taken, on_taken, asked, asked_in_place, base_of, start, run_from, stuck, audible}
+use Rattle.tm_meaning.specs.Meaning.{Run, Outcome, Ending, done, leave, next, fault, Nests, Under, so_far, say, use_it, then_do, value_of, in_place_of, block_tag, truth, applied_unary, operated, applied, attribute, item_at, slice_of, list_of_values, map_of_pairs, audible as heard_here, none_waits, eval, eval_all, eval_pair, eval_pairs, eval_argument, eval_arguments, eval_condition, eval_conditions, eval_step, eval_links, eval_steps, emit, behind_first, exec, execs, exec_else, new_run, at_end, stream_run, nests_of, rendered}
+use Rattle.tm_meaning.specs.Machine.{Activation, Config, Finished, Failed, Stuck, Next, More, Over, Program, after, goes, taken, on_taken, asked, asked_in_place, base_of, start, run_from, stuck, audible, with_world}
 use Rattle.tm_meaning.specs.Instructions.{binary_of, paired}
 use Rattle.tm_meaning.specs.Steps.{effect, act, step, closed, finish, Final, final, Leads, over}
 use Rattle.tm_meaning.specs.Compiled.{IsCompiled, code_of}
 use Rattle.tm_meaning.proofs.Ends.{one_end}
 use Rattle.tm_simulation.specs.Reached.{final_by, final_of, Renders}
 use Rattle.tm_simulation.proofs.Place.{HasAt, has_front, has_behind, has_whole}
-use Rattle.tm_simulation.proofs.Keeps.{Kept, kept_depth, kept_same, Gives, EndsBy as EndsKept, Ends as KeptEnds, ends_as, tick_gives, answered_gives, Asks, block_asks, named_asks, eval_gives, all_give, pair_gives, pairs_give, argument_gives, arguments_give, step_gives, steps_give, unary_gives, binary_gives, looked_up_gives, exec_ends, execs_end, nests_end}
-use Rattle.tm_simulation.proofs.Follow.{Bed, air, inside, captures_of, told_by, Spot, told, cfg, later, Follows, Then, Ends, whole_of, follows_map, bind_then, use_then, so_far_then, fault_then, do_then, ends_map, Go, silent, at, after_then, move, pushes, choose_then, choose_ends}
+use Rattle.tm_simulation.proofs.Keeps.{Kept, kept_depth, kept_same, Gives, EndsBy as EndsKept, Ends as KeptEnds, ends_as, tick_gives, answered_gives, Asks, block_asks, named_asks, eval_gives, condition_gives, all_give, pair_gives, pairs_give, argument_gives, arguments_give, step_gives, steps_give, unary_gives, binary_gives, looked_up_gives, exec_ends, execs_end, nests_end}
+use Rattle.tm_simulation.proofs.Follow.{Bed, air, inside, captures_of, told_by, Spot, told, cfg, later, Follows, Then, Ends, whole_of, follows_map, follows_bind, bind_then, use_then, so_far_then, fault_then, do_then, ends_map, Go, silent, at, after_then, move, pushes, choose_then, choose_ends}
 use Rattle.tm_simulation.proofs.Forms.{Fits, audible_is, writes_then, end_by, end_of, Entered, call_in_place, call_as_value}
 use Rattle.tm_meaning.specs.declared.stream.TemplateId.{TemplateId}
 use Rattle.tm_meaning.specs.declared.stream.StreamId.{StreamId}
@@ -99,6 +100,14 @@ paired_flat : (xs : List (Val × Val)) → paired (flat xs) ≡ xs
 paired_flat [] = refl
 paired_flat ((k, v) ∷ xs) = ap (λ l. (k, v) ∷ l) (paired_flat xs)
 
+-- Comparisons in a row are as long wherever they jump.
+links_long : {n : _} → (end to pc : ℕ) (op : BinaryOperator) (cs : Row_of-Comparison n) → length (links_code end pc op cs) ≡ length (links_code to pc op cs)
+links_long end to pc op no_comparison = refl
+links_long end to pc op (with_comparison (comparison op1 a) more) =
+    let c = expr_code (pc + 2) a in
+    let place = pc + 2 + length c in
+    omega (arith, length-append c (links_code end place op1 more), length-append c (links_code to place op1 more), links_long end to place op1 more)
+
 -- the run of a meaning, with the parent that waits at a spot
 abbrev as_at : Run → Spot → Run
 as_at run s = record run { parent = s.parent }
@@ -147,12 +156,13 @@ module _ (p : Program) (f : Base) (r : Final) (trees : Trees) (n : ℕ)
       pushes p f r s pc stack (v ∷ stack) w1 (applied_unary p.host unaries.Negate v w1) h1)))
 
   -- an instruction that is an operator
-  operates : (op : BinaryOperator) (x : Instruction) → ((c : Config) → effect p.host f x c ≡ binary_of p.host op c) →
+  operates : (op : BinaryOperator) (x : Instruction) → ((c : Config) → act p f (Some x) c ≡ after (tick c.world) (λ _ w1. binary_of p.host op (with_world w1 c))) →
       (s : Spot) (pc : ℕ) (a b : Val) (stack : List Val) (w : World) → slice_get (p.code s.run.stream) pc ≡ Some x →
       Follows r (told s) (bind (tick w) (λ _ w1. operated p.host op a b w1)) (λ y w1. Go p f r s (pc + 1) (y ∷ stack) w1) → Go p f r s pc (b ∷ a ∷ stack) w
   operates op x is s pc a b stack w e h =
-      at p f r x s pc (b ∷ a ∷ stack) w e (after_then p f r (told s) (tick w) _ (bind_then r (told s) w (tick w) _ _ _ (tick_gives w) h (λ _ w1 k h1.
-      subst (λ n. Leads p f (told s) n r) (sym (is (cfg s pc (b ∷ a ∷ stack) w1))) (pushes p f r s pc stack (b ∷ a ∷ stack) w1 (operated p.host op a b w1) h1))))
+      at p f r x s pc (b ∷ a ∷ stack) w e (subst (λ n. Leads p f (told s) n r) (sym (is (cfg s pc (b ∷ a ∷ stack) w)))
+      (after_then p f r (told s) (tick w) _ (bind_then r (told s) w (tick w) _ _ _ (tick_gives w) h (λ _ w1 k h1.
+      pushes p f r s pc stack (b ∷ a ∷ stack) w1 (operated p.host op a b w1) h1))))
 
   binary_then : (op : BinaryOperator) (s : Spot) (pc : ℕ) (a b : Val) (stack : List Val) (w : World) → HasAt (p.code s.run.stream) pc (binary_code op) →
       Follows r (told s) (bind (tick w) (λ _ w1. applied p.host op a b w1)) (λ x w1. Go p f r s (pc + length (binary_code op)) (x ∷ stack) w1) → Go p f r s pc (b ∷ a ∷ stack) w
@@ -183,6 +193,19 @@ module _ (p : Program) (f : Base) (r : Final) (trees : Trees) (n : ℕ)
       Leads p f (told s) (on_taken (taken n [] (onto vs stack)) w (λ xs rest. goes (made xs ∷ rest) w (cfg s pc (onto vs stack) w))) r
   built_then made s pc n vs stack w l g =
       subst (λ t. Leads p f (told s) (on_taken t w (λ xs rest. goes (made xs ∷ rest) w (cfg s pc (onto vs stack) w))) r) (sym (taken_all vs n stack l)) (silent p f r (told s) _ g)
+
+  -- behind a false comparison its right side is dropped, which is free
+  dropped_then : (s : Spot) (end to : ℕ) (v y : Val) (stack : List Val) (w : World) → HasAt (p.code s.run.stream) end (i.Swap ∷ i.DiscardTop ∷ []) → end + 1 + 1 ≡ to →
+      Follows r (told s) (bind (tick w) (λ _ w1. Good v w1)) (λ x w1. Go p f r s to (x ∷ stack) w1) → Go p f r s end (v ∷ y ∷ stack) w
+  dropped_then s end to v y stack w is place h =
+      at p f r i.Swap s end (v ∷ y ∷ stack) w is.0 (after_then p f r (told s) (tick w) _ (bind_then r (told s) w (tick w) _ _ _ (tick_gives w) h (λ _ w1 k g.
+      silent p f r (told s) _ (at p f r i.DiscardTop s (end + 1) (y ∷ v ∷ stack) w1 is.1.0 (silent p f r (told s) _ (move p f r s _ _ (v ∷ stack) w1 place g))))))
+
+  -- Wherever this code stands it pushes this value.
+  abbrev Runs : (ℕ → List Instruction) → (World → Res Val) → Type 0
+  Runs code value =
+      (s : Spot) (pc : ℕ) (stack : List Val) (w : World) → Deep w → HasAt (p.code s.run.stream) pc (code pc) →
+      Follows r (told s) (value w) (λ v w1. Go p f r s (pc + length (code pc)) (v ∷ stack) w1) → Go p f r s pc stack w
 
   mutual
     -- An expression's code pushes what it means, over any operands.
@@ -253,6 +276,46 @@ module _ (p : Program) (f : Base) (r : Final) (trees : Trees) (n : ℕ)
         (bind_then r (told s) w (eval u run a w) _ _ _ (eval_gives u nest_ends run a w) h (λ v w1 k h1.
         steps_run ss run s (pc + length c) v stack w1 (deep_kept k d) (has_behind (p.code s.run.stream) pc c rest is)
         (follows_map r (told s) (eval_steps u run ss v w1) _ _ h1 (λ x w2 g. move p f r s _ _ (x ∷ stack) w2 place g))))
+
+    expr_runs (conditional a _ cs) run s pc stack w d is h =
+        conditions_run cs run (λ pc1. expr_code pc1 a) (λ w1. eval u run a w1) (λ w1. eval_gives u nest_ends run a w1)
+        (λ s1 pc1 stack1 w1 d1 is1 h1. expr_runs a run s1 pc1 stack1 w1 d1 is1 h1) s pc stack w d is h
+
+    -- a condition before code that pushes a value, and what stands for that behind it
+    condition_runs : (x : Condition) (run : Run) (code : ℕ → List Instruction) (guarded : World → Res Val) → ((w : World) → Gives w (guarded w)) → Runs code guarded →
+        Runs (condition_code x code) (eval_condition u run x guarded)
+    condition_runs (condition c e) run code guarded given part s pc stack w d is h =
+        let all = p.code s.run.stream in
+        let test = expr_code pc c in
+        let pc1 = pc + length test in
+        let body = code (pc1 + 1) in
+        let pc2 = pc1 + 1 + length body in
+        let other = expr_code (pc2 + 1) e in
+        let over_other = i.Jump (pc2 + 1 + length other) in
+        let over_body = i.JumpIfFalse (pc2 + 1) in
+        let behind = has_behind all pc test (over_body ∷ (body ++ over_other ∷ other)) is in
+        let last = has_behind all (pc1 + 1) body (over_other ∷ other) behind.1 in
+        let place : pc2 + 1 + length other ≡ pc + length (test ++ over_body ∷ (body ++ over_other ∷ other)) =
+        omega (arith, length-append test (over_body ∷ (body ++ over_other ∷ other)), length-append body (over_other ∷ other)) in
+        expr_runs c run s pc stack w d (has_front all pc test (over_body ∷ (body ++ over_other ∷ other)) is)
+        (bind_then r (told s) w (eval u run c w) _ _ _ (eval_gives u nest_ends run c w) h (λ v w1 k1 h1.
+        at p f r over_body s pc1 (v ∷ stack) w1 behind.0 (after_then p f r (told s) (tick w1) _ (bind_then r (told s) w1 (tick w1) _ _ _ (tick_gives w1) h1 (λ _ w2 k2 h2.
+        after_then p f r (told s) (truth p.host v w2) _ (bind_then r (told s) w2 (truth p.host v w2) _ _ _ (answered_gives _ w2) h2 (λ b w3 k3 h3.
+        let d3 = deep_kept k3 (deep_kept k2 (deep_kept k1 d)) in
+        choose_then p f r b (bind (guarded w3) (λ x w4. bind (tick w4) (λ _ w5. Good x w5))) (eval u run e w3) _ _ (told s) _ h3
+        (λ h4. silent p f r (told s) _ (part s (pc1 + 1) stack w3 d3 (has_front all (pc1 + 1) body (over_other ∷ other) behind.1)
+        (bind_then r (told s) w3 (guarded w3) _ _ _ (given w3) h4 (λ x w4 k4 h5.
+        at p f r over_other s pc2 (x ∷ stack) w4 last.0 (after_then p f r (told s) (tick w4) _ (bind_then r (told s) w4 (tick w4) _ _ _ (tick_gives w4) h5 (λ _ w5 k5 g.
+        silent p f r (told s) _ (move p f r s _ _ (x ∷ stack) w5 place g))))))))
+        (λ h4. silent p f r (told s) _ (expr_runs e run s (pc2 + 1) stack w3 d3 last.1
+        (follows_map r (told s) (eval u run e w3) _ _ h4 (λ y w4 g. move p f r s _ _ (y ∷ stack) w4 place g)))))))))))
+
+    conditions_run : {m : _} → (cs : Row_of-Condition m) (run : Run) (code : ℕ → List Instruction) (guarded : World → Res Val) → ((w : World) → Gives w (guarded w)) → Runs code guarded →
+        Runs (conditions_code cs code) (eval_conditions u run cs guarded)
+    conditions_run no_condition run code guarded given part s pc stack w d is h = part s pc stack w d is h
+    conditions_run (with_condition c more) run code guarded given part s pc stack w d is h =
+        conditions_run more run (λ pc1. condition_code c code pc1) (λ w1. eval_condition u run c guarded w1) (λ w1. condition_gives u nest_ends run c guarded given w1)
+        (λ s1 pc1 stack1 w1 d1 is1 h1. condition_runs c run code guarded given part s1 pc1 stack1 w1 d1 is1 h1) s pc stack w d is h
 
     exprs_run : {m : _} → (es : Row_of-Expr m) (run : Run) (s : Spot) (pc : ℕ) (stack : List Val) (w : World) → Deep w → HasAt (p.code s.run.stream) pc (exprs_code pc es) →
         Follows r (told s) (eval_all u run es w) (λ vs w1. Go p f r s (pc + length (exprs_code pc es)) (onto vs stack) w1) → Go p f r s pc stack w
@@ -353,6 +416,26 @@ module _ (p : Program) (f : Base) (r : Final) (trees : Trees) (n : ℕ)
         (bind_then r (told s) w (eval u run a w) _ _ _ (eval_gives u nest_ends run a w) h (λ y w1 k h1.
         binary_then op s (pc + length c) v y stack w1 (has_behind (p.code s.run.stream) pc c (binary_code op) is)
         (follows_map r (told s) (bind (tick w1) (λ _ w2. applied p.host op v y w2)) _ _ h1 (λ x w2 g. move p f r s _ _ (x ∷ stack) w2 place g))))
+    step_runs (compare op a _ cs) run s pc v stack w d is h =
+        let all = p.code s.run.stream in
+        let c = expr_code pc a in
+        let pc1 = pc + length c in
+        let size = length (links_code 0 pc1 op cs) in
+        let end = pc1 + size + 1 in
+        let links = links_code end pc1 op cs in
+        let long : length links ≡ size = links_long end 0 pc1 op cs in
+        let to = pc1 + size + 3 in
+        let last = i.Jump to ∷ i.Swap ∷ i.DiscardTop ∷ [] in
+        let row = has_behind all pc c (links ++ last) is in
+        let behind = has_behind all pc1 links last row in
+        let swap : pc1 + length links + 1 ≡ end = omega (arith, long) in
+        let over_swap : end + 1 + 1 ≡ to = omega arith in
+        let place : to ≡ pc + length (c ++ (links ++ last)) = omega (arith, length-append c (links ++ last), length-append links last, long) in
+        expr_runs a run s pc (v ∷ stack) w d (has_front all pc c (links ++ last) is)
+        (bind_then r (told s) w (eval u run a w) _ _ _ (eval_gives u nest_ends run a w) h (λ y w1 k h1.
+        links_run op cs run s end to (pc1 + length links) pc1 v y stack w1 (deep_kept k d) (has_front all pc1 links last row) refl behind.0
+        (subst (λ n. HasAt all n (i.Swap ∷ i.DiscardTop ∷ [])) swap behind.1) over_swap
+        (follows_map r (told s) (eval_links u run op cs v y w1) _ _ h1 (λ x w2 g. move p f r s _ _ (x ∷ stack) w2 place g))))
     step_runs (and_then a) run s pc v stack w d is h =
         let c = expr_code (pc + 1) a in
         let place : pc + 1 + length c ≡ pc + suc (length c) = omega arith in
@@ -373,6 +456,37 @@ module _ (p : Program) (f : Base) (r : Final) (trees : Trees) (n : ℕ)
         (λ g. silent p f r (told s) _ (move p f r s _ _ (v ∷ stack) w2 place g))
         (λ h3. silent p f r (told s) _ (expr_runs a run s (pc + 1) stack w2 (deep_kept k2 (deep_kept k d)) is.1
         (follows_map r (told s) (eval u run a w2) _ _ h3 (λ y w3 g. move p f r s _ _ (y ∷ stack) w3 place g)))))))))
+
+    -- Comparisons in a row replace both sides of the first. Behind them stands a jump over the dropping of the right side of a false one.
+    links_run : {m : _} → (op : BinaryOperator) (cs : Row_of-Comparison m) (run : Run) (s : Spot) (end to jump pc : ℕ) (x y : Val) (stack : List Val) (w : World) → Deep w →
+        HasAt (p.code s.run.stream) pc (links_code end pc op cs) → pc + length (links_code end pc op cs) ≡ jump → slice_get (p.code s.run.stream) jump ≡ Some (i.Jump to) →
+        HasAt (p.code s.run.stream) end (i.Swap ∷ i.DiscardTop ∷ []) → end + 1 + 1 ≡ to →
+        Follows r (told s) (eval_links u run op cs x y w) (λ v w1. Go p f r s to (v ∷ stack) w1) → Go p f r s pc (y ∷ x ∷ stack) w
+    links_run op no_comparison run s end to jump pc x y stack w d is place over_drop drop over_end h =
+        binary_then op s pc x y stack w is
+        (follows_bind r (told s) (tick w) _ _ (bind_then r (told s) w (tick w) _ _ _ (tick_gives w) h (λ _ w1 k h1.
+        bind_then r (told s) w1 (applied p.host op x y w1) _ _ _ (binary_gives u nest_ends op x y w1) h1 (λ v w2 k2 h2.
+        move p f r s _ _ (v ∷ stack) w2 place
+        (at p f r (i.Jump to) s jump (v ∷ stack) w2 over_drop (after_then p f r (told s) (tick w2) _ (bind_then r (told s) w2 (tick w2) _ _ _ (tick_gives w2) h2 (λ _ w3 k3 g.
+        silent p f r (told s) _ g))))))))
+    links_run op (with_comparison (comparison op1 a) more) run s end to jump pc x y stack w d is place over_drop drop over_end h =
+        let all = p.code s.run.stream in
+        let c = expr_code (pc + 2) a in
+        let rest = links_code end (pc + 2 + length c) op1 more in
+        let here : pc + 1 + 1 ≡ pc + 2 = omega arith in
+        let right = subst (λ n. HasAt all n (c ++ rest)) here is.1.1 in
+        let last : pc + 2 + length c + length rest ≡ jump = omega (arith, place, length-append c rest) in
+        at p f r (i.CompareAndPreserve op) s pc (y ∷ x ∷ stack) w is.0 (after_then p f r (told s) (tick w) _ (bind_then r (told s) w (tick w) _ _ _ (tick_gives w) h (λ _ w1 k1 h1.
+        after_then p f r (told s) (operated p.host op x y w1) _ (bind_then r (told s) w1 (operated p.host op x y w1) _ _ _ (answered_gives _ w1) h1 (λ v w2 k2 h2.
+        silent p f r (told s) _ (at p f r (i.JumpIfFalseOrPop end) s (pc + 1) (v ∷ y ∷ stack) w2 is.1.0
+        (after_then p f r (told s) (tick w2) _ (bind_then r (told s) w2 (tick w2) _ _ _ (tick_gives w2) h2 (λ _ w3 k3 h3.
+        after_then p f r (told s) (truth p.host v w3) _ (bind_then r (told s) w3 (truth p.host v w3) _ _ _ (answered_gives _ w3) h3 (λ b w4 k4 h4.
+        let d4 = deep_kept k4 (deep_kept k3 (deep_kept k2 (deep_kept k1 d))) in
+        choose_then p f r b (bind (eval u run a w4) (λ z w5. eval_links u run op1 more y z w5)) (bind (tick w4) (λ _ w5. Good v w5)) _ _ (told s) _ h4
+        (λ h5. silent p f r (told s) _ (move p f r s _ _ (y ∷ stack) w4 here (expr_runs a run s (pc + 2) (y ∷ stack) w4 d4 (has_front all (pc + 2) c rest right)
+        (bind_then r (told s) w4 (eval u run a w4) _ _ _ (eval_gives u nest_ends run a w4) h5 (λ z w5 k5 h6.
+        links_run op1 more run s end to jump (pc + 2 + length c) y z stack w5 (deep_kept k5 d4) (has_behind all (pc + 2) c rest right) last over_drop drop over_end h6)))))
+        (λ h5. silent p f r (told s) _ (dropped_then s end to v y stack w4 drop over_end h5)))))))))))))
 
     steps_run : {m : _} → (ss : Row_of-Step m) (run : Run) (s : Spot) (pc : ℕ) (v : Val) (stack : List Val) (w : World) → Deep w → HasAt (p.code s.run.stream) pc (steps_code pc ss) →
         Follows r (told s) (eval_steps u run ss v w) (λ y w1. Go p f r s (pc + length (steps_code pc ss)) (y ∷ stack) w1) → Go p f r s pc (v ∷ stack) w
