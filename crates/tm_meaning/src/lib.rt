@@ -11,8 +11,8 @@ mod stream;
 
 pub use base::Base;
 pub use rows::{
-    attribute_rows, block_rows, call_rows, chain_rows, condition_rows, conditional_rows, hello_rows,
-    operator_rows,
+    attribute_rows, block_rows, call_rows, chain_rows, condition_rows, conditional_rows,
+    hello_rows, operator_rows,
 };
 pub use stream::{StreamId, TemplateId};
 

@@ -24,7 +24,7 @@ use Rattle.tm_meaning.specs.Tree.{Trees, Body}
 use Rattle.tm_meaning.specs.Meaning.{Run, Outcome, Ending, done, leave, next, fault, Nests, Under, so_far, say, use_it, then_do, value_of, in_place_of, block_tag, truth, applied_unary, operated, applied, attribute, item_at, slice_of, list_of_values, map_of_pairs, audible as heard_here, none_waits, eval, eval_all, eval_pair, eval_pairs, eval_argument, eval_arguments, eval_condition, eval_conditions, eval_step, eval_links, eval_steps, emit, behind_first, exec, execs, exec_else, new_run, at_end, stream_run, nests_of, rendered}
 use Rattle.tm_meaning.specs.Machine.{Activation, Config, Finished, Failed, Stuck, Next, More, Over, Program, after, goes, taken, on_taken, asked, asked_in_place, base_of, start, run_from, stuck, audible, with_world}
 use Rattle.tm_meaning.specs.Instructions.{binary_of, paired}
-use Rattle.tm_meaning.specs.Steps.{effect, act, step, closed, finish, Final, final, Leads, over}
+use Rattle.tm_meaning.specs.Steps.{act, step, closed, finish, Final, final, Leads, over}
 use Rattle.tm_meaning.specs.Compiled.{IsCompiled, code_of}
 use Rattle.tm_meaning.proofs.Ends.{one_end}
 use Rattle.tm_simulation.specs.Reached.{final_by, final_of, Renders}
@@ -276,7 +276,6 @@ module _ (p : Program) (f : Base) (r : Final) (trees : Trees) (n : ℕ)
         (bind_then r (told s) w (eval u run a w) _ _ _ (eval_gives u nest_ends run a w) h (λ v w1 k h1.
         steps_run ss run s (pc + length c) v stack w1 (deep_kept k d) (has_behind (p.code s.run.stream) pc c rest is)
         (follows_map r (told s) (eval_steps u run ss v w1) _ _ h1 (λ x w2 g. move p f r s _ _ (x ∷ stack) w2 place g))))
-
     expr_runs (conditional a _ cs) run s pc stack w d is h =
         conditions_run cs run (λ pc1. expr_code pc1 a) (λ w1. eval u run a w1) (λ w1. eval_gives u nest_ends run a w1)
         (λ s1 pc1 stack1 w1 d1 is1 h1. expr_runs a run s1 pc1 stack1 w1 d1 is1 h1) s pc stack w d is h
