@@ -51,11 +51,11 @@ required_alone host s l = nat_eq (length l.templates) 1 && is_required (card_at 
 -- the block at its list's present place, in a new scope
 abbrev pub enter_block : Host → List ℕ → World → Asked
 enter_block host b w =
-    ask (need (find b w.blocks) UnknownBlock w) (λ l w1.
-    ask (need (slice_get l.templates l.place) UnknownBlock w1) (λ t w2.
-    ask (check (not (required_alone host (block_of t b) l)) InvalidOperation w2) (λ _ w3.
-    ask (push host (plain (undefined false)) w3) (λ _ w4.
-    runs (record { callee = whole (block_of t b); undo = of_block w; wrap = None }) (record w4 { stream = block_of t b; block = Some b })))))
+    ask (need (find b w.blocks) UnknownBlock w) (λ l world1.
+    ask (need (slice_get l.templates l.place) UnknownBlock world1) (λ t world2.
+    ask (check (not (required_alone host (block_of t b) l)) InvalidOperation world2) (λ _ world3.
+    ask (push host (plain (undefined false)) world3) (λ _ world4.
+    runs (record { callee = whole (block_of t b); undo = of_block w; wrap = None }) (record world4 { stream = block_of t b; block = Some b })))))
 
 -- the blocks of a template, each alone
 abbrev pub alone : TemplateId → List ℕ × Card → List ℕ × Layers
@@ -77,10 +77,10 @@ call_by host (callers f) args w =
 
 -- a value is called: of values alone a function can be, by its number
 abbrev pub call_value : Host → Val → List Val → World → Asked
-call_value host (function n) args w = ask (need (slice_get host.functions n) InvalidOperation w) (λ f w1. call_by host f args w1)
+call_value host (function n) args w = ask (need (slice_get host.functions n) InvalidOperation w) (λ f world1. call_by host f args world1)
 call_value host v args w = refused (InvalidOperation ∷ []) w
 
 -- a name is called; it is looked up after its arguments
 abbrev pub call_named : Host → List ℕ → List Val → World → Asked
 call_named host x args w =
-    ask (lookup host x w) (λ found w1. ask (need found UnknownFunction w1) (λ f w2. call_value host f args w2))
+    ask (lookup host x w) (λ found world1. ask (need found UnknownFunction world1) (λ f world2. call_value host f args world2))

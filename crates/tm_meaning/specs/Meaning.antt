@@ -161,7 +161,7 @@ operated host op x y w = answered (result_of op host.undefined (records_of w) x 
 
 -- the same in an expression, where `not in` is `in` and then `not`, which is charged too
 abbrev pub applied : Host → BinaryOperator → Val → Val → World → Res Val
-applied host binaries.NotIn x y w = bind (operated host binaries.In x y w) (λ v w1. ticked w1 (λ w2. applied_unary host unaries.Not v w2))
+applied host binaries.NotIn x y w = bind (operated host binaries.In x y w) (λ v world1. ticked world1 (λ world2. applied_unary host unaries.Not v world2))
 applied host op x y w = operated host op x y w
 
 abbrev pub attribute : Host → Val → List ℕ → World → Res Val
@@ -184,39 +184,39 @@ map_of_pairs ps = map (pairs_of (put_all ps))
 -- ---------------------------------------------------------------- expressions
 abbrev mutual
   pub eval : Under → Run → Expr → World → Res Val
-  eval u run (Var x) w = ticked w (λ w1. looked_up u.host x w1)
-  eval u run (Const v) w = ticked w (λ w1. Good v w1)
-  eval u run (List' _ es) w = bind (eval_all u run es w) (λ vs w1. ticked w1 (λ w2. Good (list_of_values vs) w2))
-  eval u run (Tuple' _ es) w = bind (eval_all u run es w) (λ vs w1. ticked w1 (λ w2. Good (list_of_values vs) w2))
-  eval u run (Map' _ ps) w = bind (eval_pairs u run ps w) (λ es w1. ticked w1 (λ w2. Good (map_of_pairs es) w2))
-  eval u run (Call' f _ given) w = bind (eval_arguments u run given w) (λ vs w1. ticked w1 (λ w2. value_of u (call_named u.host f vs w2)))
-  eval u run (unary op a) w = bind (eval u run a w) (λ v w1. ticked w1 (λ w2. applied_unary u.host op v w2))
-  eval u run (chained a _ ss) w = bind (eval u run a w) (λ v w1. eval_steps u run ss v w1)
-  eval u run (conditional a _ cs) w = eval_conditions u run cs (λ w1. eval u run a w1) w
+  eval u run (Var x) w = ticked w (λ world1. looked_up u.host x world1)
+  eval u run (Const v) w = ticked w (λ world1. Good v world1)
+  eval u run (List' _ es) w = bind (eval_all u run es w) (λ vs world1. ticked world1 (λ world2. Good (list_of_values vs) world2))
+  eval u run (Tuple' _ es) w = bind (eval_all u run es w) (λ vs world1. ticked world1 (λ world2. Good (list_of_values vs) world2))
+  eval u run (Map' _ ps) w = bind (eval_pairs u run ps w) (λ es world1. ticked world1 (λ world2. Good (map_of_pairs es) world2))
+  eval u run (Call' f _ given) w = bind (eval_arguments u run given w) (λ vs world1. ticked world1 (λ world2. value_of u (call_named u.host f vs world2)))
+  eval u run (unary op a) w = bind (eval u run a w) (λ v world1. ticked world1 (λ world2. applied_unary u.host op v world2))
+  eval u run (chained a _ ss) w = bind (eval u run a w) (λ v world1. eval_steps u run ss v world1)
+  eval u run (conditional a _ cs) w = eval_conditions u run cs (λ world1. eval u run a world1) w
 
   -- what is guarded where the condition is true, with the jump behind it, and else what stands for it
   pub eval_condition : Under → Run → Condition → (World → Res Val) → World → Res Val
   eval_condition u run (condition c e) guarded w =
-      bind (eval u run c w) (λ v w1. ticked w1 (λ w2. bind (truth u.host v w2) (λ b w3.
-      choose b (λ _. bind (guarded w3) (λ x w4. ticked w4 (λ w5. Good x w5))) (λ _. eval u run e w3))))
+      bind (eval u run c w) (λ v world1. ticked world1 (λ world2. bind (truth u.host v world2) (λ b world3.
+      choose b (λ _. bind (guarded world3) (λ x world4. ticked world4 (λ world5. Good x world5))) (λ _. eval u run e world3))))
 
   -- the last condition first
   pub eval_conditions : {n : _} → Under → Run → Row_of-Condition n → (World → Res Val) → World → Res Val
   eval_conditions u run no_condition guarded w = guarded w
-  eval_conditions u run (with_condition c more) guarded w = eval_conditions u run more (λ w1. eval_condition u run c guarded w1) w
+  eval_conditions u run (with_condition c more) guarded w = eval_conditions u run more (λ world1. eval_condition u run c guarded world1) w
 
   -- from the first to the last
   pub eval_all : {n : _} → Under → Run → Row_of-Expr n → World → Res (List Val)
   eval_all u run no_expr w = Good [] w
-  eval_all u run (expr e more) w = bind (eval u run e w) (λ v w1. bind (eval_all u run more w1) (λ vs w2. Good (v ∷ vs) w2))
+  eval_all u run (expr e more) w = bind (eval u run e w) (λ v world1. bind (eval_all u run more world1) (λ vs world2. Good (v ∷ vs) world2))
 
   -- a key before its value
   pub eval_pair : Under → Run → Pair → World → Res (Val × Val)
-  eval_pair u run (pair k v) w = bind (eval u run k w) (λ x w1. bind (eval u run v w1) (λ y w2. Good (x, y) w2))
+  eval_pair u run (pair k v) w = bind (eval u run k w) (λ x world1. bind (eval u run v world1) (λ y world2. Good (x, y) world2))
 
   pub eval_pairs : {n : _} → Under → Run → Row_of-Pair n → World → Res (List (Val × Val))
   eval_pairs u run no_pair w = Good [] w
-  eval_pairs u run (with_pair p more) w = bind (eval_pair u run p w) (λ x w1. bind (eval_pairs u run more w1) (λ xs w2. Good (x ∷ xs) w2))
+  eval_pairs u run (with_pair p more) w = bind (eval_pair u run p w) (λ x world1. bind (eval_pairs u run more world1) (λ xs world2. Good (x ∷ xs) world2))
 
   pub eval_argument : Under → Run → Argument → World → Res Val
   eval_argument u run (plain a) w = eval u run a w
@@ -224,55 +224,55 @@ abbrev mutual
   pub eval_arguments : {n : _} → Under → Run → Row_of-Argument n → World → Res (List Val)
   eval_arguments u run no_argument w = Good [] w
   eval_arguments u run (argument a more) w =
-      bind (eval_argument u run a w) (λ v w1. bind (eval_arguments u run more w1) (λ vs w2. Good (v ∷ vs) w2))
+      bind (eval_argument u run a w) (λ v world1. bind (eval_arguments u run more world1) (λ vs world2. Good (v ∷ vs) world2))
 
   -- a value goes on; `and` and `or` charge their test, and give the operand that ran last
   pub eval_step : Under → Run → Step → Val → World → Res Val
-  eval_step u run (Attribute x) v w = ticked w (λ w1. attribute u.host v x w1)
-  eval_step u run (item a) v w = bind (eval u run a w) (λ k w1. ticked w1 (λ w2. item_at u.host v k w2))
+  eval_step u run (Attribute x) v w = ticked w (λ world1. attribute u.host v x world1)
+  eval_step u run (item a) v w = bind (eval u run a w) (λ k world1. ticked world1 (λ world2. item_at u.host v k world2))
   eval_step u run (slice a b c) v w =
-      bind (eval u run a w) (λ x w1. bind (eval u run b w1) (λ y w2. bind (eval u run c w2) (λ z w3. ticked w3 (λ w4. slice_of u.host v x y z w4))))
-  eval_step u run (binary op a) v w = bind (eval u run a w) (λ y w1. ticked w1 (λ w2. applied u.host op v y w2))
-  eval_step u run (compare op a _ cs) v w = bind (eval u run a w) (λ y w1. eval_links u run op cs v y w1)
+      bind (eval u run a w) (λ x world1. bind (eval u run b world1) (λ y world2. bind (eval u run c world2) (λ z world3. ticked world3 (λ world4. slice_of u.host v x y z world4))))
+  eval_step u run (binary op a) v w = bind (eval u run a w) (λ y world1. ticked world1 (λ world2. applied u.host op v y world2))
+  eval_step u run (compare op a _ cs) v w = bind (eval u run a w) (λ y world1. eval_links u run op cs v y world1)
   eval_step u run (and_then a) v w =
-      ticked w (λ w1. bind (truth u.host v w1) (λ b w2. choose b (λ _. eval u run a w2) (λ _. Good v w2)))
+      ticked w (λ world1. bind (truth u.host v world1) (λ b world2. choose b (λ _. eval u run a world2) (λ _. Good v world2)))
   eval_step u run (or_else a) v w =
-      ticked w (λ w1. bind (truth u.host v w1) (λ b w2. choose b (λ _. Good v w2) (λ _. eval u run a w2)))
+      ticked w (λ world1. bind (truth u.host v world1) (λ b world2. choose b (λ _. Good v world2) (λ _. eval u run a world2)))
 
   -- Comparisons in a row, from the first: each but the last charges its test; where it is false it is the value, and dropping its right side is charged. Behind the last one the jump is.
   pub eval_links : {n : _} → Under → Run → BinaryOperator → Row_of-Comparison n → Val → Val → World → Res Val
-  eval_links u run op no_comparison x y w = ticked w (λ w1. bind (applied u.host op x y w1) (λ v w2. ticked w2 (λ w3. Good v w3)))
+  eval_links u run op no_comparison x y w = ticked w (λ world1. bind (applied u.host op x y world1) (λ v world2. ticked world2 (λ world3. Good v world3)))
   eval_links u run op (with_comparison (comparison op1 a) more) x y w =
-      ticked w (λ w1. bind (operated u.host op x y w1) (λ v w2. ticked w2 (λ w3. bind (truth u.host v w3) (λ b w4.
-      choose b (λ _. bind (eval u run a w4) (λ z w5. eval_links u run op1 more y z w5)) (λ _. ticked w4 (λ w5. Good v w5))))))
+      ticked w (λ world1. bind (operated u.host op x y world1) (λ v world2. ticked world2 (λ world3. bind (truth u.host v world3) (λ b world4.
+      choose b (λ _. bind (eval u run a world4) (λ z world5. eval_links u run op1 more y z world5)) (λ _. ticked world4 (λ world5. Good v world5))))))
 
   pub eval_steps : {n : _} → Under → Run → Row_of-Step n → Val → World → Res Val
   eval_steps u run no_step v w = Good v w
-  eval_steps u run (step s ss) v w = bind (eval_step u run s v w) (λ x w1. eval_steps u run ss x w1)
+  eval_steps u run (step s ss) v w = bind (eval_step u run s v w) (λ x world1. eval_steps u run ss x world1)
 
 -- ---------------------------------------------------------------- statements
 -- a value, charged, and heard as it is written
 abbrev pub emit : Under → Run → List ℕ → Val → World → Outcome
 emit u run out v w =
-    use_it (tick w) run out (λ _ w1. use_it (emitted u.host v w1) run out (λ t w2. so_far run (say run t out) w2))
+    use_it (tick w) run out (λ _ world1. use_it (emitted u.host v world1) run out (λ t world2. so_far run (say run t out) world2))
 
 -- behind the first part of an `if` that has a second
 abbrev pub behind_first : Otherwise → Run → Outcome → Outcome
 behind_first no_else run o = o
-behind_first (otherwise _ body) run o = then_do run o (λ run1 out1 w1. use_it (tick w1) run1 out1 (λ _ w2. so_far run1 out1 w2))
+behind_first (otherwise _ body) run o = then_do run o (λ run1 out1 world1. use_it (tick world1) run1 out1 (λ _ world2. so_far run1 out1 world2))
 
 abbrev mutual
   pub exec : Under → Stmt → Run → List ℕ → World → Outcome
-  exec u (EmitRaw t) run out w = use_it (tick w) run out (λ _ w1. so_far run (say run t out) w1)
-  exec u (EmitExpr e) run out w = use_it (eval u run e w) run out (λ v w1. emit u run out v w1)
+  exec u (EmitRaw t) run out w = use_it (tick w) run out (λ _ world1. so_far run (say run t out) world1)
+  exec u (EmitExpr e) run out w = use_it (eval u run e w) run out (λ v world1. emit u run out v world1)
   exec u (If' c _ body other) run out w =
-      use_it (eval u run c w) run out (λ v w1. use_it (tick w1) run out (λ _ w2. use_it (truth u.host v w2) run out (λ b w3.
-      choose b (λ _. behind_first other run (execs u body run out w3)) (λ _. exec_else u other run out w3))))
-  exec u (Block' b _ body) run out w = use_it (tick w) run out (λ _ w1. block_tag u run b out w1)
+      use_it (eval u run c w) run out (λ v world1. use_it (tick world1) run out (λ _ world2. use_it (truth u.host v world2) run out (λ b world3.
+      choose b (λ _. behind_first other run (execs u body run out world3)) (λ _. exec_else u other run out world3))))
+  exec u (Block' b _ body) run out w = use_it (tick w) run out (λ _ world1. block_tag u run b out world1)
 
   pub execs : {n : _} → Under → Row_of-Stmt n → Run → List ℕ → World → Outcome
   execs u no_statement run out w = so_far run out w
-  execs u (statement s ss) run out w = then_do run (exec u s run out w) (λ run1 out1 w1. execs u ss run1 out1 w1)
+  execs u (statement s ss) run out w = then_do run (exec u s run out w) (λ run1 out1 world1. execs u ss run1 out1 world1)
 
   pub exec_else : Under → Otherwise → Run → List ℕ → World → Outcome
   exec_else u no_else run out w = so_far run out w

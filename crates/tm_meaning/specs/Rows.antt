@@ -8,10 +8,10 @@ use Rattle.tm_values.specs.declared.undefined.UndefinedBehavior.{UndefinedBehavi
 use Rattle.tm_values.specs.declared.undefined.UndefinedBehavior.TheVariants.{Lenient}
 use Rattle.tm_syntax.specs.declared.tree.UnaryOperator.TheVariants as unaries
 use Rattle.tm_syntax.specs.declared.tree.BinaryOperator.TheVariants as binaries
-use Rattle.tm_syntax.specs.declared.tree.Expr.{Expr, Var, Const, Call', end_of-Argument as no_argument, more_of-Argument as argument, end_of-Step as no_step, more_of-Step as step}
-use Rattle.tm_syntax.specs.declared.tree.Step.{Step, Attribute}
+use Rattle.tm_syntax.specs.declared.tree.Expr.{Expr, Var, Const, Call', end_of-Argument as no_argument, more_of-Argument as argument, end_of-Step as no_step, more_of-Step as step, end_of-Condition as no_condition, more_of-Condition as with_condition}
+use Rattle.tm_syntax.specs.declared.tree.Step.{Step, Attribute, end_of-Comparison as no_comparison, more_of-Comparison as with_comparison}
 use Rattle.tm_syntax.specs.declared.tree.Stmt.{Stmt, EmitRaw, EmitExpr, If', Block', end_of-Stmt as no_statement, more_of-Stmt as statement, Held-Stmt-If-2 as Otherwise, None' as no_else, Some' as otherwise}
-use Rattle.tm_syntax.specs.Forms.{unary, chained, plain, binary, and_then, or_else}
+use Rattle.tm_syntax.specs.Forms.{unary, chained, conditional, condition, comparison, plain, binary, compare, and_then, or_else}
 use Rattle.tm_meaning.specs.Compiled.{code_of}
 use Rattle.tm_meaning.specs.World.{Bindings, find, own, World, Host, View, Reply, gives, faults, Stated, Function, callers}
 use Rattle.tm_meaning.specs.Calls.{whole}
@@ -167,6 +167,42 @@ not_equal = unary unaries.Not (and_one a (binary binaries.Equal b))
 -- {{ a.b }}
 abbrev pub a_b : Expr
 a_b = and_one a (Attribute (codes "b"))
+
+abbrev pub literal_number : ℕ → Expr
+literal_number n = Const (number (pos n))
+
+abbrev pub literal_truth : Bool → Expr
+literal_truth truth = Const (boolean truth)
+
+-- {{ x < y < z }}
+abbrev pub three_in_a_row : ℕ → ℕ → ℕ → Expr
+three_in_a_row x y z =
+    and_one (literal_number x)
+    (compare binaries.Less (literal_number y) (tt ∷ []) (with_comparison (comparison binaries.Less (literal_number z)) no_comparison))
+
+-- {{ 1 < 2 < 3 < 0 < nope.x }}
+abbrev pub false_before_fault : Expr
+false_before_fault =
+    and_one (literal_number 1)
+    (compare binaries.Less (literal_number 2) (tt ∷ tt ∷ tt ∷ [])
+    (with_comparison (comparison binaries.Less (literal_number 3))
+    (with_comparison (comparison binaries.Less (literal_number 0))
+    (with_comparison (comparison binaries.Less (and_one (named (codes "nope")) (Attribute (codes "x")))) no_comparison))))
+
+-- what an `if` without `else` gives where it is false
+abbrev pub no_value : Expr
+no_value = Const (undefined true)
+
+-- {{ 1 if truth else other }}
+abbrev pub one_condition : Bool → Expr → Expr
+one_condition truth other =
+    conditional (literal_number 1) (tt ∷ []) (with_condition (condition (literal_truth truth) other) no_condition)
+
+-- {{ 1 if first else other if second else last }}, the second asked first
+abbrev pub two_conditions : Bool → Expr → Bool → Expr → Expr
+two_conditions first other second last =
+    conditional (literal_number 1) (tt ∷ tt ∷ [])
+    (with_condition (condition (literal_truth first) other) (with_condition (condition (literal_truth second) last) no_condition))
 
 -- {% block b %}x{{ a }}{% endblock %}y
 abbrev pub block_of_two : Stmt

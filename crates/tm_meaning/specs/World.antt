@@ -189,7 +189,7 @@ abbrev pub tick : World → Res (Unit {0})
 tick w = pays 1 w
 
 abbrev pub ticked : {A : Type 0} → World → (World → Res A) → Res A
-ticked w f = bind (tick w) (λ _ w1. f w1)
+ticked w f = bind (tick w) (λ _ world1. f world1)
 
 -- ---------------------------------------------------------------- what is known of a world
 abbrev pub template_at : Host → TemplateId → Template
@@ -293,7 +293,7 @@ abbrev pub lookup : Host → List ℕ → World → Res (Option Val)
 lookup host x w = answered (find_name (view_of host w) x) w
 
 abbrev pub looked_up : Host → List ℕ → World → Res Val
-looked_up host x w = bind (lookup host x w) (λ found w1. Good (or_undefined found) w1)
+looked_up host x w = bind (lookup host x w) (λ found world1. Good (or_undefined found) world1)
 
 -- ---------------------------------------------------------------- scopes
 abbrev pub depth : Scopes → ℕ

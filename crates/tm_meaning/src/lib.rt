@@ -10,7 +10,10 @@ mod rows;
 mod stream;
 
 pub use base::Base;
-pub use rows::{attribute_rows, block_rows, call_rows, condition_rows, hello_rows, operator_rows};
+pub use rows::{
+    attribute_rows, block_rows, call_rows, chain_rows, condition_rows, conditional_rows,
+    hello_rows, operator_rows,
+};
 pub use stream::{StreamId, TemplateId};
 
 /// A run has one end.

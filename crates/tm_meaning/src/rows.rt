@@ -1,9 +1,9 @@
 //! Worked renders: each clause says what a page means, and what its code and the machine come to.
-ghost use Rattle.std.specs.Prelude.{[], ◌∷◌, ◌++◌, true, codes};
+ghost use Rattle.std.specs.Prelude.{[], ◌∷◌, ◌++◌, true, false, codes};
 ghost use Rattle.std.specs.Fmt.{decimal};
 ghost use Rattle.tm_values.specs.Val.{boolean, map, no_pairs};
 ghost use Rattle.tm_values.specs.declared.error.ErrorKind.TheVariants.{InvalidOperation, MissingArgument, UndefinedError, UnknownFunction, OutOfFuel, WriteFailure, BadStream, OutOfMemory};
-ghost use Rattle.tm_meaning.specs.Rows.{Says, Charges, Fails, nothing, with_value, hello, either_text, of_three, empty_condition, shown, a_and_b_c, a_or_x, not_equal, a_b, in_block, block_not_reached, last_function, faulty, calling, keep_and_read, unknown_behind};
+ghost use Rattle.tm_meaning.specs.Rows.{Says, Charges, Fails, nothing, with_value, hello, either_text, of_three, empty_condition, shown, a_and_b_c, a_or_x, not_equal, a_b, literal_number, three_in_a_row, false_before_fault, no_value, one_condition, two_conditions, in_block, block_not_reached, last_function, faulty, calling, keep_and_read, unknown_behind};
 
 /// `Hello {{ name }}!` with the name World takes 4 charges, so 5 units of fuel; with fewer it ends where the fuel does.
 pub fn hello_rows()
@@ -35,6 +35,21 @@ pub fn operator_rows()
 pub fn attribute_rows()
     ensures undefined { Fails (shown a_b nothing) [] (UndefinedError ∷ []) }
     ensures missing { Charges (shown a_b (with_value (codes "a") (map no_pairs))) [] 3 }
+{}
+
+/// `{{ 1 < 2 < 3 }}`, `{{ 3 < 2 < 1 }}` and `{{ 1 < 2 < 3 < 0 < nope.x }}`: what stands behind a false comparison isn't asked for.
+pub fn chain_rows()
+    ensures true_row { Charges (shown (three_in_a_row 1 2 3) nothing) (codes "true") 8 }
+    ensures false_row { Charges (shown (three_in_a_row 3 2 1) nothing) (codes "false") 6 }
+    ensures stops { Charges (shown false_before_fault nothing) (codes "false") 12 }
+{}
+
+/// `{{ 1 if false }}`, `{{ 1 if true else 2 }}`, `{{ 1 if true if false else 2 }}` and `{{ 1 if false if true else 2 }}`: the last condition is asked first.
+pub fn conditional_rows()
+    ensures no_value { Charges (shown (one_condition false no_value) nothing) [] 4 }
+    ensures value { Charges (shown (one_condition true (literal_number 2)) nothing) (decimal 1) 5 }
+    ensures last_false { Charges (shown (two_conditions true no_value false (literal_number 2)) nothing) (decimal 2) 4 }
+    ensures first_false { Charges (shown (two_conditions false no_value true (literal_number 2)) nothing) [] 7 }
 {}
 
 /// `{% block b %}x{{ a }}{% endblock %}y`, and a block that isn't reached.

@@ -70,17 +70,22 @@ pub follows_map : {A : Type 0} (r : Final) (t : List ℕ) (m : Res A) (K L : A �
 follows_map r t (Good a w) K L h g = g a w h
 follows_map r t (Bad chain w) K L h g = h
 
+-- what is bound, of its parts
+pub follows_bind : {A B : Type 0} (r : Final) (t : List ℕ) (m : Res A) (g : A → World → Res B) (K : B → World → Type 0) → Follows r t m (λ a w. Follows r t (g a w) K) → Follows r t (bind m g) K
+follows_bind r t (Good a w) g K h = h
+follows_bind r t (Bad chain w) g K h = h
+
 -- the first part of what is bound, and what it keeps
 pub bind_then : {A B : Type 0} (r : Final) (t : List ℕ) (w : World) (m : Res A) (g : A → World → Res B) (K : B → World → Type 0) (L : A → World → Type 0) →
-    Gives w m → Follows r t (bind m g) K → ((a : A) (w1 : World) → Kept w w1 → Follows r t (g a w1) K → L a w1) → Follows r t m L
-bind_then r t w (Good a w1) g K L e h k = k a w1 e h
-bind_then r t w (Bad chain w1) g K L e h k = h
+    Gives w m → Follows r t (bind m g) K → ((a : A) (world1 : World) → Kept w world1 → Follows r t (g a world1) K → L a world1) → Follows r t m L
+bind_then r t w (Good a world1) g K L e h k = k a world1 e h
+bind_then r t w (Bad chain world1) g K L e h k = h
 
 pub use_then : {A : Type 0} (r : Final) (b : Bed) (w : World) (m : Res A) (run : Run) (out : List ℕ) (g : A → World → Outcome) (D L N : Then) (K : A → World → Type 0) →
-    Gives w m → Ends r b (use_it m run out g) D L N → ((a : A) (w1 : World) → Kept w w1 → Ends r b (g a w1) D L N → K a w1) → Follows r (told_by b out) m K
+    Gives w m → Ends r b (use_it m run out g) D L N → ((a : A) (world1 : World) → Kept w world1 → Ends r b (g a world1) D L N → K a world1) → Follows r (told_by b out) m K
 unfolding Ends
-use_then r b w (Good a w1) run out g D L N K e h k = k a w1 e h
-use_then r b w (Bad chain w1) run out g D L N K e h k = h
+use_then r b w (Good a world1) run out g D L N K e h k = k a world1 e h
+use_then r b w (Bad chain world1) run out g D L N K e h k = h
 
 -- what is done goes on
 pub so_far_then : (r : Final) (b : Bed) (run : Run) (out : List ℕ) (w : World) (D L N : Then) → Ends r b (so_far run out w) D L N → D run.parent out w
@@ -99,20 +104,20 @@ fault_then r b run out w chain D L N h = h
 abbrev pub whole_of : Ending → Option TemplateId → List ℕ → World → Outcome
 whole_of e parent out w = record { ending = e; parent = parent; text = out; world = w }
 
-kept_by : (w : World) (e : Ending) (parent : Option TemplateId) (out : List ℕ) (w1 : World) → KeptEnds w (whole_of e parent out w1) → EndsKept w e w1
+kept_by : (w : World) (e : Ending) (parent : Option TemplateId) (out : List ℕ) (world1 : World) → KeptEnds w (whole_of e parent out world1) → EndsKept w e world1
 unfolding KeptEnds
-kept_by w e parent out w1 h = h
+kept_by w e parent out world1 h = h
 
-do_by : (r : Final) (b : Bed) (run : Run) (w : World) (e : Ending) (parent : Option TemplateId) (out : List ℕ) (w1 : World) (g : Run → List ℕ → World → Outcome) (D L N : Then) (K : Then) → EndsKept w e w1 →
-    Ends r b (then_do run (whole_of e parent out w1) g) D L N → (Kept w w1 → Ends r b (g (record run { parent = parent }) out w1) D L N → K parent out w1) → Ends r b (whole_of e parent out w1) K L N
+do_by : (r : Final) (b : Bed) (run : Run) (w : World) (e : Ending) (parent : Option TemplateId) (out : List ℕ) (world1 : World) (g : Run → List ℕ → World → Outcome) (D L N : Then) (K : Then) → EndsKept w e world1 →
+    Ends r b (then_do run (whole_of e parent out world1) g) D L N → (Kept w world1 → Ends r b (g (record run { parent = parent }) out world1) D L N → K parent out world1) → Ends r b (whole_of e parent out world1) K L N
 unfolding Ends
-do_by r b run w done parent out w1 g D L N K e h k = k e h
-do_by r b run w leave parent out w1 g D L N K e h k = h
-do_by r b run w next parent out w1 g D L N K e h k = h
-do_by r b run w (fault chain) parent out w1 g D L N K e h k = h
+do_by r b run w done parent out world1 g D L N K e h k = k e h
+do_by r b run w leave parent out world1 g D L N K e h k = h
+do_by r b run w next parent out world1 g D L N K e h k = h
+do_by r b run w (fault chain) parent out world1 g D L N K e h k = h
 
 pub do_then : (r : Final) (b : Bed) (run : Run) (w : World) (o : Outcome) (g : Run → List ℕ → World → Outcome) (D L N : Then) (K : Then) → KeptEnds w o →
-    Ends r b (then_do run o g) D L N → ((parent : Option TemplateId) (out : List ℕ) (w1 : World) → Kept w w1 → Ends r b (g (record run { parent = parent }) out w1) D L N → K parent out w1) → Ends r b o K L N
+    Ends r b (then_do run o g) D L N → ((parent : Option TemplateId) (out : List ℕ) (world1 : World) → Kept w world1 → Ends r b (g (record run { parent = parent }) out world1) D L N → K parent out world1) → Ends r b o K L N
 do_then r b run w o g D L N K e h k =
     do_by r b run w o.ending o.parent o.text o.world g D L N K (kept_by w o.ending o.parent o.text o.world e) h (k o.parent o.text o.world)
 
@@ -151,8 +156,8 @@ module _ (p : Program) (f : Base) (r : Final) where
 
   -- a value is pushed, and the next place follows
   pub pushes : (s : Spot) (pc : ℕ) (stack old : List Val) (w : World) (m : Res Val) →
-      Follows r (told s) m (λ v w1. Go s (pc + 1) (v ∷ stack) w1) → Leads p f (told s) (after m (λ v w1. goes (v ∷ stack) w1 (cfg s pc old w))) r
-  pushes s pc stack old w m h = after_then (told s) m _ (follows_map r (told s) m _ _ h (λ v w1 g. silent (told s) _ g))
+      Follows r (told s) m (λ v world1. Go s (pc + 1) (v ∷ stack) world1) → Leads p f (told s) (after m (λ v world1. goes (v ∷ stack) world1 (cfg s pc old w))) r
+  pushes s pc stack old w m h = after_then (told s) m _ (follows_map r (told s) m _ _ h (λ v world1 g. silent (told s) _ g))
 
   -- one of two, by a truth value
   pub choose_then : {A : Type 0} (b : Bool) (m1 m2 : Res A) (n1 n2 : Next) (t : List ℕ) (K : A → World → Type 0) →

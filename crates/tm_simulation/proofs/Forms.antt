@@ -72,7 +72,7 @@ module _ (p : Program) (f : Base) (r : Final) where
   pub call_in_place : (u : Under) (k : Call) (run : Run) (s : Spot) (pc : ℕ) (stack vs : List Val) (w v : World) (D L N : Then) → s.parent ≡ run.parent → Fits f run s.bed →
       Entered p k.callee (heard_here run) s.bed s.out v (u.nests k.callee (heard_here run) s.out v) →
       Ends r s.bed (in_place_of u run s.out (runs k v)) D L N →
-      ((out1 : List ℕ) (w1 : World) → D run.parent out1 w1 → Go p f r (later s s.parent out1) (pc + 1) vs w1) →
+      ((out1 : List ℕ) (world1 : World) → D run.parent out1 world1 → Go p f r (later s s.parent out1) (pc + 1) vs world1) →
       Leads p f (told s) (nested_in_place f vs (cfg s pc stack w) k v) r
   call_in_place u k run s pc stack vs w v D L N q fits entered h g =
       let o = u.nests k.callee (heard_here run) s.out v in
@@ -96,7 +96,7 @@ module _ (p : Program) (f : Base) (r : Final) where
   pub call_as_value : (u : Under) (k : Call) (s : Spot) (pc : ℕ) (stack vs : List Val) (w v : World) (K : Val → World → Type 0) →
       Entered p k.callee true (inside true (told s) (captures_of s.bed s.out)) [] v (u.nests k.callee true [] v) →
       Follows r (told s) (value_of u (runs k v)) K →
-      ((x : Val) (w1 : World) → K x w1 → Go p f r s (pc + 1) (x ∷ vs) w1) →
+      ((x : Val) (world1 : World) → K x world1 → Go p f r s (pc + 1) (x ∷ vs) world1) →
       Leads p f (told s) (nested_as_value vs (cfg s pc stack w) k v) r
   call_as_value u k s pc stack vs w v K entered h g =
       let o = u.nests k.callee true [] v in

@@ -9,15 +9,16 @@ use Rattle.tm_syntax.specs.declared.tree.UnaryOperator.{UnaryOperator}
 use Rattle.tm_syntax.specs.declared.tree.UnaryOperator.TheVariants as unaries
 use Rattle.tm_syntax.specs.declared.tree.BinaryOperator.{BinaryOperator}
 use Rattle.tm_syntax.specs.declared.tree.BinaryOperator.TheVariants as binaries
-use Rattle.tm_syntax.specs.declared.tree.Expr.{Expr, Var, Const, List', Tuple', Map', Call', Row_of-Expr, end_of-Expr as no_expr, more_of-Expr as expr, Row_of-Pair, end_of-Pair as no_pair, more_of-Pair as with_pair, Row_of-Argument, end_of-Argument as no_argument, more_of-Argument as argument, Row_of-Step, end_of-Step as no_step, more_of-Step as step}
+use Rattle.tm_syntax.specs.declared.tree.Expr.{Expr, Var, Const, List', Tuple', Map', Call', Row_of-Expr, end_of-Expr as no_expr, more_of-Expr as expr, Row_of-Pair, end_of-Pair as no_pair, more_of-Pair as with_pair, Row_of-Argument, end_of-Argument as no_argument, more_of-Argument as argument, Row_of-Step, end_of-Step as no_step, more_of-Step as step, Row_of-Condition, end_of-Condition as no_condition, more_of-Condition as with_condition}
 use Rattle.tm_syntax.specs.declared.tree.Argument.{Argument}
 use Rattle.tm_syntax.specs.declared.tree.Pair.{Pair}
-use Rattle.tm_syntax.specs.declared.tree.Step.{Step, Attribute}
+use Rattle.tm_syntax.specs.declared.tree.Condition.{Condition}
+use Rattle.tm_syntax.specs.declared.tree.Step.{Step, Attribute, Row_of-Comparison, end_of-Comparison as no_comparison, more_of-Comparison as with_comparison}
 use Rattle.tm_syntax.specs.declared.tree.Stmt.{Stmt, EmitRaw, EmitExpr, If', Block', Row_of-Stmt, end_of-Stmt as no_statement, more_of-Stmt as statement, Held-Stmt-If-2 as Otherwise, None' as no_else, Some' as otherwise}
-use Rattle.tm_syntax.specs.Forms.{unary, chained, pair, plain, item, slice, binary, and_then, or_else}
+use Rattle.tm_syntax.specs.Forms.{unary, chained, conditional, condition, comparison, pair, plain, item, slice, binary, compare, and_then, or_else}
 use Rattle.tm_meaning.specs.World.{choose, find, block_of, with_frames, World, Host, Scopes, Scope, Res, Good, Bad, bind, need, check, answered, charged, with_fuel, tick, push, pop, depth, without_first, emitted, looked_up, lookup, Function, callers, Reply, gives, faults, plain as plain_scope}
 use Rattle.tm_meaning.specs.Calls.{Callee, whole, Call, Undo, of_block, undone, wrapped, Asked, has, refused, runs, ask, enter_block, call_named, call_value, call_by, replied, required_alone}
-use Rattle.tm_meaning.specs.Meaning.{Run, Outcome, Ending, done, leave, next, fault, Nests, Under, use_it, then_do, on_done, so_far, ended, say, audible, none_waits, value_of, value_behind, in_place_of, behind, block_tag, truth, applied_unary, operated, applied, attribute, eval, eval_all, eval_pair, eval_pairs, eval_argument, eval_arguments, eval_step, eval_steps, emit, behind_first, exec, execs, exec_else, at_end, new_run, nests_of}
+use Rattle.tm_meaning.specs.Meaning.{Run, Outcome, Ending, done, leave, next, fault, Nests, Under, use_it, then_do, on_done, so_far, ended, say, audible, none_waits, value_of, value_behind, in_place_of, behind, block_tag, truth, applied_unary, operated, applied, attribute, eval, eval_all, eval_pair, eval_pairs, eval_argument, eval_arguments, eval_condition, eval_conditions, eval_step, eval_links, eval_steps, emit, behind_first, exec, execs, exec_else, at_end, new_run, nests_of}
 use Rattle.tm_meaning.specs.Tree.{Trees}
 use Rattle.tm_meaning.specs.declared.stream.TemplateId.{TemplateId}
 
@@ -35,27 +36,27 @@ pub kept_depth : {a b : World} → Kept a b → depth b.scopes ≡ depth a.scope
 kept_depth h = omega (arith, h.frames, h.outer)
 
 abbrev pub Gives : {A : Type 0} → World → Res A → Type 0
-Gives w (Good a w1) = Kept w w1
-Gives w (Bad chain w1) = Unit {0}
+Gives w (Good a world1) = Kept w world1
+Gives w (Bad chain world1) = Unit {0}
 
 abbrev pub EndsBy : World → Ending → World → Type 0
-EndsBy w done w1 = Kept w w1
-EndsBy w leave w1 = Kept w w1
-EndsBy w next w1 = Kept w w1
-EndsBy w (fault chain) w1 = Unit {0}
+EndsBy w done world1 = Kept w world1
+EndsBy w leave world1 = Kept w world1
+EndsBy w next world1 = Kept w world1
+EndsBy w (fault chain) world1 = Unit {0}
 
 -- sealed, so that a proof needs no outcome spelled out
 unfoldable pub Ends : World → Outcome → Type 0
 Ends w o = EndsBy w o.ending o.world
 
 -- ---------------------------------------------------------------- results
-gives_then : {A : Type 0} (w w1 : World) (m : Res A) → Kept w w1 → Gives w1 m → Gives w m
-gives_then w w1 (Good a w2) h k = kept_then h k
-gives_then w w1 (Bad chain w2) h k = tt
+gives_then : {A : Type 0} (w world1 : World) (m : Res A) → Kept w world1 → Gives world1 m → Gives w m
+gives_then w world1 (Good a world2) h k = kept_then h k
+gives_then w world1 (Bad chain world2) h k = tt
 
-pub gives_bind : {A B : Type 0} (w : World) (m : Res A) (g : A → World → Res B) → Gives w m → ((a : A) (w1 : World) → Gives w1 (g a w1)) → Gives w (bind m g)
-gives_bind w (Good a w1) g h k = gives_then w w1 (g a w1) h (k a w1)
-gives_bind w (Bad chain w1) g h k = tt
+pub gives_bind : {A B : Type 0} (w : World) (m : Res A) (g : A → World → Res B) → Gives w m → ((a : A) (world1 : World) → Gives world1 (g a world1)) → Gives w (bind m g)
+gives_bind w (Good a world1) g h k = gives_then w world1 (g a world1) h (k a world1)
+gives_bind w (Bad chain world1) g h k = tt
 
 fuel_gives : (left : Option ℕ) (w : World) → Gives w (with_fuel left w)
 fuel_gives (Some left) w = record { frames = refl; outer = refl }
@@ -69,55 +70,55 @@ answered_gives (Ok a) w = kept_same w
 answered_gives (Err chain) w = tt
 
 -- ---------------------------------------------------------------- outcomes
-ends_by_then : (w w1 : World) (e : Ending) (w2 : World) → Kept w w1 → EndsBy w1 e w2 → EndsBy w e w2
-ends_by_then w w1 done w2 h k = kept_then h k
-ends_by_then w w1 leave w2 h k = kept_then h k
-ends_by_then w w1 next w2 h k = kept_then h k
-ends_by_then w w1 (fault chain) w2 h k = tt
+ends_by_then : (w world1 : World) (e : Ending) (world2 : World) → Kept w world1 → EndsBy world1 e world2 → EndsBy w e world2
+ends_by_then w world1 done world2 h k = kept_then h k
+ends_by_then w world1 leave world2 h k = kept_then h k
+ends_by_then w world1 next world2 h k = kept_then h k
+ends_by_then w world1 (fault chain) world2 h k = tt
 
-pub ends_here : (w w1 : World) (run : Run) (out : List ℕ) → Kept w w1 → Ends w (so_far run out w1)
+pub ends_here : (w world1 : World) (run : Run) (out : List ℕ) → Kept w world1 → Ends w (so_far run out world1)
 unfolding Ends
-ends_here w w1 run out h = h
+ends_here w world1 run out h = h
 
-ends_fault : (w w1 : World) (run : Run) (out : List ℕ) (chain : List ErrorKind) → Ends w (ended (fault chain) run out w1)
+ends_fault : (w world1 : World) (run : Run) (out : List ℕ) (chain : List ErrorKind) → Ends w (ended (fault chain) run out world1)
 unfolding Ends
-ends_fault w w1 run out chain = tt
+ends_fault w world1 run out chain = tt
 
-pub ends_then : (w w1 : World) (o : Outcome) → Kept w w1 → Ends w1 o → Ends w o
+pub ends_then : (w world1 : World) (o : Outcome) → Kept w world1 → Ends world1 o → Ends w o
 unfolding Ends
-ends_then w w1 o h k = ends_by_then w w1 o.ending o.world h k
+ends_then w world1 o h k = ends_by_then w world1 o.ending o.world h k
 
-pub ends_use : {A : Type 0} (w : World) (m : Res A) (run : Run) (out : List ℕ) (g : A → World → Outcome) → Gives w m → ((a : A) (w1 : World) → Ends w1 (g a w1)) → Ends w (use_it m run out g)
-ends_use w (Good a w1) run out g h k = ends_then w w1 (g a w1) h (k a w1)
-ends_use w (Bad chain w1) run out g h k = ends_fault w w1 run out chain
+pub ends_use : {A : Type 0} (w : World) (m : Res A) (run : Run) (out : List ℕ) (g : A → World → Outcome) → Gives w m → ((a : A) (world1 : World) → Ends world1 (g a world1)) → Ends w (use_it m run out g)
+ends_use w (Good a world1) run out g h k = ends_then w world1 (g a world1) h (k a world1)
+ends_use w (Bad chain world1) run out g h k = ends_fault w world1 run out chain
 
-ends_on_done : (w : World) (run : Run) (e : Ending) (parent : Option TemplateId) (out : List ℕ) (w1 : World) (g : Run → List ℕ → World → Outcome) →
-    EndsBy w e w1 → ((run1 : Run) (out1 : List ℕ) (w2 : World) → Ends w2 (g run1 out1 w2)) → Ends w (then_do run (record { ending = e; parent = parent; text = out; world = w1 }) g)
+ends_on_done : (w : World) (run : Run) (e : Ending) (parent : Option TemplateId) (out : List ℕ) (world1 : World) (g : Run → List ℕ → World → Outcome) →
+    EndsBy w e world1 → ((run1 : Run) (out1 : List ℕ) (world2 : World) → Ends world2 (g run1 out1 world2)) → Ends w (then_do run (record { ending = e; parent = parent; text = out; world = world1 }) g)
 unfolding Ends
-ends_on_done w run done parent out w1 g h k = ends_then w w1 (g (record run { parent = parent }) out w1) h (k (record run { parent = parent }) out w1)
-ends_on_done w run leave parent out w1 g h k = h
-ends_on_done w run next parent out w1 g h k = h
-ends_on_done w run (fault chain) parent out w1 g h k = tt
+ends_on_done w run done parent out world1 g h k = ends_then w world1 (g (record run { parent = parent }) out world1) h (k (record run { parent = parent }) out world1)
+ends_on_done w run leave parent out world1 g h k = h
+ends_on_done w run next parent out world1 g h k = h
+ends_on_done w run (fault chain) parent out world1 g h k = tt
 
-pub ends_do : (w : World) (run : Run) (o : Outcome) (g : Run → List ℕ → World → Outcome) → Ends w o → ((run1 : Run) (out1 : List ℕ) (w2 : World) → Ends w2 (g run1 out1 w2)) → Ends w (then_do run o g)
+pub ends_do : (w : World) (run : Run) (o : Outcome) (g : Run → List ℕ → World → Outcome) → Ends w o → ((run1 : Run) (out1 : List ℕ) (world2 : World) → Ends world2 (g run1 out1 world2)) → Ends w (then_do run o g)
 unfolding Ends
 ends_do w run o g h k = ends_on_done w run o.ending o.parent o.text o.world g h k
 
 -- ---------------------------------------------------------------- calls
 -- A value keeps the scopes; a run starts one level deeper, within the limit, and what is put back behind one that keeps its scopes gives these back.
 abbrev pub Asks : ℕ → World → Asked → Type 0
-Asks limit w (has v w1) = Kept w w1
-Asks limit w (refused chain w1) = Unit {0}
-Asks limit w (runs c w1) = (depth w1.scopes ≡ depth w.scopes + 1) × (depth w1.scopes ≤ limit) × ((w2 : World) → Kept w1 w2 → Kept w (undone c.undo w2))
+Asks limit w (has v world1) = Kept w world1
+Asks limit w (refused chain world1) = Unit {0}
+Asks limit w (runs c world1) = (depth world1.scopes ≡ depth w.scopes + 1) × (depth world1.scopes ≤ limit) × ((world2 : World) → Kept world1 world2 → Kept w (undone c.undo world2))
 
-asks_then : (limit : ℕ) (w w1 : World) (q : Asked) → Kept w w1 → Asks limit w1 q → Asks limit w q
-asks_then limit w w1 (has v w2) h k = kept_then h k
-asks_then limit w w1 (refused chain w2) h k = tt
-asks_then limit w w1 (runs c w2) h k = (k.0 ∙ ap (λ n. n + 1) (kept_depth h), k.1, λ w3 l. kept_then h (k.2 w3 l))
+asks_then : (limit : ℕ) (w world1 : World) (q : Asked) → Kept w world1 → Asks limit world1 q → Asks limit w q
+asks_then limit w world1 (has v world2) h k = kept_then h k
+asks_then limit w world1 (refused chain world2) h k = tt
+asks_then limit w world1 (runs c world2) h k = (k.0 ∙ ap (λ n. n + 1) (kept_depth h), k.1, λ world3 l. kept_then h (k.2 world3 l))
 
-ask_then : {A : Type 0} (limit : ℕ) (w : World) (m : Res A) (g : A → World → Asked) → Gives w m → ((a : A) (w1 : World) → Asks limit w1 (g a w1)) → Asks limit w (ask m g)
-ask_then limit w (Good a w1) g h k = asks_then limit w w1 (g a w1) h (k a w1)
-ask_then limit w (Bad chain w1) g h k = tt
+ask_then : {A : Type 0} (limit : ℕ) (w : World) (m : Res A) (g : A → World → Asked) → Gives w m → ((a : A) (world1 : World) → Asks limit world1 (g a world1)) → Asks limit w (ask m g)
+ask_then limit w (Good a world1) g h k = asks_then limit w world1 (g a world1) h (k a world1)
+ask_then limit w (Bad chain world1) g h k = tt
 
 -- where something is there, the world is as it was
 ask_need : {A : Type 0} (limit : ℕ) (w : World) (found : Option A) (kind : ErrorKind) (g : A → World → Asked) → ((a : A) → Asks limit w (g a w)) → Asks limit w (ask (need found kind w) g)
@@ -139,14 +140,14 @@ ask_push limit w s true g k = k refl
 ask_push limit w s false g k = tt
 
 -- a scope more, and what stands in it, is one level deeper
-entered_asks : (limit : ℕ) (c : Call) (s : Scope) (w w1 : World) → c.undo ≡ of_block w → w1.scopes ≡ record w.scopes { frames = s ∷ w.scopes.frames } → nat_lt (depth w.scopes) limit ≡ true → Asks limit w (runs c w1)
-entered_asks limit c s w w1 e d room =
-    let deep : depth w1.scopes ≡ depth w.scopes + 1 = ap depth d ∙ omega arith in
-    let frames : length w1.scopes.frames ≡ suc (length w.scopes.frames) = ap (λ (x : Scopes). length x.frames) d in (
+entered_asks : (limit : ℕ) (c : Call) (s : Scope) (w world1 : World) → c.undo ≡ of_block w → world1.scopes ≡ record w.scopes { frames = s ∷ w.scopes.frames } → nat_lt (depth w.scopes) limit ≡ true → Asks limit w (runs c world1)
+entered_asks limit c s w world1 e d room =
+    let deep : depth world1.scopes ≡ depth w.scopes + 1 = ap depth d ∙ omega arith in
+    let frames : length world1.scopes.frames ≡ suc (length w.scopes.frames) = ap (λ (x : Scopes). length x.frames) d in (
       deep,
       omega (arith, deep, ltb-true (depth w.scopes) limit room),
-      λ w2 k. subst (λ n. Kept w (undone n w2)) (sym e) (record {
-        frames = without_first_of (length w.scopes.frames) w2.scopes.frames (k.frames ∙ frames);
+      λ world2 k. subst (λ n. Kept w (undone n world2)) (sym e) (record {
+        frames = without_first_of (length w.scopes.frames) world2.scopes.frames (k.frames ∙ frames);
         outer = refl;
       }),
     )
@@ -168,7 +169,7 @@ by_asks : (host : Host) (f : Function) (args : List Val) (w : World) → Asks ho
 by_asks host (callers f) args w = asks_then host.limit w _ _ (record { frames = refl; outer = refl }) (replied_asks host.limit _ _)
 
 value_asks : (host : Host) (v : Val) (args : List Val) (w : World) → Asks host.limit w (call_value host v args w)
-value_asks host (function n) args w = ask_need host.limit w (slice_get host.functions n) InvalidOperation (λ f w1. call_by host f args w1) (λ f. by_asks host f args w)
+value_asks host (function n) args w = ask_need host.limit w (slice_get host.functions n) InvalidOperation (λ f world1. call_by host f args world1) (λ f. by_asks host f args w)
 value_asks host (undefined s) args w = tt
 value_asks host none args w = tt
 value_asks host (boolean b) args w = tt
@@ -184,36 +185,36 @@ value_asks host (namespace i n) args w = tt
 
 pub named_asks : (host : Host) (x : List ℕ) (args : List Val) (w : World) → Asks host.limit w (call_named host x args w)
 named_asks host x args w =
-    ask_then host.limit w (lookup host x w) _ (answered_gives _ w) (λ found w1. ask_need host.limit w1 found UnknownFunction (λ f w2. call_value host f args w2) (λ f. value_asks host f args w1))
+    ask_then host.limit w (lookup host x w) _ (answered_gives _ w) (λ found world1. ask_need host.limit world1 found UnknownFunction (λ f world2. call_value host f args world2) (λ f. value_asks host f args world1))
 
 -- ---------------------------------------------------------------- trees
 module _ (u : Under) (nest_ends : (k : Callee) (heard : Bool) (out : List ℕ) (w : World) → Ends w (u.nests k heard out w)) where
-  value_by : (w w1 : World) (c : Call) (e : Ending) (o : Outcome) → EndsBy w1 e o.world → ((w2 : World) → Kept w1 w2 → Kept w (undone c.undo w2)) → Gives w (value_behind e c o)
-  value_by w w1 c done o h k = k o.world h
-  value_by w w1 c leave o h k = k o.world h
-  value_by w w1 c next o h k = k o.world h
-  value_by w w1 c (fault chain) o h k = tt
+  value_by : (w world1 : World) (c : Call) (e : Ending) (o : Outcome) → EndsBy world1 e o.world → ((world2 : World) → Kept world1 world2 → Kept w (undone c.undo world2)) → Gives w (value_behind e c o)
+  value_by w world1 c done o h k = k o.world h
+  value_by w world1 c leave o h k = k o.world h
+  value_by w world1 c next o h k = k o.world h
+  value_by w world1 c (fault chain) o h k = tt
 
   nest_by : (k : Callee) (heard : Bool) (out : List ℕ) (w : World) → EndsBy w (u.nests k heard out w).ending (u.nests k heard out w).world
   unfolding Ends
   nest_by k heard out w = nest_ends k heard out w
 
   value_gives : (w : World) (q : Asked) → Asks u.host.limit w q → Gives w (value_of u q)
-  value_gives w (has v w1) h = h
-  value_gives w (refused chain w1) h = tt
-  value_gives w (runs c w1) h = let o = u.nests c.callee true [] w1 in value_by w w1 c o.ending o (nest_by c.callee true [] w1) h.2
+  value_gives w (has v world1) h = h
+  value_gives w (refused chain world1) h = tt
+  value_gives w (runs c world1) h = let o = u.nests c.callee true [] world1 in value_by w world1 c o.ending o (nest_by c.callee true [] world1) h.2
 
-  place_by : (w w1 : World) (c : Call) (run : Run) (e : Ending) (o : Outcome) → EndsBy w1 e o.world → ((w2 : World) → Kept w1 w2 → Kept w (undone c.undo w2)) → Ends w (behind e c run o)
-  place_by w w1 c run done o h k = ends_here w _ run o.text (k o.world h)
-  place_by w w1 c run leave o h k = ends_here w _ run o.text (k o.world h)
-  place_by w w1 c run next o h k = ends_here w _ run o.text (k o.world h)
-  place_by w w1 c run (fault chain) o h k = ends_fault w o.world run o.text (wrapped c.wrap chain)
+  place_by : (w world1 : World) (c : Call) (run : Run) (e : Ending) (o : Outcome) → EndsBy world1 e o.world → ((world2 : World) → Kept world1 world2 → Kept w (undone c.undo world2)) → Ends w (behind e c run o)
+  place_by w world1 c run done o h k = ends_here w _ run o.text (k o.world h)
+  place_by w world1 c run leave o h k = ends_here w _ run o.text (k o.world h)
+  place_by w world1 c run next o h k = ends_here w _ run o.text (k o.world h)
+  place_by w world1 c run (fault chain) o h k = ends_fault w o.world run o.text (wrapped c.wrap chain)
 
   place_ends : (w : World) (run : Run) (out : List ℕ) (q : Asked) → Asks u.host.limit w q → Ends w (in_place_of u run out q)
-  place_ends w run out (has v w1) h = ends_here w w1 run out h
-  place_ends w run out (refused chain w1) h = ends_fault w w1 run out chain
-  place_ends w run out (runs c w1) h =
-      let o = u.nests c.callee (audible run) out w1 in place_by w w1 c run o.ending o (nest_by c.callee (audible run) out w1) h.2
+  place_ends w run out (has v world1) h = ends_here w world1 run out h
+  place_ends w run out (refused chain world1) h = ends_fault w world1 run out chain
+  place_ends w run out (runs c world1) h =
+      let o = u.nests c.callee (audible run) out world1 in place_by w world1 c run o.ending o (nest_by c.callee (audible run) out world1) h.2
 
   choose_gives : {A : Type 0} (w : World) (b : Bool) (m n : Res A) → Gives w m → Gives w n → Gives w (choose b (λ _. m) (λ _. n))
   choose_gives w true m n h k = h
@@ -236,7 +237,7 @@ module _ (u : Under) (nest_ends : (k : Callee) (heard : Bool) (out : List ℕ) (
   binary_gives binaries.GreaterOrEqual a b w = answered_gives _ w
   binary_gives binaries.In a b w = answered_gives _ w
   binary_gives binaries.NotIn a b w =
-      gives_bind w (operated u.host binaries.In a b w) _ (answered_gives _ w) (λ v w1. gives_bind w1 (tick w1) _ (tick_gives w1) (λ _ w2. answered_gives _ w2))
+      gives_bind w (operated u.host binaries.In a b w) _ (answered_gives _ w) (λ v world1. gives_bind world1 (tick world1) _ (tick_gives world1) (λ _ world2. answered_gives _ world2))
   binary_gives binaries.Add a b w = answered_gives _ w
   binary_gives binaries.Subtract a b w = answered_gives _ w
   binary_gives binaries.Concatenate a b w = answered_gives _ w
@@ -247,38 +248,52 @@ module _ (u : Under) (nest_ends : (k : Callee) (heard : Bool) (out : List ℕ) (
   binary_gives binaries.Power a b w = answered_gives _ w
 
   pub looked_up_gives : (x : List ℕ) (w : World) → Gives w (looked_up u.host x w)
-  looked_up_gives x w = gives_bind w (lookup u.host x w) _ (answered_gives _ w) (λ found w1. kept_same w1)
+  looked_up_gives x w = gives_bind w (lookup u.host x w) _ (answered_gives _ w) (λ found world1. kept_same world1)
 
   mutual
     pub eval_gives : (run : Run) (e : Expr) (w : World) → Gives w (eval u run e w)
-    eval_gives run (Var x) w = gives_bind w (tick w) _ (tick_gives w) (λ _ w1. looked_up_gives x w1)
-    eval_gives run (Const v) w = gives_bind w (tick w) _ (tick_gives w) (λ _ w1. kept_same w1)
+    eval_gives run (Var x) w = gives_bind w (tick w) _ (tick_gives w) (λ _ world1. looked_up_gives x world1)
+    eval_gives run (Const v) w = gives_bind w (tick w) _ (tick_gives w) (λ _ world1. kept_same world1)
     eval_gives run (List' _ es) w =
-        gives_bind w (eval_all u run es w) _ (all_give run es w) (λ vs w1. gives_bind w1 (tick w1) _ (tick_gives w1) (λ _ w2. kept_same w2))
+        gives_bind w (eval_all u run es w) _ (all_give run es w) (λ vs world1. gives_bind world1 (tick world1) _ (tick_gives world1) (λ _ world2. kept_same world2))
     eval_gives run (Tuple' _ es) w =
-        gives_bind w (eval_all u run es w) _ (all_give run es w) (λ vs w1. gives_bind w1 (tick w1) _ (tick_gives w1) (λ _ w2. kept_same w2))
+        gives_bind w (eval_all u run es w) _ (all_give run es w) (λ vs world1. gives_bind world1 (tick world1) _ (tick_gives world1) (λ _ world2. kept_same world2))
     eval_gives run (Map' _ ps) w =
-        gives_bind w (eval_pairs u run ps w) _ (pairs_give run ps w) (λ xs w1. gives_bind w1 (tick w1) _ (tick_gives w1) (λ _ w2. kept_same w2))
+        gives_bind w (eval_pairs u run ps w) _ (pairs_give run ps w) (λ xs world1. gives_bind world1 (tick world1) _ (tick_gives world1) (λ _ world2. kept_same world2))
     eval_gives run (Call' f _ given) w =
-        gives_bind w (eval_arguments u run given w) _ (arguments_give run given w) (λ vs w1.
-        gives_bind w1 (tick w1) _ (tick_gives w1) (λ _ w2. value_gives w2 _ (named_asks u.host f vs w2)))
+        gives_bind w (eval_arguments u run given w) _ (arguments_give run given w) (λ vs world1.
+        gives_bind world1 (tick world1) _ (tick_gives world1) (λ _ world2. value_gives world2 _ (named_asks u.host f vs world2)))
     eval_gives run (unary op a) w =
-        gives_bind w (eval u run a w) _ (eval_gives run a w) (λ v w1. gives_bind w1 (tick w1) _ (tick_gives w1) (λ _ w2. unary_gives op v w2))
-    eval_gives run (chained a _ ss) w = gives_bind w (eval u run a w) _ (eval_gives run a w) (λ v w1. steps_give run ss v w1)
+        gives_bind w (eval u run a w) _ (eval_gives run a w) (λ v world1. gives_bind world1 (tick world1) _ (tick_gives world1) (λ _ world2. unary_gives op v world2))
+    eval_gives run (chained a _ ss) w = gives_bind w (eval u run a w) _ (eval_gives run a w) (λ v world1. steps_give run ss v world1)
+    eval_gives run (conditional a _ cs) w = conditions_give run cs (λ world1. eval u run a world1) (λ world1. eval_gives run a world1) w
+
+    -- where what is guarded does
+    pub condition_gives : (run : Run) (x : Condition) (guarded : World → Res Val) → ((w : World) → Gives w (guarded w)) → (w : World) → Gives w (eval_condition u run x guarded w)
+    condition_gives run (condition c e) guarded given w =
+        gives_bind w (eval u run c w) _ (eval_gives run c w) (λ v world1.
+        gives_bind world1 (tick world1) _ (tick_gives world1) (λ _ world2.
+        gives_bind world2 (truth u.host v world2) _ (answered_gives _ world2) (λ b world3.
+        choose_gives world3 b _ _ (gives_bind world3 (guarded world3) _ (given world3) (λ x world4. gives_bind world4 (tick world4) _ (tick_gives world4) (λ _ world5. kept_same world5))) (eval_gives run e world3))))
+
+    pub conditions_give : {n : _} → (run : Run) (cs : Row_of-Condition n) (guarded : World → Res Val) → ((w : World) → Gives w (guarded w)) → (w : World) → Gives w (eval_conditions u run cs guarded w)
+    conditions_give run no_condition guarded given w = given w
+    conditions_give run (with_condition c more) guarded given w =
+        conditions_give run more (λ world1. eval_condition u run c guarded world1) (λ world1. condition_gives run c guarded given world1) w
 
     pub all_give : {n : _} → (run : Run) (es : Row_of-Expr n) (w : World) → Gives w (eval_all u run es w)
     all_give run no_expr w = kept_same w
     all_give run (expr e more) w =
-        gives_bind w (eval u run e w) _ (eval_gives run e w) (λ v w1. gives_bind w1 (eval_all u run more w1) _ (all_give run more w1) (λ vs w2. kept_same w2))
+        gives_bind w (eval u run e w) _ (eval_gives run e w) (λ v world1. gives_bind world1 (eval_all u run more world1) _ (all_give run more world1) (λ vs world2. kept_same world2))
 
     pub pair_gives : (run : Run) (x : Pair) (w : World) → Gives w (eval_pair u run x w)
     pair_gives run (pair k v) w =
-        gives_bind w (eval u run k w) _ (eval_gives run k w) (λ x w1. gives_bind w1 (eval u run v w1) _ (eval_gives run v w1) (λ y w2. kept_same w2))
+        gives_bind w (eval u run k w) _ (eval_gives run k w) (λ x world1. gives_bind world1 (eval u run v world1) _ (eval_gives run v world1) (λ y world2. kept_same world2))
 
     pub pairs_give : {n : _} → (run : Run) (ps : Row_of-Pair n) (w : World) → Gives w (eval_pairs u run ps w)
     pairs_give run no_pair w = kept_same w
     pairs_give run (with_pair x more) w =
-        gives_bind w (eval_pair u run x w) _ (pair_gives run x w) (λ y w1. gives_bind w1 (eval_pairs u run more w1) _ (pairs_give run more w1) (λ ys w2. kept_same w2))
+        gives_bind w (eval_pair u run x w) _ (pair_gives run x w) (λ y world1. gives_bind world1 (eval_pairs u run more world1) _ (pairs_give run more world1) (λ ys world2. kept_same world2))
 
     pub argument_gives : (run : Run) (a : Argument) (w : World) → Gives w (eval_argument u run a w)
     argument_gives run (plain a) w = eval_gives run a w
@@ -286,65 +301,79 @@ module _ (u : Under) (nest_ends : (k : Callee) (heard : Bool) (out : List ℕ) (
     pub arguments_give : {n : _} → (run : Run) (given : Row_of-Argument n) (w : World) → Gives w (eval_arguments u run given w)
     arguments_give run no_argument w = kept_same w
     arguments_give run (argument a more) w =
-        gives_bind w (eval_argument u run a w) _ (argument_gives run a w) (λ v w1.
-        gives_bind w1 (eval_arguments u run more w1) _ (arguments_give run more w1) (λ vs w2. kept_same w2))
+        gives_bind w (eval_argument u run a w) _ (argument_gives run a w) (λ v world1.
+        gives_bind world1 (eval_arguments u run more world1) _ (arguments_give run more world1) (λ vs world2. kept_same world2))
 
     pub step_gives : (run : Run) (s : Step) (v : Val) (w : World) → Gives w (eval_step u run s v w)
-    step_gives run (Attribute x) v w = gives_bind w (tick w) _ (tick_gives w) (λ _ w1. answered_gives _ w1)
+    step_gives run (Attribute x) v w = gives_bind w (tick w) _ (tick_gives w) (λ _ world1. answered_gives _ world1)
     step_gives run (item a) v w =
-        gives_bind w (eval u run a w) _ (eval_gives run a w) (λ k w1. gives_bind w1 (tick w1) _ (tick_gives w1) (λ _ w2. answered_gives _ w2))
+        gives_bind w (eval u run a w) _ (eval_gives run a w) (λ k world1. gives_bind world1 (tick world1) _ (tick_gives world1) (λ _ world2. answered_gives _ world2))
     step_gives run (slice a b c) v w =
-        gives_bind w (eval u run a w) _ (eval_gives run a w) (λ x w1.
-        gives_bind w1 (eval u run b w1) _ (eval_gives run b w1) (λ y w2.
-        gives_bind w2 (eval u run c w2) _ (eval_gives run c w2) (λ z w3. gives_bind w3 (tick w3) _ (tick_gives w3) (λ _ w4. answered_gives _ w4))))
+        gives_bind w (eval u run a w) _ (eval_gives run a w) (λ x world1.
+        gives_bind world1 (eval u run b world1) _ (eval_gives run b world1) (λ y world2.
+        gives_bind world2 (eval u run c world2) _ (eval_gives run c world2) (λ z world3. gives_bind world3 (tick world3) _ (tick_gives world3) (λ _ world4. answered_gives _ world4))))
     step_gives run (binary op a) v w =
-        gives_bind w (eval u run a w) _ (eval_gives run a w) (λ y w1. gives_bind w1 (tick w1) _ (tick_gives w1) (λ _ w2. binary_gives op v y w2))
+        gives_bind w (eval u run a w) _ (eval_gives run a w) (λ y world1. gives_bind world1 (tick world1) _ (tick_gives world1) (λ _ world2. binary_gives op v y world2))
+    step_gives run (compare op a _ cs) v w = gives_bind w (eval u run a w) _ (eval_gives run a w) (λ y world1. links_give run op cs v y world1)
     step_gives run (and_then a) v w =
-        gives_bind w (tick w) _ (tick_gives w) (λ _ w1. gives_bind w1 (truth u.host v w1) _ (answered_gives _ w1) (λ b w2. choose_gives w2 b _ _ (eval_gives run a w2) (kept_same w2)))
+        gives_bind w (tick w) _ (tick_gives w) (λ _ world1. gives_bind world1 (truth u.host v world1) _ (answered_gives _ world1) (λ b world2. choose_gives world2 b _ _ (eval_gives run a world2) (kept_same world2)))
     step_gives run (or_else a) v w =
-        gives_bind w (tick w) _ (tick_gives w) (λ _ w1. gives_bind w1 (truth u.host v w1) _ (answered_gives _ w1) (λ b w2. choose_gives w2 b _ _ (kept_same w2) (eval_gives run a w2)))
+        gives_bind w (tick w) _ (tick_gives w) (λ _ world1. gives_bind world1 (truth u.host v world1) _ (answered_gives _ world1) (λ b world2. choose_gives world2 b _ _ (kept_same world2) (eval_gives run a world2)))
+
+    pub links_give : {n : _} → (run : Run) (op : BinaryOperator) (cs : Row_of-Comparison n) (x y : Val) (w : World) → Gives w (eval_links u run op cs x y w)
+    links_give run op no_comparison x y w =
+        gives_bind w (tick w) _ (tick_gives w) (λ _ world1.
+        gives_bind world1 (applied u.host op x y world1) _ (binary_gives op x y world1) (λ v world2. gives_bind world2 (tick world2) _ (tick_gives world2) (λ _ world3. kept_same world3)))
+    links_give run op (with_comparison (comparison op1 a) more) x y w =
+        gives_bind w (tick w) _ (tick_gives w) (λ _ world1.
+        gives_bind world1 (operated u.host op x y world1) _ (answered_gives _ world1) (λ v world2.
+        gives_bind world2 (tick world2) _ (tick_gives world2) (λ _ world3.
+        gives_bind world3 (truth u.host v world3) _ (answered_gives _ world3) (λ b world4.
+        choose_gives world4 b _ _
+        (gives_bind world4 (eval u run a world4) _ (eval_gives run a world4) (λ z world5. links_give run op1 more y z world5))
+        (gives_bind world4 (tick world4) _ (tick_gives world4) (λ _ world5. kept_same world5))))))
 
     pub steps_give : {n : _} → (run : Run) (ss : Row_of-Step n) (v : Val) (w : World) → Gives w (eval_steps u run ss v w)
     steps_give run no_step v w = kept_same w
-    steps_give run (step s ss) v w = gives_bind w (eval_step u run s v w) _ (step_gives run s v w) (λ x w1. steps_give run ss x w1)
+    steps_give run (step s ss) v w = gives_bind w (eval_step u run s v w) _ (step_gives run s v w) (λ x world1. steps_give run ss x world1)
 
   emit_ends : (run : Run) (out : List ℕ) (v : Val) (w : World) → Ends w (emit u run out v w)
   emit_ends run out v w =
-      ends_use w (tick w) run out _ (tick_gives w) (λ _ w1. ends_use w1 (emitted u.host v w1) run out _ (answered_gives _ w1) (λ t w2. ends_here w2 w2 run (say run t out) (kept_same w2)))
+      ends_use w (tick w) run out _ (tick_gives w) (λ _ world1. ends_use world1 (emitted u.host v world1) run out _ (answered_gives _ world1) (λ t world2. ends_here world2 world2 run (say run t out) (kept_same world2)))
 
   behind_first_ends : (other : Otherwise) (run : Run) (w : World) (o : Outcome) → Ends w o → Ends w (behind_first other run o)
   behind_first_ends no_else run w o h = h
   behind_first_ends (otherwise _ body) run w o h =
-      ends_do w run o _ h (λ run1 out1 w1. ends_use w1 (tick w1) run1 out1 _ (tick_gives w1) (λ _ w2. ends_here w2 w2 run1 out1 (kept_same w2)))
+      ends_do w run o _ h (λ run1 out1 world1. ends_use world1 (tick world1) run1 out1 _ (tick_gives world1) (λ _ world2. ends_here world2 world2 run1 out1 (kept_same world2)))
 
   tag_ends : (run : Run) (b : List ℕ) (out : List ℕ) (w : World) → Ends w (block_tag u run b out w)
   tag_ends run b out w = choose_ends w _ _ _ (place_ends w run out _ (block_asks u.host b w)) (ends_here w w run out (kept_same w))
 
   mutual
     pub exec_ends : (s : Stmt) (run : Run) (out : List ℕ) (w : World) → Ends w (exec u s run out w)
-    exec_ends (EmitRaw t) run out w = ends_use w (tick w) run out _ (tick_gives w) (λ _ w1. ends_here w1 w1 run (say run t out) (kept_same w1))
-    exec_ends (EmitExpr e) run out w = ends_use w (eval u run e w) run out _ (eval_gives run e w) (λ v w1. emit_ends run out v w1)
+    exec_ends (EmitRaw t) run out w = ends_use w (tick w) run out _ (tick_gives w) (λ _ world1. ends_here world1 world1 run (say run t out) (kept_same world1))
+    exec_ends (EmitExpr e) run out w = ends_use w (eval u run e w) run out _ (eval_gives run e w) (λ v world1. emit_ends run out v world1)
     exec_ends (If' c _ body other) run out w =
-        ends_use w (eval u run c w) run out _ (eval_gives run c w) (λ v w1.
-        ends_use w1 (tick w1) run out _ (tick_gives w1) (λ _ w2.
-        ends_use w2 (truth u.host v w2) run out _ (answered_gives _ w2) (λ b w3.
-        choose_ends w3 b _ _ (behind_first_ends other run w3 _ (execs_end body run out w3)) (else_ends other run out w3))))
-    exec_ends (Block' b _ body) run out w = ends_use w (tick w) run out _ (tick_gives w) (λ _ w1. tag_ends run b out w1)
+        ends_use w (eval u run c w) run out _ (eval_gives run c w) (λ v world1.
+        ends_use world1 (tick world1) run out _ (tick_gives world1) (λ _ world2.
+        ends_use world2 (truth u.host v world2) run out _ (answered_gives _ world2) (λ b world3.
+        choose_ends world3 b _ _ (behind_first_ends other run world3 _ (execs_end body run out world3)) (else_ends other run out world3))))
+    exec_ends (Block' b _ body) run out w = ends_use w (tick w) run out _ (tick_gives w) (λ _ world1. tag_ends run b out world1)
 
     pub execs_end : {n : _} → (ss : Row_of-Stmt n) (run : Run) (out : List ℕ) (w : World) → Ends w (execs u ss run out w)
     execs_end no_statement run out w = ends_here w w run out (kept_same w)
-    execs_end (statement s ss) run out w = ends_do w run (exec u s run out w) _ (exec_ends s run out w) (λ run1 out1 w1. execs_end ss run1 out1 w1)
+    execs_end (statement s ss) run out w = ends_do w run (exec u s run out w) _ (exec_ends s run out w) (λ run1 out1 world1. execs_end ss run1 out1 world1)
 
     else_ends : (other : Otherwise) (run : Run) (out : List ℕ) (w : World) → Ends w (exec_else u other run out w)
     else_ends no_else run out w = ends_here w w run out (kept_same w)
     else_ends (otherwise _ body) run out w = execs_end body run out w
 
-at_end_ends : (w : World) (e : Ending) (parent : Option TemplateId) (out : List ℕ) (w1 : World) → EndsBy w e w1 → Ends w (at_end e (record { ending = e; parent = parent; text = out; world = w1 }))
+at_end_ends : (w : World) (e : Ending) (parent : Option TemplateId) (out : List ℕ) (world1 : World) → EndsBy w e world1 → Ends w (at_end e (record { ending = e; parent = parent; text = out; world = world1 }))
 unfolding Ends
-at_end_ends w done parent out w1 h = h
-at_end_ends w leave parent out w1 h = h
-at_end_ends w next parent out w1 h = h
-at_end_ends w (fault chain) parent out w1 h = tt
+at_end_ends w done parent out world1 h = h
+at_end_ends w leave parent out world1 h = h
+at_end_ends w next parent out world1 h = h
+at_end_ends w (fault chain) parent out world1 h = tt
 
 pub ends_as : (w : World) (o : Outcome) → Ends w o → EndsBy w o.ending o.world
 unfolding Ends

@@ -8,28 +8,29 @@ use Rattle.tm_syntax.specs.declared.tree.UnaryOperator.{UnaryOperator}
 use Rattle.tm_syntax.specs.declared.tree.UnaryOperator.TheVariants as unaries
 use Rattle.tm_syntax.specs.declared.tree.BinaryOperator.{BinaryOperator}
 use Rattle.tm_syntax.specs.declared.tree.BinaryOperator.TheVariants as binaries
-use Rattle.tm_syntax.specs.declared.tree.Expr.{Expr, Var, Const, List', Tuple', Map', Call', Row_of-Expr, end_of-Expr as no_expr, more_of-Expr as expr, Row_of-Pair, end_of-Pair as no_pair, more_of-Pair as with_pair, Row_of-Argument, end_of-Argument as no_argument, more_of-Argument as argument, Row_of-Step, end_of-Step as no_step, more_of-Step as step_and}
+use Rattle.tm_syntax.specs.declared.tree.Expr.{Expr, Var, Const, List', Tuple', Map', Call', Row_of-Expr, end_of-Expr as no_expr, more_of-Expr as expr, Row_of-Pair, end_of-Pair as no_pair, more_of-Pair as with_pair, Row_of-Argument, end_of-Argument as no_argument, more_of-Argument as argument, Row_of-Step, end_of-Step as no_step, more_of-Step as step_and, Row_of-Condition, end_of-Condition as no_condition, more_of-Condition as with_condition}
 use Rattle.tm_syntax.specs.declared.tree.Argument.{Argument}
 use Rattle.tm_syntax.specs.declared.tree.Pair.{Pair}
-use Rattle.tm_syntax.specs.declared.tree.Step.{Step, Attribute}
+use Rattle.tm_syntax.specs.declared.tree.Condition.{Condition}
+use Rattle.tm_syntax.specs.declared.tree.Step.{Step, Attribute, Row_of-Comparison, end_of-Comparison as no_comparison, more_of-Comparison as with_comparison}
 use Rattle.tm_syntax.specs.declared.tree.Stmt.{Stmt, EmitRaw, EmitExpr, If', Block', Row_of-Stmt, end_of-Stmt as no_statement, more_of-Stmt as statement, Held-Stmt-If-2 as Otherwise, None' as no_else, Some' as otherwise}
 use Rattle.tm_syntax.specs.declared.instruction.Instruction.{Instruction}
 use Rattle.tm_syntax.specs.declared.instruction.Instruction.TheVariants as i
-use Rattle.tm_syntax.specs.Forms.{unary, chained, pair, plain, item, slice, binary, and_then, or_else}
-use Rattle.tm_syntax.specs.Code.{expr_code, exprs_code, pair_code, pairs_code, argument_code, arguments_code, step_code, steps_code, count, count_exprs, count_pairs, unary_code, binary_code, statement_code, statements_code, otherwise_code, jump_over}
+use Rattle.tm_syntax.specs.Forms.{unary, chained, conditional, condition, comparison, pair, plain, item, slice, binary, compare, and_then, or_else}
+use Rattle.tm_syntax.specs.Code.{expr_code, condition_code, conditions_code, exprs_code, pair_code, pairs_code, argument_code, arguments_code, step_code, links_code, steps_code, count, count_exprs, count_pairs, unary_code, binary_code, statement_code, statements_code, otherwise_code, jump_over}
 use Rattle.tm_meaning.specs.World.{choose, World, Host, Res, Good, Bad, bind, tick, depth, emitted, looked_up}
 use Rattle.tm_meaning.specs.Calls.{Callee, whole, Call, Asked, has, refused, runs, enter_block, call_named}
 use Rattle.tm_meaning.specs.Tree.{Trees, Body}
-use Rattle.tm_meaning.specs.Meaning.{Run, Outcome, Ending, done, leave, next, fault, Nests, Under, so_far, say, use_it, then_do, value_of, in_place_of, block_tag, truth, applied_unary, operated, applied, attribute, item_at, slice_of, list_of_values, map_of_pairs, audible as heard_here, none_waits, eval, eval_all, eval_pair, eval_pairs, eval_argument, eval_arguments, eval_step, eval_steps, emit, behind_first, exec, execs, exec_else, new_run, at_end, stream_run, nests_of, rendered}
-use Rattle.tm_meaning.specs.Machine.{Activation, Config, Finished, Failed, Stuck, Next, More, Over, Program, after, goes, taken, on_taken, asked, asked_in_place, base_of, start, run_from, stuck, audible}
+use Rattle.tm_meaning.specs.Meaning.{Run, Outcome, Ending, done, leave, next, fault, Nests, Under, so_far, say, use_it, then_do, value_of, in_place_of, block_tag, truth, applied_unary, operated, applied, attribute, item_at, slice_of, list_of_values, map_of_pairs, audible as heard_here, none_waits, eval, eval_all, eval_pair, eval_pairs, eval_argument, eval_arguments, eval_condition, eval_conditions, eval_step, eval_links, eval_steps, emit, behind_first, exec, execs, exec_else, new_run, at_end, stream_run, nests_of, rendered}
+use Rattle.tm_meaning.specs.Machine.{Activation, Config, Finished, Failed, Stuck, Next, More, Over, Program, after, goes, taken, on_taken, asked, asked_in_place, base_of, start, run_from, stuck, audible, with_world}
 use Rattle.tm_meaning.specs.Instructions.{binary_of, paired}
-use Rattle.tm_meaning.specs.Steps.{effect, act, step, closed, finish, Final, final, Leads, over}
+use Rattle.tm_meaning.specs.Steps.{act, step, closed, finish, Final, final, Leads, over}
 use Rattle.tm_meaning.specs.Compiled.{IsCompiled, code_of}
 use Rattle.tm_meaning.proofs.Ends.{one_end}
 use Rattle.tm_simulation.specs.Reached.{final_by, final_of, Renders}
 use Rattle.tm_simulation.proofs.Place.{HasAt, has_front, has_behind, has_whole}
-use Rattle.tm_simulation.proofs.Keeps.{Kept, kept_depth, kept_same, Gives, EndsBy as EndsKept, Ends as KeptEnds, ends_as, tick_gives, answered_gives, Asks, block_asks, named_asks, eval_gives, all_give, pair_gives, pairs_give, argument_gives, arguments_give, step_gives, steps_give, unary_gives, binary_gives, looked_up_gives, exec_ends, execs_end, nests_end}
-use Rattle.tm_simulation.proofs.Follow.{Bed, air, inside, captures_of, told_by, Spot, told, cfg, later, Follows, Then, Ends, whole_of, follows_map, bind_then, use_then, so_far_then, fault_then, do_then, ends_map, Go, silent, at, after_then, move, pushes, choose_then, choose_ends}
+use Rattle.tm_simulation.proofs.Keeps.{Kept, kept_depth, kept_same, Gives, EndsBy as EndsKept, Ends as KeptEnds, ends_as, tick_gives, answered_gives, Asks, block_asks, named_asks, eval_gives, condition_gives, all_give, pair_gives, pairs_give, argument_gives, arguments_give, step_gives, steps_give, unary_gives, binary_gives, looked_up_gives, exec_ends, execs_end, nests_end}
+use Rattle.tm_simulation.proofs.Follow.{Bed, air, inside, captures_of, told_by, Spot, told, cfg, later, Follows, Then, Ends, whole_of, follows_map, follows_bind, bind_then, use_then, so_far_then, fault_then, do_then, ends_map, Go, silent, at, after_then, move, pushes, choose_then, choose_ends}
 use Rattle.tm_simulation.proofs.Forms.{Fits, audible_is, writes_then, end_by, end_of, Entered, call_in_place, call_as_value}
 use Rattle.tm_meaning.specs.declared.stream.TemplateId.{TemplateId}
 use Rattle.tm_meaning.specs.declared.stream.StreamId.{StreamId}
@@ -68,23 +69,23 @@ long_more x n (Bad chain w) e = tt
 arguments_long : {n : _} → (u : Under) (run : Run) (given : Row_of-Argument n) (w : World) → IsLong (count given) (eval_arguments u run given w)
 arguments_long u run no_argument w = refl
 arguments_long u run (argument a more) w =
-    long_bind _ (eval_argument u run a w) _ (λ v w1. long_more v (count more) (eval_arguments u run more w1) (arguments_long u run more w1))
+    long_bind _ (eval_argument u run a w) _ (λ v world1. long_more v (count more) (eval_arguments u run more world1) (arguments_long u run more world1))
 
 all_long : {n : _} → (u : Under) (run : Run) (es : Row_of-Expr n) (w : World) → IsLong (count_exprs es) (eval_all u run es w)
 all_long u run no_expr w = refl
 all_long u run (expr e more) w =
-    long_bind _ (eval u run e w) _ (λ v w1. long_more v (count_exprs more) (eval_all u run more w1) (all_long u run more w1))
+    long_bind _ (eval u run e w) _ (λ v world1. long_more v (count_exprs more) (eval_all u run more world1) (all_long u run more world1))
 
 pairs_long : {n : _} → (u : Under) (run : Run) (ps : Row_of-Pair n) (w : World) → IsLong (count_pairs ps) (eval_pairs u run ps w)
 pairs_long u run no_pair w = refl
 pairs_long u run (with_pair x more) w =
-    long_bind _ (eval_pair u run x w) _ (λ y w1. long_more y (count_pairs more) (eval_pairs u run more w1) (pairs_long u run more w1))
+    long_bind _ (eval_pair u run x w) _ (λ y world1. long_more y (count_pairs more) (eval_pairs u run more world1) (pairs_long u run more world1))
 
 -- the same as `bind_then`, of as many as were asked for
 bind_long : {A B : Type 0} (r : Final) (t : List ℕ) (w : World) (n : ℕ) (m : Res (List A)) (g : List A → World → Res B) (K : B → World → Type 0) (L : List A → World → Type 0) →
-    Gives w m → IsLong n m → Follows r t (bind m g) K → ((xs : List A) (w1 : World) → Kept w w1 → length xs ≡ n → Follows r t (g xs w1) K → L xs w1) → Follows r t m L
-bind_long r t w n (Good xs w1) g K L e l h k = k xs w1 e l h
-bind_long r t w n (Bad chain w1) g K L e l h k = h
+    Gives w m → IsLong n m → Follows r t (bind m g) K → ((xs : List A) (world1 : World) → Kept w world1 → length xs ≡ n → Follows r t (g xs world1) K → L xs world1) → Follows r t m L
+bind_long r t w n (Good xs world1) g K L e l h k = k xs world1 e l h
+bind_long r t w n (Bad chain world1) g K L e l h k = h
 
 -- keys, each with its value behind it
 abbrev flat : List (Val × Val) → List Val
@@ -98,6 +99,14 @@ flat_long n (x ∷ xs) e = omega (arith, e, flat_long (length xs) xs refl)
 paired_flat : (xs : List (Val × Val)) → paired (flat xs) ≡ xs
 paired_flat [] = refl
 paired_flat ((k, v) ∷ xs) = ap (λ l. (k, v) ∷ l) (paired_flat xs)
+
+-- Comparisons in a row are as long wherever they jump.
+links_long : {n : _} → (end to pc : ℕ) (op : BinaryOperator) (cs : Row_of-Comparison n) → length (links_code end pc op cs) ≡ length (links_code to pc op cs)
+links_long end to pc op no_comparison = refl
+links_long end to pc op (with_comparison (comparison op1 a) more) =
+    let c = expr_code (pc + 2) a in
+    let place = pc + 2 + length c in
+    omega (arith, length-append c (links_code end place op1 more), length-append c (links_code to place op1 more), links_long end to place op1 more)
 
 -- the run of a meaning, with the parent that waits at a spot
 abbrev as_at : Run → Spot → Run
@@ -116,46 +125,47 @@ module _ (p : Program) (f : Base) (r : Final) (trees : Trees) (n : ℕ)
   abbrev Deep : World → Type 0
   Deep w = p.host.limit + 1 ≤ suc n + depth w.scopes
 
-  deep_kept : {w w1 : World} → Kept w w1 → Deep w → Deep w1
+  deep_kept : {w world1 : World} → Kept w world1 → Deep w → Deep world1
   deep_kept k d = omega (arith, kept_depth k, d)
 
   -- what a call comes to, as a value
-  asked_then : (s : Spot) (pc : ℕ) (stack old : List Val) (w w1 : World) (q : Asked) → Asks p.host.limit w1 q → Deep w1 →
-      Follows r (told s) (value_of u q) (λ v w2. Go p f r s (pc + 1) (v ∷ stack) w2) → Leads p f (told s) (asked (cfg s pc old w) stack q) r
-  asked_then s pc stack old w w1 (has v w2) e d h = silent p f r (told s) _ h
-  asked_then s pc stack old w w1 (refused chain w2) e d h = over refl h
-  asked_then s pc stack old w w1 (runs c w2) e d h =
-      call_as_value p f r u c s pc old stack w w2 _ (entered c.callee true (inside true (told s) (captures_of s.bed s.out)) [] w2 (omega (arith, e.0, d)) e.1) h (λ x w3 g. g)
+  asked_then : (s : Spot) (pc : ℕ) (stack old : List Val) (w world1 : World) (q : Asked) → Asks p.host.limit world1 q → Deep world1 →
+      Follows r (told s) (value_of u q) (λ v world2. Go p f r s (pc + 1) (v ∷ stack) world2) → Leads p f (told s) (asked (cfg s pc old w) stack q) r
+  asked_then s pc stack old w world1 (has v world2) e d h = silent p f r (told s) _ h
+  asked_then s pc stack old w world1 (refused chain world2) e d h = over refl h
+  asked_then s pc stack old w world1 (runs c world2) e d h =
+      call_as_value p f r u c s pc old stack w world2 _ (entered c.callee true (inside true (told s) (captures_of s.bed s.out)) [] world2 (omega (arith, e.0, d)) e.1) h (λ x world3 g. g)
 
   -- and in place
-  placed_then : (run : Run) (s : Spot) (pc : ℕ) (stack old : List Val) (w w1 : World) (q : Asked) (D L N : Then) → Fits f run s.bed → Asks p.host.limit w1 q → Deep w1 →
-      Ends r s.bed (in_place_of u (as_at run s) s.out q) D L N → ((out1 : List ℕ) (w2 : World) → D s.parent out1 w2 → Go p f r (later s s.parent out1) (pc + 1) stack w2) →
+  placed_then : (run : Run) (s : Spot) (pc : ℕ) (stack old : List Val) (w world1 : World) (q : Asked) (D L N : Then) → Fits f run s.bed → Asks p.host.limit world1 q → Deep world1 →
+      Ends r s.bed (in_place_of u (as_at run s) s.out q) D L N → ((out1 : List ℕ) (world2 : World) → D s.parent out1 world2 → Go p f r (later s s.parent out1) (pc + 1) stack world2) →
       Leads p f (told s) (asked_in_place f (cfg s pc old w) stack q) r
-  placed_then run s pc stack old w w1 (has v w2) D L N fits e d h g = silent p f r (told s) _ (g s.out w2 (so_far_then r s.bed (as_at run s) s.out w2 D L N h))
-  placed_then run s pc stack old w w1 (refused chain w2) D L N fits e d h g = over refl (fault_then r s.bed (as_at run s) s.out w2 chain D L N h)
-  placed_then run s pc stack old w w1 (runs c w2) D L N fits e d h g =
-      call_in_place p f r u c (as_at run s) s pc old stack w w2 D L N refl fits (entered c.callee (heard_here (as_at run s)) s.bed s.out w2 (omega (arith, e.0, d)) e.1) h g
+  placed_then run s pc stack old w world1 (has v world2) D L N fits e d h g = silent p f r (told s) _ (g s.out world2 (so_far_then r s.bed (as_at run s) s.out world2 D L N h))
+  placed_then run s pc stack old w world1 (refused chain world2) D L N fits e d h g = over refl (fault_then r s.bed (as_at run s) s.out world2 chain D L N h)
+  placed_then run s pc stack old w world1 (runs c world2) D L N fits e d h g =
+      call_in_place p f r u c (as_at run s) s pc old stack w world2 D L N refl fits (entered c.callee (heard_here (as_at run s)) s.bed s.out world2 (omega (arith, e.0, d)) e.1) h g
 
   -- an operator behind its operands
   unary_then : (op : UnaryOperator) (s : Spot) (pc : ℕ) (v : Val) (stack : List Val) (w : World) → slice_get (p.code s.run.stream) pc ≡ Some (unary_code op) →
-      Follows r (told s) (bind (tick w) (λ _ w1. applied_unary p.host op v w1)) (λ x w1. Go p f r s (pc + 1) (x ∷ stack) w1) → Go p f r s pc (v ∷ stack) w
+      Follows r (told s) (bind (tick w) (λ _ world1. applied_unary p.host op v world1)) (λ x world1. Go p f r s (pc + 1) (x ∷ stack) world1) → Go p f r s pc (v ∷ stack) w
   unary_then unaries.Not s pc v stack w e h =
-      at p f r i.Not s pc (v ∷ stack) w e (after_then p f r (told s) (tick w) _ (bind_then r (told s) w (tick w) _ _ _ (tick_gives w) h (λ _ w1 k h1.
-      pushes p f r s pc stack (v ∷ stack) w1 (applied_unary p.host unaries.Not v w1) h1)))
+      at p f r i.Not s pc (v ∷ stack) w e (after_then p f r (told s) (tick w) _ (bind_then r (told s) w (tick w) _ _ _ (tick_gives w) h (λ _ world1 k h1.
+      pushes p f r s pc stack (v ∷ stack) world1 (applied_unary p.host unaries.Not v world1) h1)))
   unary_then unaries.Negate s pc v stack w e h =
-      at p f r i.Neg s pc (v ∷ stack) w e (after_then p f r (told s) (tick w) _ (bind_then r (told s) w (tick w) _ _ _ (tick_gives w) h (λ _ w1 k h1.
-      pushes p f r s pc stack (v ∷ stack) w1 (applied_unary p.host unaries.Negate v w1) h1)))
+      at p f r i.Neg s pc (v ∷ stack) w e (after_then p f r (told s) (tick w) _ (bind_then r (told s) w (tick w) _ _ _ (tick_gives w) h (λ _ world1 k h1.
+      pushes p f r s pc stack (v ∷ stack) world1 (applied_unary p.host unaries.Negate v world1) h1)))
 
   -- an instruction that is an operator
-  operates : (op : BinaryOperator) (x : Instruction) → ((c : Config) → effect p.host f x c ≡ binary_of p.host op c) →
+  operates : (op : BinaryOperator) (x : Instruction) → ((c : Config) → act p f (Some x) c ≡ after (tick c.world) (λ _ world1. binary_of p.host op (with_world world1 c))) →
       (s : Spot) (pc : ℕ) (a b : Val) (stack : List Val) (w : World) → slice_get (p.code s.run.stream) pc ≡ Some x →
-      Follows r (told s) (bind (tick w) (λ _ w1. operated p.host op a b w1)) (λ y w1. Go p f r s (pc + 1) (y ∷ stack) w1) → Go p f r s pc (b ∷ a ∷ stack) w
+      Follows r (told s) (bind (tick w) (λ _ world1. operated p.host op a b world1)) (λ y world1. Go p f r s (pc + 1) (y ∷ stack) world1) → Go p f r s pc (b ∷ a ∷ stack) w
   operates op x is s pc a b stack w e h =
-      at p f r x s pc (b ∷ a ∷ stack) w e (after_then p f r (told s) (tick w) _ (bind_then r (told s) w (tick w) _ _ _ (tick_gives w) h (λ _ w1 k h1.
-      subst (λ n. Leads p f (told s) n r) (sym (is (cfg s pc (b ∷ a ∷ stack) w1))) (pushes p f r s pc stack (b ∷ a ∷ stack) w1 (operated p.host op a b w1) h1))))
+      at p f r x s pc (b ∷ a ∷ stack) w e (subst (λ n. Leads p f (told s) n r) (sym (is (cfg s pc (b ∷ a ∷ stack) w)))
+      (after_then p f r (told s) (tick w) _ (bind_then r (told s) w (tick w) _ _ _ (tick_gives w) h (λ _ world1 k h1.
+      pushes p f r s pc stack (b ∷ a ∷ stack) world1 (operated p.host op a b world1) h1))))
 
   binary_then : (op : BinaryOperator) (s : Spot) (pc : ℕ) (a b : Val) (stack : List Val) (w : World) → HasAt (p.code s.run.stream) pc (binary_code op) →
-      Follows r (told s) (bind (tick w) (λ _ w1. applied p.host op a b w1)) (λ x w1. Go p f r s (pc + length (binary_code op)) (x ∷ stack) w1) → Go p f r s pc (b ∷ a ∷ stack) w
+      Follows r (told s) (bind (tick w) (λ _ world1. applied p.host op a b world1)) (λ x world1. Go p f r s (pc + length (binary_code op)) (x ∷ stack) world1) → Go p f r s pc (b ∷ a ∷ stack) w
   binary_then binaries.Equal s pc a b stack w is h = operates binaries.Equal i.Eq (λ c. refl) s pc a b stack w is.0 h
   binary_then binaries.NotEqual s pc a b stack w is h = operates binaries.NotEqual i.Ne (λ c. refl) s pc a b stack w is.0 h
   binary_then binaries.Less s pc a b stack w is h = operates binaries.Less i.Lt (λ c. refl) s pc a b stack w is.0 h
@@ -165,10 +175,10 @@ module _ (p : Program) (f : Base) (r : Final) (trees : Trees) (n : ℕ)
   binary_then binaries.In s pc a b stack w is h = operates binaries.In i.In (λ c. refl) s pc a b stack w is.0 h
   binary_then binaries.NotIn s pc a b stack w is h =
       let place : pc + 1 + 1 ≡ pc + 2 = omega arith in
-      at p f r i.In s pc (b ∷ a ∷ stack) w is.0 (after_then p f r (told s) (tick w) _ (bind_then r (told s) w (tick w) _ _ _ (tick_gives w) h (λ _ w1 k h1.
-      pushes p f r s pc stack (b ∷ a ∷ stack) w1 (operated p.host binaries.In a b w1) (bind_then r (told s) w1 (operated p.host binaries.In a b w1) _ _ _ (answered_gives _ w1) h1 (λ v w2 k2 h2.
-      unary_then unaries.Not s (pc + 1) v stack w2 is.1.0
-      (follows_map r (told s) (bind (tick w2) (λ _ w3. applied_unary p.host unaries.Not v w3)) _ _ h2 (λ x w3 g. move p f r s _ _ (x ∷ stack) w3 place g)))))))
+      at p f r i.In s pc (b ∷ a ∷ stack) w is.0 (after_then p f r (told s) (tick w) _ (bind_then r (told s) w (tick w) _ _ _ (tick_gives w) h (λ _ world1 k h1.
+      pushes p f r s pc stack (b ∷ a ∷ stack) world1 (operated p.host binaries.In a b world1) (bind_then r (told s) world1 (operated p.host binaries.In a b world1) _ _ _ (answered_gives _ world1) h1 (λ v world2 k2 h2.
+      unary_then unaries.Not s (pc + 1) v stack world2 is.1.0
+      (follows_map r (told s) (bind (tick world2) (λ _ world3. applied_unary p.host unaries.Not v world3)) _ _ h2 (λ x world3 g. move p f r s _ _ (x ∷ stack) world3 place g)))))))
   binary_then binaries.Add s pc a b stack w is h = operates binaries.Add i.Add (λ c. refl) s pc a b stack w is.0 h
   binary_then binaries.Subtract s pc a b stack w is h = operates binaries.Subtract i.Sub (λ c. refl) s pc a b stack w is.0 h
   binary_then binaries.Concatenate s pc a b stack w is h = operates binaries.Concatenate i.StringConcat (λ c. refl) s pc a b stack w is.0 h
@@ -184,15 +194,28 @@ module _ (p : Program) (f : Base) (r : Final) (trees : Trees) (n : ℕ)
   built_then made s pc n vs stack w l g =
       subst (λ t. Leads p f (told s) (on_taken t w (λ xs rest. goes (made xs ∷ rest) w (cfg s pc (onto vs stack) w))) r) (sym (taken_all vs n stack l)) (silent p f r (told s) _ g)
 
+  -- behind a false comparison its right side is dropped, which is free
+  dropped_then : (s : Spot) (end to : ℕ) (v y : Val) (stack : List Val) (w : World) → HasAt (p.code s.run.stream) end (i.Swap ∷ i.DiscardTop ∷ []) → end + 1 + 1 ≡ to →
+      Follows r (told s) (bind (tick w) (λ _ world1. Good v world1)) (λ x world1. Go p f r s to (x ∷ stack) world1) → Go p f r s end (v ∷ y ∷ stack) w
+  dropped_then s end to v y stack w is place h =
+      at p f r i.Swap s end (v ∷ y ∷ stack) w is.0 (after_then p f r (told s) (tick w) _ (bind_then r (told s) w (tick w) _ _ _ (tick_gives w) h (λ _ world1 k g.
+      silent p f r (told s) _ (at p f r i.DiscardTop s (end + 1) (y ∷ v ∷ stack) world1 is.1.0 (silent p f r (told s) _ (move p f r s _ _ (v ∷ stack) world1 place g))))))
+
+  -- Wherever this code stands it pushes this value.
+  abbrev Runs : (ℕ → List Instruction) → (World → Res Val) → Type 0
+  Runs code value =
+      (s : Spot) (pc : ℕ) (stack : List Val) (w : World) → Deep w → HasAt (p.code s.run.stream) pc (code pc) →
+      Follows r (told s) (value w) (λ v world1. Go p f r s (pc + length (code pc)) (v ∷ stack) world1) → Go p f r s pc stack w
+
   mutual
     -- An expression's code pushes what it means, over any operands.
     pub expr_runs : (e : Expr) (run : Run) (s : Spot) (pc : ℕ) (stack : List Val) (w : World) → Deep w → HasAt (p.code s.run.stream) pc (expr_code pc e) →
-        Follows r (told s) (eval u run e w) (λ v w1. Go p f r s (pc + length (expr_code pc e)) (v ∷ stack) w1) → Go p f r s pc stack w
+        Follows r (told s) (eval u run e w) (λ v world1. Go p f r s (pc + length (expr_code pc e)) (v ∷ stack) world1) → Go p f r s pc stack w
     expr_runs (Var x) run s pc stack w d is h =
-        at p f r (i.Lookup x) s pc stack w is.0 (after_then p f r (told s) (tick w) _ (bind_then r (told s) w (tick w) _ _ _ (tick_gives w) h (λ _ w1 k h1.
-        pushes p f r s pc stack stack w1 (looked_up p.host x w1) h1)))
+        at p f r (i.Lookup x) s pc stack w is.0 (after_then p f r (told s) (tick w) _ (bind_then r (told s) w (tick w) _ _ _ (tick_gives w) h (λ _ world1 k h1.
+        pushes p f r s pc stack stack world1 (looked_up p.host x world1) h1)))
     expr_runs (Const v) run s pc stack w d is h =
-        at p f r (i.LoadConst v) s pc stack w is.0 (after_then p f r (told s) (tick w) _ (bind_then r (told s) w (tick w) _ _ _ (tick_gives w) h (λ _ w1 k h1.
+        at p f r (i.LoadConst v) s pc stack w is.0 (after_then p f r (told s) (tick w) _ (bind_then r (told s) w (tick w) _ _ _ (tick_gives w) h (λ _ world1 k h1.
         silent p f r (told s) _ h1)))
     expr_runs (List' _ es) run s pc stack w d is h =
         let c = exprs_code pc es in
@@ -200,20 +223,20 @@ module _ (p : Program) (f : Base) (r : Final) (trees : Trees) (n : ℕ)
         let behind = has_behind (p.code s.run.stream) pc c (last ∷ []) is in
         let place : pc + length c + 1 ≡ pc + length (c ++ last ∷ []) = omega (arith, length-append c (last ∷ [])) in
         exprs_run es run s pc stack w d (has_front (p.code s.run.stream) pc c _ is)
-        (bind_long r (told s) w (count_exprs es) (eval_all u run es w) _ _ _ (all_give u nest_ends run es w) (all_long u run es w) h (λ vs w1 k l h1.
-        at p f r last s (pc + length c) (onto vs stack) w1 behind.0
-        (after_then p f r (told s) (tick w1) _ (bind_then r (told s) w1 (tick w1) _ _ _ (tick_gives w1) h1 (λ _ w2 k2 h2.
-        built_then list_of_values s (pc + length c) (count_exprs es) vs stack w2 l (move p f r s _ _ (list_of_values vs ∷ stack) w2 place h2))))))
+        (bind_long r (told s) w (count_exprs es) (eval_all u run es w) _ _ _ (all_give u nest_ends run es w) (all_long u run es w) h (λ vs world1 k l h1.
+        at p f r last s (pc + length c) (onto vs stack) world1 behind.0
+        (after_then p f r (told s) (tick world1) _ (bind_then r (told s) world1 (tick world1) _ _ _ (tick_gives world1) h1 (λ _ world2 k2 h2.
+        built_then list_of_values s (pc + length c) (count_exprs es) vs stack world2 l (move p f r s _ _ (list_of_values vs ∷ stack) world2 place h2))))))
     expr_runs (Tuple' _ es) run s pc stack w d is h =
         let c = exprs_code pc es in
         let last = i.BuildTuple (count_exprs es) in
         let behind = has_behind (p.code s.run.stream) pc c (last ∷ []) is in
         let place : pc + length c + 1 ≡ pc + length (c ++ last ∷ []) = omega (arith, length-append c (last ∷ [])) in
         exprs_run es run s pc stack w d (has_front (p.code s.run.stream) pc c _ is)
-        (bind_long r (told s) w (count_exprs es) (eval_all u run es w) _ _ _ (all_give u nest_ends run es w) (all_long u run es w) h (λ vs w1 k l h1.
-        at p f r last s (pc + length c) (onto vs stack) w1 behind.0
-        (after_then p f r (told s) (tick w1) _ (bind_then r (told s) w1 (tick w1) _ _ _ (tick_gives w1) h1 (λ _ w2 k2 h2.
-        built_then list_of_values s (pc + length c) (count_exprs es) vs stack w2 l (move p f r s _ _ (list_of_values vs ∷ stack) w2 place h2))))))
+        (bind_long r (told s) w (count_exprs es) (eval_all u run es w) _ _ _ (all_give u nest_ends run es w) (all_long u run es w) h (λ vs world1 k l h1.
+        at p f r last s (pc + length c) (onto vs stack) world1 behind.0
+        (after_then p f r (told s) (tick world1) _ (bind_then r (told s) world1 (tick world1) _ _ _ (tick_gives world1) h1 (λ _ world2 k2 h2.
+        built_then list_of_values s (pc + length c) (count_exprs es) vs stack world2 l (move p f r s _ _ (list_of_values vs ∷ stack) world2 place h2))))))
     expr_runs (Map' _ ps) run s pc stack w d is h =
         let c = pairs_code pc ps in
         let n = count_pairs ps in
@@ -221,110 +244,149 @@ module _ (p : Program) (f : Base) (r : Final) (trees : Trees) (n : ℕ)
         let behind = has_behind (p.code s.run.stream) pc c (last ∷ []) is in
         let place : pc + length c + 1 ≡ pc + length (c ++ last ∷ []) = omega (arith, length-append c (last ∷ [])) in
         pairs_run ps run s pc stack w d (has_front (p.code s.run.stream) pc c _ is)
-        (bind_long r (told s) w n (eval_pairs u run ps w) _ _ _ (pairs_give u nest_ends run ps w) (pairs_long u run ps w) h (λ xs w1 k l h1.
-        at p f r last s (pc + length c) (onto (flat xs) stack) w1 behind.0
-        (after_then p f r (told s) (tick w1) _ (bind_then r (told s) w1 (tick w1) _ _ _ (tick_gives w1) h1 (λ _ w2 k2 h2.
-        built_then (λ vs. map_of_pairs (paired vs)) s (pc + length c) (n + n) (flat xs) stack w2 (flat_long n xs l)
-        (subst (λ ys. Go p f r s (pc + length c + 1) (map_of_pairs ys ∷ stack) w2) (sym (paired_flat xs)) (move p f r s _ _ (map_of_pairs xs ∷ stack) w2 place h2)))))))
+        (bind_long r (told s) w n (eval_pairs u run ps w) _ _ _ (pairs_give u nest_ends run ps w) (pairs_long u run ps w) h (λ xs world1 k l h1.
+        at p f r last s (pc + length c) (onto (flat xs) stack) world1 behind.0
+        (after_then p f r (told s) (tick world1) _ (bind_then r (told s) world1 (tick world1) _ _ _ (tick_gives world1) h1 (λ _ world2 k2 h2.
+        built_then (λ vs. map_of_pairs (paired vs)) s (pc + length c) (n + n) (flat xs) stack world2 (flat_long n xs l)
+        (subst (λ ys. Go p f r s (pc + length c + 1) (map_of_pairs ys ∷ stack) world2) (sym (paired_flat xs)) (move p f r s _ _ (map_of_pairs xs ∷ stack) world2 place h2)))))))
     expr_runs (Call' g _ given) run s pc stack w d is h =
         let c = arguments_code pc given in
         let behind = has_behind (p.code s.run.stream) pc c (i.CallFunction g (count given) ∷ []) is in
         let place : pc + length c + 1 ≡ pc + length (c ++ i.CallFunction g (count given) ∷ []) = omega (arith, length-append c (i.CallFunction g (count given) ∷ [])) in
         arguments_run given run s pc stack w d (has_front (p.code s.run.stream) pc c _ is)
-        (bind_long r (told s) w (count given) (eval_arguments u run given w) _ _ _ (arguments_give u nest_ends run given w) (arguments_long u run given w) h (λ vs w1 k l h1.
-        at p f r (i.CallFunction g (count given)) s (pc + length c) (onto vs stack) w1 behind.0
-        (after_then p f r (told s) (tick w1) _ (bind_then r (told s) w1 (tick w1) _ _ _ (tick_gives w1) h1 (λ _ w2 k2 h2.
-        subst (λ t. Leads p f (told s) (on_taken t w2 (λ xs rest. asked (cfg s (pc + length c) (onto vs stack) w2) rest (call_named p.host g xs w2))) r) (sym (taken_all vs (count given) stack l))
-        (asked_then s (pc + length c) stack (onto vs stack) w2 w2 (call_named p.host g vs w2) (named_asks p.host g vs w2) (deep_kept k2 (deep_kept k d))
-        (follows_map r (told s) (value_of u (call_named p.host g vs w2)) _ _ h2 (λ v w3 g3. move p f r s _ _ (v ∷ stack) w3 place g3))))))))
+        (bind_long r (told s) w (count given) (eval_arguments u run given w) _ _ _ (arguments_give u nest_ends run given w) (arguments_long u run given w) h (λ vs world1 k l h1.
+        at p f r (i.CallFunction g (count given)) s (pc + length c) (onto vs stack) world1 behind.0
+        (after_then p f r (told s) (tick world1) _ (bind_then r (told s) world1 (tick world1) _ _ _ (tick_gives world1) h1 (λ _ world2 k2 h2.
+        subst (λ t. Leads p f (told s) (on_taken t world2 (λ xs rest. asked (cfg s (pc + length c) (onto vs stack) world2) rest (call_named p.host g xs world2))) r) (sym (taken_all vs (count given) stack l))
+        (asked_then s (pc + length c) stack (onto vs stack) world2 world2 (call_named p.host g vs world2) (named_asks p.host g vs world2) (deep_kept k2 (deep_kept k d))
+        (follows_map r (told s) (value_of u (call_named p.host g vs world2)) _ _ h2 (λ v world3 g3. move p f r s _ _ (v ∷ stack) world3 place g3))))))))
     expr_runs (unary op a) run s pc stack w d is h =
         let c = expr_code pc a in
         let behind = has_behind (p.code s.run.stream) pc c (unary_code op ∷ []) is in
         let place : pc + length c + 1 ≡ pc + length (c ++ unary_code op ∷ []) = omega (arith, length-append c (unary_code op ∷ [])) in
         expr_runs a run s pc stack w d (has_front (p.code s.run.stream) pc c _ is)
-        (bind_then r (told s) w (eval u run a w) _ _ _ (eval_gives u nest_ends run a w) h (λ v w1 k h1.
-        unary_then op s (pc + length c) v stack w1 behind.0
-        (follows_map r (told s) (bind (tick w1) (λ _ w2. applied_unary p.host op v w2)) _ _ h1 (λ x w2 g. move p f r s _ _ (x ∷ stack) w2 place g))))
+        (bind_then r (told s) w (eval u run a w) _ _ _ (eval_gives u nest_ends run a w) h (λ v world1 k h1.
+        unary_then op s (pc + length c) v stack world1 behind.0
+        (follows_map r (told s) (bind (tick world1) (λ _ world2. applied_unary p.host op v world2)) _ _ h1 (λ x world2 g. move p f r s _ _ (x ∷ stack) world2 place g))))
     expr_runs (chained a _ ss) run s pc stack w d is h =
         let c = expr_code pc a in
         let rest = steps_code (pc + length c) ss in
         let place : pc + length c + length rest ≡ pc + length (c ++ rest) = omega (arith, length-append c rest) in
         expr_runs a run s pc stack w d (has_front (p.code s.run.stream) pc c rest is)
-        (bind_then r (told s) w (eval u run a w) _ _ _ (eval_gives u nest_ends run a w) h (λ v w1 k h1.
-        steps_run ss run s (pc + length c) v stack w1 (deep_kept k d) (has_behind (p.code s.run.stream) pc c rest is)
-        (follows_map r (told s) (eval_steps u run ss v w1) _ _ h1 (λ x w2 g. move p f r s _ _ (x ∷ stack) w2 place g))))
+        (bind_then r (told s) w (eval u run a w) _ _ _ (eval_gives u nest_ends run a w) h (λ v world1 k h1.
+        steps_run ss run s (pc + length c) v stack world1 (deep_kept k d) (has_behind (p.code s.run.stream) pc c rest is)
+        (follows_map r (told s) (eval_steps u run ss v world1) _ _ h1 (λ x world2 g. move p f r s _ _ (x ∷ stack) world2 place g))))
+    expr_runs (conditional a _ cs) run s pc stack w d is h =
+        conditions_run cs run (λ pc1. expr_code pc1 a) (λ world1. eval u run a world1) (λ world1. eval_gives u nest_ends run a world1)
+        (λ s1 pc1 stack1 world1 deep1 is1 h1. expr_runs a run s1 pc1 stack1 world1 deep1 is1 h1) s pc stack w d is h
+
+    -- a condition before code that pushes a value, and what stands for that behind it
+    condition_runs : (x : Condition) (run : Run) (code : ℕ → List Instruction) (guarded : World → Res Val) → ((w : World) → Gives w (guarded w)) → Runs code guarded →
+        Runs (condition_code x code) (eval_condition u run x guarded)
+    condition_runs (condition c e) run code guarded given part s pc stack w d is h =
+        let all = p.code s.run.stream in
+        let test = expr_code pc c in
+        let pc1 = pc + length test in
+        let body = code (pc1 + 1) in
+        let pc2 = pc1 + 1 + length body in
+        let other = expr_code (pc2 + 1) e in
+        let over_other = i.Jump (pc2 + 1 + length other) in
+        let over_body = i.JumpIfFalse (pc2 + 1) in
+        let behind = has_behind all pc test (over_body ∷ (body ++ over_other ∷ other)) is in
+        let last = has_behind all (pc1 + 1) body (over_other ∷ other) behind.1 in
+        let place : pc2 + 1 + length other ≡ pc + length (test ++ over_body ∷ (body ++ over_other ∷ other)) =
+        omega (arith, length-append test (over_body ∷ (body ++ over_other ∷ other)), length-append body (over_other ∷ other)) in
+        expr_runs c run s pc stack w d (has_front all pc test (over_body ∷ (body ++ over_other ∷ other)) is)
+        (bind_then r (told s) w (eval u run c w) _ _ _ (eval_gives u nest_ends run c w) h (λ v world1 k1 h1.
+        at p f r over_body s pc1 (v ∷ stack) world1 behind.0 (after_then p f r (told s) (tick world1) _ (bind_then r (told s) world1 (tick world1) _ _ _ (tick_gives world1) h1 (λ _ world2 k2 h2.
+        after_then p f r (told s) (truth p.host v world2) _ (bind_then r (told s) world2 (truth p.host v world2) _ _ _ (answered_gives _ world2) h2 (λ b world3 k3 h3.
+        let deep3 = deep_kept k3 (deep_kept k2 (deep_kept k1 d)) in
+        choose_then p f r b (bind (guarded world3) (λ x world4. bind (tick world4) (λ _ world5. Good x world5))) (eval u run e world3) _ _ (told s) _ h3
+        (λ h4. silent p f r (told s) _ (part s (pc1 + 1) stack world3 deep3 (has_front all (pc1 + 1) body (over_other ∷ other) behind.1)
+        (bind_then r (told s) world3 (guarded world3) _ _ _ (given world3) h4 (λ x world4 k4 h5.
+        at p f r over_other s pc2 (x ∷ stack) world4 last.0 (after_then p f r (told s) (tick world4) _ (bind_then r (told s) world4 (tick world4) _ _ _ (tick_gives world4) h5 (λ _ world5 k5 g.
+        silent p f r (told s) _ (move p f r s _ _ (x ∷ stack) world5 place g))))))))
+        (λ h4. silent p f r (told s) _ (expr_runs e run s (pc2 + 1) stack world3 deep3 last.1
+        (follows_map r (told s) (eval u run e world3) _ _ h4 (λ y world4 g. move p f r s _ _ (y ∷ stack) world4 place g)))))))))))
+
+    conditions_run : {m : _} → (cs : Row_of-Condition m) (run : Run) (code : ℕ → List Instruction) (guarded : World → Res Val) → ((w : World) → Gives w (guarded w)) → Runs code guarded →
+        Runs (conditions_code cs code) (eval_conditions u run cs guarded)
+    conditions_run no_condition run code guarded given part s pc stack w d is h = part s pc stack w d is h
+    conditions_run (with_condition c more) run code guarded given part s pc stack w d is h =
+        conditions_run more run (λ pc1. condition_code c code pc1) (λ world1. eval_condition u run c guarded world1) (λ world1. condition_gives u nest_ends run c guarded given world1)
+        (λ s1 pc1 stack1 world1 deep1 is1 h1. condition_runs c run code guarded given part s1 pc1 stack1 world1 deep1 is1 h1) s pc stack w d is h
 
     exprs_run : {m : _} → (es : Row_of-Expr m) (run : Run) (s : Spot) (pc : ℕ) (stack : List Val) (w : World) → Deep w → HasAt (p.code s.run.stream) pc (exprs_code pc es) →
-        Follows r (told s) (eval_all u run es w) (λ vs w1. Go p f r s (pc + length (exprs_code pc es)) (onto vs stack) w1) → Go p f r s pc stack w
+        Follows r (told s) (eval_all u run es w) (λ vs world1. Go p f r s (pc + length (exprs_code pc es)) (onto vs stack) world1) → Go p f r s pc stack w
     exprs_run no_expr run s pc stack w d is h = move p f r s pc (pc + 0) stack w (omega arith) h
     exprs_run (expr e more) run s pc stack w d is h =
         let c = expr_code pc e in
         let rest = exprs_code (pc + length c) more in
         let place : pc + length c + length rest ≡ pc + length (c ++ rest) = omega (arith, length-append c rest) in
         expr_runs e run s pc stack w d (has_front (p.code s.run.stream) pc c rest is)
-        (bind_then r (told s) w (eval u run e w) _ _ _ (eval_gives u nest_ends run e w) h (λ v w1 k h1.
-        exprs_run more run s (pc + length c) (v ∷ stack) w1 (deep_kept k d) (has_behind (p.code s.run.stream) pc c rest is)
-        (bind_then r (told s) w1 (eval_all u run more w1) _ _ _ (all_give u nest_ends run more w1) h1 (λ vs w2 k2 g.
-        move p f r s _ _ (onto vs (v ∷ stack)) w2 place g))))
+        (bind_then r (told s) w (eval u run e w) _ _ _ (eval_gives u nest_ends run e w) h (λ v world1 k h1.
+        exprs_run more run s (pc + length c) (v ∷ stack) world1 (deep_kept k d) (has_behind (p.code s.run.stream) pc c rest is)
+        (bind_then r (told s) world1 (eval_all u run more world1) _ _ _ (all_give u nest_ends run more world1) h1 (λ vs world2 k2 g.
+        move p f r s _ _ (onto vs (v ∷ stack)) world2 place g))))
 
     -- A pair's code pushes its key and then its value.
     pair_runs : (x : Pair) (run : Run) (s : Spot) (pc : ℕ) (stack : List Val) (w : World) → Deep w → HasAt (p.code s.run.stream) pc (pair_code pc x) →
-        Follows r (told s) (eval_pair u run x w) (λ y w1. Go p f r s (pc + length (pair_code pc x)) (y.1 ∷ y.0 ∷ stack) w1) → Go p f r s pc stack w
+        Follows r (told s) (eval_pair u run x w) (λ y world1. Go p f r s (pc + length (pair_code pc x)) (y.1 ∷ y.0 ∷ stack) world1) → Go p f r s pc stack w
     pair_runs (pair k v) run s pc stack w d is h =
         let c = expr_code pc k in
         let rest = expr_code (pc + length c) v in
         let place : pc + length c + length rest ≡ pc + length (c ++ rest) = omega (arith, length-append c rest) in
         expr_runs k run s pc stack w d (has_front (p.code s.run.stream) pc c rest is)
-        (bind_then r (told s) w (eval u run k w) _ _ _ (eval_gives u nest_ends run k w) h (λ x w1 e h1.
-        expr_runs v run s (pc + length c) (x ∷ stack) w1 (deep_kept e d) (has_behind (p.code s.run.stream) pc c rest is)
-        (bind_then r (told s) w1 (eval u run v w1) _ _ _ (eval_gives u nest_ends run v w1) h1 (λ y w2 e2 g.
-        move p f r s _ _ (y ∷ x ∷ stack) w2 place g))))
+        (bind_then r (told s) w (eval u run k w) _ _ _ (eval_gives u nest_ends run k w) h (λ x world1 e h1.
+        expr_runs v run s (pc + length c) (x ∷ stack) world1 (deep_kept e d) (has_behind (p.code s.run.stream) pc c rest is)
+        (bind_then r (told s) world1 (eval u run v world1) _ _ _ (eval_gives u nest_ends run v world1) h1 (λ y world2 e2 g.
+        move p f r s _ _ (y ∷ x ∷ stack) world2 place g))))
 
     pairs_run : {m : _} → (ps : Row_of-Pair m) (run : Run) (s : Spot) (pc : ℕ) (stack : List Val) (w : World) → Deep w → HasAt (p.code s.run.stream) pc (pairs_code pc ps) →
-        Follows r (told s) (eval_pairs u run ps w) (λ xs w1. Go p f r s (pc + length (pairs_code pc ps)) (onto (flat xs) stack) w1) → Go p f r s pc stack w
+        Follows r (told s) (eval_pairs u run ps w) (λ xs world1. Go p f r s (pc + length (pairs_code pc ps)) (onto (flat xs) stack) world1) → Go p f r s pc stack w
     pairs_run no_pair run s pc stack w d is h = move p f r s pc (pc + 0) stack w (omega arith) h
     pairs_run (with_pair x more) run s pc stack w d is h =
         let c = pair_code pc x in
         let rest = pairs_code (pc + length c) more in
         let place : pc + length c + length rest ≡ pc + length (c ++ rest) = omega (arith, length-append c rest) in
         pair_runs x run s pc stack w d (has_front (p.code s.run.stream) pc c rest is)
-        (bind_then r (told s) w (eval_pair u run x w) _ _ _ (pair_gives u nest_ends run x w) h (λ y w1 k h1.
-        pairs_run more run s (pc + length c) (y.1 ∷ y.0 ∷ stack) w1 (deep_kept k d) (has_behind (p.code s.run.stream) pc c rest is)
-        (bind_then r (told s) w1 (eval_pairs u run more w1) _ _ _ (pairs_give u nest_ends run more w1) h1 (λ ys w2 k2 g.
-        move p f r s _ _ (onto (flat ys) (y.1 ∷ y.0 ∷ stack)) w2 place g))))
+        (bind_then r (told s) w (eval_pair u run x w) _ _ _ (pair_gives u nest_ends run x w) h (λ y world1 k h1.
+        pairs_run more run s (pc + length c) (y.1 ∷ y.0 ∷ stack) world1 (deep_kept k d) (has_behind (p.code s.run.stream) pc c rest is)
+        (bind_then r (told s) world1 (eval_pairs u run more world1) _ _ _ (pairs_give u nest_ends run more world1) h1 (λ ys world2 k2 g.
+        move p f r s _ _ (onto (flat ys) (y.1 ∷ y.0 ∷ stack)) world2 place g))))
 
     argument_runs : (a : Argument) (run : Run) (s : Spot) (pc : ℕ) (stack : List Val) (w : World) → Deep w → HasAt (p.code s.run.stream) pc (argument_code pc a) →
-        Follows r (told s) (eval_argument u run a w) (λ v w1. Go p f r s (pc + length (argument_code pc a)) (v ∷ stack) w1) → Go p f r s pc stack w
+        Follows r (told s) (eval_argument u run a w) (λ v world1. Go p f r s (pc + length (argument_code pc a)) (v ∷ stack) world1) → Go p f r s pc stack w
     argument_runs (plain a) run s pc stack w d is h = expr_runs a run s pc stack w d is h
 
     arguments_run : {m : _} → (given : Row_of-Argument m) (run : Run) (s : Spot) (pc : ℕ) (stack : List Val) (w : World) → Deep w → HasAt (p.code s.run.stream) pc (arguments_code pc given) →
-        Follows r (told s) (eval_arguments u run given w) (λ vs w1. Go p f r s (pc + length (arguments_code pc given)) (onto vs stack) w1) → Go p f r s pc stack w
+        Follows r (told s) (eval_arguments u run given w) (λ vs world1. Go p f r s (pc + length (arguments_code pc given)) (onto vs stack) world1) → Go p f r s pc stack w
     arguments_run no_argument run s pc stack w d is h = move p f r s pc (pc + 0) stack w (omega arith) h
     arguments_run (argument a more) run s pc stack w d is h =
         let c = argument_code pc a in
         let rest = arguments_code (pc + length c) more in
         let place : pc + length c + length rest ≡ pc + length (c ++ rest) = omega (arith, length-append c rest) in
         argument_runs a run s pc stack w d (has_front (p.code s.run.stream) pc c rest is)
-        (bind_then r (told s) w (eval_argument u run a w) _ _ _ (argument_gives u nest_ends run a w) h (λ v w1 k h1.
-        arguments_run more run s (pc + length c) (v ∷ stack) w1 (deep_kept k d) (has_behind (p.code s.run.stream) pc c rest is)
-        (bind_then r (told s) w1 (eval_arguments u run more w1) _ _ _ (arguments_give u nest_ends run more w1) h1 (λ vs w2 k2 g.
-        move p f r s _ _ (onto vs (v ∷ stack)) w2 place g))))
+        (bind_then r (told s) w (eval_argument u run a w) _ _ _ (argument_gives u nest_ends run a w) h (λ v world1 k h1.
+        arguments_run more run s (pc + length c) (v ∷ stack) world1 (deep_kept k d) (has_behind (p.code s.run.stream) pc c rest is)
+        (bind_then r (told s) world1 (eval_arguments u run more world1) _ _ _ (arguments_give u nest_ends run more world1) h1 (λ vs world2 k2 g.
+        move p f r s _ _ (onto vs (v ∷ stack)) world2 place g))))
 
     -- A step's code replaces the value on top.
     step_runs : (x : Step) (run : Run) (s : Spot) (pc : ℕ) (v : Val) (stack : List Val) (w : World) → Deep w → HasAt (p.code s.run.stream) pc (step_code pc x) →
-        Follows r (told s) (eval_step u run x v w) (λ y w1. Go p f r s (pc + length (step_code pc x)) (y ∷ stack) w1) → Go p f r s pc (v ∷ stack) w
+        Follows r (told s) (eval_step u run x v w) (λ y world1. Go p f r s (pc + length (step_code pc x)) (y ∷ stack) world1) → Go p f r s pc (v ∷ stack) w
     step_runs (Attribute x) run s pc v stack w d is h =
-        at p f r (i.GetAttr x) s pc (v ∷ stack) w is.0 (after_then p f r (told s) (tick w) _ (bind_then r (told s) w (tick w) _ _ _ (tick_gives w) h (λ _ w1 k h1.
-        pushes p f r s pc stack (v ∷ stack) w1 (attribute p.host v x w1) h1)))
+        at p f r (i.GetAttr x) s pc (v ∷ stack) w is.0 (after_then p f r (told s) (tick w) _ (bind_then r (told s) w (tick w) _ _ _ (tick_gives w) h (λ _ world1 k h1.
+        pushes p f r s pc stack (v ∷ stack) world1 (attribute p.host v x world1) h1)))
     step_runs (item a) run s pc v stack w d is h =
         let c = expr_code pc a in
         let behind = has_behind (p.code s.run.stream) pc c (i.GetItem ∷ []) is in
         let place : pc + length c + 1 ≡ pc + length (c ++ i.GetItem ∷ []) = omega (arith, length-append c (i.GetItem ∷ [])) in
         expr_runs a run s pc (v ∷ stack) w d (has_front (p.code s.run.stream) pc c _ is)
-        (bind_then r (told s) w (eval u run a w) _ _ _ (eval_gives u nest_ends run a w) h (λ k w1 e h1.
-        at p f r i.GetItem s (pc + length c) (k ∷ v ∷ stack) w1 behind.0 (after_then p f r (told s) (tick w1) _ (bind_then r (told s) w1 (tick w1) _ _ _ (tick_gives w1) h1 (λ _ w2 e2 h2.
-        pushes p f r s (pc + length c) stack (k ∷ v ∷ stack) w2 (item_at p.host v k w2)
-        (follows_map r (told s) (item_at p.host v k w2) _ _ h2 (λ x w3 g. move p f r s _ _ (x ∷ stack) w3 place g)))))))
+        (bind_then r (told s) w (eval u run a w) _ _ _ (eval_gives u nest_ends run a w) h (λ k world1 e h1.
+        at p f r i.GetItem s (pc + length c) (k ∷ v ∷ stack) world1 behind.0 (after_then p f r (told s) (tick world1) _ (bind_then r (told s) world1 (tick world1) _ _ _ (tick_gives world1) h1 (λ _ world2 e2 h2.
+        pushes p f r s (pc + length c) stack (k ∷ v ∷ stack) world2 (item_at p.host v k world2)
+        (follows_map r (told s) (item_at p.host v k world2) _ _ h2 (λ x world3 g. move p f r s _ _ (x ∷ stack) world3 place g)))))))
     step_runs (slice a b c) run s pc v stack w d is h =
         let ac = expr_code pc a in
         let pc1 = pc + length ac in
@@ -338,118 +400,169 @@ module _ (p : Program) (f : Base) (r : Final) (trees : Trees) (n : ℕ)
         let place : pc2 + length cc + 1 ≡ pc + length (ac ++ (bc ++ (cc ++ i.Slice ∷ []))) =
         omega (arith, length-append ac (bc ++ (cc ++ i.Slice ∷ [])), length-append bc (cc ++ i.Slice ∷ []), length-append cc (i.Slice ∷ [])) in
         expr_runs a run s pc (v ∷ stack) w d (has_front all pc ac (bc ++ (cc ++ i.Slice ∷ [])) is)
-        (bind_then r (told s) w (eval u run a w) _ _ _ (eval_gives u nest_ends run a w) h (λ x w1 k1 h1.
-        expr_runs b run s pc1 (x ∷ v ∷ stack) w1 (deep_kept k1 d) (has_front all pc1 bc (cc ++ i.Slice ∷ []) from_b)
-        (bind_then r (told s) w1 (eval u run b w1) _ _ _ (eval_gives u nest_ends run b w1) h1 (λ y w2 k2 h2.
-        expr_runs c run s pc2 (y ∷ x ∷ v ∷ stack) w2 (deep_kept k2 (deep_kept k1 d)) (has_front all pc2 cc (i.Slice ∷ []) from_c)
-        (bind_then r (told s) w2 (eval u run c w2) _ _ _ (eval_gives u nest_ends run c w2) h2 (λ z w3 k3 h3.
-        at p f r i.Slice s (pc2 + length cc) (z ∷ y ∷ x ∷ v ∷ stack) w3 last.0 (after_then p f r (told s) (tick w3) _ (bind_then r (told s) w3 (tick w3) _ _ _ (tick_gives w3) h3 (λ _ w4 k4 h4.
-        pushes p f r s (pc2 + length cc) stack (z ∷ y ∷ x ∷ v ∷ stack) w4 (slice_of p.host v x y z w4)
-        (follows_map r (told s) (slice_of p.host v x y z w4) _ _ h4 (λ q w5 g. move p f r s _ _ (q ∷ stack) w5 place g)))))))))))
+        (bind_then r (told s) w (eval u run a w) _ _ _ (eval_gives u nest_ends run a w) h (λ x world1 k1 h1.
+        expr_runs b run s pc1 (x ∷ v ∷ stack) world1 (deep_kept k1 d) (has_front all pc1 bc (cc ++ i.Slice ∷ []) from_b)
+        (bind_then r (told s) world1 (eval u run b world1) _ _ _ (eval_gives u nest_ends run b world1) h1 (λ y world2 k2 h2.
+        expr_runs c run s pc2 (y ∷ x ∷ v ∷ stack) world2 (deep_kept k2 (deep_kept k1 d)) (has_front all pc2 cc (i.Slice ∷ []) from_c)
+        (bind_then r (told s) world2 (eval u run c world2) _ _ _ (eval_gives u nest_ends run c world2) h2 (λ z world3 k3 h3.
+        at p f r i.Slice s (pc2 + length cc) (z ∷ y ∷ x ∷ v ∷ stack) world3 last.0 (after_then p f r (told s) (tick world3) _ (bind_then r (told s) world3 (tick world3) _ _ _ (tick_gives world3) h3 (λ _ world4 k4 h4.
+        pushes p f r s (pc2 + length cc) stack (z ∷ y ∷ x ∷ v ∷ stack) world4 (slice_of p.host v x y z world4)
+        (follows_map r (told s) (slice_of p.host v x y z world4) _ _ h4 (λ q world5 g. move p f r s _ _ (q ∷ stack) world5 place g)))))))))))
     step_runs (binary op a) run s pc v stack w d is h =
         let c = expr_code pc a in
         let place : pc + length c + length (binary_code op) ≡ pc + length (c ++ binary_code op) = omega (arith, length-append c (binary_code op)) in
         expr_runs a run s pc (v ∷ stack) w d (has_front (p.code s.run.stream) pc c _ is)
-        (bind_then r (told s) w (eval u run a w) _ _ _ (eval_gives u nest_ends run a w) h (λ y w1 k h1.
-        binary_then op s (pc + length c) v y stack w1 (has_behind (p.code s.run.stream) pc c (binary_code op) is)
-        (follows_map r (told s) (bind (tick w1) (λ _ w2. applied p.host op v y w2)) _ _ h1 (λ x w2 g. move p f r s _ _ (x ∷ stack) w2 place g))))
+        (bind_then r (told s) w (eval u run a w) _ _ _ (eval_gives u nest_ends run a w) h (λ y world1 k h1.
+        binary_then op s (pc + length c) v y stack world1 (has_behind (p.code s.run.stream) pc c (binary_code op) is)
+        (follows_map r (told s) (bind (tick world1) (λ _ world2. applied p.host op v y world2)) _ _ h1 (λ x world2 g. move p f r s _ _ (x ∷ stack) world2 place g))))
+    step_runs (compare op a _ cs) run s pc v stack w d is h =
+        let all = p.code s.run.stream in
+        let c = expr_code pc a in
+        let pc1 = pc + length c in
+        let size = length (links_code 0 pc1 op cs) in
+        let end = pc1 + size + 1 in
+        let links = links_code end pc1 op cs in
+        let long : length links ≡ size = links_long end 0 pc1 op cs in
+        let to = pc1 + size + 3 in
+        let last = i.Jump to ∷ i.Swap ∷ i.DiscardTop ∷ [] in
+        let row = has_behind all pc c (links ++ last) is in
+        let behind = has_behind all pc1 links last row in
+        let swap : pc1 + length links + 1 ≡ end = omega (arith, long) in
+        let over_swap : end + 1 + 1 ≡ to = omega arith in
+        let place : to ≡ pc + length (c ++ (links ++ last)) = omega (arith, length-append c (links ++ last), length-append links last, long) in
+        expr_runs a run s pc (v ∷ stack) w d (has_front all pc c (links ++ last) is)
+        (bind_then r (told s) w (eval u run a w) _ _ _ (eval_gives u nest_ends run a w) h (λ y world1 k h1.
+        links_run op cs run s end to (pc1 + length links) pc1 v y stack world1 (deep_kept k d) (has_front all pc1 links last row) refl behind.0
+        (subst (λ n. HasAt all n (i.Swap ∷ i.DiscardTop ∷ [])) swap behind.1) over_swap
+        (follows_map r (told s) (eval_links u run op cs v y world1) _ _ h1 (λ x world2 g. move p f r s _ _ (x ∷ stack) world2 place g))))
     step_runs (and_then a) run s pc v stack w d is h =
         let c = expr_code (pc + 1) a in
         let place : pc + 1 + length c ≡ pc + suc (length c) = omega arith in
         at p f r (i.JumpIfFalseOrPop (pc + 1 + length c)) s pc (v ∷ stack) w is.0
-        (after_then p f r (told s) (tick w) _ (bind_then r (told s) w (tick w) _ _ _ (tick_gives w) h (λ _ w1 k h1.
-        after_then p f r (told s) (truth p.host v w1) _ (bind_then r (told s) w1 (truth p.host v w1) _ _ _ (answered_gives _ w1) h1 (λ b w2 k2 h2.
-        choose_then p f r b (eval u run a w2) (Good v w2) _ _ (told s) _ h2
-        (λ h3. silent p f r (told s) _ (expr_runs a run s (pc + 1) stack w2 (deep_kept k2 (deep_kept k d)) is.1
-        (follows_map r (told s) (eval u run a w2) _ _ h3 (λ y w3 g. move p f r s _ _ (y ∷ stack) w3 place g))))
-        (λ g. silent p f r (told s) _ (move p f r s _ _ (v ∷ stack) w2 place g)))))))
+        (after_then p f r (told s) (tick w) _ (bind_then r (told s) w (tick w) _ _ _ (tick_gives w) h (λ _ world1 k h1.
+        after_then p f r (told s) (truth p.host v world1) _ (bind_then r (told s) world1 (truth p.host v world1) _ _ _ (answered_gives _ world1) h1 (λ b world2 k2 h2.
+        choose_then p f r b (eval u run a world2) (Good v world2) _ _ (told s) _ h2
+        (λ h3. silent p f r (told s) _ (expr_runs a run s (pc + 1) stack world2 (deep_kept k2 (deep_kept k d)) is.1
+        (follows_map r (told s) (eval u run a world2) _ _ h3 (λ y world3 g. move p f r s _ _ (y ∷ stack) world3 place g))))
+        (λ g. silent p f r (told s) _ (move p f r s _ _ (v ∷ stack) world2 place g)))))))
     step_runs (or_else a) run s pc v stack w d is h =
         let c = expr_code (pc + 1) a in
         let place : pc + 1 + length c ≡ pc + suc (length c) = omega arith in
         at p f r (i.JumpIfTrueOrPop (pc + 1 + length c)) s pc (v ∷ stack) w is.0
-        (after_then p f r (told s) (tick w) _ (bind_then r (told s) w (tick w) _ _ _ (tick_gives w) h (λ _ w1 k h1.
-        after_then p f r (told s) (truth p.host v w1) _ (bind_then r (told s) w1 (truth p.host v w1) _ _ _ (answered_gives _ w1) h1 (λ b w2 k2 h2.
-        choose_then p f r b (Good v w2) (eval u run a w2) _ _ (told s) _ h2
-        (λ g. silent p f r (told s) _ (move p f r s _ _ (v ∷ stack) w2 place g))
-        (λ h3. silent p f r (told s) _ (expr_runs a run s (pc + 1) stack w2 (deep_kept k2 (deep_kept k d)) is.1
-        (follows_map r (told s) (eval u run a w2) _ _ h3 (λ y w3 g. move p f r s _ _ (y ∷ stack) w3 place g)))))))))
+        (after_then p f r (told s) (tick w) _ (bind_then r (told s) w (tick w) _ _ _ (tick_gives w) h (λ _ world1 k h1.
+        after_then p f r (told s) (truth p.host v world1) _ (bind_then r (told s) world1 (truth p.host v world1) _ _ _ (answered_gives _ world1) h1 (λ b world2 k2 h2.
+        choose_then p f r b (Good v world2) (eval u run a world2) _ _ (told s) _ h2
+        (λ g. silent p f r (told s) _ (move p f r s _ _ (v ∷ stack) world2 place g))
+        (λ h3. silent p f r (told s) _ (expr_runs a run s (pc + 1) stack world2 (deep_kept k2 (deep_kept k d)) is.1
+        (follows_map r (told s) (eval u run a world2) _ _ h3 (λ y world3 g. move p f r s _ _ (y ∷ stack) world3 place g)))))))))
+
+    -- Comparisons in a row replace both sides of the first. Behind them stands a jump over the dropping of the right side of a false one.
+    links_run : {m : _} → (op : BinaryOperator) (cs : Row_of-Comparison m) (run : Run) (s : Spot) (end to jump pc : ℕ) (x y : Val) (stack : List Val) (w : World) → Deep w →
+        HasAt (p.code s.run.stream) pc (links_code end pc op cs) → pc + length (links_code end pc op cs) ≡ jump → slice_get (p.code s.run.stream) jump ≡ Some (i.Jump to) →
+        HasAt (p.code s.run.stream) end (i.Swap ∷ i.DiscardTop ∷ []) → end + 1 + 1 ≡ to →
+        Follows r (told s) (eval_links u run op cs x y w) (λ v world1. Go p f r s to (v ∷ stack) world1) → Go p f r s pc (y ∷ x ∷ stack) w
+    links_run op no_comparison run s end to jump pc x y stack w d is place over_drop drop over_end h =
+        binary_then op s pc x y stack w is
+        (follows_bind r (told s) (tick w) _ _ (bind_then r (told s) w (tick w) _ _ _ (tick_gives w) h (λ _ world1 k h1.
+        bind_then r (told s) world1 (applied p.host op x y world1) _ _ _ (binary_gives u nest_ends op x y world1) h1 (λ v world2 k2 h2.
+        move p f r s _ _ (v ∷ stack) world2 place
+        (at p f r (i.Jump to) s jump (v ∷ stack) world2 over_drop (after_then p f r (told s) (tick world2) _ (bind_then r (told s) world2 (tick world2) _ _ _ (tick_gives world2) h2 (λ _ world3 k3 g.
+        silent p f r (told s) _ g))))))))
+    links_run op (with_comparison (comparison op1 a) more) run s end to jump pc x y stack w d is place over_drop drop over_end h =
+        let all = p.code s.run.stream in
+        let c = expr_code (pc + 2) a in
+        let rest = links_code end (pc + 2 + length c) op1 more in
+        let here : pc + 1 + 1 ≡ pc + 2 = omega arith in
+        let right = subst (λ n. HasAt all n (c ++ rest)) here is.1.1 in
+        let last : pc + 2 + length c + length rest ≡ jump = omega (arith, place, length-append c rest) in
+        at p f r (i.CompareAndPreserve op) s pc (y ∷ x ∷ stack) w is.0 (after_then p f r (told s) (tick w) _ (bind_then r (told s) w (tick w) _ _ _ (tick_gives w) h (λ _ world1 k1 h1.
+        after_then p f r (told s) (operated p.host op x y world1) _ (bind_then r (told s) world1 (operated p.host op x y world1) _ _ _ (answered_gives _ world1) h1 (λ v world2 k2 h2.
+        silent p f r (told s) _ (at p f r (i.JumpIfFalseOrPop end) s (pc + 1) (v ∷ y ∷ stack) world2 is.1.0
+        (after_then p f r (told s) (tick world2) _ (bind_then r (told s) world2 (tick world2) _ _ _ (tick_gives world2) h2 (λ _ world3 k3 h3.
+        after_then p f r (told s) (truth p.host v world3) _ (bind_then r (told s) world3 (truth p.host v world3) _ _ _ (answered_gives _ world3) h3 (λ b world4 k4 h4.
+        let deep4 = deep_kept k4 (deep_kept k3 (deep_kept k2 (deep_kept k1 d))) in
+        choose_then p f r b (bind (eval u run a world4) (λ z world5. eval_links u run op1 more y z world5)) (bind (tick world4) (λ _ world5. Good v world5)) _ _ (told s) _ h4
+        (λ h5. silent p f r (told s) _ (move p f r s _ _ (y ∷ stack) world4 here (expr_runs a run s (pc + 2) (y ∷ stack) world4 deep4 (has_front all (pc + 2) c rest right)
+        (bind_then r (told s) world4 (eval u run a world4) _ _ _ (eval_gives u nest_ends run a world4) h5 (λ z world5 k5 h6.
+        links_run op1 more run s end to jump (pc + 2 + length c) y z stack world5 (deep_kept k5 deep4) (has_behind all (pc + 2) c rest right) last over_drop drop over_end h6)))))
+        (λ h5. silent p f r (told s) _ (dropped_then s end to v y stack world4 drop over_end h5)))))))))))))
 
     steps_run : {m : _} → (ss : Row_of-Step m) (run : Run) (s : Spot) (pc : ℕ) (v : Val) (stack : List Val) (w : World) → Deep w → HasAt (p.code s.run.stream) pc (steps_code pc ss) →
-        Follows r (told s) (eval_steps u run ss v w) (λ y w1. Go p f r s (pc + length (steps_code pc ss)) (y ∷ stack) w1) → Go p f r s pc (v ∷ stack) w
+        Follows r (told s) (eval_steps u run ss v w) (λ y world1. Go p f r s (pc + length (steps_code pc ss)) (y ∷ stack) world1) → Go p f r s pc (v ∷ stack) w
     steps_run no_step run s pc v stack w d is h = move p f r s pc (pc + 0) (v ∷ stack) w (omega arith) h
     steps_run (step_and x ss) run s pc v stack w d is h =
         let c = step_code pc x in
         let rest = steps_code (pc + length c) ss in
         let place : pc + length c + length rest ≡ pc + length (c ++ rest) = omega (arith, length-append c rest) in
         step_runs x run s pc v stack w d (has_front (p.code s.run.stream) pc c rest is)
-        (bind_then r (told s) w (eval_step u run x v w) _ _ _ (step_gives u nest_ends run x v w) h (λ y w1 k h1.
-        steps_run ss run s (pc + length c) y stack w1 (deep_kept k d) (has_behind (p.code s.run.stream) pc c rest is)
-        (follows_map r (told s) (eval_steps u run ss y w1) _ _ h1 (λ z w2 g. move p f r s _ _ (z ∷ stack) w2 place g))))
+        (bind_then r (told s) w (eval_step u run x v w) _ _ _ (step_gives u nest_ends run x v w) h (λ y world1 k h1.
+        steps_run ss run s (pc + length c) y stack world1 (deep_kept k d) (has_behind (p.code s.run.stream) pc c rest is)
+        (follows_map r (told s) (eval_steps u run ss y world1) _ _ h1 (λ z world2 g. move p f r s _ _ (z ∷ stack) world2 place g))))
 
   -- what is emitted
   emit_then : (run : Run) (s : Spot) (pc : ℕ) (v : Val) (stack : List Val) (w : World) (D L N : Then) → Fits f run s.bed → slice_get (p.code s.run.stream) pc ≡ Some i.Emit →
-      Ends r s.bed (emit u (as_at run s) s.out v w) D L N → ((out1 : List ℕ) (w1 : World) → D s.parent out1 w1 → Go p f r (later s s.parent out1) (pc + 1) stack w1) → Go p f r s pc (v ∷ stack) w
+      Ends r s.bed (emit u (as_at run s) s.out v w) D L N → ((out1 : List ℕ) (world1 : World) → D s.parent out1 world1 → Go p f r (later s s.parent out1) (pc + 1) stack world1) → Go p f r s pc (v ∷ stack) w
   emit_then run s pc v stack w D L N fits e h g =
-      at p f r i.Emit s pc (v ∷ stack) w e (after_then p f r (told s) (tick w) _ (use_then r s.bed w (tick w) (as_at run s) s.out _ D L N _ (tick_gives w) h (λ _ w1 k h1.
-      after_then p f r (told s) (emitted p.host v w1) _ (use_then r s.bed w1 (emitted p.host v w1) (as_at run s) s.out _ D L N _ (answered_gives _ w1) h1 (λ t w2 k2 h2.
-      writes_then p f r (as_at run s) t s (pc + 1) stack w2 refl fits (g (say (as_at run s) t s.out) w2 (so_far_then r s.bed (as_at run s) (say (as_at run s) t s.out) w2 D L N h2)))))))
+      at p f r i.Emit s pc (v ∷ stack) w e (after_then p f r (told s) (tick w) _ (use_then r s.bed w (tick w) (as_at run s) s.out _ D L N _ (tick_gives w) h (λ _ world1 k h1.
+      after_then p f r (told s) (emitted p.host v world1) _ (use_then r s.bed world1 (emitted p.host v world1) (as_at run s) s.out _ D L N _ (answered_gives _ world1) h1 (λ t world2 k2 h2.
+      writes_then p f r (as_at run s) t s (pc + 1) stack world2 refl fits (g (say (as_at run s) t s.out) world2 (so_far_then r s.bed (as_at run s) (say (as_at run s) t s.out) world2 D L N h2)))))))
 
   -- a block's tag: where it is heard the block is run in place, and else nothing is
   tag_then : (run : Run) (s : Spot) (pc : ℕ) (b : List ℕ) (stack : List Val) (w : World) (D L N : Then) → Fits f run s.bed → Deep w → slice_get (p.code s.run.stream) pc ≡ Some (i.CallBlock b) →
-      Ends r s.bed (use_it (tick w) (as_at run s) s.out (λ _ w1. block_tag u (as_at run s) b s.out w1)) D L N →
-      ((out1 : List ℕ) (w1 : World) → D s.parent out1 w1 → Go p f r (later s s.parent out1) (pc + 1) stack w1) → Go p f r s pc stack w
+      Ends r s.bed (use_it (tick w) (as_at run s) s.out (λ _ world1. block_tag u (as_at run s) b s.out world1)) D L N →
+      ((out1 : List ℕ) (world1 : World) → D s.parent out1 world1 → Go p f r (later s s.parent out1) (pc + 1) stack world1) → Go p f r s pc stack w
   tag_then run s pc b stack w D L N fits d e h g =
-      at p f r (i.CallBlock b) s pc stack w e (after_then p f r (told s) (tick w) _ (use_then r s.bed w (tick w) (as_at run s) s.out _ D L N _ (tick_gives w) h (λ _ w1 k h1.
-      subst (λ x. Leads p f (told s) (choose (none_waits s.parent && x) (λ _. asked_in_place f (cfg s pc stack w1) stack (enter_block p.host b w1)) (λ _. goes stack w1 (cfg s pc stack w1))) r)
-      (sym (audible_is f (as_at run s) s.run s.parent s.bed s.out pc stack w1 refl fits))
-      (choose_ends p f r (none_waits s.parent && heard_here (as_at run s)) (in_place_of u (as_at run s) s.out (enter_block p.host b w1)) (so_far (as_at run s) s.out w1) _ _ (told s) s.bed D L N h1
-      (λ h2. placed_then run s pc stack stack w1 w1 (enter_block p.host b w1) D L N fits (block_asks p.host b w1) (deep_kept k d) h2 g)
-      (λ h2. silent p f r (told s) _ (g s.out w1 (so_far_then r s.bed (as_at run s) s.out w1 D L N h2)))))))
+      at p f r (i.CallBlock b) s pc stack w e (after_then p f r (told s) (tick w) _ (use_then r s.bed w (tick w) (as_at run s) s.out _ D L N _ (tick_gives w) h (λ _ world1 k h1.
+      subst (λ x. Leads p f (told s) (choose (none_waits s.parent && x) (λ _. asked_in_place f (cfg s pc stack world1) stack (enter_block p.host b world1)) (λ _. goes stack world1 (cfg s pc stack world1))) r)
+      (sym (audible_is f (as_at run s) s.run s.parent s.bed s.out pc stack world1 refl fits))
+      (choose_ends p f r (none_waits s.parent && heard_here (as_at run s)) (in_place_of u (as_at run s) s.out (enter_block p.host b world1)) (so_far (as_at run s) s.out world1) _ _ (told s) s.bed D L N h1
+      (λ h2. placed_then run s pc stack stack world1 world1 (enter_block p.host b world1) D L N fits (block_asks p.host b world1) (deep_kept k d) h2 g)
+      (λ h2. silent p f r (told s) _ (g s.out world1 (so_far_then r s.bed (as_at run s) s.out world1 D L N h2)))))))
 
   -- The code of statements comes behind itself with what they mean, or to their fault.
   abbrev StmtsRun : {m : _} → Row_of-Stmt m → Type 1
   StmtsRun ss =
       (run : Run) (s : Spot) (pc : ℕ) (stack : List Val) (w : World) (L N : Then) → Fits f run s.bed → Deep w → HasAt (p.code s.run.stream) pc (statements_code pc ss) →
-      Ends r s.bed (execs u ss (as_at run s) s.out w) (λ q out1 w1. Go p f r (later s q out1) (pc + length (statements_code pc ss)) stack w1) L N → Go p f r s pc stack w
+      Ends r s.bed (execs u ss (as_at run s) s.out w) (λ q out1 world1. Go p f r (later s q out1) (pc + length (statements_code pc ss)) stack world1) L N → Go p f r s pc stack w
 
   -- the part that runs where the condition is true, and the jump over the other
   first_runs : {m : _} → (body : Row_of-Stmt m) → StmtsRun body → (other : Otherwise) (run : Run) (s : Spot) (pc end : ℕ) (stack : List Val) (w : World) (L N : Then) → Fits f run s.bed → Deep w →
       pc + length (statements_code pc body) + length (otherwise_code (pc + length (statements_code pc body)) other) ≡ end →
       HasAt (p.code s.run.stream) pc (statements_code pc body ++ otherwise_code (pc + length (statements_code pc body)) other) →
-      Ends r s.bed (behind_first other (as_at run s) (execs u body (as_at run s) s.out w)) (λ q out1 w1. Go p f r (later s q out1) end stack w1) L N → Go p f r s pc stack w
+      Ends r s.bed (behind_first other (as_at run s) (execs u body (as_at run s) s.out w)) (λ q out1 world1. Go p f r (later s q out1) end stack world1) L N → Go p f r s pc stack w
   first_runs body part no_else run s pc end stack w L N fits d place is h =
       let bc = statements_code pc body in
       let here : pc + length bc ≡ end = omega (arith, place) in
       part run s pc stack w L N fits d (has_front (p.code s.run.stream) pc bc [] is)
-      (ends_map r s.bed (execs u body (as_at run s) s.out w) _ _ L N h (λ q out1 w1 g. move p f r (later s q out1) _ _ stack w1 here g))
+      (ends_map r s.bed (execs u body (as_at run s) s.out w) _ _ L N h (λ q out1 world1 g. move p f r (later s q out1) _ _ stack world1 here g))
   first_runs body part (otherwise _ eb) run s pc end stack w L N fits d place is h =
       let bc = statements_code pc body in
       let ec = statements_code (pc + length bc + 1) eb in
       let to = pc + length bc + 1 + length ec in
       let jumped : to ≡ end = omega (arith, place) in
       let behind = has_behind (p.code s.run.stream) pc bc (i.Jump to ∷ ec) is in
-      let D : Then = λ q out1 w1. Go p f r (later s q out1) end stack w1 in
+      let D : Then = λ q out1 world1. Go p f r (later s q out1) end stack world1 in
       part run s pc stack w L N fits d (has_front (p.code s.run.stream) pc bc (i.Jump to ∷ ec) is)
-      (do_then r s.bed (as_at run s) w (execs u body (as_at run s) s.out w) (λ run1 out1 w1. use_it (tick w1) run1 out1 (λ _ w2. so_far run1 out1 w2)) D L N _
-      (execs_end u nest_ends body (as_at run s) s.out w) h (λ q out1 w1 k h1.
-      at p f r (i.Jump to) (later s q out1) (pc + length bc) stack w1 behind.0 (after_then p f r (told (later s q out1)) (tick w1) _
-      (use_then r s.bed w1 (tick w1) (record run { parent = q }) out1 (λ _ w2. so_far (record run { parent = q }) out1 w2) D L N _ (tick_gives w1) h1 (λ _ w2 k2 h2.
-      silent p f r (told (later s q out1)) _ (move p f r (later s q out1) to end stack w2 jumped (so_far_then r s.bed (record run { parent = q }) out1 w2 D L N h2)))))))
+      (do_then r s.bed (as_at run s) w (execs u body (as_at run s) s.out w) (λ run1 out1 world1. use_it (tick world1) run1 out1 (λ _ world2. so_far run1 out1 world2)) D L N _
+      (execs_end u nest_ends body (as_at run s) s.out w) h (λ q out1 world1 k h1.
+      at p f r (i.Jump to) (later s q out1) (pc + length bc) stack world1 behind.0 (after_then p f r (told (later s q out1)) (tick world1) _
+      (use_then r s.bed world1 (tick world1) (record run { parent = q }) out1 (λ _ world2. so_far (record run { parent = q }) out1 world2) D L N _ (tick_gives world1) h1 (λ _ world2 k2 h2.
+      silent p f r (told (later s q out1)) _ (move p f r (later s q out1) to end stack world2 jumped (so_far_then r s.bed (record run { parent = q }) out1 world2 D L N h2)))))))
 
   mutual
     -- A statement's code comes behind itself with what it means, or to its fault.
     pub stmt_runs : (x : Stmt) (run : Run) (s : Spot) (pc : ℕ) (stack : List Val) (w : World) (L N : Then) → Fits f run s.bed → Deep w → HasAt (p.code s.run.stream) pc (statement_code pc x) →
-        Ends r s.bed (exec u x (as_at run s) s.out w) (λ q out1 w1. Go p f r (later s q out1) (pc + length (statement_code pc x)) stack w1) L N → Go p f r s pc stack w
+        Ends r s.bed (exec u x (as_at run s) s.out w) (λ q out1 world1. Go p f r (later s q out1) (pc + length (statement_code pc x)) stack world1) L N → Go p f r s pc stack w
     stmt_runs (EmitRaw t) run s pc stack w L N fits d is h =
-        at p f r (i.EmitRaw t) s pc stack w is.0 (after_then p f r (told s) (tick w) _ (use_then r s.bed w (tick w) (as_at run s) s.out _ _ L N _ (tick_gives w) h (λ _ w1 k h1.
-        writes_then p f r (as_at run s) t s (pc + 1) stack w1 refl fits (so_far_then r s.bed (as_at run s) (say (as_at run s) t s.out) w1 _ L N h1))))
+        at p f r (i.EmitRaw t) s pc stack w is.0 (after_then p f r (told s) (tick w) _ (use_then r s.bed w (tick w) (as_at run s) s.out _ _ L N _ (tick_gives w) h (λ _ world1 k h1.
+        writes_then p f r (as_at run s) t s (pc + 1) stack world1 refl fits (so_far_then r s.bed (as_at run s) (say (as_at run s) t s.out) world1 _ L N h1))))
     stmt_runs (EmitExpr e) run s pc stack w L N fits d is h =
         let c = expr_code pc e in
         let behind = has_behind (p.code s.run.stream) pc c (i.Emit ∷ []) is in
         let place : pc + length c + 1 ≡ pc + length (c ++ i.Emit ∷ []) = omega (arith, length-append c (i.Emit ∷ [])) in
         expr_runs e (as_at run s) s pc stack w d (has_front (p.code s.run.stream) pc c _ is)
-        (use_then r s.bed w (eval u (as_at run s) e w) (as_at run s) s.out _ _ L N _ (eval_gives u nest_ends (as_at run s) e w) h (λ v w1 k h1.
-        emit_then run s (pc + length c) v stack w1 _ L N fits behind.0 h1 (λ out1 w2 g. move p f r (later s s.parent out1) _ _ stack w2 place g)))
+        (use_then r s.bed w (eval u (as_at run s) e w) (as_at run s) s.out _ _ L N _ (eval_gives u nest_ends (as_at run s) e w) h (λ v world1 k h1.
+        emit_then run s (pc + length c) v stack world1 _ L N fits behind.0 h1 (λ out1 world2 g. move p f r (later s s.parent out1) _ _ stack world2 place g)))
     stmt_runs (If' c z body other) run s pc stack w L N fits d is h =
         let test = expr_code pc c in
         let pc1 = pc + length test in
@@ -460,35 +573,35 @@ module _ (p : Program) (f : Base) (r : Final) (trees : Trees) (n : ℕ)
         let place : pc1 + 1 + length bc + length oc ≡ end = omega (arith, length-append test (i.JumpIfFalse to ∷ (bc ++ oc)), length-append bc oc) in
         let behind = has_behind (p.code s.run.stream) pc test (i.JumpIfFalse to ∷ (bc ++ oc)) is in
         expr_runs c (as_at run s) s pc stack w d (has_front (p.code s.run.stream) pc test (i.JumpIfFalse to ∷ (bc ++ oc)) is)
-        (use_then r s.bed w (eval u (as_at run s) c w) (as_at run s) s.out _ _ L N _ (eval_gives u nest_ends (as_at run s) c w) h (λ v w1 k h1.
-        at p f r (i.JumpIfFalse to) s pc1 (v ∷ stack) w1 behind.0 (after_then p f r (told s) (tick w1) _
-        (use_then r s.bed w1 (tick w1) (as_at run s) s.out _ _ L N _ (tick_gives w1) h1 (λ _ w2 k2 h2.
-        after_then p f r (told s) (truth p.host v w2) _ (use_then r s.bed w2 (truth p.host v w2) (as_at run s) s.out _ _ L N _ (answered_gives _ w2) h2 (λ b w3 k3 h3.
-        let d3 = deep_kept k3 (deep_kept k2 (deep_kept k d)) in
-        choose_ends p f r b (behind_first other (as_at run s) (execs u body (as_at run s) s.out w3)) (exec_else u other (as_at run s) s.out w3) _ _ (told s) s.bed _ L N h3
-        (λ h4. silent p f r (told s) _ (first_runs body (stmts_run body) other run s (pc1 + 1) end stack w3 L N fits d3 place behind.1 h4))
-        (λ h4. silent p f r (told s) _ (second_runs body other run s (pc1 + 1) end stack w3 L N fits d3 place behind.1 h4)))))))))
-    stmt_runs (Block' b _ body) run s pc stack w L N fits d is h = tag_then run s pc b stack w _ L N fits d is.0 h (λ out1 w1 g. g)
+        (use_then r s.bed w (eval u (as_at run s) c w) (as_at run s) s.out _ _ L N _ (eval_gives u nest_ends (as_at run s) c w) h (λ v world1 k h1.
+        at p f r (i.JumpIfFalse to) s pc1 (v ∷ stack) world1 behind.0 (after_then p f r (told s) (tick world1) _
+        (use_then r s.bed world1 (tick world1) (as_at run s) s.out _ _ L N _ (tick_gives world1) h1 (λ _ world2 k2 h2.
+        after_then p f r (told s) (truth p.host v world2) _ (use_then r s.bed world2 (truth p.host v world2) (as_at run s) s.out _ _ L N _ (answered_gives _ world2) h2 (λ b world3 k3 h3.
+        let deep3 = deep_kept k3 (deep_kept k2 (deep_kept k d)) in
+        choose_ends p f r b (behind_first other (as_at run s) (execs u body (as_at run s) s.out world3)) (exec_else u other (as_at run s) s.out world3) _ _ (told s) s.bed _ L N h3
+        (λ h4. silent p f r (told s) _ (first_runs body (stmts_run body) other run s (pc1 + 1) end stack world3 L N fits deep3 place behind.1 h4))
+        (λ h4. silent p f r (told s) _ (second_runs body other run s (pc1 + 1) end stack world3 L N fits deep3 place behind.1 h4)))))))))
+    stmt_runs (Block' b _ body) run s pc stack w L N fits d is h = tag_then run s pc b stack w _ L N fits d is.0 h (λ out1 world1 g. g)
 
     pub stmts_run : {m : _} → (ss : Row_of-Stmt m) (run : Run) (s : Spot) (pc : ℕ) (stack : List Val) (w : World) (L N : Then) → Fits f run s.bed → Deep w → HasAt (p.code s.run.stream) pc (statements_code pc ss) →
-        Ends r s.bed (execs u ss (as_at run s) s.out w) (λ q out1 w1. Go p f r (later s q out1) (pc + length (statements_code pc ss)) stack w1) L N → Go p f r s pc stack w
+        Ends r s.bed (execs u ss (as_at run s) s.out w) (λ q out1 world1. Go p f r (later s q out1) (pc + length (statements_code pc ss)) stack world1) L N → Go p f r s pc stack w
     stmts_run no_statement run s pc stack w L N fits d is h = move p f r s pc (pc + 0) stack w (omega arith) (so_far_then r s.bed (as_at run s) s.out w _ L N h)
     stmts_run (statement x ss) run s pc stack w L N fits d is h =
         let c = statement_code pc x in
         let rest = statements_code (pc + length c) ss in
         let place : pc + length c + length rest ≡ pc + length (c ++ rest) = omega (arith, length-append c rest) in
         let end = pc + length (c ++ rest) in
-        let D : Then = λ q out1 w1. Go p f r (later s q out1) end stack w1 in
+        let D : Then = λ q out1 world1. Go p f r (later s q out1) end stack world1 in
         stmt_runs x run s pc stack w L N fits d (has_front (p.code s.run.stream) pc c rest is)
-        (do_then r s.bed (as_at run s) w (exec u x (as_at run s) s.out w) (λ run1 out1 w1. execs u ss run1 out1 w1) D L N _ (exec_ends u nest_ends x (as_at run s) s.out w) h (λ q out1 w1 k h1.
-        stmts_run ss run (later s q out1) (pc + length c) stack w1 L N fits (deep_kept k d) (has_behind (p.code s.run.stream) pc c rest is)
-        (ends_map r s.bed (execs u ss (record run { parent = q }) out1 w1) D _ L N h1 (λ q2 out2 w2 g. move p f r (later s q2 out2) _ end stack w2 place g))))
+        (do_then r s.bed (as_at run s) w (exec u x (as_at run s) s.out w) (λ run1 out1 world1. execs u ss run1 out1 world1) D L N _ (exec_ends u nest_ends x (as_at run s) s.out w) h (λ q out1 world1 k h1.
+        stmts_run ss run (later s q out1) (pc + length c) stack world1 L N fits (deep_kept k d) (has_behind (p.code s.run.stream) pc c rest is)
+        (ends_map r s.bed (execs u ss (record run { parent = q }) out1 world1) D _ L N h1 (λ q2 out2 world2 g. move p f r (later s q2 out2) _ end stack world2 place g))))
 
     -- the other part
     second_runs : {m : _} → (body : Row_of-Stmt m) (other : Otherwise) (run : Run) (s : Spot) (pc end : ℕ) (stack : List Val) (w : World) (L N : Then) → Fits f run s.bed → Deep w →
         pc + length (statements_code pc body) + length (otherwise_code (pc + length (statements_code pc body)) other) ≡ end →
         HasAt (p.code s.run.stream) pc (statements_code pc body ++ otherwise_code (pc + length (statements_code pc body)) other) →
-        Ends r s.bed (exec_else u other (as_at run s) s.out w) (λ q out1 w1. Go p f r (later s q out1) end stack w1) L N → Go p f r s (pc + length (statements_code pc body) + jump_over other) stack w
+        Ends r s.bed (exec_else u other (as_at run s) s.out w) (λ q out1 world1. Go p f r (later s q out1) end stack world1) L N → Go p f r s (pc + length (statements_code pc body) + jump_over other) stack w
     second_runs body no_else run s pc end stack w L N fits d place is h =
         let here : pc + length (statements_code pc body) + 0 ≡ end = omega (arith, place) in
         move p f r s _ _ stack w here (so_far_then r s.bed (as_at run s) s.out w _ L N h)
@@ -498,7 +611,7 @@ module _ (p : Program) (f : Base) (r : Final) (trees : Trees) (n : ℕ)
         let here : pc + length bc + 1 + length ec ≡ end = omega (arith, place) in
         let behind = has_behind (p.code s.run.stream) pc bc (i.Jump (pc + length bc + 1 + length ec) ∷ ec) is in
         stmts_run eb run s (pc + length bc + 1) stack w L N fits d behind.1
-        (ends_map r s.bed (execs u eb (as_at run s) s.out w) _ _ L N h (λ q out1 w1 g. move p f r (later s q out1) _ _ stack w1 here g))
+        (ends_map r s.bed (execs u eb (as_at run s) s.out w) _ _ L N h (λ q out1 world1 g. move p f r (later s q out1) _ _ stack world1 here g))
 
 -- ---------------------------------------------------------------- streams
 fits_start : (b : Bed) (out : List ℕ) (heard : Bool) (w : World) → Fits (base_of heard (captures_of b out) w) (new_run heard w) b
