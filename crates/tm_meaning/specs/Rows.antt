@@ -198,11 +198,12 @@ abbrev pub one_condition : Bool → Expr → Expr
 one_condition truth other =
     conditional (literal_number 1) (tt ∷ []) (with_condition (condition (literal_truth truth) other) no_condition)
 
--- {{ 1 if first else other if second else last }}, the second asked first
-abbrev pub two_conditions : Bool → Expr → Bool → Expr → Expr
-two_conditions first other second last =
+-- {{ 1 if first if second else 2 }}
+abbrev pub two_conditions : Bool → Bool → Expr
+two_conditions first second =
     conditional (literal_number 1) (tt ∷ tt ∷ [])
-    (with_condition (condition (literal_truth first) other) (with_condition (condition (literal_truth second) last) no_condition))
+    (with_condition (condition (literal_truth first) no_value)
+    (with_condition (condition (literal_truth second) (literal_number 2)) no_condition))
 
 -- {% block b %}x{{ a }}{% endblock %}y
 abbrev pub block_of_two : Stmt

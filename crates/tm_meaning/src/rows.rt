@@ -48,8 +48,8 @@ pub fn chain_rows()
 pub fn conditional_rows()
     ensures no_value { Charges (shown (one_condition false no_value) nothing) [] 4 }
     ensures value { Charges (shown (one_condition true (literal_number 2)) nothing) (decimal 1) 5 }
-    ensures last_false { Charges (shown (two_conditions true no_value false (literal_number 2)) nothing) (decimal 2) 4 }
-    ensures first_false { Charges (shown (two_conditions false no_value true (literal_number 2)) nothing) [] 7 }
+    ensures last_false { Charges (shown (two_conditions true false) nothing) (decimal 2) 4 }
+    ensures first_false { Charges (shown (two_conditions false true) nothing) [] 7 }
 {}
 
 /// `{% block b %}x{{ a }}{% endblock %}y`, and a block that isn't reached.
