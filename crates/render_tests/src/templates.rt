@@ -164,22 +164,50 @@ fn angles(alloc: Global) -> Result<SyntaxConfig, Error> {
         .build()
 }
 
-/// Whether an undefined value is refused where it is emitted.
-fn is_strict(environment: &Unboxed<'static>) -> bool {
-    match environment.render_str(&mut StateIds::new(), "[{{ x }}]", Value::undefined()) {
-        Ok(_) => false,
-        Err(error) => error.kind() == ErrorKind::UndefinedError,
+/// A source, and what it writes where undefined values are refused so, from the loosest behavior; none where one is refused.
+struct Refused(&'static str, [Option<&'static str>; 4]);
+
+static REFUSED: &[Refused] = &[
+    Refused("[{{ x }}]", [Some("[]"), Some("[]"), None, None]),
+    Refused("{{ x.y }}", [None, Some(""), None, None]),
+    Refused("{{ 1 in x }}", [Some("false"), Some("false"), None, None]),
+    Refused("{{ x in [1] }}", [Some("false"), Some("false"), Some("false"), None]),
+    Refused("{{ x[1:2] }}", [Some("[]"), Some("[]"), Some("[]"), None]),
+    Refused("{{ 1 if false }}", [Some(""), Some(""), Some(""), Some("")]),
+    Refused("{{ (1 if false) ~ 'x' }}", [Some("x"), Some("x"), Some("x"), None]),
+];
+
+/// Whether a source writes this, or is refused for an undefined value.
+fn hears(environment: &Unboxed<'static>, source: &'static str, wanted: Option<&str>) -> bool {
+    let rendered = environment.render_str(&mut StateIds::new(), source, Value::undefined());
+    match (rendered, wanted) {
+        (Ok(text), Some(wanted)) => text.as_str() == wanted,
+        (Err(error), None) => error.kind() == ErrorKind::UndefinedError,
+        _ => false,
     }
+}
+
+/// Whether all sources write what they write under the behavior of this number.
+fn refuses(environment: &Unboxed<'static>, behavior: usize) -> bool {
+    for Refused(source, texts) in REFUSED {
+        if !hears(environment, source, texts[behavior]) {
+            return false;
+        }
+    }
+    true
 }
 
 #[test]
 fn settings_are_heard(rt: HostRuntime) -> Result<(), Fail> {
     let syntax = angles(rt.alloc())?;
     let mut environment = Unboxed::new(rt.alloc())?;
-    environment.set_undefined_behavior(UndefinedBehavior::Strict);
-    assert!(rt; is_strict(&environment));
+    assert!(rt; refuses(&environment, 0));
     environment.set_undefined_behavior(UndefinedBehavior::Chainable);
-    assert!(rt; writes(&environment, "p", "[{{ x.y.z }}]", "[]"));
+    assert!(rt; refuses(&environment, 1));
+    environment.set_undefined_behavior(UndefinedBehavior::SemiStrict);
+    assert!(rt; refuses(&environment, 2));
+    environment.set_undefined_behavior(UndefinedBehavior::Strict);
+    assert!(rt; refuses(&environment, 3));
     environment.set_syntax(syntax);
     let source = "a\n  <% if 1 %>\n b<%# c %>\n<% endif %>\n${ 2 }";
     assert!(rt; writes(&environment, "p", source, "a\n b2"));
