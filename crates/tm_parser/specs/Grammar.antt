@@ -238,7 +238,7 @@ another_comparison right op = do
   y ← right
   pure (comparisons.Comparison op y)
 
--- what stands behind the link of a comparison behind another one
+-- what stands behind a link of comparisons in a row, where no other link may stand
 abbrev pub behind_comparison : Rule Expr → Link → Rule Comparison
 behind_comparison right (links.Comparison op) = another_comparison right op
 behind_comparison right _ = nothing
