@@ -1,12 +1,15 @@
 //! The code of a tree as a text.
 use std::alloc::{AllocError, Global};
 use tm_compiler::{Instruction, Streams, Tree, generate};
+use tm_syntax::BinaryOperator;
 use tm_values::{Error, Node, Value};
 
-static DIGITS: [&str; 10] = ["0", "1", "2", "3", "4", "5", "6", "7", "8", "9"];
+static NUMERALS: [&str; 15] = [
+    "0", "1", "2", "3", "4", "5", "6", "7", "8", "9", "10", "11", "12", "13", "14",
+];
 
-fn digit(number: usize) -> &'static str {
-    match DIGITS.get(number) {
+fn numeral(number: usize) -> &'static str {
+    match NUMERALS.get(number) {
         Some(text) => text,
         None => "?",
     }
@@ -14,6 +17,7 @@ fn digit(number: usize) -> &'static str {
 
 fn constant(value: &Value) -> &str {
     match &value.node {
+        Node::Undefined(true) => "silent",
         Node::None => "none",
         Node::Boolean(true) => "true",
         Node::Number(1) => "1",
@@ -36,6 +40,9 @@ fn word(instruction: &Instruction) -> &'static str {
         Instruction::BuildMap(_) => "map:",
         Instruction::Neg => "-",
         Instruction::Not => "not",
+        Instruction::CompareAndPreserve(_) => "keep:",
+        Instruction::Swap => "swap",
+        Instruction::DiscardTop => "drop",
         Instruction::Jump(_) => "jump:",
         Instruction::JumpIfFalse(_) => "if-false:",
         Instruction::JumpIfFalseOrPop(_) => "and:",
@@ -68,7 +75,22 @@ fn operator(instruction: &Instruction) -> &'static str {
     }
 }
 
-// The name, the place or the number of an instruction.
+// The word of a comparison.
+fn comparison(operator: BinaryOperator) -> &'static str {
+    match operator {
+        BinaryOperator::Equal => "==",
+        BinaryOperator::NotEqual => "!=",
+        BinaryOperator::Less => "<",
+        BinaryOperator::LessOrEqual => "<=",
+        BinaryOperator::Greater => ">",
+        BinaryOperator::GreaterOrEqual => ">=",
+        BinaryOperator::In => "in",
+        BinaryOperator::NotIn => "not-in",
+        _ => "?",
+    }
+}
+
+// The name, the place, the number or the operator of an instruction.
 fn detail(instruction: &Instruction) -> &str {
     match instruction {
         Instruction::EmitRaw(name)
@@ -77,20 +99,21 @@ fn detail(instruction: &Instruction) -> &str {
         | Instruction::CallFunction(name, _)
         | Instruction::CallBlock(name) => name.as_str(),
         Instruction::LoadConst(value) => constant(value),
+        Instruction::CompareAndPreserve(operator) => comparison(*operator),
         Instruction::BuildList(number)
         | Instruction::BuildTuple(number)
         | Instruction::BuildMap(number)
         | Instruction::Jump(number)
         | Instruction::JumpIfFalse(number)
         | Instruction::JumpIfFalseOrPop(number)
-        | Instruction::JumpIfTrueOrPop(number) => digit(*number),
+        | Instruction::JumpIfTrueOrPop(number) => numeral(*number),
         _ => "",
     }
 }
 
 fn count(instruction: &Instruction) -> &'static str {
     match instruction {
-        Instruction::CallFunction(_, number) => digit(*number),
+        Instruction::CallFunction(_, number) => numeral(*number),
         _ => "",
     }
 }

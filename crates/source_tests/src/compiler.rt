@@ -6,7 +6,7 @@ use std::test::Fail;
 use tm_compiler::{SyntaxConfig, parse};
 use tm_values::{Error, ErrorKind};
 
-static CODES: [(&str, &str); 11] = [
+static CODES: [(&str, &str); 12] = [
     ("{# c #}", ""),
     ("{{ \"}}\" }}\n", " #}} emit"),
     ("{{ a == none }}", " $a #none == emit"),
@@ -17,6 +17,10 @@ static CODES: [(&str, &str); 11] = [
     ),
     ("{{ f(1, (a),) }}x", " #1 $a call:f2 emit raw:x"),
     ("{{ f() == true }}", " call:f0 #true == emit"),
+    (
+        "{{ 1 < a < 1 if b }}",
+        " $b if-false:12 #1 $a keep:< and:9 #1 < jump:11 swap drop jump:13 #silent emit",
+    ),
     (
         "{% if a %}x{% elif b %}{% else %}{% endif %}",
         " $a if-false:4 raw:x jump:7 $b if-false:7 jump:7",

@@ -6,7 +6,7 @@ use tm_parser::parse_tokens;
 use tm_syntax::{Name, Sign, Tag, Token};
 use tm_values::{Error, ErrorKind};
 
-static SIGNS: [(&str, Sign); 31] = [
+static SIGNS: [(&str, Sign); 33] = [
     ("{{", Sign::VariableStart),
     ("}}", Sign::VariableEnd),
     ("%}", Sign::BlockEnd),
@@ -37,6 +37,8 @@ static SIGNS: [(&str, Sign); 31] = [
     ("and", Sign::And),
     ("or", Sign::Or),
     ("not", Sign::Not),
+    ("if", Sign::If),
+    ("else", Sign::Else),
     ("true", Sign::True),
 ];
 
@@ -73,7 +75,7 @@ fn tokens_of(alloc: Global, words: &str) -> Result<Vec<Token>, Error> {
 }
 
 // Templates by their words, each of which is a token, with their code.
-static CODES: [(&str, &str); 24] = [
+static CODES: [(&str, &str); 33] = [
     ("{{ a ** b ** c }}", " $a $b ** $c ** emit"),
     ("{{ - a ** b }}", " $a - $b ** emit"),
     ("{{ a ~ b + c }}", " $a $b ~ $c + emit"),
@@ -110,6 +112,39 @@ static CODES: [(&str, &str); 24] = [
         "{{ { a : b , c : { } } != ( ) }}",
         " $a $b $c map:0 map:2 tuple:0 != emit",
     ),
+    (
+        "{{ a < b < c }}",
+        " $a $b keep:< and:7 $c < jump:9 swap drop emit",
+    ),
+    (
+        "{{ a <= b not in c + d == e }}",
+        " $a $b keep:<= and:12 $c $d + keep:not-in and:12 $e == jump:14 swap drop emit",
+    ),
+    ("{{ a if b }}", " $b if-false:4 $a jump:5 #silent emit"),
+    (
+        "{{ ( a if b else c ) }}",
+        " $b if-false:4 $a jump:5 $c emit",
+    ),
+    (
+        "{{ a if b else c if d else e }}",
+        " $b if-false:4 $a jump:9 $d if-false:8 $c jump:9 $e emit",
+    ),
+    (
+        "{{ a if b if c }}",
+        " $c if-false:8 $b if-false:6 $a jump:7 #silent jump:9 #silent emit",
+    ),
+    (
+        "{{ a if b if c else d }}",
+        " $c if-false:8 $b if-false:6 $a jump:7 #silent jump:9 $d emit",
+    ),
+    (
+        "{{ a or b if c and d else e or f }}",
+        " $c and:3 $d if-false:8 $a or:7 $b jump:11 $e or:11 $f emit",
+    ),
+    (
+        "{%if a if b %} {%endif %}",
+        " $b if-false:4 $a jump:5 #silent if-false:6",
+    ),
 ];
 
 fn code_of(alloc: Global, words: &str) -> Result<String, Error> {
@@ -125,15 +160,19 @@ fn tokens_have_their_code(rt: HostRuntime) {
     }
 }
 
-static REFUSED: [&str; 17] = [
-    "{{ a == b == c }}",
+static REFUSED: [&str; 21] = [
+    "{{ a == b == }}",
     "{{ f ( , ) }}",
     "{{ ( a }}",
     "{{ a [ ] }}",
     "{{ a [ : : : ] }}",
     "{{ ( , ) }}",
     "{{ [ , ] }}",
-    "{{ a < b < c }}",
+    "{{ a else b }}",
+    "{{ a if }}",
+    "{{ a if else b }}",
+    "{{ a if b else c else d }}",
+    "{{ if a }}",
     "{{ not in }}",
     "{{ - }}",
     "{{ { a } }}",
@@ -149,7 +188,7 @@ static REFUSED: [&str; 17] = [
 pub type Pieces = &'static [(Option<usize>, &'static str)];
 
 // What may nest 150 deep.
-static NESTINGS: [Pieces; 10] = [
+static NESTINGS: [Pieces; 12] = [
     &[
         (None, "{{"),
         (Some(0), "("),
@@ -173,6 +212,12 @@ static NESTINGS: [Pieces; 10] = [
         (None, "}}"),
     ],
     &[(None, "{{"), (Some(0), "not"), (None, "a }}")],
+    &[(None, "{{"), (Some(0), "a if b else"), (None, "a }}")],
+    &[
+        (None, "{{"),
+        (Some(1), "a if b else"),
+        (None, "a if ( b ) else c }}"),
+    ],
     &[
         (Some(0), "{%if a %}"),
         (None, "{{ a }}"),
@@ -196,7 +241,11 @@ static NESTINGS: [Pieces; 10] = [
 ];
 
 // A long row nests no deeper than a short one.
-static LONG: Pieces = &[(None, "{{ a"), (Some(0), "and b . c"), (None, "}}")];
+static LONG: [Pieces; 3] = [
+    &[(None, "{{ a"), (Some(0), "and b . c"), (None, "}}")],
+    &[(None, "{{ a"), (Some(0), "if c"), (None, "}}")],
+    &[(None, "{{ a"), (Some(0), "< b"), (None, "}}")],
+];
 
 /// The pieces behind one another, with a blank between them.
 pub fn joined(alloc: Global, pieces: Pieces, count: usize) -> Result<String, Error> {
@@ -249,6 +298,8 @@ fn nestings_are_counted(rt: HostRuntime) -> Result<(), Fail> {
             );
         }
     }
-    assert!(rt; parses_joined(rt.alloc(), LONG, 20000)?);
+    for pieces in &LONG {
+        assert!(rt; parses_joined(rt.alloc(), *pieces, 100000)?);
+    }
     Ok(())
 }

@@ -1,12 +1,16 @@
--- One nesting less, one level less, and a value with its steps.
+-- One nesting less, one level less, and what stands behind a value or a comparison.
 use Rattle.std.proofs.Common.{◌≡◌, ℕ, zero, suc, ◌-◌, List, [], ◌∷◌, None, refl, sym, ap, arith}
 use Rattle.tm_syntax.specs.declared.token.Token.{Token}
 use Rattle.tm_syntax.specs.declared.tree.Expr.{Expr}
 use Rattle.tm_syntax.specs.declared.tree.Expr.TheVariants as exprs
+use Rattle.tm_syntax.specs.declared.tree.BinaryOperator.{BinaryOperator}
+use Rattle.tm_syntax.specs.declared.tree.Comparison.{Comparison}
+use Rattle.tm_syntax.specs.declared.tree.Condition.{Condition}
 use Rattle.tm_syntax.specs.declared.tree.Step.{Step}
+use Rattle.tm_syntax.specs.declared.tree.Step.TheVariants as steps
 use Rattle.tm_rules.specs.Meanings.{got}
 use Rattle.tm_rules.specs.Combinators.{branch, ◌>>=◌, pure}
-use Rattle.tm_parser.specs.Grammar.{Inside, inside, expr, operand, expr_at, primary, prefix, chained}
+use Rattle.tm_parser.specs.Grammar.{Inside, inside, expr, operand, expr_at, primary, prefix, chained, compared, conditional}
 use Rattle.tm_parser.specs.Statements.{inner, body, rest}
 
 suc-sub-one : (n : ℕ) → suc n - 1 ≡ n
@@ -62,6 +66,24 @@ some_steps x [] h = absurd (h refl)
 some_steps x (s ∷ ss) h = refl
 
 pub ruleset chains = (no_steps, some_steps)
+
+pub no_comparisons : (op : BinaryOperator) (y : Expr) (cs : List Comparison) → cs ≡ [] → compared op y cs ≡ steps.Binary op y
+no_comparisons op y cs h = ap (compared op y) h
+
+pub some_comparisons : (op : BinaryOperator) (y : Expr) (cs : List Comparison) → ¬ (cs ≡ []) → compared op y cs ≡ steps.Compare op y cs
+some_comparisons op y [] h = absurd (h refl)
+some_comparisons op y (c ∷ cs) h = refl
+
+pub ruleset comparisons = (no_comparisons, some_comparisons)
+
+pub no_conditions : (x : Expr) (cs : List Condition) → cs ≡ [] → conditional x cs ≡ x
+no_conditions x cs h = ap (conditional x) h
+
+pub some_conditions : (x : Expr) (cs : List Condition) → ¬ (cs ≡ []) → conditional x cs ≡ exprs.Conditional x cs
+some_conditions x [] h = absurd (h refl)
+some_conditions x (c ∷ cs) h = refl
+
+pub ruleset conditions = (no_conditions, some_conditions)
 
 pub no_body : (depth : ℕ) (ts : List Token) → depth ≡ 0 → (inner depth).body.reads ts ≡ None
 unfolding inner

@@ -18,6 +18,10 @@ use Rattle.tm_syntax.specs.declared.tree.Argument.{Argument}
 use Rattle.tm_syntax.specs.declared.tree.Argument.TheVariants as arguments
 use Rattle.tm_syntax.specs.declared.tree.Pair.{Pair}
 use Rattle.tm_syntax.specs.declared.tree.Pair.TheVariants as pairs
+use Rattle.tm_syntax.specs.declared.tree.Condition.{Condition}
+use Rattle.tm_syntax.specs.declared.tree.Condition.TheVariants as conditions
+use Rattle.tm_syntax.specs.declared.tree.Comparison.{Comparison}
+use Rattle.tm_syntax.specs.declared.tree.Comparison.TheVariants as comparisons
 use Rattle.tm_syntax.specs.declared.tree.Step.{Step}
 use Rattle.tm_syntax.specs.declared.tree.Step.TheVariants as steps
 use Rattle.tm_parser.specs.declared.tables.Link.{Link}
@@ -51,7 +55,7 @@ a_constant (tokens.Literal v) = Some v
 a_constant (tokens.Sign s) = constant_of s
 a_constant _ = None
 
--- The levels, from the tightest: 0 what stands behind a value, 1 powers, 2 products, 3 `~`, 4 sums, 5 comparisons, 6 `and`, 7 `or`, 8 `if`.
+-- The levels, from the tightest: 0 what stands behind a value, 1 powers, 2 products, 3 `~`, 4 sums, 5 comparisons, 6 `and`, 7 `or`.
 -- Each sign that goes on with a value: its level, and how.
 abbrev pub link_of : Sign → Option (ℕ × Link)
 link_of sign.Dot = Some (0, links.Attribute)
@@ -229,11 +233,30 @@ operation right op = do
   y ← right
   pure (steps.Binary op y)
 
--- No other comparison stands behind it.
+unfoldable pub another_comparison : Rule Expr → BinaryOperator → Rule Comparison
+another_comparison right op = do
+  y ← right
+  pure (comparisons.Comparison op y)
+
+-- what stands behind a link of comparisons in a row, where no other link may stand
+abbrev pub behind_comparison : Rule Expr → Link → Rule Comparison
+behind_comparison right (links.Comparison op) = another_comparison right op
+behind_comparison right _ = nothing
+
+-- as many comparisons in a row as there are
+abbrev pub comparisons_from : Rule Expr → ℕ → List Comparison → Rule (List Comparison)
+comparisons_from right level xs = many_from (link level) (behind_comparison right) xs
+
+-- a comparison, and those in a row behind it
+abbrev pub compared : BinaryOperator → Expr → List Comparison → Step
+compared op y [] = steps.Binary op y
+compared op y (c ∷ cs) = steps.Compare op y (c ∷ cs)
+
 unfoldable pub comparison : Rule Expr → ℕ → BinaryOperator → Rule Step
 comparison right level op = do
   y ← right
-  branch (link level) (λ _. nothing) (pure (steps.Binary op y))
+  cs ← comparisons_from right level []
+  pure (compared op y cs)
 
 unfoldable pub conjunction : Rule Expr → Rule Step
 conjunction right = do
@@ -282,8 +305,38 @@ operand i (suc level) = branch (prefix (suc level))
 unfoldable pub expr_at : Inside → ℕ → Rule Expr
 expr_at i level = with_steps i (operand i level) level
 
+-- a value or a condition, with all operators
+abbrev pub whole : Inside → Rule Expr
+whole i = expr_at i 7
+
+-- what stands for an else part that is missing
+abbrev pub no_else : Expr
+no_else = exprs.Const (value.undefined true)
+
+unfoldable pub else_part : Inside → Rule Expr
+else_part i = branch (first (is sign.Else)) (λ _. i.expr) (pure no_else)
+
+-- what stands behind `if`
+unfoldable pub condition : Inside → Rule Condition
+condition i = do
+  asked ← whole i
+  other ← else_part i
+  pure (conditions.Condition asked other)
+
+-- as many conditions as there are
+abbrev pub conditions_from : Inside → List Condition → Rule (List Condition)
+conditions_from i xs = many_from (first (is sign.If)) (λ _. condition i) xs
+
+-- a value and its conditions
+abbrev pub conditional : Expr → List Condition → Expr
+conditional x [] = x
+conditional x (c ∷ cs) = exprs.Conditional x (c ∷ cs)
+
 unfoldable pub expr : Inside → Rule Expr
-expr i = expr_at i 8
+expr i = do
+  x ← whole i
+  cs ← conditions_from i []
+  pure (conditional x cs)
 
 -- what may stand inside n nestings more
 unfoldable pub inside : ℕ → Inside

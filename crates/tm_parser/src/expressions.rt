@@ -2,7 +2,7 @@
 ghost use Rattle.std.specs.Prelude.{◌≡◌, ◌∷◌, [], MatchResult};
 ghost use Rattle.tm_parser.specs.Gives.{Gives};
 ghost use Rattle.tm_parser.specs.Grammar as grammar;
-ghost use Rattle.tm_parser.specs.Grammar.{inside, argument, attribute, bracketed, comparison, conjunction, disjunction, expr, expr_at, items, last_part, list_literal, map_literal, more_items, named, operand, operation, pair, part, primary, slice, step, steps_from, subscript, tuple};
+ghost use Rattle.tm_parser.specs.Grammar.{inside, argument, attribute, bracketed, behind_comparison, comparison, comparisons_from, condition, conditions_from, conjunction, disjunction, else_part, expr, expr_at, items, last_part, list_literal, map_literal, more_items, named, operand, operation, pair, part, primary, slice, step, steps_from, subscript, tuple};
 ghost use Rattle.tm_rules.specs.Combinators.{one_more};
 ghost use Rattle.tm_syntax.specs.declared.token.Sign.TheVariants as sign;
 ghost use Rattle.tm_values.specs.declared.error.ErrorKind.TheVariants.{OutOfMemory};
@@ -11,11 +11,11 @@ use crate::cursor::{Cursor, refusal};
 use crate::tables::Link;
 use sqlite_items::{Boxed, Items};
 use std::alloc::Global;
-use tm_syntax::{Argument, BinaryOperator, Expr, Name, Pair, Sign, Step};
+use tm_syntax::{Argument, BinaryOperator, Comparison, Condition, Expr, Name, Pair, Sign, Step};
 use tm_values::{Error, Value};
 
 /// The loosest level.
-const WHOLE: u8 = 8;
+const LOOSEST: u8 = 7;
 
 // Each method reads one rule, with `depth` nestings to go. SyntaxError where no tokens spell it.
 impl Cursor<'_> {
@@ -54,13 +54,59 @@ impl Cursor<'_> {
         self.operand(alloc, depth - 1, level)
     }
 
-    /// An expression.
+    /// An expression: a value, and the conditions behind it.
     #[cycle(expressions)]
     #[tactic(auto, unfolding(crate::specs::Grammar::expr))]
     pub fn expr(&mut self, alloc: Global, depth: u8) -> Result<Boxed<Expr>, Error>
         ensures { Gives result self.new ((expr (inside depth)).reads self.old) }
     {
-        self.expr_at(alloc, depth, WHOLE)
+        let value = self.expr_at(alloc, depth, LOOSEST)?;
+        let conditions = self.conditions(alloc, depth)?;
+        conditional(alloc, value, conditions)
+    }
+
+    /// As many conditions as there are.
+    #[cycle(expressions)]
+    fn conditions(&mut self, alloc: Global, depth: u8) -> Result<Items<Condition>, Error>
+        ensures { Gives result self.new
+            ((conditions_from (inside depth) []).reads self.old) }
+    {
+        let mut conditions = Items::new(alloc);
+        while self.take(Sign::If) {
+            conditions = self.one_condition(alloc, depth, conditions)?;
+        }
+        Ok(conditions)
+    }
+
+    /// A condition and its else part, at the end of others.
+    #[cycle(expressions)]
+    #[tactic(auto, unfolding(crate::specs::Grammar::condition))]
+    fn one_condition(
+        &mut self,
+        alloc: Global,
+        depth: u8,
+        conditions: Items<Condition>,
+    ) -> Result<Items<Condition>, Error>
+        ensures { Gives result self.new
+            ((one_more (condition (inside depth)) conditions).reads self.old) }
+    {
+        let mut conditions = conditions;
+        let asked = self.expr_at(alloc, depth, LOOSEST)?;
+        let otherwise = self.else_part(alloc, depth)?;
+        conditions.push(Condition::Condition(asked, otherwise))?;
+        Ok(conditions)
+    }
+
+    /// What stands behind `else`, if it stands there.
+    #[cycle(expressions)]
+    #[tactic(auto, unfolding(crate::specs::Grammar::else_part))]
+    fn else_part(&mut self, alloc: Global, depth: u8) -> Result<Boxed<Expr>, Error>
+        ensures { Gives result self.new ((else_part (inside depth)).reads self.old) }
+    {
+        if self.take(Sign::Else) {
+            return self.inner_expr(alloc, depth);
+        }
+        no_else(alloc)
     }
 
     /// An operand of a level, and the steps of that level behind it.
@@ -217,7 +263,7 @@ impl Cursor<'_> {
         Ok(Step::Binary(operator, self.operand(alloc, depth, level)?))
     }
 
-    /// The right side of a comparison, with no other comparison behind it.
+    /// The right side of a comparison, and the comparisons in a row behind it.
     #[cycle(expressions)]
     #[tactic(auto, unfolding(crate::specs::Grammar::comparison))]
     fn comparison(
@@ -231,10 +277,50 @@ impl Cursor<'_> {
             ((comparison (operand (inside depth) level) level operator).reads self.old) }
     {
         let right = self.operand(alloc, depth, level)?;
-        if self.take_link(level).is_some() {
-            return Err(refusal());
+        let behind = self.comparisons(alloc, depth, level)?;
+        Ok(compared(operator, right, behind))
+    }
+
+    /// As many comparisons in a row as there are.
+    #[cycle(expressions)]
+    fn comparisons(
+        &mut self,
+        alloc: Global,
+        depth: u8,
+        level: u8,
+    ) -> Result<Items<Comparison>, Error>
+        ensures { Gives result self.new
+            ((comparisons_from (operand (inside depth) level) level []).reads self.old) }
+    {
+        let mut comparisons = Items::new(alloc);
+        while let Some(link) = self.take_link(level) {
+            comparisons = self.one_comparison(alloc, depth, level, link, comparisons)?;
         }
-        Ok(Step::Binary(operator, right))
+        Ok(comparisons)
+    }
+
+    /// The comparison of a link, at the end of others.
+    #[cycle(expressions)]
+    #[tactic(auto, unfolding(crate::specs::Grammar::another_comparison))]
+    fn one_comparison(
+        &mut self,
+        alloc: Global,
+        depth: u8,
+        level: u8,
+        link: Link,
+        comparisons: Items<Comparison>,
+    ) -> Result<Items<Comparison>, Error>
+        ensures { Gives result self.new
+            ((one_more (behind_comparison (operand (inside depth) level) link) comparisons).reads
+            self.old) }
+    {
+        let Link::Comparison(operator) = link else {
+            return Err(refusal());
+        };
+        let mut comparisons = comparisons;
+        let right = self.operand(alloc, depth, level)?;
+        comparisons.push(Comparison::Comparison(operator, right))?;
+        Ok(comparisons)
     }
 
     /// The right side of `and`.
@@ -525,6 +611,44 @@ fn missing(alloc: Global) -> Result<Boxed<Expr>, Error>
         (λ e. e ≡ OutOfMemory ∷ []) }
 {
     Ok(Boxed::new(alloc, Expr::Const(Value::none()))?)
+}
+
+/// What stands for a missing else part. OutOfMemory for want of memory.
+fn no_else(alloc: Global) -> Result<Boxed<Expr>, Error>
+    ensures { MatchResult result
+        (λ expr. expr ≡ grammar.no_else)
+        (λ e. e ≡ OutOfMemory ∷ []) }
+{
+    Ok(Boxed::new(alloc, Expr::Const(Value::silent_undefined()))?)
+}
+
+/// A comparison, and those in a row behind it.
+#[tactic(auto, using(crate::proofs::Nesting::comparisons))]
+fn compared(operator: BinaryOperator, right: Boxed<Expr>, behind: Items<Comparison>) -> Step
+    ensures { result ≡ grammar.compared operator right behind }
+{
+    if behind.is_empty() {
+        return Step::Binary(operator, right);
+    }
+    Step::Compare(operator, right, behind)
+}
+
+/// A value and its conditions; the value itself where there are none. OutOfMemory for want of
+/// memory.
+#[tactic(auto, using(crate::proofs::Nesting::conditions))]
+fn conditional(
+    alloc: Global,
+    value: Boxed<Expr>,
+    conditions: Items<Condition>,
+) -> Result<Boxed<Expr>, Error>
+    ensures { MatchResult result
+        (λ expr. expr ≡ grammar.conditional value conditions)
+        (λ e. e ≡ OutOfMemory ∷ []) }
+{
+    if conditions.is_empty() {
+        return Ok(value);
+    }
+    Ok(Boxed::new(alloc, Expr::Conditional(value, conditions))?)
 }
 
 /// A value and its steps; the value itself where there are none. OutOfMemory for want of memory.

@@ -11,7 +11,7 @@ use std::alloc::Global;
 use tm_syntax::{Token, Tree};
 use tm_values::Error;
 
-/// How many brackets, prefixes and tags may be open at once.
+/// How many brackets, prefixes, else parts and tags may be open at once.
 const NESTINGS: u8 = 150;
 
 /// The tree that the tokens spell. SyntaxError where they spell none; OutOfMemory for want of

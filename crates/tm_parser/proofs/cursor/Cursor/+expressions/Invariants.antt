@@ -1,6 +1,6 @@
 use Rattle.std.proofs.Common.{◌≡◌, ◌+◌, ◌*◌, length, []}
 use Rattle.tm_syntax.specs.declared.token.Sign.TheVariants as sign
-use Rattle.tm_parser.specs.Grammar.{inside, operand, steps_from, more_items, argument, pair}
+use Rattle.tm_parser.specs.Grammar.{inside, operand, steps_from, comparisons_from, conditions_from, more_items, argument, pair}
 use Rattle.tm_parser.proofs.cursor.Cursor.+expressions.Given as goal
 
 -- each nesting has room for one call of each method, the higher above the lower
@@ -74,8 +74,14 @@ decreases-operand l = 4096 * l.depth + 8 * l.level + 7
 abbrev pub decreases-operation : goal.decreases-operation
 decreases-operation l = 4096 * l.depth + 8 * l.level + 8
 
+abbrev pub decreases-one_comparison : goal.decreases-one_comparison
+decreases-one_comparison l = 4096 * l.depth + 8 * l.level + 8
+
+abbrev pub decreases-comparisons : goal.decreases-comparisons
+decreases-comparisons l = 4096 * l.depth + 8 * l.level + 9
+
 abbrev pub decreases-comparison : goal.decreases-comparison
-decreases-comparison l = 4096 * l.depth + 8 * l.level + 8
+decreases-comparison l = 4096 * l.depth + 8 * l.level + 10
 
 abbrev pub decreases-conjunction : goal.decreases-conjunction
 decreases-conjunction l = 4096 * l.depth + 8 * l.level + 8
@@ -84,19 +90,42 @@ abbrev pub decreases-disjunction : goal.decreases-disjunction
 decreases-disjunction l = 4096 * l.depth + 8 * l.level + 8
 
 abbrev pub decreases-step : goal.decreases-step
-decreases-step l = 4096 * l.depth + 8 * l.level + 9
+decreases-step l = 4096 * l.depth + 8 * l.level + 11
 
 abbrev pub decreases-one_step : goal.decreases-one_step
-decreases-one_step l = 4096 * l.depth + 8 * l.level + 10
+decreases-one_step l = 4096 * l.depth + 8 * l.level + 12
 
 abbrev pub decreases-steps : goal.decreases-steps
-decreases-steps l = 4096 * l.depth + 8 * l.level + 11
+decreases-steps l = 4096 * l.depth + 8 * l.level + 13
 
 abbrev pub decreases-expr_at : goal.decreases-expr_at
-decreases-expr_at l = 4096 * l.depth + 8 * l.level + 12
+decreases-expr_at l = 4096 * l.depth + 8 * l.level + 14
+
+abbrev pub decreases-else_part : goal.decreases-else_part
+decreases-else_part l = 4096 * l.depth + 1
+
+abbrev pub decreases-one_condition : goal.decreases-one_condition
+decreases-one_condition l = 4096 * l.depth + 128
+
+abbrev pub decreases-conditions : goal.decreases-conditions
+decreases-conditions l = 4096 * l.depth + 129
 
 abbrev pub decreases-expr : goal.decreases-expr
-decreases-expr l = 4096 * l.depth + 128
+decreases-expr l = 4096 * l.depth + 130
+
+abbrev pub invariant-conditions-loop-alloc : goal.invariant-conditions-loop-alloc
+invariant-conditions-loop-alloc l =
+    (conditions_from (inside l.depth) l.conditions).reads l.self ≡ (conditions_from (inside l.depth) []).reads l.fn.self
+
+abbrev pub decreases-conditions-loop-alloc : goal.decreases-conditions-loop-alloc
+decreases-conditions-loop-alloc l = length l.self
+
+abbrev pub invariant-comparisons-loop-link : goal.invariant-comparisons-loop-link
+invariant-comparisons-loop-link l =
+    (comparisons_from (operand (inside l.depth) l.level) l.level l.comparisons).reads l.self ≡ (comparisons_from (operand (inside l.depth) l.level) l.level []).reads l.fn.self
+
+abbrev pub decreases-comparisons-loop-link : goal.decreases-comparisons-loop-link
+decreases-comparisons-loop-link l = length l.self
 
 abbrev pub invariant-steps-loop-link : goal.invariant-steps-loop-link
 invariant-steps-loop-link l =
