@@ -67,7 +67,7 @@ behind : (base c1 c2 first rest : List Instruction) → c1 ≡ base ++ first →
 behind base c1 c2 first rest d d2 = d2 ∙ ap (λ l. l ++ rest) d ∙ append_assoc base first rest
 
 -- one part, and another at the place behind it
-placed : (base c1 c2 first : List Instruction) (rest : ℕ → List Instruction) → c1 ≡ base ++ first → c2 ≡ c1 ++ rest (length c1) → c2 ≡ base ++ before (length base) first rest
+pub placed : (base c1 c2 first : List Instruction) (rest : ℕ → List Instruction) → c1 ≡ base ++ first → c2 ≡ c1 ++ rest (length c1) → c2 ≡ base ++ before (length base) first rest
 placed base c1 c2 first rest d d2 = behind base c1 c2 first (rest (length base + length first)) d (d2 ∙ ap (λ n. c1 ++ rest n) (ap length d ∙ length-append base first))
 
 -- parts, and the instruction that takes so many

@@ -1,3 +1,5 @@
 pub mod Rows
 pub mod Generated
+pub mod Links
+pub mod Conditions
 pub mod Statements

@@ -1,17 +1,19 @@
 //! Instructions from trees.
-ghost use Rattle.std.specs.Prelude.{◌≡◌, ◌++◌, [], ◌∷◌, OnOk, IfOk, IfErr, length};
+ghost use Rattle.std.specs.Prelude.{◌≡◌, ◌++◌, ◌<◌, [], ◌∷◌, All, OnOk, IfOk, IfErr, length, reverse};
+ghost use Rattle.tm_generator.specs.Jumps.{link_places, asked, asked_places, all_answered};
 ghost use Rattle.tm_syntax.specs.Blocks.{blocks_of, blocks_in, compiled_blocks};
-ghost use Rattle.tm_syntax.specs.Code.{unary_code, binary_code, expr_code, exprs_code, pair_code, pairs_code, argument_code, arguments_code, step_code, steps_code, statement_code, statements_code};
+ghost use Rattle.tm_syntax.specs.Code.{unary_code, binary_code, expr_code, exprs_code, pair_code, pairs_code, argument_code, arguments_code, step_code, links_code, in_a_row, steps_code, statement_code, statements_code};
 ghost use Rattle.tm_syntax.specs.Named.{put_each, by_name};
-ghost use Rattle.tm_syntax.specs.declared.tree.Argument.TheBlock.{hidden-the_row-Expr-1 as exprs, hidden-the_row-Pair-2 as pairs, hidden-the_row-Argument-3 as arguments, hidden-the_row-Step-4 as steps};
+ghost use Rattle.tm_syntax.specs.declared.tree.Argument.TheBlock.{hidden-the_row-Expr-1 as exprs, hidden-the_row-Pair-2 as pairs, hidden-the_row-Argument-3 as arguments, hidden-the_row-Step-4 as steps, hidden-the_row-Comparison-6 as comparisons};
 ghost use Rattle.tm_syntax.specs.declared.tree.Stmt.TheBlock.{hidden-the_row-Stmt-0 as statements};
 ghost use Rattle.tm_values.specs.declared.error.ErrorKind.TheVariants.{OutOfMemory};
 
-use crate::patches::put;
+use crate::patches::{end_at, put};
 use sqlite_items::{Boxed, Items};
 use std::alloc::Global;
 use tm_syntax::{
-    Argument, BinaryOperator, Expr, Instruction, NameMap, Pair, Step, Stmt, Tree, UnaryOperator,
+    Argument, BinaryOperator, Comparison, Condition, Expr, Instruction, NameMap, Pair, Step, Stmt,
+    Tree, UnaryOperator,
 };
 use tm_values::Error;
 
@@ -65,7 +67,7 @@ fn push_binary(code: &mut Items<Instruction>, operator: BinaryOperator) -> Resul
 
 /// Adds the code of an expression; OutOfMemory.
 #[cycle(expressions)]
-fn push_expr(code: &mut Items<Instruction>, expr: &Expr) -> Result<(), Error>
+fn push_expr(alloc: Global, code: &mut Items<Instruction>, expr: &Expr) -> Result<(), Error>
     ensures ok { OnOk result (code.new ≡ code.old ++ expr_code (length code.old) expr.now) }
     ensures err { IfErr result (λ e. e ≡ OutOfMemory ∷ []) }
 {
@@ -73,33 +75,41 @@ fn push_expr(code: &mut Items<Instruction>, expr: &Expr) -> Result<(), Error>
         Expr::Var(name) => put(code, Instruction::Lookup(name.share()?)),
         Expr::Const(value) => put(code, Instruction::LoadConst(value.share()?)),
         Expr::List(items) => {
-            push_exprs(code, items.as_slice())?;
+            push_exprs(alloc, code, items.as_slice())?;
             put(code, Instruction::BuildList(items.len()))?;
             Ok(())
         }
         Expr::Tuple(items) => {
-            push_exprs(code, items.as_slice())?;
+            push_exprs(alloc, code, items.as_slice())?;
             put(code, Instruction::BuildTuple(items.len()))?;
             Ok(())
         }
         Expr::Map(entries) => {
-            push_pairs(code, entries.as_slice())?;
+            push_pairs(alloc, code, entries.as_slice())?;
             put(code, Instruction::BuildMap(entries.len()))?;
             Ok(())
         }
         Expr::Call(name, given) => {
-            push_arguments(code, given.as_slice())?;
+            push_arguments(alloc, code, given.as_slice())?;
             put(code, Instruction::CallFunction(name.share()?, given.len()))?;
             Ok(())
         }
         Expr::Unary(operator, operand) => {
-            push_expr(code, operand.get())?;
+            push_expr(alloc, code, operand.get())?;
             put(code, unary(*operator))?;
             Ok(())
         }
         Expr::Chain(first, behind) => {
-            push_expr(code, first.get())?;
-            push_steps(code, behind.as_slice())?;
+            push_expr(alloc, code, first.get())?;
+            push_steps(alloc, code, behind.as_slice())?;
+            Ok(())
+        }
+        Expr::Conditional(value, conditions) => {
+            let conditions = conditions.as_slice();
+            let mut tests = Items::new(alloc);
+            push_questions(alloc, code, conditions, &mut tests)?;
+            push_expr(alloc, code, value.get())?;
+            push_answers(alloc, code, conditions, tests)?;
             Ok(())
         }
     }
@@ -107,51 +117,104 @@ fn push_expr(code: &mut Items<Instruction>, expr: &Expr) -> Result<(), Error>
 
 /// Adds the code of expressions; OutOfMemory.
 #[cycle(expressions)]
-fn push_exprs(code: &mut Items<Instruction>, items: &[Expr]) -> Result<(), Error>
+fn push_exprs(alloc: Global, code: &mut Items<Instruction>, items: &[Expr]) -> Result<(), Error>
     ensures ok { OnOk result
         (code.new ≡ code.old ++ exprs_code (length code.old) (exprs items.now)) }
     ensures err { IfErr result (λ e. e ≡ OutOfMemory ∷ []) }
 {
     for item in items {
-        push_expr(code, item)?;
+        push_expr(alloc, code, item)?;
     }
     Ok(())
 }
 
 /// Adds the code of a pair; OutOfMemory.
 #[cycle(expressions)]
-fn push_pair(code: &mut Items<Instruction>, pair: &Pair) -> Result<(), Error>
+fn push_pair(alloc: Global, code: &mut Items<Instruction>, pair: &Pair) -> Result<(), Error>
     ensures ok { OnOk result (code.new ≡ code.old ++ pair_code (length code.old) pair.now) }
     ensures err { IfErr result (λ e. e ≡ OutOfMemory ∷ []) }
 {
     let Pair::Pair(key, value) = pair;
-    push_expr(code, key.get())?;
-    push_expr(code, value.get())?;
+    push_expr(alloc, code, key.get())?;
+    push_expr(alloc, code, value.get())?;
+    Ok(())
+}
+
+/// Adds what conditions ask, the last first, and the places of their jumps; OutOfMemory.
+#[cycle(expressions)]
+fn push_questions(
+    alloc: Global,
+    code: &mut Items<Instruction>,
+    conditions: &[Condition],
+    tests: &mut Items<usize>,
+) -> Result<(), Error>
+    ensures ok { OnOk result (code.new ≡ asked code.old conditions.now) }
+    ensures tests { OnOk result
+        (tests.new ≡ tests.old ++ asked_places code.old conditions.now) }
+    ensures err { IfErr result (λ e. e ≡ OutOfMemory ∷ []) }
+{
+    let mut left = conditions.len();
+    while left > 0 {
+        left -= 1;
+        let Condition::Condition(question, _) = &conditions[left];
+        push_expr(alloc, code, question.get())?;
+        tests.push(code.len())?;
+        put(code, Instruction::JumpIfFalse(0))?;
+    }
+    Ok(())
+}
+
+/// Adds what stands where conditions are false, to which their jumps lead; OutOfMemory.
+#[cycle(expressions)]
+fn push_answers(
+    alloc: Global,
+    code: &mut Items<Instruction>,
+    conditions: &[Condition],
+    mut tests: Items<usize>,
+) -> Result<(), Error>
+    requires each { length tests ≡ length conditions.now }
+    requires within { All (λ test. test < length code.old) tests }
+    ensures ok { OnOk result (code.new ≡ all_answered code.old (reverse tests) conditions.now) }
+    ensures err { IfErr result (λ e. e ≡ OutOfMemory ∷ []) }
+{
+    for condition in conditions {
+        let Some(test) = tests.pop() else {
+            unreachable!()
+        };
+        let Condition::Condition(_, otherwise) = condition;
+        let jump = code.len();
+        put(code, Instruction::Jump(0))?;
+        let start = code.len();
+        push_expr(alloc, code, otherwise.get())?;
+        let end = code.len();
+        code.set(jump, Instruction::Jump(end));
+        code.set(test, Instruction::JumpIfFalse(start));
+    }
     Ok(())
 }
 
 /// Adds the code of pairs; OutOfMemory.
 #[cycle(expressions)]
-fn push_pairs(code: &mut Items<Instruction>, entries: &[Pair]) -> Result<(), Error>
+fn push_pairs(alloc: Global, code: &mut Items<Instruction>, entries: &[Pair]) -> Result<(), Error>
     ensures ok { OnOk result
         (code.new ≡ code.old ++ pairs_code (length code.old) (pairs entries.now)) }
     ensures err { IfErr result (λ e. e ≡ OutOfMemory ∷ []) }
 {
     for entry in entries {
-        push_pair(code, entry)?;
+        push_pair(alloc, code, entry)?;
     }
     Ok(())
 }
 
 /// Adds the code of an argument; OutOfMemory.
 #[cycle(expressions)]
-fn push_argument(code: &mut Items<Instruction>, argument: &Argument) -> Result<(), Error>
+fn push_argument(alloc: Global, code: &mut Items<Instruction>, argument: &Argument) -> Result<(), Error>
     ensures ok { OnOk result (code.new ≡ code.old ++ argument_code (length code.old) argument.now) }
     ensures err { IfErr result (λ e. e ≡ OutOfMemory ∷ []) }
 {
     match argument {
         Argument::Plain(expr) => {
-            push_expr(code, expr.get())?;
+            push_expr(alloc, code, expr.get())?;
             Ok(())
         }
     }
@@ -159,44 +222,49 @@ fn push_argument(code: &mut Items<Instruction>, argument: &Argument) -> Result<(
 
 /// Adds the code of arguments; OutOfMemory.
 #[cycle(expressions)]
-fn push_arguments(code: &mut Items<Instruction>, given: &[Argument]) -> Result<(), Error>
+fn push_arguments(alloc: Global, code: &mut Items<Instruction>, given: &[Argument]) -> Result<(), Error>
     ensures ok { OnOk result
         (code.new ≡ code.old ++ arguments_code (length code.old) (arguments given.now)) }
     ensures err { IfErr result (λ e. e ≡ OutOfMemory ∷ []) }
 {
     for argument in given {
-        push_argument(code, argument)?;
+        push_argument(alloc, code, argument)?;
     }
     Ok(())
 }
 
 /// Adds the code of a step; OutOfMemory.
 #[cycle(expressions)]
-fn push_step(code: &mut Items<Instruction>, step: &Step) -> Result<(), Error>
+fn push_step(alloc: Global, code: &mut Items<Instruction>, step: &Step) -> Result<(), Error>
     ensures ok { OnOk result (code.new ≡ code.old ++ step_code (length code.old) step.now) }
     ensures err { IfErr result (λ e. e ≡ OutOfMemory ∷ []) }
 {
     match step {
         Step::Attribute(name) => put(code, Instruction::GetAttr(name.share()?)),
         Step::Item(key) => {
-            push_expr(code, key.get())?;
+            push_expr(alloc, code, key.get())?;
             put(code, Instruction::GetItem)
         }
         Step::Slice(start, stop, step) => {
-            push_expr(code, start.get())?;
-            push_expr(code, stop.get())?;
-            push_expr(code, step.get())?;
+            push_expr(alloc, code, start.get())?;
+            push_expr(alloc, code, stop.get())?;
+            push_expr(alloc, code, step.get())?;
             put(code, Instruction::Slice)?;
             Ok(())
         }
         Step::Binary(operator, operand) => {
-            push_expr(code, operand.get())?;
+            push_expr(alloc, code, operand.get())?;
             push_binary(code, *operator)
+        }
+        Step::Compare(operator, right, behind) => {
+            push_expr(alloc, code, right.get())?;
+            push_comparisons(alloc, code, *operator, behind.as_slice())?;
+            Ok(())
         }
         Step::And(operand) => {
             let test = code.len();
             put(code, Instruction::JumpIfFalseOrPop(0))?;
-            push_expr(code, operand.get())?;
+            push_expr(alloc, code, operand.get())?;
             let end = code.len();
             code.set(test, Instruction::JumpIfFalseOrPop(end));
             Ok(())
@@ -204,7 +272,7 @@ fn push_step(code: &mut Items<Instruction>, step: &Step) -> Result<(), Error>
         Step::Or(operand) => {
             let test = code.len();
             put(code, Instruction::JumpIfTrueOrPop(0))?;
-            push_expr(code, operand.get())?;
+            push_expr(alloc, code, operand.get())?;
             let end = code.len();
             code.set(test, Instruction::JumpIfTrueOrPop(end));
             Ok(())
@@ -212,15 +280,69 @@ fn push_step(code: &mut Items<Instruction>, step: &Step) -> Result<(), Error>
     }
 }
 
+/// Adds the code of a comparison and those behind it; OutOfMemory.
+#[cycle(expressions)]
+fn push_comparisons(
+    alloc: Global,
+    code: &mut Items<Instruction>,
+    operator: BinaryOperator,
+    behind: &[Comparison],
+) -> Result<(), Error>
+    ensures ok { OnOk result 
+        (code.new ≡ code.old ++ in_a_row
+            (λ end. links_code end (length code.old) operator (comparisons behind.now))
+            (length code.old)) }
+    ensures err { IfErr result (λ e. e ≡ OutOfMemory ∷ []) }
+{
+    let mut places = Items::new(alloc);
+    push_links(alloc, code, operator, behind, &mut places)?;
+    let jump = code.len();
+    put(code, Instruction::Jump(0))?;
+    let swap = code.len();
+    put(code, Instruction::Swap)?;
+    put(code, Instruction::DiscardTop)?;
+    let end = code.len();
+    code.set(jump, Instruction::Jump(end));
+    end_at(code, places.as_slice(), swap);
+    Ok(())
+}
+
+/// Adds the comparisons themselves, whose jumps lead nowhere yet, and the places of these; OutOfMemory.
+#[cycle(expressions)]
+fn push_links(
+    alloc: Global,
+    code: &mut Items<Instruction>,
+    first: BinaryOperator,
+    behind: &[Comparison],
+    places: &mut Items<usize>,
+) -> Result<(), Error>
+    ensures ok { OnOk result
+        (code.new ≡ code.old ++ links_code 0 (length code.old) first (comparisons behind.now)) }
+    ensures places { OnOk result
+        (places.new ≡ places.old ++ link_places (length code.old) behind.now) }
+    ensures err { IfErr result (λ e. e ≡ OutOfMemory ∷ []) }
+{
+    let mut operator = first;
+    for comparison in behind {
+        let Comparison::Comparison(next, right) = comparison;
+        put(code, Instruction::CompareAndPreserve(operator))?;
+        places.push(code.len())?;
+        put(code, Instruction::JumpIfFalseOrPop(0))?;
+        push_expr(alloc, code, right.get())?;
+        operator = *next;
+    }
+    push_binary(code, operator)
+}
+
 /// Adds the code of steps; OutOfMemory.
 #[cycle(expressions)]
-fn push_steps(code: &mut Items<Instruction>, behind: &[Step]) -> Result<(), Error>
+fn push_steps(alloc: Global, code: &mut Items<Instruction>, behind: &[Step]) -> Result<(), Error>
     ensures ok { OnOk result
         (code.new ≡ code.old ++ steps_code (length code.old) (steps behind.now)) }
     ensures err { IfErr result (λ e. e ≡ OutOfMemory ∷ []) }
 {
     for step in behind {
-        push_step(code, step)?;
+        push_step(alloc, code, step)?;
     }
     Ok(())
 }
@@ -242,12 +364,12 @@ fn push_statement(
     match statement {
         Stmt::EmitRaw(text) => put(code, Instruction::EmitRaw(text.share()?)),
         Stmt::EmitExpr(expr) => {
-            push_expr(code, expr.get())?;
+            push_expr(alloc, code, expr.get())?;
             put(code, Instruction::Emit)?;
             Ok(())
         }
         Stmt::If(condition, body, other) => {
-            push_expr(code, condition.get())?;
+            push_expr(alloc, code, condition.get())?;
             let test = code.len();
             put(code, Instruction::JumpIfFalse(0))?;
             push_statements(alloc, code, blocks, body.as_slice())?;

@@ -1,5 +1,6 @@
 //! Instructions one after the other, and jumps whose places are known later.
-ghost use Rattle.std.specs.Prelude.{◌≡◌, ◌++◌, ◌<◌, [], ◌∷◌, OnOk, IfErr, length, slice_set};
+ghost use Rattle.std.specs.Prelude.{◌≡◌, ◌++◌, ◌<◌, [], ◌∷◌, All, OnOk, IfErr, length, slice_set};
+ghost use Rattle.tm_generator.specs.Jumps.{ended};
 ghost use Rattle.tm_values.specs.declared.error.ErrorKind.TheVariants.{OutOfMemory};
 
 use sqlite_items::Items;
@@ -13,4 +14,14 @@ pub(crate) fn put(code: &mut Items<Instruction>, instruction: Instruction) -> Re
 {
     code.push(instruction)?;
     Ok(())
+}
+
+/// Lets the jumps at these places lead to an end.
+pub(crate) fn end_at(code: &mut Items<Instruction>, places: &[usize], end: usize)
+    requires { All (λ place. place < length code.old) places.now }
+    ensures { code.new ≡ ended code.old places.now end }
+{
+    for place in places {
+        code.set(*place, Instruction::JumpIfFalseOrPop(end));
+    }
 }

@@ -1,7 +1,12 @@
+use Rattle.std.proofs.Common.{◌+◌, [], ◌∷◌, ◌++◌, length, rules, refl, ap, ◌∙◌, arith, length-append}
 use Rattle.std.proofs.lemmas.List.{drop_all}
+use Rattle.tm_syntax.specs.declared.tree.Argument.TheFolds as folds
 use Rattle.std.proofs.lemmas.Result.{on_ok_weaker}
 use Rattle.tm_generator.proofs.Rows.{more_exprs, no_more_exprs, more_pairs, no_more_pairs, more_arguments, no_more_arguments, more_steps, no_more_steps}
 use Rattle.tm_generator.proofs.Generated.{next, made_list, made_tuple, made_map, made_call, made_unary, made_chain, made_pair, made_plain, made_item, made_slice, made_binary, made_and, made_or}
+use Rattle.tm_generator.proofs.Links.{whole_comparison, more_links, no_more_links, more_places, no_more_places, row-within, made_row, made_compare}
+use Rattle.tm_generator.proofs.Conditions.{more_asked, more_asked_places, answers-within, made_conditional, more_answered, still_within}
+use Rattle.tm_generator.specs.Jumps.{link_places, asked_places}
 use Rattle.tm_generator.proofs.generator.+expressions.Goals as goal
 
 pub push_argument-returns-clause-ok : goal.push_argument-returns-clause-ok
@@ -97,3 +102,74 @@ push_steps-loop-step-preserved t c =
 
 pub push_steps-returns-clause-ok : goal.push_steps-returns-clause-ok
 push_steps-returns-clause-ok t c = no_more_steps _ _ _ (drop_all c.loop-step.step-index c.args.behind.now c.loop-step-test.false) c.loop-step.invariant
+
+pub push_links-loop-comparison-preserved : goal.push_links-loop-comparison-preserved
+push_links-loop-comparison-preserved t c =
+    let left = next c.args.behind.now c.loop-comparison.comparison-index c.comparison-item.result c.loop-comparison-test.true c.comparison-item.is in
+    let whole = whole_comparison c.comparison-item.result _ _ _ c.get.result.now refl c.get.ensures in (
+      more_links c.loop-comparison.code c.put.new.code c.put-in-loop-comparison.new.code c.push_expr.new.code _ _ _ c.comparison-item.result c.loop-comparison.operator _ c.get.result.now left whole
+      c.in_ok-put.ensures.ok c.in_ok-put-2.ensures.ok c.in_ok-push_expr.ensures.ok c.loop-comparison.invariant.0,
+      more_places c.loop-comparison.code c.put.new.code c.put-in-loop-comparison.new.code c.push_expr.new.code c.loop-comparison.places c.push.new.self _ c.len.result _ _ c.comparison-item.result c.loop-comparison.operator _ c.get.result.now left whole
+      c.in_ok-put.ensures.ok c.len.ensures c.in_ok-push.ensures.ok c.in_ok-put-2.ensures.ok c.in_ok-push_expr.ensures.ok c.loop-comparison.invariant.1,
+    )
+
+pub push_links-returns-clause-ok : goal.push_links-returns-clause-ok
+push_links-returns-clause-ok t c =
+    on_ok_weaker c.push_binary.result
+    (no_more_links c.loop-comparison.code c.push_binary.new.code _ _ _ (drop_all c.loop-comparison.comparison-index c.args.behind.now c.loop-comparison-test.false) c.loop-comparison.invariant.0)
+    c.push_binary.ensures.ok
+
+pub push_comparisons-end_at-requires : goal.push_comparisons-end_at-requires
+push_comparisons-end_at-requires t c =
+    row-within c.args.code.now c.push_links.new.code c.put.new.code c.put-2.new.code c.put-3.new.code c.set.new.self c.as_slice.result.now c.args.operator c.args.behind.now _ _ _
+    c.in_ok-push_links.ensures.ok c.in_ok-put.ensures.ok c.in_ok-put-2.ensures.ok c.in_ok-put-3.ensures.ok c.set.ensures
+    (c.as_slice.ensures ∙ c.in_ok-push_links.ensures.places ∙ ap (λ l. l ++ link_places (length c.args.code.now) c.args.behind.now) c.new-places.ensures)
+
+pub push_comparisons-returns-clause-ok : goal.push_comparisons-returns-clause-ok
+push_comparisons-returns-clause-ok t c =
+    made_row c.args.code.now c.push_links.new.code c.put.new.code c.put-2.new.code c.put-3.new.code c.set.new.self c.end_at.new.code c.as_slice.result.now c.args.operator c.args.behind.now _ _ _ _
+    c.in_ok-push_links.ensures.ok (c.as_slice.ensures ∙ c.in_ok-push_links.ensures.places ∙ ap (λ l. l ++ link_places (length c.args.code.now) c.args.behind.now) c.new-places.ensures)
+    c.len-jump.ensures c.in_ok-put.ensures.ok c.len-swap.ensures c.in_ok-put-2.ensures.ok c.in_ok-put-3.ensures.ok c.len-end.ensures c.set.ensures c.end_at.ensures
+
+pub push_step-returns-in_ok-push_comparisons-in-Compare-clause-ok : goal.push_step-returns-in_ok-push_comparisons-in-Compare-clause-ok
+push_step-returns-in_ok-push_comparisons-in-Compare-clause-ok t c =
+    rw c.in-Compare.is (made_compare c.args.code.now c.push_expr-in-Compare.new.code c.push_comparisons.new.code c.in-Compare.operator c.in-Compare.right c.in-Compare.behind
+    (rw (← c.get-in-Compare.ensures) c.in_ok-push_expr-in-Compare.ensures.ok) (rw (← c.as_slice.ensures) c.in_ok-push_comparisons-in-Compare.ensures.ok))
+
+pub push_questions-loop-left-preserved : goal.push_questions-loop-left-preserved
+push_questions-loop-left-preserved t c = (
+      omega (arith, c.loop-left.invariant.0),
+      more_asked c.args.code.now c.loop-left.code c.push_expr.new.code c.put.new.code c.args.conditions.now c.loop-left.left c.index-conditions-left.result _ c.get.result.now c.loop-left-test.true c.loop-left.invariant.0
+      c.index-conditions-left.is c.get.ensures c.loop-left.invariant.1 c.in_ok-push_expr.ensures.ok c.in_ok-put.ensures.ok,
+      more_asked_places c.args.code.now c.loop-left.code c.push_expr.new.code c.args.conditions.now c.loop-left.left c.index-conditions-left.result _ c.get.result.now c.args.tests.now c.loop-left.tests c.push.new.self c.len.result
+      c.loop-left-test.true c.loop-left.invariant.0
+      c.index-conditions-left.is c.get.ensures c.loop-left.invariant.1 c.in_ok-push_expr.ensures.ok c.len.ensures c.loop-left.invariant.2 c.in_ok-push.ensures.ok,
+    )
+
+pub push_expr-push_answers-requires : goal.push_expr-push_answers-requires
+push_expr-push_answers-requires t c = (
+      search (rules, folds.the_lemmas),
+      answers-within c.args.code.now c.push_questions.new.code c.push_expr-in-Conditional.new.code c.in-Conditional.value c.as_slice-conditions.result.now c.push_questions.new.tests
+      c.in_ok-push_questions-in-Conditional.ensures.ok
+      (c.in_ok-push_questions-in-Conditional.ensures.tests ∙ ap (λ l. l ++ asked_places c.args.code.now c.as_slice-conditions.result.now) c.new-tests.ensures)
+      (rw (← c.get-in-Conditional.ensures) c.in_ok-push_expr-in-Conditional.ensures.ok),
+    )
+
+pub push_expr-returns-in_ok-push_answers-in-Conditional-clause-ok : goal.push_expr-returns-in_ok-push_answers-in-Conditional-clause-ok
+push_expr-returns-in_ok-push_answers-in-Conditional-clause-ok t c =
+    rw c.in-Conditional.is (made_conditional c.args.code.now c.push_questions.new.code c.push_expr-in-Conditional.new.code c.push_answers.new.code c.in-Conditional.value c.in-Conditional.conditions c.push_questions.new.tests
+    (rw (← c.as_slice-conditions.ensures) c.in_ok-push_questions-in-Conditional.ensures.ok)
+    (rw (← c.as_slice-conditions.ensures)
+    (c.in_ok-push_questions-in-Conditional.ensures.tests ∙ ap (λ l. l ++ asked_places c.args.code.now c.as_slice-conditions.result.now) c.new-tests.ensures))
+    (rw (← c.get-in-Conditional.ensures) c.in_ok-push_expr-in-Conditional.ensures.ok)
+    (rw (← c.as_slice-conditions.ensures) c.in_ok-push_answers-in-Conditional.ensures.ok))
+
+pub push_answers-loop-condition-preserved : goal.push_answers-loop-condition-preserved
+push_answers-loop-condition-preserved t c =
+    let left = next c.args.conditions.now c.loop-condition.condition-index c.condition-item.result c.loop-condition-test.true c.condition-item.is in (
+      omega (arith, c.loop-condition.invariant.0, ap length c.in-Some.ensures, length-append c.pop.new.self (c.in-Some.test ∷ [])),
+      still_within c.loop-condition.code c.put.new.code c.push_expr.new.code c.set.new.self c.set-in-loop-condition.new.self c.get.result.now _ _ _ c.loop-condition.tests c.pop.new.self _ _
+      c.in-Some.ensures c.in_ok-put.ensures.ok c.in_ok-push_expr.ensures.ok c.set.ensures c.set-in-loop-condition.ensures c.loop-condition.invariant.1,
+      more_answered c.loop-condition.code c.put.new.code c.push_expr.new.code c.set.new.self c.set-in-loop-condition.new.self _ _ _ c.condition-item.result _ c.get.result.now _ c.loop-condition.tests c.pop.new.self _ _ _ _
+      left c.in-Some.ensures c.get.ensures c.len-jump.ensures c.in_ok-put.ensures.ok c.len-start.ensures c.in_ok-push_expr.ensures.ok c.len-end.ensures c.set.ensures c.set-in-loop-condition.ensures c.loop-condition.invariant.2,
+    )

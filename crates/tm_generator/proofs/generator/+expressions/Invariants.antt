@@ -1,6 +1,7 @@
-use Rattle.std.proofs.Common.{◌≡◌, ◌++◌, length, drop}
-use Rattle.tm_syntax.specs.Code.{exprs_code, pairs_code, arguments_code, steps_code}
-use Rattle.tm_syntax.specs.declared.tree.Argument.TheBlock.{hidden-the_row-Expr-1 as exprs, hidden-the_row-Pair-2 as pairs, hidden-the_row-Argument-3 as arguments, hidden-the_row-Step-4 as steps}
+use Rattle.std.proofs.Common.{◌≡◌, ◌++◌, ◌+◌, ◌<◌, ◌≤◌, All, length, drop, reverse}
+use Rattle.tm_syntax.specs.Code.{exprs_code, pairs_code, arguments_code, links_code, steps_code}
+use Rattle.tm_syntax.specs.declared.tree.Argument.TheBlock.{hidden-the_row-Expr-1 as exprs, hidden-the_row-Pair-2 as pairs, hidden-the_row-Argument-3 as arguments, hidden-the_row-Step-4 as steps, hidden-the_row-Comparison-6 as comparisons}
+use Rattle.tm_generator.specs.Jumps.{link_places, asked, asked_places, all_answered}
 use Rattle.tm_generator.proofs.generator.+expressions.Given as goal
 
 abbrev pub invariant-push_exprs-loop-item : goal.invariant-push_exprs-loop-item
@@ -18,3 +19,23 @@ invariant-push_arguments-loop-argument l =
 abbrev pub invariant-push_steps-loop-step : goal.invariant-push_steps-loop-step
 invariant-push_steps-loop-step l =
     l.code ++ steps_code (length l.code) (steps (drop l.step-index l.behind)) ≡ l.fn.code ++ steps_code (length l.fn.code) (steps l.behind)
+
+abbrev pub invariant-push_links-loop-comparison : goal.invariant-push_links-loop-comparison
+invariant-push_links-loop-comparison l =
+    (l.code ++ links_code 0 (length l.code) l.operator (comparisons (drop l.comparison-index l.behind)) ≡ l.fn.code ++ links_code 0 (length l.fn.code) l.fn.first (comparisons l.behind))
+    × (l.places ++ link_places (length l.code) (drop l.comparison-index l.behind) ≡ l.fn.places ++ link_places (length l.fn.code) l.behind)
+
+abbrev pub invariant-push_questions-loop-left : goal.invariant-push_questions-loop-left
+invariant-push_questions-loop-left l =
+    (l.left ≤ length l.conditions)
+    × (l.code ≡ asked l.fn.code (drop l.left l.conditions))
+    × (l.tests ≡ l.fn.tests ++ asked_places l.fn.code (drop l.left l.conditions))
+
+abbrev pub decreases-push_questions-loop-left : goal.decreases-push_questions-loop-left
+decreases-push_questions-loop-left l = l.left
+
+abbrev pub invariant-push_answers-loop-condition : goal.invariant-push_answers-loop-condition
+invariant-push_answers-loop-condition l =
+    (length l.tests + l.condition-index ≡ length l.conditions)
+    × All (λ test. test < length l.code) l.tests
+    × (all_answered l.code (reverse l.tests) (drop l.condition-index l.conditions) ≡ all_answered l.fn.code (reverse l.fn.tests) l.conditions)
