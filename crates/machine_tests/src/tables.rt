@@ -7,7 +7,9 @@ ghost use Rattle.tm_tables.specs.Stated.{just, keeping};
 use std::alloc::Global;
 use std::test::Fail;
 use tm_compiler::{NameMap, SyntaxConfig};
-use tm_tables::{Answer, Callable, CompiledTemplate, Context, Frame, Objects, TemplateConfig, View};
+use tm_tables::{
+    Answer, Callable, CompiledTemplate, Context, Frame, Objects, TemplateConfig, View,
+};
 use tm_values::{AutoEscape, Error, UndefinedBehavior, Value};
 
 /// Keeps that it was called, and gives none.

@@ -171,10 +171,16 @@ static REFUSED: &[Refused] = &[
     Refused("[{{ x }}]", [Some("[]"), Some("[]"), None, None]),
     Refused("{{ x.y }}", [None, Some(""), None, None]),
     Refused("{{ 1 in x }}", [Some("false"), Some("false"), None, None]),
-    Refused("{{ x in [1] }}", [Some("false"), Some("false"), Some("false"), None]),
+    Refused(
+        "{{ x in [1] }}",
+        [Some("false"), Some("false"), Some("false"), None],
+    ),
     Refused("{{ x[1:2] }}", [Some("[]"), Some("[]"), Some("[]"), None]),
     Refused("{{ 1 if false }}", [Some(""), Some(""), Some(""), Some("")]),
-    Refused("{{ (1 if false) ~ 'x' }}", [Some("x"), Some("x"), Some("x"), None]),
+    Refused(
+        "{{ (1 if false) ~ 'x' }}",
+        [Some("x"), Some("x"), Some("x"), None],
+    ),
 ];
 
 /// Whether a source writes this, or is refused for an undefined value.

@@ -12,12 +12,12 @@ use crate::template::{Held, TemplateOf};
 use std::alloc::Global;
 use std::marker::Model;
 use tm_compiler::SyntaxConfig;
+use tm_state::StateIds;
 use tm_syntax::{Name, NameMap};
 use tm_tables::{
     Callable, CompiledTemplate, EscapeSetting, Objects, Parties, Source, TemplateConfig, Templates,
 };
 use tm_values::{Error, ErrorKind, UndefinedBehavior, Value};
-use tm_state::StateIds;
 
 /// How deep scopes may lie at most.
 const GREATEST_LIMIT: usize = 500;

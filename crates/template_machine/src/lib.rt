@@ -10,13 +10,14 @@ pub use environment::{Environment, EnvironmentOf};
 pub use state::{Captured, CapturedOf, State, StateOf};
 pub use template::{Template, TemplateOf};
 pub use tm_compiler::{
-    Argument, BinaryOperator, Expr, Instruction, Name, NameMap, Pair, Step, Stmt, Streams,
-    SyntaxConfig, SyntaxConfigBuilder, Tree, UnaryOperator, generate, parse,
+    Argument, BinaryOperator, Comparison, Condition, Expr, Instruction, Name, NameMap, Pair, Step,
+    Stmt, Streams, SyntaxConfig, SyntaxConfigBuilder, Tree, UnaryOperator, generate, parse,
 };
 pub use tm_operations as operations;
 pub use tm_output::{Target, TargetFailed};
 pub use tm_parts::{Counted, FuelTracker, NullWriter, Output, Sink, WriteWrapper};
 pub use tm_printing as printing;
+pub use tm_state::StateIds;
 pub use tm_tables::{
     Answer, Answering, Callable, CompiledTemplate, EscapeSetting, Objects, Parties, Plain, Reply,
     Source, TemplateConfig, View, default_auto_escape_callback,
@@ -25,4 +26,3 @@ pub use tm_values::{
     AutoEscape, Error, ErrorKind, LoopPosition, NoRecords, Records, UndefinedBehavior,
     UndefinedUse, Value, ValueMap,
 };
-pub use tm_state::StateIds;

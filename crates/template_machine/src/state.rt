@@ -10,9 +10,9 @@ ghost use Rattle.template_machine.specs.Environment.{host_of};
 
 use crate::rendering::Rendering;
 use std::marker::Model;
+use tm_state::StateData;
 use tm_tables::{Callable, Host, Objects, Parties};
 use tm_values::{AutoEscape, Error, Value};
-use tm_state::StateData;
 
 /// The state of a render. A contract sees the template that was rendered, and a world of the definitions.
 #[derive(Drop)]

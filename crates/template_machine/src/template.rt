@@ -10,9 +10,9 @@ use crate::state::{CapturedOf, StateOf};
 use std::marker::Model;
 use tm_meaning::{StreamId, TemplateId};
 use tm_parts::{Captures, Halt, NullWriter, Sink};
+use tm_state::{StateData, StateIds};
 use tm_tables::{Callable, CompiledTemplate, Objects, Parties};
 use tm_values::{Error, ErrorKind, Value};
-use tm_state::{StateData, StateIds};
 use tm_vm::Machine;
 
 /// A compiled template: the environment's, or one of its own.
