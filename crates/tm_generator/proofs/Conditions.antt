@@ -40,7 +40,7 @@ questioned_at : (old c1 : List Instruction) (x : Condition) (cs : List Condition
 unfolding out-Condition out shown-the_row-Expr-0 shown
 questioned_at old c1 (condition z e) cs h q p p0 p1 n eq d1 m d0 d =
     let at : n ≡ length (asked old cs) + length (expr_code (length (asked old cs)) z) =
-      m ∙ ap length (d1 ∙ ap (λ j. asked old cs ++ expr_code (length (asked old cs)) j) eq) ∙ length-append (asked old cs) _ in
+    m ∙ ap length (d1 ∙ ap (λ j. asked old cs ++ expr_code (length (asked old cs)) j) eq) ∙ length-append (asked old cs) _ in
     d ∙ ap (λ l. l ++ n ∷ []) d0 ∙ ap (λ k. (p ++ asked_places old cs) ++ k ∷ []) at ∙ append_assoc p (asked_places old cs) _
 
 -- the condition before those that are left
@@ -85,7 +85,7 @@ answered-is h value q e =
     let l1 : length code ≡ pc1 + 1 = omega (arith, length-append h (test ++ i.JumpIfFalse 0 ∷ []), length-append test (i.JumpIfFalse 0 ∷ [])) in
     let l2 : length (code ++ v) ≡ pc2 = length-append code v ∙ ap (λ n. n + length v) l1 in
     let flat : (code ++ v) ++ jump ∷ other ≡ (h ++ test) ++ i.JumpIfFalse 0 ∷ (v ++ jump ∷ other) =
-      append_assoc code v (jump ∷ other) ∙ ap (λ l. l ++ (v ++ jump ∷ other)) (sym (append_assoc h test (i.JumpIfFalse 0 ∷ []))) ∙ append_assoc (h ++ test) (i.JumpIfFalse 0 ∷ []) (v ++ jump ∷ other) in
+    append_assoc code v (jump ∷ other) ∙ ap (λ l. l ++ (v ++ jump ∷ other)) (sym (append_assoc h test (i.JumpIfFalse 0 ∷ []))) ∙ append_assoc (h ++ test) (i.JumpIfFalse 0 ∷ []) (v ++ jump ∷ other) in
     ap (λ n. answered (code ++ value n) pc1 (condition q e)) l1
     ∙ ap (λ n. slice_set ((code ++ v) ++ i.Jump (n + 1 + length (expr_code (n + 1) e)) ∷ expr_code (n + 1) e) pc1 (i.JumpIfFalse (n + 1))) l2
     ∙ ap (λ l. slice_set l pc1 (i.JumpIfFalse (pc2 + 1))) flat ∙ ap (λ n. slice_set ((h ++ test) ++ i.JumpIfFalse 0 ∷ (v ++ jump ∷ other)) n (i.JumpIfFalse (pc2 + 1))) (sym (length-append h test))
@@ -106,10 +106,10 @@ all-answered old value (condition q e ∷ cs) =
 pub answers-within : (old c1 c2 : List Instruction) (x : Expr) (cs : List Condition) (places : List ℕ) → c1 ≡ asked old cs → places ≡ asked_places old cs → c2 ≡ c1 ++ expr_code (length c1) x →
     (length places ≡ length cs) × All (λ p. p < length c2) places
 answers-within old c1 c2 x cs places d1 e d2 = (
-      ap length e ∙ places-length old cs,
-      subst (All (λ p. p < length c2)) (sym e)
+  ap length e ∙ places-length old cs,
+  subst (All (λ p. p < length c2)) (sym e)
       (All-weaker (λ p. p < length (asked old cs)) (λ p. p < length c2) (λ p lt. omega (arith, lt, ap length d1, ap length d2, length-append c1 (expr_code (length c1) x))) (asked_places old cs) (places-within old cs)),
-    )
+)
 
 code-conditional : (pc : ℕ) (x : Expr) (cs : List Condition) → expr_code pc (e.Conditional x cs) ≡ conditions_code (conditions cs) (λ pc1. expr_code pc1 x) pc
 unfolding hidden hidden-the_row-Expr-0
@@ -142,5 +142,5 @@ pub still_within : (base c1 c2 c3 c4 : List Instruction) (e : Expr) (y z w : Ins
     c3 ≡ slice_set c2 n1 z → c4 ≡ slice_set c3 p w → All (λ t. t < length base) ps → All (λ t. t < length c4) ps1
 still_within base c1 c2 c3 c4 e y z w ps ps1 p n1 ep d1 d2 d3 d4 all =
     let long : length c4 ≡ length base + 1 + length (expr_code (length c1) e) =
-      omega (arith, ap length d4, length-set c3 p w, ap length d3, length-set c2 n1 z, ap length d2, length-append c1 (expr_code (length c1) e), ap length d1, length-append base (y ∷ [])) in
+    omega (arith, ap length d4, length-set c3 p w, ap length d3, length-set c2 n1 z, ap length d2, length-append c1 (expr_code (length c1) e), ap length d1, length-append base (y ∷ [])) in
     All-weaker (λ t. t < length base) (λ t. t < length c4) (λ t lt. omega (arith, lt, long)) ps1 (All-pop (λ t. t < length base) ps ps1 (Some p) ep all).0

@@ -43,7 +43,7 @@ linked : (base c1 c2 c3 : List Instruction) (j k : Instruction) (a : Expr) → c
 linked base c1 c2 c3 j k a d1 d2 d3 =
     let l2 : length c2 ≡ length base + 2 = omega (arith, ap length d2, length-append c1 (k ∷ []), ap length d1, length-append base (j ∷ [])) in
     let all : c3 ≡ base ++ (j ∷ k ∷ expr_code (length base + 2) a) =
-      d3 ∙ ap (λ n. c2 ++ expr_code n a) l2 ∙ ap (λ l. l ++ expr_code (length base + 2) a) (d2 ∙ ap (λ l. l ++ k ∷ []) d1 ∙ append_assoc base (j ∷ []) (k ∷ [])) ∙ append_assoc base (j ∷ k ∷ []) _ in
+    d3 ∙ ap (λ n. c2 ++ expr_code n a) l2 ∙ ap (λ l. l ++ expr_code (length base + 2) a) (d2 ∙ ap (λ l. l ++ k ∷ []) d1 ∙ append_assoc base (j ∷ []) (k ∷ [])) ∙ append_assoc base (j ∷ k ∷ []) _ in
     (all, omega (arith, ap length all, length-append base (j ∷ k ∷ expr_code (length base + 2) a)))
 
 pub more_links : (base c1 c2 c3 goal : List Instruction) (cs rest : List Comparison) (x : Comparison) (op op1 : BinaryOperator) (a : Expr) → cs ≡ x ∷ rest → x ≡ comparison op1 a →
@@ -77,7 +77,7 @@ links-within pc op [] = All-nil (λ p. p < pc + length (links 0 pc op []))
 links-within pc op (comparison op1 a ∷ cs) =
     let m = pc + 2 + length (expr_code (pc + 2) a) in
     let long : pc + length (links 0 pc op (comparison op1 a ∷ cs)) ≡ m + length (links 0 m op1 cs) =
-      omega (arith, ap length (links-cons 0 pc op op1 a cs), length-append (expr_code (pc + 2) a) (links 0 m op1 cs)) in
+    omega (arith, ap length (links-cons 0 pc op op1 a cs), length-append (expr_code (pc + 2) a) (links 0 m op1 cs)) in
     All-cons (λ p. p < pc + length (links 0 pc op (comparison op1 a ∷ cs))) (pc + 1) (link_places m cs) (omega (arith, long))
     (All-weaker (λ p. p < m + length (links 0 m op1 cs)) (λ p. p < pc + length (links 0 pc op (comparison op1 a ∷ cs))) (λ p lt. omega (arith, lt, long)) (link_places m cs) (links-within m op1 cs))
 
@@ -98,11 +98,11 @@ links-ended base tail end op (comparison op1 a ∷ cs) =
     let l1 : n + 1 ≡ length front = sym (length-append base (j ∷ [])) in
     let l2 : length base2 ≡ m = omega (arith, length-append front (i.JumpIfFalseOrPop end ∷ first), l1) in
     let set1 : slice_set (base ++ (links 0 n op (comparison op1 a ∷ cs) ++ tail)) (n + 1) (i.JumpIfFalseOrPop end) ≡ base2 ++ (links 0 m op1 cs ++ tail) =
-      ap (λ l. slice_set (base ++ (l ++ tail)) (n + 1) (i.JumpIfFalseOrPop end)) (links-cons 0 n op op1 a cs)
-      ∙ ap (λ l. slice_set l (n + 1) (i.JumpIfFalseOrPop end)) (sym (append_assoc base (j ∷ []) (i.JumpIfFalseOrPop 0 ∷ ((first ++ links 0 m op1 cs) ++ tail))))
-      ∙ ap (λ k. slice_set (front ++ i.JumpIfFalseOrPop 0 ∷ ((first ++ links 0 m op1 cs) ++ tail)) k (i.JumpIfFalseOrPop end)) l1
-      ∙ set-append_seam front (i.JumpIfFalseOrPop 0) ((first ++ links 0 m op1 cs) ++ tail) (i.JumpIfFalseOrPop end)
-      ∙ append_assoc base (j ∷ []) _ ∙ sym (joined base first (links 0 m op1 cs) tail j (i.JumpIfFalseOrPop end)) in
+    ap (λ l. slice_set (base ++ (l ++ tail)) (n + 1) (i.JumpIfFalseOrPop end)) (links-cons 0 n op op1 a cs)
+    ∙ ap (λ l. slice_set l (n + 1) (i.JumpIfFalseOrPop end)) (sym (append_assoc base (j ∷ []) (i.JumpIfFalseOrPop 0 ∷ ((first ++ links 0 m op1 cs) ++ tail))))
+    ∙ ap (λ k. slice_set (front ++ i.JumpIfFalseOrPop 0 ∷ ((first ++ links 0 m op1 cs) ++ tail)) k (i.JumpIfFalseOrPop end)) l1
+    ∙ set-append_seam front (i.JumpIfFalseOrPop 0) ((first ++ links 0 m op1 cs) ++ tail) (i.JumpIfFalseOrPop end)
+    ∙ append_assoc base (j ∷ []) _ ∙ sym (joined base first (links 0 m op1 cs) tail j (i.JumpIfFalseOrPop end)) in
     ap (λ l. ended l (link_places m cs) end) set1
     ∙ subst (λ k. ended (base2 ++ (links 0 k op1 cs ++ tail)) (link_places k cs) end ≡ base2 ++ (links end k op1 cs ++ tail)) l2 (links-ended base2 tail end op1 cs)
     ∙ joined base first (links end m op1 cs) tail j (i.JumpIfFalseOrPop end)
@@ -115,7 +115,7 @@ tailed : (base c1 c2 c3 c4 : List Instruction) (op : BinaryOperator) (cs : List 
 tailed base c1 c2 c3 c4 op cs y d1 d2 d3 d4 =
     let front = base ++ links 0 (length base) op cs in
     let all : c4 ≡ front ++ y ∷ i.Swap ∷ i.DiscardTop ∷ [] =
-      d4 ∙ ap (λ l. l ++ i.DiscardTop ∷ []) (d3 ∙ ap (λ l. l ++ i.Swap ∷ []) (d2 ∙ ap (λ l. l ++ y ∷ []) d1) ∙ append_assoc front (y ∷ []) (i.Swap ∷ [])) ∙ append_assoc front (y ∷ i.Swap ∷ []) (i.DiscardTop ∷ []) in
+    d4 ∙ ap (λ l. l ++ i.DiscardTop ∷ []) (d3 ∙ ap (λ l. l ++ i.Swap ∷ []) (d2 ∙ ap (λ l. l ++ y ∷ []) d1) ∙ append_assoc front (y ∷ []) (i.Swap ∷ [])) ∙ append_assoc front (y ∷ i.Swap ∷ []) (i.DiscardTop ∷ []) in
     (all, omega (arith, ap length all, length-append front (y ∷ i.Swap ∷ i.DiscardTop ∷ []), length-append base (links 0 (length base) op cs)))
 
 pub row-within : (base c1 c2 c3 c4 c5 : List Instruction) (places : List ℕ) (op : BinaryOperator) (cs : List Comparison) (y z : Instruction) (n1 : ℕ) →
@@ -136,8 +136,8 @@ made_row base c1 c2 c3 c4 c5 c6 places op cs y n1 n2 n4 d1 e m1 d2 m2 d3 d4 m4 d
     let at2 : n2 ≡ length base + length first + 1 = omega (arith, m2, ap length d2, length-append c1 (y ∷ []), ap length d1, length-append base first) in
     let at4 : n4 ≡ length base + length first + 3 = m4 ∙ all.1 in
     let set5 : c5 ≡ base ++ (first ++ tail n4) =
-      d5 ∙ ap (λ l. slice_set l n1 (i.Jump n4)) all.0 ∙ ap (λ n. slice_set ((base ++ first) ++ y ∷ i.Swap ∷ i.DiscardTop ∷ []) n (i.Jump n4)) (m1 ∙ ap length d1)
-      ∙ set-append_seam (base ++ first) y (i.Swap ∷ i.DiscardTop ∷ []) (i.Jump n4) ∙ append_assoc base first (tail n4) in
+    d5 ∙ ap (λ l. slice_set l n1 (i.Jump n4)) all.0 ∙ ap (λ n. slice_set ((base ++ first) ++ y ∷ i.Swap ∷ i.DiscardTop ∷ []) n (i.Jump n4)) (m1 ∙ ap length d1)
+    ∙ set-append_seam (base ++ first) y (i.Swap ∷ i.DiscardTop ∷ []) (i.Jump n4) ∙ append_assoc base first (tail n4) in
     d6 ∙ ap (λ l. ended l places n2) set5 ∙ ap (λ l. ended (base ++ (first ++ tail n4)) l n2) e ∙ links-ended base (tail n4) n2 op cs
     ∙ ap (λ n. base ++ (links n (length base) op cs ++ tail n4)) at2 ∙ ap (λ n. base ++ (links (length base + length first + 1) (length base) op cs ++ tail n)) at4
 

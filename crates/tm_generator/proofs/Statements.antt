@@ -72,11 +72,10 @@ else_blocks c body other m m1 m2 d d2 =
     d2 ∙ ap (put_each (compiled_blocks (blocks_in (statements other)))) d ∙ sym (both (blocks_in (statements body)) (blocks_in (statements other)) m)
     ∙ ap (λ l. put_each (compiled_blocks l) m) (sym (blocks-else c body other))
 
-pub block_blocks : (x y : List ℕ) (body : List Stmt) (first inner : List Instruction) (m m1 m2 : Blocks) → y ≡ x → first ≡ [] → inner ≡ first ++ statements_code (length first) (statements body) → m1 ≡ put_each (compiled_blocks (blocks_in (statements body))) m → m2 ≡ put y inner m1 →
-    m2 ≡ put_each (compiled_blocks (blocks_of (st.Block x body))) m
-block_blocks x y body first inner m m1 m2 e f k d d2 =
-    d2 ∙ ap (λ z. put z inner m1) e ∙ ap (λ z. put x z m1) (k ∙ ap (λ z. z ++ statements_code (length z) (statements body)) f) ∙ ap (put x (statements_code 0 (statements body))) d
-    ∙ sym (both (blocks_in (statements body)) ((x, body_of (statements body)) ∷ []) m) ∙ ap (λ l. put_each (compiled_blocks l) m) (sym (blocks-block x body))
+pub block_blocks : (x : List ℕ) (body : List Stmt) (m m1 : Blocks) → m1 ≡ put x (statements_code 0 (statements body)) (put_each (compiled_blocks (blocks_in (statements body))) m) →
+    m1 ≡ put_each (compiled_blocks (blocks_of (st.Block x body))) m
+block_blocks x body m m1 d =
+    d ∙ sym (both (blocks_in (statements body)) ((x, body_of (statements body)) ∷ []) m) ∙ ap (λ l. put_each (compiled_blocks l) m) (sym (blocks-block x body))
 
 pub more_blocks : (m m1 goal : Blocks) (xs rest : List Stmt) (x : Stmt) → xs ≡ x ∷ rest → m1 ≡ put_each (compiled_blocks (blocks_of x)) m → put_each (compiled_blocks (blocks_in (statements xs))) m ≡ goal →
     put_each (compiled_blocks (blocks_in (statements rest))) m1 ≡ goal

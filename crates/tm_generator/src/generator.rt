@@ -3,17 +3,18 @@ ghost use Rattle.std.specs.Prelude.{◌≡◌, ◌++◌, ◌<◌, [], ◌∷◌,
 ghost use Rattle.tm_generator.specs.Jumps.{link_places, asked, asked_places, all_answered};
 ghost use Rattle.tm_syntax.specs.Blocks.{blocks_of, blocks_in, compiled_blocks};
 ghost use Rattle.tm_syntax.specs.Code.{unary_code, binary_code, expr_code, exprs_code, pair_code, pairs_code, argument_code, arguments_code, step_code, links_code, in_a_row, steps_code, statement_code, statements_code};
-ghost use Rattle.tm_syntax.specs.Named.{put_each, by_name};
+ghost use Rattle.tm_syntax.specs.Named.{put as put_named, put_each, by_name};
 ghost use Rattle.tm_syntax.specs.declared.tree.Argument.TheBlock.{hidden-the_row-Expr-1 as exprs, hidden-the_row-Pair-2 as pairs, hidden-the_row-Argument-3 as arguments, hidden-the_row-Step-4 as steps, hidden-the_row-Comparison-6 as comparisons};
 ghost use Rattle.tm_syntax.specs.declared.tree.Stmt.TheBlock.{hidden-the_row-Stmt-0 as statements};
+ghost use Rattle.tm_syntax.specs.declared.instruction.Instruction.TheVariants.{CallBlock};
 ghost use Rattle.tm_values.specs.declared.error.ErrorKind.TheVariants.{OutOfMemory};
 
 use crate::patches::{end_at, put};
 use sqlite_items::{Boxed, Items};
 use std::alloc::Global;
 use tm_syntax::{
-    Argument, BinaryOperator, Comparison, Condition, Expr, Instruction, NameMap, Pair, Step, Stmt,
-    Tree, UnaryOperator,
+    Argument, BinaryOperator, Comparison, Condition, Expr, Instruction, Name, NameMap, Pair, Step,
+    Stmt, Tree, UnaryOperator,
 };
 use tm_values::Error;
 
@@ -76,41 +77,34 @@ fn push_expr(alloc: Global, code: &mut Items<Instruction>, expr: &Expr) -> Resul
         Expr::Const(value) => put(code, Instruction::LoadConst(value.share()?)),
         Expr::List(items) => {
             push_exprs(alloc, code, items.as_slice())?;
-            put(code, Instruction::BuildList(items.len()))?;
-            Ok(())
+            put(code, Instruction::BuildList(items.len()))
         }
         Expr::Tuple(items) => {
             push_exprs(alloc, code, items.as_slice())?;
-            put(code, Instruction::BuildTuple(items.len()))?;
-            Ok(())
+            put(code, Instruction::BuildTuple(items.len()))
         }
         Expr::Map(entries) => {
             push_pairs(alloc, code, entries.as_slice())?;
-            put(code, Instruction::BuildMap(entries.len()))?;
-            Ok(())
+            put(code, Instruction::BuildMap(entries.len()))
         }
         Expr::Call(name, given) => {
             push_arguments(alloc, code, given.as_slice())?;
-            put(code, Instruction::CallFunction(name.share()?, given.len()))?;
-            Ok(())
+            put(code, Instruction::CallFunction(name.share()?, given.len()))
         }
         Expr::Unary(operator, operand) => {
             push_expr(alloc, code, operand.get())?;
-            put(code, unary(*operator))?;
-            Ok(())
+            put(code, unary(*operator))
         }
         Expr::Chain(first, behind) => {
             push_expr(alloc, code, first.get())?;
-            push_steps(alloc, code, behind.as_slice())?;
-            Ok(())
+            push_steps(alloc, code, behind.as_slice())
         }
         Expr::Conditional(value, conditions) => {
             let conditions = conditions.as_slice();
             let mut tests = Items::new(alloc);
             push_questions(alloc, code, conditions, &mut tests)?;
             push_expr(alloc, code, value.get())?;
-            push_answers(alloc, code, conditions, tests)?;
-            Ok(())
+            push_answers(alloc, code, conditions, tests)
         }
     }
 }
@@ -137,6 +131,54 @@ fn push_pair(alloc: Global, code: &mut Items<Instruction>, pair: &Pair) -> Resul
     let Pair::Pair(key, value) = pair;
     push_expr(alloc, code, key.get())?;
     push_expr(alloc, code, value.get())?;
+    Ok(())
+}
+
+/// Adds the code of pairs; OutOfMemory.
+#[cycle(expressions)]
+fn push_pairs(alloc: Global, code: &mut Items<Instruction>, entries: &[Pair]) -> Result<(), Error>
+    ensures ok { OnOk result
+        (code.new ≡ code.old ++ pairs_code (length code.old) (pairs entries.now)) }
+    ensures err { IfErr result (λ e. e ≡ OutOfMemory ∷ []) }
+{
+    for entry in entries {
+        push_pair(alloc, code, entry)?;
+    }
+    Ok(())
+}
+
+/// Adds the code of an argument; OutOfMemory.
+#[cycle(expressions)]
+fn push_argument(
+    alloc: Global,
+    code: &mut Items<Instruction>,
+    argument: &Argument,
+) -> Result<(), Error>
+    ensures ok { OnOk result (code.new ≡ code.old ++ argument_code (length code.old) argument.now) }
+    ensures err { IfErr result (λ e. e ≡ OutOfMemory ∷ []) }
+{
+    match argument {
+        Argument::Plain(expr) => {
+            push_expr(alloc, code, expr.get())?;
+            Ok(())
+        }
+    }
+}
+
+/// Adds the code of arguments; OutOfMemory.
+#[cycle(expressions)]
+fn push_arguments(
+    alloc: Global,
+    code: &mut Items<Instruction>,
+    given: &[Argument],
+) -> Result<(), Error>
+    ensures ok { OnOk result
+        (code.new ≡ code.old ++ arguments_code (length code.old) (arguments given.now)) }
+    ensures err { IfErr result (λ e. e ≡ OutOfMemory ∷ []) }
+{
+    for argument in given {
+        push_argument(alloc, code, argument)?;
+    }
     Ok(())
 }
 
@@ -184,51 +226,11 @@ fn push_answers(
         let Condition::Condition(_, otherwise) = condition;
         let jump = code.len();
         put(code, Instruction::Jump(0))?;
-        let start = code.len();
+        let other = code.len();
         push_expr(alloc, code, otherwise.get())?;
         let end = code.len();
         code.set(jump, Instruction::Jump(end));
-        code.set(test, Instruction::JumpIfFalse(start));
-    }
-    Ok(())
-}
-
-/// Adds the code of pairs; OutOfMemory.
-#[cycle(expressions)]
-fn push_pairs(alloc: Global, code: &mut Items<Instruction>, entries: &[Pair]) -> Result<(), Error>
-    ensures ok { OnOk result
-        (code.new ≡ code.old ++ pairs_code (length code.old) (pairs entries.now)) }
-    ensures err { IfErr result (λ e. e ≡ OutOfMemory ∷ []) }
-{
-    for entry in entries {
-        push_pair(alloc, code, entry)?;
-    }
-    Ok(())
-}
-
-/// Adds the code of an argument; OutOfMemory.
-#[cycle(expressions)]
-fn push_argument(alloc: Global, code: &mut Items<Instruction>, argument: &Argument) -> Result<(), Error>
-    ensures ok { OnOk result (code.new ≡ code.old ++ argument_code (length code.old) argument.now) }
-    ensures err { IfErr result (λ e. e ≡ OutOfMemory ∷ []) }
-{
-    match argument {
-        Argument::Plain(expr) => {
-            push_expr(alloc, code, expr.get())?;
-            Ok(())
-        }
-    }
-}
-
-/// Adds the code of arguments; OutOfMemory.
-#[cycle(expressions)]
-fn push_arguments(alloc: Global, code: &mut Items<Instruction>, given: &[Argument]) -> Result<(), Error>
-    ensures ok { OnOk result
-        (code.new ≡ code.old ++ arguments_code (length code.old) (arguments given.now)) }
-    ensures err { IfErr result (λ e. e ≡ OutOfMemory ∷ []) }
-{
-    for argument in given {
-        push_argument(alloc, code, argument)?;
+        code.set(test, Instruction::JumpIfFalse(other));
     }
     Ok(())
 }
@@ -249,8 +251,7 @@ fn push_step(alloc: Global, code: &mut Items<Instruction>, step: &Step) -> Resul
             push_expr(alloc, code, start.get())?;
             push_expr(alloc, code, stop.get())?;
             push_expr(alloc, code, step.get())?;
-            put(code, Instruction::Slice)?;
-            Ok(())
+            put(code, Instruction::Slice)
         }
         Step::Binary(operator, operand) => {
             push_expr(alloc, code, operand.get())?;
@@ -258,8 +259,7 @@ fn push_step(alloc: Global, code: &mut Items<Instruction>, step: &Step) -> Resul
         }
         Step::Compare(operator, right, behind) => {
             push_expr(alloc, code, right.get())?;
-            push_comparisons(alloc, code, *operator, behind.as_slice())?;
-            Ok(())
+            push_comparisons(alloc, code, *operator, behind.as_slice())
         }
         Step::And(operand) => {
             let test = code.len();
@@ -288,10 +288,10 @@ fn push_comparisons(
     operator: BinaryOperator,
     behind: &[Comparison],
 ) -> Result<(), Error>
-    ensures ok { OnOk result 
+    ensures ok { OnOk result
         (code.new ≡ code.old ++ in_a_row
-            (λ end. links_code end (length code.old) operator (comparisons behind.now))
-            (length code.old)) }
+        (λ end. links_code end (length code.old) operator (comparisons behind.now))
+        (length code.old)) }
     ensures err { IfErr result (λ e. e ≡ OutOfMemory ∷ []) }
 {
     let mut places = Items::new(alloc);
@@ -307,7 +307,7 @@ fn push_comparisons(
     Ok(())
 }
 
-/// Adds the comparisons themselves, whose jumps lead nowhere yet, and the places of these; OutOfMemory.
+/// Adds comparisons whose jumps lead nowhere yet, and the places of these jumps; OutOfMemory.
 #[cycle(expressions)]
 fn push_links(
     alloc: Global,
@@ -365,8 +365,7 @@ fn push_statement(
         Stmt::EmitRaw(text) => put(code, Instruction::EmitRaw(text.share()?)),
         Stmt::EmitExpr(expr) => {
             push_expr(alloc, code, expr.get())?;
-            put(code, Instruction::Emit)?;
-            Ok(())
+            put(code, Instruction::Emit)
         }
         Stmt::If(condition, body, other) => {
             push_expr(alloc, code, condition.get())?;
@@ -386,14 +385,29 @@ fn push_statement(
             code.set(behind, Instruction::Jump(end));
             Ok(())
         }
-        Stmt::Block(name, body) => {
-            let mut inner = Items::new(alloc);
-            push_statements(alloc, &mut inner, blocks, body.as_slice())?;
-            blocks.insert(name.share()?, inner)?;
-            put(code, Instruction::CallBlock(name.share()?))?;
-            Ok(())
-        }
+        Stmt::Block(name, body) => push_block(alloc, code, blocks, name, body.as_slice()),
     }
+}
+
+/// Adds the call of a block, and the block's own code behind that of the blocks in it; OutOfMemory.
+#[cycle(statements)]
+fn push_block(
+    alloc: Global,
+    code: &mut Items<Instruction>,
+    blocks: &mut NameMap<Items<Instruction>>,
+    name: &Name,
+    body: &[Stmt],
+) -> Result<(), Error>
+    ensures code { OnOk result (code.new ≡ code.old ++ CallBlock name.now ∷ []) }
+    ensures blocks { OnOk result
+        (blocks.new ≡ put_named name.now (statements_code 0 (statements body.now))
+        (put_each (compiled_blocks (blocks_in (statements body.now))) blocks.old)) }
+    ensures err { IfErr result (λ e. e ≡ OutOfMemory ∷ []) }
+{
+    let mut inner = Items::new(alloc);
+    push_statements(alloc, &mut inner, blocks, body)?;
+    blocks.insert(name.share()?, inner)?;
+    put(code, Instruction::CallBlock(name.share()?))
 }
 
 /// Adds the code of statements, and that of their blocks; OutOfMemory.

@@ -1,4 +1,5 @@
 use Rattle.std.proofs.lemmas.List.{drop_all}
+use Rattle.std.proofs.lemmas.Result.{on_ok_weaker}
 use Rattle.tm_generator.proofs.Rows.{more_statements, no_more_statements}
 use Rattle.tm_generator.proofs.Generated.{next}
 use Rattle.tm_generator.proofs.Statements.{made_if, made_else, else_blocks, block_blocks, more_blocks, no_more_blocks}
@@ -24,11 +25,10 @@ push_statement-returns-in_ok-push_statements-in-If-2-clause-blocks t c =
     rw (c.in-If.is, c.in-Some.is) (else_blocks c.in-If.condition c.in-If.body c.in-Some.other c.args.blocks.now c.push_statements.new.blocks c.push_statements-in-If.new.blocks
     (rw (← c.as_slice.ensures) c.in_ok-push_statements-in-If.ensures.blocks) (rw (← c.as_slice-in-If.ensures) c.in_ok-push_statements-in-If-2.ensures.blocks))
 
-pub push_statement-returns-in_ok-put-in-Block-clause-blocks : goal.push_statement-returns-in_ok-put-in-Block-clause-blocks
-push_statement-returns-in_ok-put-in-Block-clause-blocks t c =
-    rw c.in-Block.is (block_blocks c.in-Block.name _ c.in-Block.body _ c.push_statements-in-Block.new.code c.args.blocks.now c.push_statements-in-Block.new.blocks c.insert.new.self
-    c.in_ok-share-in-Block.ensures c.new-inner.ensures (rw (← c.as_slice-in-Block.ensures) c.in_ok-push_statements-in-Block.ensures.code)
-    (rw (← c.as_slice-in-Block.ensures) c.in_ok-push_statements-in-Block.ensures.blocks) c.in_ok-insert-in-Block.ensures.ok)
+pub push_statement-returns-in-Block-clause-blocks : goal.push_statement-returns-in-Block-clause-blocks
+push_statement-returns-in-Block-clause-blocks t c =
+    rw c.in-Block.is (on_ok_weaker c.push_block.result (block_blocks c.in-Block.name c.in-Block.body c.args.blocks.now c.push_block.new.blocks)
+    (rw (← c.as_slice-in-Block.ensures) c.push_block.ensures.blocks))
 
 pub push_statements-loop-statement-preserved : goal.push_statements-loop-statement-preserved
 push_statements-loop-statement-preserved t c =

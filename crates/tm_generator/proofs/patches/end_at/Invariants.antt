@@ -1,4 +1,4 @@
-use Rattle.std.proofs.Common.{◌≡◌, ◌<◌, All, length, drop}
+use Rattle.std.proofs.Common.{◌≡◌, length, drop}
 use Rattle.tm_generator.specs.Jumps.{ended}
 use Rattle.tm_generator.proofs.patches.end_at.Given as goal
 
