@@ -4,7 +4,7 @@ use Rattle.std.specs.Result.{result_map_both}
 use Rattle.tm_values.specs.Answer.{Answer}
 use Rattle.tm_values.specs.Map.{put_all}
 use Rattle.tm_values.specs.Records.{RecordData}
-use Rattle.tm_values.specs.Val.{Val, boolean, list, map, vals_of, pairs_of}
+use Rattle.tm_values.specs.Val.{Val, undefined, boolean, list, map, vals_of, pairs_of}
 use Rattle.tm_values.specs.declared.error.ErrorKind.{ErrorKind}
 use Rattle.tm_values.specs.declared.error.ErrorKind.TheVariants.{InvalidOperation}
 use Rattle.tm_values.specs.declared.escape.AutoEscape.{AutoEscape}
@@ -26,9 +26,13 @@ use Rattle.tm_syntax.specs.declared.tree.Argument.{Argument}
 use Rattle.tm_syntax.specs.declared.tree.Pair.{Pair}
 use Rattle.tm_syntax.specs.declared.tree.Condition.{Condition}
 use Rattle.tm_syntax.specs.declared.tree.Step.{Step, Attribute, Row_of-Comparison, end_of-Comparison as no_comparison, more_of-Comparison as with_comparison}
-use Rattle.tm_syntax.specs.declared.tree.Stmt.{Stmt, EmitRaw, EmitExpr, If', Block', Row_of-Stmt, end_of-Stmt as no_statement, more_of-Stmt as statement, Held-Stmt-If-2 as Otherwise, None' as no_else, Some' as otherwise}
+use Rattle.tm_syntax.specs.declared.tree.Target.{Target, Name as To, Unpack' as Items, Attribute as Member, Row_of-Target, end_of-Target as no_target, more_of-Target as target}
+use Rattle.tm_syntax.specs.declared.tree.Assignment.{Assignment}
+use Rattle.tm_syntax.specs.declared.tree.Assignment.TheVariants.{Assignment as Given}
+use Rattle.tm_syntax.specs.declared.tree.Stmt.{Stmt, EmitRaw, EmitExpr, If', Block', Set, With', Do, Row_of-Stmt, end_of-Stmt as no_statement, more_of-Stmt as statement, Held-Stmt-If-2 as Otherwise, None' as no_else, Some' as otherwise}
 use Rattle.tm_syntax.specs.Forms.{unary, chained, conditional, condition, comparison, pair, plain, item, slice, binary, compare, and_then, or_else}
-use Rattle.tm_meaning.specs.World.{choose, TemplateId, root_of, StreamId, World, Host, Res, Good, Bad, bind, answered, tick, ticked, looked_up, records_of, template_at, emitted, captured_text, plain as plain_scope}
+use Rattle.tm_syntax.specs.Code.{count_targets}
+use Rattle.tm_meaning.specs.World.{choose, TemplateId, root_of, StreamId, World, Host, Res, Good, Bad, bind, answered, tick, ticked, looked_up, records_of, template_at, emitted, captured_text, store, set_member, items_of, push, pop, plain as plain_scope}
 use Rattle.tm_meaning.specs.Calls.{Callee, whole, Call, Asked, has, refused, runs, undone, wrapped, enter_block, call_named, own_blocks}
 use Rattle.tm_meaning.specs.Tree.{Body, Trees}
 
@@ -250,7 +254,36 @@ abbrev mutual
   eval_steps u run no_step v w = Good v w
   eval_steps u run (step s ss) v w = bind (eval_step u run s v w) (λ x world1. eval_steps u run ss x world1)
 
+-- ---------------------------------------------------------------- targets
+abbrev mutual
+  pub assign : Under → Run → Target → Val → World → Res (Unit {0})
+  assign u run (To x) v w = ticked w (λ world1. Good tt (store x v world1))
+  assign u run (Items _ ts) v w = ticked w (λ world1. bind (items_of (count_targets ts) v world1) (λ vs world2. assign_all u run ts vs world2))
+  assign u run (Member e x) v w = bind (eval u run e w) (λ o world1. ticked world1 (λ world2. set_member x v o world2))
+
+  -- to each its own; there are as many
+  pub assign_all : {n : _} → Under → Run → Row_of-Target n → List Val → World → Res (Unit {0})
+  assign_all u run no_target vs w = Good tt w
+  assign_all u run (target t ts) [] w = Good tt w
+  assign_all u run (target t ts) (v ∷ vs) w = bind (assign u run t v w) (λ _ world1. assign_all u run ts vs world1)
+
+-- a value, and then its target
+abbrev pub set_to : Under → Run → Target → Expr → World → Res (Unit {0})
+set_to u run t e w = bind (eval u run e w) (λ v world1. assign u run t v world1)
+
+abbrev pub set_each : Under → Run → List Assignment → World → Res (Unit {0})
+set_each u run [] w = Good tt w
+set_each u run (Given t e ∷ more) w = bind (set_to u run t e w) (λ _ world1. set_each u run more world1)
+
 -- ---------------------------------------------------------------- statements
+-- A scope is left behind what ran in it, but for a fault.
+abbrev pub left_by : Ending → Outcome → Outcome
+left_by (fault chain) o = o
+left_by e o = record o { world = pop o.world }
+
+abbrev pub left : Outcome → Outcome
+left o = left_by o.ending o
+
 -- a value, charged, and heard as it is written
 abbrev pub emit : Under → Run → List ℕ → Val → World → Outcome
 emit u run out v w =
@@ -269,6 +302,11 @@ abbrev mutual
       use_it (eval u run c w) run out (λ v world1. use_it (tick world1) run out (λ _ world2. use_it (truth u.host v world2) run out (λ b world3.
       choose b (λ _. behind_first other run (execs u body run out world3)) (λ _. exec_else u other run out world3))))
   exec u (Block' b _ body) run out w = use_it (tick w) run out (λ _ world1. block_tag u run b out world1)
+  exec u (Set t e) run out w = use_it (set_to u run t e w) run out (λ _ world1. so_far run out world1)
+  exec u (With' given _ body) run out w =
+      use_it (push u.host (plain_scope (undefined false)) w) run out (λ _ world1.
+      use_it (set_each u run given world1) run out (λ _ world2. left (execs u body run out world2)))
+  exec u (Do e) run out w = use_it (eval u run e w) run out (λ _ world1. so_far run out world1)
 
   pub execs : {n : _} → Under → Row_of-Stmt n → Run → List ℕ → World → Outcome
   execs u no_statement run out w = so_far run out w

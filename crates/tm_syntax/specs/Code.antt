@@ -9,7 +9,10 @@ use Rattle.tm_syntax.specs.declared.tree.Argument.{Argument}
 use Rattle.tm_syntax.specs.declared.tree.Pair.{Pair}
 use Rattle.tm_syntax.specs.declared.tree.Condition.{Condition}
 use Rattle.tm_syntax.specs.declared.tree.Step.{Step, Attribute, Row_of-Comparison, end_of-Comparison as no_comparison, more_of-Comparison as with_comparison}
-use Rattle.tm_syntax.specs.declared.tree.Stmt.{Stmt, EmitRaw, EmitExpr, If', Block', Row_of-Stmt, end_of-Stmt as no_statement, more_of-Stmt as statement, Held-Stmt-If-2 as Otherwise, None' as no_else, Some' as otherwise}
+use Rattle.tm_syntax.specs.declared.tree.Target.{Target, Name as To, Unpack' as Items, Attribute as Member, Row_of-Target, end_of-Target as no_target, more_of-Target as target}
+use Rattle.tm_syntax.specs.declared.tree.Assignment.{Assignment}
+use Rattle.tm_syntax.specs.declared.tree.Assignment.TheVariants.{Assignment as Given}
+use Rattle.tm_syntax.specs.declared.tree.Stmt.{Stmt, EmitRaw, EmitExpr, If', Block', Set, With', Do, Row_of-Stmt, end_of-Stmt as no_statement, more_of-Stmt as statement, Held-Stmt-If-2 as Otherwise, None' as no_else, Some' as otherwise}
 use Rattle.tm_syntax.specs.declared.instruction.Instruction.{Instruction}
 use Rattle.tm_syntax.specs.declared.instruction.Instruction.TheVariants as i
 use Rattle.tm_syntax.specs.Forms.{unary, chained, conditional, condition, comparison, pair, plain, item, slice, binary, compare, and_then, or_else}
@@ -118,6 +121,28 @@ abbrev mutual
   steps_code pc no_step = []
   steps_code pc (step s ss) = before pc (step_code pc s) (λ pc1. steps_code pc1 ss)
 
+abbrev pub count_targets : {n : _} → Row_of-Target n → ℕ
+count_targets no_target = 0
+count_targets (target t more) = count_targets more + 1
+
+abbrev mutual
+  pub target_code : ℕ → Target → List Instruction
+  target_code pc (To x) = i.StoreLocal x ∷ []
+  target_code pc (Items _ ts) = i.UnpackList (count_targets ts) ∷ targets_code (pc + 1) ts
+  target_code pc (Member e x) = expr_code pc e ++ i.SetAttr x ∷ []
+
+  pub targets_code : {n : _} → ℕ → Row_of-Target n → List Instruction
+  targets_code pc no_target = []
+  targets_code pc (target t ts) = before pc (target_code pc t) (λ pc1. targets_code pc1 ts)
+
+-- a value and what it is given to
+abbrev pub set_code : ℕ → Target → Expr → List Instruction
+set_code pc t e = before pc (expr_code pc e) (λ pc1. target_code pc1 t)
+
+abbrev pub assignments_code : ℕ → List Assignment → List Instruction
+assignments_code pc [] = []
+assignments_code pc (Given t e ∷ more) = before pc (set_code pc t e) (λ pc1. assignments_code pc1 more)
+
 -- the jump behind a body over its else part
 abbrev pub jump_over : Otherwise → ℕ
 jump_over no_else = 0
@@ -131,6 +156,10 @@ abbrev mutual
       i.JumpIfFalse (pc1 + 1 + length (statements_code (pc1 + 1) body) + jump_over other)
       ∷ before (pc1 + 1) (statements_code (pc1 + 1) body) (λ pc2. otherwise_code pc2 other))
   statement_code pc (Block' x _ body) = i.CallBlock x ∷ []
+  statement_code pc (Set t e) = set_code pc t e
+  statement_code pc (With' given _ body) =
+      i.PushWith ∷ before (pc + 1) (assignments_code (pc + 1) given) (λ pc1. statements_code pc1 body ++ i.PopFrame ∷ [])
+  statement_code pc (Do e) = expr_code pc e ++ i.DiscardTop ∷ []
 
   pub statements_code : {n : _} → ℕ → Row_of-Stmt n → List Instruction
   statements_code pc no_statement = []

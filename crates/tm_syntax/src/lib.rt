@@ -12,5 +12,6 @@ pub use name::Name;
 pub use name_map::NameMap;
 pub use token::{Sign, Tag, Token};
 pub use tree::{
-    Argument, BinaryOperator, Comparison, Condition, Expr, Pair, Step, Stmt, Tree, UnaryOperator,
+    Argument, Assignment, BinaryOperator, Comparison, Condition, Expr, Pair, Step, Stmt, Target,
+    Tree, UnaryOperator,
 };

@@ -125,6 +125,24 @@ pub enum Step {
     Or(Boxed<Expr>),
 }
 
+/// What a value is given to.
+#[derive(Drop)]
+pub enum Target {
+    /// A name of the innermost scope.
+    Name(Name),
+    /// As many targets as the value has items.
+    Unpack(Items<Target>),
+    /// The attribute of what an expression gives, a namespace.
+    Attribute(Boxed<Expr>, Name),
+}
+
+/// A value for a target.
+#[derive(Drop)]
+pub enum Assignment {
+    /// The target, and the value.
+    Assignment(Target, Boxed<Expr>),
+}
+
 /// A statement.
 #[derive(Drop)]
 pub enum Stmt {
@@ -136,6 +154,12 @@ pub enum Stmt {
     If(Boxed<Expr>, Items<Stmt>, Option<Items<Stmt>>),
     /// A block of a name, and its body.
     Block(Name, Items<Stmt>),
+    /// A value for a target.
+    Set(Target, Boxed<Expr>),
+    /// Values for targets in a scope of their own, and what runs there.
+    With(Items<Assignment>, Items<Stmt>),
+    /// A call whose value is dropped.
+    Do(Boxed<Expr>),
 }
 
 /// A template's tree.
