@@ -4,6 +4,7 @@
 mod builder;
 mod delimiter;
 mod front;
+mod name_pool;
 mod names;
 mod numbers;
 mod pieces;

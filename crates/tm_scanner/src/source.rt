@@ -5,6 +5,7 @@ ghost use Rattle.tm_scanner.specs.Spells as spec;
 ghost use Rattle.tm_scanner.specs.Syntax.{Syntax};
 ghost use Rattle.tm_syntax.specs.declared.token.Token as declared;
 
+use crate::name_pool::NamePool;
 use crate::pieces::{raw, tag};
 use crate::starts::next_tag;
 use crate::syntax::SyntaxConfig;
@@ -44,6 +45,7 @@ pub fn scan(alloc: Global, syntax: &SyntaxConfig, source: &str) -> Result<Vec<To
         ((ts : List declared.Token) → spec.SpellsTokens syntax.now source.now ts → ⊥)) }
 {
     syntax.note_usable();
+    let mut names = NamePool::new(alloc);
     let mut tokens = Vec::new(alloc);
     let mut before = None;
     let mut rest = read_of(syntax, source);
@@ -53,7 +55,7 @@ pub fn scan(alloc: Global, syntax: &SyntaxConfig, source: &str) -> Result<Vec<To
             trimmed(syntax, before, Some(start), text),
             &mut tokens,
         )?;
-        let (whitespace, left) = tag(alloc, syntax, start.kind, behind, &mut tokens)?;
+        let (whitespace, left) = tag(alloc, &mut names, syntax, start.kind, behind, &mut tokens)?;
         before = Some(Side {
             kind: start.kind,
             whitespace,
