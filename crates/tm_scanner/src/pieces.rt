@@ -2,18 +2,18 @@
 ghost use Rattle.std.specs.Prelude.{◌≡◌, ◌<◌, ◌≤◌, ◌++◌, ℕ, List, [], ◌∷◌, length, IfOk, IfErr, IfSome};
 ghost use Rattle.tm_scanner.specs.Pieces as spec;
 ghost use Rattle.tm_scanner.specs.Refused.{Refuses};
-ghost use Rattle.tm_scanner.specs.Syntax.{HasAll};
-ghost use Rattle.tm_scanner.specs.Views.{Adds, IsNoLonger, Shortens, step_of, place_of};
+ghost use Rattle.tm_delimiters.specs.Syntax.{HasAll};
+ghost use Rattle.tm_delimiters.specs.Views.{Shortens, step_of, place_of};
+ghost use Rattle.tm_scanner.specs.Views.{Adds, IsNoLonger};
 ghost use Rattle.tm_values.specs.declared.error.ErrorKind.TheVariants.{OutOfMemory};
 
-use crate::front::past_blanks;
 use crate::name_pool::NamePool;
 use crate::names::{name_at, tag_of};
 use crate::raw::{past_word, raw_block};
-use crate::syntax::{Kind, SyntaxConfig};
 use crate::tokens::content;
-use crate::whitespace::{Whitespace, comment_end};
 use std::alloc::Global;
+use tm_delimiters::front::past_blanks;
+use tm_delimiters::{Kind, SyntaxConfig, Whitespace, comment_end};
 use tm_syntax::{Name, Sign, Tag, Token};
 use tm_values::{Error, ErrorKind};
 

@@ -2,15 +2,13 @@
 ghost use Rattle.std.specs.Prelude.{◌≡◌, ℕ, List, IfOk, IfErr};
 ghost use Rattle.tm_scanner.specs.Refused.{Refused};
 ghost use Rattle.tm_scanner.specs.Spells as spec;
-ghost use Rattle.tm_scanner.specs.Syntax.{Syntax};
+ghost use Rattle.tm_delimiters.specs.Syntax.{Syntax};
 ghost use Rattle.tm_syntax.specs.declared.token.Token as declared;
 
 use crate::name_pool::NamePool;
 use crate::pieces::{raw, tag};
-use crate::starts::next_tag;
-use crate::syntax::SyntaxConfig;
-use crate::trimming::{Side, trimmed};
 use std::alloc::Global;
+use tm_delimiters::{Side, SyntaxConfig, next_tag, trimmed};
 use tm_syntax::Token;
 use tm_values::Error;
 

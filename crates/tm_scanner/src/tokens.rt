@@ -2,15 +2,16 @@
 ghost use Rattle.std.specs.Prelude.{◌≡◌, ◌<◌, ◌≤◌, ℕ, List, length, IfOk, IfErr, IfSome, None, Some};
 ghost use Rattle.tm_scanner.specs.Refused.{Refused, Refuses};
 ghost use Rattle.tm_scanner.specs.Tokens as spec;
-ghost use Rattle.tm_scanner.specs.Views.{Adds, IsNoLonger, Shortens, step_of, place_of};
+ghost use Rattle.tm_delimiters.specs.Views.{Shortens, step_of, place_of};
+ghost use Rattle.tm_scanner.specs.Views.{Adds, IsNoLonger};
 
-use crate::front::{ascii, past_blanks, strip};
 use crate::name_pool::NamePool;
 use crate::names::{name_at, reserved};
 use crate::numbers::{number, starts_number};
 use crate::texts::{literal, quote_at};
-use crate::whitespace::{Whitespace, ending};
 use std::alloc::Global;
+use tm_delimiters::front::{ascii, past_blanks, strip};
+use tm_delimiters::{Whitespace, ending};
 use tm_syntax::{Sign, Token};
 use tm_values::{Error, ErrorKind, Value};
 
