@@ -7,7 +7,7 @@ use Rattle.tm_values.specs.Chain.{ends_in_memory}
 use Rattle.tm_values.specs.Map.{put_all}
 use Rattle.tm_values.specs.declared.error.ErrorKind.{ErrorKind}
 use Rattle.tm_values.specs.declared.error.ErrorKind.TheVariants.{SyntaxError, WriteFailure}
-use Rattle.tm_scanner.specs.Syntax.{default_syntax}
+use Rattle.tm_delimiters.specs.Syntax.{default_syntax}
 use Rattle.tm_syntax.specs.declared.tree.Tree.{Tree}
 use Rattle.tm_syntax.specs.Named.{put}
 use Rattle.tm_compiler.specs.Spells.{Spells, SpellsNone}

@@ -6,7 +6,7 @@ use Rattle.tm_values.specs.declared.undefined.UndefinedBehavior.TheVariants.{Len
 use Rattle.tm_syntax.specs.declared.instruction.Instruction.{Instruction}
 use Rattle.tm_syntax.specs.Named.{Named, find, put}
 use Rattle.tm_syntax.specs.Blocks.{code_of}
-use Rattle.tm_scanner.specs.Syntax.{Syntax, default_syntax}
+use Rattle.tm_delimiters.specs.Syntax.{Syntax, default_syntax}
 use Rattle.tm_meaning.specs.declared.stream.StreamId.{StreamId}
 use Rattle.tm_meaning.specs.declared.stream.TemplateId.{TemplateId}
 use Rattle.tm_meaning.specs.declared.stream.TemplateId.TheVariants.{Own, Entry}

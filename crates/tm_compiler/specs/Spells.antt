@@ -2,7 +2,7 @@
 use Rattle.std.specs.Prelude.{ℕ, List}
 use Rattle.tm_syntax.specs.declared.token.Token.{Token}
 use Rattle.tm_syntax.specs.declared.tree.Tree.{Tree}
-use Rattle.tm_scanner.specs.Syntax.{Syntax}
+use Rattle.tm_delimiters.specs.Syntax.{Syntax}
 use Rattle.tm_scanner.specs.Spells.{SpellsTokens}
 use Rattle.tm_parser.specs.Template.{SpellsTemplate}
 

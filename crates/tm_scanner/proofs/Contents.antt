@@ -4,8 +4,8 @@ use Rattle.tm_values.specs.Val.{Val}
 use Rattle.tm_syntax.specs.declared.token.Token.{Token}
 use Rattle.tm_syntax.specs.declared.token.Token.TheVariants as tokens
 use Rattle.tm_scanner.specs.declared.texts.Quote.{Quote}
-use Rattle.tm_scanner.specs.declared.whitespace.Whitespace.{Whitespace}
-use Rattle.tm_scanner.specs.Front.{past_blanks}
+use Rattle.tm_delimiters.specs.declared.whitespace.Whitespace.{Whitespace}
+use Rattle.tm_delimiters.specs.Front.{past_blanks}
 use Rattle.tm_scanner.specs.Steps.{Steps}
 use Rattle.tm_scanner.specs.Texts.{quote_at, IsLiteral}
 use Rattle.tm_scanner.specs.Tokens.{IsToken, IsTokenBehind, depth_behind, Place, past_end, Passes, Content}

@@ -1,12 +1,9 @@
-pub mod Places
 pub mod Newlines
 pub mod Words
 pub mod Steps
 pub mod Runs
 pub mod Refusals
 pub mod Literals
-pub mod Begins
 pub mod Raws
-pub mod Indents
 pub mod Contents
 pub mod Sources

@@ -4,10 +4,10 @@ use Rattle.std.specs.Prelude.{encode_utf8}
 use Rattle.tm_values.specs.Val.{Val, text}
 use Rattle.tm_scanner.specs.declared.texts.Quote.{Quote}
 use Rattle.tm_scanner.specs.declared.texts.Quote.TheVariants as quote
-use Rattle.tm_scanner.specs.Front.{◌>>=◌}
+use Rattle.tm_delimiters.specs.Front.{◌>>=◌}
 use Rattle.tm_scanner.specs.Steps.{Steps, joined}
 use Rattle.tm_scanner.specs.Texts.{byte_of, past_quote, run, escape, part, IsPart, IsText, IsLiteral}
-use Rattle.tm_scanner.proofs.Places.{behind-append, behind-split}
+use Rattle.tm_delimiters.proofs.Places.{behind-append, behind-split}
 use Rattle.tm_scanner.proofs.Steps.{OneStep, NoStep, append-nil, joined_last, same_result, steps_last, one_end}
 
 -- Behind its opening quote the text begins with the content, up to where the rest is left.

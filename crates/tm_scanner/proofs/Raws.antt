@@ -2,13 +2,13 @@
 use Rattle.std.proofs.Common.{◌≡◌, ℕ, zero, suc, ◌+◌, ◌-◌, ◌<◌, ◌≤◌, List, Some, None, length, drop, take, refl, sym, ◌∙◌, ap, arith, length-drop}
 use Rattle.std.proofs.lemmas.List.{drop-drop}
 use Rattle.memchr.specs.Find.{Nowhere, NoneBefore}
-use Rattle.tm_scanner.specs.declared.whitespace.Whitespace.{Whitespace}
-use Rattle.tm_scanner.specs.Front.{first_of}
-use Rattle.tm_scanner.specs.Syntax.{Syntax, HasAll}
-use Rattle.tm_scanner.specs.Starts.{begins, BeginsAt}
+use Rattle.tm_delimiters.specs.declared.whitespace.Whitespace.{Whitespace}
+use Rattle.tm_delimiters.specs.Front.{first_of}
+use Rattle.tm_delimiters.specs.Syntax.{Syntax, HasAll}
+use Rattle.tm_delimiters.specs.Starts.{begins, BeginsAt}
 use Rattle.tm_scanner.specs.Pieces.{endraw}
-use Rattle.tm_scanner.proofs.Places.{not_true, first_of-at, first_of-nowhere}
-use Rattle.tm_scanner.proofs.Begins.{AtStart, no_block_start, never_at_end, rest_is}
+use Rattle.tm_delimiters.proofs.Places.{not_true, first_of-at, first_of-nowhere}
+use Rattle.tm_delimiters.proofs.Begins.{AtStart, no_block_start, never_at_end, rest_is}
 
 pub endraws_start : (s : Syntax) → AtStart s (endraw s)
 endraws_start s cs h = rw (no_block_start s cs h) refl

@@ -6,9 +6,9 @@ use Rattle.std.proofs.lemmas.List.{append_cancel_right, take-append-drop}
 use Rattle.std.proofs.lemmas.Str.{chars-append, encodes-chars}
 use Rattle.std.proofs.Math.Seq.{drop-append_seam}
 use Rattle.unicode_ident.specs.Ident.{is_xid_continue}
-use Rattle.tm_scanner.specs.Front.{until}
+use Rattle.tm_delimiters.specs.Front.{until}
 use Rattle.tm_scanner.specs.Names.{starts_name, leaves_name, name_in, name_at}
-use Rattle.tm_scanner.proofs.Places.{until_none, until_some}
+use Rattle.tm_delimiters.proofs.Places.{until_none, until_some}
 use Rattle.tm_scanner.proofs.Steps.{append-nil}
 
 -- Where a search for the end of a name stands: `gone` are the bytes behind it, and `passed` their characters.

@@ -5,15 +5,15 @@ use Rattle.tm_syntax.specs.declared.token.Token.{Token}
 use Rattle.tm_syntax.specs.declared.token.Token.TheVariants as tokens
 use Rattle.tm_syntax.specs.declared.token.Sign.TheVariants as sign
 use Rattle.tm_syntax.specs.declared.token.Tag.{Tag}
-use Rattle.tm_scanner.specs.declared.syntax.Kind.{Kind}
-use Rattle.tm_scanner.specs.declared.syntax.Kind.TheVariants as kind
-use Rattle.tm_scanner.specs.declared.trimming.Side.{Side}
-use Rattle.tm_scanner.specs.Front.{first_of}
+use Rattle.tm_delimiters.specs.declared.syntax.Kind.{Kind}
+use Rattle.tm_delimiters.specs.declared.syntax.Kind.TheVariants as kind
+use Rattle.tm_delimiters.specs.declared.trimming.Side.{Side}
+use Rattle.tm_delimiters.specs.Front.{first_of}
 use Rattle.tm_scanner.specs.Steps.{Steps, joined}
-use Rattle.tm_scanner.specs.Syntax.{Syntax}
+use Rattle.tm_delimiters.specs.Syntax.{Syntax}
 use Rattle.tm_scanner.specs.Tokens.{Content}
-use Rattle.tm_scanner.specs.Trimming.{trimmed}
-use Rattle.tm_scanner.specs.Starts.{tag_start}
+use Rattle.tm_delimiters.specs.Trimming.{trimmed}
+use Rattle.tm_delimiters.specs.Starts.{tag_start}
 use Rattle.tm_scanner.specs.Pieces.{raw, past_word, tag_word, IsBlockTag, IsBlockBehind, IsBlock, IsEmission, IsTag, Place, IsPiece}
 use Rattle.tm_scanner.specs.Spells.{read_of, SpellsTokens}
 use Rattle.tm_scanner.proofs.Steps.{OneStep, NoStep, joined_last, same_some, same_result, steps_last, one_end}

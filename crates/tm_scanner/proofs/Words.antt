@@ -2,7 +2,7 @@
 use Rattle.std.proofs.Common.{◌≡◌, ◌≢◌, ℕ, List, [], ◌∷◌, Bool, true, false, nat_eq, Some, None, refl, sym}
 use Rattle.std.specs.Prelude.{if◌then◌else◌}
 use Rattle.std.specs.Cmp.Lexicographic.{pointwise, bytes_decides}
-use Rattle.tm_scanner.specs.Front.{look_up}
+use Rattle.tm_scanner.specs.Names.{look_up}
 
 -- none of the words is the name
 abbrev pub Differs : {A : Type 0} → List (List ℕ × A) → List ℕ → Type 0

@@ -1,10 +1,4 @@
 pub mod Steps
-pub mod Front
-pub mod Delimiters
-pub mod Syntax
-pub mod Whitespace
-pub mod Trimming
-pub mod Starts
 pub mod Names
 pub mod Numbers
 pub mod Texts

@@ -1,12 +1,13 @@
 -- Names, and the words that are no names.
-use Rattle.std.specs.Prelude.{ℕ, List, [], ◌∷◌, Bool, true, not, codes, Option, Some, None, option_map, if◌then◌else◌, ◌==◌, ◌||◌, encode_utf8_all}
+use Rattle.std.specs.Prelude.{ℕ, List, [], ◌∷◌, Bool, true, not, nat_eq, codes, Option, Some, None, option_map, if◌then◌else◌, ◌==◌, ◌||◌, encode_utf8_all}
+use Rattle.std.specs.Cmp.Lexicographic.{pointwise}
 use Rattle.std.specs.Str.{chars}
 use Rattle.unicode_ident.specs.Ident.{is_xid_start, is_xid_continue}
 use Rattle.tm_syntax.specs.declared.token.Sign.{Sign}
 use Rattle.tm_syntax.specs.declared.token.Sign.TheVariants as sign
 use Rattle.tm_syntax.specs.declared.token.Tag.{Tag}
 use Rattle.tm_syntax.specs.declared.token.Tag.TheVariants as tag
-use Rattle.tm_scanner.specs.Front.{until, look_up}
+use Rattle.tm_delimiters.specs.Front.{until}
 
 -- whether a name may begin with the character
 abbrev pub starts_name : ℕ → Bool
@@ -25,6 +26,11 @@ name_in (c ∷ cs) = if starts_name c then Some (c ∷ (until leaves_name cs).0,
 -- the same of bytes
 abbrev pub name_at : List ℕ → Option (List ℕ × List ℕ)
 name_at bs = option_map (λ x. (encode_utf8_all x.0, encode_utf8_all x.1)) (name_in (chars bs))
+
+-- what a word stands for
+abbrev pub look_up : {A : Type 0} → List (List ℕ × A) → List ℕ → Option A
+look_up [] cs = None
+look_up (x ∷ xs) cs = if pointwise nat_eq x.0 cs then Some x.1 else look_up xs cs
 
 abbrev pub reserved_words : List (List ℕ × Sign)
 reserved_words =

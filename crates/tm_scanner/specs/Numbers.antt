@@ -2,7 +2,7 @@
 use Rattle.std.specs.Prelude.{ℕ, ◌+◌, ◌*◌, nat_lt, List, [], ◌∷◌, Bool, false, Option, Some, None, is_some, codes, if◌then◌else◌, ◌==◌, ◌&&◌, ◌||◌}
 use Rattle.std.specs.Option.{option_or, unwrap_or}
 use Rattle.std.specs.Char.{digit_value}
-use Rattle.tm_scanner.specs.Front.{◌>>=◌, behind}
+use Rattle.tm_delimiters.specs.Front.{◌>>=◌, behind}
 
 -- the digit of a base at the front
 abbrev pub digit : ℕ → List ℕ → Option (ℕ × List ℕ)

@@ -5,16 +5,16 @@ use Rattle.tm_syntax.specs.declared.token.Token.{Token}
 use Rattle.tm_syntax.specs.declared.token.Token.TheVariants as tokens
 use Rattle.tm_syntax.specs.declared.token.Sign.TheVariants as sign
 use Rattle.tm_syntax.specs.declared.token.Tag.{Tag}
-use Rattle.tm_scanner.specs.declared.syntax.Kind.{Kind}
-use Rattle.tm_scanner.specs.declared.syntax.Kind.TheVariants as kind
-use Rattle.tm_scanner.specs.declared.whitespace.Whitespace.{Whitespace}
-use Rattle.tm_scanner.specs.declared.trimming.Side.{Side}
-use Rattle.tm_scanner.specs.Front.{◌>>=◌, behind, first_of, past_blanks}
+use Rattle.tm_delimiters.specs.declared.syntax.Kind.{Kind}
+use Rattle.tm_delimiters.specs.declared.syntax.Kind.TheVariants as kind
+use Rattle.tm_delimiters.specs.declared.whitespace.Whitespace.{Whitespace}
+use Rattle.tm_delimiters.specs.declared.trimming.Side.{Side}
+use Rattle.tm_delimiters.specs.Front.{◌>>=◌, behind, first_of, past_blanks}
 use Rattle.tm_scanner.specs.Names.{leaves_name, name_at, tag_of}
-use Rattle.tm_scanner.specs.Syntax.{Syntax}
-use Rattle.tm_scanner.specs.Whitespace.{whitespace_at, ending, comment_end}
-use Rattle.tm_scanner.specs.Trimming.{trimmed}
-use Rattle.tm_scanner.specs.Starts.{tag_start}
+use Rattle.tm_delimiters.specs.Syntax.{Syntax}
+use Rattle.tm_delimiters.specs.Whitespace.{whitespace_at, ending, comment_end}
+use Rattle.tm_delimiters.specs.Trimming.{trimmed}
+use Rattle.tm_delimiters.specs.Starts.{tag_start}
 use Rattle.tm_scanner.specs.Tokens.{Content}
 
 -- the token of a raw text; an empty one has none

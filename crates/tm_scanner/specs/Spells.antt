@@ -2,10 +2,10 @@
 use Rattle.std.specs.Prelude.{◌≡◌, ℕ, List, [], ◌∷◌, ◌++◌, Bool, false, None, if◌then◌else◌, ◌==◌, ◌&&◌}
 use Rattle.tm_syntax.specs.declared.token.Token.{Token}
 use Rattle.tm_scanner.specs.Steps.{Steps, joined}
-use Rattle.tm_scanner.specs.Syntax.{Syntax}
-use Rattle.tm_scanner.specs.Front.{first_of}
-use Rattle.tm_scanner.specs.Trimming.{trimmed}
-use Rattle.tm_scanner.specs.Starts.{tag_start}
+use Rattle.tm_delimiters.specs.Syntax.{Syntax}
+use Rattle.tm_delimiters.specs.Front.{first_of}
+use Rattle.tm_delimiters.specs.Trimming.{trimmed}
+use Rattle.tm_delimiters.specs.Starts.{tag_start}
 use Rattle.tm_scanner.specs.Pieces.{raw, Place, IsPiece}
 
 -- `\n` or `\r\n`, and nothing behind it

@@ -5,7 +5,7 @@ use Rattle.memchr.specs.Find.{is_byte2}
 use Rattle.tm_values.specs.Val.{Val, text}
 use Rattle.tm_scanner.specs.declared.texts.Quote.{Quote}
 use Rattle.tm_scanner.specs.declared.texts.Quote.TheVariants as quote
-use Rattle.tm_scanner.specs.Front.{◌>>=◌, behind, until, first_is, ascii}
+use Rattle.tm_delimiters.specs.Front.{◌>>=◌, behind, until, first_is, ascii}
 use Rattle.tm_scanner.specs.Steps.{Steps, joined}
 
 abbrev pub byte_of : Quote → ℕ

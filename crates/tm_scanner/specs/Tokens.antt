@@ -7,9 +7,9 @@ use Rattle.tm_syntax.specs.declared.token.Token.TheVariants as tokens
 use Rattle.tm_syntax.specs.declared.token.Sign.{Sign}
 use Rattle.tm_syntax.specs.declared.token.Sign.TheVariants as sign
 use Rattle.tm_scanner.specs.declared.texts.Quote.{Quote}
-use Rattle.tm_scanner.specs.declared.whitespace.Whitespace.{Whitespace}
-use Rattle.tm_scanner.specs.Front.{behind, past_blanks}
-use Rattle.tm_scanner.specs.Whitespace.{ending}
+use Rattle.tm_delimiters.specs.declared.whitespace.Whitespace.{Whitespace}
+use Rattle.tm_delimiters.specs.Front.{behind, past_blanks}
+use Rattle.tm_delimiters.specs.Whitespace.{ending}
 use Rattle.tm_scanner.specs.Steps.{Steps}
 use Rattle.tm_scanner.specs.Names.{name_at, reserved}
 use Rattle.tm_scanner.specs.Numbers.{number, starts_number}

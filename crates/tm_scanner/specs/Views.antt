@@ -1,39 +1,13 @@
 -- What functions return, as bytes.
-use Rattle.std.specs.Prelude.{◌≡◌, ℕ, List, [], ◌∷◌, ◌++◌, ◌<◌, ◌≤◌, length, Option, Some, None, IfSome, Result, IfOk, encode_utf8}
+use Rattle.std.specs.Prelude.{◌≡◌, ℕ, List, ◌++◌, ◌≤◌, length, Option, Some, None, Result, IfOk}
 use Rattle.std.specs.Borrow.{Bor}
-use Rattle.std.specs.Str.{chars}
 
--- a character and the text behind it, or no text
-abbrev pub IsFirst : Option (ℕ × Bor (List ℕ)) → List ℕ → Type 0
-IsFirst None text = text ≡ []
-IsFirst (Some x) text = (chars text ≡ x.0 ∷ chars x.1.now) × (text ≡ encode_utf8 x.0 ++ x.1.now)
-
-abbrev pub place_of : Option (Bor (List ℕ)) → Option (List ℕ)
-place_of None = None
-place_of (Some x) = Some x.now
-
-abbrev pub cut_of : Option (Bor (List ℕ) × Bor (List ℕ)) → Option (List ℕ × List ℕ)
-cut_of None = None
-cut_of (Some x) = Some (x.0.now, x.1.now)
-
-abbrev pub step_of : {A : Type 0} → Option (A × Bor (List ℕ)) → Option (A × List ℕ)
-step_of None = None
-step_of (Some x) = Some (x.0, x.1.now)
-
--- What is left is shorter than the bytes.
-abbrev pub Shortens : {A : Type 0} → Option (A × Bor (List ℕ)) → List ℕ → Type 0
-Shortens r cs = IfSome r (λ x. length x.1.now < length cs)
-
--- three parts, of which the first and the last are texts
-abbrev pub parts_of : {A : Type 0} → Option (Bor (List ℕ) × A × Bor (List ℕ)) → Option (List ℕ × (A × List ℕ))
-parts_of None = None
-parts_of (Some x) = Some (x.0.now, (x.1, x.2.now))
-
--- the same of a tag that ends
+-- the marks of a tag, and what is left behind it
 abbrev pub closing_of : {A B : Type 0} → Option (A × (B × Bor (List ℕ))) → Option (A × (B × List ℕ))
 closing_of None = None
 closing_of (Some x) = Some (x.0, (x.1.0, x.1.1.now))
 
+-- the same behind a text
 abbrev pub closed_of : {A B : Type 0} → Option (Bor (List ℕ) × (A × (B × Bor (List ℕ)))) → Option (List ℕ × (A × (B × List ℕ)))
 closed_of None = None
 closed_of (Some x) = Some (x.0.now, (x.1.0, (x.1.1.0, x.1.1.1.now)))

@@ -2,11 +2,11 @@
 ghost use Rattle.std.specs.Prelude.{◌≡◌, ◌<◌, true, false, length, IfSome, encode_utf8_all};
 ghost use Rattle.std.specs.Str.{chars};
 ghost use Rattle.unicode_ident.specs.Ident.{is_xid_continue};
-ghost use Rattle.tm_scanner.specs.Front.{until};
+ghost use Rattle.tm_delimiters.specs.Front.{until};
 ghost use Rattle.tm_scanner.specs.Names as spec;
-ghost use Rattle.tm_scanner.specs.Views.{Shortens, cut_of};
+ghost use Rattle.tm_delimiters.specs.Views.{Shortens, cut_of};
 
-use crate::front::first;
+use tm_delimiters::front::first;
 use tm_syntax::{Sign, Tag};
 
 /// Whether a name may begin with the character.

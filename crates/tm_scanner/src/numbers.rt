@@ -1,9 +1,9 @@
 //! Whole numbers.
 ghost use Rattle.std.specs.Prelude.{◌≡◌, ◌<◌, ◌≤◌, ◌^◌, length, IfSome};
 ghost use Rattle.tm_scanner.specs.Numbers as spec;
-ghost use Rattle.tm_scanner.specs.Views.{Shortens, step_of};
+ghost use Rattle.tm_delimiters.specs.Views.{Shortens, step_of};
 
-use crate::front::{ascii, strip};
+use tm_delimiters::front::{ascii, strip};
 
 /// The digit of a base at the front, and what is left behind it.
 fn digit_at(base: u32, text: &str) -> Option<(u128, &str)>

@@ -2,17 +2,18 @@
 ghost use Rattle.std.specs.Prelude.{◌≡◌, ◌<◌, ◌≤◌, ◌++◌, ℕ, List, [], ◌∷◌, length, IfOk, IfErr, IfSome};
 ghost use Rattle.tm_scanner.specs.Pieces as spec;
 ghost use Rattle.tm_scanner.specs.Refused.{Refuses};
-ghost use Rattle.tm_scanner.specs.Syntax.{HasAll};
-ghost use Rattle.tm_scanner.specs.Views.{Adds, IsNoLonger, Shortens, step_of, place_of};
+ghost use Rattle.tm_delimiters.specs.Syntax.{HasAll};
+ghost use Rattle.tm_delimiters.specs.Views.{Shortens, step_of, place_of};
+ghost use Rattle.tm_scanner.specs.Views.{Adds, IsNoLonger};
 ghost use Rattle.tm_values.specs.declared.error.ErrorKind.TheVariants.{OutOfMemory};
 
-use crate::front::past_blanks;
+use crate::name_pool::NamePool;
 use crate::names::{name_at, tag_of};
 use crate::raw::{past_word, raw_block};
-use crate::syntax::{Kind, SyntaxConfig};
 use crate::tokens::content;
-use crate::whitespace::{Whitespace, comment_end};
 use std::alloc::Global;
+use tm_delimiters::front::past_blanks;
+use tm_delimiters::{Kind, SyntaxConfig, Whitespace, comment_end};
 use tm_syntax::{Name, Sign, Tag, Token};
 use tm_values::{Error, ErrorKind};
 
@@ -33,6 +34,7 @@ pub(crate) fn raw(alloc: Global, text: &str, tokens: &mut Vec<Token>) -> Result<
 /// SyntaxError where it has something that is no token, or no end; OutOfMemory.
 fn emission<'s>(
     alloc: Global,
+    names: &mut NamePool,
     by: &str,
     text: &'s str,
     tokens: &mut Vec<Token>,
@@ -43,7 +45,7 @@ fn emission<'s>(
     ensures refused { Refuses result (spec.IsEmission by.now text.now) }
 {
     tokens.push(Token::Sign(Sign::VariableStart))?;
-    let end = content(alloc, by, text, tokens)?;
+    let end = content(alloc, names, by, text, tokens)?;
     tokens.push(Token::Sign(Sign::VariableEnd))?;
     Ok(end)
 }
@@ -63,6 +65,7 @@ fn tag_word(text: &str) -> Option<(Tag, &str)>
 /// no end; OutOfMemory.
 fn block_tag<'s>(
     alloc: Global,
+    names: &mut NamePool,
     by: &str,
     text: &'s str,
     tokens: &mut Vec<Token>,
@@ -76,7 +79,7 @@ fn block_tag<'s>(
         return Err(Error::from(ErrorKind::SyntaxError));
     };
     tokens.push(Token::Tag(tag))?;
-    let end = content(alloc, by, rest, tokens)?;
+    let end = content(alloc, names, by, rest, tokens)?;
     tokens.push(Token::Sign(Sign::BlockEnd))?;
     Ok(end)
 }
@@ -108,6 +111,7 @@ fn raw_text<'s>(
 /// SyntaxError where it is none, OutOfMemory.
 fn block<'s>(
     alloc: Global,
+    names: &mut NamePool,
     syntax: &SyntaxConfig,
     text: &'s str,
     tokens: &mut Vec<Token>,
@@ -120,7 +124,7 @@ fn block<'s>(
 {
     match past_word("raw", text) {
         Some(rest) => raw_text(alloc, syntax, rest, tokens),
-        None => block_tag(alloc, syntax.end(Kind::Block), text, tokens),
+        None => block_tag(alloc, names, syntax.end(Kind::Block), text, tokens),
     }
 }
 
@@ -129,6 +133,7 @@ fn block<'s>(
 /// SyntaxError where no such tag stands there, OutOfMemory.
 pub(crate) fn tag<'s>(
     alloc: Global,
+    names: &mut NamePool,
     syntax: &SyntaxConfig,
     kind: Kind,
     text: &'s str,
@@ -141,8 +146,8 @@ pub(crate) fn tag<'s>(
     ensures refused { Refuses result (spec.IsTag syntax.now kind text.now) }
 {
     match kind {
-        Kind::Block => block(alloc, syntax, text, tokens),
-        Kind::Variable => emission(alloc, syntax.end(Kind::Variable), text, tokens),
+        Kind::Block => block(alloc, names, syntax, text, tokens),
+        Kind::Variable => emission(alloc, names, syntax.end(Kind::Variable), text, tokens),
         Kind::Comment => match comment_end(syntax.end(Kind::Comment), text) {
             Some(end) => Ok(end),
             None => Err(Error::from(ErrorKind::SyntaxError)),

@@ -1,16 +1,16 @@
 //! Raw blocks, in which all is text.
 ghost use Rattle.std.specs.Prelude.{◌≡◌, ◌<◌, ◌≤◌, length, IfSome};
-ghost use Rattle.tm_scanner.specs.Front.{first_of};
+ghost use Rattle.tm_delimiters.specs.Front.{first_of};
 ghost use Rattle.tm_scanner.specs.Pieces as spec;
-ghost use Rattle.tm_scanner.specs.Syntax.{HasAll};
-ghost use Rattle.tm_scanner.specs.Views.{closing_of, closed_of, parts_of, place_of};
+ghost use Rattle.tm_delimiters.specs.Syntax.{HasAll};
+ghost use Rattle.tm_delimiters.specs.Views.{parts_of, place_of};
+ghost use Rattle.tm_scanner.specs.Views.{closing_of, closed_of};
 
-use crate::front::{past_blanks, strip};
 use crate::names::leaves_name;
-use crate::starts::next_start;
-use crate::syntax::{Kind, SyntaxConfig};
-use crate::trimming::{Side, trimmed};
-use crate::whitespace::{Whitespace, ending, whitespace_at};
+use tm_delimiters::front::{past_blanks, strip};
+use tm_delimiters::{
+    Kind, Side, SyntaxConfig, Whitespace, ending, next_start, trimmed, whitespace_at,
+};
 
 /// What is left behind blanks and a word with which no longer name begins.
 pub(crate) fn past_word<'t>(word: &str, text: &'t str) -> Option<&'t str>

@@ -2,14 +2,13 @@
 ghost use Rattle.std.specs.Prelude.{◌≡◌, ℕ, List, IfOk, IfErr};
 ghost use Rattle.tm_scanner.specs.Refused.{Refused};
 ghost use Rattle.tm_scanner.specs.Spells as spec;
-ghost use Rattle.tm_scanner.specs.Syntax.{Syntax};
+ghost use Rattle.tm_delimiters.specs.Syntax.{Syntax};
 ghost use Rattle.tm_syntax.specs.declared.token.Token as declared;
 
+use crate::name_pool::NamePool;
 use crate::pieces::{raw, tag};
-use crate::starts::next_tag;
-use crate::syntax::SyntaxConfig;
-use crate::trimming::{Side, trimmed};
 use std::alloc::Global;
+use tm_delimiters::{Side, SyntaxConfig, next_tag, trimmed};
 use tm_syntax::Token;
 use tm_values::Error;
 
@@ -44,6 +43,7 @@ pub fn scan(alloc: Global, syntax: &SyntaxConfig, source: &str) -> Result<Vec<To
         ((ts : List declared.Token) → spec.SpellsTokens syntax.now source.now ts → ⊥)) }
 {
     syntax.note_usable();
+    let mut names = NamePool::new(alloc);
     let mut tokens = Vec::new(alloc);
     let mut before = None;
     let mut rest = read_of(syntax, source);
@@ -53,7 +53,7 @@ pub fn scan(alloc: Global, syntax: &SyntaxConfig, source: &str) -> Result<Vec<To
             trimmed(syntax, before, Some(start), text),
             &mut tokens,
         )?;
-        let (whitespace, left) = tag(alloc, syntax, start.kind, behind, &mut tokens)?;
+        let (whitespace, left) = tag(alloc, &mut names, syntax, start.kind, behind, &mut tokens)?;
         before = Some(Side {
             kind: start.kind,
             whitespace,

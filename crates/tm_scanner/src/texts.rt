@@ -2,12 +2,12 @@
 ghost use Rattle.std.specs.Prelude.{◌≡◌, ◌<◌, ◌≤◌, ℕ, List, length, IfOk, IfErr, IfSome};
 ghost use Rattle.tm_scanner.specs.Refused.{Refuses};
 ghost use Rattle.tm_scanner.specs.Texts as spec;
-ghost use Rattle.tm_scanner.specs.Views.{Shortens, step_of, place_of};
+ghost use Rattle.tm_delimiters.specs.Views.{Shortens, step_of, place_of};
 
-use crate::front::{ascii, strip};
 use memchr::memchr2;
 use std::alloc::Global;
 use std::rc::RcStr;
+use tm_delimiters::front::{ascii, strip};
 use tm_values::{Error, ErrorKind, Value};
 
 /// What a text begins and ends with.

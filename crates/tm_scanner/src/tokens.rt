@@ -2,15 +2,17 @@
 ghost use Rattle.std.specs.Prelude.{◌≡◌, ◌<◌, ◌≤◌, ℕ, List, length, IfOk, IfErr, IfSome, None, Some};
 ghost use Rattle.tm_scanner.specs.Refused.{Refused, Refuses};
 ghost use Rattle.tm_scanner.specs.Tokens as spec;
-ghost use Rattle.tm_scanner.specs.Views.{Adds, IsNoLonger, Shortens, step_of, place_of};
+ghost use Rattle.tm_delimiters.specs.Views.{Shortens, step_of, place_of};
+ghost use Rattle.tm_scanner.specs.Views.{Adds, IsNoLonger};
 
-use crate::front::{ascii, past_blanks, strip};
+use crate::name_pool::NamePool;
 use crate::names::{name_at, reserved};
 use crate::numbers::{number, starts_number};
 use crate::texts::{literal, quote_at};
-use crate::whitespace::{Whitespace, ending};
 use std::alloc::Global;
-use tm_syntax::{Name, Sign, Token};
+use tm_delimiters::front::{ascii, past_blanks, strip};
+use tm_delimiters::{Whitespace, ending};
+use tm_syntax::{Sign, Token};
 use tm_values::{Error, ErrorKind, Value};
 
 /// How many brackets may be open at once.
@@ -61,7 +63,7 @@ fn mark(text: &str) -> Option<(Sign, &str)>
 /// The name or reserved word at the front, and what is left behind it.
 ///
 /// SyntaxError where none stands there, OutOfMemory.
-fn word(alloc: Global, text: &str) -> Result<(Token, &str), Error>
+fn word<'t>(alloc: Global, names: &mut NamePool, text: &'t str) -> Result<(Token, &'t str), Error>
     ensures found { IfOk result (λ x. spec.word text.now ≡ Some (x.0, x.1.now)) }
     ensures shorter { IfOk result (λ x. length x.1.now < length text.now) }
     ensures refused { IfErr result (λ e. Refused e (spec.word text.now ≡ None)) }
@@ -71,14 +73,14 @@ fn word(alloc: Global, text: &str) -> Result<(Token, &str), Error>
     };
     match reserved(name) {
         Some(sign) => Ok((Token::Sign(sign), rest)),
-        None => Ok((Token::Name(Name::new(alloc, name)?), rest)),
+        None => Ok((Token::Name(names.name(alloc, name)?), rest)),
     }
 }
 
 /// The number, mark, name or reserved word at the front, and what is left behind it.
 ///
 /// SyntaxError where none stands there, OutOfMemory.
-fn plain(alloc: Global, text: &str) -> Result<(Token, &str), Error>
+fn plain<'t>(alloc: Global, names: &mut NamePool, text: &'t str) -> Result<(Token, &'t str), Error>
     ensures found { IfOk result (λ x. spec.plain text.now ≡ Some (x.0, x.1.now)) }
     ensures shorter { IfOk result (λ x. length x.1.now < length text.now) }
     ensures refused { IfErr result (λ e. Refused e (spec.plain text.now ≡ None)) }
@@ -91,14 +93,14 @@ fn plain(alloc: Global, text: &str) -> Result<(Token, &str), Error>
     }
     match mark(text) {
         Some((sign, rest)) => Ok((Token::Sign(sign), rest)),
-        None => word(alloc, text),
+        None => word(alloc, names, text),
     }
 }
 
 /// The token at the front, and what is left behind it.
 ///
 /// SyntaxError where none stands there, OutOfMemory.
-fn token(alloc: Global, text: &str) -> Result<(Token, &str), Error>
+fn token<'t>(alloc: Global, names: &mut NamePool, text: &'t str) -> Result<(Token, &'t str), Error>
     ensures found { IfOk result (λ x. spec.IsToken text.now x.0 x.1.now) }
     ensures shorter { IfOk result (λ x. length x.1.now < length text.now) }
     ensures refused { Refuses result (spec.IsToken text.now) }
@@ -108,7 +110,7 @@ fn token(alloc: Global, text: &str) -> Result<(Token, &str), Error>
             let (value, rest) = literal(alloc, quote, behind)?;
             Ok((Token::Literal(value), rest))
         }
-        None => plain(alloc, text),
+        None => plain(alloc, names, text),
     }
 }
 
@@ -144,6 +146,7 @@ fn past_end<'t>(by: &str, depth: usize, rest: &'t str) -> Option<(Whitespace, &'
 /// SyntaxError where the content has something that is no token, or no end; OutOfMemory.
 pub(crate) fn content<'t>(
     alloc: Global,
+    names: &mut NamePool,
     by: &str,
     text: &'t str,
     tokens: &mut Vec<Token>,
@@ -158,7 +161,7 @@ pub(crate) fn content<'t>(
         if let Some(end) = past_end(by, depth, rest) {
             return Ok(end);
         }
-        let (token, behind) = token(alloc, rest)?;
+        let (token, behind) = token(alloc, names, rest)?;
         let Some(deeper) = depth_behind(&token, depth) else {
             return Err(Error::from(ErrorKind::SyntaxError));
         };

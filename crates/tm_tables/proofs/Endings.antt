@@ -3,9 +3,9 @@ use Rattle.std.proofs.Common.{◌≡◌, ◌≢◌, ℕ, ◌++◌, List, Option,
 use Rattle.std.specs.Prelude.{option_map}
 use Rattle.std.specs.Str.Pattern.{FindsTextSuffix, StripsSuffix}
 use Rattle.std.proofs.lemmas.List.{reverse-append, reverse-reverse}
-use Rattle.tm_scanner.specs.Front.{behind}
-use Rattle.tm_scanner.specs.Views.{place_of}
-use Rattle.tm_scanner.proofs.Places.{behind-append, behind-split}
+use Rattle.tm_delimiters.specs.Front.{behind}
+use Rattle.tm_delimiters.specs.Views.{place_of}
+use Rattle.tm_delimiters.proofs.Places.{behind-append, behind-split}
 use Rattle.tm_tables.specs.Defaults.{before}
 
 there : (front word : List ℕ) → before word (front ++ word) ≡ Some front

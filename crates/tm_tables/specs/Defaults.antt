@@ -3,7 +3,7 @@ use Rattle.std.specs.Prelude.{ℕ, List, [], ◌∷◌, Bool, true, false, ◌||
 use Rattle.std.specs.Option.{option_or}
 use Rattle.tm_values.specs.declared.escape.AutoEscape.{AutoEscape}
 use Rattle.tm_values.specs.declared.escape.AutoEscape.TheVariants as escapes
-use Rattle.tm_scanner.specs.Front.{behind}
+use Rattle.tm_delimiters.specs.Front.{behind}
 use Rattle.tm_meaning.specs.World.{or_is}
 use Rattle.tm_tables.specs.declared.defaults.EscapeSetting.{EscapeSetting}
 use Rattle.tm_tables.specs.declared.defaults.EscapeSetting.TheVariants as setting

@@ -2,7 +2,7 @@
 ghost use Rattle.std.specs.Prelude.{◌≡◌, IfOk, IfErr};
 ghost use Rattle.tm_syntax.specs.Blocks.{code_of};
 ghost use Rattle.tm_syntax.specs.Named.{find};
-ghost use Rattle.tm_scanner.specs.Syntax.{default_syntax};
+ghost use Rattle.tm_delimiters.specs.Syntax.{default_syntax};
 ghost use Rattle.tm_values.specs.Answer.{IsLent};
 ghost use Rattle.tm_meaning.specs.Tree.{part_of};
 ghost use Rattle.tm_tables.specs.Templates.{IsTemplate, IsRefused, body, block_codes, tree_of};

@@ -1,6 +1,6 @@
 //! What an environment does where nothing else was set.
 ghost use Rattle.std.specs.Prelude.{◌≡◌};
-ghost use Rattle.tm_scanner.specs.Views.{place_of};
+ghost use Rattle.tm_delimiters.specs.Views.{place_of};
 ghost use Rattle.tm_tables.specs.Defaults as spec;
 
 use tm_values::AutoEscape;

@@ -3,7 +3,7 @@ use Rattle.std.specs.Prelude.{option_map, encode_utf8_all}
 use Rattle.std.specs.Str.{chars}
 use Rattle.std.proofs.lemmas.Str.{chars-nil}
 use Rattle.tm_scanner.specs.Names.{name_in, name_at}
-use Rattle.tm_scanner.specs.Views.{cut_of}
+use Rattle.tm_delimiters.specs.Views.{cut_of}
 use Rattle.tm_scanner.proofs.names.name_at.Goals as goal
 
 no_name : (text : List ℕ) → text ≡ [] → None ≡ name_at text

@@ -1,7 +1,7 @@
 use Rattle.std.proofs.Common.{sym}
 use Rattle.memchr.specs.Find.{is_byte2}
 use Rattle.tm_scanner.specs.Texts.{byte_of}
-use Rattle.tm_scanner.proofs.Places.{cut_at, cut_nowhere}
+use Rattle.tm_delimiters.proofs.Places.{cut_at, cut_nowhere}
 use Rattle.tm_scanner.proofs.texts.run.Goals as goal
 
 pub returns-in-Some-clause-value : goal.returns-in-Some-clause-value

@@ -1,0 +1,103 @@
+//! How a caller sets delimiters and flags.
+ghost use Rattle.std.specs.Prelude.{◌≡◌, [], ◌∷◌, IfOk, IfErr, string_bytes};
+ghost use Rattle.tm_delimiters.specs.Syntax.{IsUsable, default_syntax};
+ghost use Rattle.tm_values.specs.declared.error.ErrorKind.TheVariants.{InvalidDelimiter};
+
+use crate::delimiter::Delimiter;
+use crate::syntax::{Parts, SyntaxConfig};
+use std::marker::Model;
+use tm_values::{Error, ErrorKind};
+
+/// Delimiters and flags that are being set.
+#[derive(Drop)]
+pub struct SyntaxConfigBuilder {
+    parts: Parts,
+}
+
+impl Model for SyntaxConfigBuilder {
+    ghost use Rattle.tm_delimiters.specs.Syntax.{Syntax};
+
+    ghost Value = { Syntax };
+
+    ghost view = { λ a. a.parts };
+}
+
+impl SyntaxConfigBuilder {
+    /// The delimiters that are usual, no flag set.
+    pub(crate) fn new() -> SyntaxConfigBuilder
+        ensures { result ≡ default_syntax }
+    {
+        SyntaxConfigBuilder {
+            parts: Parts::usual(),
+        }
+    }
+
+    /// What begins and ends a block tag.
+    pub fn block_delimiters(self, start: String, end: String) -> SyntaxConfigBuilder
+        ensures { result
+            ≡ record self { block_start = string_bytes start; block_end = string_bytes end } }
+    {
+        let mut parts = self.parts;
+        parts.block_start = Delimiter::owned(start);
+        parts.block_end = Delimiter::owned(end);
+        SyntaxConfigBuilder { parts }
+    }
+
+    /// What begins and ends an emission.
+    pub fn variable_delimiters(self, start: String, end: String) -> SyntaxConfigBuilder
+        ensures { result
+            ≡ record self { variable_start = string_bytes start; variable_end = string_bytes end } }
+    {
+        let mut parts = self.parts;
+        parts.variable_start = Delimiter::owned(start);
+        parts.variable_end = Delimiter::owned(end);
+        SyntaxConfigBuilder { parts }
+    }
+
+    /// What begins and ends a comment.
+    pub fn comment_delimiters(self, start: String, end: String) -> SyntaxConfigBuilder
+        ensures { result
+            ≡ record self { comment_start = string_bytes start; comment_end = string_bytes end } }
+    {
+        let mut parts = self.parts;
+        parts.comment_start = Delimiter::owned(start);
+        parts.comment_end = Delimiter::owned(end);
+        SyntaxConfigBuilder { parts }
+    }
+
+    /// Whether one newline behind a block tag or a comment is removed.
+    pub fn trim_blocks(mut self, yes: bool) -> SyntaxConfigBuilder
+        ensures { result ≡ record self { trim_blocks = yes } }
+    {
+        self.parts.trim_blocks = yes;
+        self
+    }
+
+    /// Whether the spaces and tabs from a line's start to a block tag or a comment are removed.
+    pub fn lstrip_blocks(mut self, yes: bool) -> SyntaxConfigBuilder
+        ensures { result ≡ record self { lstrip_blocks = yes } }
+    {
+        self.parts.lstrip_blocks = yes;
+        self
+    }
+
+    /// Whether a source's final newline stays.
+    pub fn keep_trailing_newline(mut self, yes: bool) -> SyntaxConfigBuilder
+        ensures { result ≡ record self { keep_trailing_newline = yes } }
+    {
+        self.parts.keep_trailing_newline = yes;
+        self
+    }
+
+    /// What was set; InvalidDelimiter where a delimiter is empty or two of the starts are equal.
+    pub fn build(self) -> Result<SyntaxConfig, Error>
+        ensures built { IfOk result (λ config. (config ≡ self) × IsUsable self) }
+        ensures refused { IfErr result (λ e. (e ≡ InvalidDelimiter ∷ []) × (IsUsable self → ⊥)) }
+    {
+        if self.parts.is_usable() {
+            Ok(SyntaxConfig { parts: self.parts })
+        } else {
+            Err(Error::from(ErrorKind::InvalidDelimiter))
+        }
+    }
+}

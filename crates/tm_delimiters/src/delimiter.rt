@@ -1,0 +1,58 @@
+//! Delimiters.
+ghost use Rattle.std.specs.Prelude.{◌≡◌, string_bytes};
+
+use std::marker::Model;
+
+/// What a delimiter is kept as.
+#[derive(Drop)]
+enum Text {
+    Literal(&'static str),
+    Owned(String),
+}
+
+/// A delimiter. A contract sees its bytes.
+#[derive(Drop)]
+pub(crate) struct Delimiter {
+    text: Text,
+}
+
+impl Model for Delimiter {
+    ghost use Rattle.std.specs.Prelude.{List, ℕ};
+
+    ghost Value = { List ℕ };
+
+    ghost use Rattle.tm_delimiters.specs.Delimiters.{bytes_of};
+
+    ghost view = { λ a. bytes_of a.text };
+}
+
+impl Delimiter {
+    /// A delimiter of this program's text.
+    pub(crate) fn literal(text: &'static str) -> Delimiter
+        ensures { result ≡ text.now }
+    {
+        Delimiter {
+            text: Text::Literal(text),
+        }
+    }
+
+    /// A delimiter of the caller's.
+    pub(crate) fn owned(text: String) -> Delimiter
+        ensures { result ≡ string_bytes text }
+    {
+        Delimiter {
+            text: Text::Owned(text),
+        }
+    }
+
+    /// Its text.
+    #[inline(always)]
+    pub(crate) fn as_str(&self) -> &str
+        ensures { result.now ≡ self.now }
+    {
+        match &self.text {
+            Text::Literal(text) => text,
+            Text::Owned(text) => text.as_str(),
+        }
+    }
+}

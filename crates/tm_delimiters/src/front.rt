@@ -1,0 +1,65 @@
+//! Bytes at the front of a text.
+ghost use Rattle.std.specs.Prelude.{◌≡◌, ◌+◌, ◌<◌, ◌≤◌, length, IfSome};
+ghost use Rattle.tm_delimiters.specs.Front as spec;
+ghost use Rattle.tm_delimiters.specs.Views.{IsFirst, Shortens, cut_of, place_of, step_of};
+
+/// What is left behind the word, where the text begins with it.
+#[inline(always)]
+pub fn strip<'t>(text: &'t str, word: &str) -> Option<&'t str>
+    ensures value { place_of result ≡ spec.behind word.now text.now }
+    ensures len { IfSome result (λ rest. length word.now + length rest.now ≡ length text.now) }
+{
+    text.strip_prefix(word)
+}
+
+/// What stands before the first place of the word, and what is left behind it.
+pub(crate) fn cut<'t>(text: &'t str, word: &str) -> Option<(&'t str, &'t str)>
+    ensures value { cut_of result ≡ spec.first_of (spec.behind word.now) text.now }
+    ensures no_longer { IfSome result (λ x. length x.1.now ≤ length text.now) }
+{
+    text.split_once(word)
+}
+
+/// The first byte, where it is ASCII, and what is left behind it.
+#[inline(always)]
+pub fn ascii(text: &str) -> Option<(u8, &str)>
+    ensures value { step_of result ≡ spec.ascii text.now }
+    ensures shorter { Shortens result text.now }
+{
+    let bytes = text.as_bytes();
+    if bytes.is_empty() {
+        return None;
+    }
+    let byte = bytes[0];
+    if byte < 128 {
+        Some((byte, &text[1..]))
+    } else {
+        None
+    }
+}
+
+/// The first character, and what is left behind it.
+pub fn first(text: &str) -> Option<(char, &str)>
+    ensures value { IsFirst result text.now }
+    ensures shorter { Shortens result text.now }
+{
+    match text.chars().next() {
+        Some(c) => Some((c, &text[c.len_utf8()..])),
+        None => None,
+    }
+}
+
+/// What is left behind the blanks at the front.
+pub fn past_blanks(text: &str) -> &str
+    ensures value { result.now ≡ spec.past_blanks text.now }
+    ensures no_longer { length result.now ≤ length text.now }
+{
+    let mut rest = text;
+    while let Some((byte, behind)) = ascii(rest) {
+        if !matches!(byte, b' ' | b'\t' | b'\n' | b'\r' | b'\x0c') {
+            break;
+        }
+        rest = behind;
+    }
+    rest
+}

@@ -1,0 +1,16 @@
+//! Delimiters: where the tags of a source start, and what they leave of the text beside them.
+#![tactic(auto)]
+
+mod builder;
+mod delimiter;
+pub mod front;
+mod starts;
+mod syntax;
+mod trimming;
+mod whitespace;
+
+pub use builder::SyntaxConfigBuilder;
+pub use starts::{next_start, next_tag};
+pub use syntax::{Kind, SyntaxConfig};
+pub use trimming::{Side, trimmed};
+pub use whitespace::{Whitespace, comment_end, ending, whitespace_at};

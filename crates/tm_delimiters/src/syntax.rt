@@ -1,0 +1,184 @@
+//! Delimiters and flags of templates.
+ghost use Rattle.std.specs.Prelude.{◌≡◌, Decides};
+ghost use Rattle.tm_delimiters.specs.Starts as starts;
+ghost use Rattle.tm_delimiters.specs.Syntax.{HasAll, StartsDiffer, IsUsable, default_syntax};
+
+use crate::builder::SyntaxConfigBuilder;
+use crate::delimiter::Delimiter;
+use std::marker::Model;
+
+/// What a tag is, by its delimiters.
+#[derive(Clone, Copy)]
+pub enum Kind {
+    Block,
+    Variable,
+    Comment,
+}
+
+/// Delimiters and flags, usable or not.
+#[derive(Drop)]
+pub(crate) struct Parts {
+    pub(crate) block_start: Delimiter,
+    pub(crate) block_end: Delimiter,
+    pub(crate) variable_start: Delimiter,
+    pub(crate) variable_end: Delimiter,
+    pub(crate) comment_start: Delimiter,
+    pub(crate) comment_end: Delimiter,
+    pub(crate) trim_blocks: bool,
+    pub(crate) lstrip_blocks: bool,
+    pub(crate) keep_trailing_newline: bool,
+}
+
+impl Model for Parts {
+    ghost use Rattle.tm_delimiters.specs.Syntax.{Syntax};
+
+    ghost Value = { Syntax };
+
+    ghost view = { λ a. record {
+      block_start = a.block_start;
+      block_end = a.block_end;
+      variable_start = a.variable_start;
+      variable_end = a.variable_end;
+      comment_start = a.comment_start;
+      comment_end = a.comment_end;
+      trim_blocks = a.trim_blocks;
+      lstrip_blocks = a.lstrip_blocks;
+      keep_trailing_newline = a.keep_trailing_newline;
+    } };
+}
+
+impl Parts {
+    /// `{% %}`, `{{ }}` and `{# #}`, no flag set.
+    pub(crate) fn usual() -> Parts
+        ensures { result ≡ default_syntax }
+    {
+        Parts {
+            block_start: Delimiter::literal("{%"),
+            block_end: Delimiter::literal("%}"),
+            variable_start: Delimiter::literal("{{"),
+            variable_end: Delimiter::literal("}}"),
+            comment_start: Delimiter::literal("{#"),
+            comment_end: Delimiter::literal("#}"),
+            trim_blocks: false,
+            lstrip_blocks: false,
+            keep_trailing_newline: false,
+        }
+    }
+
+    /// Whether no delimiter is empty.
+    fn has_all(&self) -> bool
+        ensures { Decides result (HasAll self.now) }
+    {
+        !self.block_start.as_str().is_empty()
+            && !self.block_end.as_str().is_empty()
+            && !self.variable_start.as_str().is_empty()
+            && !self.variable_end.as_str().is_empty()
+            && !self.comment_start.as_str().is_empty()
+            && !self.comment_end.as_str().is_empty()
+    }
+
+    /// Whether no two starts are equal.
+    fn starts_differ(&self) -> bool
+        ensures { Decides result (StartsDiffer self.now) }
+    {
+        let block = self.block_start.as_str();
+        let variable = self.variable_start.as_str();
+        let comment = self.comment_start.as_str();
+        block != variable && block != comment && variable != comment
+    }
+
+    /// Whether tags can be told from one another.
+    pub(crate) fn is_usable(&self) -> bool
+        ensures { Decides result (IsUsable self.now) }
+    {
+        self.has_all() && self.starts_differ()
+    }
+}
+
+/// The delimiters of templates, and how newlines and indents beside them are treated. A contract
+/// sees each delimiter as its bytes.
+#[derive(Drop)]
+pub struct SyntaxConfig {
+    pub(crate) parts: Parts,
+}
+
+impl Model for SyntaxConfig {
+    ghost use Rattle.tm_delimiters.specs.Syntax.{Syntax, IsUsable};
+
+    ghost Value = { Syntax };
+
+    ghost view = { λ a. a.parts };
+
+    ghost invariant = { λ a. IsUsable a.parts };
+}
+
+impl Default for SyntaxConfig {
+    /// `{% %}`, `{{ }}` and `{# #}`, no flag set.
+    fn default() -> SyntaxConfig
+        ensures { result ≡ default_syntax }
+    {
+        SyntaxConfig {
+            parts: Parts::usual(),
+        }
+    }
+}
+
+impl SyntaxConfig {
+    /// A builder, which begins with the delimiters that are usual.
+    pub fn builder() -> SyntaxConfigBuilder
+        ensures { result ≡ default_syntax }
+    {
+        SyntaxConfigBuilder::new()
+    }
+
+    /// Tells a proof that no delimiter is empty; when it runs it does nothing.
+    pub fn note_usable(&self)
+        ensures { HasAll self.now }
+    {
+        let _ = &self.parts;
+    }
+
+    /// The delimiter that begins a tag of the kind.
+    #[inline(always)]
+    pub fn start(&self, kind: Kind) -> &str
+        ensures { result.now ≡ starts.start_of self.now kind }
+    {
+        match kind {
+            Kind::Block => self.parts.block_start.as_str(),
+            Kind::Variable => self.parts.variable_start.as_str(),
+            Kind::Comment => self.parts.comment_start.as_str(),
+        }
+    }
+
+    /// The delimiter that ends a tag of the kind.
+    pub fn end(&self, kind: Kind) -> &str
+        ensures { result.now ≡ starts.end_of self.now kind }
+    {
+        match kind {
+            Kind::Block => self.parts.block_end.as_str(),
+            Kind::Variable => self.parts.variable_end.as_str(),
+            Kind::Comment => self.parts.comment_end.as_str(),
+        }
+    }
+
+    /// Whether one newline behind a block tag or a comment is removed.
+    pub(crate) fn trims_blocks(&self) -> bool
+        ensures { result ≡ self.now.trim_blocks }
+    {
+        self.parts.trim_blocks
+    }
+
+    /// Whether the indent before a block tag or a comment is removed.
+    pub(crate) fn strips_blocks(&self) -> bool
+        ensures { result ≡ self.now.lstrip_blocks }
+    {
+        self.parts.lstrip_blocks
+    }
+
+    /// Whether a source's final newline stays.
+    pub fn keeps_newline(&self) -> bool
+        ensures { result ≡ self.now.keep_trailing_newline }
+    {
+        self.parts.keep_trailing_newline
+    }
+}

@@ -1,0 +1,67 @@
+//! The marks `-` and `+` beside delimiters.
+ghost use Rattle.std.specs.Prelude.{◌≡◌, ◌≤◌, ◌<◌, length, IfSome, None};
+ghost use Rattle.tm_delimiters.specs.Views.{Shortens, step_of};
+ghost use Rattle.tm_delimiters.specs.Whitespace as spec;
+
+use crate::front::{ascii, cut, strip};
+
+/// What the mark beside a delimiter, or none there, means for the raw text on that side.
+#[derive(Clone, Copy)]
+pub enum Whitespace {
+    /// No mark: the flags decide.
+    Default,
+    /// `-`: all blanks are removed.
+    Remove,
+    /// `+`: nothing is removed.
+    Preserve,
+}
+
+/// The mark at the front, and what is left behind it.
+pub fn whitespace_at(text: &str) -> (Whitespace, &str)
+    ensures value { (result.0, result.1.now) ≡ spec.whitespace_at text.now }
+    ensures no_longer { length result.1.now ≤ length text.now }
+{
+    match ascii(text) {
+        Some((b'-', rest)) => (Whitespace::Remove, rest),
+        Some((b'+', rest)) => (Whitespace::Preserve, rest),
+        _ => (Whitespace::Default, text),
+    }
+}
+
+/// The end delimiter at the front with a mark before it or none, and what is left behind it.
+pub fn ending<'t>(end: &str, text: &'t str) -> Option<(Whitespace, &'t str)>
+    ensures value { step_of result ≡ spec.ending end.now text.now }
+    ensures no_longer { IfSome result (λ x. length x.1.now ≤ length text.now) }
+{
+    if let Some(rest) = strip(text, end) {
+        return Some((Whitespace::Default, rest));
+    }
+    match ascii(text) {
+        Some((b'-', rest)) => Some((Whitespace::Remove, strip(rest, end)?)),
+        Some((b'+', rest)) => Some((Whitespace::Preserve, strip(rest, end)?)),
+        _ => None,
+    }
+}
+
+/// The mark that the text ends in.
+fn last_whitespace(text: &str) -> Whitespace
+    ensures { result ≡ spec.last_whitespace text.now }
+{
+    let bytes = text.as_bytes();
+    if bytes.ends_with(b"-") {
+        Whitespace::Remove
+    } else if bytes.ends_with(b"+") {
+        Whitespace::Preserve
+    } else {
+        Whitespace::Default
+    }
+}
+
+/// The mark before the first place of a comment's end delimiter, and what is left behind that.
+pub fn comment_end<'t>(end: &str, text: &'t str) -> Option<(Whitespace, &'t str)>
+    ensures value { step_of result ≡ spec.comment_end end.now text.now }
+    ensures no_longer { IfSome result (λ x. length x.1.now ≤ length text.now) }
+{
+    let (inside, rest) = cut(text, end)?;
+    Some((last_whitespace(inside), rest))
+}
