@@ -35,7 +35,7 @@ use Rattle.tm_meaning.specs.Compiled.{IsCompiled, code_of}
 use Rattle.tm_meaning.proofs.Ends.{one_end}
 use Rattle.tm_simulation.specs.Reached.{final_by, final_of, Renders}
 use Rattle.tm_simulation.proofs.Place.{HasAt, has_front, has_behind, has_whole}
-use Rattle.tm_simulation.proofs.Keeps.{Kept, kept_depth, kept_same, Gives, EndsBy as EndsKept, Ends as KeptEnds, ends_as, tick_gives, answered_gives, Asks, block_asks, named_asks, eval_gives, condition_gives, all_give, pair_gives, pairs_give, argument_gives, arguments_give, step_gives, steps_give, unary_gives, binary_gives, looked_up_gives, within, assign_gives, assign_all_gives, set_gives, set_each_gives, exec_ends, execs_end, nests_end}
+use Rattle.tm_simulation.proofs.Keeps.{Kept, kept_depth, kept_same, Gives, EndsBy as EndsKept, Ends as KeptEnds, ends_as, tick_gives, answered_gives, Asks, block_asks, named_asks, eval_gives, condition_gives, all_give, pair_gives, pairs_give, argument_gives, arguments_give, step_gives, steps_give, unary_gives, binary_gives, looked_up_gives, within, assign_gives, set_gives, set_each_gives, exec_ends, execs_end, nests_end}
 use Rattle.tm_simulation.proofs.Follow.{Bed, air, inside, captures_of, told_by, Spot, told, cfg, later, Follows, Then, Ends, whole_of, follows_map, follows_bind, bind_then, use_then, so_far_then, fault_then, do_then, within_then, Left, left_then, ends_map, Go, silent, at, after_then, move, pushes, choose_then, choose_ends}
 use Rattle.tm_simulation.proofs.Forms.{Fits, audible_is, writes_then, end_by, end_of, Entered, call_in_place, call_as_value}
 use Rattle.tm_meaning.specs.declared.stream.TemplateId.{TemplateId}
@@ -619,14 +619,6 @@ module _ (p : Program) (f : Base) (r : Final) (trees : Trees) (n : ℕ)
       (run : Run) (s : Spot) (pc : ℕ) (stack : List Val) (w : World) (L N : Then) → Fits f run s.bed → Deep w → HasAt (p.code s.run.stream) pc (statements_code pc ss) →
       Ends r s.bed (execs u ss (as_at run s) s.out w) (λ q out1 world1. Go p f r (later s q out1) (pc + length (statements_code pc ss)) stack world1) L N → Go p f r s pc stack w
 
-  abbrev with_code : {m : _} → ℕ → List Assignment → Row_of-Stmt m → List Instruction
-  with_code pc given body =
-      i.PushWith ∷ (assignments_code (pc + 1) given ++ (statements_code (pc + 1 + length (assignments_code (pc + 1) given)) body ++ i.PopFrame ∷ []))
-
-  abbrev exec_with : {m : _} → List Assignment → Row_of-Stmt m → Run → List ℕ → World → Outcome
-  exec_with given body run out w =
-      use_it (push p.host (plain_scope (undefined false)) w) run out (λ _ world1. use_it (set_each u run given world1) run out (λ _ world2. left (execs u body run out world2)))
-
   -- the part that runs where the condition is true, and the jump over the other
   first_runs : {m : _} → (body : Row_of-Stmt m) → StmtsRun body → (other : Otherwise) (run : Run) (s : Spot) (pc end : ℕ) (stack : List Val) (w : World) (L N : Then) → Fits f run s.bed → Deep w →
       pc + length (statements_code pc body) + length (otherwise_code (pc + length (statements_code pc body)) other) ≡ end →
@@ -650,31 +642,6 @@ module _ (p : Program) (f : Base) (r : Final) (trees : Trees) (n : ℕ)
       at p f r (i.Jump to) (later s q out1) (pc + length bc) stack world1 behind.0 (after_then p f r (told (later s q out1)) (tick world1) _
       (use_then r s.bed world1 (tick world1) (record run { parent = q }) out1 (λ _ world2. so_far (record run { parent = q }) out1 world2) D L N _ (tick_gives world1) h1 (λ _ world2 k2 h2.
       silent p f r (told (later s q out1)) _ (move p f r (later s q out1) to end stack world2 jumped (so_far_then r s.bed (record run { parent = q }) out1 world2 D L N h2)))))))
-
-  -- a scope, what is given in it, and its body
-  with_runs : {m : _} → (given : List Assignment) (body : Row_of-Stmt m) → StmtsRun body → (run : Run) (s : Spot) (pc : ℕ) (stack : List Val) (w : World) (D L N : Then) → Fits f run s.bed → Deep w →
-      HasAt (p.code s.run.stream) pc (with_code pc given body) → Ends r s.bed (exec_with given body (as_at run s) s.out w) D L N →
-      ((q : Option TemplateId) (out1 : List ℕ) (world1 : World) → D q out1 world1 → Go p f r (later s q out1) (pc + length (with_code pc given body)) stack world1) → Go p f r s pc stack w
-  with_runs given body part run s pc stack w D L N fits d is h g =
-      let all = p.code s.run.stream in
-      let given_code = assignments_code (pc + 1) given in
-      let pc1 = pc + 1 + length given_code in
-      let bc = statements_code pc1 body in
-      let from_body = has_behind all (pc + 1) given_code (bc ++ i.PopFrame ∷ []) is.1 in
-      let last = has_behind all pc1 bc (i.PopFrame ∷ []) from_body in
-      let place : pc1 + length bc + 1 ≡ pc + suc (length (given_code ++ (bc ++ i.PopFrame ∷ []))) =
-      omega (arith, length-append given_code (bc ++ i.PopFrame ∷ []), length-append bc (i.PopFrame ∷ [])) in
-      let a = plain_scope (undefined false) in
-      let inner = within a w in
-      let room = nat_lt (depth w.scopes) p.host.limit in
-      at p f r i.PushWith s pc stack w is.0 (after_then p f r (told s) (push p.host a w) _
-      (within_then r s.bed w a room (as_at run s) s.out _ D L N (λ world1. Leads p f (told s) (goes stack world1 (cfg s pc stack w)) r) h (λ h1.
-      silent p f r (told s) _ (sets_run given (as_at run s) s (pc + 1) stack inner (deep_within a w d) (has_front all (pc + 1) given_code (bc ++ i.PopFrame ∷ []) is.1)
-      (use_then r s.bed inner (set_each u (as_at run s) given inner) (as_at run s) s.out _ D L N _ (set_each_gives u nest_ends (as_at run s) given inner) h1 (λ _ world2 k2 h2.
-      part run s pc1 stack world2 (Left L) (Left N) fits (deep_kept k2 (deep_within a w d)) (has_front all pc1 bc (i.PopFrame ∷ []) from_body)
-      (left_then r s.bed world2 (execs u body (as_at run s) s.out world2) D L N _ (execs_end u nest_ends body (as_at run s) s.out world2) h2 (λ q out1 world3 k3 h3.
-      popped_then (later s q out1) (pc1 + length bc) stack world3 (omega (arith, k3.frames, k2.frames, d.1)) last.0
-      (move p f r (later s q out1) _ _ stack (pop world3) place (g q out1 (pop world3) h3))))))))))
 
   mutual
     -- A statement's code comes behind itself with what it means, or to its fault.
@@ -714,7 +681,24 @@ module _ (p : Program) (f : Base) (r : Final) (trees : Trees) (n : ℕ)
         (use_then r s.bed w (set_to u (as_at run s) t e w) (as_at run s) s.out _ _ L N _ (set_gives u nest_ends (as_at run s) t e w) h (λ _ world1 k h1.
         so_far_then r s.bed (as_at run s) s.out world1 _ L N h1))
     stmt_runs (With' given _ body) run s pc stack w L N fits d is h =
-        with_runs given body (stmts_run body) run s pc stack w _ L N fits d is h (λ q out1 world1 g. g)
+        let all = p.code s.run.stream in
+        let gc = assignments_code (pc + 1) given in
+        let pc1 = pc + 1 + length gc in
+        let bc = statements_code pc1 body in
+        let from_body = has_behind all (pc + 1) gc (bc ++ i.PopFrame ∷ []) is.1 in
+        let last = has_behind all pc1 bc (i.PopFrame ∷ []) from_body in
+        let place : pc1 + length bc + 1 ≡ pc + suc (length (gc ++ (bc ++ i.PopFrame ∷ []))) =
+        omega (arith, length-append gc (bc ++ i.PopFrame ∷ []), length-append bc (i.PopFrame ∷ [])) in
+        let a = plain_scope (undefined false) in
+        let deep1 = deep_within a w d in
+        at p f r i.PushWith s pc stack w is.0 (after_then p f r (told s) (push p.host a w) _
+        (within_then r s.bed w a (nat_lt (depth w.scopes) p.host.limit) (as_at run s) s.out _ _ L N (λ world1. Leads p f (told s) (goes stack world1 (cfg s pc stack w)) r) h (λ h1.
+        silent p f r (told s) _ (sets_run given (as_at run s) s (pc + 1) stack (within a w) deep1 (has_front all (pc + 1) gc (bc ++ i.PopFrame ∷ []) is.1)
+        (use_then r s.bed (within a w) (set_each u (as_at run s) given (within a w)) (as_at run s) s.out _ _ L N _ (set_each_gives u nest_ends (as_at run s) given (within a w)) h1 (λ _ world2 k2 h2.
+        stmts_run body run s pc1 stack world2 (Left L) (Left N) fits (deep_kept k2 deep1) (has_front all pc1 bc (i.PopFrame ∷ []) from_body)
+        (left_then r s.bed world2 (execs u body (as_at run s) s.out world2) _ L N _ (execs_end u nest_ends body (as_at run s) s.out world2) h2 (λ q out1 world3 k3 g.
+        popped_then (later s q out1) (pc1 + length bc) stack world3 (omega (arith, k3.frames, k2.frames, d.1)) last.0
+        (move p f r (later s q out1) _ _ stack (pop world3) place g)))))))))
     stmt_runs (Do e) run s pc stack w L N fits d is h =
         let c = expr_code pc e in
         let behind = has_behind (p.code s.run.stream) pc c (i.DiscardTop ∷ []) is in
