@@ -8,9 +8,12 @@ use Rattle.tm_values.specs.declared.undefined.UndefinedBehavior.{UndefinedBehavi
 use Rattle.tm_values.specs.declared.undefined.UndefinedBehavior.TheVariants.{Lenient}
 use Rattle.tm_syntax.specs.declared.tree.UnaryOperator.TheVariants as unaries
 use Rattle.tm_syntax.specs.declared.tree.BinaryOperator.TheVariants as binaries
-use Rattle.tm_syntax.specs.declared.tree.Expr.{Expr, Var, Const, Call', end_of-Argument as no_argument, more_of-Argument as argument, end_of-Step as no_step, more_of-Step as step, end_of-Condition as no_condition, more_of-Condition as with_condition}
+use Rattle.tm_syntax.specs.declared.tree.Expr.{Expr, Var, Const, List', Tuple', Call', end_of-Expr as no_expr, more_of-Expr as expr, end_of-Argument as no_argument, more_of-Argument as argument, end_of-Step as no_step, more_of-Step as step, end_of-Condition as no_condition, more_of-Condition as with_condition}
 use Rattle.tm_syntax.specs.declared.tree.Step.{Step, Attribute, end_of-Comparison as no_comparison, more_of-Comparison as with_comparison}
-use Rattle.tm_syntax.specs.declared.tree.Stmt.{Stmt, EmitRaw, EmitExpr, If', Block', end_of-Stmt as no_statement, more_of-Stmt as statement, Held-Stmt-If-2 as Otherwise, None' as no_else, Some' as otherwise}
+use Rattle.tm_syntax.specs.declared.tree.Target.{Target, Name as To, Unpack' as Items, Attribute as Member, end_of-Target as no_target, more_of-Target as target}
+use Rattle.tm_syntax.specs.declared.tree.Assignment.{Assignment}
+use Rattle.tm_syntax.specs.declared.tree.Assignment.TheVariants.{Assignment as Given}
+use Rattle.tm_syntax.specs.declared.tree.Stmt.{Stmt, EmitRaw, EmitExpr, If', Block', Set, With', Do, end_of-Stmt as no_statement, more_of-Stmt as statement, Held-Stmt-If-2 as Otherwise, None' as no_else, Some' as otherwise}
 use Rattle.tm_syntax.specs.Forms.{unary, chained, conditional, condition, comparison, plain, binary, compare, and_then, or_else}
 use Rattle.tm_meaning.specs.Compiled.{code_of}
 use Rattle.tm_meaning.specs.World.{Bindings, find, own, World, Host, View, Reply, gives, faults, Stated, Function, callers}
@@ -216,6 +219,35 @@ in_block limit = record (page (two block_of_two (raw (codes "y"))) nothing) { li
 abbrev pub block_not_reached : Page
 block_not_reached = page (two (if_one a (Block' (codes "b") (tt ∷ []) (statement (raw (codes "x")) no_statement)) no_else) (raw (codes "["))) nothing
 
+-- {% with a = 1, b = a %}{{ b }}{% endwith %}{{ b }}
+abbrev pub with_two : Page
+with_two =
+    page (two
+    (With' (Given (To (codes "a")) (literal_number 1) ∷ Given (To (codes "b")) a ∷ []) (tt ∷ []) (statement (EmitExpr b) no_statement))
+    (EmitExpr b)) nothing
+
+-- {% with %}{% endwith %}
+abbrev pub empty_with : ℕ → Page
+empty_with limit = record (page (one (With' [] [] no_statement)) nothing) { limit = limit }
+
+abbrev pub to_a_and_b : Target
+to_a_and_b = Items (tt ∷ tt ∷ []) (target (To (codes "a")) (target (To (codes "b")) no_target))
+
+-- {% set a, b = 1, 2 %}{{ a }}{{ b }}
+abbrev pub set_two : Page
+set_two =
+    page (body_of
+    (statement (Set to_a_and_b (Tuple' (tt ∷ tt ∷ []) (expr (literal_number 1) (expr (literal_number 2) no_expr))))
+    (statement (EmitExpr a) (statement (EmitExpr b) no_statement)))) nothing
+
+-- {% set a, b = [1] %}
+abbrev pub set_two_of_one : Page
+set_two_of_one = page (one (Set to_a_and_b (List' (tt ∷ []) (expr (literal_number 1) no_expr)))) nothing
+
+-- {% set a.b = 1 %}
+abbrev pub set_attribute : Page
+set_attribute = page (one (Set (Member a (codes "b")) (literal_number 1))) nothing
+
 -- ---------------------------------------------------------------- functions
 abbrev pub answers : Reply → Stated
 answers reply = record { temps = []; reply = reply }
@@ -263,6 +295,10 @@ calling f = with_functions f f (page (one (EmitExpr called_with_two)) nothing)
 -- {{ f() }}{{ g() }}
 abbrev pub keep_and_read : Page
 keep_and_read = with_functions keeping reading (page (two (EmitExpr (call_none (codes "f"))) (EmitExpr (call_none (codes "g")))) nothing)
+
+-- {% do f() %}x
+abbrev pub do_call : Page
+do_call = with_functions last_function last_function (page (two (Do (call_none (codes "f"))) (raw (codes "x"))) nothing)
 
 -- a{{ nope(f()) }}
 abbrev pub unknown_behind : Function → Page

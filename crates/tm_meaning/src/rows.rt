@@ -2,8 +2,8 @@
 ghost use Rattle.std.specs.Prelude.{[], ◌∷◌, ◌++◌, true, false, codes};
 ghost use Rattle.std.specs.Fmt.{decimal};
 ghost use Rattle.tm_values.specs.Val.{boolean, map, no_pairs};
-ghost use Rattle.tm_values.specs.declared.error.ErrorKind.TheVariants.{InvalidOperation, MissingArgument, UndefinedError, UnknownFunction, OutOfFuel, WriteFailure, BadStream, OutOfMemory};
-ghost use Rattle.tm_meaning.specs.Rows.{Says, Charges, Fails, nothing, with_value, hello, either_text, of_three, empty_condition, shown, a_and_b_c, a_or_x, not_equal, a_b, literal_number, three_in_a_row, false_before_fault, no_value, one_condition, two_conditions, in_block, block_not_reached, last_function, faulty, calling, keep_and_read, unknown_behind};
+ghost use Rattle.tm_values.specs.declared.error.ErrorKind.TheVariants.{CannotUnpack, InvalidOperation, MissingArgument, UndefinedError, UnknownFunction, OutOfFuel, WriteFailure, BadStream, OutOfMemory};
+ghost use Rattle.tm_meaning.specs.Rows.{Says, Charges, Fails, nothing, with_value, hello, either_text, of_three, empty_condition, shown, a_and_b_c, a_or_x, not_equal, a_b, literal_number, three_in_a_row, false_before_fault, no_value, one_condition, two_conditions, in_block, block_not_reached, with_two, empty_with, set_two, set_two_of_one, set_attribute, do_call, last_function, faulty, calling, keep_and_read, unknown_behind};
 
 /// `Hello {{ name }}!` with the name World takes 4 charges, so 5 units of fuel; with fewer it ends where the fuel does.
 pub fn hello_rows()
@@ -59,6 +59,17 @@ pub fn block_rows()
     ensures too_deep { Fails (in_block 1) [] (InvalidOperation ∷ []) }
     ensures out_of_fuel { Says (in_block 500) 3 (codes "x") 0 (OutOfFuel ∷ []) }
     ensures not_reached { Charges block_not_reached (codes "[") 3 }
+{}
+
+/// `{% with a = 1, b = a %}{{ b }}{% endwith %}{{ b }}`, `{% with %}{% endwith %}`, `{% set a, b = 1, 2 %}{{ a }}{{ b }}`, `{% set a, b = [1] %}`, `{% set a.b = 1 %}` and `{% do f() %}x`.
+pub fn scope_rows()
+    ensures with_two { Charges with_two (decimal 1) 8 }
+    ensures deep_enough { Charges (empty_with 2) [] 0 }
+    ensures too_deep { Fails (empty_with 1) [] (InvalidOperation ∷ []) }
+    ensures set_two { Charges set_two (decimal 1 ++ decimal 2) 10 }
+    ensures set_two_of_one { Fails set_two_of_one [] (CannotUnpack ∷ []) }
+    ensures set_attribute { Fails set_attribute [] (InvalidOperation ∷ []) }
+    ensures do_call { Charges do_call (codes "x") 2 }
 {}
 
 /// `{{ f("a", 1) }}`, `{{ f() }}{{ g() }}` and `a{{ nope(f()) }}`, by what f answers.

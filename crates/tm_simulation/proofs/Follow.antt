@@ -5,9 +5,9 @@ use Rattle.std.specs.Prelude.{slice_get}
 use Rattle.tm_values.specs.Val.{Val}
 use Rattle.tm_values.specs.declared.error.ErrorKind.{ErrorKind}
 use Rattle.tm_syntax.specs.declared.instruction.Instruction.{Instruction}
-use Rattle.tm_meaning.specs.World.{choose, World, Res, Good, Bad, bind}
-use Rattle.tm_meaning.specs.Meaning.{Run, Outcome, Ending, done, leave, next, fault, ended, so_far, use_it, then_do}
-use Rattle.tm_simulation.proofs.Keeps.{Kept, Gives, EndsBy as EndsKept, Ends as KeptEnds}
+use Rattle.tm_meaning.specs.World.{choose, World, Scope, Res, Good, Bad, bind, pop}
+use Rattle.tm_meaning.specs.Meaning.{Run, Outcome, Ending, done, leave, next, fault, ended, so_far, use_it, then_do, left_by, left}
+use Rattle.tm_simulation.proofs.Keeps.{Kept, within, one_more, Gives, EndsBy as EndsKept, Ends as KeptEnds}
 use Rattle.tm_meaning.specs.Machine.{Capture, Activation, Config, Failed, Next, More, Program, after, goes, jumps}
 use Rattle.tm_meaning.specs.Steps.{act, step, Final, final, Leads, over, more}
 use Rattle.tm_meaning.specs.declared.stream.TemplateId.{TemplateId}
@@ -120,6 +120,30 @@ pub do_then : (r : Final) (b : Bed) (run : Run) (w : World) (o : Outcome) (g : R
     Ends r b (then_do run o g) D L N → ((parent : Option TemplateId) (out : List ℕ) (world1 : World) → Kept w world1 → Ends r b (g (record run { parent = parent }) out world1) D L N → K parent out world1) → Ends r b o K L N
 do_then r b run w o g D L N K e h k =
     do_by r b run w o.ending o.parent o.text o.world g D L N K (kept_by w o.ending o.parent o.text o.world e) h (k o.parent o.text o.world)
+
+-- what runs in a scope more, where there is room for it
+pub within_then : (r : Final) (b : Bed) (w : World) (s : Scope) (room : Bool) (run : Run) (out : List ℕ) (g : Unit {0} → World → Outcome) (D L N : Then) (K : World → Type 0) →
+    Ends r b (use_it (one_more room s w) run out g) D L N → (Ends r b (g tt (within s w)) D L N → K (within s w)) → Follows r (told_by b out) (one_more room s w) (λ _ world1. K world1)
+unfolding Ends
+within_then r b w s true run out g D L N K h k = k h
+within_then r b w s false run out g D L N K h k = h
+
+-- what follows once a scope is left
+abbrev pub Left : Then → Then
+Left D parent out w = D parent out (pop w)
+
+left_then_by : (r : Final) (b : Bed) (w : World) (e : Ending) (parent : Option TemplateId) (out : List ℕ) (world1 : World) (D L N K : Then) → EndsKept w e world1 →
+    Ends r b (left_by e (whole_of e parent out world1)) D L N → (Kept w world1 → Left D parent out world1 → K parent out world1) → Ends r b (whole_of e parent out world1) K (Left L) (Left N)
+unfolding Ends
+left_then_by r b w done parent out world1 D L N K e h k = k e h
+left_then_by r b w leave parent out world1 D L N K e h k = h
+left_then_by r b w next parent out world1 D L N K e h k = h
+left_then_by r b w (fault chain) parent out world1 D L N K e h k = h
+
+pub left_then : (r : Final) (b : Bed) (w : World) (o : Outcome) (D L N K : Then) → KeptEnds w o → Ends r b (left o) D L N →
+    ((parent : Option TemplateId) (out : List ℕ) (world1 : World) → Kept w world1 → Left D parent out world1 → K parent out world1) → Ends r b o K (Left L) (Left N)
+left_then r b w o D L N K e h k =
+    left_then_by r b w o.ending o.parent o.text o.world D L N K (kept_by w o.ending o.parent o.text o.world e) h (k o.parent o.text o.world)
 
 -- what follows, in other words
 ends_by_map : (r : Final) (b : Bed) (e : Ending) (parent : Option TemplateId) (out : List ℕ) (w : World) (D K L N : Then) → Ends r b (whole_of e parent out w) D L N →

@@ -14,11 +14,15 @@ use Rattle.tm_syntax.specs.declared.tree.Argument.{Argument}
 use Rattle.tm_syntax.specs.declared.tree.Pair.{Pair}
 use Rattle.tm_syntax.specs.declared.tree.Condition.{Condition}
 use Rattle.tm_syntax.specs.declared.tree.Step.{Step, Attribute, Row_of-Comparison, end_of-Comparison as no_comparison, more_of-Comparison as with_comparison}
-use Rattle.tm_syntax.specs.declared.tree.Stmt.{Stmt, EmitRaw, EmitExpr, If', Block', Row_of-Stmt, end_of-Stmt as no_statement, more_of-Stmt as statement, Held-Stmt-If-2 as Otherwise, None' as no_else, Some' as otherwise}
+use Rattle.tm_syntax.specs.declared.tree.Target.{Target, Name as To, Unpack' as Items, Attribute as Member, Row_of-Target, end_of-Target as no_target, more_of-Target as target}
+use Rattle.tm_syntax.specs.declared.tree.Assignment.{Assignment}
+use Rattle.tm_syntax.specs.declared.tree.Assignment.TheVariants.{Assignment as Given}
+use Rattle.tm_syntax.specs.declared.tree.Stmt.{Stmt, EmitRaw, EmitExpr, If', Block', Set, With', Do, Row_of-Stmt, end_of-Stmt as no_statement, more_of-Stmt as statement, Held-Stmt-If-2 as Otherwise, None' as no_else, Some' as otherwise}
 use Rattle.tm_syntax.specs.Forms.{unary, chained, conditional, condition, comparison, pair, plain, item, slice, binary, compare, and_then, or_else}
-use Rattle.tm_meaning.specs.World.{choose, find, block_of, with_frames, World, Host, Scopes, Scope, Res, Good, Bad, bind, need, check, answered, charged, with_fuel, tick, push, pop, depth, without_first, emitted, looked_up, lookup, Function, callers, Reply, gives, faults, plain as plain_scope}
+use Rattle.tm_operations.specs.Members.{settable}
+use Rattle.tm_meaning.specs.World.{choose, find, block_of, with_frames, World, Host, Scopes, Scope, Res, Good, Bad, bind, need, check, answered, charged, with_fuel, tick, push, pop, depth, without_first, emitted, looked_up, lookup, Function, callers, Reply, gives, faults, stored_in, store, records_of, with_member, set_member, plain as plain_scope}
 use Rattle.tm_meaning.specs.Calls.{Callee, whole, Call, Undo, of_block, undone, wrapped, Asked, has, refused, runs, ask, enter_block, call_named, call_value, call_by, replied, required_alone}
-use Rattle.tm_meaning.specs.Meaning.{Run, Outcome, Ending, done, leave, next, fault, Nests, Under, use_it, then_do, on_done, so_far, ended, say, audible, none_waits, value_of, value_behind, in_place_of, behind, block_tag, truth, applied_unary, operated, applied, attribute, eval, eval_all, eval_pair, eval_pairs, eval_argument, eval_arguments, eval_condition, eval_conditions, eval_step, eval_links, eval_steps, emit, behind_first, exec, execs, exec_else, at_end, new_run, nests_of}
+use Rattle.tm_meaning.specs.Meaning.{Run, Outcome, Ending, done, leave, next, fault, Nests, Under, use_it, then_do, on_done, so_far, ended, say, audible, none_waits, value_of, value_behind, in_place_of, behind, block_tag, truth, applied_unary, operated, applied, attribute, eval, eval_all, eval_pair, eval_pairs, eval_argument, eval_arguments, eval_condition, eval_conditions, eval_step, eval_links, eval_steps, assign, assign_all, set_to, set_each, left_by, left, emit, behind_first, exec, execs, exec_else, at_end, new_run, nests_of}
 use Rattle.tm_meaning.specs.Tree.{Trees}
 use Rattle.tm_meaning.specs.declared.stream.TemplateId.{TemplateId}
 
@@ -69,6 +73,30 @@ pub answered_gives : {A : Type 0} (answer : Answer A) (w : World) → Gives w (a
 answered_gives (Ok a) w = kept_same w
 answered_gives (Err chain) w = tt
 
+-- ---------------------------------------------------------------- scopes
+stored_frames : (x : List ℕ) (v : Val) (frames : List Scope) → length (stored_in x v frames) ≡ length frames
+stored_frames x v [] = refl
+stored_frames x v (s ∷ ss) = refl
+
+pub store_kept : (x : List ℕ) (v : Val) (w : World) → Kept w (store x v w)
+store_kept x v w = record { frames = stored_frames x v w.scopes.frames; outer = refl }
+
+without_first_of : (n : ℕ) (frames : List Scope) → length frames ≡ suc n → length (without_first frames) ≡ n
+without_first_of n [] e = absurd (cc e)
+without_first_of n (s ∷ ss) e = omega (arith, e)
+
+-- a world with one scope more
+abbrev pub within : Scope → World → World
+within s w = with_frames (s ∷ w.scopes.frames) w
+
+-- the same where there is room for it
+abbrev pub one_more : Bool → Scope → World → Res (Unit {0})
+one_more room s w = choose room (λ _. Good tt (within s w)) (λ _. Bad (InvalidOperation ∷ []) w)
+
+-- without it, behind what keeps it
+pub kept_popped : (s : Scope) (w world1 : World) → Kept (within s w) world1 → Kept w (pop world1)
+kept_popped s w world1 k = record { frames = without_first_of (length w.scopes.frames) world1.scopes.frames k.frames; outer = k.outer }
+
 -- ---------------------------------------------------------------- outcomes
 ends_by_then : (w world1 : World) (e : Ending) (world2 : World) → Kept w world1 → EndsBy world1 e world2 → EndsBy w e world2
 ends_by_then w world1 done world2 h k = kept_then h k
@@ -104,6 +132,31 @@ pub ends_do : (w : World) (run : Run) (o : Outcome) (g : Run → List ℕ → Wo
 unfolding Ends
 ends_do w run o g h k = ends_on_done w run o.ending o.parent o.text o.world g h k
 
+-- what follows from what is kept
+ends_kept : {A : Type 0} (w world1 : World) (m : Res A) (run : Run) (out : List ℕ) (g : A → World → Outcome) → Gives world1 m → ((a : A) (world2 : World) → Kept world1 world2 → Ends w (g a world2)) →
+    Ends w (use_it m run out g)
+ends_kept w world1 (Good a world2) run out g h k = k a world2 h
+ends_kept w world1 (Bad chain world2) run out g h k = ends_fault w world2 run out chain
+
+-- in a scope more, where there is room for it
+ends_within : (w : World) (s : Scope) (room : Bool) (run : Run) (out : List ℕ) (g : Unit {0} → World → Outcome) → Ends w (g tt (within s w)) →
+    Ends w (use_it (one_more room s w) run out g)
+ends_within w s true run out g h = h
+ends_within w s false run out g h = ends_fault w w run out (InvalidOperation ∷ [])
+
+-- and behind it, whatever the ending
+left_by_ends : (s : Scope) (w : World) (e : Ending) (parent : Option TemplateId) (out : List ℕ) (world1 : World) →
+    EndsBy (within s w) e world1 → Ends w (left_by e (record { ending = e; parent = parent; text = out; world = world1 }))
+unfolding Ends
+left_by_ends s w done parent out world1 h = kept_popped s w world1 h
+left_by_ends s w leave parent out world1 h = kept_popped s w world1 h
+left_by_ends s w next parent out world1 h = kept_popped s w world1 h
+left_by_ends s w (fault chain) parent out world1 h = tt
+
+left_ends : (s : Scope) (w : World) (o : Outcome) → Ends (within s w) o → Ends w (left o)
+unfolding Ends
+left_ends s w o h = left_by_ends s w o.ending o.parent o.text o.world h
+
 -- ---------------------------------------------------------------- calls
 -- A value keeps the scopes; a run starts one level deeper, within the limit, and what is put back behind one that keeps its scopes gives these back.
 abbrev pub Asks : ℕ → World → Asked → Type 0
@@ -128,10 +181,6 @@ ask_need limit w None kind g k = tt
 ask_check : (limit : ℕ) (w : World) (b : Bool) (kind : ErrorKind) (g : Unit {0} → World → Asked) → Asks limit w (g tt w) → Asks limit w (ask (check b kind w) g)
 ask_check limit w true kind g k = k
 ask_check limit w false kind g k = tt
-
-without_first_of : (n : ℕ) (frames : List Scope) → length frames ≡ suc n → length (without_first frames) ≡ n
-without_first_of n [] e = absurd (cc e)
-without_first_of n (s ∷ ss) e = omega (arith, e)
 
 ask_push : (limit : ℕ) (w : World) (s : Scope) (room : Bool) (g : Unit {0} → World → Asked) →
     (room ≡ true → Asks limit w (g tt (with_frames (s ∷ w.scopes.frames) w))) →
@@ -337,6 +386,31 @@ module _ (u : Under) (nest_ends : (k : Callee) (heard : Bool) (out : List ℕ) (
     steps_give run no_step v w = kept_same w
     steps_give run (step s ss) v w = gives_bind w (eval_step u run s v w) _ (step_gives run s v w) (λ x world1. steps_give run ss x world1)
 
+  pub member_gives : (x : List ℕ) (v o : Val) (w : World) → Gives w (set_member x v o w)
+  member_gives x v o w =
+      gives_bind w (answered (settable (records_of w) o) w) _ (answered_gives _ w) (λ n world1.
+      let kept : Kept world1 (record world1 { namespaces = with_member n x v world1.namespaces }) = record { frames = refl; outer = refl } in kept)
+
+  mutual
+    pub assign_gives : (run : Run) (t : Target) (v : Val) (w : World) → Gives w (assign u run t v w)
+    assign_gives run (To x) v w = gives_bind w (tick w) _ (tick_gives w) (λ _ world1. store_kept x v world1)
+    assign_gives run (Items _ ts) v w =
+        gives_bind w (tick w) _ (tick_gives w) (λ _ world1. gives_bind world1 (answered _ world1) _ (answered_gives _ world1) (λ vs world2. assign_all_gives run ts vs world2))
+    assign_gives run (Member e x) v w =
+        gives_bind w (eval u run e w) _ (eval_gives run e w) (λ o world1. gives_bind world1 (tick world1) _ (tick_gives world1) (λ _ world2. member_gives x v o world2))
+
+    pub assign_all_gives : {n : _} → (run : Run) (ts : Row_of-Target n) (vs : List Val) (w : World) → Gives w (assign_all u run ts vs w)
+    assign_all_gives run no_target vs w = kept_same w
+    assign_all_gives run (target t ts) [] w = kept_same w
+    assign_all_gives run (target t ts) (v ∷ vs) w = gives_bind w (assign u run t v w) _ (assign_gives run t v w) (λ _ world1. assign_all_gives run ts vs world1)
+
+  pub set_gives : (run : Run) (t : Target) (e : Expr) (w : World) → Gives w (set_to u run t e w)
+  set_gives run t e w = gives_bind w (eval u run e w) _ (eval_gives run e w) (λ v world1. assign_gives run t v world1)
+
+  pub set_each_gives : (run : Run) (given : List Assignment) (w : World) → Gives w (set_each u run given w)
+  set_each_gives run [] w = kept_same w
+  set_each_gives run (Given t e ∷ more) w = gives_bind w (set_to u run t e w) _ (set_gives run t e w) (λ _ world1. set_each_gives run more world1)
+
   emit_ends : (run : Run) (out : List ℕ) (v : Val) (w : World) → Ends w (emit u run out v w)
   emit_ends run out v w =
       ends_use w (tick w) run out _ (tick_gives w) (λ _ world1. ends_use world1 (emitted u.host v world1) run out _ (answered_gives _ world1) (λ t world2. ends_here world2 world2 run (say run t out) (kept_same world2)))
@@ -359,6 +433,13 @@ module _ (u : Under) (nest_ends : (k : Callee) (heard : Bool) (out : List ℕ) (
         ends_use world2 (truth u.host v world2) run out _ (answered_gives _ world2) (λ b world3.
         choose_ends world3 b _ _ (behind_first_ends other run world3 _ (execs_end body run out world3)) (else_ends other run out world3))))
     exec_ends (Block' b _ body) run out w = ends_use w (tick w) run out _ (tick_gives w) (λ _ world1. tag_ends run b out world1)
+    exec_ends (Set t e) run out w = ends_use w (set_to u run t e w) run out _ (set_gives run t e w) (λ _ world1. ends_here world1 world1 run out (kept_same world1))
+    exec_ends (With' given _ body) run out w =
+        let s = plain_scope (undefined false) in
+        ends_within w s (nat_lt (depth w.scopes) u.host.limit) run out _
+        (ends_kept w (within s w) (set_each u run given (within s w)) run out _ (set_each_gives run given (within s w)) (λ _ world2 k.
+        left_ends s w (execs u body run out world2) (ends_then (within s w) world2 (execs u body run out world2) k (execs_end body run out world2))))
+    exec_ends (Do e) run out w = ends_use w (eval u run e w) run out _ (eval_gives run e w) (λ _ world1. ends_here world1 world1 run out (kept_same world1))
 
     pub execs_end : {n : _} → (ss : Row_of-Stmt n) (run : Run) (out : List ℕ) (w : World) → Ends w (execs u ss run out w)
     execs_end no_statement run out w = ends_here w w run out (kept_same w)

@@ -1,9 +1,12 @@
 -- The code of trees comes to what the trees mean.
-use Rattle.std.proofs.Common.{◌≡◌, ℕ, zero, suc, ◌+◌, ◌<◌, ◌≤◌, ◌⊎◌, inl, inr, List, [], ◌∷◌, ◌++◌, length, Option, Some, None, Bool, true, false, refl, sym, ap, ◌∙◌, subst, arith, length-append, eq-eqb}
-use Rattle.std.specs.Prelude.{slice_get, ◌&&◌, nat_eq}
+use Rattle.std.proofs.Common.{◌≡◌, ℕ, zero, suc, ◌+◌, ◌<◌, ◌≤◌, ◌⊎◌, inl, inr, List, [], ◌∷◌, ◌++◌, length, Option, Some, None, Bool, true, false, refl, sym, ap, ◌∙◌, subst, arith, length-append, eq-eqb, lt-ltb, eqb-true}
+use Rattle.std.specs.Prelude.{slice_get, ◌&&◌, nat_eq, nat_lt, ◌==◌, cond, Ok, Err}
 use Rattle.std.proofs.lemmas.List.{append-nil}
 use Rattle.std.proofs.lemmas.Option.{slice_get_past}
-use Rattle.tm_values.specs.Val.{Val}
+use Rattle.tm_values.specs.Answer.{Answer}
+use Rattle.tm_values.specs.Val.{Val, undefined}
+use Rattle.tm_values.specs.declared.error.ErrorKind.TheVariants.{CannotUnpack}
+use Rattle.tm_operations.specs.Iteration.{exactly}
 use Rattle.tm_syntax.specs.declared.tree.UnaryOperator.{UnaryOperator}
 use Rattle.tm_syntax.specs.declared.tree.UnaryOperator.TheVariants as unaries
 use Rattle.tm_syntax.specs.declared.tree.BinaryOperator.{BinaryOperator}
@@ -13,15 +16,18 @@ use Rattle.tm_syntax.specs.declared.tree.Argument.{Argument}
 use Rattle.tm_syntax.specs.declared.tree.Pair.{Pair}
 use Rattle.tm_syntax.specs.declared.tree.Condition.{Condition}
 use Rattle.tm_syntax.specs.declared.tree.Step.{Step, Attribute, Row_of-Comparison, end_of-Comparison as no_comparison, more_of-Comparison as with_comparison}
-use Rattle.tm_syntax.specs.declared.tree.Stmt.{Stmt, EmitRaw, EmitExpr, If', Block', Row_of-Stmt, end_of-Stmt as no_statement, more_of-Stmt as statement, Held-Stmt-If-2 as Otherwise, None' as no_else, Some' as otherwise}
+use Rattle.tm_syntax.specs.declared.tree.Target.{Target, Name as To, Unpack' as Items, Attribute as Member, Row_of-Target, end_of-Target as no_target, more_of-Target as target}
+use Rattle.tm_syntax.specs.declared.tree.Assignment.{Assignment}
+use Rattle.tm_syntax.specs.declared.tree.Assignment.TheVariants.{Assignment as Given}
+use Rattle.tm_syntax.specs.declared.tree.Stmt.{Stmt, EmitRaw, EmitExpr, If', Block', Set, With', Do, Row_of-Stmt, end_of-Stmt as no_statement, more_of-Stmt as statement, Held-Stmt-If-2 as Otherwise, None' as no_else, Some' as otherwise}
 use Rattle.tm_syntax.specs.declared.instruction.Instruction.{Instruction}
 use Rattle.tm_syntax.specs.declared.instruction.Instruction.TheVariants as i
 use Rattle.tm_syntax.specs.Forms.{unary, chained, conditional, condition, comparison, pair, plain, item, slice, binary, compare, and_then, or_else}
-use Rattle.tm_syntax.specs.Code.{expr_code, condition_code, conditions_code, exprs_code, pair_code, pairs_code, argument_code, arguments_code, step_code, links_code, steps_code, count, count_exprs, count_pairs, unary_code, binary_code, statement_code, statements_code, otherwise_code, jump_over}
-use Rattle.tm_meaning.specs.World.{choose, World, Host, Res, Good, Bad, bind, tick, depth, emitted, looked_up}
+use Rattle.tm_syntax.specs.Code.{expr_code, condition_code, conditions_code, exprs_code, pair_code, pairs_code, argument_code, arguments_code, step_code, links_code, steps_code, count, count_exprs, count_pairs, unary_code, binary_code, count_targets, target_code, targets_code, set_code, assignments_code, statement_code, statements_code, otherwise_code, jump_over}
+use Rattle.tm_meaning.specs.World.{choose, World, Scope, Host, Res, Good, Bad, bind, tick, depth, push, pop, plain as plain_scope, items_of, set_member, answered, emitted, looked_up}
 use Rattle.tm_meaning.specs.Calls.{Callee, whole, Call, Asked, has, refused, runs, enter_block, call_named}
 use Rattle.tm_meaning.specs.Tree.{Trees, Body}
-use Rattle.tm_meaning.specs.Meaning.{Run, Outcome, Ending, done, leave, next, fault, Nests, Under, so_far, say, use_it, then_do, value_of, in_place_of, block_tag, truth, applied_unary, operated, applied, attribute, item_at, slice_of, list_of_values, map_of_pairs, audible as heard_here, none_waits, eval, eval_all, eval_pair, eval_pairs, eval_argument, eval_arguments, eval_condition, eval_conditions, eval_step, eval_links, eval_steps, emit, behind_first, exec, execs, exec_else, new_run, at_end, stream_run, nests_of, rendered}
+use Rattle.tm_meaning.specs.Meaning.{Run, Outcome, Ending, done, leave, next, fault, Nests, Under, so_far, say, use_it, then_do, value_of, in_place_of, block_tag, truth, applied_unary, operated, applied, attribute, item_at, slice_of, list_of_values, map_of_pairs, audible as heard_here, none_waits, eval, eval_all, eval_pair, eval_pairs, eval_argument, eval_arguments, eval_condition, eval_conditions, eval_step, eval_links, eval_steps, assign, assign_all, set_to, set_each, left, emit, behind_first, exec, execs, exec_else, new_run, at_end, stream_run, nests_of, rendered}
 use Rattle.tm_meaning.specs.Machine.{Activation, Config, Finished, Failed, Stuck, Next, More, Over, Program, after, goes, taken, on_taken, asked, asked_in_place, base_of, start, run_from, stuck, audible, with_world}
 use Rattle.tm_meaning.specs.Instructions.{binary_of, paired}
 use Rattle.tm_meaning.specs.Steps.{act, step, closed, finish, Final, final, Leads, over}
@@ -29,8 +35,8 @@ use Rattle.tm_meaning.specs.Compiled.{IsCompiled, code_of}
 use Rattle.tm_meaning.proofs.Ends.{one_end}
 use Rattle.tm_simulation.specs.Reached.{final_by, final_of, Renders}
 use Rattle.tm_simulation.proofs.Place.{HasAt, has_front, has_behind, has_whole}
-use Rattle.tm_simulation.proofs.Keeps.{Kept, kept_depth, kept_same, Gives, EndsBy as EndsKept, Ends as KeptEnds, ends_as, tick_gives, answered_gives, Asks, block_asks, named_asks, eval_gives, condition_gives, all_give, pair_gives, pairs_give, argument_gives, arguments_give, step_gives, steps_give, unary_gives, binary_gives, looked_up_gives, exec_ends, execs_end, nests_end}
-use Rattle.tm_simulation.proofs.Follow.{Bed, air, inside, captures_of, told_by, Spot, told, cfg, later, Follows, Then, Ends, whole_of, follows_map, follows_bind, bind_then, use_then, so_far_then, fault_then, do_then, ends_map, Go, silent, at, after_then, move, pushes, choose_then, choose_ends}
+use Rattle.tm_simulation.proofs.Keeps.{Kept, kept_depth, kept_same, Gives, EndsBy as EndsKept, Ends as KeptEnds, ends_as, tick_gives, answered_gives, Asks, block_asks, named_asks, eval_gives, condition_gives, all_give, pair_gives, pairs_give, argument_gives, arguments_give, step_gives, steps_give, unary_gives, binary_gives, looked_up_gives, within, assign_gives, set_gives, set_each_gives, exec_ends, execs_end, nests_end}
+use Rattle.tm_simulation.proofs.Follow.{Bed, air, inside, captures_of, told_by, Spot, told, cfg, later, Follows, Then, Ends, whole_of, follows_map, follows_bind, bind_then, use_then, so_far_then, fault_then, do_then, within_then, Left, left_then, ends_map, Go, silent, at, after_then, move, pushes, choose_then, choose_ends}
 use Rattle.tm_simulation.proofs.Forms.{Fits, audible_is, writes_then, end_by, end_of, Entered, call_in_place, call_as_value}
 use Rattle.tm_meaning.specs.declared.stream.TemplateId.{TemplateId}
 use Rattle.tm_meaning.specs.declared.stream.StreamId.{StreamId}
@@ -81,6 +87,18 @@ pairs_long u run no_pair w = refl
 pairs_long u run (with_pair x more) w =
     long_bind _ (eval_pair u run x w) _ (λ y world1. long_more y (count_pairs more) (eval_pairs u run more world1) (pairs_long u run more world1))
 
+-- so many items of a value
+counted : (n : ℕ) (vs : List Val) (b : Bool) (w : World) → (length vs == n) ≡ b → IsLong n (answered (cond b (Ok vs) (Err (CannotUnpack ∷ []))) w)
+counted n vs true w e = eqb-true (length vs) n e
+counted n vs false w e = tt
+
+exactly_long : (n : ℕ) (answer : Answer (List Val)) (w : World) → IsLong n (answered (exactly n answer) w)
+exactly_long n (Ok vs) w = counted n vs (length vs == n) w refl
+exactly_long n (Err chain) w = tt
+
+items_long : (n : ℕ) (v : Val) (w : World) → IsLong n (items_of n v w)
+items_long n v w = exactly_long n _ w
+
 -- the same as `bind_then`, of as many as were asked for
 bind_long : {A B : Type 0} (r : Final) (t : List ℕ) (w : World) (n : ℕ) (m : Res (List A)) (g : List A → World → Res B) (K : B → World → Type 0) (L : List A → World → Type 0) →
     Gives w m → IsLong n m → Follows r t (bind m g) K → ((xs : List A) (world1 : World) → Kept w world1 → length xs ≡ n → Follows r t (g xs world1) K → L xs world1) → Follows r t m L
@@ -121,12 +139,15 @@ module _ (p : Program) (f : Base) (r : Final) (trees : Trees) (n : ℕ)
   nest_ends : (k : Callee) (heard : Bool) (out : List ℕ) (w : World) → KeptEnds w (nests_of p.host trees n k heard out w)
   nest_ends k heard out w = nests_end p.host trees n k heard out w
 
-  -- so many levels are left
+  -- So many levels are left, and the scopes of the run's start stand.
   abbrev Deep : World → Type 0
-  Deep w = p.host.limit + 1 ≤ suc n + depth w.scopes
+  Deep w = (p.host.limit + 1 ≤ suc n + depth w.scopes) × (f.scopes ≤ length w.scopes.frames)
 
   deep_kept : {w world1 : World} → Kept w world1 → Deep w → Deep world1
-  deep_kept k d = omega (arith, kept_depth k, d)
+  deep_kept k d = (omega (arith, kept_depth k, d.0), omega (arith, k.frames, d.1))
+
+  deep_within : (a : Scope) (w : World) → Deep w → Deep (within a w)
+  deep_within a w d = (omega (arith, d.0), omega (arith, d.1))
 
   -- what a call comes to, as a value
   asked_then : (s : Spot) (pc : ℕ) (stack old : List Val) (w world1 : World) (q : Asked) → Asks p.host.limit world1 q → Deep world1 →
@@ -134,7 +155,7 @@ module _ (p : Program) (f : Base) (r : Final) (trees : Trees) (n : ℕ)
   asked_then s pc stack old w world1 (has v world2) e d h = silent p f r (told s) _ h
   asked_then s pc stack old w world1 (refused chain world2) e d h = over refl h
   asked_then s pc stack old w world1 (runs c world2) e d h =
-      call_as_value p f r u c s pc old stack w world2 _ (entered c.callee true (inside true (told s) (captures_of s.bed s.out)) [] world2 (omega (arith, e.0, d)) e.1) h (λ x world3 g. g)
+      call_as_value p f r u c s pc old stack w world2 _ (entered c.callee true (inside true (told s) (captures_of s.bed s.out)) [] world2 (omega (arith, e.0, d.0)) e.1) h (λ x world3 g. g)
 
   -- and in place
   placed_then : (run : Run) (s : Spot) (pc : ℕ) (stack old : List Val) (w world1 : World) (q : Asked) (D L N : Then) → Fits f run s.bed → Asks p.host.limit world1 q → Deep world1 →
@@ -143,7 +164,7 @@ module _ (p : Program) (f : Base) (r : Final) (trees : Trees) (n : ℕ)
   placed_then run s pc stack old w world1 (has v world2) D L N fits e d h g = silent p f r (told s) _ (g s.out world2 (so_far_then r s.bed (as_at run s) s.out world2 D L N h))
   placed_then run s pc stack old w world1 (refused chain world2) D L N fits e d h g = over refl (fault_then r s.bed (as_at run s) s.out world2 chain D L N h)
   placed_then run s pc stack old w world1 (runs c world2) D L N fits e d h g =
-      call_in_place p f r u c (as_at run s) s pc old stack w world2 D L N refl fits (entered c.callee (heard_here (as_at run s)) s.bed s.out world2 (omega (arith, e.0, d)) e.1) h g
+      call_in_place p f r u c (as_at run s) s pc old stack w world2 D L N refl fits (entered c.callee (heard_here (as_at run s)) s.bed s.out world2 (omega (arith, e.0, d.0)) e.1) h g
 
   -- an operator behind its operands
   unary_then : (op : UnaryOperator) (s : Spot) (pc : ℕ) (v : Val) (stack : List Val) (w : World) → slice_get (p.code s.run.stream) pc ≡ Some (unary_code op) →
@@ -499,6 +520,79 @@ module _ (p : Program) (f : Base) (r : Final) (trees : Trees) (n : ℕ)
         steps_run ss run s (pc + length c) y stack world1 (deep_kept k d) (has_behind (p.code s.run.stream) pc c rest is)
         (follows_map r (told s) (eval_steps u run ss y world1) _ _ h1 (λ z world2 g. move p f r s _ _ (z ∷ stack) world2 place g))))
 
+  mutual
+    -- A target's code takes the value on top.
+    target_runs : (t : Target) (run : Run) (s : Spot) (pc : ℕ) (v : Val) (stack : List Val) (w : World) → Deep w → HasAt (p.code s.run.stream) pc (target_code pc t) →
+        Follows r (told s) (assign u run t v w) (λ _ world1. Go p f r s (pc + length (target_code pc t)) stack world1) → Go p f r s pc (v ∷ stack) w
+    target_runs (To x) run s pc v stack w d is h =
+        at p f r (i.StoreLocal x) s pc (v ∷ stack) w is.0 (after_then p f r (told s) (tick w) _ (bind_then r (told s) w (tick w) _ _ _ (tick_gives w) h (λ _ world1 k h1.
+        silent p f r (told s) _ h1)))
+    target_runs (Items _ ts) run s pc v stack w d is h =
+        let n = count_targets ts in
+        let c = targets_code (pc + 1) ts in
+        let place : pc + 1 + length c ≡ pc + suc (length c) = omega arith in
+        at p f r (i.UnpackList n) s pc (v ∷ stack) w is.0 (after_then p f r (told s) (tick w) _ (bind_then r (told s) w (tick w) _ _ _ (tick_gives w) h (λ _ world1 k h1.
+        after_then p f r (told s) (items_of n v world1) _ (bind_long r (told s) world1 n (items_of n v world1) _ _ _ (answered_gives _ world1) (items_long n v world1) h1 (λ vs world2 k2 l h2.
+        silent p f r (told s) _ (targets_run ts run s (pc + 1) vs stack world2 l (deep_kept k2 (deep_kept k d)) is.1
+        (follows_map r (told s) (assign_all u run ts vs world2) _ _ h2 (λ _ world3 g. move p f r s _ _ stack world3 place g))))))))
+    target_runs (Member e x) run s pc v stack w d is h =
+        let c = expr_code pc e in
+        let last = i.SetAttr x ∷ [] in
+        let behind = has_behind (p.code s.run.stream) pc c last is in
+        let place : pc + length c + 1 ≡ pc + length (c ++ last) = omega (arith, length-append c last) in
+        expr_runs e run s pc (v ∷ stack) w d (has_front (p.code s.run.stream) pc c last is)
+        (bind_then r (told s) w (eval u run e w) _ _ _ (eval_gives u nest_ends run e w) h (λ o world1 k h1.
+        at p f r (i.SetAttr x) s (pc + length c) (o ∷ v ∷ stack) world1 behind.0 (after_then p f r (told s) (tick world1) _ (bind_then r (told s) world1 (tick world1) _ _ _ (tick_gives world1) h1 (λ _ world2 k2 h2.
+        after_then p f r (told s) (set_member x v o world2) _ (follows_map r (told s) (set_member x v o world2) _ _ h2 (λ _ world3 g.
+        silent p f r (told s) _ (move p f r s _ _ stack world3 place g))))))))
+
+    -- Targets take as many values, the first on top.
+    targets_run : {m : _} → (ts : Row_of-Target m) (run : Run) (s : Spot) (pc : ℕ) (vs stack : List Val) (w : World) → length vs ≡ count_targets ts → Deep w →
+        HasAt (p.code s.run.stream) pc (targets_code pc ts) →
+        Follows r (told s) (assign_all u run ts vs w) (λ _ world1. Go p f r s (pc + length (targets_code pc ts)) stack world1) → Go p f r s pc (vs ++ stack) w
+    targets_run no_target run s pc [] stack w l d is h = move p f r s pc (pc + 0) stack w (omega arith) h
+    targets_run no_target run s pc (v ∷ vs) stack w l d is h = absurd (omega (arith, l))
+    targets_run (target t ts) run s pc [] stack w l d is h = absurd (omega (arith, l))
+    targets_run (target t ts) run s pc (v ∷ vs) stack w l d is h =
+        let c = target_code pc t in
+        let rest = targets_code (pc + length c) ts in
+        let place : pc + length c + length rest ≡ pc + length (c ++ rest) = omega (arith, length-append c rest) in
+        target_runs t run s pc v (vs ++ stack) w d (has_front (p.code s.run.stream) pc c rest is)
+        (bind_then r (told s) w (assign u run t v w) _ _ _ (assign_gives u nest_ends run t v w) h (λ _ world1 k h1.
+        targets_run ts run s (pc + length c) vs stack world1 (omega (arith, l)) (deep_kept k d) (has_behind (p.code s.run.stream) pc c rest is)
+        (follows_map r (told s) (assign_all u run ts vs world1) _ _ h1 (λ _ world2 g. move p f r s _ _ stack world2 place g))))
+
+  -- A value's code, and then its target's, leave the operands as they were.
+  set_runs : (t : Target) (e : Expr) (run : Run) (s : Spot) (pc : ℕ) (stack : List Val) (w : World) → Deep w → HasAt (p.code s.run.stream) pc (set_code pc t e) →
+      Follows r (told s) (set_to u run t e w) (λ _ world1. Go p f r s (pc + length (set_code pc t e)) stack world1) → Go p f r s pc stack w
+  set_runs t e run s pc stack w d is h =
+      let c = expr_code pc e in
+      let rest = target_code (pc + length c) t in
+      let place : pc + length c + length rest ≡ pc + length (c ++ rest) = omega (arith, length-append c rest) in
+      expr_runs e run s pc stack w d (has_front (p.code s.run.stream) pc c rest is)
+      (bind_then r (told s) w (eval u run e w) _ _ _ (eval_gives u nest_ends run e w) h (λ v world1 k h1.
+      target_runs t run s (pc + length c) v stack world1 (deep_kept k d) (has_behind (p.code s.run.stream) pc c rest is)
+      (follows_map r (told s) (assign u run t v world1) _ _ h1 (λ _ world2 g. move p f r s _ _ stack world2 place g))))
+
+  sets_run : (given : List Assignment) (run : Run) (s : Spot) (pc : ℕ) (stack : List Val) (w : World) → Deep w → HasAt (p.code s.run.stream) pc (assignments_code pc given) →
+      Follows r (told s) (set_each u run given w) (λ _ world1. Go p f r s (pc + length (assignments_code pc given)) stack world1) → Go p f r s pc stack w
+  sets_run [] run s pc stack w d is h = move p f r s pc (pc + 0) stack w (omega arith) h
+  sets_run (Given t e ∷ more) run s pc stack w d is h =
+      let c = set_code pc t e in
+      let rest = assignments_code (pc + length c) more in
+      let place : pc + length c + length rest ≡ pc + length (c ++ rest) = omega (arith, length-append c rest) in
+      set_runs t e run s pc stack w d (has_front (p.code s.run.stream) pc c rest is)
+      (bind_then r (told s) w (set_to u run t e w) _ _ _ (set_gives u nest_ends run t e w) h (λ _ world1 k h1.
+      sets_run more run s (pc + length c) stack world1 (deep_kept k d) (has_behind (p.code s.run.stream) pc c rest is)
+      (follows_map r (told s) (set_each u run more world1) _ _ h1 (λ _ world2 g. move p f r s _ _ stack world2 place g))))
+
+  -- A scope of the run's own is left, which is free.
+  popped_then : (s : Spot) (pc : ℕ) (stack : List Val) (w : World) → f.scopes < length w.scopes.frames → slice_get (p.code s.run.stream) pc ≡ Some i.PopFrame → Go p f r s (pc + 1) stack (pop w) → Go p f r s pc stack w
+  popped_then s pc stack w stands e g =
+      at p f r i.PopFrame s pc stack w e
+      (subst (λ b. Leads p f (told s) (choose b (λ _. goes stack (pop w) (cfg s pc stack w)) (λ _. stuck w)) r)
+      (sym (lt-ltb f.scopes (length w.scopes.frames) stands)) (silent p f r (told s) _ g))
+
   -- what is emitted
   emit_then : (run : Run) (s : Spot) (pc : ℕ) (v : Val) (stack : List Val) (w : World) (D L N : Then) → Fits f run s.bed → slice_get (p.code s.run.stream) pc ≡ Some i.Emit →
       Ends r s.bed (emit u (as_at run s) s.out v w) D L N → ((out1 : List ℕ) (world1 : World) → D s.parent out1 world1 → Go p f r (later s s.parent out1) (pc + 1) stack world1) → Go p f r s pc (v ∷ stack) w
@@ -582,6 +676,37 @@ module _ (p : Program) (f : Base) (r : Final) (trees : Trees) (n : ℕ)
         (λ h4. silent p f r (told s) _ (first_runs body (stmts_run body) other run s (pc1 + 1) end stack world3 L N fits deep3 place behind.1 h4))
         (λ h4. silent p f r (told s) _ (second_runs body other run s (pc1 + 1) end stack world3 L N fits deep3 place behind.1 h4)))))))))
     stmt_runs (Block' b _ body) run s pc stack w L N fits d is h = tag_then run s pc b stack w _ L N fits d is.0 h (λ out1 world1 g. g)
+    stmt_runs (Set t e) run s pc stack w L N fits d is h =
+        set_runs t e (as_at run s) s pc stack w d is
+        (use_then r s.bed w (set_to u (as_at run s) t e w) (as_at run s) s.out _ _ L N _ (set_gives u nest_ends (as_at run s) t e w) h (λ _ world1 k h1.
+        so_far_then r s.bed (as_at run s) s.out world1 _ L N h1))
+    stmt_runs (With' given _ body) run s pc stack w L N fits d is h =
+        let all = p.code s.run.stream in
+        let gc = assignments_code (pc + 1) given in
+        let pc1 = pc + 1 + length gc in
+        let bc = statements_code pc1 body in
+        let from_body = has_behind all (pc + 1) gc (bc ++ i.PopFrame ∷ []) is.1 in
+        let last = has_behind all pc1 bc (i.PopFrame ∷ []) from_body in
+        let place : pc1 + length bc + 1 ≡ pc + suc (length (gc ++ (bc ++ i.PopFrame ∷ []))) =
+        omega (arith, length-append gc (bc ++ i.PopFrame ∷ []), length-append bc (i.PopFrame ∷ [])) in
+        let a = plain_scope (undefined false) in
+        let deep1 = deep_within a w d in
+        at p f r i.PushWith s pc stack w is.0 (after_then p f r (told s) (push p.host a w) _
+        (within_then r s.bed w a (nat_lt (depth w.scopes) p.host.limit) (as_at run s) s.out _ _ L N (λ world1. Leads p f (told s) (goes stack world1 (cfg s pc stack w)) r) h (λ h1.
+        silent p f r (told s) _ (sets_run given (as_at run s) s (pc + 1) stack (within a w) deep1 (has_front all (pc + 1) gc (bc ++ i.PopFrame ∷ []) is.1)
+        (use_then r s.bed (within a w) (set_each u (as_at run s) given (within a w)) (as_at run s) s.out _ _ L N _ (set_each_gives u nest_ends (as_at run s) given (within a w)) h1 (λ _ world2 k2 h2.
+        stmts_run body run s pc1 stack world2 (Left L) (Left N) fits (deep_kept k2 deep1) (has_front all pc1 bc (i.PopFrame ∷ []) from_body)
+        (left_then r s.bed world2 (execs u body (as_at run s) s.out world2) _ L N _ (execs_end u nest_ends body (as_at run s) s.out world2) h2 (λ q out1 world3 k3 g.
+        popped_then (later s q out1) (pc1 + length bc) stack world3 (omega (arith, k3.frames, k2.frames, d.1)) last.0
+        (move p f r (later s q out1) _ _ stack (pop world3) place g)))))))))
+    stmt_runs (Do e) run s pc stack w L N fits d is h =
+        let c = expr_code pc e in
+        let behind = has_behind (p.code s.run.stream) pc c (i.DiscardTop ∷ []) is in
+        let place : pc + length c + 1 ≡ pc + length (c ++ i.DiscardTop ∷ []) = omega (arith, length-append c (i.DiscardTop ∷ [])) in
+        expr_runs e (as_at run s) s pc stack w d (has_front (p.code s.run.stream) pc c (i.DiscardTop ∷ []) is)
+        (use_then r s.bed w (eval u (as_at run s) e w) (as_at run s) s.out _ _ L N _ (eval_gives u nest_ends (as_at run s) e w) h (λ v world1 k h1.
+        at p f r i.DiscardTop s (pc + length c) (v ∷ stack) world1 behind.0
+        (silent p f r (told s) _ (move p f r s _ _ stack world1 place (so_far_then r s.bed (as_at run s) s.out world1 _ L N h1)))))
 
     pub stmts_run : {m : _} → (ss : Row_of-Stmt m) (run : Run) (s : Spot) (pc : ℕ) (stack : List Val) (w : World) (L N : Then) → Fits f run s.bed → Deep w → HasAt (p.code s.run.stream) pc (statements_code pc ss) →
         Ends r s.bed (execs u ss (as_at run s) s.out w) (λ q out1 world1. Go p f r (later s q out1) (pc + length (statements_code pc ss)) stack world1) L N → Go p f r s pc stack w
@@ -667,7 +792,7 @@ module _ (p : Program) (trees : Trees) (compiled : IsCompiled trees p) where
       let size : length (p.code id) ≡ 0 + length code = ap length (compiled id) ∙ omega arith in
       let ends = end_then id heard b out w o.ending o.parent o.text o.world (ends_as w o (execs_end u (nests_end p.host trees n) (trees id).row (new_run heard w) out w)) in
       let placed = ends_map r b o _ (λ q x v. Go p f r (later s q x) (0 + length code) [] v) (λ q x v. Unit {0}) (λ q x v. Unit {0}) ends (λ q x v g. move p f r (later s q x) _ _ [] v (sym size) g) in
-      stmts_run p f r trees n below (trees id).row (new_run heard w) s 0 [] w (λ q x v. Unit {0}) (λ q x v. Unit {0}) (fits_start b out heard w) deep stands placed
+      stmts_run p f r trees n below (trees id).row (new_run heard w) s 0 [] w (λ q x v. Unit {0}) (λ q x v. Unit {0}) (fits_start b out heard w) (deep, omega arith) stands placed
 
   -- What nests comes to what it means. Level zero isn't reached, since a run stands one level deeper than the one that needs it, within the limit.
   pub nests_run : (n : ℕ) (k : Callee) (heard : Bool) (b : Bed) (out : List ℕ) (w : World) → p.host.limit + 1 ≤ n + depth w.scopes → depth w.scopes ≤ p.host.limit →
