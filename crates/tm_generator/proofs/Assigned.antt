@@ -1,13 +1,12 @@
 -- The code of targets that is put one part behind another.
 use Rattle.std.proofs.Common.{◌≡◌, ℕ, ◌+◌, List, [], ◌∷◌, ◌++◌, length, refl, sym, ap, ◌∙◌}
 use denote.Hole.Carrier.{hidden}
-use Rattle.tm_syntax.specs.declared.tree.Expr.{Expr}
 use Rattle.tm_syntax.specs.declared.tree.Target.{Target}
 use Rattle.tm_syntax.specs.declared.tree.Target.TheVariants as t
 use Rattle.tm_syntax.specs.declared.tree.Target.TheBlock.{hidden-the_row-Target-0 as targets}
 use Rattle.tm_syntax.specs.declared.instruction.Instruction.{Instruction}
 use Rattle.tm_syntax.specs.declared.instruction.Instruction.TheVariants as i
-use Rattle.tm_syntax.specs.Code.{expr_code, target_code, targets_code, set_code, count_targets}
+use Rattle.tm_syntax.specs.Code.{target_code, targets_code, count_targets}
 use Rattle.tm_generator.proofs.Generated.{placed}
 use Rattle.tm_generator.proofs.Rows.{count-targets}
 
@@ -19,6 +18,3 @@ pub made_unpack : (base c1 c2 : List Instruction) (n : ℕ) (ts : List Target) �
 made_unpack base c1 c2 n ts m d d2 =
     placed base c1 c2 (i.UnpackList n ∷ []) (λ k. targets_code k (targets ts)) d d2
     ∙ ap (λ k. base ++ i.UnpackList k ∷ targets_code (length base + 1) (targets ts)) (m ∙ sym (count-targets ts)) ∙ ap (λ l. base ++ l) (sym (code-unpack (length base) ts))
-
-pub made_set : (base c1 c2 : List Instruction) (t : Target) (e : Expr) → c1 ≡ base ++ expr_code (length base) e → c2 ≡ c1 ++ target_code (length c1) t → c2 ≡ base ++ set_code (length base) t e
-made_set base c1 c2 t e d d2 = placed base c1 c2 (expr_code (length base) e) (λ n. target_code n t) d d2

@@ -63,7 +63,7 @@ next xs k x lt d = grind (arith, drop-cons xs k x lt, d)
 
 -- ---------------------------------------------------------------- forms
 -- one part, and what is put behind it
-pub behind : (base c1 c2 first rest : List Instruction) → c1 ≡ base ++ first → c2 ≡ c1 ++ rest → c2 ≡ base ++ (first ++ rest)
+behind : (base c1 c2 first rest : List Instruction) → c1 ≡ base ++ first → c2 ≡ c1 ++ rest → c2 ≡ base ++ (first ++ rest)
 behind base c1 c2 first rest d d2 = d2 ∙ ap (λ l. l ++ rest) d ∙ append_assoc base first rest
 
 -- one part, and another at the place behind it

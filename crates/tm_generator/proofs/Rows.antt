@@ -9,12 +9,10 @@ use Rattle.tm_syntax.specs.declared.tree.Argument.TheBlock.{shape-the_row-Expr-1
 use Rattle.tm_syntax.specs.declared.tree.Step.{Step}
 use Rattle.tm_syntax.specs.declared.tree.Target.{Target}
 use Rattle.tm_syntax.specs.declared.tree.Target.TheBlock.{shape-the_row-Target-0, hidden-the_row-Target-0 as targets}
-use Rattle.tm_syntax.specs.declared.tree.Assignment.{Assignment}
-use Rattle.tm_syntax.specs.declared.tree.Assignment.TheVariants.{Assignment as Given}
 use Rattle.tm_syntax.specs.declared.tree.Stmt.{Stmt}
 use Rattle.tm_syntax.specs.declared.tree.Stmt.TheBlock.{shape-the_row-Stmt-0, hidden-the_row-Stmt-0 as statements}
 use Rattle.tm_syntax.specs.declared.instruction.Instruction.{Instruction}
-use Rattle.tm_syntax.specs.Code.{expr_code, exprs_code, pair_code, pairs_code, argument_code, arguments_code, step_code, steps_code, target_code, targets_code, set_code, assignments_code, statement_code, statements_code, count, count_exprs, count_pairs, count_targets}
+use Rattle.tm_syntax.specs.Code.{expr_code, exprs_code, pair_code, pairs_code, argument_code, arguments_code, step_code, steps_code, target_code, targets_code, statement_code, statements_code, count, count_exprs, count_pairs, count_targets}
 use Rattle.tm_syntax.specs.Blocks.{blocks_of, blocks_in}
 
 exprs-nil : (pc : ℕ) → exprs_code pc (exprs []) ≡ []
@@ -76,15 +74,6 @@ pub count-targets : (xs : List Target) → count_targets (targets xs) ≡ length
 unfolding hidden targets shape-the_row-Target-0
 count-targets [] = refl
 count-targets (x ∷ xs) = omega (arith, count-targets xs)
-
-abbrev pub assignment_code : ℕ → Assignment → List Instruction
-assignment_code pc (Given t e) = set_code pc t e
-
-assignments-nil : (pc : ℕ) → assignments_code pc [] ≡ []
-assignments-nil pc = refl
-
-assignments-cons : (pc : ℕ) (x : Assignment) (xs : List Assignment) → assignments_code pc (x ∷ xs) ≡ assignment_code pc x ++ assignments_code (pc + length (assignment_code pc x)) xs
-assignments-cons pc (Given t e) xs = refl
 
 statements-nil : (pc : ℕ) → statements_code pc (statements []) ≡ []
 unfolding hidden statements shape-the_row-Stmt-0
@@ -148,13 +137,6 @@ more_targets = more target_code (λ pc xs. targets_code pc (targets xs)) targets
 
 pub no_more_targets : (l goal : List Instruction) (xs : List Target) → xs ≡ [] → l ++ targets_code (length l) (targets xs) ≡ goal → l ≡ goal
 no_more_targets = no_more target_code (λ pc xs. targets_code pc (targets xs)) targets-nil
-
-pub more_assignments : (old new goal : List Instruction) (xs rest : List Assignment) (x : Assignment) → xs ≡ x ∷ rest → new ≡ old ++ assignment_code (length old) x →
-    old ++ assignments_code (length old) xs ≡ goal → new ++ assignments_code (length new) rest ≡ goal
-more_assignments = more assignment_code assignments_code assignments-cons
-
-pub no_more_assignments : (l goal : List Instruction) (xs : List Assignment) → xs ≡ [] → l ++ assignments_code (length l) xs ≡ goal → l ≡ goal
-no_more_assignments = no_more assignment_code assignments_code assignments-nil
 
 pub more_statements : (old new goal : List Instruction) (xs rest : List Stmt) (x : Stmt) → xs ≡ x ∷ rest → new ≡ old ++ statement_code (length old) x →
     old ++ statements_code (length old) (statements xs) ≡ goal → new ++ statements_code (length new) (statements rest) ≡ goal

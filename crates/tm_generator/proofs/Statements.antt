@@ -5,16 +5,14 @@ use Rattle.std.proofs.lemmas.List.{append-nil}
 use Rattle.std.proofs.Math.Seq.{set-append_seam}
 use denote.Hole.Carrier.{hidden}
 use Rattle.tm_syntax.specs.declared.tree.Expr.{Expr}
-use Rattle.tm_syntax.specs.declared.tree.Assignment.{Assignment}
 use Rattle.tm_syntax.specs.declared.tree.Stmt.{Stmt}
 use Rattle.tm_syntax.specs.declared.tree.Stmt.TheVariants as st
 use Rattle.tm_syntax.specs.declared.tree.Stmt.TheBlock.{hidden-the_row-Stmt-0 as statements}
 use Rattle.tm_syntax.specs.declared.instruction.Instruction.{Instruction}
 use Rattle.tm_syntax.specs.declared.instruction.Instruction.TheVariants as i
 use Rattle.tm_syntax.specs.Blocks.{Body, body_of, blocks_of, blocks_in, compiled, compiled_blocks}
-use Rattle.tm_syntax.specs.Code.{expr_code, assignments_code, statement_code, statements_code, before}
+use Rattle.tm_syntax.specs.Code.{expr_code, statement_code, statements_code}
 use Rattle.tm_syntax.specs.Named.{Named, put, put_each}
-use Rattle.tm_generator.proofs.Generated.{behind, placed}
 use Rattle.tm_generator.proofs.Rows.{blocks-nil, blocks-cons}
 
 -- ---------------------------------------------------------------- forms as the program holds them
@@ -36,15 +34,6 @@ code-else : (pc : ℕ) (c : Expr) (body other : List Stmt) → statement_code pc
     test ++ (i.JumpIfFalse (pc1 + length first + 1) ∷ (first ++ (i.Jump (pc2 + 1 + length second) ∷ second))))
 unfolding hidden statements
 code-else pc c body other = refl
-
-code-with : (pc : ℕ) (given : List Assignment) (body : List Stmt) → statement_code pc (st.With given body) ≡
-    i.PushWith ∷ before (pc + 1) (assignments_code (pc + 1) given) (λ pc1. statements_code pc1 (statements body) ++ i.PopFrame ∷ [])
-unfolding hidden statements
-code-with pc given body = refl
-
-blocks-with : (given : List Assignment) (body : List Stmt) → blocks_of (st.With given body) ≡ blocks_in (statements body)
-unfolding hidden statements
-blocks-with given body = refl
 
 blocks-if : (c : Expr) (body : List Stmt) → blocks_of (st.If c body None) ≡ blocks_in (statements body) ++ []
 unfolding hidden statements
@@ -82,9 +71,6 @@ pub else_blocks : (c : Expr) (body other : List Stmt) (m m1 m2 : Blocks) → m1 
 else_blocks c body other m m1 m2 d d2 =
     d2 ∙ ap (put_each (compiled_blocks (blocks_in (statements other)))) d ∙ sym (both (blocks_in (statements body)) (blocks_in (statements other)) m)
     ∙ ap (λ l. put_each (compiled_blocks l) m) (sym (blocks-else c body other))
-
-pub with_blocks : (given : List Assignment) (body : List Stmt) (m m1 : Blocks) → m1 ≡ put_each (compiled_blocks (blocks_in (statements body))) m → m1 ≡ put_each (compiled_blocks (blocks_of (st.With given body))) m
-with_blocks given body m m1 d = d ∙ ap (λ l. put_each (compiled_blocks l) m) (sym (blocks-with given body))
 
 pub block_blocks : (x : List ℕ) (body : List Stmt) (m m1 : Blocks) → m1 ≡ put x (statements_code 0 (statements body)) (put_each (compiled_blocks (blocks_in (statements body))) m) →
     m1 ≡ put_each (compiled_blocks (blocks_of (st.Block x body))) m
@@ -151,11 +137,3 @@ made_else base c1 c2 c3 c4 c5 set c6 y z n1 n2 n3 n4 c body other d1 m1 d2 d3 m2
     ∙ append_assoc front (u ∷ first) (v ∷ second) ∙ append_assoc base test (u ∷ (first ++ v ∷ second))
     ∙ ap (λ n. base ++ (test ++ i.JumpIfFalse n ∷ (first ++ v ∷ second))) (m3 ∙ l4) ∙ ap (λ n. base ++ (test ++ i.JumpIfFalse (pc2 + 1) ∷ (first ++ i.Jump n ∷ second))) l5
     ∙ ap (λ l. base ++ l) (sym (code-else (length base) c body other))
-
-pub made_with : (base c1 c2 c3 c4 : List Instruction) (given : List Assignment) (body : List Stmt) → c1 ≡ base ++ i.PushWith ∷ [] → c2 ≡ c1 ++ assignments_code (length c1) given →
-    c3 ≡ c2 ++ statements_code (length c2) (statements body) → c4 ≡ c3 ++ i.PopFrame ∷ [] → c4 ≡ base ++ statement_code (length base) (st.With given body)
-made_with base c1 c2 c3 c4 given body d1 d2 d3 d4 =
-    let left : ℕ → List Instruction = λ n. statements_code n (statements body) ++ i.PopFrame ∷ [] in
-    placed base c1 c4 (i.PushWith ∷ []) (λ n. before n (assignments_code n given) left) d1
-    (placed c1 c2 c4 (assignments_code (length c1) given) left d2 (behind c2 c3 c4 (statements_code (length c2) (statements body)) (i.PopFrame ∷ []) d3 d4))
-    ∙ ap (λ l. base ++ l) (sym (code-with (length base) given body))

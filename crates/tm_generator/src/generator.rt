@@ -15,8 +15,8 @@ use crate::targets::{push_assignments, push_set};
 use sqlite_items::{Boxed, Items};
 use std::alloc::Global;
 use tm_syntax::{
-    Argument, Assignment, BinaryOperator, Comparison, Condition, Expr, Instruction, Name, NameMap, Pair, Step,
-    Stmt, Tree, UnaryOperator,
+    Argument, Assignment, BinaryOperator, Comparison, Condition, Expr, Instruction, Name, NameMap,
+    Pair, Step, Stmt, Tree, UnaryOperator,
 };
 use tm_values::Error;
 
