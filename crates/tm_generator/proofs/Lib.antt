@@ -2,4 +2,5 @@ pub mod Rows
 pub mod Generated
 pub mod Links
 pub mod Conditions
+pub mod Assigned
 pub mod Statements

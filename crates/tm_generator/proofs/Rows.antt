@@ -7,10 +7,12 @@ use Rattle.tm_syntax.specs.declared.tree.Pair.{Pair}
 use Rattle.tm_syntax.specs.declared.tree.Argument.{Argument}
 use Rattle.tm_syntax.specs.declared.tree.Argument.TheBlock.{shape-the_row-Expr-1, shape-the_row-Pair-2, shape-the_row-Argument-3, shape-the_row-Step-4, hidden-the_row-Expr-1 as exprs, hidden-the_row-Pair-2 as pairs, hidden-the_row-Argument-3 as arguments, hidden-the_row-Step-4 as steps}
 use Rattle.tm_syntax.specs.declared.tree.Step.{Step}
+use Rattle.tm_syntax.specs.declared.tree.Target.{Target}
+use Rattle.tm_syntax.specs.declared.tree.Target.TheBlock.{shape-the_row-Target-0, hidden-the_row-Target-0 as targets}
 use Rattle.tm_syntax.specs.declared.tree.Stmt.{Stmt}
 use Rattle.tm_syntax.specs.declared.tree.Stmt.TheBlock.{shape-the_row-Stmt-0, hidden-the_row-Stmt-0 as statements}
 use Rattle.tm_syntax.specs.declared.instruction.Instruction.{Instruction}
-use Rattle.tm_syntax.specs.Code.{expr_code, exprs_code, pair_code, pairs_code, argument_code, arguments_code, step_code, steps_code, statement_code, statements_code, count, count_exprs, count_pairs}
+use Rattle.tm_syntax.specs.Code.{expr_code, exprs_code, pair_code, pairs_code, argument_code, arguments_code, step_code, steps_code, target_code, targets_code, statement_code, statements_code, count, count_exprs, count_pairs, count_targets}
 use Rattle.tm_syntax.specs.Blocks.{blocks_of, blocks_in}
 
 exprs-nil : (pc : ℕ) → exprs_code pc (exprs []) ≡ []
@@ -59,6 +61,19 @@ steps-nil pc = refl
 steps-cons : (pc : ℕ) (x : Step) (xs : List Step) → steps_code pc (steps (x ∷ xs)) ≡ step_code pc x ++ steps_code (pc + length (step_code pc x)) (steps xs)
 unfolding hidden steps shape-the_row-Step-4
 steps-cons pc x xs = refl
+
+targets-nil : (pc : ℕ) → targets_code pc (targets []) ≡ []
+unfolding hidden targets shape-the_row-Target-0
+targets-nil pc = refl
+
+targets-cons : (pc : ℕ) (x : Target) (xs : List Target) → targets_code pc (targets (x ∷ xs)) ≡ target_code pc x ++ targets_code (pc + length (target_code pc x)) (targets xs)
+unfolding hidden targets shape-the_row-Target-0
+targets-cons pc x xs = refl
+
+pub count-targets : (xs : List Target) → count_targets (targets xs) ≡ length xs
+unfolding hidden targets shape-the_row-Target-0
+count-targets [] = refl
+count-targets (x ∷ xs) = omega (arith, count-targets xs)
 
 statements-nil : (pc : ℕ) → statements_code pc (statements []) ≡ []
 unfolding hidden statements shape-the_row-Stmt-0
@@ -115,6 +130,13 @@ more_steps = more step_code (λ pc xs. steps_code pc (steps xs)) steps-cons
 
 pub no_more_steps : (l goal : List Instruction) (xs : List Step) → xs ≡ [] → l ++ steps_code (length l) (steps xs) ≡ goal → l ≡ goal
 no_more_steps = no_more step_code (λ pc xs. steps_code pc (steps xs)) steps-nil
+
+pub more_targets : (old new goal : List Instruction) (xs rest : List Target) (x : Target) → xs ≡ x ∷ rest → new ≡ old ++ target_code (length old) x →
+    old ++ targets_code (length old) (targets xs) ≡ goal → new ++ targets_code (length new) (targets rest) ≡ goal
+more_targets = more target_code (λ pc xs. targets_code pc (targets xs)) targets-cons
+
+pub no_more_targets : (l goal : List Instruction) (xs : List Target) → xs ≡ [] → l ++ targets_code (length l) (targets xs) ≡ goal → l ≡ goal
+no_more_targets = no_more target_code (λ pc xs. targets_code pc (targets xs)) targets-nil
 
 pub more_statements : (old new goal : List Instruction) (xs rest : List Stmt) (x : Stmt) → xs ≡ x ∷ rest → new ≡ old ++ statement_code (length old) x →
     old ++ statements_code (length old) (statements xs) ≡ goal → new ++ statements_code (length new) (statements rest) ≡ goal

@@ -6,15 +6,17 @@ ghost use Rattle.tm_syntax.specs.Code.{unary_code, binary_code, expr_code, exprs
 ghost use Rattle.tm_syntax.specs.Named.{put as put_named, put_each, by_name};
 ghost use Rattle.tm_syntax.specs.declared.tree.Argument.TheBlock.{hidden-the_row-Expr-1 as exprs, hidden-the_row-Pair-2 as pairs, hidden-the_row-Argument-3 as arguments, hidden-the_row-Step-4 as steps, hidden-the_row-Comparison-6 as comparisons};
 ghost use Rattle.tm_syntax.specs.declared.tree.Stmt.TheBlock.{hidden-the_row-Stmt-0 as statements};
+ghost use Rattle.tm_syntax.specs.declared.tree.Stmt.TheVariants.{If, With};
 ghost use Rattle.tm_syntax.specs.declared.instruction.Instruction.TheVariants.{CallBlock};
 ghost use Rattle.tm_values.specs.declared.error.ErrorKind.TheVariants.{OutOfMemory};
 
 use crate::patches::{end_at, put};
+use crate::targets::{push_assignments, push_set};
 use sqlite_items::{Boxed, Items};
 use std::alloc::Global;
 use tm_syntax::{
-    Argument, BinaryOperator, Comparison, Condition, Expr, Instruction, Name, NameMap, Pair, Step,
-    Stmt, Tree, UnaryOperator,
+    Argument, Assignment, BinaryOperator, Comparison, Condition, Expr, Instruction, Name, NameMap,
+    Pair, Step, Stmt, Tree, UnaryOperator,
 };
 use tm_values::Error;
 
@@ -68,7 +70,11 @@ fn push_binary(code: &mut Items<Instruction>, operator: BinaryOperator) -> Resul
 
 /// Adds the code of an expression; OutOfMemory.
 #[cycle(expressions)]
-fn push_expr(alloc: Global, code: &mut Items<Instruction>, expr: &Expr) -> Result<(), Error>
+pub(crate) fn push_expr(
+    alloc: Global,
+    code: &mut Items<Instruction>,
+    expr: &Expr,
+) -> Result<(), Error>
     ensures ok { OnOk result (code.new ≡ code.old ++ expr_code (length code.old) expr.now) }
     ensures err { IfErr result (λ e. e ≡ OutOfMemory ∷ []) }
 {
@@ -368,25 +374,52 @@ fn push_statement(
             put(code, Instruction::Emit)
         }
         Stmt::If(condition, body, other) => {
-            push_expr(alloc, code, condition.get())?;
-            let test = code.len();
-            put(code, Instruction::JumpIfFalse(0))?;
-            push_statements(alloc, code, blocks, body.as_slice())?;
-            let behind = code.len();
-            let Some(other) = other else {
-                code.set(test, Instruction::JumpIfFalse(behind));
-                return Ok(());
-            };
-            put(code, Instruction::Jump(0))?;
-            let start = code.len();
-            push_statements(alloc, code, blocks, other.as_slice())?;
-            let end = code.len();
-            code.set(test, Instruction::JumpIfFalse(start));
-            code.set(behind, Instruction::Jump(end));
-            Ok(())
+            push_if(alloc, code, blocks, condition.get(), body.as_slice(), other)
         }
         Stmt::Block(name, body) => push_block(alloc, code, blocks, name, body.as_slice()),
+        Stmt::Set(target, value) => push_set(alloc, code, target, value.get()),
+        Stmt::With(given, body) => {
+            push_with(alloc, code, blocks, given.as_slice(), body.as_slice())
+        }
+        Stmt::Do(call) => {
+            push_expr(alloc, code, call.get())?;
+            put(code, Instruction::DiscardTop)
+        }
     }
+}
+
+/// Adds the code of a condition and its bodies, and that of their blocks; OutOfMemory.
+#[cycle(statements)]
+fn push_if(
+    alloc: Global,
+    code: &mut Items<Instruction>,
+    blocks: &mut NameMap<Items<Instruction>>,
+    condition: &Expr,
+    body: &[Stmt],
+    other: &Option<Items<Stmt>>,
+) -> Result<(), Error>
+    ensures code { OnOk result (code.new ≡ code.old
+        ++ statement_code (length code.old) (If condition.now body.now other.now)) }
+    ensures blocks { OnOk result (blocks.new
+        ≡ put_each (compiled_blocks (blocks_of (If condition.now body.now other.now))) blocks.old) }
+    ensures err { IfErr result (λ e. e ≡ OutOfMemory ∷ []) }
+{
+    push_expr(alloc, code, condition)?;
+    let test = code.len();
+    put(code, Instruction::JumpIfFalse(0))?;
+    push_statements(alloc, code, blocks, body)?;
+    let behind = code.len();
+    let Some(other) = other else {
+        code.set(test, Instruction::JumpIfFalse(behind));
+        return Ok(());
+    };
+    put(code, Instruction::Jump(0))?;
+    let start = code.len();
+    push_statements(alloc, code, blocks, other.as_slice())?;
+    let end = code.len();
+    code.set(test, Instruction::JumpIfFalse(start));
+    code.set(behind, Instruction::Jump(end));
+    Ok(())
 }
 
 /// Adds the call of a block, and the block's own code behind that of the blocks in it; OutOfMemory.
@@ -408,6 +441,27 @@ fn push_block(
     push_statements(alloc, &mut inner, blocks, body)?;
     blocks.insert(name.share()?, inner)?;
     put(code, Instruction::CallBlock(name.share()?))
+}
+
+/// Adds the code of a scope, its values and its body, and that of its blocks; OutOfMemory.
+#[cycle(statements)]
+fn push_with(
+    alloc: Global,
+    code: &mut Items<Instruction>,
+    blocks: &mut NameMap<Items<Instruction>>,
+    given: &[Assignment],
+    body: &[Stmt],
+) -> Result<(), Error>
+    ensures code { OnOk result
+        (code.new ≡ code.old ++ statement_code (length code.old) (With given.now body.now)) }
+    ensures blocks { OnOk result (blocks.new
+        ≡ put_each (compiled_blocks (blocks_of (With given.now body.now))) blocks.old) }
+    ensures err { IfErr result (λ e. e ≡ OutOfMemory ∷ []) }
+{
+    put(code, Instruction::PushWith)?;
+    push_assignments(alloc, code, given)?;
+    push_statements(alloc, code, blocks, body)?;
+    put(code, Instruction::PopFrame)
 }
 
 /// Adds the code of statements, and that of their blocks; OutOfMemory.

@@ -3,5 +3,6 @@
 
 mod generator;
 mod patches;
+mod targets;
 
 pub use generator::{Streams, generate};

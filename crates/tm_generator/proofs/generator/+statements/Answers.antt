@@ -5,25 +5,22 @@ use Rattle.tm_generator.proofs.Generated.{next}
 use Rattle.tm_generator.proofs.Statements.{made_if, made_else, else_blocks, block_blocks, more_blocks, no_more_blocks}
 use Rattle.tm_generator.proofs.generator.+statements.Goals as goal
 
-pub push_statement-returns-in_default-clause-code : goal.push_statement-returns-in_default-clause-code
-push_statement-returns-in_default-clause-code t c =
-    rw (c.in-If.is, c.in_default.is) (made_if c.args.code.now c.push_expr-in-If.new.code c.put-in-If.new.code c.push_statements.new.code c.set.new.self _ _ _ c.in-If.condition c.in-If.body
-    (rw (← c.get-in-If.ensures) c.in_ok-push_expr-in-If.ensures.ok) c.len-test.ensures c.in_ok-put-in-If.ensures.ok
-    (rw (← c.as_slice.ensures) c.in_ok-push_statements-in-If.ensures.code) c.len-behind.ensures c.set.ensures)
+pub push_if-returns-in_default-clause-code : goal.push_if-returns-in_default-clause-code
+push_if-returns-in_default-clause-code t c =
+    rw c.in_default.is (made_if c.args.code.now c.push_expr.new.code c.put.new.code c.push_statements.new.code c.set.new.self _ _ _ c.args.condition.now c.args.body.now
+    c.in_ok-push_expr.ensures.ok c.len-test.ensures c.in_ok-put.ensures.ok c.in_ok-push_statements.ensures.code c.len-behind.ensures c.set.ensures)
 
-pub push_statement-returns-in_ok-push_statements-in-If-2-clause-code : goal.push_statement-returns-in_ok-push_statements-in-If-2-clause-code
-push_statement-returns-in_ok-push_statements-in-If-2-clause-code t c =
-    rw (c.in-If.is, c.in-Some.is) (made_else c.args.code.now c.push_expr-in-If.new.code c.put-in-If.new.code c.push_statements.new.code c.put-in-If-2.new.code c.push_statements-in-If.new.code c.set-in-If.new.self c.set-in-If-2.new.self _ _ _ _ _ _
-    c.in-If.condition c.in-If.body c.in-Some.other
-    (rw (← c.get-in-If.ensures) c.in_ok-push_expr-in-If.ensures.ok) c.len-test.ensures c.in_ok-put-in-If.ensures.ok
-    (rw (← c.as_slice.ensures) c.in_ok-push_statements-in-If.ensures.code) c.len-behind.ensures c.in_ok-put-in-If-2.ensures.ok c.len-start.ensures
-    (rw (← c.as_slice-in-If.ensures) c.in_ok-push_statements-in-If-2.ensures.code) c.len-end.ensures
-    c.set-in-If.ensures c.set-in-If-2.ensures)
+pub push_if-returns-clause-code : goal.push_if-returns-clause-code
+push_if-returns-clause-code t c =
+    rw c.in-Some.is (made_else c.args.code.now c.push_expr.new.code c.put.new.code c.push_statements.new.code c.put-2.new.code c.push_statements-2.new.code c.set-2.new.self c.set-3.new.self _ _ _ _ _ _
+    c.args.condition.now c.args.body.now c.in-Some.other
+    c.in_ok-push_expr.ensures.ok c.len-test.ensures c.in_ok-put.ensures.ok c.in_ok-push_statements.ensures.code c.len-behind.ensures c.in_ok-put-2.ensures.ok c.len-start.ensures
+    (rw (← c.as_slice.ensures) c.in_ok-push_statements-2.ensures.code) c.len-end.ensures c.set-2.ensures c.set-3.ensures)
 
-pub push_statement-returns-in_ok-push_statements-in-If-2-clause-blocks : goal.push_statement-returns-in_ok-push_statements-in-If-2-clause-blocks
-push_statement-returns-in_ok-push_statements-in-If-2-clause-blocks t c =
-    rw (c.in-If.is, c.in-Some.is) (else_blocks c.in-If.condition c.in-If.body c.in-Some.other c.args.blocks.now c.push_statements.new.blocks c.push_statements-in-If.new.blocks
-    (rw (← c.as_slice.ensures) c.in_ok-push_statements-in-If.ensures.blocks) (rw (← c.as_slice-in-If.ensures) c.in_ok-push_statements-in-If-2.ensures.blocks))
+pub push_if-returns-clause-blocks : goal.push_if-returns-clause-blocks
+push_if-returns-clause-blocks t c =
+    rw c.in-Some.is (else_blocks c.args.condition.now c.args.body.now c.in-Some.other c.args.blocks.now c.push_statements.new.blocks c.push_statements-2.new.blocks
+    c.in_ok-push_statements.ensures.blocks (rw (← c.as_slice.ensures) c.in_ok-push_statements-2.ensures.blocks))
 
 pub push_statement-returns-in-Block-clause-blocks : goal.push_statement-returns-in-Block-clause-blocks
 push_statement-returns-in-Block-clause-blocks t c =

@@ -1,11 +1,29 @@
-use Rattle.std.proofs.Common.{◌≡◌, ◌++◌, length, drop}
+use Rattle.std.proofs.Common.{◌≡◌, ◌+◌, ◌*◌, ◌++◌, length, drop}
 use Rattle.tm_syntax.specs.Blocks.{blocks_in, compiled_blocks}
 use Rattle.tm_syntax.specs.Code.{statements_code}
 use Rattle.tm_syntax.specs.Named.{put_each}
 use Rattle.tm_syntax.specs.declared.tree.Stmt.TheBlock.{hidden-the_row-Stmt-0 as statements}
+use Rattle.tm_syntax.specs.declared.tree.Stmt.TheVariants.{If}
+use Rattle.tm_syntax.proofs.tree.Stmt.TheLaws.{the_size}
 use Rattle.tm_generator.proofs.generator.+statements.Given as goal
 
 abbrev pub invariant-push_statements-loop-statement : goal.invariant-push_statements-loop-statement
 invariant-push_statements-loop-statement l =
     (l.code ++ statements_code (length l.code) (statements (drop l.statement-index l.body)) ≡ l.fn.code ++ statements_code (length l.fn.code) (statements l.body))
     × (put_each (compiled_blocks (blocks_in (statements (drop l.statement-index l.body)))) l.blocks ≡ put_each (compiled_blocks (blocks_in (statements l.body))) l.fn.blocks)
+
+-- a list of statements is as deep as the deepest of them
+abbrev pub decreases-push_statements : goal.decreases-push_statements
+decreases-push_statements l = 3 * goal.size-push_statements l + 2
+
+abbrev pub decreases-push_statement : goal.decreases-push_statement
+decreases-push_statement l = 3 * goal.size-push_statement l + 1
+
+abbrev pub decreases-push_if : goal.decreases-push_if
+decreases-push_if l = 3 * the_size (If l.condition.now l.body.now l.other.now)
+
+abbrev pub decreases-push_block : goal.decreases-push_block
+decreases-push_block l = 3 * goal.size-push_block l + 3
+
+abbrev pub decreases-push_with : goal.decreases-push_with
+decreases-push_with l = 3 * goal.size-push_with l + 3
