@@ -1,12 +1,12 @@
 -- What each instruction does once it is paid for.
-use Rattle.std.specs.Prelude.{ℕ, ◌+◌, List, [], ◌∷◌, Bool, ◌&&◌}
-use Rattle.tm_values.specs.Val.{Val}
+use Rattle.std.specs.Prelude.{ℕ, ◌+◌, List, [], ◌∷◌, ◌++◌, length, nat_lt, Bool, false, ◌&&◌}
+use Rattle.tm_values.specs.Val.{Val, undefined}
 use Rattle.tm_syntax.specs.declared.tree.UnaryOperator.{UnaryOperator}
 use Rattle.tm_syntax.specs.declared.tree.BinaryOperator.{BinaryOperator}
-use Rattle.tm_meaning.specs.World.{choose, World, Host, Res, Good, looked_up, emitted}
+use Rattle.tm_meaning.specs.World.{choose, World, Host, Res, Good, looked_up, emitted, store, items_of, set_member, push, pop, plain}
 use Rattle.tm_meaning.specs.Calls.{enter_block, call_named}
 use Rattle.tm_meaning.specs.Meaning.{none_waits, truth, applied_unary, operated, attribute, item_at, slice_of, list_of_values, map_of_pairs}
-use Rattle.tm_meaning.specs.Machine.{Config, Base, Next, More, after, on_top, take_n, on, goes, jumps, with_world, audible, writes, asked, asked_in_place}
+use Rattle.tm_meaning.specs.Machine.{Config, Base, Next, More, after, on_top, take_n, on, goes, jumps, stuck, with_world, audible, writes, asked, asked_in_place}
 
 -- ---------------------------------------------------------------- output
 abbrev pub emit_raw_of : Base → List ℕ → Config → Next
@@ -88,6 +88,27 @@ jump_if_false_or_pop_of host n c = on_truth host c (λ b v vs w. choose b (λ _.
 
 abbrev pub jump_if_true_or_pop_of : Host → ℕ → Config → Next
 jump_if_true_or_pop_of host n c = on_truth host c (λ b v vs w. choose b (λ _. jumps n (v ∷ vs) w c) (λ _. goes vs w c))
+
+-- ---------------------------------------------------------------- scopes and targets
+abbrev pub store_local_of : List ℕ → Config → Next
+store_local_of x c = on_top c.run.operands c.world (λ v vs. goes vs (store x v c.world) c)
+
+-- the first item on top
+abbrev pub unpack_list_of : ℕ → Config → Next
+unpack_list_of n c = on_top c.run.operands c.world (λ v vs. after (items_of n v c.world) (λ xs w. goes (xs ++ vs) w c))
+
+-- a namespace on top of a value
+abbrev pub set_attr_of : List ℕ → Config → Next
+set_attr_of x c =
+    on_top c.run.operands c.world (λ o vs. on_top vs c.world (λ v rest. after (set_member x v o c.world) (λ _ w. goes rest w c)))
+
+abbrev pub push_with_of : Host → Config → Next
+push_with_of host c = after (push host (plain (undefined false)) c.world) (λ _ w. goes c.run.operands w c)
+
+-- A scope that stood before the run isn't left.
+abbrev pub pop_frame_of : Base → Config → Next
+pop_frame_of f c =
+    choose (nat_lt f.scopes (length c.world.scopes.frames)) (λ _. goes c.run.operands (pop c.world) c) (λ _. stuck c.world)
 
 -- ---------------------------------------------------------------- calls
 abbrev pub call_function_of : Host → List ℕ → ℕ → Config → Next

@@ -7,11 +7,13 @@ use Rattle.tm_syntax.specs.declared.tree.UnaryOperator.TheVariants as unaries
 use Rattle.tm_syntax.specs.declared.tree.BinaryOperator.TheVariants as binaries
 use Rattle.tm_meaning.specs.World.{choose, World, Host, Res, pays}
 use Rattle.tm_meaning.specs.Machine.{Config, Return, Base, End, Finished, Back, back_to, Next, More, Over, Nest, Program, after, stuck, with_world}
-use Rattle.tm_meaning.specs.Instructions.{emit_raw_of, emit_of, lookup_of, load_const_of, get_attr_of, unary_of, binary_of, compare_and_preserve_of, swap_of, discard_top_of, get_item_of, slice_instruction_of, build_list_of, build_map_of, jump_of, jump_if_false_of, jump_if_false_or_pop_of, jump_if_true_or_pop_of, call_function_of, call_block_of}
+use Rattle.tm_meaning.specs.Instructions.{emit_raw_of, emit_of, lookup_of, load_const_of, get_attr_of, unary_of, binary_of, compare_and_preserve_of, swap_of, discard_top_of, get_item_of, slice_instruction_of, build_list_of, build_map_of, jump_of, jump_if_false_of, jump_if_false_or_pop_of, jump_if_true_or_pop_of, call_function_of, call_block_of, store_local_of, unpack_list_of, set_attr_of, push_with_of, pop_frame_of}
 
 -- what an instruction is charged: 0 where it is free
 abbrev pub charge_of : Instruction → ℕ
 charge_of i.DiscardTop = 0
+charge_of i.PushWith = 0
+charge_of i.PopFrame = 0
 charge_of _ = 1
 
 -- an instruction is paid for before its effect
@@ -55,6 +57,11 @@ effect host f (i.JumpIfFalseOrPop n) c = jump_if_false_or_pop_of host n c
 effect host f (i.JumpIfTrueOrPop n) c = jump_if_true_or_pop_of host n c
 effect host f (i.CallFunction x n) c = call_function_of host x n c
 effect host f (i.CallBlock b) c = call_block_of host f b c
+effect host f (i.StoreLocal x) c = store_local_of x c
+effect host f (i.UnpackList n) c = unpack_list_of n c
+effect host f (i.SetAttr x) c = set_attr_of x c
+effect host f i.PushWith c = push_with_of host c
+effect host f i.PopFrame c = pop_frame_of f c
 
 abbrev pub is_empty : {A : Type 0} → List A → Bool
 is_empty [] = true

@@ -15,6 +15,8 @@ use Rattle.tm_values.specs.declared.undefined.UndefinedUse.TheVariants.{Emission
 pub use Rattle.tm_meaning.specs.declared.stream.TemplateId.{TemplateId}
 pub use Rattle.tm_meaning.specs.declared.stream.TemplateId.TheVariants.{Own as own, Entry as entry}
 pub use Rattle.tm_meaning.specs.declared.stream.StreamId.{StreamId}
+use Rattle.tm_operations.specs.Iteration.{unpacked}
+use Rattle.tm_operations.specs.Members.{settable}
 use Rattle.tm_operations.specs.Undefined.{refusal_of, unless}
 use Rattle.tm_printing.specs.Emitted.{emission_verdict, emitted_text}
 use Rattle.tm_printing.specs.Refused.{Verdict}
@@ -189,7 +191,7 @@ abbrev pub tick : World → Res (Unit {0})
 tick w = pays 1 w
 
 abbrev pub ticked : {A : Type 0} → World → (World → Res A) → Res A
-ticked w f = bind (tick w) (λ _ w1. f w1)
+ticked w f = bind (tick w) (λ _ world1. f world1)
 
 -- ---------------------------------------------------------------- what is known of a world
 abbrev pub template_at : Host → TemplateId → Template
@@ -293,7 +295,7 @@ abbrev pub lookup : Host → List ℕ → World → Res (Option Val)
 lookup host x w = answered (find_name (view_of host w) x) w
 
 abbrev pub looked_up : Host → List ℕ → World → Res Val
-looked_up host x w = bind (lookup host x w) (λ found w1. Good (or_undefined found) w1)
+looked_up host x w = bind (lookup host x w) (λ found world1. Good (or_undefined found) world1)
 
 -- ---------------------------------------------------------------- scopes
 abbrev pub depth : Scopes → ℕ
@@ -317,6 +319,29 @@ without_first (x ∷ xs) = xs
 -- The innermost scope is left.
 abbrev pub pop : World → World
 pop w = with_frames (without_first w.scopes.frames) w
+
+abbrev pub stored_in : List ℕ → Val → List Scope → List Scope
+stored_in x v [] = []
+stored_in x v (s ∷ ss) = record s { locals = put x v s.locals } ∷ ss
+
+-- The innermost scope has the name from here on.
+abbrev pub store : List ℕ → Val → World → World
+store x v w = with_frames (stored_in x v w.scopes.frames) w
+
+-- ---------------------------------------------------------------- namespaces
+abbrev pub with_member : ℕ → List ℕ → Val → List (List (Val × Val)) → List (List (Val × Val))
+with_member n x v [] = []
+with_member zero x v (ps ∷ more) = maps.put (text x false) v ps ∷ more
+with_member (suc n) x v (ps ∷ more) = ps ∷ with_member n x v more
+
+-- A namespace of this state has the attribute from here on.
+abbrev pub set_member : List ℕ → Val → Val → World → Res (Unit {0})
+set_member x v o w =
+    bind (answered (settable (records_of w) o) w) (λ n world1. Good tt (record world1 { namespaces = with_member n x v world1.namespaces }))
+
+-- so many items of a value
+abbrev pub items_of : ℕ → Val → World → Res (List Val)
+items_of n v w = answered (unpacked (records_of w) n v) w
 
 -- ---------------------------------------------------------------- emission
 -- an answer behind a verdict

@@ -78,4 +78,14 @@ pub enum Instruction {
     CallFunction(Name, usize),
     /// Runs the block of a name.
     CallBlock(Name),
+    /// Pops a value, and gives it to a name of the innermost scope.
+    StoreLocal(Name),
+    /// Replaces a value by its items, the first on top, of which there are so many.
+    UnpackList(usize),
+    /// Pops a namespace and a value below it, and gives the value to its attribute.
+    SetAttr(Name),
+    /// Opens a scope.
+    PushWith,
+    /// Leaves the innermost scope.
+    PopFrame,
 }
