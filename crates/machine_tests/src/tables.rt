@@ -36,6 +36,7 @@ fn kept(
     let view = View::new(
         0,
         &context,
+        &[],
         &globals,
         &temps,
         "page",

@@ -4,7 +4,7 @@ ghost use Rattle.tm_syntax.specs.Named.{find};
 ghost use Rattle.tm_values.specs.Answer.{IsLent, OkOrOutOfMemory};
 ghost use Rattle.tm_meaning.specs.World.{find_name, fuel_levels, name_of, view_of};
 ghost use Rattle.tm_tables.specs.Found.{IsFound};
-ghost use Rattle.tm_tables.specs.Scopes.{texts_of};
+ghost use Rattle.tm_syntax.specs.Named.{texts_of};
 ghost use Rattle.tm_state.specs.State.{exported};
 ghost use Rattle.template_machine.specs.Environment.{host_of};
 

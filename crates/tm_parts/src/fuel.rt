@@ -31,7 +31,7 @@ fn charge(instruction: &Instruction) -> u64
     ensures { result ≡ charge_of instruction.now }
 {
     match instruction {
-        Instruction::DiscardTop => 0,
+        Instruction::DiscardTop | Instruction::PushWith | Instruction::PopFrame => 0,
         _ => 1,
     }
 }

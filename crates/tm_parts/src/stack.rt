@@ -1,5 +1,5 @@
 //! The operand stack.
-ghost use Rattle.std.specs.Prelude.{◌≡◌, [], ◌∷◌, List, Some, None, drop, length, ◌↔◌, IsTrue, OnOk, OnErr, IfErr, MatchOption, MatchResult};
+ghost use Rattle.std.specs.Prelude.{◌++◌, ◌≡◌, [], ◌∷◌, List, Some, None, drop, length, ◌↔◌, IsTrue, OnOk, OnErr, IfErr, MatchOption, MatchResult};
 ghost use Rattle.tm_values.specs.Val.{Val};
 ghost use Rattle.tm_meaning.specs.Machine.{taken};
 
@@ -57,6 +57,19 @@ impl Stack {
         ensures err { OnErr result (self.new ≡ self.old) }
     {
         self.values.push(value)?;
+        Ok(())
+    }
+
+    /// Puts values on top, the first of them topmost. Fails by OutOfMemory alone.
+    pub fn push_each(&mut self, values: &[Value]) -> Result<(), Error>
+        ensures ok { OnOk result (self.new ≡ values.now ++ self.old) }
+        ensures kind { IfErr result (λ e. e ≡ ErrorKind.OutOfMemory ∷ []) }
+    {
+        let mut left = values.len();
+        while left > 0 {
+            left -= 1;
+            self.push(values[left].share()?)?;
+        }
         Ok(())
     }
 

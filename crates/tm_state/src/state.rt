@@ -2,13 +2,13 @@
 ghost use Rattle.std.specs.Prelude.{◌≡◌, ◌+◌, ◌≤◌, ◌<◌, List, [], ◌∷◌, Some, None, false, true, length, nat_lt, OnOk, OnErr, IfErr, IfOk, IfSome, MatchOption, MatchResult};
 ghost use Rattle.tm_values.specs.Answer.{OkOrOutOfMemory, IsLent};
 ghost use Rattle.tm_values.specs.Chain.{ends_in_memory};
-ghost use Rattle.tm_syntax.specs.Named.{find, put_each};
-ghost use Rattle.tm_meaning.specs.World.{depth, emitted, records_of, fuel_levels, find_name, view_of, name_of, Good, Bad, block_of};
+ghost use Rattle.tm_syntax.specs.Named.{find, put_each, texts_of};
+ghost use Rattle.tm_meaning.specs.World.{depth, pop, store, set_member, with_member, emitted, records_of, fuel_levels, find_name, view_of, name_of, Good, Bad, block_of};
 ghost use Rattle.tm_meaning.specs.Calls.{enter_block, call_named, refused};
 ghost use Rattle.tm_meaning.specs.Steps.{charge_of, pay};
 ghost use Rattle.tm_printing.specs.Emitted.{emitted_text};
 ghost use Rattle.tm_tables.specs.Found.{IsFound};
-ghost use Rattle.tm_tables.specs.Scopes.{PushFails, texts_of};
+ghost use Rattle.tm_tables.specs.Scopes.{PushFails};
 ghost use Rattle.tm_state.specs.Answers.{Keeps, CanBeEmitted, Calls};
 ghost use Rattle.tm_state.specs.State.{exported, started, put_back, saved_of, runs_block, IsThere, scoped};
 
@@ -18,7 +18,7 @@ use std::alloc::Global;
 use std::marker::Model;
 use std::mem;
 use tm_meaning::{StreamId, TemplateId};
-use tm_operations::check_defined;
+use tm_operations::{check_defined, check_settable};
 use tm_parts::FuelTracker;
 use tm_printing::check_emission;
 use tm_syntax::{Instruction, Name, NameMap};
@@ -32,6 +32,7 @@ use tm_values::{
 pub struct StateData<'env> {
     id: u64,
     context: Context,
+    namespaces: Vec<ValueMap>,
     temps: NameMap<Value>,
     blocks: &'env NameMap<Items<Instruction>>,
     block: Option<Name>,
@@ -55,7 +56,7 @@ impl<'env> Model for StateData<'env> {
     ghost view = { λ s. record {
       id = s.id;
       scopes = s.context;
-      namespaces = [];
+      namespaces = s.namespaces.items;
       loops = [];
       closures = [];
       streams = [];
@@ -83,13 +84,14 @@ impl<'env> StateData<'env> {
         ensures { OkOrOutOfMemory result
             (λ s. s ≡ started id blocks.entry.now escape fuel context) }
     {
-        let context = match Context::new_with_frame(alloc, Frame::new(context)) {
+        let context = match Context::new_with_frame(alloc, Frame::new(alloc, context)) {
             Ok(context) => context,
             Err(error) => return Err(error),
         };
         Ok(StateData {
             id,
             context,
+            namespaces: Vec::new(alloc),
             temps: NameMap::new(alloc),
             blocks,
             block: None,
@@ -132,6 +134,7 @@ impl<'env> StateData<'env> {
         View::new(
             self.id,
             &self.context,
+            &self.namespaces,
             host.globals(),
             &self.temps,
             host.template_name(&self.stream.template),
@@ -241,6 +244,7 @@ impl<'env> StateData<'env> {
     /// Enters the block of a name, in a scope of its own, and gives its stream and what is put back behind it. UnknownBlock where there is none, InvalidOperation where it is required and nothing fills it, or where its scope would lie deeper than the limit; OutOfMemory where there is no memory. Then the state stays as it was.
     pub fn enter_block<H: Host>(
         &mut self,
+        alloc: Global,
         host: &H,
         name: &Name,
     ) -> Result<(StreamId, Saved), Error>
@@ -265,7 +269,7 @@ impl<'env> StateData<'env> {
         }
         let running = StreamId::block(TemplateId::Own, name.share()?);
         let block = name.share()?;
-        if let Err(error) = self.push_scope(host.recursion_limit()) {
+        if let Err(error) = self.push_scope(alloc, host.recursion_limit()) {
             return Err(error);
         }
         let saved = self.run_block(running, block);
@@ -280,14 +284,52 @@ impl<'env> StateData<'env> {
     }
 
     /// One scope more, over no context. InvalidOperation where it would lie deeper than the limit, OutOfMemory where there is no memory; then the state stays as it was.
-    fn push_scope(&mut self, limit: usize) -> Result<(), Error>
+    pub fn push_scope(&mut self, alloc: Global, limit: usize) -> Result<(), Error>
         ensures ok { OnOk result (self.new ≡ scoped self.old) }
         ensures fits { OnOk result (nat_lt (depth self.old.scopes) limit ≡ true) }
         ensures kind { IfErr result (PushFails (nat_lt (depth self.old.scopes) limit)) }
         ensures err { OnErr result (self.new ≡ self.old) }
     {
         self.context
-            .push_frame(Frame::new(Value::undefined()), limit)
+            .push_frame(Frame::new(alloc, Value::undefined()), limit)
+    }
+
+    /// Leaves the innermost scope.
+    pub fn pop_scope(&mut self)
+        ensures { self.new ≡ pop self.old }
+    {
+        self.context.pop_frame();
+    }
+
+    /// Lets the innermost scope have a name from here on. Fails by OutOfMemory alone, and then the state stays as it was.
+    pub fn store(&mut self, name: &Name, value: Value) -> Result<(), Error>
+        ensures ok { OnOk result (self.new ≡ store name.now value self.old) }
+        ensures kind { IfErr result (λ e. e ≡ ErrorKind.OutOfMemory ∷ []) }
+        ensures err { OnErr result (self.new ≡ self.old) }
+    {
+        self.context.store(name.share()?, value)
+    }
+
+    /// Gives a value to an attribute of a namespace. InvalidOperation for what is no namespace of this state; OutOfMemory. Then the state stays as it was.
+    pub fn set_member(
+        &mut self,
+        alloc: Global,
+        object: &Value,
+        name: &Name,
+        value: Value,
+    ) -> Result<(), Error>
+        ensures ok { OnOk result
+            (set_member name.now value object.now self.old ≡ Good tt self.new) }
+        ensures err { IfErr result (λ e. ends_in_memory e ≡ false →
+            set_member name.now value object.now self.old ≡ Bad e self.old) }
+        ensures unchanged { OnErr result (self.new ≡ self.old) }
+        ensures rest { self.new ≡ record self.old { namespaces = self.new.namespaces } }
+    {
+        let index = match check_settable(alloc, object, self) {
+            Ok(index) => index,
+            Err(error) => return Err(error),
+        };
+        set_in(alloc, &mut self.namespaces, index, name, value)
     }
 
     /// Lets a block run, and gives what that replaces.
@@ -313,12 +355,33 @@ impl<'env> StateData<'env> {
             escape,
             outer,
         } = saved;
-        self.context.pop_frame();
+        self.pop_scope();
         self.context.set_outer(outer);
         self.stream = stream;
         self.block = block;
         self.escape = escape;
     }
+}
+
+/// Gives a value to an attribute of the namespace of a number, where there is one. Fails by OutOfMemory alone, and then all stays as it was.
+#[tactic(auto, using(crate::proofs::Members::past, crate::proofs::Members::there))]
+fn set_in(
+    alloc: Global,
+    namespaces: &mut Vec<ValueMap>,
+    index: usize,
+    name: &Name,
+    value: Value,
+) -> Result<(), Error>
+    ensures ok { OnOk result
+        (namespaces.new.items ≡ with_member index name.now value namespaces.old.items) }
+    ensures kind { IfErr result (λ e. e ≡ ErrorKind.OutOfMemory ∷ []) }
+    ensures err { OnErr result (namespaces.new.items ≡ namespaces.old.items) }
+{
+    if index >= namespaces.len() {
+        return Ok(());
+    }
+    let key = Value::text(alloc, name.as_str())?;
+    namespaces[index].insert(key, value)
 }
 
 /// Keeps values by name, one behind the other. Fails by OutOfMemory alone.
@@ -332,7 +395,7 @@ fn keep_each(temps: &mut NameMap<Value>, kept: Vec<(Name, Value)>) -> Result<(),
     Ok(())
 }
 
-/// There are no loops and namespaces yet. Each call reads a field, since a proof knows nothing of a state that isn't read.
+/// There are no loops yet. Each call reads a field, since a proof knows nothing of a state that isn't read.
 impl Records for StateData<'_> {
     ghost use Rattle.tm_meaning.specs.World.{records_of};
 
@@ -343,13 +406,11 @@ impl Records for StateData<'_> {
     }
 
     fn namespace_count(&self) -> usize {
-        let _state = self.id;
-        0
+        self.namespaces.len()
     }
 
-    fn namespace(&self, _index: usize) -> Option<&ValueMap> {
-        let _state = self.id;
-        None
+    fn namespace(&self, index: usize) -> Option<&ValueMap> {
+        self.namespaces.get(index)
     }
 
     fn loop_position(&self, _index: usize) -> Option<LoopPosition> {

@@ -8,7 +8,7 @@ use Rattle.std.specs.declared.cmp.Ordering.{Ordering}
 use Rattle.std.specs.declared.cmp.Ordering.TheVariants.{Less, Equal, Greater}
 use Rattle.std.specs.Ordering.{match_ordering}
 use Rattle.std.specs.BTreeMap.{insert_entry, is_at}
-use Rattle.std.specs.Map.{lookup}
+use Rattle.std.specs.Map.{keys_of, lookup}
 use Rattle.tm_syntax.specs.Named.{name_cmp, find, put, named_of}
 
 map_match_ordering : {A B : Type 0} (f : A → B) (o : Ordering) (x y z : List A) → map f (match_ordering o x y z) ≡ match_ordering o (map f x) (map f y) (map f z)
@@ -29,3 +29,7 @@ find_named (e ∷ es) name = ap (cond (is_at (name_cmp name) (rc_str_bytes e.0))
 pub found_there : {A : Type 0} (r : Option (Bor A)) (o : Option A) → option_copied r ≡ o → MatchOption r (o ≡ None) (λ a. o ≡ Some a.now)
 found_there None o e = sym e
 found_there (Some a) o e = sym e
+
+pub keys_named : {A : Type 0} (es : List (RcStr Global × A)) → map rc_str_bytes (keys_of es) ≡ keys_of (named_of es)
+keys_named [] = refl
+keys_named (e ∷ es) = ap (λ l. rc_str_bytes e.0 ∷ l) (keys_named es)

@@ -1,6 +1,7 @@
 -- Names with what they stand for, in the order of the names.
 use Rattle.std.specs.Prelude.{ℕ, List, [], ◌∷◌, Option, Bool, nat_eq, map}
 use Rattle.std.specs.BTreeMap.{insert_entry, is_at}
+use Rattle.std.specs.Borrow.{Bor}
 use Rattle.std.specs.Cmp.Lexicographic.{pointwise, slice_cmp}
 use Rattle.std.specs.Map.{lookup}
 use Rattle.std.specs.Ordering.{nat_cmp}
@@ -33,6 +34,10 @@ put_each (p ∷ more) ps = put_each more (put p.0 p.1 ps)
 
 abbrev pub by_name : {A : Type 0} → Named A → Named A
 by_name ps = put_each ps []
+
+-- the texts that are lent
+abbrev pub texts_of : List (Bor (List ℕ)) → List (List ℕ)
+texts_of lent = map (λ text. text.now) lent
 
 -- the names as the program holds them
 abbrev pub named_of : {A : Type 0} → List (RcStr Global × A) → Named A

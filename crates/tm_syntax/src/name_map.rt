@@ -1,6 +1,7 @@
 //! Maps by name.
-ghost use Rattle.std.specs.Prelude.{◌≡◌, [], None, Some, MatchOption, OnOk, OnErr, length};
-ghost use Rattle.tm_syntax.specs.Named.{find, put};
+ghost use Rattle.std.specs.Map.{keys_of};
+ghost use Rattle.std.specs.Prelude.{◌≡◌, [], None, Some, IfOk, MatchOption, OnOk, OnErr, length};
+ghost use Rattle.tm_syntax.specs.Named.{find, put, texts_of};
 
 use crate::name::Name;
 use std::alloc::{AllocError, Global};
@@ -40,6 +41,17 @@ impl<T> NameMap<T> {
         ensures { MatchOption result (find name.now self.now ≡ None) (λ x. find name.now self.now ≡ Some x.now) }
     {
         self.by_name.get(name)
+    }
+
+    /// The names, in their order. AllocError for want of memory.
+    pub fn names(&self, alloc: Global) -> Result<Vec<&str>, AllocError>
+        ensures { IfOk result (λ names. texts_of names.items ≡ keys_of self.now) }
+    {
+        let mut names = Vec::new(alloc);
+        for name in self.by_name.keys() {
+            names.push(name.as_str())?;
+        }
+        Ok(names)
     }
 }
 

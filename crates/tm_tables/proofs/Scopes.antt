@@ -1,7 +1,10 @@
 -- What the outermost of scopes exports, which is the first to be entered.
-use Rattle.std.proofs.Common.{◌≡◌, List, [], ◌∷◌, ◌++◌, Some, None, slice_get, is_some, true, false, true≢false, reverse, unwrap_or, refl, sym, ap, ◌∙◌}
+use Rattle.std.proofs.Common.{◌≡◌, ℕ, zero, suc, ◌+◌, ◌<◌, List, [], ◌∷◌, ◌++◌, length, slice_set, get_or, arith, Some, None, slice_get, is_some, true, false, true≢false, reverse, unwrap_or, refl, sym, ap, ◌∙◌}
 use Rattle.std.proofs.lemmas.Grind.{reverse_onto}
-use Rattle.tm_meaning.specs.World.{Scope}
+use Rattle.std.proofs.lemmas.List.{length-reverse}
+use Rattle.tm_values.specs.Val.{Val}
+use Rattle.tm_syntax.specs.Named.{put}
+use Rattle.tm_meaning.specs.World.{Scope, stored_in}
 use Rattle.tm_tables.specs.Scopes.{exported_by, exported_of}
 
 exported-behind : (s : Scope) (ss : List Scope) → exported_of (ss ++ s ∷ []) ≡ exported_by s
@@ -17,3 +20,22 @@ exported-first s (t ∷ ss) h =
 pub exported-none : (ss : List Scope) → None ≡ slice_get ss 0 → exported_of (reverse ss) ≡ []
 exported-none [] h = refl
 exported-none (t ∷ ss) h = absurd (true≢false (ap is_some (sym h)))
+
+-- ---------------------------------------------------------------- the innermost scope is the last to be entered
+stored-before : (x : List ℕ) (v : Val) (ss ts : List Scope) → 0 < length ss → stored_in x v ss ++ ts ≡ stored_in x v (ss ++ ts)
+stored-before x v [] ts h = absurd (omega (arith, h))
+stored-before x v (s ∷ ss) ts h = refl
+
+reverse-long : (ss : List Scope) (n : ℕ) → length ss ≡ suc n → 0 < length (reverse ss)
+reverse-long ss n h = omega (arith, h, length-reverse ss)
+
+pub stored-last : (x : List ℕ) (v : Val) (ss : List Scope) (n : ℕ) (s : Scope) → length ss ≡ suc n → s ≡ get_or ss n s →
+    reverse (slice_set ss n (record s { locals = put x v s.locals })) ≡ stored_in x v (reverse ss)
+stored-last x v [] n s h e = absurd (omega (arith, h))
+stored-last x v (t ∷ []) zero s h e = ap (λ (u : Scope). record u { locals = put x v u.locals } ∷ []) e
+stored-last x v (t ∷ []) (suc n) s h e = absurd (omega (arith, h))
+stored-last x v (t ∷ u ∷ ss) zero s h e = absurd (omega (arith, h))
+stored-last x v (t ∷ u ∷ ss) (suc n) s h e =
+    let more : length (u ∷ ss) ≡ suc n = omega (arith, h) in
+    reverse_onto (slice_set (u ∷ ss) n (record s { locals = put x v s.locals })) t [] ∙ ap (λ l. l ++ t ∷ []) (stored-last x v (u ∷ ss) n s more e)
+    ∙ stored-before x v (reverse (u ∷ ss)) (t ∷ []) (reverse-long (u ∷ ss) n more) ∙ ap (stored_in x v) (sym (reverse_onto (u ∷ ss) t []))

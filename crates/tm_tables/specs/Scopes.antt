@@ -1,7 +1,6 @@
 -- Words on scopes.
-use Rattle.std.specs.Borrow.{Bor}
 use Rattle.std.specs.Map.{keys_of}
-use Rattle.std.specs.Prelude.{◌≡◌, ℕ, List, [], ◌∷◌, map as each, filter, take, codes, Bool, true, false, not}
+use Rattle.std.specs.Prelude.{◌≡◌, ℕ, List, [], ◌∷◌, filter, take, codes, Bool, true, false, not}
 use Rattle.tm_values.specs.declared.error.ErrorKind.{ErrorKind}
 use Rattle.tm_values.specs.declared.error.ErrorKind.TheVariants.{InvalidOperation, OutOfMemory}
 use Rattle.tm_meaning.specs.World.{Scope, Scopes, same_name}
@@ -28,7 +27,3 @@ abbrev pub exported_of : List Scope → List (List ℕ)
 exported_of [] = []
 exported_of (s ∷ []) = exported_by s
 exported_of (s ∷ t ∷ ss) = exported_of (t ∷ ss)
-
--- the texts that are lent
-abbrev pub texts_of : List (Bor (List ℕ)) → List (List ℕ)
-texts_of lent = each (λ text. text.now) lent

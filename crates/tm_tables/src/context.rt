@@ -1,17 +1,31 @@
 //! Scopes.
-ghost use Rattle.std.specs.Prelude.{◌≡◌, ◌<◌, ◌^◌, ◌-◌, [], ◌∷◌, true, false, length, min, nat_lt, OnOk, IfErr, MatchOption};
+ghost use Rattle.std.specs.Prelude.{◌≡◌, ◌<◌, ◌^◌, ◌-◌, [], ◌∷◌, true, false, length, min, nat_lt, OnErr, OnOk, IfErr, MatchOption};
+ghost use Rattle.tm_syntax.specs.Named.{put, texts_of};
 ghost use Rattle.tm_values.specs.Answer.{OkOrOutOfMemory};
-ghost use Rattle.tm_meaning.specs.World.{plain, depth, without_first};
-ghost use Rattle.tm_tables.specs.Found.{IsFoundIn};
-ghost use Rattle.tm_tables.specs.Scopes.{one_scope, PushFails, exported_by, exported_of, texts_of};
+ghost use Rattle.tm_values.specs.declared.error.ErrorKind.TheVariants.{OutOfMemory};
+ghost use Rattle.tm_meaning.specs.World.{plain, depth, context_member, stored_in, without_first};
+ghost use Rattle.tm_tables.specs.Found.{IsFound, IsFoundIn};
+ghost use Rattle.tm_tables.specs.Scopes.{one_scope, PushFails, is_exported, exported_by, exported_of};
 
 use std::alloc::Global;
 use std::marker::Model;
+use tm_syntax::{Name, NameMap};
 use tm_values::{Error, ErrorKind, Node, Records, Value, find_namespace};
 
-/// A scope: the value whose keys are its names. It has no names of its own.
+/// Whether a name is exported: it doesn't begin with `_`.
+fn is_exported(name: &str) -> bool
+    ensures { result ≡ is_exported name.now }
+{
+    match name.as_bytes().first() {
+        Some(b'_') => false,
+        _ => true,
+    }
+}
+
+/// A scope: its own names, and the value whose keys are names too.
 #[derive(Drop)]
 pub struct Frame {
+    locals: NameMap<Value>,
     context: Value,
 }
 
@@ -24,24 +38,41 @@ impl Model for Frame {
 
     ghost coded = { Prim.hlevel (codes, coded_Val) };
 
-    ghost view = { λ f. plain f.context };
+    ghost view = { λ f. record (plain f.context) { locals = f.locals } };
 }
 
 impl Frame {
-    /// A scope over a context value.
-    pub fn new(context: Value) -> Frame
+    /// A scope over a context value, without names of its own.
+    pub fn new(alloc: Global, context: Value) -> Frame
         ensures { result ≡ plain context }
     {
-        Frame { context }
+        Frame {
+            locals: NameMap::new(alloc),
+            context,
+        }
     }
 
-    /// What the context value has at a name. InvalidOperation where it is a namespace whose record isn't there.
+    /// The value of a name: its own, or what the context value has there. InvalidOperation where it isn't its own and the context value is a namespace whose record isn't there.
     pub fn get<'a, R: Records>(
         &'a self,
         name: &str,
         records: &'a R,
     ) -> Result<Option<&'a Value>, Error>
         ensures { IsFoundIn (R.records records.now) name.now (self.now ∷ []) result }
+    {
+        if let Some(own) = self.locals.get(name) {
+            return Ok(Some(own));
+        }
+        self.context_member(name, records)
+    }
+
+    /// What the context value has at a name. InvalidOperation where it is a namespace whose record isn't there.
+    fn context_member<'a, R: Records>(
+        &'a self,
+        name: &str,
+        records: &'a R,
+    ) -> Result<Option<&'a Value>, Error>
+        ensures { IsFound result (context_member (R.records records.now) name.now self.now.context) }
     {
         match &self.context.node {
             Node::Namespace(state, index) => match find_namespace(records, *state, *index) {
@@ -52,12 +83,28 @@ impl Frame {
         }
     }
 
-    /// The names that it exports, in their order. It has no names of its own yet.
-    fn exports(&self, alloc: Global) -> Vec<&str>
-        ensures { texts_of result.items ≡ exported_by self.now }
+    /// Has a name from here on. OutOfMemory, and then it stays as it was.
+    fn store(&mut self, name: Name, value: Value) -> Result<(), Error>
+        ensures ok { OnOk result
+            (self.new ≡ record self.old { locals = put name value self.old.locals }) }
+        ensures kind { IfErr result (λ e. e ≡ OutOfMemory ∷ []) }
+        ensures err { OnErr result (self.new ≡ self.old) }
     {
-        let _context = &self.context;
-        Vec::new(alloc)
+        self.locals.insert(name, value)?;
+        Ok(())
+    }
+
+    /// The names that it exports, in their order: its own that don't begin with `_`. OutOfMemory.
+    fn exports(&self, alloc: Global) -> Result<Vec<&str>, Error>
+        ensures { OkOrOutOfMemory result (λ names. texts_of names.items ≡ exported_by self.now) }
+    {
+        let mut exported = Vec::new(alloc);
+        for name in self.locals.names(alloc)? {
+            if is_exported(name) {
+                exported.push(name)?;
+            }
+        }
+        Ok(exported)
     }
 }
 
@@ -145,7 +192,7 @@ impl Context {
             (λ names. texts_of names.items ≡ exported_of self.now.frames) }
     {
         match self.frames.first() {
-            Some(outermost) => Ok(outermost.exports(alloc)),
+            Some(outermost) => outermost.exports(alloc),
             None => Ok(Vec::new(alloc)),
         }
     }
@@ -162,6 +209,19 @@ impl Context {
         }
         self.frames.push(frame)?;
         Ok(())
+    }
+
+    /// Lets the innermost scope, where there is one, have a name from here on. OutOfMemory, and then the scopes stay as they were.
+    pub fn store(&mut self, name: Name, value: Value) -> Result<(), Error>
+        ensures ok { OnOk result
+            (self.new ≡ record self.old { frames = stored_in name value self.old.frames }) }
+        ensures kind { IfErr result (λ e. e ≡ OutOfMemory ∷ []) }
+        ensures err { OnErr result (self.new ≡ self.old) }
+    {
+        match self.frames.len().checked_sub(1) {
+            Some(innermost) => self.frames[innermost].store(name, value),
+            None => Ok(()),
+        }
     }
 
     /// Leaves the innermost scope, and gives it, where there is one.

@@ -4,7 +4,7 @@ ghost use Rattle.tm_syntax.specs.Named.{find};
 ghost use Rattle.tm_values.specs.Answer.{IsLent};
 ghost use Rattle.tm_meaning.specs.World.{find_name};
 ghost use Rattle.tm_tables.specs.Found.{IsFound};
-ghost use Rattle.tm_tables.specs.Views.{no_records_of};
+ghost use Rattle.tm_tables.specs.Views.{without_loops};
 
 use crate::context::Context;
 use std::marker::Model;
@@ -16,6 +16,7 @@ use tm_values::{AutoEscape, Error, LoopPosition, Records, UndefinedBehavior, Val
 pub struct View<'a> {
     id: u64,
     context: &'a Context,
+    namespaces: &'a [ValueMap],
     globals: &'a NameMap<Value>,
     temps: &'a NameMap<Value>,
     name: &'a str,
@@ -28,7 +29,7 @@ impl<'a> Model for View<'a> {
     ghost use Rattle.std.specs.Coded.{codes};
     ghost use Rattle.tm_meaning.specs.World.{View as Seen};
     ghost use Rattle.tm_values.specs.Code.{coded_Val};
-    ghost use Rattle.tm_tables.specs.Views.{no_records_of};
+    ghost use Rattle.tm_tables.specs.Views.{without_loops};
 
     ghost Value = { Seen };
 
@@ -38,7 +39,7 @@ impl<'a> Model for View<'a> {
       id = v.id;
       frames = v.context.now.frames;
       closures = [];
-      records = no_records_of v.id;
+      records = without_loops v.id v.namespaces.now;
       globals = v.globals.now;
       temps = v.temps.now;
       name = v.name.now;
@@ -48,10 +49,11 @@ impl<'a> Model for View<'a> {
 }
 
 impl<'a> View<'a> {
-    /// A view of a state's id and scopes, the environment's globals, the kept values, the name of the template that runs, and how it is written.
+    /// A view of a state's id, scopes and namespaces, the environment's globals, the kept values, the name of the template that runs, and how it is written.
     pub fn new(
         id: u64,
         context: &'a Context,
+        namespaces: &'a [ValueMap],
         globals: &'a NameMap<Value>,
         temps: &'a NameMap<Value>,
         name: &'a str,
@@ -62,7 +64,7 @@ impl<'a> View<'a> {
           id = id;
           frames = context.entry.now.frames;
           closures = [];
-          records = no_records_of id;
+          records = without_loops id namespaces.entry.now;
           globals = globals.entry.now;
           temps = temps.entry.now;
           name = name.entry.now;
@@ -73,6 +75,7 @@ impl<'a> View<'a> {
         View {
             id,
             context,
+            namespaces,
             globals,
             temps,
             name,
@@ -120,7 +123,7 @@ impl<'a> View<'a> {
     }
 }
 
-/// There are no loops and namespaces yet. Each call reads a field, since a proof knows nothing of a view that isn't read.
+/// There are no loops yet. Each call reads a field, since a proof knows nothing of a view that isn't read.
 impl Records for View<'_> {
     ghost records = { λ v. v.records };
 
@@ -129,13 +132,11 @@ impl Records for View<'_> {
     }
 
     fn namespace_count(&self) -> usize {
-        let _state = self.id;
-        0
+        self.namespaces.len()
     }
 
-    fn namespace(&self, _index: usize) -> Option<&ValueMap> {
-        let _state = self.id;
-        None
+    fn namespace(&self, index: usize) -> Option<&ValueMap> {
+        self.namespaces.get(index)
     }
 
     fn loop_position(&self, _index: usize) -> Option<LoopPosition> {

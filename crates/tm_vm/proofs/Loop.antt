@@ -15,7 +15,7 @@ use Rattle.tm_parts.specs.declared.halt.Halt.TheVariants as halt
 use Rattle.tm_vm.specs.declared.flow.Entry.{Entry}
 use Rattle.tm_vm.specs.declared.flow.Flow.{Flow}
 use Rattle.tm_vm.specs.declared.flow.Flow.TheVariants as flow
-use Rattle.tm_vm.specs.Answers.{Did, Depths, HaltsAs, Comes, Paid, weight, output}
+use Rattle.tm_vm.specs.Answers.{Did, Depths, HaltsAs, Comes, SameScopes, Stays, Paid, weight, output}
 use Rattle.tm_state.specs.Answers.{Keeps}
 use Rattle.tm_vm.specs.Nested.{Went, EndsIn, Begins, behind, start_in, base_in}
 use Rattle.tm_state.specs.State.{saved_of, put_back}
@@ -187,9 +187,6 @@ short : {A : Type 0} (xs : List A) (n : ℕ) → length xs ≡ n + 1 → length 
 short [] n e = absurd (omega (arith, e))
 short (x ∷ xs) n e = omega (arith, e)
 
-put_back_depth : (w : World) (saved : Saved) (n outer : ℕ) → length w.scopes.frames ≡ n + 1 → saved.outer ≡ outer → depth (put_back saved w).scopes ≡ n + outer
-put_back_depth w saved n outer e same = ap (λ k. k + saved.outer) (short w.scopes.frames n e) ∙ ap (λ o. n + o) same
-
 abbrev world_in : Next → World
 world_in (More t c) = c.world
 world_in (Over (Finished ks w)) = w
@@ -202,12 +199,22 @@ back_world false r ks w d e = sym (ap world_in e)
 back_world true r [] w d e = absurd cc
 back_world true r (k ∷ ks) w d e = sym (ap world_in e)
 
--- behind a nested run the scopes lie as deep as before it
-pub depth_behind : {p : Program} {e : Entry} {mid d : Config} {told now : Option (List ℕ)} (limit : ℕ) (f : Base) (old : World) → Depths limit f (Ok (flow.Enter e)) old mid.world
-    → Went p e mid d told now → depth d.world.scopes ≡ depth old.scopes
-depth_behind {e = e} {mid = mid} {d = d} limit f old deep went =
-    ap (λ (w : World). depth w.scopes) (back_world e.value mid.run went.captures (put_back e.saved went.world) d went.goes)
-    ∙ put_back_depth went.world e.saved (length old.scopes.frames) old.scopes.outer (went.closed ∙ deep.0) deep.2
+-- behind a nested run there are as many scopes as before it, and they stand where they stood
+pub scopes_behind : {p : Program} {e : Entry} {mid d : Config} {told now : Option (List ℕ)} (limit : ℕ) (f : Base) (old : World) → Depths limit f (Ok (flow.Enter e)) old mid.world
+    → Went p e mid d told now → SameScopes old d.world
+scopes_behind {e = e} {mid = mid} {d = d} limit f old deep went =
+    let back = back_world e.value mid.run went.captures (put_back e.saved went.world) d went.goes in (
+      ap (λ (w : World). length w.scopes.frames) back ∙ short went.world.scopes.frames (length old.scopes.frames) (went.closed ∙ deep.0),
+      ap (λ (w : World). w.scopes.outer) back ∙ deep.2,
+    )
+
+-- behind a step of a run whose base stood over so many scopes
+pub above_base : (heard : Bool) (ks : List Capture) (first : World) (f : Base) (old new : World) → f ≡ base_of heard ks first → length first.scopes.frames ≤ length old.scopes.frames
+    → Stays f old new → length first.scopes.frames ≤ length new.scopes.frames
+above_base heard ks first f old new e above stays =
+    let base : f.scopes ≡ length first.scopes.frames = ap (λ (b : Base). b.scopes) e in
+    let then : f.scopes ≤ length new.scopes.frames = stays.0 (omega (arith, base, above)) in
+    omega (arith, base, then)
 
 -- ---------------------------------------------------------------- behind a nested run
 -- a run that was done, and what follows for the one that waited over the same captures and world

@@ -1,11 +1,11 @@
 -- Less is left of a run behind each step.
-use Rattle.std.proofs.Common.{◌≡◌, ℕ, zero, suc, ◌+◌, ◌-◌, ◌*◌, ◌<◌, ◌≤◌, List, [], ◌∷◌, length, Option, Some, Result, Ok, Err, refl, sym, ap, ◌∙◌, subst, arith}
+use Rattle.std.proofs.Common.{◌≡◌, ℕ, zero, suc, ◌+◌, ◌-◌, ◌*◌, ◌<◌, ◌≤◌, List, [], ◌∷◌, length, Option, Some, Result, Ok, Err, Bool, true, false, nat_lt, refl, sym, ap, ◌∙◌, subst, arith}
 use Rattle.std.proofs.Math.Nat.{mul-le-mul_right, suc-mul}
-use Rattle.tm_values.specs.Val.{Val}
+use Rattle.tm_values.specs.Val.{Val, undefined}
 use Rattle.tm_syntax.specs.declared.instruction.Instruction.{Instruction}
 use Rattle.tm_syntax.specs.declared.instruction.Instruction.TheVariants as i
-use Rattle.tm_meaning.specs.World.{World, Host}
-use Rattle.tm_meaning.specs.Machine.{Activation, Config, Next, More, Nest, Back, on_top, on, goes, with_world}
+use Rattle.tm_meaning.specs.World.{choose, World, Host, Res, Good, Bad, push, pop, plain}
+use Rattle.tm_meaning.specs.Machine.{Activation, Config, Next, More, Nest, Back, after, on_top, on, goes, stuck, with_world}
 use Rattle.tm_meaning.specs.Steps.{charge_of, effect}
 use Rattle.tm_meaning.specs.declared.base.Base.{Base}
 use Rattle.tm_parts.specs.declared.halt.Halt.{Halt}
@@ -35,12 +35,32 @@ enters_nothing : (vs : List Val) (c d : Config) (g : Base) (back : Back) → on_
 enters_nothing [] c d g back e = absurd cc
 enters_nothing (v ∷ vs) c d g back e = absurd cc
 
+pushed : (m : Res (Unit {0})) (c d : Config) (t : List ℕ) → after m (λ _ w. goes c.run.operands w c) ≡ More t d → d.run.place ≡ c.run.place + 1
+pushed (Good a w) c d t e = let there : d ≡ on c.run.operands (with_world w c) = cc in ap (λ (x : Config). x.run.place) there
+pushed (Bad chain w) c d t e = absurd cc
+
+pushed_enters_nothing : (m : Res (Unit {0})) (c d : Config) (g : Base) (back : Back) → after m (λ _ w. goes c.run.operands w c) ≡ Nest g d back → ⊥
+pushed_enters_nothing (Good a w) c d g back e = absurd cc
+pushed_enters_nothing (Bad chain w) c d g back e = absurd cc
+
+popped : (room : Bool) (c d : Config) (t : List ℕ) → choose room (λ _. goes c.run.operands (pop c.world) c) (λ _. stuck c.world) ≡ More t d → d.run.place ≡ c.run.place + 1
+popped true c d t e = let there : d ≡ on c.run.operands (with_world (pop c.world) c) = cc in ap (λ (x : Config). x.run.place) there
+popped false c d t e = absurd cc
+
+popped_enters_nothing : (room : Bool) (c d : Config) (g : Base) (back : Back) → choose room (λ _. goes c.run.operands (pop c.world) c) (λ _. stuck c.world) ≡ Nest g d back → ⊥
+popped_enters_nothing true c d g back e = absurd cc
+popped_enters_nothing false c d g back e = absurd cc
+
 free_goes_on : (host : Host) (f : Base) (x : Instruction) (c d : Config) (t : List ℕ) → charge_of x ≡ 0 → effect host f x c ≡ More t d → d.run.place ≡ c.run.place + 1
 free_goes_on host f i.DiscardTop c d t free e = dropped c.run.operands c d t e
+free_goes_on host f i.PushWith c d t free e = pushed (push host (plain (undefined false)) c.world) c d t e
+free_goes_on host f i.PopFrame c d t free e = popped (nat_lt f.scopes (length c.world.scopes.frames)) c d t e
 free_goes_on host f _ c d t free e = absurd cc
 
 free_enters_nothing : (host : Host) (f : Base) (x : Instruction) (c d : Config) (g : Base) (back : Back) → charge_of x ≡ 0 → effect host f x c ≡ Nest g d back → ⊥
 free_enters_nothing host f i.DiscardTop c d g back free e = enters_nothing c.run.operands c d g back e
+free_enters_nothing host f i.PushWith c d g back free e = pushed_enters_nothing (push host (plain (undefined false)) c.world) c d g back e
+free_enters_nothing host f i.PopFrame c d g back free e = popped_enters_nothing (nat_lt f.scopes (length c.world.scopes.frames)) c d g back e
 free_enters_nothing host f _ c d g back free e = absurd cc
 
 -- ---------------------------------------------------------------- steps

@@ -64,13 +64,21 @@ Did (Ok flow.Done) told now c n = (n ≡ Over (Finished c.captures c.world)) × 
 Did (Ok (flow.Enter e)) told now c n = Enters e c n × (now ≡ told)
 Did (Err why) told now c n = HaltsAs why c.world (λ e. n ≡ Over e) × AppendsBeginning told now (output n)
 
--- How deep the scopes lie behind a step: as before; or one deeper, within the limit, where a run of its own is needed; and a run that is over has closed what it opened.
+-- There are as many scopes, and they stand where they stood.
+abbrev pub SameScopes : World → World → Type 0
+SameScopes old new = (length new.scopes.frames ≡ length old.scopes.frames) × (new.scopes.outer ≡ old.scopes.outer)
+
+-- No scope that stood before the run is left, and they stand where they stood.
+abbrev pub Stays : Base → World → World → Type 0
+Stays f old new = (f.scopes ≤ length old.scopes.frames → f.scopes ≤ length new.scopes.frames) × (new.scopes.outer ≡ old.scopes.outer)
+
+-- How the scopes lie behind a step: none of before is left; there is one more, within the limit, where a run of its own is needed; and a run that is over has closed what it opened.
 abbrev pub Depths : ℕ → Base → Result Flow Halt → World → World → Type 0
-Depths limit f (Ok flow.GoOn) old new = depth new.scopes ≡ depth old.scopes
-Depths limit f (Ok flow.Done) old new = (depth new.scopes ≡ depth old.scopes) × (f.scopes ≡ length new.scopes.frames)
+Depths limit f (Ok flow.GoOn) old new = Stays f old new
+Depths limit f (Ok flow.Done) old new = Stays f old new × (f.scopes ≡ length new.scopes.frames)
 Depths limit f (Ok (flow.Enter e)) old new =
     (length new.scopes.frames ≡ length old.scopes.frames + 1) × (new.scopes.outer ≡ old.scopes.outer) × (e.saved.outer ≡ old.scopes.outer) × (depth new.scopes ≤ limit)
-Depths limit f (Err why) old new = depth new.scopes ≡ depth old.scopes
+Depths limit f (Err why) old new = Stays f old new
 
 -- An instruction, or a step, did what its definition says: by its answer, with the writer that had got `told` and has got `now`, and whose count of faults was `faults` and is `count`.
 pub record Performs (limit : ℕ) (f : Base) (n : Next) (old new : Config) (told now : Option (List ℕ)) (faults count : ℕ) (result : Result Flow Halt) : Type 0 where
@@ -101,7 +109,7 @@ pub record Writes (n : Next) (old new : Config) (told now : Option (List ℕ)) (
   pub did : Wrote result told now new n
   pub counted : count ≡ faults_after result faults
   pub kept : Keeps old.world new.world
-  pub same_depth : depth new.world.scopes ≡ depth old.world.scopes
+  pub same_scopes : SameScopes old.world new.world
   pub same_stream : new.run.stream ≡ old.run.stream
 
 -- And of one that writes nothing.
@@ -116,7 +124,14 @@ Quietly (Err (halt.Fault chain)) c n = ends_in_memory chain ≡ false → n ≡ 
 pub record Silently (n : Next) (old new : Config) (result : Result Flow Halt) : Type 0 where
   pub did : Quietly result new n
   pub kept : Keeps old.world new.world
-  pub same_depth : depth new.world.scopes ≡ depth old.world.scopes
+  pub same_scopes : SameScopes old.world new.world
+  pub same_stream : new.run.stream ≡ old.run.stream
+
+-- And of one that opens a scope, or leaves one that the run opened.
+pub record Shifts (f : Base) (n : Next) (old new : Config) (result : Result Flow Halt) : Type 0 where
+  pub did : Quietly result new n
+  pub kept : Keeps old.world new.world
+  pub stays : Stays f old.world new.world
   pub same_stream : new.run.stream ≡ old.run.stream
 
 -- And of one that may need a run of its own.
@@ -128,11 +143,11 @@ Needed (Err halt.Writer) c n = ⊥
 Needed (Err halt.Stuck) c n = n ≡ Over (Stuck c.world)
 Needed (Err (halt.Fault chain)) c n = ends_in_memory chain ≡ false → n ≡ Over (Failed chain c.world)
 
--- how deep the scopes lie behind an instruction
+-- how the scopes lie behind an instruction
 abbrev pub Deepens : ℕ → Result Flow Halt → World → World → Type 0
 Deepens limit (Ok (flow.Enter e)) old new =
     (length new.scopes.frames ≡ length old.scopes.frames + 1) × (new.scopes.outer ≡ old.scopes.outer) × (e.saved.outer ≡ old.scopes.outer) × (depth new.scopes ≤ limit)
-Deepens limit _ old new = depth new.scopes ≡ depth old.scopes
+Deepens limit _ old new = SameScopes old new
 
 pub record Needs (limit : ℕ) (n : Next) (old new : Config) (result : Result Flow Halt) : Type 0 where
   pub did : Needed result new n

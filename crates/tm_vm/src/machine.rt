@@ -6,12 +6,12 @@ ghost use Rattle.tm_meaning.specs.World.{World, records_of, Res, Good, Bad, dept
 ghost use Rattle.tm_meaning.specs.Calls.{whole};
 ghost use Rattle.tm_meaning.specs.Meaning.{none_waits, truth, attribute};
 ghost use Rattle.tm_meaning.specs.Machine.{Next, audible, writes, base_of, goes, run_from, start, taken, at_place};
-ghost use Rattle.tm_meaning.specs.Instructions.{emit_raw_of, emit_of, lookup_of, load_const_of, replaces_one, get_attr_of, unary_of, binary_of, compare_and_preserve_of, swap_of, discard_top_of, get_item_of, slice_instruction_of, build_list_of, build_map_of, jump_of, jump_if_false_of, jump_if_false_or_pop_of, jump_if_true_or_pop_of, call_function_of, call_block_of};
+ghost use Rattle.tm_meaning.specs.Instructions.{emit_raw_of, emit_of, lookup_of, load_const_of, replaces_one, get_attr_of, unary_of, binary_of, compare_and_preserve_of, swap_of, discard_top_of, get_item_of, slice_instruction_of, build_list_of, build_map_of, jump_of, jump_if_false_of, jump_if_false_or_pop_of, jump_if_true_or_pop_of, call_function_of, call_block_of, store_local_of, unpack_list_of, set_attr_of, push_with_of, pop_frame_of};
 ghost use Rattle.tm_meaning.specs.Steps.{charge_of, pay, effect, finish, step};
 ghost use Rattle.tm_printing.specs.Emitted.{emitted_text};
 ghost use Rattle.tm_operations.specs.Truth.{truth_of};
 ghost use Rattle.tm_parts.specs.Halts.{faults_after};
-ghost use Rattle.tm_vm.specs.Answers.{program, jump_or_pop_of, CanGoOn, Performs, Silently, Writes, Needs, Finishes, Paid, EndsAs, Comes};
+ghost use Rattle.tm_vm.specs.Answers.{program, jump_or_pop_of, CanGoOn, Performs, Silently, Shifts, Writes, Needs, Finishes, Paid, EndsAs, Comes};
 ghost use Rattle.tm_state.specs.Answers.{Keeps};
 ghost use Rattle.tm_state.specs.State.{put_back};
 ghost use Rattle.tm_vm.specs.Nested.{Ran, Begins, IsWrapped, IsCaptured, base_in, start_in};
@@ -21,7 +21,7 @@ use std::alloc::Global;
 use std::marker::Model;
 use std::mem;
 use tm_meaning::{Base, StreamId};
-use tm_operations::{attribute, item, slice, truth};
+use tm_operations::{attribute, item, slice, truth, unpack};
 use tm_parts::{Captures, Halt, Sink, Stack, binary, paired, unary};
 use tm_state::{Saved, StateData};
 use tm_syntax::{BinaryOperator, Instruction, Name, UnaryOperator};
@@ -588,6 +588,87 @@ impl<'env> Machine<'env> {
         self.write_value(base, &value, writer)
     }
 
+    // ------------------------------------------------------------ scopes and targets
+    /// Pops a value, and gives it to a name of the innermost scope.
+    fn do_store_local(&mut self, name: &Name) -> Result<Flow, Halt>
+        requires { CanGoOn self.old.run }
+        ensures { Silently (store_local_of name.now self.old) self.old self.new result }
+    {
+        let Some(value) = self.run.pop() else {
+            return Err(Halt::Stuck);
+        };
+        self.state.store(name, value)?;
+        self.run.advance();
+        Ok(Flow::GoOn)
+    }
+
+    /// Replaces a value by its items, the first on top, of which there are so many.
+    fn do_unpack_list(&mut self, alloc: Global, count: usize) -> Result<Flow, Halt>
+        requires { CanGoOn self.old.run }
+        ensures { Silently (unpack_list_of count self.old) self.old self.new result }
+    {
+        let Some(value) = self.run.pop() else {
+            return Err(Halt::Stuck);
+        };
+        match unpack(alloc, &value, count, &self.state) {
+            Ok(items) => {
+                self.run.operands.push_each(&items)?;
+                self.run.advance();
+                Ok(Flow::GoOn)
+            }
+            Err(error) => Err(Halt::Fault(error)),
+        }
+    }
+
+    /// Pops a namespace and a value below it, and gives the value to its attribute.
+    fn do_set_attr(&mut self, alloc: Global, name: &Name) -> Result<Flow, Halt>
+        requires { CanGoOn self.old.run }
+        ensures { Silently (set_attr_of name.now self.old) self.old self.new result }
+    {
+        let Some(object) = self.run.pop() else {
+            return Err(Halt::Stuck);
+        };
+        let Some(value) = self.run.pop() else {
+            return Err(Halt::Stuck);
+        };
+        match self.state.set_member(alloc, &object, name, value) {
+            Ok(()) => {
+                self.run.advance();
+                Ok(Flow::GoOn)
+            }
+            Err(error) => Err(Halt::Fault(error)),
+        }
+    }
+
+    /// Opens a scope; InvalidOperation where it would lie deeper than the limit.
+    fn do_push_with<H: Host>(&mut self, alloc: Global, host: &H, base: &Base) -> Result<Flow, Halt>
+        requires { CanGoOn self.old.run }
+        ensures { Shifts base.now (push_with_of (H.meaning host.now) self.old)
+            self.old self.new result }
+    {
+        let _scopes = base.scopes;
+        match self.state.push_scope(alloc, host.recursion_limit()) {
+            Ok(()) => {
+                self.run.advance();
+                Ok(Flow::GoOn)
+            }
+            Err(error) => Err(Halt::Fault(error)),
+        }
+    }
+
+    /// Leaves the innermost scope; stuck where the run didn't open it.
+    fn do_pop_frame(&mut self, base: &Base) -> Result<Flow, Halt>
+        requires { CanGoOn self.old.run }
+        ensures { Shifts base.now (pop_frame_of base.now self.old) self.old self.new result }
+    {
+        if self.state.height() <= base.scopes {
+            return Err(Halt::Stuck);
+        }
+        self.state.pop_scope();
+        self.run.advance();
+        Ok(Flow::GoOn)
+    }
+
     // ------------------------------------------------------------ calls
     /// Replaces so many values by what the function of a name answers to them.
     fn do_call_function<H: Host>(
@@ -622,7 +703,13 @@ impl<'env> Machine<'env> {
     }
 
     /// Runs the block of a name in place, where it is heard and no parent waits.
-    fn do_call_block<H: Host>(&mut self, host: &H, base: &Base, name: &Name) -> Result<Flow, Halt>
+    fn do_call_block<H: Host>(
+        &mut self,
+        alloc: Global,
+        host: &H,
+        base: &Base,
+        name: &Name,
+    ) -> Result<Flow, Halt>
         requires { CanGoOn self.old.run }
         ensures { Needs (H.meaning host.now).limit (call_block_of (H.meaning host.now) base.now name.now self.old)
             self.old self.new result }
@@ -632,7 +719,7 @@ impl<'env> Machine<'env> {
             self.run.advance();
             return Ok(Flow::GoOn);
         }
-        let (stream, saved) = match self.state.enter_block(host, name) {
+        let (stream, saved) = match self.state.enter_block(alloc, host, name) {
             Ok(entered) => entered,
             Err(error) => return Err(Halt::Fault(error)),
         };
@@ -649,7 +736,7 @@ impl<'env> Machine<'env> {
     // ------------------------------------------------------------ steps
     /// Does an instruction that was paid for.
     #[inline(always)]
-    #[tactic(auto, using(crate::proofs::Performed::silent, crate::proofs::Performed::wrote, crate::proofs::Performed::needed))]
+    #[tactic(auto, using(crate::proofs::Performed::silent, crate::proofs::Performed::shifted, crate::proofs::Performed::wrote, crate::proofs::Performed::needed))]
     fn perform<H: Host, W: Sink>(
         &mut self,
         alloc: Global,
@@ -705,7 +792,12 @@ impl<'env> Machine<'env> {
             Instruction::CallFunction(name, count) => {
                 self.do_call_function(alloc, host, name, *count)
             }
-            Instruction::CallBlock(name) => self.do_call_block(host, base, name),
+            Instruction::CallBlock(name) => self.do_call_block(alloc, host, base, name),
+            Instruction::StoreLocal(name) => self.do_store_local(name),
+            Instruction::UnpackList(count) => self.do_unpack_list(alloc, *count),
+            Instruction::SetAttr(name) => self.do_set_attr(alloc, name),
+            Instruction::PushWith => self.do_push_with(alloc, host, base),
+            Instruction::PopFrame => self.do_pop_frame(base),
         }
     }
 

@@ -1,20 +1,21 @@
-use Rattle.std.proofs.Common.{◌≡◌, Ok, Err, refl, ◌∙◌, arith}
+use Rattle.std.proofs.Common.{◌≡◌, length, Ok, Err, refl, ◌∙◌, arith}
 use Rattle.tm_meaning.specs.Machine.{base_of}
 use Rattle.tm_meaning.specs.World.{depth}
 use Rattle.tm_vm.specs.Answers.{program}
 use Rattle.tm_vm.specs.declared.flow.Flow.TheVariants as flow
-use Rattle.tm_vm.proofs.Loop.{at_base, kept_same, kept_then, stands_first, stands_next, stands_behind, beginning_at, beginning_in, ended_at, ended_in, done_at, whole_at, depth_behind}
+use Rattle.tm_vm.proofs.Loop.{at_base, kept_same, kept_then, stands_first, stands_next, stands_behind, beginning_at, beginning_in, ended_at, ended_in, done_at, whole_at, scopes_behind, above_base}
 use Rattle.tm_vm.proofs.machine.Machine.+machine.Goals as goal
 
 pub run-loop-entry-init : goal.run-loop-entry-init
 run-loop-entry-init g t c =
     let p = program (g.H.Host.meaning c.args.host.now) (g.H.Host.code c.args.host.now) in
     let a = c.args.self.now in
-    let far : depth a.world.scopes ≡ depth a.world.scopes = refl in
+    let all : length a.world.scopes.frames ≡ length a.world.scopes.frames = refl in
     record {
       faults = refl;
       kept = kept_same a.world;
-      no_shallower = omega (arith, far);
+      above = omega (arith, all);
+      same_outer = refl;
       same_stream = refl;
       stands = stands_first p (base_of c.args.heard a.captures a.world) a (g.W.Sink.told c.args.writer.now);
     }
@@ -30,7 +31,8 @@ run-loop-entry-preserved-in-Ok-GoOn g t c =
     record {
       faults = step.counted ∙ c.loop-entry.invariant.faults;
       kept = kept_then c.loop-entry.invariant.kept step.kept;
-      no_shallower = omega (arith, step.depths, c.loop-entry.invariant.no_shallower);
+      above = above_base c.args.heard a.captures a.world c.base-base.result c.loop-entry.self.world c.step.new.self.world c.base-base.ensures c.loop-entry.invariant.above step.depths;
+      same_outer = step.depths.1 ∙ c.loop-entry.invariant.same_outer;
       same_stream = step.same_stream ∙ c.loop-entry.invariant.same_stream;
       stands = stands_next c.step.new.self new c.loop-entry.invariant.stands did;
     }
@@ -47,11 +49,12 @@ run-loop-entry-preserved g t c =
     let step = rw c.in-Ok-Enter.field-0-is at c.in-Ok-Enter.ensures.performs in
     let did = at_base p c.loop-entry.self c.step.new.self now at (Ok (flow.Enter e)) c.base-base.result (base_of c.args.heard a.captures a.world) c.base-base.ensures step.did in
     let went = c.in_default.ensures.ran in
-    let far = depth_behind limit c.base-base.result c.loop-entry.self.world step.depths went in
+    let same = scopes_behind limit c.base-base.result c.loop-entry.self.world step.depths went in
     record {
       faults = c.in_default.ensures.faults ∙ step.counted ∙ c.loop-entry.invariant.faults;
       kept = kept_then c.loop-entry.invariant.kept (kept_then step.kept c.in_default.ensures.kept);
-      no_shallower = omega (arith, far, c.loop-entry.invariant.no_shallower);
+      above = omega (arith, same.0, c.loop-entry.invariant.above);
+      same_outer = same.1 ∙ c.loop-entry.invariant.same_outer;
       same_stream = c.in_default.ensures.same_stream ∙ step.same_stream ∙ c.loop-entry.invariant.same_stream;
       stands = stands_behind e c.step.new.self c.run_nested.new.self at new c.loop-entry.invariant.stands did went;
     }

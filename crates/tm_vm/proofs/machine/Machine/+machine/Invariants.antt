@@ -16,7 +16,8 @@ abbrev pub invariant-run-loop-entry : goal.invariant-run-loop-entry
 invariant-run-loop-entry g l = record {
   faults : g.W.Sink.faults l.writer ≡ g.W.Sink.faults l.initial.writer;
   kept : Keeps l.initial.self.world l.self.world;
-  no_shallower : depth l.initial.self.world.scopes ≤ depth l.self.world.scopes;
+  above : length l.initial.self.world.scopes.frames ≤ length l.self.world.scopes.frames;
+  same_outer : l.self.world.scopes.outer ≡ l.initial.self.world.scopes.outer;
   same_stream : l.self.run.stream ≡ l.initial.self.run.stream;
   stands : Stands (program (g.H.Host.meaning l.host) (g.H.Host.code l.host)) (base_of l.heard l.initial.self.captures l.initial.self.world) l.initial.self (g.W.Sink.told l.initial.writer) (g.W.Sink.told l.writer) l.self;
 }
