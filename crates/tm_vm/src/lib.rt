@@ -1,8 +1,15 @@
 //! The machine: one method for each instruction, and the loop.
 #![tactic(auto)]
 
+mod calls;
 mod flow;
+mod jumps;
 mod machine;
+mod operands;
+mod output;
+mod run;
+mod scopes;
+mod steps;
 
 pub use flow::{Entry, Flow};
 pub use machine::Machine;

@@ -1,0 +1,61 @@
+//! The jumps.
+ghost use Rattle.tm_meaning.specs.Instructions.{jump_of, jump_if_false_of};
+ghost use Rattle.tm_vm.specs.Answers.{jump_or_pop_of, CanGoOn, Silently};
+
+use crate::flow::Flow;
+use crate::machine::Machine;
+use tm_operations::truth;
+use tm_parts::Halt;
+use tm_tables::Host;
+
+impl Machine<'_> {
+    /// Goes on at a place.
+    pub(crate) fn do_jump(&mut self, place: usize) -> Result<Flow, Halt>
+        ensures { Silently (jump_of place self.old) self.old self.new result }
+    {
+        self.run.jump(place);
+        Ok(Flow::GoOn)
+    }
+
+    /// Pops a value, and goes on at a place where it is false.
+    pub(crate) fn do_jump_if_false<H: Host>(&mut self, host: &H, place: usize) -> Result<Flow, Halt>
+        requires { CanGoOn self.old.run }
+        ensures { Silently (jump_if_false_of (H.meaning host.now) place self.old)
+            self.old self.new result }
+    {
+        let Some(value) = self.run.pop() else {
+            return Err(Halt::Stuck);
+        };
+        match truth(&value, host.undefined_behavior()) {
+            Ok(true) => self.run.advance(),
+            Ok(false) => self.run.jump(place),
+            Err(error) => return Err(Halt::Fault(error)),
+        }
+        Ok(Flow::GoOn)
+    }
+
+    /// Goes on at a place where the topmost value has this truth, and leaves it there; else pops it.
+    pub(crate) fn jump_or_pop<H: Host>(
+        &mut self,
+        host: &H,
+        place: usize,
+        jumps: bool,
+    ) -> Result<Flow, Halt>
+        requires { CanGoOn self.old.run }
+        ensures { Silently (jump_or_pop_of (H.meaning host.now) jumps place self.old)
+            self.old self.new result }
+    {
+        let is_true = match self.run.top_truth(host.undefined_behavior()) {
+            Some(Ok(is_true)) => is_true,
+            Some(Err(error)) => return Err(Halt::Fault(error)),
+            None => return Err(Halt::Stuck),
+        };
+        if is_true == jumps {
+            self.run.jump(place);
+            return Ok(Flow::GoOn);
+        }
+        self.run.advance();
+        self.run.drop_top();
+        Ok(Flow::GoOn)
+    }
+}

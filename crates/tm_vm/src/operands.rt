@@ -1,0 +1,234 @@
+//! The instructions of operands, operators, lists and maps.
+ghost use Rattle.std.specs.Prelude.{◌∷◌};
+ghost use Rattle.tm_meaning.specs.Machine.{goes};
+ghost use Rattle.tm_meaning.specs.Instructions.{lookup_of, load_const_of, get_attr_of, unary_of, binary_of, compare_and_preserve_of, swap_of, discard_top_of, get_item_of, slice_instruction_of, build_list_of, build_map_of};
+ghost use Rattle.tm_vm.specs.Answers.{CanGoOn, Silently};
+
+use crate::flow::Flow;
+use crate::machine::Machine;
+use std::alloc::Global;
+use tm_operations::{attribute, item, slice};
+use tm_parts::{Halt, binary, paired, unary};
+use tm_syntax::{BinaryOperator, Name, UnaryOperator};
+use tm_tables::Host;
+use tm_values::{Value, ValueMap};
+
+impl Machine<'_> {
+    /// Pushes an operand and goes on.
+    pub(crate) fn push_next(&mut self, value: Value) -> Result<Flow, Halt>
+        requires { CanGoOn self.old.run }
+        ensures { Silently (goes (value ∷ self.old.run.operands) self.old.world self.old)
+            self.old self.new result }
+    {
+        self.run.advance();
+        self.run.push(value)?;
+        Ok(Flow::GoOn)
+    }
+
+    /// Pushes the value of a name, undefined where there is none.
+    pub(crate) fn do_lookup<H: Host>(&mut self, host: &H, name: &Name) -> Result<Flow, Halt>
+        requires { CanGoOn self.old.run }
+        ensures { Silently (lookup_of (H.meaning host.now) name.now self.old)
+            self.old self.new result }
+    {
+        let value = match self.state.lookup(host, name.as_str()) {
+            Ok(Some(value)) => value.share()?,
+            Ok(None) => Value::undefined(),
+            Err(error) => return Err(Halt::Fault(error)),
+        };
+        self.push_next(value)
+    }
+
+    /// Pushes a literal.
+    pub(crate) fn do_load_const(&mut self, value: &Value) -> Result<Flow, Halt>
+        requires { CanGoOn self.old.run }
+        ensures { Silently (load_const_of value.now self.old) self.old self.new result }
+    {
+        self.push_next(value.share()?)
+    }
+
+    /// Replaces a value by its attribute of a name.
+    pub(crate) fn do_get_attr<H: Host>(
+        &mut self,
+        alloc: Global,
+        host: &H,
+        name: &Name,
+    ) -> Result<Flow, Halt>
+        requires { CanGoOn self.old.run }
+        ensures { Silently (get_attr_of (H.meaning host.now) name.now self.old)
+            self.old self.new result }
+    {
+        let Some(value) = self.run.pop() else {
+            return Err(Halt::Stuck);
+        };
+        let undefined = host.undefined_behavior();
+        match attribute(alloc, &value, name.as_str(), &self.state, undefined) {
+            Ok(found) => self.push_next(found),
+            Err(error) => Err(Halt::Fault(error)),
+        }
+    }
+
+    /// Replaces a value by what a prefix operator gives of it.
+    pub(crate) fn do_unary<H: Host>(
+        &mut self,
+        alloc: Global,
+        host: &H,
+        operator: UnaryOperator,
+    ) -> Result<Flow, Halt>
+        requires { CanGoOn self.old.run }
+        ensures { Silently (unary_of (H.meaning host.now) operator self.old)
+            self.old self.new result }
+    {
+        let Some(value) = self.run.pop() else {
+            return Err(Halt::Stuck);
+        };
+        match unary(alloc, operator, &value, host.undefined_behavior()) {
+            Ok(given) => self.push_next(given),
+            Err(error) => Err(Halt::Fault(error)),
+        }
+    }
+
+    /// Replaces two values by what an operator gives of them.
+    pub(crate) fn do_binary<H: Host>(
+        &mut self,
+        alloc: Global,
+        host: &H,
+        operator: BinaryOperator,
+    ) -> Result<Flow, Halt>
+        requires { CanGoOn self.old.run }
+        ensures { Silently (binary_of (H.meaning host.now) operator self.old)
+            self.old self.new result }
+    {
+        let Some(right) = self.run.pop() else {
+            return Err(Halt::Stuck);
+        };
+        let Some(left) = self.run.pop() else {
+            return Err(Halt::Stuck);
+        };
+        let undefined = host.undefined_behavior();
+        match binary(alloc, operator, &left, &right, &self.state, undefined) {
+            Ok(given) => self.push_next(given),
+            Err(error) => Err(Halt::Fault(error)),
+        }
+    }
+
+    /// Replaces two values by the second and, over it, what an operator gives of them.
+    pub(crate) fn do_compare_and_preserve<H: Host>(
+        &mut self,
+        alloc: Global,
+        host: &H,
+        operator: BinaryOperator,
+    ) -> Result<Flow, Halt>
+        requires { CanGoOn self.old.run }
+        ensures { Silently (compare_and_preserve_of (H.meaning host.now) operator self.old)
+            self.old self.new result }
+    {
+        let Some(right) = self.run.pop() else {
+            return Err(Halt::Stuck);
+        };
+        let Some(left) = self.run.pop() else {
+            return Err(Halt::Stuck);
+        };
+        let undefined = host.undefined_behavior();
+        match binary(alloc, operator, &left, &right, &self.state, undefined) {
+            Ok(given) => {
+                self.run.push(right)?;
+                self.push_next(given)
+            }
+            Err(error) => Err(Halt::Fault(error)),
+        }
+    }
+
+    /// Turns the two topmost values round.
+    pub(crate) fn do_swap(&mut self) -> Result<Flow, Halt>
+        requires { CanGoOn self.old.run }
+        ensures { Silently (swap_of self.old) self.old self.new result }
+    {
+        let Some(top) = self.run.pop() else {
+            return Err(Halt::Stuck);
+        };
+        let Some(below) = self.run.pop() else {
+            return Err(Halt::Stuck);
+        };
+        self.run.push(top)?;
+        self.push_next(below)
+    }
+
+    /// Drops the topmost value.
+    pub(crate) fn do_discard_top(&mut self) -> Result<Flow, Halt>
+        requires { CanGoOn self.old.run }
+        ensures { Silently (discard_top_of self.old) self.old self.new result }
+    {
+        if self.run.pop().is_none() {
+            return Err(Halt::Stuck);
+        }
+        self.run.advance();
+        Ok(Flow::GoOn)
+    }
+
+    /// Replaces a value and a key by the value's item there.
+    pub(crate) fn do_get_item<H: Host>(&mut self, alloc: Global, host: &H) -> Result<Flow, Halt>
+        requires { CanGoOn self.old.run }
+        ensures { Silently (get_item_of (H.meaning host.now) self.old) self.old self.new result }
+    {
+        let Some(key) = self.run.pop() else {
+            return Err(Halt::Stuck);
+        };
+        let Some(value) = self.run.pop() else {
+            return Err(Halt::Stuck);
+        };
+        let undefined = host.undefined_behavior();
+        match item(alloc, &value, &key, &self.state, undefined) {
+            Ok(found) => self.push_next(found),
+            Err(error) => Err(Halt::Fault(error)),
+        }
+    }
+
+    /// Replaces a value, a start, a stop and a step by the value's slice.
+    pub(crate) fn do_slice<H: Host>(&mut self, alloc: Global, host: &H) -> Result<Flow, Halt>
+        requires { CanGoOn self.old.run }
+        ensures { Silently (slice_instruction_of (H.meaning host.now) self.old)
+            self.old self.new result }
+    {
+        let Some(by) = self.run.pop() else {
+            return Err(Halt::Stuck);
+        };
+        let Some(stop) = self.run.pop() else {
+            return Err(Halt::Stuck);
+        };
+        let Some(start) = self.run.pop() else {
+            return Err(Halt::Stuck);
+        };
+        let Some(value) = self.run.pop() else {
+            return Err(Halt::Stuck);
+        };
+        let undefined = host.undefined_behavior();
+        match slice(alloc, &value, &start, &stop, &by, undefined) {
+            Ok(part) => self.push_next(part),
+            Err(error) => Err(Halt::Fault(error)),
+        }
+    }
+
+    /// Replaces so many values by the list of them.
+    pub(crate) fn do_build_list(&mut self, alloc: Global, count: usize) -> Result<Flow, Halt>
+        requires { CanGoOn self.old.run }
+        ensures { Silently (build_list_of count self.old) self.old self.new result }
+    {
+        let Some(values) = self.run.take(count)? else {
+            return Err(Halt::Stuck);
+        };
+        self.push_next(Value::list(alloc, values)?)
+    }
+
+    /// Replaces so many keys, each with its value behind it, by the map of them.
+    pub(crate) fn do_build_map(&mut self, alloc: Global, count: usize) -> Result<Flow, Halt>
+        requires { CanGoOn self.old.run }
+        ensures { Silently (build_map_of count self.old) self.old self.new result }
+    {
+        let Some(values) = self.run.take_pairs(count)? else {
+            return Err(Halt::Stuck);
+        };
+        let pairs = ValueMap::from_pairs(paired(alloc, values)?)?;
+        self.push_next(Value::from_map(alloc, pairs)?)
+    }
+}

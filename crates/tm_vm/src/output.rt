@@ -1,0 +1,100 @@
+//! What is written.
+ghost use Rattle.tm_meaning.specs.World.{records_of};
+ghost use Rattle.tm_meaning.specs.Machine.{writes};
+ghost use Rattle.tm_meaning.specs.Instructions.{emit_raw_of, emit_of};
+ghost use Rattle.tm_printing.specs.Emitted.{emitted_text};
+ghost use Rattle.tm_vm.specs.Answers.{CanGoOn, Writes};
+
+use crate::flow::Flow;
+use crate::machine::Machine;
+use std::alloc::Global;
+use tm_meaning::Base;
+use tm_parts::{Halt, Sink};
+use tm_syntax::Name;
+use tm_tables::Host;
+use tm_values::Value;
+
+impl Machine<'_> {
+    /// Writes a text where it is heard.
+    pub(crate) fn write_text<W: Sink>(
+        &mut self,
+        base: &Base,
+        text: &str,
+        writer: &mut W,
+    ) -> Result<Flow, Halt>
+        ensures { Writes (writes base.now text.now self.old) self.old self.new
+            (W.told writer.old) (W.told writer.new)
+            (W.faults writer.old) (W.faults writer.new) result }
+    {
+        if !self.is_audible(base) {
+            return Ok(Flow::GoOn);
+        }
+        match self.captures.write_str(writer, text) {
+            Ok(()) => Ok(Flow::GoOn),
+            Err(halt) => Err(halt),
+        }
+    }
+
+    /// Writes what is emitted for a value, where it is heard.
+    pub(crate) fn write_value<W: Sink>(
+        &mut self,
+        base: &Base,
+        value: &Value,
+        writer: &mut W,
+    ) -> Result<Flow, Halt>
+        ensures { Writes (writes base.now (emitted_text self.old.world.escape
+            (records_of self.old.world) value.now) self.old) self.old self.new
+            (W.told writer.old) (W.told writer.new)
+            (W.faults writer.old) (W.faults writer.new) result }
+    {
+        if !self.is_audible(base) {
+            return Ok(Flow::GoOn);
+        }
+        match self
+            .captures
+            .emit(writer, value, self.state.escape(), &self.state)
+        {
+            Ok(()) => Ok(Flow::GoOn),
+            Err(halt) => Err(halt),
+        }
+    }
+
+    /// Writes a text as it stands.
+    pub(crate) fn do_emit_raw<W: Sink>(
+        &mut self,
+        base: &Base,
+        text: &Name,
+        writer: &mut W,
+    ) -> Result<Flow, Halt>
+        requires { CanGoOn self.old.run }
+        ensures { Writes (emit_raw_of base.now text.now self.old) self.old self.new
+            (W.told writer.old) (W.told writer.new)
+            (W.faults writer.old) (W.faults writer.new) result }
+    {
+        self.run.advance();
+        self.write_text(base, text.as_str(), writer)
+    }
+
+    /// Pops a value and writes what it is emitted as; its error where it can't be.
+    pub(crate) fn do_emit<H: Host, W: Sink>(
+        &mut self,
+        alloc: Global,
+        host: &H,
+        base: &Base,
+        writer: &mut W,
+    ) -> Result<Flow, Halt>
+        requires { CanGoOn self.old.run }
+        ensures { Writes (emit_of (H.meaning host.now) base.now self.old) self.old self.new
+            (W.told writer.old) (W.told writer.new)
+            (W.faults writer.old) (W.faults writer.new) result }
+    {
+        let Some(value) = self.run.pop() else {
+            return Err(Halt::Stuck);
+        };
+        if let Err(error) = self.state.check_value(alloc, host, &value) {
+            return Err(Halt::Fault(error));
+        }
+        self.run.advance();
+        self.write_value(base, &value, writer)
+    }
+}

@@ -1,0 +1,99 @@
+//! The instructions of scopes and targets.
+ghost use Rattle.tm_meaning.specs.Instructions.{store_local_of, unpack_list_of, set_attr_of, push_with_of, pop_frame_of};
+ghost use Rattle.tm_vm.specs.Answers.{CanGoOn, Silently, Shifts};
+
+use crate::flow::Flow;
+use crate::machine::Machine;
+use std::alloc::Global;
+use tm_meaning::Base;
+use tm_operations::unpack;
+use tm_parts::Halt;
+use tm_syntax::Name;
+use tm_tables::Host;
+
+impl Machine<'_> {
+    /// Pops a value, and gives it to a name of the innermost scope.
+    pub(crate) fn do_store_local(&mut self, name: &Name) -> Result<Flow, Halt>
+        requires { CanGoOn self.old.run }
+        ensures { Silently (store_local_of name.now self.old) self.old self.new result }
+    {
+        let Some(value) = self.run.pop() else {
+            return Err(Halt::Stuck);
+        };
+        self.state.store(name, value)?;
+        self.run.advance();
+        Ok(Flow::GoOn)
+    }
+
+    /// Replaces a value by its items, the first on top, of which there are so many.
+    pub(crate) fn do_unpack_list(&mut self, alloc: Global, count: usize) -> Result<Flow, Halt>
+        requires { CanGoOn self.old.run }
+        ensures { Silently (unpack_list_of count self.old) self.old self.new result }
+    {
+        let Some(value) = self.run.pop() else {
+            return Err(Halt::Stuck);
+        };
+        match unpack(alloc, &value, count, &self.state) {
+            Ok(items) => {
+                self.run.operands.push_each(&items)?;
+                self.run.advance();
+                Ok(Flow::GoOn)
+            }
+            Err(error) => Err(Halt::Fault(error)),
+        }
+    }
+
+    /// Pops a namespace and a value below it, and gives the value to its attribute.
+    pub(crate) fn do_set_attr(&mut self, alloc: Global, name: &Name) -> Result<Flow, Halt>
+        requires { CanGoOn self.old.run }
+        ensures { Silently (set_attr_of name.now self.old) self.old self.new result }
+    {
+        let Some(object) = self.run.pop() else {
+            return Err(Halt::Stuck);
+        };
+        let Some(value) = self.run.pop() else {
+            return Err(Halt::Stuck);
+        };
+        match self.state.set_member(alloc, &object, name, value) {
+            Ok(()) => {
+                self.run.advance();
+                Ok(Flow::GoOn)
+            }
+            Err(error) => Err(Halt::Fault(error)),
+        }
+    }
+
+    /// Opens a scope; InvalidOperation where it would lie deeper than the limit.
+    pub(crate) fn do_push_with<H: Host>(
+        &mut self,
+        alloc: Global,
+        host: &H,
+        base: &Base,
+    ) -> Result<Flow, Halt>
+        requires { CanGoOn self.old.run }
+        ensures { Shifts base.now (push_with_of (H.meaning host.now) self.old)
+            self.old self.new result }
+    {
+        let _scopes = base.scopes;
+        match self.state.push_scope(alloc, host.recursion_limit()) {
+            Ok(()) => {
+                self.run.advance();
+                Ok(Flow::GoOn)
+            }
+            Err(error) => Err(Halt::Fault(error)),
+        }
+    }
+
+    /// Leaves the innermost scope; stuck where the run didn't open it.
+    pub(crate) fn do_pop_frame(&mut self, base: &Base) -> Result<Flow, Halt>
+        requires { CanGoOn self.old.run }
+        ensures { Shifts base.now (pop_frame_of base.now self.old) self.old self.new result }
+    {
+        if self.state.height() <= base.scopes {
+            return Err(Halt::Stuck);
+        }
+        self.state.pop_scope();
+        self.run.advance();
+        Ok(Flow::GoOn)
+    }
+}

@@ -1,0 +1,146 @@
+//! A step: an instruction is paid for and done.
+ghost use Rattle.std.specs.Prelude.{◌≡◌, ◌+◌, [], ◌∷◌, OnOk, IfErr, length};
+ghost use Rattle.tm_meaning.specs.World.{Good, Bad};
+ghost use Rattle.tm_meaning.specs.Steps.{charge_of, pay, effect, finish, step};
+ghost use Rattle.tm_vm.specs.Answers.{program, CanGoOn, Performs, Finishes, Paid};
+ghost use Rattle.tm_state.specs.Answers.{Keeps};
+
+use crate::flow::Flow;
+use crate::machine::Machine;
+use std::alloc::Global;
+use tm_meaning::Base;
+use tm_parts::{Halt, Sink};
+use tm_syntax::{BinaryOperator, Instruction, UnaryOperator};
+use tm_tables::Host;
+use tm_values::{Error, ErrorKind};
+
+impl Machine<'_> {
+    /// Does an instruction that was paid for.
+    #[inline(always)]
+    #[tactic(auto, using(crate::proofs::Performed::silent, crate::proofs::Performed::shifted, crate::proofs::Performed::wrote, crate::proofs::Performed::needed))]
+    pub(crate) fn perform<H: Host, W: Sink>(
+        &mut self,
+        alloc: Global,
+        host: &H,
+        base: &Base,
+        instruction: &Instruction,
+        writer: &mut W,
+    ) -> Result<Flow, Halt>
+        requires { CanGoOn self.old.run }
+        ensures { Performs (H.meaning host.now).limit base.now
+            (effect (H.meaning host.now) base.now instruction.now self.old) self.old self.new
+            (W.told writer.old) (W.told writer.new)
+            (W.faults writer.old) (W.faults writer.new) result }
+    {
+        match instruction {
+            Instruction::EmitRaw(text) => self.do_emit_raw(base, text, writer),
+            Instruction::Emit => self.do_emit(alloc, host, base, writer),
+            Instruction::Lookup(name) => self.do_lookup(host, name),
+            Instruction::LoadConst(value) => self.do_load_const(value),
+            Instruction::GetAttr(name) => self.do_get_attr(alloc, host, name),
+            Instruction::GetItem => self.do_get_item(alloc, host),
+            Instruction::Slice => self.do_slice(alloc, host),
+            Instruction::BuildList(count) | Instruction::BuildTuple(count) => {
+                self.do_build_list(alloc, *count)
+            }
+            Instruction::BuildMap(count) => self.do_build_map(alloc, *count),
+            Instruction::Eq => self.do_binary(alloc, host, BinaryOperator::Equal),
+            Instruction::Ne => self.do_binary(alloc, host, BinaryOperator::NotEqual),
+            Instruction::Lt => self.do_binary(alloc, host, BinaryOperator::Less),
+            Instruction::Lte => self.do_binary(alloc, host, BinaryOperator::LessOrEqual),
+            Instruction::Gt => self.do_binary(alloc, host, BinaryOperator::Greater),
+            Instruction::Gte => self.do_binary(alloc, host, BinaryOperator::GreaterOrEqual),
+            Instruction::In => self.do_binary(alloc, host, BinaryOperator::In),
+            Instruction::CompareAndPreserve(operator) => {
+                self.do_compare_and_preserve(alloc, host, *operator)
+            }
+            Instruction::Add => self.do_binary(alloc, host, BinaryOperator::Add),
+            Instruction::Sub => self.do_binary(alloc, host, BinaryOperator::Subtract),
+            Instruction::StringConcat => self.do_binary(alloc, host, BinaryOperator::Concatenate),
+            Instruction::Mul => self.do_binary(alloc, host, BinaryOperator::Multiply),
+            Instruction::Div => self.do_binary(alloc, host, BinaryOperator::Divide),
+            Instruction::IntDiv => self.do_binary(alloc, host, BinaryOperator::FloorDivide),
+            Instruction::Rem => self.do_binary(alloc, host, BinaryOperator::Remainder),
+            Instruction::Pow => self.do_binary(alloc, host, BinaryOperator::Power),
+            Instruction::Neg => self.do_unary(alloc, host, UnaryOperator::Negate),
+            Instruction::Not => self.do_unary(alloc, host, UnaryOperator::Not),
+            Instruction::Swap => self.do_swap(),
+            Instruction::DiscardTop => self.do_discard_top(),
+            Instruction::Jump(place) => self.do_jump(*place),
+            Instruction::JumpIfFalse(place) => self.do_jump_if_false(host, *place),
+            Instruction::JumpIfFalseOrPop(place) => self.jump_or_pop(host, *place, false),
+            Instruction::JumpIfTrueOrPop(place) => self.jump_or_pop(host, *place, true),
+            Instruction::CallFunction(name, count) => {
+                self.do_call_function(alloc, host, name, *count)
+            }
+            Instruction::CallBlock(name) => self.do_call_block(alloc, host, base, name),
+            Instruction::StoreLocal(name) => self.do_store_local(name),
+            Instruction::UnpackList(count) => self.do_unpack_list(alloc, *count),
+            Instruction::SetAttr(name) => self.do_set_attr(alloc, name),
+            Instruction::PushWith => self.do_push_with(alloc, host, base),
+            Instruction::PopFrame => self.do_pop_frame(base),
+        }
+    }
+
+    /// The place at which the run stands.
+    pub(crate) fn place(&self) -> usize
+        ensures { result ≡ self.now.run.place }
+    {
+        self.run.place
+    }
+
+    /// Pays for an instruction; OutOfFuel where no more than its charge is left.
+    pub(crate) fn charge(&mut self, instruction: &Instruction) -> Result<(), Error>
+        ensures ok { OnOk result
+            (pay instruction.now self.old.world ≡ Good tt self.new.world) }
+        ensures err { IfErr result (λ e. (e ≡ ErrorKind.OutOfFuel ∷ [])
+            × (pay instruction.now self.old.world ≡ Bad e self.new.world)) }
+        ensures spent { OnOk result
+            (self.new.world.fuel + charge_of instruction.now ≡ self.old.world.fuel) }
+        ensures kept { Keeps self.old.world self.new.world }
+        ensures rest { self.new ≡ record self.old {
+          world = record self.old.world { fuel = self.new.world.fuel };
+        } }
+    {
+        self.state.charge(instruction)
+    }
+
+    /// Ends the run behind its last instruction; stuck where it has left something open.
+    pub(crate) fn finish(&self, base: &Base, size: usize) -> Result<Flow, Halt>
+        ensures { Finishes result base.now self.now (finish size base.now self.now) }
+    {
+        if self.run.place == size
+            && base.captures == self.captures.depth()
+            && base.scopes == self.state.height()
+        {
+            return Ok(Flow::Done);
+        }
+        Err(Halt::Stuck)
+    }
+
+    /// Pays for the instruction at the place and does it, and answers where the run goes on.
+    #[inline(always)]
+    pub(crate) fn step<H: Host, W: Sink>(
+        &mut self,
+        alloc: Global,
+        host: &H,
+        base: &Base,
+        code: &[Instruction],
+        writer: &mut W,
+    ) -> Result<Flow, Halt>
+        requires { code.now ≡ H.code host.now self.old.run.stream }
+        ensures performs { Performs (H.meaning host.now).limit base.now
+            (step (program (H.meaning host.now) (H.code host.now)) base.now self.old)
+            self.old self.new (W.told writer.old) (W.told writer.new)
+            (W.faults writer.old) (W.faults writer.new) result }
+        ensures paid { Paid (length code.now) result self.old self.new }
+    {
+        let Some(instruction) = code.get(self.place()) else {
+            return self.finish(base, code.len());
+        };
+        if let Err(error) = self.charge(instruction) {
+            return Err(Halt::Fault(error));
+        }
+        self.perform(alloc, host, base, instruction, writer)
+    }
+}
