@@ -49,6 +49,11 @@ fn word(instruction: &Instruction) -> &'static str {
         Instruction::JumpIfTrueOrPop(_) => "or:",
         Instruction::CallFunction(_, _) => "call:",
         Instruction::CallBlock(_) => "block:",
+        Instruction::StoreLocal(_) => "store:",
+        Instruction::UnpackList(_) => "unpack:",
+        Instruction::SetAttr(_) => "set:",
+        Instruction::PushWith => "with",
+        Instruction::PopFrame => "leave",
         _ => operator(instruction),
     }
 }
@@ -97,12 +102,15 @@ fn detail(instruction: &Instruction) -> &str {
         | Instruction::Lookup(name)
         | Instruction::GetAttr(name)
         | Instruction::CallFunction(name, _)
-        | Instruction::CallBlock(name) => name.as_str(),
+        | Instruction::CallBlock(name)
+        | Instruction::StoreLocal(name)
+        | Instruction::SetAttr(name) => name.as_str(),
         Instruction::LoadConst(value) => constant(value),
         Instruction::CompareAndPreserve(operator) => comparison(*operator),
         Instruction::BuildList(number)
         | Instruction::BuildTuple(number)
         | Instruction::BuildMap(number)
+        | Instruction::UnpackList(number)
         | Instruction::Jump(number)
         | Instruction::JumpIfFalse(number)
         | Instruction::JumpIfFalseOrPop(number)

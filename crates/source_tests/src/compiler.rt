@@ -6,7 +6,7 @@ use std::test::Fail;
 use tm_compiler::{SyntaxConfig, parse};
 use tm_values::{Error, ErrorKind};
 
-static CODES: [(&str, &str); 12] = [
+static CODES: [(&str, &str); 14] = [
     ("{# c #}", ""),
     ("{{ \"}}\" }}\n", " #}} emit"),
     ("{{ a == none }}", " $a #none == emit"),
@@ -34,6 +34,14 @@ static CODES: [(&str, &str); 12] = [
         "{% if a %}{% block y %}b{% endblock %}{% endif %}",
         " $a if-false:3 block:y | y raw:b",
     ),
+    (
+        "{% set do, b = 1, do %}{% do f(b) %}",
+        " #1 $do tuple:2 unpack:2 store:do store:b $b call:f1 drop",
+    ),
+    (
+        "{% with set = 1, x = set %}{{ x }}{% endwith %}",
+        " with #1 store:set $set store:x $x emit leave",
+    ),
 ];
 
 fn code_of(alloc: Global, source: &str) -> Result<String, Error> {
@@ -51,7 +59,7 @@ fn sources_have_their_code(rt: HostRuntime) {
     }
 }
 
-static REFUSED: [&str; 9] = [
+static REFUSED: [&str; 13] = [
     "a{#",
     "{{ \"a }}",
     "{{ 1.5 }}",
@@ -61,6 +69,10 @@ static REFUSED: [&str; 9] = [
     "{% endif %}",
     "{% block b %}{% endblock c %}",
     "{% block b %}{% endblock %}{% block b %}{% endblock %}",
+    "{% set 1 = 2 %}",
+    "{% set a %}b{% endset %}",
+    "{% with a = 1 %}",
+    "{% for a in b %}{% endfor %}",
 ];
 
 static NESTINGS: [Pieces; 2] = [

@@ -6,7 +6,7 @@ use tm_parser::parse_tokens;
 use tm_syntax::{Name, Sign, Tag, Token};
 use tm_values::{Error, ErrorKind};
 
-static SIGNS: [(&str, Sign); 33] = [
+static SIGNS: [(&str, Sign); 34] = [
     ("{{", Sign::VariableStart),
     ("}}", Sign::VariableEnd),
     ("%}", Sign::BlockEnd),
@@ -19,6 +19,7 @@ static SIGNS: [(&str, Sign); 33] = [
     (",", Sign::Comma),
     (".", Sign::Dot),
     (":", Sign::Colon),
+    ("=", Sign::Assign),
     ("==", Sign::Equal),
     ("!=", Sign::NotEqual),
     ("<", Sign::Less),
@@ -42,13 +43,17 @@ static SIGNS: [(&str, Sign); 33] = [
     ("true", Sign::True),
 ];
 
-static TAGS: [(&str, Tag); 6] = [
+static TAGS: [(&str, Tag); 10] = [
     ("{%if", Tag::If),
     ("{%elif", Tag::Elif),
     ("{%else", Tag::Else),
     ("{%endif", Tag::Endif),
     ("{%block", Tag::Block),
     ("{%endblock", Tag::Endblock),
+    ("{%set", Tag::Set),
+    ("{%with", Tag::With),
+    ("{%endwith", Tag::Endwith),
+    ("{%do", Tag::Do),
 ];
 
 // The token of a word; a word that is no sign and no tag is a name.
@@ -75,7 +80,7 @@ fn tokens_of(alloc: Global, words: &str) -> Result<Vec<Token>, Error> {
 }
 
 // Templates by their words, each of which is a token, with their code.
-static CODES: [(&str, &str); 33] = [
+static CODES: [(&str, &str); 45] = [
     ("{{ a ** b ** c }}", " $a $b ** $c ** emit"),
     ("{{ - a ** b }}", " $a - $b ** emit"),
     ("{{ a ~ b + c }}", " $a $b ~ $c + emit"),
@@ -145,6 +150,36 @@ static CODES: [(&str, &str); 33] = [
         "{%if a if b %} {%endif %}",
         " $b if-false:4 $a jump:5 #silent if-false:6",
     ),
+    ("{%set a = b %}", " $b store:a"),
+    (
+        "{%set a , b = c , d %}",
+        " $c $d tuple:2 unpack:2 store:a store:b",
+    ),
+    (
+        "{%set ( a , ( b , c , ) ) = x %}",
+        " $x unpack:2 store:a unpack:2 store:b store:c",
+    ),
+    ("{%set a , = x %}", " $x unpack:1 store:a"),
+    ("{%set ( a ) = x , %}", " $x tuple:1 store:a"),
+    ("{%set a . b . c = d %}", " $d $a .b set:c"),
+    (
+        "{%set f ( x ) . n , a [ b ] . c = d if e %}",
+        " $e if-false:4 $d jump:5 #silent unpack:2 $x call:f1 set:n $a $b item set:c",
+    ),
+    (
+        "{%with a = b , c = a %} {{ c }} {%endwith %}",
+        " with $b store:a $a store:c $c emit leave",
+    ),
+    ("{%with %} {%endwith %}", " with leave"),
+    (
+        "{%with a , b = x , c = ( d , e ) , %} {%endwith %}",
+        " with $x unpack:2 store:a store:b $d $e tuple:2 store:c leave",
+    ),
+    (
+        "{%with %} {%block x %} {%endblock %} {%endwith %}",
+        " with block:x leave | x",
+    ),
+    ("{%do f ( a ) %}", " $a call:f1 drop"),
 ];
 
 fn code_of(alloc: Global, words: &str) -> Result<String, Error> {
@@ -160,7 +195,7 @@ fn tokens_have_their_code(rt: HostRuntime) {
     }
 }
 
-static REFUSED: [&str; 21] = [
+static REFUSED: [&str; 39] = [
     "{{ a == b == }}",
     "{{ f ( , ) }}",
     "{{ ( a }}",
@@ -182,13 +217,31 @@ static REFUSED: [&str; 21] = [
     "{%block x %} {%endblock y %}",
     "{%block x %} {%endblock %} {%if a %} {%else %} {%block x %} {%endblock %} {%endif %}",
     "{%block x %} {%block x %} {%endblock %} {%endblock %}",
+    "{%with %} {%block x %} {%endblock %} {%endwith %} {%block x %} {%endblock %}",
+    "{{ a = b }}",
+    "{%set true = a %}",
+    "{%set a [ b ] = c %}",
+    "{%set f ( a ) = b %}",
+    "{%set ( a ) . b = c %}",
+    "{%set a %}",
+    "{%set a = %}",
+    "{%set a = b = c %}",
+    "{%set = a %}",
+    "{%set ( ) = a %}",
+    "{%set a , , = b %}",
+    "{%set ( a , b = c %}",
+    "{%with a = b %}",
+    "{%with a %} {%endwith %}",
+    "{%with a = b , , c = d %} {%endwith %}",
+    "{%do a %}",
+    "{%do f ( a ) . x %}",
 ];
 
 /// Words that stand once, or so many times less than a count.
 pub type Pieces = &'static [(Option<usize>, &'static str)];
 
 // What may nest 150 deep.
-static NESTINGS: [Pieces; 12] = [
+static NESTINGS: [Pieces; 15] = [
     &[
         (None, "{{"),
         (Some(0), "("),
@@ -238,13 +291,36 @@ static NESTINGS: [Pieces; 12] = [
         (None, "{%if ( a ) %} {%endif %}"),
         (Some(2), "{%endif %}"),
     ],
+    &[
+        (None, "{%set"),
+        (Some(0), "("),
+        (None, "a"),
+        (Some(0), ")"),
+        (None, "= b %}"),
+    ],
+    &[
+        (Some(1), "{%with %}"),
+        (None, "{%set ( a ) , b = ( c ) , d %}"),
+        (Some(1), "{%endwith %}"),
+    ],
+    &[
+        (Some(2), "{%with %}"),
+        (None, "{%with ( a ) = ( b ) %} {%endwith %}"),
+        (Some(2), "{%endwith %}"),
+    ],
 ];
 
 // A long row nests no deeper than a short one.
-static LONG: [Pieces; 3] = [
+static LONG: [Pieces; 5] = [
     &[(None, "{{ a"), (Some(0), "and b . c"), (None, "}}")],
     &[(None, "{{ a"), (Some(0), "if c"), (None, "}}")],
     &[(None, "{{ a"), (Some(0), "< b"), (None, "}}")],
+    &[(None, "{%set a"), (Some(0), ", b"), (None, "= c , d %}")],
+    &[
+        (None, "{%with a = b"),
+        (Some(0), ", c = d"),
+        (None, "%} {%endwith %}"),
+    ],
 ];
 
 /// The pieces behind one another, with a blank between them.

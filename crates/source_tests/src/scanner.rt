@@ -41,7 +41,7 @@ fn with_delimiters(alloc: Global, texts: &[&str; 6]) -> Result<SyntaxConfig, Err
         .build()
 }
 
-static SPELLED: [(&str, &str); 24] = [
+static SPELLED: [(&str, &str); 26] = [
     ("", ""),
     ("\r\n", ""),
     ("a\n\n", " [a\n]"),
@@ -65,6 +65,14 @@ static SPELLED: [(&str, &str); 24] = [
     (
         "{{ 170141183460469231731687303715884105727 }}",
         " {{ #170141183460469231731687303715884105727 }}",
+    ),
+    (
+        "{% set set=with==do %}{% do do %}",
+        " {%set $set = $with == $do %} {%do $do %}",
+    ),
+    (
+        "{% with a===b %}{%endwith%}",
+        " {%with $a == = $b %} {%endwith %}",
     ),
     ("{{ 007 }}", " {{ #7 }}"),
     ("{{ 7.a }}", " {{ #7 . $a }}"),
@@ -97,7 +105,7 @@ fn sources_are_tokens(rt: HostRuntime) {
     }
 }
 
-static REFUSED: [&str; 24] = [
+static REFUSED: [&str; 23] = [
     "{% raw %}",
     "{% raw x %}{% endraw %}",
     "{% raw %}{% endraw x %}",
@@ -106,7 +114,6 @@ static REFUSED: [&str; 24] = [
     "{{ a",
     "{{ (a }}",
     "{{ a ; b }}",
-    "{{ a = b }}",
     "{{ \"a }}",
     "{% %}",
     "{% for x %}",

@@ -19,6 +19,7 @@ fn sign_text(sign: Sign) -> &'static str {
         Sign::Comma => ",",
         Sign::Dot => ".",
         Sign::Colon => ":",
+        Sign::Assign => "=",
         Sign::Equal => "==",
         Sign::NotEqual => "!=",
         Sign::Less => "<",
@@ -55,6 +56,10 @@ fn tag_text(tag: Tag) -> &'static str {
         Tag::Endif => "{%endif",
         Tag::Block => "{%block",
         Tag::Endblock => "{%endblock",
+        Tag::Set => "{%set",
+        Tag::With => "{%with",
+        Tag::Endwith => "{%endwith",
+        Tag::Do => "{%do",
     }
 }
 

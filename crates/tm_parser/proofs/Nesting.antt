@@ -1,6 +1,8 @@
--- One nesting less, one level less, and what stands behind a value or a comparison.
-use Rattle.std.proofs.Common.{◌≡◌, ℕ, zero, suc, ◌-◌, List, [], ◌∷◌, None, refl, sym, ap, arith}
+-- One nesting less, one level less, what stands behind a value or a comparison, and what is a target.
+use Rattle.std.specs.Prelude.{option_map}
+use Rattle.std.proofs.Common.{◌≡◌, ℕ, zero, suc, ◌-◌, List, [], ◌∷◌, ◌++◌, None, Some, refl, sym, ap, arith, ◌∙◌}
 use Rattle.tm_syntax.specs.declared.token.Token.{Token}
+use Rattle.tm_syntax.specs.declared.token.Sign.{Sign}
 use Rattle.tm_syntax.specs.declared.tree.Expr.{Expr}
 use Rattle.tm_syntax.specs.declared.tree.Expr.TheVariants as exprs
 use Rattle.tm_syntax.specs.declared.tree.BinaryOperator.{BinaryOperator}
@@ -8,9 +10,10 @@ use Rattle.tm_syntax.specs.declared.tree.Comparison.{Comparison}
 use Rattle.tm_syntax.specs.declared.tree.Condition.{Condition}
 use Rattle.tm_syntax.specs.declared.tree.Step.{Step}
 use Rattle.tm_syntax.specs.declared.tree.Step.TheVariants as steps
+use Rattle.tm_syntax.specs.declared.tree.Target.TheVariants as target_forms
 use Rattle.tm_rules.specs.Meanings.{got}
 use Rattle.tm_rules.specs.Combinators.{branch, ◌>>=◌, pure}
-use Rattle.tm_parser.specs.Grammar.{Inside, inside, expr, operand, expr_at, primary, prefix, chained, compared, conditional}
+use Rattle.tm_parser.specs.Grammar.{Inside, inside, expr, operand, expr_at, primary, prefix, chained, compared, conditional, target, target_of, lone_target, last_target, attribute_name, split_last}
 use Rattle.tm_parser.specs.Statements.{inner, body, rest}
 
 suc-sub-one : (n : ℕ) → suc n - 1 ≡ n
@@ -84,6 +87,37 @@ some_conditions x [] h = absurd (h refl)
 some_conditions x (c ∷ cs) h = refl
 
 pub ruleset conditions = (no_conditions, some_conditions)
+
+pub no_target : (depth : ℕ) (close : Sign) (ts : List Token) → depth ≡ 0 → ((inside depth).target close).reads ts ≡ None
+unfolding inside
+no_target depth close ts h = ap (λ k. ((inside k).target close).reads ts) h
+
+pub inner_target : (depth : ℕ) (close : Sign) (ts : List Token) → ¬ (depth ≡ 0) → ((inside depth).target close).reads ts ≡ (target (inside (depth - 1)) close).reads ts
+unfolding inside
+inner_target zero close ts h = absurd (h refl)
+inner_target (suc depth) close ts h = ap (λ k. (target (inside k) close).reads ts) (sym (suc-sub-one depth))
+
+pub ruleset targets = (no_target, inner_target)
+
+pub lone_of : (x : Expr) (ss : List Step) → ss ≡ [] → target_of x ss ≡ lone_target x
+lone_of x ss h = ap (target_of x) h
+
+behind_all : (x : Expr) (before : List Step) (s : Step) → target_of x (before ++ s ∷ []) ≡ last_target x before s
+behind_all x [] s = refl
+behind_all x (b ∷ before) s = ap (λ (w : List Step × Step). last_target x w.0 w.1) (last_split b before s)
+  where
+    last_split : (b : Step) (before : List Step) (s : Step) → split_last b (before ++ s ∷ []) ≡ (b ∷ before, s)
+    last_split b [] s = refl
+    last_split b (c ∷ before) s = ap (λ (w : List Step × Step). (b ∷ w.0, w.1)) (last_split c before s)
+
+pub no_attribute : (x : Expr) (ss before : List Step) (s : Step) → ss ≡ before ++ s ∷ [] → attribute_name s ≡ None → target_of x ss ≡ None
+no_attribute x ss before s h none = ap (target_of x) h ∙ behind_all x before s ∙ ap (option_map (λ name. target_forms.Attribute (chained x before) name)) none
+
+pub an_attribute : (x : Expr) (ss before : List Step) (s : Step) (name : List ℕ) → ss ≡ before ++ s ∷ [] → attribute_name s ≡ Some name →
+    target_of x ss ≡ Some (target_forms.Attribute (chained x before) name)
+an_attribute x ss before s name h some = ap (target_of x) h ∙ behind_all x before s ∙ ap (option_map (λ name. target_forms.Attribute (chained x before) name)) some
+
+pub ruleset members = (lone_of, no_attribute, an_attribute)
 
 pub no_body : (depth : ℕ) (ts : List Token) → depth ≡ 0 → (inner depth).body.reads ts ≡ None
 unfolding inner

@@ -1,5 +1,5 @@
--- The grammar of expressions.
-use Rattle.std.specs.Prelude.{ℕ, zero, suc, List, [], ◌∷◌, true, false, Bool, Option, Some, None, if◌then◌else◌, nat_eq}
+-- The grammar of expressions and targets.
+use Rattle.std.specs.Prelude.{ℕ, zero, suc, List, [], ◌∷◌, true, false, Bool, Option, Some, None, option_map, if◌then◌else◌, nat_eq}
 use denote.Enum.Bare.{sameb}
 use Rattle.tm_values.specs.Val as value
 use Rattle.tm_values.specs.Val.{Val}
@@ -12,7 +12,7 @@ use Rattle.tm_syntax.specs.declared.tree.UnaryOperator.{UnaryOperator}
 use Rattle.tm_syntax.specs.declared.tree.UnaryOperator.TheVariants as unaries
 use Rattle.tm_syntax.specs.declared.tree.BinaryOperator.{BinaryOperator}
 use Rattle.tm_syntax.specs.declared.tree.BinaryOperator.TheVariants as binaries
-use Rattle.tm_syntax.specs.declared.tree.Expr.{Expr}
+use Rattle.tm_syntax.specs.declared.tree.Expr.{Expr, Var}
 use Rattle.tm_syntax.specs.declared.tree.Expr.TheVariants as exprs
 use Rattle.tm_syntax.specs.declared.tree.Argument.{Argument}
 use Rattle.tm_syntax.specs.declared.tree.Argument.TheVariants as arguments
@@ -22,8 +22,10 @@ use Rattle.tm_syntax.specs.declared.tree.Condition.{Condition}
 use Rattle.tm_syntax.specs.declared.tree.Condition.TheVariants as conditions
 use Rattle.tm_syntax.specs.declared.tree.Comparison.{Comparison}
 use Rattle.tm_syntax.specs.declared.tree.Comparison.TheVariants as comparisons
-use Rattle.tm_syntax.specs.declared.tree.Step.{Step}
+use Rattle.tm_syntax.specs.declared.tree.Step.{Step, Attribute}
 use Rattle.tm_syntax.specs.declared.tree.Step.TheVariants as steps
+use Rattle.tm_syntax.specs.declared.tree.Target.{Target}
+use Rattle.tm_syntax.specs.declared.tree.Target.TheVariants as targets
 use Rattle.tm_parser.specs.declared.tables.Link.{Link}
 use Rattle.tm_parser.specs.declared.tables.Link.TheVariants as links
 use Rattle.tm_rules.specs.Rule as rules
@@ -113,6 +115,8 @@ pub record Inside : Type 1 where
   pub expr : Rule Expr
   -- an operand of a level
   pub operand : ℕ → Rule Expr
+  -- a target, up to a sign and with it
+  pub target : Sign → Rule Target
 
 -- a comma with another item behind it, in a list that ends with this sign
 abbrev pub comma : Sign → Look Token (Unit {0})
@@ -338,7 +342,60 @@ expr i = do
   cs ← conditions_from i []
   pure (conditional x cs)
 
+-- all items but the last, and the last
+abbrev pub split_last : {A : Type 0} → A → List A → List A × A
+split_last x [] = ([], x)
+split_last x (y ∷ ys) = (x ∷ (split_last y ys).0, (split_last y ys).1)
+
+-- what a value is as a target
+abbrev pub lone_target : Expr → Option Target
+lone_target (Var name) = Some (targets.Name name)
+lone_target _ = None
+
+-- the name of an attribute
+abbrev pub attribute_name : Step → Option (List ℕ)
+attribute_name (Attribute name) = Some name
+attribute_name _ = None
+
+-- what a value with steps and a last step is as a target
+abbrev pub last_target : Expr → List Step → Step → Option Target
+last_target x before last = option_map (λ name. targets.Attribute (chained x before) name) (attribute_name last)
+
+-- What a value and its steps are as a target: a name alone is one, and an attribute of what stands before it.
+abbrev pub target_of : Expr → List Step → Option Target
+target_of x [] = lone_target x
+target_of x (s ∷ ss) = last_target x (split_last s ss).0 (split_last s ss).1
+
+-- a rule that takes no token
+abbrev pub known : {A : Type 0} → Option A → Rule A
+known None = nothing
+known (Some x) = pure x
+
+-- a name or an attribute
+unfoldable pub member : Inside → Rule Target
+member i = do
+  x ← operand i 0
+  ss ← steps_from i (operand i 0) 0 []
+  known (target_of x ss)
+
+-- a target with no comma outside brackets
+unfoldable pub single : Inside → Rule Target
+single i = branch (first (is sign.OpenRound)) (λ _. i.target sign.CloseRound) (member i)
+
+-- several targets behind the first one, up to the sign
+unfoldable pub several : Inside → Sign → Target → Rule Target
+several i close x = do
+  comma ← token (is sign.Comma)
+  xs ← items close (single i) (x ∷ [])
+  pure (targets.Unpack xs)
+
+-- one target or several, up to the sign
+unfoldable pub target : Inside → Sign → Rule Target
+target i close = do
+  x ← single i
+  branch (first (is close)) (λ _. pure x) (several i close x)
+
 -- what may stand inside n nestings more
 unfoldable pub inside : ℕ → Inside
-inside zero = record { room = nothing; expr = nothing; operand = λ level. nothing }
-inside (suc n) = record { room = pure tt; expr = expr (inside n); operand = operand (inside n) }
+inside zero = record { room = nothing; expr = nothing; operand = λ level. nothing; target = λ close. nothing }
+inside (suc n) = record { room = pure tt; expr = expr (inside n); operand = operand (inside n); target = target (inside n) }

@@ -1,5 +1,5 @@
 -- The grammar of statements.
-use Rattle.std.specs.Prelude.{ℕ, zero, suc, List, [], ◌∷◌, Option, Some, None, if◌then◌else◌, nat_eq}
+use Rattle.std.specs.Prelude.{ℕ, zero, suc, List, [], ◌∷◌, Bool, true, false, Option, Some, None, if◌then◌else◌, nat_eq}
 use Rattle.std.specs.Cmp.Lexicographic.{pointwise}
 use denote.Enum.Bare.{sameb}
 use Rattle.tm_syntax.specs.contracts.token.Tag.{the_type}
@@ -8,12 +8,16 @@ use Rattle.tm_syntax.specs.declared.token.Tag.TheVariants as tags
 use Rattle.tm_syntax.specs.declared.token.Sign.TheVariants as sign
 use Rattle.tm_syntax.specs.declared.token.Token.{Token}
 use Rattle.tm_syntax.specs.declared.token.Token.TheVariants as tokens
+use Rattle.tm_syntax.specs.declared.tree.Expr.{Expr, Call'}
+use Rattle.tm_syntax.specs.declared.tree.Expr.TheVariants as exprs
+use Rattle.tm_syntax.specs.declared.tree.Assignment.{Assignment}
+use Rattle.tm_syntax.specs.declared.tree.Assignment.TheVariants as assignments
 use Rattle.tm_syntax.specs.declared.tree.Stmt.{Stmt}
 use Rattle.tm_syntax.specs.declared.tree.Stmt.TheVariants as stmts
 use Rattle.tm_parser.specs.declared.tables.Start.{Start}
 use Rattle.tm_parser.specs.declared.tables.Start.TheVariants as starts
 use Rattle.tm_rules.specs.Combinators.{provided, first, nothing, pure, ◌>>=◌, branch, token, many_from}
-use Rattle.tm_parser.specs.Grammar.{Rule, is, a_name, Inside, inside, expr}
+use Rattle.tm_parser.specs.Grammar.{Rule, is, a_name, Inside, inside, items, expr, target}
 
 -- this tag
 abbrev pub is_tag : Tag → Token → Option (Unit {0})
@@ -30,6 +34,9 @@ pub record Inner : Type 1 where
 abbrev pub start_of : Tag → Option Start
 start_of tags.If = Some starts.If
 start_of tags.Block = Some starts.Block
+start_of tags.Set = Some starts.Set
+start_of tags.With = Some starts.With
+start_of tags.Do = Some starts.Do
 start_of _ = None
 
 -- what a statement begins with
@@ -99,12 +106,58 @@ block_tag t = do
   last ← block_end
   pure (stmts.Block name body)
 
+-- a tuple without brackets behind its first item, and the end of the tag
+unfoldable pub bare_tuple : Inside → Expr → Rule Expr
+bare_tuple i x = do
+  comma ← token (is sign.Comma)
+  xs ← items sign.BlockEnd (expr i) (x ∷ [])
+  pure (exprs.Tuple xs)
+
+-- an expression or a tuple without brackets, and the end of the tag
+unfoldable pub bare : Inside → Rule Expr
+bare i = do
+  x ← expr i
+  branch (first (is sign.BlockEnd)) (λ _. pure x) (bare_tuple i x)
+
+unfoldable pub set_tag : Inside → Rule Stmt
+set_tag i = do
+  to ← target i sign.Assign
+  x ← bare i
+  pure (stmts.Set to x)
+
+unfoldable pub assignment : Inside → Rule Assignment
+assignment i = do
+  to ← i.target sign.Assign
+  x ← i.expr
+  pure (assignments.Assignment to x)
+
+unfoldable pub with_tag : Inside → Inner → Rule Stmt
+with_tag i t = do
+  given ← items sign.BlockEnd (assignment i) []
+  body ← t.body
+  last ← lone tags.Endwith
+  pure (stmts.With given body)
+
+abbrev pub is_call : Expr → Bool
+is_call (Call' f _ given) = true
+is_call _ = false
+
+unfoldable pub do_tag : Inside → Rule Stmt
+do_tag i = do
+  x ← expr i
+  provided (is_call x) (do
+    last ← block_end
+    pure (stmts.Do x))
+
 -- what stands behind the start of a statement
 abbrev pub statement : Inside → Inner → Start → Rule Stmt
 statement i t (starts.Raw text) = pure (stmts.EmitRaw text)
 statement i t starts.Emit = emission i
 statement i t starts.If = if_tag i t
 statement i t starts.Block = block_tag t
+statement i t starts.Set = set_tag i
+statement i t starts.With = with_tag i t
+statement i t starts.Do = do_tag i
 
 -- statements behind these ones, as long as one begins
 abbrev pub more_statements : Inside → Inner → List Stmt → Rule (List Stmt)

@@ -35,7 +35,7 @@ fn add_names_of<'t>(names: &mut Vec<&'t str>, statement: &'t Stmt) -> Result<(),
         (texts names.new.items ≡ texts names.old.items ++ names_of statement.now) }
 {
     match statement {
-        Stmt::EmitRaw(_) | Stmt::EmitExpr(_) => Ok(()),
+        Stmt::EmitRaw(_) | Stmt::EmitExpr(_) | Stmt::Set(_, _) | Stmt::Do(_) => Ok(()),
         Stmt::If(_, body, None) => add_names(names, body.as_slice()),
         Stmt::If(_, body, Some(other)) => {
             add_names(names, body.as_slice())?;
@@ -45,6 +45,7 @@ fn add_names_of<'t>(names: &mut Vec<&'t str>, statement: &'t Stmt) -> Result<(),
             names.push(name.as_str())?;
             add_names(names, body.as_slice())
         }
+        Stmt::With(_, body) => add_names(names, body.as_slice()),
     }
 }
 

@@ -123,7 +123,7 @@ impl Cursor<'_> {
     /// An operand of a level.
     #[cycle(expressions)]
     #[tactic(auto, using(crate::proofs::Nesting::levels))]
-    fn operand(&mut self, alloc: Global, depth: u8, level: u8) -> Result<Boxed<Expr>, Error>
+    pub fn operand(&mut self, alloc: Global, depth: u8, level: u8) -> Result<Boxed<Expr>, Error>
         ensures { Gives result self.new ((operand (inside depth) level).reads self.old) }
     {
         if level == 0 {
@@ -138,7 +138,7 @@ impl Cursor<'_> {
 
     /// As many steps of a level as there are.
     #[cycle(expressions)]
-    fn steps(&mut self, alloc: Global, depth: u8, level: u8) -> Result<Items<Step>, Error>
+    pub fn steps(&mut self, alloc: Global, depth: u8, level: u8) -> Result<Items<Step>, Error>
         ensures { Gives result self.new
             ((steps_from (inside depth) (operand (inside depth) level) level []).reads self.old) }
     {
@@ -653,7 +653,7 @@ fn conditional(
 
 /// A value and its steps; the value itself where there are none. OutOfMemory for want of memory.
 #[tactic(auto, using(crate::proofs::Nesting::chains))]
-fn chained(alloc: Global, value: Boxed<Expr>, steps: Items<Step>) -> Result<Boxed<Expr>, Error>
+pub fn chained(alloc: Global, value: Boxed<Expr>, steps: Items<Step>) -> Result<Boxed<Expr>, Error>
     ensures { MatchResult result
         (λ expr. expr ≡ grammar.chained value steps)
         (λ e. e ≡ OutOfMemory ∷ []) }

@@ -6,6 +6,7 @@ mod cursor;
 mod expressions;
 mod statements;
 mod tables;
+mod targets;
 mod template;
 
 pub use template::{one_tree, parse_tokens};

@@ -2,14 +2,15 @@
 ghost use Rattle.std.specs.Prelude.{◌≡◌};
 ghost use Rattle.tm_parser.specs.Gives.{Gives};
 ghost use Rattle.tm_parser.specs.Grammar.{inside};
-ghost use Rattle.tm_parser.specs.Statements.{block_tag, body, elif_tag, else_tag, emission, if_tag, inner, rest, statement};
+ghost use Rattle.tm_parser.specs.Statements as spec;
+ghost use Rattle.tm_parser.specs.Statements.{block_tag, body, do_tag, elif_tag, else_tag, emission, if_tag, inner, rest, set_tag, statement, with_tag};
 ghost use Rattle.tm_rules.specs.Combinators.{one_more};
 
 use crate::cursor::{Cursor, refusal};
 use crate::tables::Start;
 use sqlite_items::Items;
 use std::alloc::Global;
-use tm_syntax::{Sign, Stmt, Tag};
+use tm_syntax::{Expr, Sign, Stmt, Tag};
 use tm_values::Error;
 
 // Each method reads one rule, with `depth` nestings to go. SyntaxError where no tokens spell it.
@@ -78,6 +79,9 @@ impl Cursor<'_> {
             Start::Emit => self.emission(alloc, depth),
             Start::If => self.if_tag(alloc, depth),
             Start::Block => self.block_tag(alloc, depth),
+            Start::Set => self.set_tag(alloc, depth),
+            Start::With => self.with_tag(alloc, depth),
+            Start::Do => self.do_tag(alloc, depth),
         }
     }
 
@@ -160,5 +164,50 @@ impl Cursor<'_> {
         self.expect_same(&name)?;
         self.expect(Sign::BlockEnd)?;
         Ok(Stmt::Block(name, body))
+    }
+
+    /// The target of a `set`, its value, and its end.
+    #[tactic(auto, unfolding(crate::specs::Statements::set_tag))]
+    fn set_tag(&mut self, alloc: Global, depth: u8) -> Result<Stmt, Error>
+        ensures { Gives result self.new ((set_tag (inside depth)).reads self.old) }
+    {
+        let target = self.target(alloc, depth, Sign::Assign)?;
+        let value = self.bare(alloc, depth)?;
+        Ok(Stmt::Set(target, value))
+    }
+
+    /// The assignments of a `with` and its body, up to its end tag.
+    #[cycle(statements)]
+    #[tactic(auto, unfolding(crate::specs::Statements::with_tag))]
+    fn with_tag(&mut self, alloc: Global, depth: u8) -> Result<Stmt, Error>
+        ensures { Gives result self.new ((with_tag (inside depth) (inner depth)).reads self.old) }
+    {
+        let given = self.assignments(alloc, depth)?;
+        let body = self.inner_body(alloc, depth)?;
+        self.expect_lone(Tag::Endwith)?;
+        Ok(Stmt::With(given, body))
+    }
+
+    /// The call of a `do`, and its end.
+    #[tactic(auto, unfolding(crate::specs::Statements::do_tag))]
+    fn do_tag(&mut self, alloc: Global, depth: u8) -> Result<Stmt, Error>
+        ensures { Gives result self.new ((do_tag (inside depth)).reads self.old) }
+    {
+        let call = self.expr(alloc, depth)?;
+        if !is_call(call.get()) {
+            return Err(refusal());
+        }
+        self.expect(Sign::BlockEnd)?;
+        Ok(Stmt::Do(call))
+    }
+}
+
+/// Whether an expression is a call.
+fn is_call(expr: &Expr) -> bool
+    ensures { result ≡ spec.is_call expr.now }
+{
+    match expr {
+        Expr::Call(_, _) => true,
+        _ => false,
     }
 }

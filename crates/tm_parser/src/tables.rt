@@ -34,6 +34,12 @@ pub enum Start {
     If,
     /// The start of a block.
     Block,
+    /// The start of a `set`.
+    Set,
+    /// The start of a `with`.
+    With,
+    /// The start of a `do`.
+    Do,
 }
 
 /// How a sign goes on with a value, and at which level.
@@ -104,6 +110,9 @@ pub fn start_of(tag: Tag) -> Option<Start>
     Some(match tag {
         Tag::If => Start::If,
         Tag::Block => Start::Block,
+        Tag::Set => Start::Set,
+        Tag::With => Start::With,
+        Tag::Do => Start::Do,
         _ => return None,
     })
 }

@@ -45,7 +45,8 @@ reserved name = look_up reserved_words name
 abbrev pub tag_words : List (List ℕ × Tag)
 tag_words =
     (codes "if", tag.If) ∷ (codes "elif", tag.Elif) ∷ (codes "else", tag.Else) ∷ (codes "endif", tag.Endif)
-    ∷ (codes "block", tag.Block) ∷ (codes "endblock", tag.Endblock) ∷ []
+    ∷ (codes "block", tag.Block) ∷ (codes "endblock", tag.Endblock) ∷ (codes "set", tag.Set)
+    ∷ (codes "with", tag.With) ∷ (codes "endwith", tag.Endwith) ∷ (codes "do", tag.Do) ∷ []
 
 abbrev pub tag_of : List ℕ → Option Tag
 tag_of name = look_up tag_words name

@@ -87,6 +87,10 @@ pub(crate) fn tag_of(name: &str) -> Option<Tag>
         "endif" => Some(Tag::Endif),
         "block" => Some(Tag::Block),
         "endblock" => Some(Tag::Endblock),
+        "set" => Some(Tag::Set),
+        "with" => Some(Tag::With),
+        "endwith" => Some(Tag::Endwith),
+        "do" => Some(Tag::Do),
         _ => None,
     }
 }

@@ -50,7 +50,7 @@ fn mark(text: &str) -> Option<(Sign, &str)>
         b'-' => Some((Sign::Minus, rest)),
         b'~' => Some((Sign::Tilde, rest)),
         b'%' => Some((Sign::Percent, rest)),
-        b'=' => Some((Sign::Equal, strip(rest, "=")?)),
+        b'=' => Some(longer(rest, "=", Sign::Equal, Sign::Assign)),
         b'!' => Some((Sign::NotEqual, strip(rest, "=")?)),
         b'<' => Some(longer(rest, "=", Sign::LessOrEqual, Sign::Less)),
         b'>' => Some(longer(rest, "=", Sign::GreaterOrEqual, Sign::Greater)),

@@ -29,6 +29,8 @@ pub enum Sign {
     Dot,
     /// `:`
     Colon,
+    /// `=`
+    Assign,
     /// `==`
     Equal,
     /// `!=`
@@ -94,6 +96,14 @@ pub enum Tag {
     Block,
     /// `{% endblock`
     Endblock,
+    /// `{% set`
+    Set,
+    /// `{% with`
+    With,
+    /// `{% endwith`
+    Endwith,
+    /// `{% do`
+    Do,
 }
 
 /// A token of a source.

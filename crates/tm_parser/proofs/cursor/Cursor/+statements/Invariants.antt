@@ -22,6 +22,9 @@ decreases-if_tag l = 16 * l.depth + 1
 abbrev pub decreases-block_tag : goal.decreases-block_tag
 decreases-block_tag l = 16 * l.depth + 1
 
+abbrev pub decreases-with_tag : goal.decreases-with_tag
+decreases-with_tag l = 16 * l.depth + 1
+
 abbrev pub decreases-rest : goal.decreases-rest
 decreases-rest l = 16 * l.depth + 2
 

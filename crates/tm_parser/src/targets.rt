@@ -1,0 +1,318 @@
+//! Targets, and what is given to them.
+ghost use Rattle.std.specs.Prelude.{◌≡◌, [], MatchResult, None, Some};
+ghost use Rattle.std.specs.Option.{option_copied};
+ghost use Rattle.tm_parser.specs.Gives.{Gives, Refused};
+ghost use Rattle.tm_parser.specs.Grammar as grammar;
+ghost use Rattle.tm_parser.specs.Grammar.{inside, expr, items, member, more_items, several, single, target};
+ghost use Rattle.tm_parser.specs.Statements.{assignment, bare, bare_tuple};
+ghost use Rattle.tm_rules.specs.Combinators.{one_more};
+ghost use Rattle.tm_syntax.specs.declared.token.Sign.TheVariants as sign;
+
+use crate::cursor::{Cursor, refusal};
+use crate::expressions::chained;
+use sqlite_items::{Boxed, Items};
+use std::alloc::Global;
+use tm_syntax::{Assignment, Expr, Name, Sign, Step, Target};
+use tm_values::Error;
+
+// Each method reads one rule, with `depth` nestings to go. SyntaxError where no tokens spell it.
+impl Cursor<'_> {
+    /// A target inside one nesting more, up to a sign and with it.
+    #[cycle(targets)]
+    #[tactic(auto, using(crate::proofs::Nesting::targets))]
+    fn inner_target(&mut self, alloc: Global, depth: u8, close: Sign) -> Result<Target, Error>
+        ensures { Gives result self.new (((inside depth).target close).reads self.old) }
+    {
+        if depth == 0 {
+            return Err(refusal());
+        }
+        self.target(alloc, depth - 1, close)
+    }
+
+    /// One target or several, up to a sign and with it.
+    #[cycle(targets)]
+    #[tactic(auto, unfolding(crate::specs::Grammar::target))]
+    pub fn target(&mut self, alloc: Global, depth: u8, close: Sign) -> Result<Target, Error>
+        ensures { Gives result self.new ((target (inside depth) close).reads self.old) }
+    {
+        let first = self.single(alloc, depth)?;
+        if self.take(close) {
+            return Ok(first);
+        }
+        self.several(alloc, depth, close, first)
+    }
+
+    /// Several targets behind the first one, up to a sign and with it.
+    #[cycle(targets)]
+    #[tactic(auto, unfolding(crate::specs::Grammar::several))]
+    fn several(
+        &mut self,
+        alloc: Global,
+        depth: u8,
+        close: Sign,
+        first: Target,
+    ) -> Result<Target, Error>
+        ensures { Gives result self.new ((several (inside depth) close first).reads self.old) }
+    {
+        self.expect(Sign::Comma)?;
+        let mut targets = Items::new(alloc);
+        targets.push(first)?;
+        let targets = self.targets(alloc, depth, close, targets)?;
+        Ok(Target::Unpack(targets))
+    }
+
+    /// More targets behind others, up to a sign and with it.
+    #[cycle(targets)]
+    #[tactic(auto, unfolding(crate::specs::Grammar::items))]
+    fn targets(
+        &mut self,
+        alloc: Global,
+        depth: u8,
+        close: Sign,
+        first: Items<Target>,
+    ) -> Result<Items<Target>, Error>
+        ensures { Gives result self.new ((items close (single (inside depth)) first).reads self.old) }
+    {
+        if self.take(close) {
+            return Ok(first);
+        }
+        let targets = self.one_target(alloc, depth, first)?;
+        let targets = self.more_targets(alloc, depth, close, targets)?;
+        self.take(Sign::Comma);
+        self.expect(close)?;
+        Ok(targets)
+    }
+
+    /// More targets, each behind a comma.
+    #[cycle(targets)]
+    #[tactic(auto, using(crate::proofs::Loops::commas))]
+    fn more_targets(
+        &mut self,
+        alloc: Global,
+        depth: u8,
+        close: Sign,
+        first: Items<Target>,
+    ) -> Result<Items<Target>, Error>
+        ensures { Gives result self.new
+            ((more_items close (single (inside depth)) first).reads self.old) }
+    {
+        let mut targets = first;
+        while self.take_comma(close) {
+            targets = self.one_target(alloc, depth, targets)?;
+        }
+        Ok(targets)
+    }
+
+    /// A target, at the end of others.
+    #[cycle(targets)]
+    fn one_target(
+        &mut self,
+        alloc: Global,
+        depth: u8,
+        targets: Items<Target>,
+    ) -> Result<Items<Target>, Error>
+        ensures { Gives result self.new ((one_more (single (inside depth)) targets).reads self.old) }
+    {
+        let mut targets = targets;
+        targets.push(self.single(alloc, depth)?)?;
+        Ok(targets)
+    }
+
+    /// A target with no comma outside brackets.
+    #[cycle(targets)]
+    #[tactic(auto, unfolding(crate::specs::Grammar::single))]
+    fn single(&mut self, alloc: Global, depth: u8) -> Result<Target, Error>
+        ensures { Gives result self.new ((single (inside depth)).reads self.old) }
+    {
+        if self.take(Sign::OpenRound) {
+            return self.inner_target(alloc, depth, Sign::CloseRound);
+        }
+        self.member(alloc, depth)
+    }
+
+    /// A name or an attribute.
+    #[tactic(auto, unfolding(crate::specs::Grammar::member))]
+    fn member(&mut self, alloc: Global, depth: u8) -> Result<Target, Error>
+        ensures { Gives result self.new ((member (inside depth)).reads self.old) }
+    {
+        let value = self.operand(alloc, depth, 0)?;
+        let steps = self.steps(alloc, depth, 0)?;
+        target_of(alloc, value, steps)
+    }
+
+    /// An expression or a tuple without brackets, and the end of the tag.
+    #[tactic(auto, unfolding(crate::specs::Statements::bare))]
+    pub fn bare(&mut self, alloc: Global, depth: u8) -> Result<Boxed<Expr>, Error>
+        ensures { Gives result self.new ((bare (inside depth)).reads self.old) }
+    {
+        let first = self.expr(alloc, depth)?;
+        if self.take(Sign::BlockEnd) {
+            return Ok(first);
+        }
+        self.bare_tuple(alloc, depth, first)
+    }
+
+    /// A tuple without brackets behind its first item, and the end of the tag.
+    #[tactic(auto, unfolding(crate::specs::Statements::bare_tuple))]
+    fn bare_tuple(
+        &mut self,
+        alloc: Global,
+        depth: u8,
+        first: Boxed<Expr>,
+    ) -> Result<Boxed<Expr>, Error>
+        ensures { Gives result self.new ((bare_tuple (inside depth) first).reads self.old) }
+    {
+        self.expect(Sign::Comma)?;
+        let mut items = Items::new(alloc);
+        items.push(first.into_inner())?;
+        let items = self.bare_items(alloc, depth, items)?;
+        Ok(Boxed::new(alloc, Expr::Tuple(items))?)
+    }
+
+    /// More expressions behind others, and the end of the tag.
+    #[tactic(auto, unfolding(crate::specs::Grammar::items))]
+    fn bare_items(
+        &mut self,
+        alloc: Global,
+        depth: u8,
+        first: Items<Expr>,
+    ) -> Result<Items<Expr>, Error>
+        ensures { Gives result self.new
+            ((items sign.BlockEnd (expr (inside depth)) first).reads self.old) }
+    {
+        if self.take(Sign::BlockEnd) {
+            return Ok(first);
+        }
+        let items = self.bare_item(alloc, depth, first)?;
+        let items = self.more_bare_items(alloc, depth, items)?;
+        self.take(Sign::Comma);
+        self.expect(Sign::BlockEnd)?;
+        Ok(items)
+    }
+
+    /// More expressions, each behind a comma.
+    #[tactic(auto, using(crate::proofs::Loops::commas))]
+    fn more_bare_items(
+        &mut self,
+        alloc: Global,
+        depth: u8,
+        first: Items<Expr>,
+    ) -> Result<Items<Expr>, Error>
+        ensures { Gives result self.new
+            ((more_items sign.BlockEnd (expr (inside depth)) first).reads self.old) }
+    {
+        let mut items = first;
+        while self.take_comma(Sign::BlockEnd) {
+            items = self.bare_item(alloc, depth, items)?;
+        }
+        Ok(items)
+    }
+
+    /// An expression, at the end of others.
+    fn bare_item(
+        &mut self,
+        alloc: Global,
+        depth: u8,
+        items: Items<Expr>,
+    ) -> Result<Items<Expr>, Error>
+        ensures { Gives result self.new ((one_more (expr (inside depth)) items).reads self.old) }
+    {
+        let mut items = items;
+        let value = self.expr(alloc, depth)?;
+        items.push(value.into_inner())?;
+        Ok(items)
+    }
+
+    /// Assignments, and the end of the tag.
+    #[tactic(auto, unfolding(crate::specs::Grammar::items))]
+    pub fn assignments(&mut self, alloc: Global, depth: u8) -> Result<Items<Assignment>, Error>
+        ensures { Gives result self.new
+            ((items sign.BlockEnd (assignment (inside depth)) []).reads self.old) }
+    {
+        let assignments = Items::new(alloc);
+        if self.take(Sign::BlockEnd) {
+            return Ok(assignments);
+        }
+        let assignments = self.one_assignment(alloc, depth, assignments)?;
+        let assignments = self.more_assignments(alloc, depth, assignments)?;
+        self.take(Sign::Comma);
+        self.expect(Sign::BlockEnd)?;
+        Ok(assignments)
+    }
+
+    /// More assignments, each behind a comma.
+    #[tactic(auto, using(crate::proofs::Loops::commas))]
+    fn more_assignments(
+        &mut self,
+        alloc: Global,
+        depth: u8,
+        first: Items<Assignment>,
+    ) -> Result<Items<Assignment>, Error>
+        ensures { Gives result self.new
+            ((more_items sign.BlockEnd (assignment (inside depth)) first).reads self.old) }
+    {
+        let mut assignments = first;
+        while self.take_comma(Sign::BlockEnd) {
+            assignments = self.one_assignment(alloc, depth, assignments)?;
+        }
+        Ok(assignments)
+    }
+
+    /// An assignment, at the end of others.
+    #[tactic(auto, unfolding(crate::specs::Statements::assignment))]
+    fn one_assignment(
+        &mut self,
+        alloc: Global,
+        depth: u8,
+        assignments: Items<Assignment>,
+    ) -> Result<Items<Assignment>, Error>
+        ensures { Gives result self.new
+            ((one_more (assignment (inside depth)) assignments).reads self.old) }
+    {
+        let mut assignments = assignments;
+        let target = self.inner_target(alloc, depth, Sign::Assign)?;
+        let value = self.inner_expr(alloc, depth)?;
+        assignments.push(Assignment::Assignment(target, value))?;
+        Ok(assignments)
+    }
+}
+
+/// What a value and its steps are as a target. SyntaxError where they are none, OutOfMemory.
+#[tactic(auto, using(crate::proofs::Nesting::members))]
+fn target_of(alloc: Global, value: Boxed<Expr>, steps: Items<Step>) -> Result<Target, Error>
+    ensures { MatchResult result
+        (λ target. grammar.target_of value steps ≡ Some target)
+        (λ e. Refused e (grammar.target_of value steps ≡ None)) }
+{
+    let mut steps = steps;
+    let Some(last) = steps.pop() else {
+        return lone_target(value.get());
+    };
+    let Some(name) = attribute_name(&last) else {
+        return Err(refusal());
+    };
+    let name = name.share()?;
+    Ok(Target::Attribute(chained(alloc, value, steps)?, name))
+}
+
+/// What a value is as a target. SyntaxError where it is none; OutOfMemory.
+fn lone_target(value: &Expr) -> Result<Target, Error>
+    ensures { MatchResult result
+        (λ target. grammar.lone_target value.now ≡ Some target)
+        (λ e. Refused e (grammar.lone_target value.now ≡ None)) }
+{
+    match value {
+        Expr::Var(name) => Ok(Target::Name(name.share()?)),
+        _ => Err(refusal()),
+    }
+}
+
+/// The name of an attribute; none of another step.
+fn attribute_name(step: &Step) -> Option<&Name>
+    ensures { option_copied result ≡ grammar.attribute_name step.now }
+{
+    match step {
+        Step::Attribute(name) => Some(name),
+        _ => None,
+    }
+}
