@@ -1,4 +1,5 @@
 pub mod Steps
+pub mod NamePool
 pub mod Names
 pub mod Numbers
 pub mod Texts

@@ -1,22 +1,36 @@
 //! The names of a source, each text held once.
-ghost use Rattle.std.specs.Prelude.{◌≡◌, [], ◌∷◌, IfOk, IfErr};
+ghost use Rattle.std.specs.Prelude.{◌≡◌, true, [], ◌∷◌, IfOk, IfErr, OnOk};
+ghost use Rattle.tm_scanner.specs.NamePool.{holds};
 ghost use Rattle.tm_values.specs.declared.error.ErrorKind.TheVariants.{OutOfMemory};
 
 use std::alloc::Global;
 use std::collections::BTreeSet;
+use std::marker::Model;
 use std::rc::RcStr;
 use tm_syntax::Name;
 use tm_values::Error;
 
-/// The texts of the names that a source had so far.
+/// The texts of the names that a source had so far. A contract sees their bytes.
 #[derive(Drop)]
 pub(crate) struct NamePool {
     texts: BTreeSet<RcStr>,
 }
 
+impl Model for NamePool {
+    ghost use Rattle.std.specs.Prelude.{List, ℕ};
+
+    ghost Value = { List (List ℕ) };
+
+    ghost use Rattle.tm_scanner.specs.NamePool.{texts_of};
+
+    ghost view = { λ a. texts_of a.texts.keys };
+}
+
 impl NamePool {
     /// No names.
-    pub(crate) fn new(alloc: Global) -> NamePool {
+    pub(crate) fn new(alloc: Global) -> NamePool
+        ensures { result ≡ [] }
+    {
         NamePool {
             texts: BTreeSet::new(alloc),
         }
@@ -25,6 +39,7 @@ impl NamePool {
     /// The name of this text, which shares its memory with an earlier one. OutOfMemory.
     pub(crate) fn name(&mut self, alloc: Global, text: &str) -> Result<Name, Error>
         ensures found { IfOk result (λ name. name ≡ text.now) }
+        ensures kept { OnOk result (holds self.new text.now ≡ true) }
         ensures refused { IfErr result (λ e. e ≡ OutOfMemory ∷ []) }
     {
         if let Some(known) = self.texts.get(text) {

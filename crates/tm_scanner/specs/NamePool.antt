@@ -1,0 +1,15 @@
+-- The texts of the names that a source had so far.
+use Rattle.std.specs.Prelude.{ℕ, List, Bool, nat_eq, map}
+use Rattle.std.specs.Cmp.Lexicographic.{pointwise}
+use Rattle.std.specs.List.{list_any}
+use Rattle.std.specs.Rc.{rc_str_bytes}
+use Rattle.std.specs.declared.alloc.Global.{Global}
+use Rattle.std.specs.declared.rc.RcStr.{RcStr}
+
+-- the texts as the program holds them
+abbrev pub texts_of : List (RcStr Global) → List (List ℕ)
+texts_of ks = map rc_str_bytes ks
+
+-- whether a text is among them
+abbrev pub holds : List (List ℕ) → List ℕ → Bool
+holds texts text = list_any (pointwise nat_eq text) texts
