@@ -166,6 +166,27 @@ static ROWS: &[Row] = &[
     Row("{% raw %}", "", Err(ErrorKind::SyntaxError)),
     Row("{{ {\"a\": {\"b\": 1}}}}", "{\"a\": {\"b\": 1}}", Ok(6)),
     Row("{{ \"%}\" ~ '}}' }}", "%}}}", Ok(4)),
+    Row(
+        "{% with a = 1, b = a %}{{ b }}{% endwith %}{{ b }}",
+        "1",
+        Ok(8),
+    ),
+    Row(
+        "{% with %}{% set w = 2 %}{{ w }}{% endwith %}{{ w }}",
+        "2World",
+        Ok(6),
+    ),
+    Row("{% set a, b = 1, 2 %}{{ a }}{{ b }}", "12", Ok(10)),
+    Row(
+        "{% set (a, (b, c)) = (1, (2, 3)) %}{{ c }}{{ b }}{{ a }}",
+        "321",
+        Ok(16),
+    ),
+    Row("x{% set a, b = [1] %}", "x", Err(ErrorKind::CannotUnpack)),
+    Row("{% set a.b = 1 %}", "", Err(ErrorKind::InvalidOperation)),
+    Row("{% do keep() %}{{ read() }}", "1", Ok(3)),
+    Row("{% do w %}", "", Err(ErrorKind::SyntaxError)),
+    Row("{% set x %}", "", Err(ErrorKind::SyntaxError)),
 ];
 
 /// The context of the rows: a truth value, a text and an empty map.
@@ -212,6 +233,16 @@ fn keeps_apart(environment: &Rows) -> Result<bool, Error> {
     Ok(*kept == Value::number(1) && state.lookup("k")?.is_none() && state.exports()?.is_empty())
 }
 
+/// Whether a name of the outermost scope is exported, and one that begins with `_` isn't.
+fn exports(environment: &Rows) -> Result<bool, Error> {
+    let source = "{% set _x = 1 %}{% set y = 2 %}{% with z = 3 %}{% endwith %}";
+    let template = environment.template_from_str(source)?;
+    let mut ids = StateIds::new();
+    let captured = template.render_captured_to(&mut ids, Value::undefined(), &mut NullWriter)?;
+    let names = captured.state().exports()?;
+    Ok(names.len() == 1 && names[0] == "y")
+}
+
 /// Renders the rows, and compares what they write and how they end.
 fn expect_rows(rt: &impl Abort, alloc: Global, environment: &Rows) -> Result<(), Fail> {
     for Row(source, text, end) in ROWS {
@@ -228,5 +259,6 @@ fn rows_render(rt: HostRuntime) -> Result<(), Fail> {
     let environment = row_environment(rt.alloc())?;
     expect_rows(&rt, rt.alloc(), &environment)?;
     assert!(rt; keeps_apart(&environment)?);
+    assert!(rt; exports(&environment)?);
     Ok(())
 }
