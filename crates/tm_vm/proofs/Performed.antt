@@ -70,3 +70,5 @@ needed {f = f} {n = n} {old = old} {new = new} {told = told} (Err halt.Stuck) s 
     record { did = (s.did, beginning_nothing told (output n)); counted = refl; kept = s.kept; depths = stays f old.world new.world s.deepens; same_stream = s.same_stream }
 needed {f = f} {n = n} {old = old} {new = new} {told = told} (Err (halt.Fault chain)) s =
     record { did = (s.did, beginning_nothing told (output n)); counted = refl; kept = s.kept; depths = stays f old.world new.world s.deepens; same_stream = s.same_stream }
+
+pub ruleset kinds = (silent, shifted, wrote, needed)

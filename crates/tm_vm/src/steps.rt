@@ -17,7 +17,7 @@ use tm_values::{Error, ErrorKind};
 impl Machine<'_> {
     /// Does an instruction that was paid for.
     #[inline(always)]
-    #[tactic(auto, using(crate::proofs::Performed::silent, crate::proofs::Performed::shifted, crate::proofs::Performed::wrote, crate::proofs::Performed::needed))]
+    #[tactic(auto, using(crate::proofs::Performed::kinds))]
     pub(crate) fn perform<H: Host, W: Sink>(
         &mut self,
         alloc: Global,
