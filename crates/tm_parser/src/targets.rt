@@ -71,7 +71,8 @@ impl Cursor<'_> {
         close: Sign,
         first: Items<Target>,
     ) -> Result<Items<Target>, Error>
-        ensures { Gives result self.new ((items close (single (inside depth)) first).reads self.old) }
+        ensures { Gives result self.new
+            ((items close (single (inside depth)) first).reads self.old) }
     {
         if self.take(close) {
             return Ok(first);
@@ -111,7 +112,8 @@ impl Cursor<'_> {
         depth: u8,
         targets: Items<Target>,
     ) -> Result<Items<Target>, Error>
-        ensures { Gives result self.new ((one_more (single (inside depth)) targets).reads self.old) }
+        ensures { Gives result self.new
+            ((one_more (single (inside depth)) targets).reads self.old) }
     {
         let mut targets = targets;
         targets.push(self.single(alloc, depth)?)?;
