@@ -1,5 +1,5 @@
 -- The texts of the names that a source had so far.
-use Rattle.std.specs.Prelude.{ℕ, List, Bool, nat_eq, map}
+use Rattle.std.specs.Prelude.{◌≡◌, ℕ, List, Bool, ◌||◌, nat_eq, map}
 use Rattle.std.specs.Cmp.Lexicographic.{pointwise}
 use Rattle.std.specs.List.{list_any}
 use Rattle.std.specs.Rc.{rc_str_bytes}
@@ -13,3 +13,7 @@ texts_of ks = map rc_str_bytes ks
 -- whether a text is among them
 abbrev pub holds : List (List ℕ) → List ℕ → Bool
 holds texts text = list_any (pointwise nat_eq text) texts
+
+-- The new texts are the old ones and this one.
+abbrev pub IsWith : List ℕ → List (List ℕ) → List (List ℕ) → Type 0
+IsWith text old new = (q : List ℕ) → holds new q ≡ (holds old q || pointwise nat_eq q text)

@@ -1,6 +1,6 @@
 //! The names of a source, each text held once.
-ghost use Rattle.std.specs.Prelude.{◌≡◌, true, [], ◌∷◌, IfOk, IfErr, OnOk};
-ghost use Rattle.tm_scanner.specs.NamePool.{holds};
+ghost use Rattle.std.specs.Prelude.{◌≡◌, [], ◌∷◌, IfOk, IfErr, OnOk};
+ghost use Rattle.tm_scanner.specs.NamePool.{IsWith};
 ghost use Rattle.tm_values.specs.declared.error.ErrorKind.TheVariants.{OutOfMemory};
 
 use std::alloc::Global;
@@ -39,7 +39,7 @@ impl NamePool {
     /// The name of this text, which shares its memory with an earlier one. OutOfMemory.
     pub(crate) fn name(&mut self, alloc: Global, text: &str) -> Result<Name, Error>
         ensures found { IfOk result (λ name. name ≡ text.now) }
-        ensures kept { OnOk result (holds self.new text.now ≡ true) }
+        ensures kept { OnOk result (IsWith text.now self.old self.new) }
         ensures refused { IfErr result (λ e. e ≡ OutOfMemory ∷ []) }
     {
         if let Some(known) = self.texts.get(text) {

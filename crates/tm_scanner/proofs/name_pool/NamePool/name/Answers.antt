@@ -1,8 +1,10 @@
-use Rattle.std.proofs.Common.{sym, ◌∙◌, ap}
+use Rattle.std.proofs.Common.{nat_eq, sym, ◌∙◌, ap}
 use Rattle.std.proofs.lemmas.Map.Lookups.{exact_bytes}
+use Rattle.std.specs.Prelude.{◌||◌}
+use Rattle.std.specs.Cmp.Lexicographic.{pointwise}
 use Rattle.std.specs.Rc.{rc_str_bytes}
 use Rattle.tm_scanner.specs.NamePool.{holds, texts_of}
-use Rattle.tm_scanner.proofs.Pools.{holds-keys}
+use Rattle.tm_scanner.proofs.Pools.{holds-keys, with_held, with_key}
 use Rattle.tm_scanner.proofs.name_pool.NamePool.name.Goals as goal
 
 pub returns-in-Some-clause-found : goal.returns-in-Some-clause-found
@@ -13,10 +15,14 @@ returns-in-Some-clause-found c =
 pub returns-in-Some-clause-kept : goal.returns-in-Some-clause-kept
 returns-in-Some-clause-kept c =
     let text = c.args.text.now in
-    ap (λ texts. holds texts text) (sym c.self.view_is) ∙ sym (holds-keys text c.self.inside.texts.keys) ∙ sym c.in-Some.ensures.variant
+    with_held text c.args.self.now
+    (ap (λ texts. holds texts text) (sym c.self.view_is) ∙ sym (holds-keys text c.self.inside.texts.keys) ∙ sym c.in-Some.ensures.variant)
 
 pub returns-clause-kept : goal.returns-clause-kept
 returns-clause-kept c =
-    let keys = c.insert.new.self.keys in
+    let key = c.in_ok-clone-2.field-0 in
     let same = c.in_ok-clone-2.ensures.cases ∙ c.in_ok-name.ensures.ok in
-    ap (holds (texts_of keys)) (sym same) ∙ sym (holds-keys (rc_str_bytes c.in_ok-clone-2.field-0) keys) ∙ c.in_ok-insert.ensures.updates.1
+    λ q. ap (λ keys. holds (texts_of keys) q) c.in_ok-insert.ensures.keys
+    ∙ with_key key c.self.inside.texts.keys q
+    ∙ ap (λ texts. holds texts q || pointwise nat_eq q (rc_str_bytes key)) c.self.view_is
+    ∙ ap (λ text. holds c.args.self.now q || pointwise nat_eq q text) same
