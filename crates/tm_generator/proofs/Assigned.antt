@@ -15,6 +15,6 @@ unfolding hidden targets
 code-unpack pc ts = refl
 
 pub made_unpack : (base c1 c2 : List Instruction) (n : ℕ) (ts : List Target) → n ≡ length ts → c1 ≡ base ++ i.UnpackList n ∷ [] → c2 ≡ c1 ++ targets_code (length c1) (targets ts) → c2 ≡ base ++ target_code (length base) (t.Unpack ts)
-made_unpack base c1 c2 n ts m d d2 =
-    placed base c1 c2 (i.UnpackList n ∷ []) (λ k. targets_code k (targets ts)) d d2
+made_unpack base c1 c2 n ts m d put2 =
+    placed base c1 c2 (i.UnpackList n ∷ []) (λ k. targets_code k (targets ts)) d put2
     ∙ ap (λ k. base ++ i.UnpackList k ∷ targets_code (length base + 1) (targets ts)) (m ∙ sym (count-targets ts)) ∙ ap (λ l. base ++ l) (sym (code-unpack (length base) ts))

@@ -64,74 +64,74 @@ next xs k x lt d = grind (arith, drop-cons xs k x lt, d)
 -- ---------------------------------------------------------------- forms
 -- one part, and what is put behind it
 behind : (base c1 c2 first rest : List Instruction) → c1 ≡ base ++ first → c2 ≡ c1 ++ rest → c2 ≡ base ++ (first ++ rest)
-behind base c1 c2 first rest d d2 = d2 ∙ ap (λ l. l ++ rest) d ∙ append_assoc base first rest
+behind base c1 c2 first rest d put2 = put2 ∙ ap (λ l. l ++ rest) d ∙ append_assoc base first rest
 
 -- one part, and another at the place behind it
 pub placed : (base c1 c2 first : List Instruction) (rest : ℕ → List Instruction) → c1 ≡ base ++ first → c2 ≡ c1 ++ rest (length c1) → c2 ≡ base ++ before (length base) first rest
-placed base c1 c2 first rest d d2 = behind base c1 c2 first (rest (length base + length first)) d (d2 ∙ ap (λ n. c1 ++ rest n) (ap length d ∙ length-append base first))
+placed base c1 c2 first rest d put2 = behind base c1 c2 first (rest (length base + length first)) d (put2 ∙ ap (λ n. c1 ++ rest n) (ap length d ∙ length-append base first))
 
 -- parts, and the instruction that takes so many
 counted : (take_all : ℕ → Instruction) (base c1 c2 parts : List Instruction) (n m : ℕ) → c1 ≡ base ++ parts → n ≡ m → c2 ≡ c1 ++ take_all n ∷ [] → c2 ≡ base ++ (parts ++ take_all m ∷ [])
-counted take_all base c1 c2 parts n m d k d2 = behind base c1 c2 parts (take_all m ∷ []) d (d2 ∙ ap (λ j. c1 ++ take_all j ∷ []) k)
+counted take_all base c1 c2 parts n m d k put2 = behind base c1 c2 parts (take_all m ∷ []) d (put2 ∙ ap (λ j. c1 ++ take_all j ∷ []) k)
 
 pub made_list : (base c1 c2 : List Instruction) (n : ℕ) (xs : List Expr) → c1 ≡ base ++ exprs_code (length base) (exprs xs) → n ≡ length xs → c2 ≡ c1 ++ i.BuildList n ∷ [] → c2 ≡ base ++ expr_code (length base) (e.List xs)
-made_list base c1 c2 n xs d k d2 = counted i.BuildList base c1 c2 (exprs_code (length base) (exprs xs)) n (count_exprs (exprs xs)) d (k ∙ sym (count-exprs xs)) d2
+made_list base c1 c2 n xs d k put2 = counted i.BuildList base c1 c2 (exprs_code (length base) (exprs xs)) n (count_exprs (exprs xs)) d (k ∙ sym (count-exprs xs)) put2
 
 pub made_tuple : (base c1 c2 : List Instruction) (n : ℕ) (xs : List Expr) → c1 ≡ base ++ exprs_code (length base) (exprs xs) → n ≡ length xs → c2 ≡ c1 ++ i.BuildTuple n ∷ [] → c2 ≡ base ++ expr_code (length base) (e.Tuple xs)
-made_tuple base c1 c2 n xs d k d2 = counted i.BuildTuple base c1 c2 (exprs_code (length base) (exprs xs)) n (count_exprs (exprs xs)) d (k ∙ sym (count-exprs xs)) d2
+made_tuple base c1 c2 n xs d k put2 = counted i.BuildTuple base c1 c2 (exprs_code (length base) (exprs xs)) n (count_exprs (exprs xs)) d (k ∙ sym (count-exprs xs)) put2
 
 pub made_map : (base c1 c2 : List Instruction) (n : ℕ) (xs : List Pair) → c1 ≡ base ++ pairs_code (length base) (pairs xs) → n ≡ length xs → c2 ≡ c1 ++ i.BuildMap n ∷ [] → c2 ≡ base ++ expr_code (length base) (e.Map xs)
-made_map base c1 c2 n xs d k d2 = counted i.BuildMap base c1 c2 (pairs_code (length base) (pairs xs)) n (count_pairs (pairs xs)) d (k ∙ sym (count-pairs xs)) d2
+made_map base c1 c2 n xs d k put2 = counted i.BuildMap base c1 c2 (pairs_code (length base) (pairs xs)) n (count_pairs (pairs xs)) d (k ∙ sym (count-pairs xs)) put2
 
 pub made_call : (base c1 c2 : List Instruction) (n : ℕ) (f g : List ℕ) (xs : List Argument) → c1 ≡ base ++ arguments_code (length base) (arguments xs) → n ≡ length xs → g ≡ f → c2 ≡ c1 ++ i.CallFunction g n ∷ [] →
     c2 ≡ base ++ expr_code (length base) (e.Call f xs)
-made_call base c1 c2 n f g xs d m k d2 =
-    counted (i.CallFunction f) base c1 c2 (arguments_code (length base) (arguments xs)) n (count (arguments xs)) d (m ∙ sym (count-arguments xs)) (d2 ∙ ap (λ h. c1 ++ i.CallFunction h n ∷ []) k)
+made_call base c1 c2 n f g xs d m k put2 =
+    counted (i.CallFunction f) base c1 c2 (arguments_code (length base) (arguments xs)) n (count (arguments xs)) d (m ∙ sym (count-arguments xs)) (put2 ∙ ap (λ h. c1 ++ i.CallFunction h n ∷ []) k)
 
 pub made_unary : (base c1 c2 : List Instruction) (o : Instruction) (op : UnaryOperator) (x : Expr) → c1 ≡ base ++ expr_code (length base) x → o ≡ unary_code op → c2 ≡ c1 ++ o ∷ [] → c2 ≡ base ++ expr_code (length base) (e.Unary op x)
-made_unary base c1 c2 o op x d k d2 =
-    behind base c1 c2 (expr_code (length base) x) (unary_code op ∷ []) d (d2 ∙ ap (λ j. c1 ++ j ∷ []) k) ∙ ap (λ l. base ++ l) (sym (code-unary (length base) op x))
+made_unary base c1 c2 o op x d k put2 =
+    behind base c1 c2 (expr_code (length base) x) (unary_code op ∷ []) d (put2 ∙ ap (λ j. c1 ++ j ∷ []) k) ∙ ap (λ l. base ++ l) (sym (code-unary (length base) op x))
 
 pub made_chain : (base c1 c2 : List Instruction) (x : Expr) (ss : List Step) → c1 ≡ base ++ expr_code (length base) x → c2 ≡ c1 ++ steps_code (length c1) (steps ss) → c2 ≡ base ++ expr_code (length base) (e.Chain x ss)
-made_chain base c1 c2 x ss d d2 =
-    placed base c1 c2 (expr_code (length base) x) (λ n. steps_code n (steps ss)) d d2 ∙ ap (λ l. base ++ l) (sym (code-chain (length base) x ss))
+made_chain base c1 c2 x ss d put2 =
+    placed base c1 c2 (expr_code (length base) x) (λ n. steps_code n (steps ss)) d put2 ∙ ap (λ l. base ++ l) (sym (code-chain (length base) x ss))
 
 pub made_pair : (base c1 c2 : List Instruction) (x : Pair) (h g : _) (k v : Expr) → k ≡ (values_d the_pair 0 h x).0 → v ≡ (values_d the_pair 0 g x).1.0 → c1 ≡ base ++ expr_code (length base) k → c2 ≡ c1 ++ expr_code (length c1) v →
     c2 ≡ base ++ pair_code (length base) x
-made_pair base c1 c2 x h g k v ek ev d d2 =
-    placed base c1 c2 (expr_code (length base) k) (λ n. expr_code n v) d d2 ∙ ap (λ z. base ++ pair_code (length base) z) (sym (whole_pair x h g k v ek ev))
+made_pair base c1 c2 x h g k v ek ev d put2 =
+    placed base c1 c2 (expr_code (length base) k) (λ n. expr_code n v) d put2 ∙ ap (λ z. base ++ pair_code (length base) z) (sym (whole_pair x h g k v ek ev))
 
 pub made_plain : (base c1 : List Instruction) (x : Argument) (h : _) (y : Expr) → y ≡ (values_d the_enum 0 h x).0 → c1 ≡ base ++ expr_code (length base) y → c1 ≡ base ++ argument_code (length base) x
 made_plain base c1 x h y e d = d ∙ ap (λ z. base ++ expr_code (length base) z) e ∙ ap (λ z. base ++ argument_code (length base) z) (sym (whole x h))
 
 pub made_item : (base c1 c2 : List Instruction) (x : Expr) → c1 ≡ base ++ expr_code (length base) x → c2 ≡ c1 ++ i.GetItem ∷ [] → c2 ≡ base ++ step_code (length base) (s.Item x)
-made_item base c1 c2 x d d2 = behind base c1 c2 (expr_code (length base) x) (i.GetItem ∷ []) d d2 ∙ ap (λ l. base ++ l) (sym (code-item (length base) x))
+made_item base c1 c2 x d put2 = behind base c1 c2 (expr_code (length base) x) (i.GetItem ∷ []) d put2 ∙ ap (λ l. base ++ l) (sym (code-item (length base) x))
 
 pub made_slice : (base c1 c2 c3 c4 : List Instruction) (x y z : Expr) → c1 ≡ base ++ expr_code (length base) x → c2 ≡ c1 ++ expr_code (length c1) y → c3 ≡ c2 ++ expr_code (length c2) z → c4 ≡ c3 ++ i.Slice ∷ [] →
     c4 ≡ base ++ step_code (length base) (s.Slice x y z)
-made_slice base c1 c2 c3 c4 x y z d1 d2 d3 d4 =
+made_slice base c1 c2 c3 c4 x y z put1 put2 put3 put4 =
     let last : ℕ → List Instruction = λ n. expr_code n z ++ i.Slice ∷ [] in
-    placed base c1 c4 (expr_code (length base) x) (λ n. before n (expr_code n y) last) d1
-    (placed c1 c2 c4 (expr_code (length c1) y) last d2 (behind c2 c3 c4 (expr_code (length c2) z) (i.Slice ∷ []) d3 d4))
+    placed base c1 c4 (expr_code (length base) x) (λ n. before n (expr_code n y) last) put1
+    (placed c1 c2 c4 (expr_code (length c1) y) last put2 (behind c2 c3 c4 (expr_code (length c2) z) (i.Slice ∷ []) put3 put4))
     ∙ ap (λ l. base ++ l) (sym (code-slice (length base) x y z))
 
 pub made_binary : (base c1 c2 : List Instruction) (op : BinaryOperator) (x : Expr) → c1 ≡ base ++ expr_code (length base) x → c2 ≡ c1 ++ binary_code op → c2 ≡ base ++ step_code (length base) (s.Binary op x)
-made_binary base c1 c2 op x d d2 = behind base c1 c2 (expr_code (length base) x) (binary_code op) d d2 ∙ ap (λ l. base ++ l) (sym (code-binary (length base) op x))
+made_binary base c1 c2 op x d put2 = behind base c1 c2 (expr_code (length base) x) (binary_code op) d put2 ∙ ap (λ l. base ++ l) (sym (code-binary (length base) op x))
 
 -- a jump that is set behind what it leads over
 pub patched : (jump : ℕ → Instruction) (base c1 c2 c3 : List Instruction) (x : Instruction) (code : ℕ → List Instruction) (n1 n2 : ℕ) → n1 ≡ length base → c1 ≡ base ++ x ∷ [] → c2 ≡ c1 ++ code (length c1) → n2 ≡ length c2 → c3 ≡ slice_set c2 n1 (jump n2) →
     c3 ≡ base ++ jump (length base + 1 + length (code (length base + 1))) ∷ code (length base + 1)
-patched jump base c1 c2 c3 x code n1 n2 m1 d1 d2 m2 d3 =
-    let l1 : length c1 ≡ length base + 1 = ap length d1 ∙ length-append base (x ∷ []) in
-    let all : c2 ≡ base ++ x ∷ code (length base + 1) = d2 ∙ ap (λ n. c1 ++ code n) l1 ∙ ap (λ l. l ++ code (length base + 1)) d1 ∙ append_assoc base (x ∷ []) _ in
-    let l2 : n2 ≡ length base + 1 + length (code (length base + 1)) = omega (arith, m2, ap length all, length-append base (x ∷ code (length base + 1))) in
-    d3 ∙ ap (λ l. slice_set l n1 (jump n2)) all ∙ ap (λ n. slice_set (base ++ x ∷ code (length base + 1)) n (jump n2)) m1
-    ∙ set-append_seam base x (code (length base + 1)) (jump n2) ∙ ap (λ n. base ++ jump n ∷ code (length base + 1)) l2
+patched jump base c1 c2 c3 x code n1 n2 m1 put1 put2 m2 put3 =
+    let long1 : length c1 ≡ length base + 1 = ap length put1 ∙ length-append base (x ∷ []) in
+    let all : c2 ≡ base ++ x ∷ code (length base + 1) = put2 ∙ ap (λ n. c1 ++ code n) long1 ∙ ap (λ l. l ++ code (length base + 1)) put1 ∙ append_assoc base (x ∷ []) _ in
+    let long2 : n2 ≡ length base + 1 + length (code (length base + 1)) = omega (arith, m2, ap length all, length-append base (x ∷ code (length base + 1))) in
+    put3 ∙ ap (λ l. slice_set l n1 (jump n2)) all ∙ ap (λ n. slice_set (base ++ x ∷ code (length base + 1)) n (jump n2)) m1
+    ∙ set-append_seam base x (code (length base + 1)) (jump n2) ∙ ap (λ n. base ++ jump n ∷ code (length base + 1)) long2
 
 pub made_and : (base c1 c2 c3 : List Instruction) (y : Instruction) (n1 n2 : ℕ) (x : Expr) → n1 ≡ length base → c1 ≡ base ++ y ∷ [] → c2 ≡ c1 ++ expr_code (length c1) x → n2 ≡ length c2 → c3 ≡ slice_set c2 n1 (i.JumpIfFalseOrPop n2) →
     c3 ≡ base ++ step_code (length base) (s.And x)
-made_and base c1 c2 c3 y n1 n2 x m1 d1 d2 m2 d3 = patched i.JumpIfFalseOrPop base c1 c2 c3 y (λ n. expr_code n x) n1 n2 m1 d1 d2 m2 d3 ∙ ap (λ l. base ++ l) (sym (code-and (length base) x))
+made_and base c1 c2 c3 y n1 n2 x m1 put1 put2 m2 put3 = patched i.JumpIfFalseOrPop base c1 c2 c3 y (λ n. expr_code n x) n1 n2 m1 put1 put2 m2 put3 ∙ ap (λ l. base ++ l) (sym (code-and (length base) x))
 
 pub made_or : (base c1 c2 c3 : List Instruction) (y : Instruction) (n1 n2 : ℕ) (x : Expr) → n1 ≡ length base → c1 ≡ base ++ y ∷ [] → c2 ≡ c1 ++ expr_code (length c1) x → n2 ≡ length c2 → c3 ≡ slice_set c2 n1 (i.JumpIfTrueOrPop n2) →
     c3 ≡ base ++ step_code (length base) (s.Or x)
-made_or base c1 c2 c3 y n1 n2 x m1 d1 d2 m2 d3 = patched i.JumpIfTrueOrPop base c1 c2 c3 y (λ n. expr_code n x) n1 n2 m1 d1 d2 m2 d3 ∙ ap (λ l. base ++ l) (sym (code-or (length base) x))
+made_or base c1 c2 c3 y n1 n2 x m1 put1 put2 m2 put3 = patched i.JumpIfTrueOrPop base c1 c2 c3 y (λ n. expr_code n x) n1 n2 m1 put1 put2 m2 put3 ∙ ap (λ l. base ++ l) (sym (code-or (length base) x))

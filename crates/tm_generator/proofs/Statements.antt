@@ -68,8 +68,8 @@ if_blocks c body m m1 d = d ∙ ap (λ l. put_each (compiled_blocks l) m) (sym (
 
 pub else_blocks : (c : Expr) (body other : List Stmt) (m m1 m2 : Blocks) → m1 ≡ put_each (compiled_blocks (blocks_in (statements body))) m → m2 ≡ put_each (compiled_blocks (blocks_in (statements other))) m1 →
     m2 ≡ put_each (compiled_blocks (blocks_of (st.If c body (Some other)))) m
-else_blocks c body other m m1 m2 d d2 =
-    d2 ∙ ap (put_each (compiled_blocks (blocks_in (statements other)))) d ∙ sym (both (blocks_in (statements body)) (blocks_in (statements other)) m)
+else_blocks c body other m m1 m2 d put2 =
+    put2 ∙ ap (put_each (compiled_blocks (blocks_in (statements other)))) d ∙ sym (both (blocks_in (statements body)) (blocks_in (statements other)) m)
     ∙ ap (λ l. put_each (compiled_blocks l) m) (sym (blocks-else c body other))
 
 pub block_blocks : (x : List ℕ) (body : List Stmt) (m m1 : Blocks) → m1 ≡ put x (statements_code 0 (statements body)) (put_each (compiled_blocks (blocks_in (statements body))) m) →
@@ -88,52 +88,52 @@ no_more_blocks m goal xs e g = ap (λ l. put_each (compiled_blocks l) m) (sym bl
 
 -- ---------------------------------------------------------------- code
 pub made_emit : (base c1 c2 : List Instruction) (x : Expr) → c1 ≡ base ++ expr_code (length base) x → c2 ≡ c1 ++ i.Emit ∷ [] → c2 ≡ base ++ statement_code (length base) (st.EmitExpr x)
-made_emit base c1 c2 x d d2 = d2 ∙ ap (λ l. l ++ i.Emit ∷ []) d ∙ append_assoc base _ _
+made_emit base c1 c2 x d put2 = put2 ∙ ap (λ l. l ++ i.Emit ∷ []) d ∙ append_assoc base _ _
 
 -- a test, a jump that is set later, and what it leads over
 tested : (base c1 c2 c3 test : List Instruction) (y : Instruction) (code : ℕ → List Instruction) → c1 ≡ base ++ test → c2 ≡ c1 ++ y ∷ [] → c3 ≡ c2 ++ code (length c2) →
     c3 ≡ (base ++ test) ++ y ∷ code (length base + length test + 1)
-tested base c1 c2 c3 test y code d1 d2 d3 =
-    let l1 : length c1 ≡ length base + length test = ap length d1 ∙ length-append base test in
-    let l2 : length c2 ≡ length base + length test + 1 = omega (arith, ap length d2, length-append c1 (y ∷ []), l1) in
-    d3 ∙ ap (λ n. c2 ++ code n) l2 ∙ ap (λ l. l ++ code (length base + length test + 1)) d2 ∙ append_assoc c1 (y ∷ []) _ ∙ ap (λ l. l ++ y ∷ code (length base + length test + 1)) d1
+tested base c1 c2 c3 test y code put1 put2 put3 =
+    let long1 : length c1 ≡ length base + length test = ap length put1 ∙ length-append base test in
+    let long2 : length c2 ≡ length base + length test + 1 = omega (arith, ap length put2, length-append c1 (y ∷ []), long1) in
+    put3 ∙ ap (λ n. c2 ++ code n) long2 ∙ ap (λ l. l ++ code (length base + length test + 1)) put2 ∙ append_assoc c1 (y ∷ []) _ ∙ ap (λ l. l ++ y ∷ code (length base + length test + 1)) put1
 
 pub made_if : (base c1 c2 c3 c4 : List Instruction) (y : Instruction) (n1 n2 : ℕ) (c : Expr) (body : List Stmt) → c1 ≡ base ++ expr_code (length base) c → n1 ≡ length c1 → c2 ≡ c1 ++ y ∷ [] →
     c3 ≡ c2 ++ statements_code (length c2) (statements body) → n2 ≡ length c3 → c4 ≡ slice_set c3 n1 (i.JumpIfFalse n2) → c4 ≡ base ++ statement_code (length base) (st.If c body None)
-made_if base c1 c2 c3 c4 y n1 n2 c body d1 m1 d2 d3 m2 d4 =
+made_if base c1 c2 c3 c4 y n1 n2 c body put1 m1 put2 put3 m2 put4 =
     let test = expr_code (length base) c in
     let first = statements_code (length base + length test + 1) (statements body) in
-    let all : c3 ≡ (base ++ test) ++ y ∷ first = tested base c1 c2 c3 test y (λ n. statements_code n (statements body)) d1 d2 d3 in
-    let at1 : n1 ≡ length (base ++ test) = m1 ∙ ap length d1 in
+    let all : c3 ≡ (base ++ test) ++ y ∷ first = tested base c1 c2 c3 test y (λ n. statements_code n (statements body)) put1 put2 put3 in
+    let at1 : n1 ≡ length (base ++ test) = m1 ∙ ap length put1 in
     let at2 : n2 ≡ length base + length test + 1 + length first + 0 = omega (arith, m2, ap length all, length-append (base ++ test) (y ∷ first), length-append base test) in
-    d4 ∙ ap (λ l. slice_set l n1 (i.JumpIfFalse n2)) all ∙ ap (λ n. slice_set ((base ++ test) ++ y ∷ first) n (i.JumpIfFalse n2)) at1 ∙ set-append_seam (base ++ test) y first (i.JumpIfFalse n2)
+    put4 ∙ ap (λ l. slice_set l n1 (i.JumpIfFalse n2)) all ∙ ap (λ n. slice_set ((base ++ test) ++ y ∷ first) n (i.JumpIfFalse n2)) at1 ∙ set-append_seam (base ++ test) y first (i.JumpIfFalse n2)
     ∙ append_assoc base test (i.JumpIfFalse n2 ∷ first) ∙ ap (λ n. base ++ (test ++ i.JumpIfFalse n ∷ first)) at2
     ∙ ap (λ l. base ++ (test ++ i.JumpIfFalse (length base + length test + 1 + length first + 0) ∷ l)) (sym (append-nil first)) ∙ ap (λ l. base ++ l) (sym (code-if (length base) c body))
 
 pub made_else : (base c1 c2 c3 c4 c5 set c6 : List Instruction) (y z : Instruction) (n1 n2 n3 n4 : ℕ) (c : Expr) (body other : List Stmt) → c1 ≡ base ++ expr_code (length base) c → n1 ≡ length c1 → c2 ≡ c1 ++ y ∷ [] →
     c3 ≡ c2 ++ statements_code (length c2) (statements body) → n2 ≡ length c3 → c4 ≡ c3 ++ z ∷ [] → n3 ≡ length c4 → c5 ≡ c4 ++ statements_code (length c4) (statements other) → n4 ≡ length c5 →
     set ≡ slice_set c5 n1 (i.JumpIfFalse n3) → c6 ≡ slice_set set n2 (i.Jump n4) → c6 ≡ base ++ statement_code (length base) (st.If c body (Some other))
-made_else base c1 c2 c3 c4 c5 set c6 y z n1 n2 n3 n4 c body other d1 m1 d2 d3 m2 d4 m3 d5 m4 d6 d7 =
+made_else base c1 c2 c3 c4 c5 set c6 y z n1 n2 n3 n4 c body other put1 m1 put2 put3 m2 put4 m3 put5 m4 put6 put7 =
     let test = expr_code (length base) c in
     let pc1 = length base + length test + 1 in
     let first = statements_code pc1 (statements body) in
     let pc2 = pc1 + length first in
     let second = statements_code (pc2 + 1) (statements other) in
     let front = base ++ test in
-    let l0 : length front ≡ length base + length test = length-append base test in
-    let all3 : c3 ≡ front ++ y ∷ first = tested base c1 c2 c3 test y (λ n. statements_code n (statements body)) d1 d2 d3 in
-    let l3 : length c3 ≡ pc2 = omega (arith, ap length all3, length-append front (y ∷ first), l0) in
-    let l4 : length c4 ≡ pc2 + 1 = omega (arith, ap length d4, length-append c3 (z ∷ []), l3) in
-    let all5 : c5 ≡ (front ++ y ∷ first) ++ z ∷ second = d5 ∙ ap (λ n. c4 ++ statements_code n (statements other)) l4 ∙ ap (λ l. l ++ second) d4 ∙ append_assoc c3 (z ∷ []) second ∙ ap (λ l. l ++ z ∷ second) all3 in
-    let l5 : n4 ≡ pc2 + 1 + length second = omega (arith, m4, ap length all5, length-append (front ++ y ∷ first) (z ∷ second), length-append front (y ∷ first), l0) in
+    let long0 : length front ≡ length base + length test = length-append base test in
+    let all3 : c3 ≡ front ++ y ∷ first = tested base c1 c2 c3 test y (λ n. statements_code n (statements body)) put1 put2 put3 in
+    let long3 : length c3 ≡ pc2 = omega (arith, ap length all3, length-append front (y ∷ first), long0) in
+    let long4 : length c4 ≡ pc2 + 1 = omega (arith, ap length put4, length-append c3 (z ∷ []), long3) in
+    let all5 : c5 ≡ (front ++ y ∷ first) ++ z ∷ second = put5 ∙ ap (λ n. c4 ++ statements_code n (statements other)) long4 ∙ ap (λ l. l ++ second) put4 ∙ append_assoc c3 (z ∷ []) second ∙ ap (λ l. l ++ z ∷ second) all3 in
+    let long5 : n4 ≡ pc2 + 1 + length second = omega (arith, m4, ap length all5, length-append (front ++ y ∷ first) (z ∷ second), length-append front (y ∷ first), long0) in
     let flat : (front ++ y ∷ first) ++ z ∷ second ≡ front ++ y ∷ (first ++ z ∷ second) = append_assoc front (y ∷ first) (z ∷ second) in
     let u = i.JumpIfFalse n3 in
     let v = i.Jump n4 in
-    let at1 : n1 ≡ length front = m1 ∙ ap length d1 in
-    let at2 : n2 ≡ length (front ++ u ∷ first) = omega (arith, m2, l3, length-append front (u ∷ first), l0) in
-    d7 ∙ ap (λ l. slice_set l n2 v) d6 ∙ ap (λ l. slice_set (slice_set l n1 u) n2 v) (all5 ∙ flat) ∙ ap (λ n. slice_set (slice_set (front ++ y ∷ (first ++ z ∷ second)) n u) n2 v) at1
+    let at1 : n1 ≡ length front = m1 ∙ ap length put1 in
+    let at2 : n2 ≡ length (front ++ u ∷ first) = omega (arith, m2, long3, length-append front (u ∷ first), long0) in
+    put7 ∙ ap (λ l. slice_set l n2 v) put6 ∙ ap (λ l. slice_set (slice_set l n1 u) n2 v) (all5 ∙ flat) ∙ ap (λ n. slice_set (slice_set (front ++ y ∷ (first ++ z ∷ second)) n u) n2 v) at1
     ∙ ap (λ l. slice_set l n2 v) (set-append_seam front y (first ++ z ∷ second) u ∙ sym (append_assoc front (u ∷ first) (z ∷ second)))
     ∙ ap (λ n. slice_set ((front ++ u ∷ first) ++ z ∷ second) n v) at2 ∙ set-append_seam (front ++ u ∷ first) z second v
     ∙ append_assoc front (u ∷ first) (v ∷ second) ∙ append_assoc base test (u ∷ (first ++ v ∷ second))
-    ∙ ap (λ n. base ++ (test ++ i.JumpIfFalse n ∷ (first ++ v ∷ second))) (m3 ∙ l4) ∙ ap (λ n. base ++ (test ++ i.JumpIfFalse (pc2 + 1) ∷ (first ++ i.Jump n ∷ second))) l5
+    ∙ ap (λ n. base ++ (test ++ i.JumpIfFalse n ∷ (first ++ v ∷ second))) (m3 ∙ long4) ∙ ap (λ n. base ++ (test ++ i.JumpIfFalse (pc2 + 1) ∷ (first ++ i.Jump n ∷ second))) long5
     ∙ ap (λ l. base ++ l) (sym (code-else (length base) c body other))
