@@ -6,9 +6,10 @@ ghost use Rattle.tm_tables.specs.Stated.{just, keeping};
 
 use std::alloc::Global;
 use std::test::Fail;
-use tm_compiler::{NameMap, SyntaxConfig};
+use tm_compiler::NameMap;
 use tm_tables::{
-    Answer, Callable, CompiledTemplate, Context, Frame, Objects, TemplateConfig, View,
+    Answer, Callable, CompiledTemplate, Context, Frame, Objects, Parties, Source, TemplateConfig,
+    View,
 };
 use tm_values::{AutoEscape, Error, UndefinedBehavior, Value};
 
@@ -30,7 +31,7 @@ fn kept(
     objects: &Objects<Box<dyn Callable>>,
     number: usize,
 ) -> Result<usize, Error> {
-    let context = Context::new_with_frame(alloc, Frame::new(Value::undefined()))?;
+    let context = Context::new_with_frame(alloc, Frame::new(alloc, Value::undefined()))?;
     let globals = NameMap::new(alloc);
     let temps = NameMap::new(alloc);
     let view = View::new(
