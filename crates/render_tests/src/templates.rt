@@ -165,21 +165,24 @@ fn angles(alloc: Global) -> Result<SyntaxConfig, Error> {
 }
 
 /// A source, and what it writes where undefined values are refused so, from the loosest behavior; none where one is refused.
-struct Refused(&'static str, [Option<&'static str>; 4]);
+struct Refused(&'static str, &'static [Option<&'static str>]);
 
 static REFUSED: &[Refused] = &[
-    Refused("[{{ x }}]", [Some("[]"), Some("[]"), None, None]),
-    Refused("{{ x.y }}", [None, Some(""), None, None]),
-    Refused("{{ 1 in x }}", [Some("false"), Some("false"), None, None]),
+    Refused("[{{ x }}]", &[Some("[]"), Some("[]"), None, None]),
+    Refused("{{ x.y }}", &[None, Some(""), None, None]),
+    Refused("{{ 1 in x }}", &[Some("false"), Some("false"), None, None]),
     Refused(
         "{{ x in [1] }}",
-        [Some("false"), Some("false"), Some("false"), None],
+        &[Some("false"), Some("false"), Some("false"), None],
     ),
-    Refused("{{ x[1:2] }}", [Some("[]"), Some("[]"), Some("[]"), None]),
-    Refused("{{ 1 if false }}", [Some(""), Some(""), Some(""), Some("")]),
+    Refused("{{ x[1:2] }}", &[Some("[]"), Some("[]"), Some("[]"), None]),
+    Refused(
+        "{{ 1 if false }}",
+        &[Some(""), Some(""), Some(""), Some("")],
+    ),
     Refused(
         "{{ (1 if false) ~ 'x' }}",
-        [Some("x"), Some("x"), Some("x"), None],
+        &[Some("x"), Some("x"), Some("x"), None],
     ),
 ];
 
@@ -196,7 +199,10 @@ fn hears(environment: &Unboxed<'static>, source: &'static str, wanted: Option<&s
 /// Whether all sources write what they write under the behavior of this number.
 fn refuses(environment: &Unboxed<'static>, behavior: usize) -> bool {
     for Refused(source, texts) in REFUSED {
-        if !hears(environment, source, texts[behavior]) {
+        let Some(wanted) = texts.get(behavior) else {
+            return false;
+        };
+        if !hears(environment, source, *wanted) {
             return false;
         }
     }
