@@ -1,5 +1,5 @@
 //! Output: captures that take a text before the writer does.
-ghost use Rattle.std.specs.Prelude.{◌≡◌, ◌≢◌, ◌⊎◌, Bool, [], ◌∷◌, length, None, Err, IsOk, IsSome, OnOk, OnErr, IfErr, MatchOption, string_bytes};
+ghost use Rattle.std.specs.Prelude.{◌≡◌, ◌≢◌, ◌⊎◌, ℕ, Bool, [], ◌∷◌, length, take, None, Err, IsOk, IsSome, OnOk, OnErr, IfErr, MatchOption, string_bytes};
 ghost use Rattle.std.specs.Io.KnownBytes.{Appends};
 ghost use Rattle.tm_values.specs.declared.error.ErrorKind.TheVariants.{WriteFailure, OutOfMemory};
 ghost use Rattle.tm_meaning.specs.Machine.{first_heard, new_capture, put_in, put_out};
@@ -130,7 +130,8 @@ impl Captures {
 impl Captures {
     /// Puts what is emitted for a value into the innermost capture, and writes it where none is
     /// open, piece by piece; what `check_emission` refuses is emitted in no form. `Writer` where
-    /// the writer fails or takes nothing, OutOfMemory where a capture finds no memory.
+    /// the writer fails or takes nothing, OutOfMemory where a capture finds no memory; then that
+    /// capture took a beginning of it, and the others stay as they were.
     pub fn emit<R: Records, W: Sink>(
         &mut self,
         writer: &mut W,
@@ -147,6 +148,8 @@ impl Captures {
         ensures halts { IfErr result (λ halt.
             PutHalts halt self.old (W.told writer.old) (W.told writer.new)) }
         ensures faults { W.faults writer.new ≡ faults_after result (W.faults writer.old) }
+        ensures part { OnErr result ((n : ℕ) × (self.new ≡ put_in self.old
+            (take n (emitted_text escape (R.records records.now) value.now)))) }
     {
         let Some(mut innermost) = self.open.pop() else {
             return match emit(value, escape, records, writer) {

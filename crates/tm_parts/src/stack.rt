@@ -1,5 +1,5 @@
 //! The operand stack.
-ghost use Rattle.std.specs.Prelude.{◌++◌, ◌≡◌, [], ◌∷◌, List, Some, None, drop, length, ◌↔◌, IsTrue, OnOk, OnErr, IfErr, MatchOption, MatchResult};
+ghost use Rattle.std.specs.Prelude.{◌++◌, ◌≡◌, [], ◌∷◌, List, Some, None, drop, length, ◌↔◌, IsTrue, OnOk, OnErr, IfOk, IfErr, IfNone, MatchOption, MatchResult};
 ghost use Rattle.tm_values.specs.Val.{Val};
 ghost use Rattle.tm_meaning.specs.Machine.{taken};
 
@@ -111,12 +111,15 @@ impl Stack {
         Some(&self.values[held - count..])
     }
 
-    /// Takes the topmost so many values, the lowest first, where there are so many. Fails by OutOfMemory alone.
+    /// Takes the topmost so many values, the lowest first, where there are so many, and else none.
+    /// Fails by OutOfMemory alone; then the stack stays as it was.
     pub fn take(&mut self, count: usize) -> Result<Option<Vec<Value>>, Error>
-        ensures { MatchResult result
+        ensures taken { MatchResult result
             (λ values. MatchOption values (taken count [] self.old ≡ None)
             (λ vs. taken count [] self.old ≡ Some (vs.items, self.new)))
             (λ e. e ≡ ErrorKind.OutOfMemory ∷ []) }
+        ensures few { IfOk result (λ values. IfNone values (self.new ≡ self.old)) }
+        ensures err { OnErr result (self.new ≡ self.old) }
     {
         let held = self.values.len();
         if held < count {

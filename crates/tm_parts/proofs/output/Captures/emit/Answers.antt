@@ -1,11 +1,11 @@
-use Rattle.std.proofs.Common.{◌≡◌, List, ℕ, [], Option, subst, sym, rules}
-use Rattle.std.proofs.lemmas.List.{append-nil}
+use Rattle.std.proofs.Common.{◌≡◌, ◌∙◌, Bool, List, ℕ, [], ◌∷◌, ◌++◌, Option, ap, reverse, string_bytes, subst, sym, rules}
+use Rattle.std.proofs.lemmas.List.{append-nil, reverse-append}
 use Rattle.std.specs.Io.KnownBytes.{Appends}
-use Rattle.tm_meaning.specs.Machine.{Capture, put_out}
+use Rattle.tm_meaning.specs.Machine.{Capture, put_in, put_out}
 use Rattle.tm_output.specs.Counts.{AppendsBeginning}
 use Rattle.tm_parts.proofs.Pieces.{appends_beginning}
 use Rattle.tm_parts.proofs.output.Captures.emit.Goals as goal
-use Rattle.tm_parts.proofs.output.Captures.emit.Goals.{in-Ok, in-Err}
+use Rattle.tm_parts.proofs.output.Captures.emit.Goals.{in-Ok, in-Err, in-Ok-appended, in-Err-appended}
 
 -- a whole text is a beginning of it
 whole : (told now : Option (List ℕ)) (text : List ℕ) → Appends told now text → AppendsBeginning told now text
@@ -21,4 +21,27 @@ returns-in_default-clause-beginning g c =
     elim c.match-emit.branch [
       | in-Ok w ↦ outside c.args.self.now _ _ _ none (whole _ _ _ w.in-Ok.ensures.0)
       | in-Err w ↦ outside c.args.self.now _ _ _ none w.in-Err.ensures.0
+    ]
+
+-- a capture whose text grew, above the others as they were
+grown : (heard : Bool) (before after t : List ℕ) (k : Capture) (rest old now : List Capture)
+    → record { heard = heard; text = before } ≡ k → after ≡ before ++ t
+    → old ≡ k ∷ rest → now ≡ record { heard = heard; text = after } ∷ rest → now ≡ put_in old t
+grown heard before after t k rest old now seen more old_is now_is =
+    let longer : record { heard = heard; text = after } ≡ record k { text = k.text ++ t } =
+    ap (λ (text : List ℕ). record { heard = heard; text = text }) more ∙ ap (λ (l : Capture). record l { text = l.text ++ t }) seen in
+    now_is ∙ ap (λ (l : Capture). l ∷ rest) longer ∙ ap (λ (ks : List Capture). put_in ks t) (sym old_is)
+
+pub returns-clause-part : goal.returns-clause-part
+returns-clause-part g c =
+    elim c.match-appended.branch [
+      | in-Ok-appended w ↦ search rules
+      | in-Err-appended w ↦
+          let below : List Capture = c.pop.new.self.items in
+          let after : Capture = record { heard = c.innermost.inside.heard; text = string_bytes c.emit-appended.new.target } in
+          let old_is : c.args.self.now ≡ c.in-Some.innermost ∷ reverse below =
+          sym c.self.view_is ∙ ap reverse c.in-Some.ensures.items ∙ reverse-append below (c.in-Some.innermost ∷ []) in
+          let now_is : reverse c.push_reserved.new.self.items ≡ after ∷ reverse below =
+          ap reverse c.push_reserved.ensures.items ∙ reverse-append below (after ∷ []) in
+          rw w.result-is (w.in-Err-appended.ensures.0, grown _ _ _ _ _ (reverse below) _ _ c.innermost.view_is w.in-Err-appended.ensures.1 old_is now_is)
     ]
