@@ -9,8 +9,8 @@ use std::alloc::Global;
 use std::io::Write;
 use template_machine::Environment;
 use tm_parts::Counted;
-use tm_values::{Error, ErrorKind, Value, ValueMap};
 use tm_state::StateIds;
+use tm_values::{Error, ErrorKind, Value, ValueMap};
 
 /// Renders the source and flushes, also after a render that failed, whose error is the one that
 /// counts. SyntaxError where the source spells no template, WriteFailure where a write or the flush
