@@ -25,6 +25,20 @@ impl Write for Broken {
     }
 }
 
+/// A writer that takes nothing.
+#[derive(Drop)]
+struct Idle;
+
+impl Write for Idle {
+    fn write(&mut self, _bytes: &[u8]) -> io::Result<usize> {
+        Ok(0)
+    }
+
+    fn flush(&mut self) -> io::Result<()> {
+        Ok(())
+    }
+}
+
 /// The kind that a charge is refused with.
 fn refused(tracker: &mut FuelTracker) -> Option<ErrorKind> {
     match tracker.track(&Instruction::Emit) {
@@ -154,6 +168,9 @@ fn a_wrapper_keeps_the_error(rt: HostRuntime) {
     assert!(rt; kept(&wrapper) == Some(io::ErrorKind::BrokenPipe));
     assert!(rt; taken_out(&mut wrapper) == ErrorKind::WriteFailure);
     assert!(rt; taken_out(&mut wrapper) == ErrorKind::InvalidOperation);
+    let mut idle = WriteWrapper::new(Counted::new(Idle));
+    assert!(rt; write_refused(&mut idle) == Some(ErrorKind::WriteFailure));
+    assert!(rt; kept(&idle) == Some(io::ErrorKind::WriteZero));
 }
 
 /// Puts three whole numbers on top.
