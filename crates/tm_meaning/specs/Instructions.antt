@@ -1,12 +1,15 @@
 -- What each instruction does once it is paid for.
-use Rattle.std.specs.Prelude.{ℕ, ◌+◌, List, [], ◌∷◌, ◌++◌, length, nat_lt, Bool, false, ◌&&◌}
+use Rattle.std.specs.Prelude.{ℕ, ◌+◌, List, [], ◌∷◌, ◌++◌, length, nat_lt, Bool, true, false, ◌&&◌}
 use Rattle.tm_values.specs.Val.{Val, undefined}
+use Rattle.tm_values.specs.declared.escape.AutoEscape.{AutoEscape}
+use Rattle.tm_syntax.specs.declared.instruction.CaptureMode.{CaptureMode}
+use Rattle.tm_syntax.specs.declared.instruction.CaptureMode.TheVariants as modes
 use Rattle.tm_syntax.specs.declared.tree.UnaryOperator.{UnaryOperator}
 use Rattle.tm_syntax.specs.declared.tree.BinaryOperator.{BinaryOperator}
-use Rattle.tm_meaning.specs.World.{choose, World, Host, Res, Good, looked_up, emitted, store, items_of, set_member, push, pop, plain}
+use Rattle.tm_meaning.specs.World.{choose, World, Host, Res, Good, answered, looked_up, emitted, escape_for, with_escape, store, items_of, set_member, push, pop, plain}
 use Rattle.tm_meaning.specs.Calls.{enter_block, call_named}
 use Rattle.tm_meaning.specs.Meaning.{none_waits, truth, applied_unary, operated, attribute, item_at, slice_of, list_of_values, map_of_pairs}
-use Rattle.tm_meaning.specs.Machine.{Config, Base, Next, More, after, on_top, take_n, on, goes, jumps, stuck, with_world, audible, writes, asked, asked_in_place}
+use Rattle.tm_meaning.specs.Machine.{Capture, Activation, Config, Base, Next, More, after, on_top, take_n, on, goes, jumps, stuck, with_world, audible, writes, new_capture, captured_value, asked, asked_in_place}
 
 -- ---------------------------------------------------------------- output
 abbrev pub emit_raw_of : Base → List ℕ → Config → Next
@@ -109,6 +112,38 @@ push_with_of host c = after (push host (plain (undefined false)) c.world) (λ _ 
 abbrev pub pop_frame_of : Base → Config → Next
 pop_frame_of f c =
     choose (nat_lt f.scopes (length c.world.scopes.frames)) (λ _. goes c.run.operands (pop c.world) c) (λ _. stuck c.world)
+
+-- ---------------------------------------------------------------- captures and escapes
+abbrev pub is_heard : CaptureMode → Bool
+is_heard modes.Capture = true
+is_heard modes.Discard = false
+
+abbrev pub begin_capture_of : CaptureMode → Config → Next
+begin_capture_of mode c = goes c.run.operands c.world (record c { captures = new_capture (is_heard mode) ∷ c.captures })
+
+abbrev pub end_capture_with : List Capture → Config → Next
+end_capture_with [] c = stuck c.world
+end_capture_with (k ∷ ks) c = goes (captured_value k c.world ∷ c.run.operands) c.world (record c { captures = ks })
+
+-- A capture that stood when the run or the innermost called loop began isn't ended.
+abbrev pub end_capture_of : Config → Next
+end_capture_of c = choose (nat_lt c.run.floor (length c.captures)) (λ _. end_capture_with c.captures c) (λ _. stuck c.world)
+
+-- the escapes that a run's open `autoescape`s replaced
+abbrev pub replacing : List AutoEscape → Config → Config
+replacing es c = record c { run = record c.run { escapes = es } }
+
+abbrev pub push_auto_escape_of : Base → Config → Next
+push_auto_escape_of f c =
+    on_top c.run.operands c.world (λ v vs. after (answered (escape_for f.first v) c.world) (λ e w.
+    goes vs (with_escape e w) (replacing (w.escape ∷ c.run.escapes) c)))
+
+abbrev pub pop_auto_escape_with : List AutoEscape → Config → Next
+pop_auto_escape_with [] c = stuck c.world
+pop_auto_escape_with (e ∷ es) c = goes c.run.operands (with_escape e c.world) (replacing es c)
+
+abbrev pub pop_auto_escape_of : Config → Next
+pop_auto_escape_of c = pop_auto_escape_with c.run.escapes c
 
 -- ---------------------------------------------------------------- calls
 abbrev pub call_function_of : Host → List ℕ → ℕ → Config → Next

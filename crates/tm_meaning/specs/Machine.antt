@@ -1,6 +1,6 @@
 -- The machine: where it stands, what a step gives, and how runs end.
 use Rattle.std.specs.Prelude.{ℕ, zero, suc, ◌+◌, List, [], ◌∷◌, ◌++◌, length, Option, Some, None, Bool, true, false, ◌&&◌, nat_lt, nat_eq}
-use Rattle.tm_values.specs.Val.{Val}
+use Rattle.tm_values.specs.Val.{Val, undefined}
 use Rattle.tm_values.specs.declared.error.ErrorKind.{ErrorKind}
 use Rattle.tm_values.specs.declared.escape.AutoEscape.{AutoEscape}
 use Rattle.tm_syntax.specs.declared.instruction.Instruction.{Instruction}
@@ -140,6 +140,10 @@ base_of heard ks w = record { captures = length ks; scopes = length w.scopes.fra
 
 abbrev pub new_capture : Bool → Capture
 new_capture heard = record { heard = heard; text = [] }
+
+-- what a capture is at its end: its text, or undefined where it took none
+abbrev pub captured_value : Capture → World → Val
+captured_value k w = choose k.heard (λ _. captured_text k.text w) (λ _. undefined false)
 
 -- the run that waits goes on behind the call, over these operands
 abbrev pub waiting : List Val → Config → Activation

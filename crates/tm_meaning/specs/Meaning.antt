@@ -29,10 +29,10 @@ use Rattle.tm_syntax.specs.declared.tree.Step.{Step, Attribute, Row_of-Compariso
 use Rattle.tm_syntax.specs.declared.tree.Target.{Target, Name as To, Unpack' as Items, Attribute as Member, Row_of-Target, end_of-Target as no_target, more_of-Target as target}
 use Rattle.tm_syntax.specs.declared.tree.Assignment.{Assignment}
 use Rattle.tm_syntax.specs.declared.tree.Assignment.TheVariants.{Assignment as Given}
-use Rattle.tm_syntax.specs.declared.tree.Stmt.{Stmt, EmitRaw, EmitExpr, If', Block', Set, With', Do, Row_of-Stmt, end_of-Stmt as no_statement, more_of-Stmt as statement, Held-Stmt-If-2 as Otherwise, None' as no_else, Some' as otherwise}
+use Rattle.tm_syntax.specs.declared.tree.Stmt.{Stmt, EmitRaw, EmitExpr, If', Block', Set, SetBlock', With', Do, AutoEscape', Row_of-Stmt, end_of-Stmt as no_statement, more_of-Stmt as statement, Held-Stmt-If-2 as Otherwise, None' as no_else, Some' as otherwise}
 use Rattle.tm_syntax.specs.Forms.{unary, chained, conditional, condition, comparison, pair, plain, item, slice, binary, compare, and_then, or_else}
 use Rattle.tm_syntax.specs.Code.{count_targets}
-use Rattle.tm_meaning.specs.World.{choose, TemplateId, root_of, StreamId, World, Host, Res, Good, Bad, bind, answered, tick, ticked, looked_up, records_of, template_at, emitted, captured_text, store, set_member, items_of, push, pop, plain as plain_scope}
+use Rattle.tm_meaning.specs.World.{choose, TemplateId, root_of, StreamId, World, Host, Res, Good, Bad, bind, answered, tick, ticked, looked_up, records_of, template_at, emitted, escape_for, with_escape, captured_text, store, set_member, items_of, push, pop, plain as plain_scope}
 use Rattle.tm_meaning.specs.Calls.{Callee, whole, Call, Asked, has, refused, runs, undone, wrapped, enter_block, call_named, own_blocks}
 use Rattle.tm_meaning.specs.Tree.{Body, Trees}
 
@@ -276,13 +276,26 @@ set_each u run [] w = Good tt w
 set_each u run (Given t e ∷ more) w = bind (set_to u run t e w) (λ _ world1. set_each u run more world1)
 
 -- ---------------------------------------------------------------- statements
--- A scope is left behind what ran in it, but for a fault.
-abbrev pub left_by : Ending → Outcome → Outcome
-left_by (fault chain) o = o
-left_by e o = record o { world = pop o.world }
+-- What is closed behind a body, however it ended, but for a fault.
+abbrev pub closing_by : Ending → (World → World) → Outcome → Outcome
+closing_by (fault chain) close o = o
+closing_by e close o = record o { world = close o.world }
 
-abbrev pub left : Outcome → Outcome
-left o = left_by o.ending o
+abbrev pub closing : (World → World) → Outcome → Outcome
+closing close o = closing_by o.ending close o
+
+-- a run inside a capture of its own, which takes what is written or not
+abbrev pub capturing : Bool → Run → Run
+capturing heard run = record run { heard = heard; inside = true }
+
+-- A capture: its text goes on; where its body left a loop or went on with the next item the text is dropped, behind the charge of the capture's end.
+abbrev pub captured_by : Ending → Outcome → Run → List ℕ → (List ℕ → World → Outcome) → Outcome
+captured_by done o run out f = f o.text o.world
+captured_by (fault chain) o run out f = ended (fault chain) run out o.world
+captured_by e o run out f = use_it (tick o.world) run out (λ _ world1. ended e run out world1)
+
+abbrev pub captured : Outcome → Run → List ℕ → (List ℕ → World → Outcome) → Outcome
+captured o run out f = captured_by o.ending o run out f
 
 -- a value, charged, and heard as it is written
 abbrev pub emit : Under → Run → List ℕ → Val → World → Outcome
@@ -303,10 +316,18 @@ abbrev mutual
       choose b (λ _. behind_first other run (execs u body run out world3)) (λ _. exec_else u other run out world3))))
   exec u (Block' b _ body) run out w = use_it (tick w) run out (λ _ world1. block_tag u run b out world1)
   exec u (Set t e) run out w = use_it (set_to u run t e w) run out (λ _ world1. so_far run out world1)
+  exec u (SetBlock' t _ body) run out w =
+      captured (execs u body (capturing true run) [] w) run out (λ x world1.
+      use_it (tick world1) run out (λ _ world2.
+      use_it (assign u run t (captured_text x world2) world2) run out (λ _ world3. so_far run out world3)))
   exec u (With' given _ body) run out w =
       use_it (push u.host (plain_scope (undefined false)) w) run out (λ _ world1.
-      use_it (set_each u run given world1) run out (λ _ world2. left (execs u body run out world2)))
+      use_it (set_each u run given world1) run out (λ _ world2. closing pop (execs u body run out world2)))
   exec u (Do e) run out w = use_it (eval u run e w) run out (λ _ world1. so_far run out world1)
+  exec u (AutoEscape' e _ body) run out w =
+      use_it (eval u run e w) run out (λ v world1.
+      use_it (answered (escape_for run.first v) world1) run out (λ x world2.
+      closing (with_escape world2.escape) (execs u body run out (with_escape x world2))))
 
   pub execs : {n : _} → Under → Row_of-Stmt n → Run → List ℕ → World → Outcome
   execs u no_statement run out w = so_far run out w

@@ -13,7 +13,7 @@ use Rattle.tm_syntax.specs.declared.tree.Step.{Step, Attribute, end_of-Compariso
 use Rattle.tm_syntax.specs.declared.tree.Target.{Target, Name as To, Unpack' as Items, Attribute as Member, end_of-Target as no_target, more_of-Target as target}
 use Rattle.tm_syntax.specs.declared.tree.Assignment.{Assignment}
 use Rattle.tm_syntax.specs.declared.tree.Assignment.TheVariants.{Assignment as Given}
-use Rattle.tm_syntax.specs.declared.tree.Stmt.{Stmt, EmitRaw, EmitExpr, If', Block', Set, With', Do, end_of-Stmt as no_statement, more_of-Stmt as statement, Held-Stmt-If-2 as Otherwise, None' as no_else, Some' as otherwise}
+use Rattle.tm_syntax.specs.declared.tree.Stmt.{Stmt, EmitRaw, EmitExpr, If', Block', Set, SetBlock', With', Do, AutoEscape', end_of-Stmt as no_statement, more_of-Stmt as statement, Held-Stmt-If-2 as Otherwise, None' as no_else, Some' as otherwise}
 use Rattle.tm_syntax.specs.Forms.{unary, chained, conditional, condition, comparison, plain, binary, compare, and_then, or_else}
 use Rattle.tm_meaning.specs.Compiled.{code_of}
 use Rattle.tm_meaning.specs.World.{Bindings, find, own, World, Host, View, Reply, gives, faults, Stated, Function, callers}
@@ -247,6 +247,37 @@ set_two_of_one = page (one (Set to_a_and_b (List' (tt ∷ []) (expr (literal_num
 -- {% set a.b = 1 %}
 abbrev pub set_attribute : Page
 set_attribute = page (one (Set (Member a (codes "b")) (literal_number 1))) nothing
+
+-- ---------------------------------------------------------------- captures and escapes
+abbrev pub set_text : List ℕ → Stmt
+set_text t = SetBlock' (To (codes "x")) (tt ∷ []) (statement (raw t) no_statement)
+
+abbrev pub x : Expr
+x = named (codes "x")
+
+-- {% set x %}a{{ 1 }}{% endset %}{{ x }}
+abbrev pub set_block : Page
+set_block = page (two (SetBlock' (To (codes "x")) (tt ∷ tt ∷ []) (statement (raw (codes "a")) (statement (EmitExpr (literal_number 1)) no_statement))) (EmitExpr x)) nothing
+
+-- {% autoescape e %}{% set x %}<{% endset %}{% endautoescape %}{% autoescape "html" %}{{ x }}{% endautoescape %}
+abbrev pub set_under : Expr → Page
+set_under e =
+    page (two
+    (AutoEscape' e (tt ∷ []) (statement (set_text (codes "<")) no_statement))
+    (AutoEscape' (literal (codes "html")) (tt ∷ []) (statement (EmitExpr x) no_statement))) nothing
+
+-- {% autoescape e %}{{ "<" }}{% endautoescape %}{{ "<" }}
+abbrev pub escaped_by : Expr → Page
+escaped_by e =
+    page (two (AutoEscape' e (tt ∷ []) (statement (EmitExpr (literal (codes "<"))) no_statement)) (EmitExpr (literal (codes "<")))) nothing
+
+-- {% set x %}a{{ nope() }}{% endset %}
+abbrev pub fault_in_capture : Page
+fault_in_capture = page (two (raw (codes "b")) (SetBlock' (To (codes "x")) (tt ∷ tt ∷ []) (statement (raw (codes "a")) (statement (EmitExpr (Call' (codes "nope") [] no_argument)) no_statement)))) nothing
+
+-- {% set a, b %}1{% endset %}
+abbrev pub set_block_of_two : Page
+set_block_of_two = page (one (SetBlock' to_a_and_b (tt ∷ []) (statement (raw (codes "1")) no_statement))) nothing
 
 -- ---------------------------------------------------------------- functions
 abbrev pub answers : Reply → Stated

@@ -4,8 +4,10 @@ pub use Rattle.tm_syntax.specs.Named.{Named, same_name, find, put, put_each}
 use Rattle.tm_values.specs.Answer.{Answer, invalid}
 use Rattle.tm_values.specs.Map.{member}
 use Rattle.tm_values.specs.Map as maps
+use Rattle.std.specs.Ordering.{is_eq}
+use Rattle.tm_values.specs.Order.{val_cmp}
 use Rattle.tm_values.specs.Records.{RecordData, LoopData, namespace_at}
-use Rattle.tm_values.specs.Val.{Val, undefined, text, namespace, loop}
+use Rattle.tm_values.specs.Val.{Val, undefined, boolean, text, namespace, loop}
 use Rattle.tm_values.specs.declared.error.ErrorKind.{ErrorKind}
 use Rattle.tm_values.specs.declared.error.ErrorKind.TheVariants.{OutOfFuel, InvalidOperation}
 use Rattle.tm_values.specs.declared.escape.AutoEscape.{AutoEscape}
@@ -358,6 +360,28 @@ formatted (Some f) v view = f v view
 abbrev pub emitted : Host → Val → World → Res (List ℕ)
 emitted host v w = answered (unless (refusal_of host.undefined Emission v) (formatted host.formatter v (view_of host w))) w
 
+-- ---------------------------------------------------------------- escapes
+abbrev pub escape_named : List ℕ → Answer AutoEscape
+escape_named name =
+    if same_name name (codes "html") then Ok escapes.Html
+    else if same_name name (codes "json") then Ok escapes.Json
+    else if same_name name (codes "none") then Ok escapes.None
+    else invalid
+
+-- the escape at a run's start, or Html where there was none
+abbrev pub switched_on : AutoEscape → AutoEscape
+switched_on escapes.None = escapes.Html
+switched_on first = first
+
+-- The escape that a value stands for, in a run that began with this one: a text names it, what equals true switches it on, and all else switches it off.
+abbrev pub escape_for : AutoEscape → Val → Answer AutoEscape
+escape_for first (text name safe) = escape_named name
+escape_for first v = Ok (if is_eq (val_cmp v (boolean true)) then switched_on first else escapes.None)
+
+abbrev pub with_escape : AutoEscape → World → World
+with_escape e w = record w { escape = e }
+
+-- ---------------------------------------------------------------- captured texts
 abbrev pub is_safe : AutoEscape → Bool
 is_safe escapes.None = false
 is_safe escape = true

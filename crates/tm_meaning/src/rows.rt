@@ -3,7 +3,7 @@ ghost use Rattle.std.specs.Prelude.{[], ◌∷◌, ◌++◌, true, false, codes}
 ghost use Rattle.std.specs.Fmt.{decimal};
 ghost use Rattle.tm_values.specs.Val.{boolean, map, no_pairs};
 ghost use Rattle.tm_values.specs.declared.error.ErrorKind.TheVariants.{CannotUnpack, InvalidOperation, MissingArgument, UndefinedError, UnknownFunction, OutOfFuel, WriteFailure, BadStream, OutOfMemory};
-ghost use Rattle.tm_meaning.specs.Rows.{Says, Charges, Fails, nothing, with_value, hello, either_text, of_three, empty_condition, shown, a_and_b_c, a_or_x, not_equal, a_b, literal_number, three_in_a_row, false_before_fault, no_value, one_condition, two_conditions, in_block, block_not_reached, with_two, empty_with, set_two, set_two_of_one, set_attribute, do_call, last_function, faulty, calling, keep_and_read, unknown_behind};
+ghost use Rattle.tm_meaning.specs.Rows.{Says, Charges, Fails, nothing, with_value, hello, either_text, of_three, empty_condition, shown, a_and_b_c, a_or_x, not_equal, a_b, literal_number, three_in_a_row, false_before_fault, no_value, one_condition, two_conditions, in_block, block_not_reached, with_two, empty_with, set_two, set_two_of_one, set_attribute, literal, set_block, set_under, escaped_by, fault_in_capture, set_block_of_two, literal_truth, do_call, last_function, faulty, calling, keep_and_read, unknown_behind};
 
 /// `Hello {{ name }}!` with the name World takes 4 charges, so 5 units of fuel; with fewer it ends where the fuel does.
 pub fn hello_rows()
@@ -70,6 +70,20 @@ pub fn scope_rows()
     ensures set_two_of_one { Fails set_two_of_one [] (CannotUnpack ∷ []) }
     ensures set_attribute { Fails set_attribute [] (InvalidOperation ∷ []) }
     ensures do_call { Charges do_call (codes "x") 2 }
+{}
+
+/// `{% set x %}a{{ 1 }}{% endset %}{{ x }}`, `b{% set x %}a{{ nope() }}{% endset %}`, `{% set a, b %}1{% endset %}`, and how texts are escaped that a set block takes or that are emitted under `{% autoescape e %}`.
+pub fn capture_rows()
+    ensures set_block { Charges set_block (codes "a" ++ decimal 1) 7 }
+    ensures fuel_ends_inside { Says set_block 3 [] 0 (OutOfFuel ∷ []) }
+    ensures fault_inside { Fails fault_in_capture (codes "b") (UnknownFunction ∷ []) }
+    ensures not_unpacked { Fails set_block_of_two [] (CannotUnpack ∷ []) }
+    ensures not_safe { Charges (set_under (literal_truth false)) (codes "&lt;") 7 }
+    ensures safe { Charges (set_under (literal_truth true)) (codes "<") 7 }
+    ensures named { Charges (escaped_by (literal (codes "html"))) (codes "&lt;<") 5 }
+    ensures switched_on { Charges (escaped_by (literal_number 1)) (codes "&lt;<") 5 }
+    ensures switched_off { Charges (escaped_by (literal_number 2)) (codes "<<") 5 }
+    ensures no_such { Fails (escaped_by (literal (codes "xml"))) [] (InvalidOperation ∷ []) }
 {}
 
 /// `{{ f("a", 1) }}`, `{{ f() }}{{ g() }}` and `a{{ nope(f()) }}`, by what f answers.

@@ -1,7 +1,7 @@
 -- Statements as one thing, and the blocks among them.
 use Rattle.std.specs.Prelude.{ℕ, List, [], ◌∷◌, ◌++◌, map as each}
 use mathlib.Core.Former.{Count}
-use Rattle.tm_syntax.specs.declared.tree.Stmt.{Stmt, If', Block', With', Row_of-Stmt, end_of-Stmt as no_statement, more_of-Stmt as statement, Held-Stmt-If-2 as Otherwise, None' as no_else, Some' as otherwise}
+use Rattle.tm_syntax.specs.declared.tree.Stmt.{Stmt, If', Block', SetBlock', With', AutoEscape', Row_of-Stmt, end_of-Stmt as no_statement, more_of-Stmt as statement, Held-Stmt-If-2 as Otherwise, None' as no_else, Some' as otherwise}
 use Rattle.tm_syntax.specs.declared.instruction.Instruction.{Instruction}
 use Rattle.tm_syntax.specs.Code.{statements_code}
 use Rattle.tm_syntax.specs.Named.{Named}
@@ -21,7 +21,9 @@ abbrev mutual
   pub blocks_of : Stmt → Named Body
   blocks_of (If' c _ body other) = blocks_in body ++ blocks_else other
   blocks_of (Block' x _ body) = blocks_in body ++ (x, body_of body) ∷ []
+  blocks_of (SetBlock' t _ body) = blocks_in body
   blocks_of (With' given _ body) = blocks_in body
+  blocks_of (AutoEscape' e _ body) = blocks_in body
   blocks_of _ = []
 
   pub blocks_in : {n : _} → Row_of-Stmt n → Named Body

@@ -12,7 +12,8 @@ use Rattle.tm_syntax.specs.declared.tree.Step.{Step, Attribute, Row_of-Compariso
 use Rattle.tm_syntax.specs.declared.tree.Target.{Target, Name as To, Unpack' as Items, Attribute as Member, Row_of-Target, end_of-Target as no_target, more_of-Target as target}
 use Rattle.tm_syntax.specs.declared.tree.Assignment.{Assignment}
 use Rattle.tm_syntax.specs.declared.tree.Assignment.TheVariants.{Assignment as Given}
-use Rattle.tm_syntax.specs.declared.tree.Stmt.{Stmt, EmitRaw, EmitExpr, If', Block', Set, With', Do, Row_of-Stmt, end_of-Stmt as no_statement, more_of-Stmt as statement, Held-Stmt-If-2 as Otherwise, None' as no_else, Some' as otherwise}
+use Rattle.tm_syntax.specs.declared.tree.Stmt.{Stmt, EmitRaw, EmitExpr, If', Block', Set, SetBlock', With', Do, AutoEscape', Row_of-Stmt, end_of-Stmt as no_statement, more_of-Stmt as statement, Held-Stmt-If-2 as Otherwise, None' as no_else, Some' as otherwise}
+use Rattle.tm_syntax.specs.declared.instruction.CaptureMode.TheVariants.{Capture}
 use Rattle.tm_syntax.specs.declared.instruction.Instruction.{Instruction}
 use Rattle.tm_syntax.specs.declared.instruction.Instruction.TheVariants as i
 use Rattle.tm_syntax.specs.Forms.{unary, chained, conditional, condition, comparison, pair, plain, item, slice, binary, compare, and_then, or_else}
@@ -157,9 +158,13 @@ abbrev mutual
       ∷ before (pc1 + 1) (statements_code (pc1 + 1) body) (λ pc2. otherwise_code pc2 other))
   statement_code pc (Block' x _ body) = i.CallBlock x ∷ []
   statement_code pc (Set t e) = set_code pc t e
+  statement_code pc (SetBlock' t _ body) =
+      i.BeginCapture Capture ∷ before (pc + 1) (statements_code (pc + 1) body) (λ pc1. i.EndCapture ∷ target_code (pc1 + 1) t)
   statement_code pc (With' given _ body) =
       i.PushWith ∷ before (pc + 1) (assignments_code (pc + 1) given) (λ pc1. statements_code pc1 body ++ i.PopFrame ∷ [])
   statement_code pc (Do e) = expr_code pc e ++ i.DiscardTop ∷ []
+  statement_code pc (AutoEscape' e _ body) =
+      before pc (expr_code pc e) (λ pc1. i.PushAutoEscape ∷ (statements_code (pc1 + 1) body ++ i.PopAutoEscape ∷ []))
 
   pub statements_code : {n : _} → ℕ → Row_of-Stmt n → List Instruction
   statements_code pc no_statement = []

@@ -3,6 +3,15 @@ use crate::name::Name;
 use crate::tree::BinaryOperator;
 use tm_values::Value;
 
+/// What becomes of a capture's text.
+#[derive(Clone, Copy, PartialEq, Eq)]
+pub enum CaptureMode {
+    /// It becomes a value.
+    Capture,
+    /// It is dropped.
+    Discard,
+}
+
 /// One instruction. docs/MACHINE.md says what each takes, leaves and is charged.
 #[derive(Drop)]
 pub enum Instruction {
@@ -88,4 +97,12 @@ pub enum Instruction {
     PushWith,
     /// Leaves the innermost scope.
     PopFrame,
+    /// Begins a capture, which takes what is written from here on.
+    BeginCapture(CaptureMode),
+    /// Ends the innermost capture, and pushes its text, or undefined where that is dropped.
+    EndCapture,
+    /// Pops a value, and escapes from here on as it says.
+    PushAutoEscape,
+    /// Escapes as before the last `PushAutoEscape`.
+    PopAutoEscape,
 }

@@ -7,7 +7,7 @@ mod name_map;
 mod token;
 mod tree;
 
-pub use instruction::Instruction;
+pub use instruction::{CaptureMode, Instruction};
 pub use name::Name;
 pub use name_map::NameMap;
 pub use token::{Sign, Tag, Token};

@@ -98,12 +98,18 @@ pub enum Tag {
     Endblock,
     /// `{% set`
     Set,
+    /// `{% endset`
+    Endset,
     /// `{% with`
     With,
     /// `{% endwith`
     Endwith,
     /// `{% do`
     Do,
+    /// `{% autoescape`
+    Autoescape,
+    /// `{% endautoescape`
+    Endautoescape,
 }
 
 /// A token of a source.

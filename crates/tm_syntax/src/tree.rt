@@ -156,10 +156,14 @@ pub enum Stmt {
     Block(Name, Items<Stmt>),
     /// A value for a target.
     Set(Target, Boxed<Expr>),
+    /// A target, and the body whose text it gets.
+    SetBlock(Target, Items<Stmt>),
     /// Values for targets in a scope of their own, and what runs there.
     With(Items<Assignment>, Items<Stmt>),
     /// A call whose value is dropped.
     Do(Boxed<Expr>),
+    /// How is escaped, and the body in which it is.
+    AutoEscape(Boxed<Expr>, Items<Stmt>),
 }
 
 /// A template's tree.
