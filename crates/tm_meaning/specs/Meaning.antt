@@ -289,13 +289,13 @@ abbrev pub capturing : Bool → Run → Run
 capturing heard run = record run { heard = heard; inside = true }
 
 -- A capture: its text goes on; where its body left a loop or went on with the next item the text is dropped, behind the charge of the capture's end.
-abbrev pub captured_by : Ending → Outcome → Run → List ℕ → (List ℕ → World → Outcome) → Outcome
-captured_by done o run out f = f o.text o.world
+abbrev pub captured_by : Ending → Outcome → Run → List ℕ → (Run → List ℕ → World → Outcome) → Outcome
+captured_by done o run out f = f run o.text o.world
 captured_by (fault chain) o run out f = ended (fault chain) run out o.world
 captured_by e o run out f = use_it (tick o.world) run out (λ _ world1. ended e run out world1)
 
-abbrev pub captured : Outcome → Run → List ℕ → (List ℕ → World → Outcome) → Outcome
-captured o run out f = captured_by o.ending o run out f
+abbrev pub captured : Outcome → Run → List ℕ → (Run → List ℕ → World → Outcome) → Outcome
+captured o run out f = captured_by o.ending o (record run { parent = o.parent }) out f
 
 -- a value, charged, and heard as it is written
 abbrev pub emit : Under → Run → List ℕ → Val → World → Outcome
@@ -317,9 +317,9 @@ abbrev mutual
   exec u (Block' b _ body) run out w = use_it (tick w) run out (λ _ world1. block_tag u run b out world1)
   exec u (Set t e) run out w = use_it (set_to u run t e w) run out (λ _ world1. so_far run out world1)
   exec u (SetBlock' t _ body) run out w =
-      captured (execs u body (capturing true run) [] w) run out (λ x world1.
-      use_it (tick world1) run out (λ _ world2.
-      use_it (assign u run t (captured_text x world2) world2) run out (λ _ world3. so_far run out world3)))
+      captured (execs u body (capturing true run) [] w) run out (λ run1 x world1.
+      use_it (tick world1) run1 out (λ _ world2.
+      use_it (assign u run1 t (captured_text x world2) world2) run1 out (λ _ world3. so_far run1 out world3)))
   exec u (With' given _ body) run out w =
       use_it (push u.host (plain_scope (undefined false)) w) run out (λ _ world1.
       use_it (set_each u run given world1) run out (λ _ world2. closing pop (execs u body run out world2)))

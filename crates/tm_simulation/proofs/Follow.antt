@@ -5,8 +5,8 @@ use Rattle.std.specs.Prelude.{slice_get}
 use Rattle.tm_values.specs.Val.{Val}
 use Rattle.tm_values.specs.declared.error.ErrorKind.{ErrorKind}
 use Rattle.tm_syntax.specs.declared.instruction.Instruction.{Instruction}
-use Rattle.tm_meaning.specs.World.{choose, World, Scope, Res, Good, Bad, bind, pop}
-use Rattle.tm_meaning.specs.Meaning.{Run, Outcome, Ending, done, leave, next, fault, ended, so_far, use_it, then_do, left_by, left}
+use Rattle.tm_meaning.specs.World.{choose, World, Scope, Res, Good, Bad, bind, tick}
+use Rattle.tm_meaning.specs.Meaning.{Run, Outcome, Ending, done, leave, next, fault, ended, so_far, use_it, then_do, closing_by, closing, captured_by, captured}
 use Rattle.tm_simulation.proofs.Keeps.{Kept, within, one_more, Gives, EndsBy as EndsKept, Ends as KeptEnds}
 use Rattle.tm_meaning.specs.Machine.{Capture, Activation, Config, Failed, Next, More, Program, after, goes, jumps}
 use Rattle.tm_meaning.specs.Steps.{act, step, Final, final, Leads, over, more}
@@ -128,22 +128,59 @@ unfolding Ends
 within_then r b w s true run out g D L N K h k = k h
 within_then r b w s false run out g D L N K h k = h
 
--- what follows once a scope is left
-abbrev pub Left : Then → Then
-Left D parent out w = D parent out (pop w)
+-- what follows once something is closed
+abbrev pub Closed : (World → World) → Then → Then
+Closed close D parent out w = D parent out (close w)
 
-left_then_by : (r : Final) (b : Bed) (w : World) (e : Ending) (parent : Option TemplateId) (out : List ℕ) (world1 : World) (D L N K : Then) → EndsKept w e world1 →
-    Ends r b (left_by e (whole_of e parent out world1)) D L N → (Kept w world1 → Left D parent out world1 → K parent out world1) → Ends r b (whole_of e parent out world1) K (Left L) (Left N)
+closed_then_by : (r : Final) (b : Bed) (w : World) (close : World → World) (e : Ending) (parent : Option TemplateId) (out : List ℕ) (world1 : World) (D L N K : Then) → EndsKept w e world1 →
+    Ends r b (closing_by e close (whole_of e parent out world1)) D L N → (Kept w world1 → Closed close D parent out world1 → K parent out world1) →
+    Ends r b (whole_of e parent out world1) K (Closed close L) (Closed close N)
 unfolding Ends
-left_then_by r b w done parent out world1 D L N K e h k = k e h
-left_then_by r b w leave parent out world1 D L N K e h k = h
-left_then_by r b w next parent out world1 D L N K e h k = h
-left_then_by r b w (fault chain) parent out world1 D L N K e h k = h
+closed_then_by r b w close done parent out world1 D L N K e h k = k e h
+closed_then_by r b w close leave parent out world1 D L N K e h k = h
+closed_then_by r b w close next parent out world1 D L N K e h k = h
+closed_then_by r b w close (fault chain) parent out world1 D L N K e h k = h
 
-pub left_then : (r : Final) (b : Bed) (w : World) (o : Outcome) (D L N K : Then) → KeptEnds w o → Ends r b (left o) D L N →
-    ((parent : Option TemplateId) (out : List ℕ) (world1 : World) → Kept w world1 → Left D parent out world1 → K parent out world1) → Ends r b o K (Left L) (Left N)
-left_then r b w o D L N K e h k =
-    left_then_by r b w o.ending o.parent o.text o.world D L N K (kept_by w o.ending o.parent o.text o.world e) h (k o.parent o.text o.world)
+pub closed_then : (r : Final) (b : Bed) (w : World) (close : World → World) (o : Outcome) (D L N K : Then) → KeptEnds w o → Ends r b (closing close o) D L N →
+    ((parent : Option TemplateId) (out : List ℕ) (world1 : World) → Kept w world1 → Closed close D parent out world1 → K parent out world1) →
+    Ends r b o K (Closed close L) (Closed close N)
+closed_then r b w close o D L N K e h k =
+    closed_then_by r b w close o.ending o.parent o.text o.world D L N K (kept_by w o.ending o.parent o.text o.world e) h (k o.parent o.text o.world)
+
+-- the bed of what runs in a capture of its own
+abbrev pub captured_in : Bed → List ℕ → Bed
+captured_in b out = inside true (told_by b out) (captures_of b out)
+
+-- what follows once a capture's end is charged and its text dropped
+abbrev pub Dropped : Final → Bed → List ℕ → Then → Then
+Dropped r b out L parent x w = Follows r (told_by b out) (tick w) (λ _ world1. L parent out world1)
+
+dropped_by : (r : Final) (b : Bed) (run : Run) (out : List ℕ) (w : World) (m : Res (Unit {0})) (D L N : Then) →
+    Ends r b (use_it m run out (λ _ world1. ended leave run out world1)) D L N → Follows r (told_by b out) m (λ _ world1. L run.parent out world1)
+unfolding Ends
+dropped_by r b run out w (Good a world1) D L N h = h
+dropped_by r b run out w (Bad chain world1) D L N h = h
+
+skipped_by : (r : Final) (b : Bed) (run : Run) (out : List ℕ) (w : World) (m : Res (Unit {0})) (D L N : Then) →
+    Ends r b (use_it m run out (λ _ world1. ended next run out world1)) D L N → Follows r (told_by b out) m (λ _ world1. N run.parent out world1)
+unfolding Ends
+skipped_by r b run out w (Good a world1) D L N h = h
+skipped_by r b run out w (Bad chain world1) D L N h = h
+
+captured_then_by : (r : Final) (b : Bed) (run : Run) (out : List ℕ) (w : World) (f : Run → List ℕ → World → Outcome) (e : Ending) (parent : Option TemplateId) (x : List ℕ) (world1 : World) (D L N K : Then) → EndsKept w e world1 →
+    Ends r b (captured_by e (whole_of e parent x world1) (record run { parent = parent }) out f) D L N → (Kept w world1 → Ends r b (f (record run { parent = parent }) x world1) D L N → K parent x world1) →
+    Ends r (captured_in b out) (whole_of e parent x world1) K (Dropped r b out L) (Dropped r b out N)
+unfolding Ends
+captured_then_by r b run out w f done parent x world1 D L N K e h k = k e h
+captured_then_by r b run out w f leave parent x world1 D L N K e h k = dropped_by r b (record run { parent = parent }) out world1 (tick world1) D L N h
+captured_then_by r b run out w f next parent x world1 D L N K e h k = skipped_by r b (record run { parent = parent }) out world1 (tick world1) D L N h
+captured_then_by r b run out w f (fault chain) parent x world1 D L N K e h k = h
+
+pub captured_then : (r : Final) (b : Bed) (run : Run) (out : List ℕ) (w : World) (o : Outcome) (f : Run → List ℕ → World → Outcome) (D L N K : Then) → KeptEnds w o → Ends r b (captured o run out f) D L N →
+    ((parent : Option TemplateId) (x : List ℕ) (world1 : World) → Kept w world1 → Ends r b (f (record run { parent = parent }) x world1) D L N → K parent x world1) →
+    Ends r (captured_in b out) o K (Dropped r b out L) (Dropped r b out N)
+captured_then r b run out w o f D L N K e h k =
+    captured_then_by r b run out w f o.ending o.parent o.text o.world D L N K (kept_by w o.ending o.parent o.text o.world e) h (k o.parent o.text o.world)
 
 -- what follows, in other words
 ends_by_map : (r : Final) (b : Bed) (e : Ending) (parent : Option TemplateId) (out : List ℕ) (w : World) (D K L N : Then) → Ends r b (whole_of e parent out w) D L N →

@@ -1,13 +1,13 @@
 -- What is written, and runs that are nested, in place and as a value.
-use Rattle.std.proofs.Common.{◌≡◌, ℕ, zero, suc, ◌+◌, ◌<◌, ◌⊎◌, inl, inr, List, [], ◌∷◌, ◌++◌, length, nat_lt, Option, Some, None, Bool, true, false, refl, sym, subst, ap, ◌∙◌, arith, lt-ltb, le-ltb}
+use Rattle.std.proofs.Common.{◌≡◌, ℕ, zero, suc, ◌+◌, ◌<◌, ◌≤◌, ◌⊎◌, inl, inr, List, [], ◌∷◌, ◌++◌, length, nat_lt, Option, Some, None, Bool, true, false, refl, sym, subst, ap, ◌∙◌, arith, lt-ltb, le-ltb}
 use Rattle.std.specs.Prelude.{◌&&◌}
 use Rattle.tm_values.specs.Val.{Val}
 use Rattle.tm_meaning.specs.World.{choose, World, Res, Good, Bad, captured_text}
 use Rattle.tm_meaning.specs.Calls.{Callee, Call, undone, wrapped, Asked, has, refused, runs}
-use Rattle.tm_meaning.specs.Meaning.{Run, Outcome, Ending, done, leave, next, fault, Under, none_waits, so_far, audible as heard_here, say, behind, in_place_of, value_behind, value_of}
+use Rattle.tm_meaning.specs.Meaning.{Run, Outcome, Ending, done, leave, next, fault, Under, none_waits, so_far, audible as heard_here, say, behind, in_place_of, value_behind, value_of, capturing}
 use Rattle.tm_meaning.specs.Machine.{Capture, Activation, Config, Finished, Failed, Back, Next, More, Nest, Program, audible, put_in, put_out, writes, back_to, back_with, base_of, start, waiting, new_capture, pushed, asked, asked_in_place, nested_in_place, nested_as_value}
 use Rattle.tm_meaning.specs.Steps.{step, Final, final, Leads, over, more, nest}
-use Rattle.tm_simulation.proofs.Follow.{Bed, air, inside, captures_of, told_by, Spot, told, cfg, later, Follows, Then, Ends, whole_of, so_far_then, fault_then, Go, silent}
+use Rattle.tm_simulation.proofs.Follow.{Bed, air, inside, captured_in, captures_of, told_by, Spot, told, cfg, later, Follows, Then, Ends, whole_of, so_far_then, fault_then, Go, silent}
 use Rattle.tm_meaning.specs.declared.stream.TemplateId.{TemplateId}
 use Rattle.tm_meaning.specs.declared.base.Base.{Base}
 
@@ -16,6 +16,19 @@ abbrev pub Fits : Base → Run → Bed → Type 0
 Fits f run air = (run.inside ≡ false) × (f.captures ≡ 0) × (run.heard ≡ f.heard)
 Fits f run (inside h t ks) =
     ((run.inside ≡ false) × (f.captures ≡ suc (length ks)) × (run.heard ≡ f.heard)) ⊎ ((run.inside ≡ true) × (f.captures < suc (length ks)) × (run.heard ≡ h))
+
+-- the captures of a run's start stand, in a capture of its own too
+pub captures_stand : (f : Base) (run : Run) (b : Bed) (out : List ℕ) → Fits f run b → f.captures ≤ length (captures_of b out)
+captures_stand f run air out (i, n, h) = omega (arith, n)
+captures_stand f run (inside x t ks) out (inl (i, n, h)) = omega (arith, n)
+captures_stand f run (inside x t ks) out (inr (i, n, h)) = omega (arith, n)
+
+pub fits_captured : (f : Base) (run : Run) (b : Bed) (out : List ℕ) → Fits f run b → Fits f (capturing true run) (captured_in b out)
+fits_captured f run b out fits = inr (refl, omega (arith, captures_stand f run b out fits), refl)
+
+-- How a spot of the machine and the run of a meaning stand to each other: the escape at the start, the captures that stay, and where the text goes.
+abbrev pub Stands : Base → Run → Spot → Type 0
+Stands f run s = (run.first ≡ f.first) × (s.run.floor ≤ length (captures_of s.bed s.out)) × Fits f run s.bed
 
 -- ---------------------------------------------------------------- what is heard
 -- The machine hears where the meaning does.

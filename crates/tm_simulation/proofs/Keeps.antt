@@ -4,6 +4,7 @@ use Rattle.std.specs.Prelude.{slice_get, not}
 use Rattle.tm_values.specs.Answer.{Answer}
 use Rattle.tm_values.specs.Val.{Val, undefined, function, none, boolean, number, text, list, map, keywords, exports, macro, loop, namespace}
 use Rattle.tm_values.specs.declared.error.ErrorKind.{ErrorKind}
+use Rattle.tm_values.specs.declared.escape.AutoEscape.{AutoEscape}
 use Rattle.tm_values.specs.declared.error.ErrorKind.TheVariants.{InvalidOperation, UnknownBlock, UnknownFunction}
 use Rattle.tm_syntax.specs.declared.tree.UnaryOperator.{UnaryOperator}
 use Rattle.tm_syntax.specs.declared.tree.UnaryOperator.TheVariants as unaries
@@ -17,12 +18,12 @@ use Rattle.tm_syntax.specs.declared.tree.Step.{Step, Attribute, Row_of-Compariso
 use Rattle.tm_syntax.specs.declared.tree.Target.{Target, Name as To, Unpack' as Items, Attribute as Member, Row_of-Target, end_of-Target as no_target, more_of-Target as target}
 use Rattle.tm_syntax.specs.declared.tree.Assignment.{Assignment}
 use Rattle.tm_syntax.specs.declared.tree.Assignment.TheVariants.{Assignment as Given}
-use Rattle.tm_syntax.specs.declared.tree.Stmt.{Stmt, EmitRaw, EmitExpr, If', Block', Set, With', Do, Row_of-Stmt, end_of-Stmt as no_statement, more_of-Stmt as statement, Held-Stmt-If-2 as Otherwise, None' as no_else, Some' as otherwise}
+use Rattle.tm_syntax.specs.declared.tree.Stmt.{Stmt, EmitRaw, EmitExpr, If', Block', Set, SetBlock', With', Do, AutoEscape', Row_of-Stmt, end_of-Stmt as no_statement, more_of-Stmt as statement, Held-Stmt-If-2 as Otherwise, None' as no_else, Some' as otherwise}
 use Rattle.tm_syntax.specs.Forms.{unary, chained, conditional, condition, comparison, pair, plain, item, slice, binary, compare, and_then, or_else}
 use Rattle.tm_operations.specs.Members.{settable}
-use Rattle.tm_meaning.specs.World.{choose, find, block_of, with_frames, World, Host, Scopes, Scope, Res, Good, Bad, bind, need, check, answered, charged, with_fuel, tick, push, pop, depth, without_first, emitted, looked_up, lookup, Function, callers, Reply, gives, faults, stored_in, store, records_of, with_member, set_member, plain as plain_scope}
+use Rattle.tm_meaning.specs.World.{choose, find, block_of, with_frames, World, Host, Scopes, Scope, Res, Good, Bad, bind, need, check, answered, charged, with_fuel, tick, push, pop, depth, without_first, emitted, looked_up, lookup, Function, callers, Reply, gives, faults, stored_in, store, records_of, with_member, set_member, escape_for, with_escape, captured_text, plain as plain_scope}
 use Rattle.tm_meaning.specs.Calls.{Callee, whole, Call, Undo, of_block, undone, wrapped, Asked, has, refused, runs, ask, enter_block, call_named, call_value, call_by, replied, required_alone}
-use Rattle.tm_meaning.specs.Meaning.{Run, Outcome, Ending, done, leave, next, fault, Nests, Under, use_it, then_do, on_done, so_far, ended, say, audible, none_waits, value_of, value_behind, in_place_of, behind, block_tag, truth, applied_unary, operated, applied, attribute, eval, eval_all, eval_pair, eval_pairs, eval_argument, eval_arguments, eval_condition, eval_conditions, eval_step, eval_links, eval_steps, assign, assign_all, set_to, set_each, left_by, left, emit, behind_first, exec, execs, exec_else, at_end, new_run, nests_of}
+use Rattle.tm_meaning.specs.Meaning.{Run, Outcome, Ending, done, leave, next, fault, Nests, Under, use_it, then_do, on_done, so_far, ended, say, audible, none_waits, value_of, value_behind, in_place_of, behind, block_tag, truth, applied_unary, operated, applied, attribute, eval, eval_all, eval_pair, eval_pairs, eval_argument, eval_arguments, eval_condition, eval_conditions, eval_step, eval_links, eval_steps, assign, assign_all, set_to, set_each, closing_by, closing, capturing, captured_by, captured, emit, behind_first, exec, execs, exec_else, at_end, new_run, nests_of}
 use Rattle.tm_meaning.specs.Tree.{Trees}
 use Rattle.tm_meaning.specs.declared.stream.TemplateId.{TemplateId}
 
@@ -145,17 +146,34 @@ ends_within w s true run out g h = h
 ends_within w s false run out g h = ends_fault w w run out (InvalidOperation ∷ [])
 
 -- and behind it, whatever the ending
-left_by_ends : (s : Scope) (w : World) (e : Ending) (parent : Option TemplateId) (out : List ℕ) (world1 : World) →
-    EndsBy (within s w) e world1 → Ends w (left_by e (record { ending = e; parent = parent; text = out; world = world1 }))
+closing_by_ends : (w v : World) (close : World → World) → ((x : World) → Kept v x → Kept w (close x)) → (e : Ending) (parent : Option TemplateId) (out : List ℕ) (world1 : World) →
+    EndsBy v e world1 → Ends w (closing_by e close (record { ending = e; parent = parent; text = out; world = world1 }))
 unfolding Ends
-left_by_ends s w done parent out world1 h = kept_popped s w world1 h
-left_by_ends s w leave parent out world1 h = kept_popped s w world1 h
-left_by_ends s w next parent out world1 h = kept_popped s w world1 h
-left_by_ends s w (fault chain) parent out world1 h = tt
+closing_by_ends w v close k done parent out world1 h = k world1 h
+closing_by_ends w v close k leave parent out world1 h = k world1 h
+closing_by_ends w v close k next parent out world1 h = k world1 h
+closing_by_ends w v close k (fault chain) parent out world1 h = tt
 
-left_ends : (s : Scope) (w : World) (o : Outcome) → Ends (within s w) o → Ends w (left o)
+closing_ends : (w v : World) (close : World → World) → ((x : World) → Kept v x → Kept w (close x)) → (o : Outcome) → Ends v o → Ends w (closing close o)
 unfolding Ends
-left_ends s w o h = left_by_ends s w o.ending o.parent o.text o.world h
+closing_ends w v close k o h = closing_by_ends w v close k o.ending o.parent o.text o.world h
+
+pub kept_escaped : (e : AutoEscape) {w world1 : World} → Kept w world1 → Kept w (with_escape e world1)
+kept_escaped e k = record { frames = k.frames; outer = k.outer }
+
+-- behind a capture
+captured_by_ends : (w : World) (run : Run) (out : List ℕ) (f : Run → List ℕ → World → Outcome) → ((run1 : Run) (x : List ℕ) (world1 : World) → Ends world1 (f run1 x world1)) →
+    (e : Ending) (parent : Option TemplateId) (x : List ℕ) (world1 : World) → EndsBy w e world1 → Ends w (captured_by e (record { ending = e; parent = parent; text = x; world = world1 }) run out f)
+unfolding Ends
+captured_by_ends w run out f k done parent x world1 h = ends_then w world1 (f run x world1) h (k run x world1)
+captured_by_ends w run out f k leave parent x world1 h = ends_kept w world1 (tick world1) run out _ (tick_gives world1) (λ _ world2 h2. kept_then h h2)
+captured_by_ends w run out f k next parent x world1 h = ends_kept w world1 (tick world1) run out _ (tick_gives world1) (λ _ world2 h2. kept_then h h2)
+captured_by_ends w run out f k (fault chain) parent x world1 h = tt
+
+captured_ends : (w : World) (run : Run) (out : List ℕ) (o : Outcome) (f : Run → List ℕ → World → Outcome) → Ends w o → ((run1 : Run) (x : List ℕ) (world1 : World) → Ends world1 (f run1 x world1)) →
+    Ends w (captured o run out f)
+unfolding Ends
+captured_ends w run out o f h k = captured_by_ends w (record run { parent = o.parent }) out f k o.ending o.parent o.text o.world h
 
 -- ---------------------------------------------------------------- calls
 -- A value keeps the scopes; a run starts one level deeper, within the limit, and what is put back behind one that keeps its scopes gives these back.
@@ -438,7 +456,16 @@ module _ (u : Under) (nest_ends : (k : Callee) (heard : Bool) (out : List ℕ) (
         let s = plain_scope (undefined false) in
         ends_within w s (nat_lt (depth w.scopes) u.host.limit) run out _
         (ends_kept w (within s w) (set_each u run given (within s w)) run out _ (set_each_gives run given (within s w)) (λ _ world2 k.
-        left_ends s w (execs u body run out world2) (ends_then (within s w) world2 (execs u body run out world2) k (execs_end body run out world2))))
+        closing_ends w (within s w) pop (kept_popped s w) (execs u body run out world2) (ends_then (within s w) world2 (execs u body run out world2) k (execs_end body run out world2))))
+    exec_ends (SetBlock' t _ body) run out w =
+        captured_ends w run out (execs u body (capturing true run) [] w) _ (execs_end body (capturing true run) [] w) (λ run1 x world1.
+        ends_use world1 (tick world1) run1 out _ (tick_gives world1) (λ _ world2.
+        ends_use world2 (assign u run1 t (captured_text x world2) world2) run1 out _ (assign_gives run1 t (captured_text x world2) world2) (λ _ world3. ends_here world3 world3 run1 out (kept_same world3))))
+    exec_ends (AutoEscape' e _ body) run out w =
+        ends_use w (eval u run e w) run out _ (eval_gives run e w) (λ v world1.
+        ends_use world1 (answered (escape_for run.first v) world1) run out _ (answered_gives _ world1) (λ x world2.
+        closing_ends world2 (with_escape x world2) (with_escape world2.escape) (λ y k. kept_then (kept_escaped x (kept_same world2)) (kept_escaped world2.escape k))
+        (execs u body run out (with_escape x world2)) (execs_end body run out (with_escape x world2))))
     exec_ends (Do e) run out w = ends_use w (eval u run e w) run out _ (eval_gives run e w) (λ _ world1. ends_here world1 world1 run out (kept_same world1))
 
     pub execs_end : {n : _} → (ss : Row_of-Stmt n) (run : Run) (out : List ℕ) (w : World) → Ends w (execs u ss run out w)

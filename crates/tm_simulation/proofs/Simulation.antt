@@ -19,25 +19,26 @@ use Rattle.tm_syntax.specs.declared.tree.Step.{Step, Attribute, Row_of-Compariso
 use Rattle.tm_syntax.specs.declared.tree.Target.{Target, Name as To, Unpack' as Items, Attribute as Member, Row_of-Target, end_of-Target as no_target, more_of-Target as target}
 use Rattle.tm_syntax.specs.declared.tree.Assignment.{Assignment}
 use Rattle.tm_syntax.specs.declared.tree.Assignment.TheVariants.{Assignment as Given}
-use Rattle.tm_syntax.specs.declared.tree.Stmt.{Stmt, EmitRaw, EmitExpr, If', Block', Set, With', Do, Row_of-Stmt, end_of-Stmt as no_statement, more_of-Stmt as statement, Held-Stmt-If-2 as Otherwise, None' as no_else, Some' as otherwise}
+use Rattle.tm_syntax.specs.declared.tree.Stmt.{Stmt, EmitRaw, EmitExpr, If', Block', Set, SetBlock', With', Do, AutoEscape', Row_of-Stmt, end_of-Stmt as no_statement, more_of-Stmt as statement, Held-Stmt-If-2 as Otherwise, None' as no_else, Some' as otherwise}
+use Rattle.tm_syntax.specs.declared.instruction.CaptureMode.TheVariants.{Capture}
 use Rattle.tm_syntax.specs.declared.instruction.Instruction.{Instruction}
 use Rattle.tm_syntax.specs.declared.instruction.Instruction.TheVariants as i
 use Rattle.tm_syntax.specs.Forms.{unary, chained, conditional, condition, comparison, pair, plain, item, slice, binary, compare, and_then, or_else}
 use Rattle.tm_syntax.specs.Code.{expr_code, condition_code, conditions_code, exprs_code, pair_code, pairs_code, argument_code, arguments_code, step_code, links_code, steps_code, count, count_exprs, count_pairs, unary_code, binary_code, count_targets, target_code, targets_code, set_code, assignments_code, statement_code, statements_code, otherwise_code, jump_over}
-use Rattle.tm_meaning.specs.World.{choose, World, Scope, Host, Res, Good, Bad, bind, tick, depth, push, pop, plain as plain_scope, items_of, set_member, answered, emitted, looked_up}
+use Rattle.tm_meaning.specs.World.{choose, World, Scope, Host, Res, Good, Bad, bind, tick, depth, push, pop, plain as plain_scope, items_of, set_member, answered, emitted, looked_up, escape_for, with_escape, captured_text}
 use Rattle.tm_meaning.specs.Calls.{Callee, whole, Call, Asked, has, refused, runs, enter_block, call_named}
 use Rattle.tm_meaning.specs.Tree.{Trees, Body}
-use Rattle.tm_meaning.specs.Meaning.{Run, Outcome, Ending, done, leave, next, fault, Nests, Under, so_far, say, use_it, then_do, value_of, in_place_of, block_tag, truth, applied_unary, operated, applied, attribute, item_at, slice_of, list_of_values, map_of_pairs, audible as heard_here, none_waits, eval, eval_all, eval_pair, eval_pairs, eval_argument, eval_arguments, eval_condition, eval_conditions, eval_step, eval_links, eval_steps, assign, assign_all, set_to, set_each, left, emit, behind_first, exec, execs, exec_else, new_run, at_end, stream_run, nests_of, rendered}
+use Rattle.tm_meaning.specs.Meaning.{Run, Outcome, Ending, done, leave, next, fault, Nests, Under, so_far, say, use_it, then_do, value_of, in_place_of, block_tag, truth, applied_unary, operated, applied, attribute, item_at, slice_of, list_of_values, map_of_pairs, audible as heard_here, none_waits, eval, eval_all, eval_pair, eval_pairs, eval_argument, eval_arguments, eval_condition, eval_conditions, eval_step, eval_links, eval_steps, assign, assign_all, set_to, set_each, closing, capturing, captured, emit, behind_first, exec, execs, exec_else, new_run, at_end, stream_run, nests_of, rendered}
 use Rattle.tm_meaning.specs.Machine.{Activation, Config, Finished, Failed, Stuck, Next, More, Over, Program, after, goes, taken, on_taken, asked, asked_in_place, base_of, start, run_from, stuck, audible, with_world}
-use Rattle.tm_meaning.specs.Instructions.{binary_of, paired}
+use Rattle.tm_meaning.specs.Instructions.{binary_of, paired, end_capture_of, replacing}
 use Rattle.tm_meaning.specs.Steps.{act, step, closed, finish, Final, final, Leads, over}
 use Rattle.tm_meaning.specs.Compiled.{IsCompiled, code_of}
 use Rattle.tm_meaning.proofs.Ends.{one_end}
 use Rattle.tm_simulation.specs.Reached.{final_by, final_of, Renders}
 use Rattle.tm_simulation.proofs.Place.{HasAt, has_front, has_behind, has_whole}
-use Rattle.tm_simulation.proofs.Keeps.{Kept, kept_depth, kept_same, Gives, EndsBy as EndsKept, Ends as KeptEnds, ends_as, tick_gives, answered_gives, Asks, block_asks, named_asks, eval_gives, condition_gives, all_give, pair_gives, pairs_give, argument_gives, arguments_give, step_gives, steps_give, unary_gives, binary_gives, looked_up_gives, within, assign_gives, set_gives, set_each_gives, exec_ends, execs_end, nests_end}
-use Rattle.tm_simulation.proofs.Follow.{Bed, air, inside, captures_of, told_by, Spot, told, cfg, later, Follows, Then, Ends, whole_of, follows_map, follows_bind, bind_then, use_then, so_far_then, fault_then, do_then, within_then, Left, left_then, ends_map, Go, silent, at, after_then, move, pushes, choose_then, choose_ends}
-use Rattle.tm_simulation.proofs.Forms.{Fits, audible_is, writes_then, end_by, end_of, Entered, call_in_place, call_as_value}
+use Rattle.tm_simulation.proofs.Keeps.{Kept, kept_depth, kept_same, Gives, EndsBy as EndsKept, Ends as KeptEnds, ends_as, tick_gives, answered_gives, Asks, block_asks, named_asks, eval_gives, condition_gives, all_give, pair_gives, pairs_give, argument_gives, arguments_give, step_gives, steps_give, unary_gives, binary_gives, looked_up_gives, within, kept_escaped, assign_gives, set_gives, set_each_gives, exec_ends, execs_end, nests_end}
+use Rattle.tm_simulation.proofs.Follow.{Bed, air, inside, captures_of, told_by, Spot, told, cfg, later, Follows, Then, Ends, whole_of, follows_map, follows_bind, bind_then, use_then, so_far_then, fault_then, do_then, within_then, Closed, closed_then, captured_in, Dropped, captured_then, ends_map, Go, silent, at, after_then, move, pushes, choose_then, choose_ends}
+use Rattle.tm_simulation.proofs.Forms.{Fits, Stands, fits_captured, audible_is, writes_then, end_by, end_of, Entered, call_in_place, call_as_value}
 use Rattle.tm_meaning.specs.declared.stream.TemplateId.{TemplateId}
 use Rattle.tm_meaning.specs.declared.stream.StreamId.{StreamId}
 use Rattle.tm_meaning.specs.declared.base.Base.{Base}
@@ -129,6 +130,10 @@ links_long end to pc op (with_comparison (comparison op1 a) more) =
 -- the run of a meaning, with the parent that waits at a spot
 abbrev as_at : Run → Spot → Run
 as_at run s = record run { parent = s.parent }
+
+same_captures : (b : Bed) (out out1 : List ℕ) → length (captures_of b out) ≡ length (captures_of b out1)
+same_captures air out out1 = refl
+same_captures (inside x t ks) out out1 = refl
 
 module _ (p : Program) (f : Base) (r : Final) (trees : Trees) (n : ℕ)
     (entered : (k : Callee) (heard : Bool) (b : Bed) (out : List ℕ) (w : World) → p.host.limit + 1 ≤ n + depth w.scopes → depth w.scopes ≤ p.host.limit →
@@ -593,34 +598,50 @@ module _ (p : Program) (f : Base) (r : Final) (trees : Trees) (n : ℕ)
       (subst (λ b. Leads p f (told s) (choose b (λ _. goes stack (pop w) (cfg s pc stack w)) (λ _. stuck w)) r)
       (sym (lt-ltb f.scopes (length w.scopes.frames) stands)) (silent p f r (told s) _ g))
 
+  -- A capture above the run's floor is ended, and its text pushed.
+  ended_then : (s : Spot) (q : Option TemplateId) (x : List ℕ) (pc : ℕ) (stack : List Val) (w : World) → s.run.floor < suc (length (captures_of s.bed s.out)) →
+      Go p f r (later s q s.out) (pc + 1) (captured_text x w ∷ stack) w →
+      Leads p f (told s) (end_capture_of (cfg (later (record s { bed = captured_in s.bed s.out; out = [] }) q x) pc stack w)) r
+  ended_then s q x pc stack w stands g =
+      subst (λ b. Leads p f (told s) (choose b (λ _. goes (captured_text x w ∷ stack) w (cfg (later s q s.out) pc stack w)) (λ _. stuck w)) r)
+      (sym (lt-ltb s.run.floor (suc (length (captures_of s.bed s.out))) stands)) (silent p f r (told s) _ g)
+
+  -- a run in a capture of its own
+  stands_captured : (run : Run) (s : Spot) → Stands f run s → Stands f (capturing true run) (record s { bed = captured_in s.bed s.out; out = [] })
+  stands_captured run s stands = (stands.0, omega (arith, stands.1), fits_captured f run s.bed s.out stands.2)
+
+  -- Where a run stands its text may grow.
+  stands_later : (run : Run) (s : Spot) → Stands f run s → (q : Option TemplateId) (out : List ℕ) → Stands f run (later s q out)
+  stands_later run s stands q out = (stands.0, subst (λ n. s.run.floor ≤ n) (same_captures s.bed s.out out) stands.1, stands.2)
+
   -- what is emitted
-  emit_then : (run : Run) (s : Spot) (pc : ℕ) (v : Val) (stack : List Val) (w : World) (D L N : Then) → Fits f run s.bed → slice_get (p.code s.run.stream) pc ≡ Some i.Emit →
+  emit_then : (run : Run) (s : Spot) (pc : ℕ) (v : Val) (stack : List Val) (w : World) (D L N : Then) → Stands f run s → slice_get (p.code s.run.stream) pc ≡ Some i.Emit →
       Ends r s.bed (emit u (as_at run s) s.out v w) D L N → ((out1 : List ℕ) (world1 : World) → D s.parent out1 world1 → Go p f r (later s s.parent out1) (pc + 1) stack world1) → Go p f r s pc (v ∷ stack) w
   emit_then run s pc v stack w D L N fits e h g =
       at p f r i.Emit s pc (v ∷ stack) w e (after_then p f r (told s) (tick w) _ (use_then r s.bed w (tick w) (as_at run s) s.out _ D L N _ (tick_gives w) h (λ _ world1 k h1.
       after_then p f r (told s) (emitted p.host v world1) _ (use_then r s.bed world1 (emitted p.host v world1) (as_at run s) s.out _ D L N _ (answered_gives _ world1) h1 (λ t world2 k2 h2.
-      writes_then p f r (as_at run s) t s (pc + 1) stack world2 refl fits (g (say (as_at run s) t s.out) world2 (so_far_then r s.bed (as_at run s) (say (as_at run s) t s.out) world2 D L N h2)))))))
+      writes_then p f r (as_at run s) t s (pc + 1) stack world2 refl fits.2 (g (say (as_at run s) t s.out) world2 (so_far_then r s.bed (as_at run s) (say (as_at run s) t s.out) world2 D L N h2)))))))
 
   -- a block's tag: where it is heard the block is run in place, and else nothing is
-  tag_then : (run : Run) (s : Spot) (pc : ℕ) (b : List ℕ) (stack : List Val) (w : World) (D L N : Then) → Fits f run s.bed → Deep w → slice_get (p.code s.run.stream) pc ≡ Some (i.CallBlock b) →
+  tag_then : (run : Run) (s : Spot) (pc : ℕ) (b : List ℕ) (stack : List Val) (w : World) (D L N : Then) → Stands f run s → Deep w → slice_get (p.code s.run.stream) pc ≡ Some (i.CallBlock b) →
       Ends r s.bed (use_it (tick w) (as_at run s) s.out (λ _ world1. block_tag u (as_at run s) b s.out world1)) D L N →
       ((out1 : List ℕ) (world1 : World) → D s.parent out1 world1 → Go p f r (later s s.parent out1) (pc + 1) stack world1) → Go p f r s pc stack w
   tag_then run s pc b stack w D L N fits d e h g =
       at p f r (i.CallBlock b) s pc stack w e (after_then p f r (told s) (tick w) _ (use_then r s.bed w (tick w) (as_at run s) s.out _ D L N _ (tick_gives w) h (λ _ world1 k h1.
       subst (λ x. Leads p f (told s) (choose (none_waits s.parent && x) (λ _. asked_in_place f (cfg s pc stack world1) stack (enter_block p.host b world1)) (λ _. goes stack world1 (cfg s pc stack world1))) r)
-      (sym (audible_is f (as_at run s) s.run s.parent s.bed s.out pc stack world1 refl fits))
+      (sym (audible_is f (as_at run s) s.run s.parent s.bed s.out pc stack world1 refl fits.2))
       (choose_ends p f r (none_waits s.parent && heard_here (as_at run s)) (in_place_of u (as_at run s) s.out (enter_block p.host b world1)) (so_far (as_at run s) s.out world1) _ _ (told s) s.bed D L N h1
-      (λ h2. placed_then run s pc stack stack world1 world1 (enter_block p.host b world1) D L N fits (block_asks p.host b world1) (deep_kept k d) h2 g)
+      (λ h2. placed_then run s pc stack stack world1 world1 (enter_block p.host b world1) D L N fits.2 (block_asks p.host b world1) (deep_kept k d) h2 g)
       (λ h2. silent p f r (told s) _ (g s.out world1 (so_far_then r s.bed (as_at run s) s.out world1 D L N h2)))))))
 
   -- The code of statements comes behind itself with what they mean, or to their fault.
   abbrev StmtsRun : {m : _} → Row_of-Stmt m → Type 1
   StmtsRun ss =
-      (run : Run) (s : Spot) (pc : ℕ) (stack : List Val) (w : World) (L N : Then) → Fits f run s.bed → Deep w → HasAt (p.code s.run.stream) pc (statements_code pc ss) →
+      (run : Run) (s : Spot) (pc : ℕ) (stack : List Val) (w : World) (L N : Then) → Stands f run s → Deep w → HasAt (p.code s.run.stream) pc (statements_code pc ss) →
       Ends r s.bed (execs u ss (as_at run s) s.out w) (λ q out1 world1. Go p f r (later s q out1) (pc + length (statements_code pc ss)) stack world1) L N → Go p f r s pc stack w
 
   -- the part that runs where the condition is true, and the jump over the other
-  first_runs : {m : _} → (body : Row_of-Stmt m) → StmtsRun body → (other : Otherwise) (run : Run) (s : Spot) (pc end : ℕ) (stack : List Val) (w : World) (L N : Then) → Fits f run s.bed → Deep w →
+  first_runs : {m : _} → (body : Row_of-Stmt m) → StmtsRun body → (other : Otherwise) (run : Run) (s : Spot) (pc end : ℕ) (stack : List Val) (w : World) (L N : Then) → Stands f run s → Deep w →
       pc + length (statements_code pc body) + length (otherwise_code (pc + length (statements_code pc body)) other) ≡ end →
       HasAt (p.code s.run.stream) pc (statements_code pc body ++ otherwise_code (pc + length (statements_code pc body)) other) →
       Ends r s.bed (behind_first other (as_at run s) (execs u body (as_at run s) s.out w)) (λ q out1 world1. Go p f r (later s q out1) end stack world1) L N → Go p f r s pc stack w
@@ -645,11 +666,11 @@ module _ (p : Program) (f : Base) (r : Final) (trees : Trees) (n : ℕ)
 
   mutual
     -- A statement's code comes behind itself with what it means, or to its fault.
-    pub stmt_runs : (x : Stmt) (run : Run) (s : Spot) (pc : ℕ) (stack : List Val) (w : World) (L N : Then) → Fits f run s.bed → Deep w → HasAt (p.code s.run.stream) pc (statement_code pc x) →
+    pub stmt_runs : (x : Stmt) (run : Run) (s : Spot) (pc : ℕ) (stack : List Val) (w : World) (L N : Then) → Stands f run s → Deep w → HasAt (p.code s.run.stream) pc (statement_code pc x) →
         Ends r s.bed (exec u x (as_at run s) s.out w) (λ q out1 world1. Go p f r (later s q out1) (pc + length (statement_code pc x)) stack world1) L N → Go p f r s pc stack w
     stmt_runs (EmitRaw t) run s pc stack w L N fits d is h =
         at p f r (i.EmitRaw t) s pc stack w is.0 (after_then p f r (told s) (tick w) _ (use_then r s.bed w (tick w) (as_at run s) s.out _ _ L N _ (tick_gives w) h (λ _ world1 k h1.
-        writes_then p f r (as_at run s) t s (pc + 1) stack world1 refl fits (so_far_then r s.bed (as_at run s) (say (as_at run s) t s.out) world1 _ L N h1))))
+        writes_then p f r (as_at run s) t s (pc + 1) stack world1 refl fits.2 (so_far_then r s.bed (as_at run s) (say (as_at run s) t s.out) world1 _ L N h1))))
     stmt_runs (EmitExpr e) run s pc stack w L N fits d is h =
         let c = expr_code pc e in
         let behind = has_behind (p.code s.run.stream) pc c (i.Emit ∷ []) is in
@@ -695,10 +716,50 @@ module _ (p : Program) (f : Base) (r : Final) (trees : Trees) (n : ℕ)
         (within_then r s.bed w a (nat_lt (depth w.scopes) p.host.limit) (as_at run s) s.out _ _ L N (λ world1. Leads p f (told s) (goes stack world1 (cfg s pc stack w)) r) h (λ h1.
         silent p f r (told s) _ (sets_run given (as_at run s) s (pc + 1) stack (within a w) deep1 (has_front all (pc + 1) gc (bc ++ i.PopFrame ∷ []) is.1)
         (use_then r s.bed (within a w) (set_each u (as_at run s) given (within a w)) (as_at run s) s.out _ _ L N _ (set_each_gives u nest_ends (as_at run s) given (within a w)) h1 (λ _ world2 k2 h2.
-        stmts_run body run s pc1 stack world2 (Left L) (Left N) fits (deep_kept k2 deep1) (has_front all pc1 bc (i.PopFrame ∷ []) from_body)
-        (left_then r s.bed world2 (execs u body (as_at run s) s.out world2) _ L N _ (execs_end u nest_ends body (as_at run s) s.out world2) h2 (λ q out1 world3 k3 g.
+        stmts_run body run s pc1 stack world2 (Closed pop L) (Closed pop N) fits (deep_kept k2 deep1) (has_front all pc1 bc (i.PopFrame ∷ []) from_body)
+        (closed_then r s.bed world2 pop (execs u body (as_at run s) s.out world2) _ L N _ (execs_end u nest_ends body (as_at run s) s.out world2) h2 (λ q out1 world3 k3 g.
         popped_then (later s q out1) (pc1 + length bc) stack world3 (omega (arith, k3.frames, k2.frames, d.1)) last.0
         (move p f r (later s q out1) _ _ stack (pop world3) place g)))))))))
+    stmt_runs (SetBlock' t _ body) run s pc stack w L N fits d is h =
+        let all = p.code s.run.stream in
+        let bc = statements_code (pc + 1) body in
+        let pc1 = pc + 1 + length bc in
+        let tc = target_code (pc1 + 1) t in
+        let behind = has_behind all (pc + 1) bc (i.EndCapture ∷ tc) is.1 in
+        let place : pc1 + 1 + length tc ≡ pc + suc (length (bc ++ i.EndCapture ∷ tc)) = omega (arith, length-append bc (i.EndCapture ∷ tc)) in
+        let inner : Spot = record s { bed = captured_in s.bed s.out; out = [] } in
+        let o = execs u body (capturing true (as_at run s)) [] w in
+        at p f r (i.BeginCapture Capture) s pc stack w is.0 (silent p f r (told s) _
+        (stmts_run body (capturing true run) inner (pc + 1) stack w (Dropped r s.bed s.out L) (Dropped r s.bed s.out N) (stands_captured run s fits) d (has_front all (pc + 1) bc (i.EndCapture ∷ tc) is.1)
+        (captured_then r s.bed (as_at run s) s.out w o _ _ L N _ (execs_end u nest_ends body (capturing true (as_at run s)) [] w) h (λ q x world1 k h1.
+        at p f r i.EndCapture (later inner q x) pc1 stack world1 behind.0 (after_then p f r (told s) (tick world1) _
+        (use_then r s.bed world1 (tick world1) (record run { parent = q }) s.out _ _ L N _ (tick_gives world1) h1 (λ _ world2 k2 h2.
+        ended_then s q x pc1 stack world2 (omega (arith, fits.1))
+        (target_runs t (record run { parent = q }) (later s q s.out) (pc1 + 1) (captured_text x world2) stack world2 (deep_kept k2 (deep_kept k d)) behind.1
+        (use_then r s.bed world2 (assign u (record run { parent = q }) t (captured_text x world2) world2) (record run { parent = q }) s.out _ _ L N _ (assign_gives u nest_ends (record run { parent = q }) t (captured_text x world2) world2) h2 (λ _ world3 k3 h3.
+        move p f r (later s q s.out) _ _ stack world3 place (so_far_then r s.bed (record run { parent = q }) s.out world3 _ L N h3)))))))))))
+    stmt_runs (AutoEscape' e _ body) run s pc stack w L N fits d is h =
+        let all = p.code s.run.stream in
+        let ec = expr_code pc e in
+        let pc1 = pc + length ec in
+        let bc = statements_code (pc1 + 1) body in
+        let behind = has_behind all pc ec (i.PushAutoEscape ∷ (bc ++ i.PopAutoEscape ∷ [])) is in
+        let last = has_behind all (pc1 + 1) bc (i.PopAutoEscape ∷ []) behind.1 in
+        let place : pc1 + 1 + length bc + 1 ≡ pc + length (ec ++ i.PushAutoEscape ∷ (bc ++ i.PopAutoEscape ∷ [])) =
+        omega (arith, length-append ec (i.PushAutoEscape ∷ (bc ++ i.PopAutoEscape ∷ [])), length-append bc (i.PopAutoEscape ∷ [])) in
+        expr_runs e (as_at run s) s pc stack w d (has_front all pc ec (i.PushAutoEscape ∷ (bc ++ i.PopAutoEscape ∷ [])) is)
+        (use_then r s.bed w (eval u (as_at run s) e w) (as_at run s) s.out _ _ L N _ (eval_gives u nest_ends (as_at run s) e w) h (λ v world1 k1 h1.
+        at p f r i.PushAutoEscape s pc1 (v ∷ stack) world1 behind.0
+        (subst (λ first. Leads p f (told s) (after (answered (escape_for first v) world1) (λ x world2. goes stack (with_escape x world2) (replacing (world2.escape ∷ s.run.escapes) (cfg s pc1 (v ∷ stack) world1)))) r) fits.0
+        (after_then p f r (told s) (answered (escape_for run.first v) world1) _
+        (use_then r s.bed world1 (answered (escape_for run.first v) world1) (as_at run s) s.out _ _ L N _ (answered_gives _ world1) h1 (λ x world2 k2 h2.
+        let inner : Spot = record s { run = record s.run { escapes = world2.escape ∷ s.run.escapes } } in
+        silent p f r (told s) _
+        (stmts_run body run inner (pc1 + 1) stack (with_escape x world2) (Closed (with_escape world2.escape) L) (Closed (with_escape world2.escape) N) fits
+        (deep_kept (kept_escaped x (kept_same world2)) (deep_kept k2 (deep_kept k1 d))) (has_front all (pc1 + 1) bc (i.PopAutoEscape ∷ []) behind.1)
+        (closed_then r s.bed (with_escape x world2) (with_escape world2.escape) (execs u body (as_at run s) s.out (with_escape x world2)) _ L N _ (execs_end u nest_ends body (as_at run s) s.out (with_escape x world2)) h2 (λ q out1 world3 k3 g.
+        at p f r i.PopAutoEscape (later inner q out1) (pc1 + 1 + length bc) stack world3 last.0
+        (silent p f r (told (later s q out1)) _ (move p f r (later s q out1) _ _ stack (with_escape world2.escape world3) place g)))))))))))
     stmt_runs (Do e) run s pc stack w L N fits d is h =
         let c = expr_code pc e in
         let behind = has_behind (p.code s.run.stream) pc c (i.DiscardTop ∷ []) is in
@@ -708,7 +769,7 @@ module _ (p : Program) (f : Base) (r : Final) (trees : Trees) (n : ℕ)
         at p f r i.DiscardTop s (pc + length c) (v ∷ stack) world1 behind.0
         (silent p f r (told s) _ (move p f r s _ _ stack world1 place (so_far_then r s.bed (as_at run s) s.out world1 _ L N h1)))))
 
-    pub stmts_run : {m : _} → (ss : Row_of-Stmt m) (run : Run) (s : Spot) (pc : ℕ) (stack : List Val) (w : World) (L N : Then) → Fits f run s.bed → Deep w → HasAt (p.code s.run.stream) pc (statements_code pc ss) →
+    pub stmts_run : {m : _} → (ss : Row_of-Stmt m) (run : Run) (s : Spot) (pc : ℕ) (stack : List Val) (w : World) (L N : Then) → Stands f run s → Deep w → HasAt (p.code s.run.stream) pc (statements_code pc ss) →
         Ends r s.bed (execs u ss (as_at run s) s.out w) (λ q out1 world1. Go p f r (later s q out1) (pc + length (statements_code pc ss)) stack world1) L N → Go p f r s pc stack w
     stmts_run no_statement run s pc stack w L N fits d is h = move p f r s pc (pc + 0) stack w (omega arith) (so_far_then r s.bed (as_at run s) s.out w _ L N h)
     stmts_run (statement x ss) run s pc stack w L N fits d is h =
@@ -719,11 +780,11 @@ module _ (p : Program) (f : Base) (r : Final) (trees : Trees) (n : ℕ)
         let D : Then = λ q out1 world1. Go p f r (later s q out1) end stack world1 in
         stmt_runs x run s pc stack w L N fits d (has_front (p.code s.run.stream) pc c rest is)
         (do_then r s.bed (as_at run s) w (exec u x (as_at run s) s.out w) (λ run1 out1 world1. execs u ss run1 out1 world1) D L N _ (exec_ends u nest_ends x (as_at run s) s.out w) h (λ q out1 world1 k h1.
-        stmts_run ss run (later s q out1) (pc + length c) stack world1 L N fits (deep_kept k d) (has_behind (p.code s.run.stream) pc c rest is)
+        stmts_run ss run (later s q out1) (pc + length c) stack world1 L N (stands_later run s fits q out1) (deep_kept k d) (has_behind (p.code s.run.stream) pc c rest is)
         (ends_map r s.bed (execs u ss (record run { parent = q }) out1 world1) D _ L N h1 (λ q2 out2 world2 g. move p f r (later s q2 out2) _ end stack world2 place g))))
 
     -- the other part
-    second_runs : {m : _} → (body : Row_of-Stmt m) (other : Otherwise) (run : Run) (s : Spot) (pc end : ℕ) (stack : List Val) (w : World) (L N : Then) → Fits f run s.bed → Deep w →
+    second_runs : {m : _} → (body : Row_of-Stmt m) (other : Otherwise) (run : Run) (s : Spot) (pc end : ℕ) (stack : List Val) (w : World) (L N : Then) → Stands f run s → Deep w →
         pc + length (statements_code pc body) + length (otherwise_code (pc + length (statements_code pc body)) other) ≡ end →
         HasAt (p.code s.run.stream) pc (statements_code pc body ++ otherwise_code (pc + length (statements_code pc body)) other) →
         Ends r s.bed (exec_else u other (as_at run s) s.out w) (λ q out1 world1. Go p f r (later s q out1) end stack world1) L N → Go p f r s (pc + length (statements_code pc body) + jump_over other) stack w
@@ -739,17 +800,16 @@ module _ (p : Program) (f : Base) (r : Final) (trees : Trees) (n : ℕ)
         (ends_map r s.bed (execs u eb (as_at run s) s.out w) _ _ L N h (λ q out1 world1 g. move p f r (later s q out1) _ _ stack world1 here g))
 
 -- ---------------------------------------------------------------- streams
+-- where a stream's run stands
+abbrev spot_of : StreamId → Bed → List ℕ → Spot
+spot_of id b out = record { run = run_from id (length (captures_of b out)); parent = None; bed = b; out = out }
+
 fits_start : (b : Bed) (out : List ℕ) (heard : Bool) (w : World) → Fits (base_of heard (captures_of b out) w) (new_run heard w) b
 fits_start air out heard w = (refl, refl, refl)
 fits_start (inside x t ks) out heard w = inl (refl, refl, refl)
 
-same_captures : (b : Bed) (out out1 : List ℕ) → length (captures_of b out) ≡ length (captures_of b out1)
-same_captures air out out1 = refl
-same_captures (inside x t ks) out out1 = refl
-
--- where a stream's run stands
-abbrev spot_of : StreamId → Bed → List ℕ → Spot
-spot_of id b out = record { run = run_from id (length (captures_of b out)); parent = None; bed = b; out = out }
+stands_start : (id : StreamId) (b : Bed) (out : List ℕ) (heard : Bool) (w : World) → Stands (base_of heard (captures_of b out) w) (new_run heard w) (spot_of id b out)
+stands_start id b out heard w = (refl, omega arith, fits_start b out heard w)
 
 module _ (p : Program) (trees : Trees) (compiled : IsCompiled trees p) where
   -- behind the last instruction all is closed, and the run is over
@@ -792,7 +852,7 @@ module _ (p : Program) (trees : Trees) (compiled : IsCompiled trees p) where
       let size : length (p.code id) ≡ 0 + length code = ap length (compiled id) ∙ omega arith in
       let ends = end_then id heard b out w o.ending o.parent o.text o.world (ends_as w o (execs_end u (nests_end p.host trees n) (trees id).row (new_run heard w) out w)) in
       let placed = ends_map r b o _ (λ q x v. Go p f r (later s q x) (0 + length code) [] v) (λ q x v. Unit {0}) (λ q x v. Unit {0}) ends (λ q x v g. move p f r (later s q x) _ _ [] v (sym size) g) in
-      stmts_run p f r trees n below (trees id).row (new_run heard w) s 0 [] w (λ q x v. Unit {0}) (λ q x v. Unit {0}) (fits_start b out heard w) (deep, omega arith) stands placed
+      stmts_run p f r trees n below (trees id).row (new_run heard w) s 0 [] w (λ q x v. Unit {0}) (λ q x v. Unit {0}) (stands_start id b out heard w) (deep, omega arith) stands placed
 
   -- What nests comes to what it means. Level zero isn't reached, since a run stands one level deeper than the one that needs it, within the limit.
   pub nests_run : (n : ℕ) (k : Callee) (heard : Bool) (b : Bed) (out : List ℕ) (w : World) → p.host.limit + 1 ≤ n + depth w.scopes → depth w.scopes ≤ p.host.limit →
