@@ -8,7 +8,7 @@ use std::io::{self, Write};
 use std::process::Abort;
 use std::test::Fail;
 use tm_parts::{Captures, Counted, FuelTracker, NullWriter, Output, Sink, Stack, WriteWrapper};
-use tm_syntax::Instruction;
+use tm_syntax::{CaptureMode, Instruction};
 use tm_values::{Error, ErrorKind, Value};
 
 /// A writer that fails.
@@ -103,9 +103,9 @@ fn an_output_over_a_vector(rt: HostRuntime) -> Result<(), Fail> {
 
 /// Opens an unheard capture and a heard one in it, with a text in the first and two in the second.
 fn nest(alloc: Global, captures: &mut Captures) -> Result<(), Error> {
-    captures.begin(alloc, false)?;
+    captures.begin(alloc, CaptureMode::Discard)?;
     captures.write_str(&mut NullWriter, "a")?;
-    captures.begin(alloc, true)?;
+    captures.begin(alloc, CaptureMode::Capture)?;
     captures.write_str(&mut NullWriter, "b")?;
     captures.write_str(&mut NullWriter, "cd")?;
     Ok(())
@@ -114,7 +114,7 @@ fn nest(alloc: Global, captures: &mut Captures) -> Result<(), Error> {
 /// Whether the innermost capture closes with this text.
 fn ends_with(captures: &mut Captures, expected: &str) -> bool {
     match captures.end() {
-        Some(text) => text.as_str() == expected,
+        Some((_mode, text)) => text.as_str() == expected,
         None => false,
     }
 }

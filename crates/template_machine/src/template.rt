@@ -11,6 +11,7 @@ use std::marker::Model;
 use tm_meaning::{StreamId, TemplateId};
 use tm_parts::{Captures, Halt, NullWriter, Sink};
 use tm_state::{StateData, StateIds};
+use tm_syntax::CaptureMode;
 use tm_tables::{Callable, CompiledTemplate, Objects, Parties};
 use tm_values::{Error, ErrorKind, Value};
 use tm_vm::Machine;
@@ -107,10 +108,10 @@ impl<'env, 'source, O: Parties> TemplateOf<'env, 'source, O> {
         let alloc = self.environment.allocator();
         let state = self.first_state(ids, context)?;
         let mut captures = Captures::new(alloc);
-        captures.begin(alloc, true)?;
+        captures.begin(alloc, CaptureMode::Capture)?;
         let (mut captures, _state) = self.run_over(state, captures, &mut NullWriter)?;
         match captures.end() {
-            Some(text) => Ok(text),
+            Some((_mode, text)) => Ok(text),
             None => unreachable!(),
         }
     }

@@ -31,7 +31,12 @@ fn charge(instruction: &Instruction) -> u64
     ensures { result ≡ charge_of instruction.now }
 {
     match instruction {
-        Instruction::DiscardTop | Instruction::PushWith | Instruction::PopFrame => 0,
+        Instruction::DiscardTop
+        | Instruction::PushWith
+        | Instruction::PopFrame
+        | Instruction::BeginCapture(_)
+        | Instruction::PushAutoEscape
+        | Instruction::PopAutoEscape => 0,
         _ => 1,
     }
 }

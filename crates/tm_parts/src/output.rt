@@ -2,6 +2,7 @@
 ghost use Rattle.std.specs.Prelude.{◌≡◌, ◌≢◌, ◌⊎◌, ℕ, Bool, [], ◌∷◌, length, take, None, Err, IsOk, IsSome, OnOk, OnErr, IfErr, MatchOption, string_bytes};
 ghost use Rattle.std.specs.Io.KnownBytes.{Appends};
 ghost use Rattle.tm_values.specs.declared.error.ErrorKind.TheVariants.{WriteFailure, OutOfMemory};
+ghost use Rattle.tm_meaning.specs.Instructions.{is_heard};
 ghost use Rattle.tm_meaning.specs.Machine.{first_heard, new_capture, put_in, put_out};
 ghost use Rattle.tm_output.specs.Counts.{one_more, AppendsBeginning};
 ghost use Rattle.tm_printing.specs.Emitted.{emitted_text};
@@ -13,22 +14,24 @@ use std::io;
 use std::marker::Model;
 use tm_output::{Sink, write_text};
 use tm_printing::emit;
+use tm_syntax::CaptureMode;
 use tm_values::{AutoEscape, Error, ErrorKind, Records, Value};
 
-/// A text that waits for its capture's end, and whether it takes what is written.
+/// A text that waits for its capture's end, and what becomes of it there.
 #[derive(Drop)]
 struct Capture {
-    heard: bool,
+    mode: CaptureMode,
     text: String,
 }
 
 impl Model for Capture {
     ghost use Rattle.std.specs.Prelude.{string_bytes};
+    ghost use Rattle.tm_meaning.specs.Instructions.{is_heard};
     ghost use Rattle.tm_meaning.specs.Machine.{Capture as Waiting};
 
     ghost Value = { Waiting };
 
-    ghost view = { λ capture. record { heard = capture.heard; text = string_bytes capture.text } };
+    ghost view = { λ capture. record { heard = is_heard capture.mode; text = string_bytes capture.text } };
 }
 
 /// The open captures. A contract sees them innermost first.
@@ -68,32 +71,33 @@ impl Captures {
         ensures { result ≡ first_heard self.now }
     {
         match self.open.last() {
-            Some(innermost) => innermost.heard,
+            Some(innermost) => innermost.mode == CaptureMode::Capture,
             None => true,
         }
     }
 
     /// Opens a capture without text; where there is no memory, OutOfMemory, and all stays as it
     /// was.
-    pub fn begin(&mut self, alloc: Global, heard: bool) -> Result<(), Error>
-        ensures ok { OnOk result (self.new ≡ new_capture heard ∷ self.old) }
+    pub fn begin(&mut self, alloc: Global, mode: CaptureMode) -> Result<(), Error>
+        ensures ok { OnOk result (self.new ≡ new_capture (is_heard mode) ∷ self.old) }
         ensures kind { IfErr result (λ e. e ≡ OutOfMemory ∷ []) }
         ensures err { OnErr result (self.new ≡ self.old) }
     {
         self.open.push(Capture {
-            heard,
+            mode,
             text: String::new(alloc),
         })?;
         Ok(())
     }
 
-    /// Closes the innermost capture and gives its text, where one is open.
-    pub fn end(&mut self) -> Option<String>
-        ensures { MatchOption result ((self.old ≡ []) × (self.new ≡ [])) (λ text. (heard : Bool)
-            × (self.old ≡ record { heard = heard; text = string_bytes text } ∷ self.new)) }
+    /// Closes the innermost capture and gives its text, and what becomes of that, where one is
+    /// open.
+    pub fn end(&mut self) -> Option<(CaptureMode, String)>
+        ensures { MatchOption result ((self.old ≡ []) × (self.new ≡ [])) (λ ended.
+            self.old ≡ record { heard = is_heard ended.0; text = string_bytes ended.1 } ∷ self.new) }
     {
-        let Capture { text, .. } = self.open.pop()?;
-        Some(text)
+        let Capture { mode, text } = self.open.pop()?;
+        Some((mode, text))
     }
 
     /// Puts a text into the innermost capture, and writes it where none is open. `Writer` where the

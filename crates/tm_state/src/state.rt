@@ -3,7 +3,7 @@ ghost use Rattle.std.specs.Prelude.{◌≡◌, ◌+◌, ◌≤◌, ◌<◌, List
 ghost use Rattle.tm_values.specs.Answer.{OkOrOutOfMemory, IsLent};
 ghost use Rattle.tm_values.specs.Chain.{ends_in_memory};
 ghost use Rattle.tm_syntax.specs.Named.{find, put_each, texts_of};
-ghost use Rattle.tm_meaning.specs.World.{depth, pop, store, set_member, with_member, emitted, records_of, fuel_levels, find_name, view_of, name_of, Good, Bad, block_of};
+ghost use Rattle.tm_meaning.specs.World.{depth, with_escape, pop, store, set_member, with_member, emitted, records_of, fuel_levels, find_name, view_of, name_of, Good, Bad, block_of};
 ghost use Rattle.tm_meaning.specs.Calls.{enter_block, call_named, refused};
 ghost use Rattle.tm_meaning.specs.Steps.{charge_of, pay};
 ghost use Rattle.tm_printing.specs.Emitted.{emitted_text};
@@ -239,6 +239,13 @@ impl<'env> StateData<'env> {
         ensures { result ≡ self.now.escape }
     {
         self.escape
+    }
+
+    /// Escapes what is emitted so from here on.
+    pub fn set_escape(&mut self, escape: AutoEscape)
+        ensures { self.new ≡ with_escape escape self.old }
+    {
+        self.escape = escape;
     }
 
     /// Enters the block of a name, in a scope of its own, and gives its stream and what is put back behind it. UnknownBlock where there is none, InvalidOperation where it is required and nothing fills it, or where its scope would lie deeper than the limit; OutOfMemory where there is no memory. Then the state stays as it was.

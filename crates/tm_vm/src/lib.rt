@@ -2,6 +2,7 @@
 #![tactic(auto)]
 
 mod calls;
+mod captures;
 mod flow;
 mod jumps;
 mod machine;

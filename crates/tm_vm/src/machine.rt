@@ -19,7 +19,7 @@ use tm_parts::{Captures, Halt, Sink};
 use tm_state::{Saved, StateData};
 use tm_syntax::Instruction;
 use tm_tables::Host;
-use tm_values::{AutoEscape, Error, ErrorKind, Value};
+use tm_values::{Error, ErrorKind};
 
 /// A halt of a nested run, as it is told: a fault is wrapped in the kind, where there is one.
 #[cold]
@@ -161,14 +161,10 @@ impl<'env> Machine<'env> {
         ensures same_world { self.new.world ≡ self.old.world }
         ensures same_stream { self.new.run.stream ≡ self.old.run.stream }
     {
-        let Some(text) = self.captures.end() else {
+        let Some((_mode, text)) = self.captures.end() else {
             return Err(Halt::Stuck);
         };
-        let value = match self.state.escape() {
-            AutoEscape::None => Value::text(alloc, text.as_str()),
-            _ => Value::safe_text(alloc, text.as_str()),
-        };
-        match value {
+        match self.captured(alloc, text.as_str()) {
             Ok(value) => match self.run.push(value) {
                 Ok(()) => Ok(()),
                 Err(error) => Err(Halt::Fault(error)),

@@ -2,6 +2,7 @@
 ghost use Rattle.std.specs.Prelude.{◌≡◌, ◌+◌, List, [], ◌∷◌, Some, None, OnOk, IfErr, MatchOption, MatchResult, drop};
 ghost use Rattle.tm_values.specs.Val.{Val};
 ghost use Rattle.tm_meaning.specs.Meaning.{none_waits};
+ghost use Rattle.tm_meaning.specs.Steps.{is_empty};
 ghost use Rattle.tm_meaning.specs.Machine.{run_from, taken};
 ghost use Rattle.tm_operations.specs.Truth.{truth_of};
 ghost use Rattle.tm_vm.specs.Answers.{CanGoOn};
@@ -11,19 +12,20 @@ use std::marker::Model;
 use tm_meaning::StreamId;
 use tm_operations::truth;
 use tm_parts::Stack;
-use tm_values::{Error, ErrorKind, UndefinedBehavior, Value};
+use tm_values::{AutoEscape, Error, ErrorKind, UndefinedBehavior, Value};
 
-/// What is a run's own: its stream and the place in it, its operands, and how many captures stood when it began.
+/// What is a run's own: its stream and the place in it, its operands, the escapes that its open `autoescape`s replaced, and how many captures stood when it began.
 #[derive(Drop)]
 pub(crate) struct Run {
     pub(crate) stream: StreamId,
     pub(crate) place: usize,
     pub(crate) operands: Stack,
+    escapes: Vec<AutoEscape>,
     floor: usize,
 }
 
 impl Model for Run {
-    ghost use Rattle.std.specs.Prelude.{[], None};
+    ghost use Rattle.std.specs.Prelude.{[], None, reverse};
     ghost use Rattle.std.specs.Coded.{codes};
     ghost use Rattle.tm_values.specs.Code.{coded_Val};
     ghost use Rattle.tm_meaning.specs.Machine.{Activation};
@@ -36,7 +38,7 @@ impl Model for Run {
       stream = run.stream;
       place = run.place;
       operands = run.operands;
-      escapes = [];
+      escapes = reverse run.escapes.items;
       loops = [];
       floor = run.floor;
       parent = None;
@@ -52,6 +54,7 @@ impl Run {
             stream,
             place: 0,
             operands: Stack::new(alloc),
+            escapes: Vec::new(alloc),
             floor,
         }
     }
@@ -62,6 +65,39 @@ impl Run {
     {
         let _place = self.place;
         true
+    }
+
+    /// How many captures stood when it began.
+    pub(crate) fn floor(&self) -> usize
+        ensures { result ≡ self.now.floor }
+    {
+        self.floor
+    }
+
+    /// Whether no `autoescape` of its is open.
+    pub(crate) fn escapes_are_closed(&self) -> bool
+        ensures { result ≡ is_empty self.now.escapes }
+    {
+        self.escapes.is_empty()
+    }
+
+    /// Keeps the escape that an `autoescape` replaces. Fails by OutOfMemory alone.
+    pub(crate) fn push_escape(&mut self, escape: AutoEscape) -> Result<(), Error>
+        ensures ok { OnOk result
+            (self.new ≡ record self.old { escapes = escape ∷ self.old.escapes }) }
+        ensures kind { IfErr result (λ e. e ≡ ErrorKind.OutOfMemory ∷ []) }
+        ensures rest { self.new ≡ record self.old { escapes = self.new.escapes } }
+    {
+        self.escapes.push(escape)?;
+        Ok(())
+    }
+
+    /// The escape that the innermost open `autoescape` replaced, which is kept no longer.
+    pub(crate) fn pop_escape(&mut self) -> Option<AutoEscape>
+        ensures { MatchOption result ((self.old.escapes ≡ []) × (self.new ≡ self.old))
+            (λ escape. self.old ≡ record self.new { escapes = escape ∷ self.new.escapes }) }
+    {
+        self.escapes.pop()
     }
 
     /// Goes on to the next place.

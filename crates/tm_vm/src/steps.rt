@@ -79,6 +79,10 @@ impl Machine<'_> {
             Instruction::SetAttr(name) => self.do_set_attr(alloc, name),
             Instruction::PushWith => self.do_push_with(alloc, host, base),
             Instruction::PopFrame => self.do_pop_frame(base),
+            Instruction::BeginCapture(mode) => self.do_begin_capture(alloc, *mode),
+            Instruction::EndCapture => self.do_end_capture(alloc),
+            Instruction::PushAutoEscape => self.do_push_auto_escape(base),
+            Instruction::PopAutoEscape => self.do_pop_auto_escape(),
         }
     }
 
@@ -112,6 +116,7 @@ impl Machine<'_> {
         if self.run.place == size
             && base.captures == self.captures.depth()
             && base.scopes == self.state.height()
+            && self.run.escapes_are_closed()
         {
             return Ok(Flow::Done);
         }

@@ -1,6 +1,7 @@
 use Rattle.std.proofs.Common.{◌≡◌, ◌∙◌, Bool, List, ℕ, [], ◌∷◌, ◌++◌, Option, ap, reverse, string_bytes, subst, sym, rules}
 use Rattle.std.proofs.lemmas.List.{append-nil, reverse-append}
 use Rattle.std.specs.Io.KnownBytes.{Appends}
+use Rattle.tm_meaning.specs.Instructions.{is_heard}
 use Rattle.tm_meaning.specs.Machine.{Capture, put_in, put_out}
 use Rattle.tm_output.specs.Counts.{AppendsBeginning}
 use Rattle.tm_parts.proofs.Pieces.{appends_beginning}
@@ -38,7 +39,7 @@ returns-clause-part g c =
       | in-Ok-appended w ↦ search rules
       | in-Err-appended w ↦
           let below : List Capture = c.pop.new.self.items in
-          let after : Capture = record { heard = c.innermost.inside.heard; text = string_bytes c.emit-appended.new.target } in
+          let after : Capture = record { heard = is_heard c.innermost.inside.mode; text = string_bytes c.emit-appended.new.target } in
           let old_is : c.args.self.now ≡ c.in-Some.innermost ∷ reverse below =
           sym c.self.view_is ∙ ap reverse c.in-Some.ensures.items ∙ reverse-append below (c.in-Some.innermost ∷ []) in
           let now_is : reverse c.push_reserved.new.self.items ≡ after ∷ reverse below =

@@ -1,0 +1,91 @@
+//! The instructions of captures and escapes.
+ghost use Rattle.std.specs.Prelude.{◌≡◌, IfOk, IfErr, true};
+ghost use Rattle.tm_values.specs.Chain.{ends_in_memory};
+ghost use Rattle.tm_meaning.specs.World.{captured_text};
+ghost use Rattle.tm_meaning.specs.Instructions.{begin_capture_of, end_capture_of, push_auto_escape_of, pop_auto_escape_of};
+ghost use Rattle.tm_vm.specs.Answers.{CanGoOn, Silently};
+
+use crate::flow::Flow;
+use crate::machine::Machine;
+use std::alloc::Global;
+use tm_meaning::Base;
+use tm_parts::{Halt, escape_for};
+use tm_syntax::CaptureMode;
+use tm_values::{AutoEscape, Error, Value};
+
+impl Machine<'_> {
+    /// A captured text as a value, safe where the state escapes. Fails by OutOfMemory alone.
+    pub(crate) fn captured(&self, alloc: Global, text: &str) -> Result<Value, Error>
+        ensures ok { IfOk result (λ value. value ≡ captured_text text.now self.now.world) }
+        ensures kind { IfErr result (λ e. ends_in_memory e ≡ true) }
+    {
+        match self.state.escape() {
+            AutoEscape::None => Value::text(alloc, text),
+            _ => Value::safe_text(alloc, text),
+        }
+    }
+
+    /// Begins a capture, which takes what is written from here on.
+    pub(crate) fn do_begin_capture(
+        &mut self,
+        alloc: Global,
+        mode: CaptureMode,
+    ) -> Result<Flow, Halt>
+        requires { CanGoOn self.old.run }
+        ensures { Silently (begin_capture_of mode self.old) self.old self.new result }
+    {
+        self.captures.begin(alloc, mode)?;
+        self.run.advance();
+        Ok(Flow::GoOn)
+    }
+
+    /// Ends the innermost capture, and pushes its text, or undefined where that is dropped; stuck where it stood when the run began.
+    pub(crate) fn do_end_capture(&mut self, alloc: Global) -> Result<Flow, Halt>
+        requires { CanGoOn self.old.run }
+        ensures { Silently (end_capture_of self.old) self.old self.new result }
+    {
+        if self.captures.depth() <= self.run.floor() {
+            return Err(Halt::Stuck);
+        }
+        let Some((mode, text)) = self.captures.end() else {
+            return Err(Halt::Stuck);
+        };
+        let value = match mode {
+            CaptureMode::Capture => self.captured(alloc, text.as_str())?,
+            CaptureMode::Discard => Value::undefined(),
+        };
+        self.push_next(value)
+    }
+
+    /// Pops a value, and escapes from here on as it says; InvalidOperation where it names no escape.
+    pub(crate) fn do_push_auto_escape(&mut self, base: &Base) -> Result<Flow, Halt>
+        requires { CanGoOn self.old.run }
+        ensures { Silently (push_auto_escape_of base.now self.old) self.old self.new result }
+    {
+        let Some(value) = self.run.pop() else {
+            return Err(Halt::Stuck);
+        };
+        match escape_for(base.first, &value) {
+            Ok(escape) => {
+                self.run.push_escape(self.state.escape())?;
+                self.state.set_escape(escape);
+                self.run.advance();
+                Ok(Flow::GoOn)
+            }
+            Err(error) => Err(Halt::Fault(error)),
+        }
+    }
+
+    /// Escapes as before the innermost open `autoescape`; stuck where the run has none open.
+    pub(crate) fn do_pop_auto_escape(&mut self) -> Result<Flow, Halt>
+        requires { CanGoOn self.old.run }
+        ensures { Silently (pop_auto_escape_of self.old) self.old self.new result }
+    {
+        let Some(escape) = self.run.pop_escape() else {
+            return Err(Halt::Stuck);
+        };
+        self.state.set_escape(escape);
+        self.run.advance();
+        Ok(Flow::GoOn)
+    }
+}
