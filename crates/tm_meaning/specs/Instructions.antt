@@ -1,15 +1,16 @@
 -- What each instruction does once it is paid for.
-use Rattle.std.specs.Prelude.{ℕ, ◌+◌, List, [], ◌∷◌, ◌++◌, length, nat_lt, Bool, true, false, ◌&&◌}
-use Rattle.tm_values.specs.Val.{Val, undefined}
+use Rattle.std.specs.Prelude.{ℕ, ◌+◌, List, [], ◌∷◌, ◌++◌, length, nat_lt, nat_eq, Option, Some, None, Bool, true, false, ◌&&◌, slice_get}
+use Rattle.tm_values.specs.Val.{Val, undefined, boolean}
 use Rattle.tm_values.specs.declared.escape.AutoEscape.{AutoEscape}
 use Rattle.tm_syntax.specs.declared.instruction.CaptureMode.{CaptureMode}
+use Rattle.tm_syntax.specs.declared.instruction.LoopFlags.{LoopFlags}
 use Rattle.tm_syntax.specs.declared.instruction.CaptureMode.TheVariants as modes
 use Rattle.tm_syntax.specs.declared.tree.UnaryOperator.{UnaryOperator}
 use Rattle.tm_syntax.specs.declared.tree.BinaryOperator.{BinaryOperator}
-use Rattle.tm_meaning.specs.World.{choose, World, Host, Res, Good, answered, looked_up, emitted, escape_for, with_escape, store, items_of, set_member, push, pop, plain}
+use Rattle.tm_meaning.specs.World.{choose, World, Host, Loop, LoopMark, top_mark, top_loop, open_loop, next_turn, cleared, items_over, Res, Good, answered, looked_up, emitted, escape_for, with_escape, store, items_of, set_member, push, pop, plain}
 use Rattle.tm_meaning.specs.Calls.{enter_block, call_named}
 use Rattle.tm_meaning.specs.Meaning.{none_waits, truth, applied_unary, operated, attribute, item_at, slice_of, list_of_values, map_of_pairs}
-use Rattle.tm_meaning.specs.Machine.{Capture, Activation, Config, Base, Next, More, after, on_top, take_n, on, goes, jumps, stuck, with_world, audible, writes, new_capture, captured_value, asked, asked_in_place}
+use Rattle.tm_meaning.specs.Machine.{Capture, Return, Activation, Config, Base, Next, More, after, on_top, take_n, on, goes, jumps, stuck, with_world, audible, writes, new_capture, captured_value, asked, asked_in_place}
 
 -- ---------------------------------------------------------------- output
 abbrev pub emit_raw_of : Base → List ℕ → Config → Next
@@ -108,10 +109,50 @@ set_attr_of x c =
 abbrev pub push_with_of : Host → Config → Next
 push_with_of host c = after (push host (plain (undefined false)) c.world) (λ _ w. goes c.run.operands w c)
 
--- A scope that stood before the run isn't left.
+abbrev pub is_no_loop : Option LoopMark → Bool
+is_no_loop None = true
+is_no_loop (Some m) = false
+
+-- A scope that stood before the run isn't left, nor a loop's.
 abbrev pub pop_frame_of : Base → Config → Next
 pop_frame_of f c =
-    choose (nat_lt f.scopes (length c.world.scopes.frames)) (λ _. goes c.run.operands (pop c.world) c) (λ _. stuck c.world)
+    choose (nat_lt f.scopes (length c.world.scopes.frames) && is_no_loop (top_mark c.world.scopes.frames))
+    (λ _. goes c.run.operands (pop c.world) c) (λ _. stuck c.world)
+
+-- ---------------------------------------------------------------- loops
+-- the loops that the run has open, each with where it goes on if it was called
+abbrev pub looping : List (Option Return) → Config → Config
+looping rs c = record c { run = record c.run { loops = rs } }
+
+abbrev pub push_loop_of : Host → LoopFlags → Config → Next
+push_loop_of host flags c =
+    on_top c.run.operands c.world (λ v vs. after (items_over host v c.world) (λ items w. after (open_loop host items flags w) (λ _ world1.
+    goes vs world1 (looping (None ∷ c.run.loops) c))))
+
+-- the innermost loop's record, where the run opened that and its scope is on top
+abbrev pub on_loop : List (Option Return) → Option Loop → World → (Loop → Next) → Next
+on_loop [] l w f = stuck w
+on_loop (r ∷ rs) None w f = stuck w
+on_loop (r ∷ rs) (Some l) w f = f l
+
+abbrev pub iterate_with : Option Val → ℕ → Config → Next
+iterate_with None n c = jumps n c.run.operands (next_turn c.world) c
+iterate_with (Some v) n c = goes (v ∷ c.run.operands) (cleared (next_turn c.world)) c
+
+abbrev pub iterate_of : ℕ → Config → Next
+iterate_of n c = on_loop c.run.loops (top_loop c.world) c.world (λ l. iterate_with (slice_get l.items l.turns) n c)
+
+abbrev pub push_did_not_iterate_of : Config → Next
+push_did_not_iterate_of c =
+    on_loop c.run.loops (top_loop c.world) c.world (λ l. goes (boolean (nat_eq (length l.items) 0) ∷ c.run.operands) c.world c)
+
+-- Where no call of it is open it is left; nothing calls one yet.
+abbrev pub pop_loop_with : List (Option Return) → Config → Next
+pop_loop_with (None ∷ rs) c = goes c.run.operands (pop c.world) (looping rs c)
+pop_loop_with _ c = stuck c.world
+
+abbrev pub pop_loop_frame_of : Config → Next
+pop_loop_frame_of c = on_loop c.run.loops (top_loop c.world) c.world (λ l. pop_loop_with c.run.loops c)
 
 -- ---------------------------------------------------------------- captures and escapes
 abbrev pub is_heard : CaptureMode → Bool

@@ -29,10 +29,10 @@ use Rattle.tm_syntax.specs.declared.tree.Step.{Step, Attribute, Row_of-Compariso
 use Rattle.tm_syntax.specs.declared.tree.Target.{Target, Name as To, Unpack' as Items, Attribute as Member, Row_of-Target, end_of-Target as no_target, more_of-Target as target}
 use Rattle.tm_syntax.specs.declared.tree.Assignment.{Assignment}
 use Rattle.tm_syntax.specs.declared.tree.Assignment.TheVariants.{Assignment as Given}
-use Rattle.tm_syntax.specs.declared.tree.Stmt.{Stmt, EmitRaw, EmitExpr, If', Block', Set, SetBlock', With', Do, AutoEscape', Row_of-Stmt, end_of-Stmt as no_statement, more_of-Stmt as statement, Held-Stmt-If-2 as Otherwise, None' as no_else, Some' as otherwise}
+use Rattle.tm_syntax.specs.declared.tree.Stmt.{Stmt, EmitRaw, EmitExpr, If', For', Break, Continue, Block', Set, SetBlock', With', Do, AutoEscape', Row_of-Stmt, end_of-Stmt as no_statement, more_of-Stmt as statement, Held-Stmt-If-2 as Otherwise, None' as no_else, Some' as otherwise}
 use Rattle.tm_syntax.specs.Forms.{unary, chained, conditional, condition, comparison, pair, plain, item, slice, binary, compare, and_then, or_else}
-use Rattle.tm_syntax.specs.Code.{count_targets}
-use Rattle.tm_meaning.specs.World.{choose, TemplateId, root_of, StreamId, World, Host, Res, Good, Bad, bind, answered, tick, ticked, looked_up, records_of, template_at, emitted, escape_for, with_escape, captured_text, store, set_member, items_of, push, pop, plain as plain_scope}
+use Rattle.tm_syntax.specs.Code.{count_targets, for_flags}
+use Rattle.tm_meaning.specs.World.{choose, TemplateId, root_of, StreamId, World, Host, Res, Good, Bad, bind, answered, tick, ticked, looked_up, records_of, template_at, emitted, escape_for, with_escape, captured_text, open_loop, next_turn, cleared, items_over, store, set_member, items_of, push, pop, plain as plain_scope}
 use Rattle.tm_meaning.specs.Calls.{Callee, whole, Call, Asked, has, refused, runs, undone, wrapped, enter_block, call_named, own_blocks}
 use Rattle.tm_meaning.specs.Tree.{Body, Trees}
 
@@ -307,6 +307,28 @@ abbrev pub behind_first : Otherwise → Run → Outcome → Outcome
 behind_first no_else run o = o
 behind_first (otherwise _ body) run o = then_do run o (λ run1 out1 world1. use_it (tick world1) run1 out1 (λ _ world2. so_far run1 out1 world2))
 
+-- ---------------------------------------------------------------- loops
+-- a round's end, charged: its loop is left, or goes on
+abbrev pub round_end : Ending → Run → Outcome → (Run → List ℕ → World → Outcome) → Outcome
+round_end (fault chain) run o f = o
+round_end leave run o f = use_it (tick o.world) run o.text (λ _ world1. so_far run o.text (pop world1))
+round_end e run o f = use_it (tick o.world) run o.text (λ _ world1. f run o.text world1)
+
+-- A round for each item: the next one is asked for, charged, the scope loses its names, and the body runs. Where no item is left the loop is.
+abbrev pub rounds : (Val → Run → List ℕ → World → Outcome) → List Val → Run → List ℕ → World → Outcome
+rounds turn [] run out w = use_it (tick w) run out (λ _ world1. so_far run out (pop (next_turn world1)))
+rounds turn (v ∷ vs) run out w =
+    use_it (tick w) run out (λ _ world1.
+    let o = turn v run out (cleared (next_turn world1)) in
+    round_end o.ending (record run { parent = o.parent }) o (λ run1 out1 world2. rounds turn vs run1 out1 world2))
+
+abbrev pub loop_over : Host → (Val → Run → List ℕ → World → Outcome) → List Val → Run → List ℕ → World → Outcome
+loop_over host turn vs run out w = use_it (open_loop host vs for_flags w) run out (λ _ world1. rounds turn vs run out world1)
+
+abbrev pub has_none : List Val → Bool
+has_none [] = true
+has_none (v ∷ vs) = false
+
 abbrev mutual
   pub exec : Under → Stmt → Run → List ℕ → World → Outcome
   exec u (EmitRaw t) run out w = use_it (tick w) run out (λ _ world1. so_far run (say run t out) world1)
@@ -314,6 +336,13 @@ abbrev mutual
   exec u (If' c _ body other) run out w =
       use_it (eval u run c w) run out (λ v world1. use_it (tick world1) run out (λ _ world2. use_it (truth u.host v world2) run out (λ b world3.
       choose b (λ _. behind_first other run (execs u body run out world3)) (λ _. exec_else u other run out world3))))
+  exec u (For' t e _ body other) run out w =
+      use_it (eval u run e w) run out (λ v world1. use_it (items_over u.host v world1) run out (λ vs world2.
+      then_do run
+      (loop_over u.host (λ item run1 out1 world3. use_it (assign u run1 t item world3) run1 out1 (λ _ world4. execs u body run1 out1 world4)) vs run out world2)
+      (λ run1 out1 world3. exec_behind_loop u other (has_none vs) run1 out1 world3)))
+  exec u Break run out w = ended leave run out w
+  exec u Continue run out w = ended next run out w
   exec u (Block' b _ body) run out w = use_it (tick w) run out (λ _ world1. block_tag u run b out world1)
   exec u (Set t e) run out w = use_it (set_to u run t e w) run out (λ _ world1. so_far run out world1)
   exec u (SetBlock' t _ body) run out w =
@@ -336,6 +365,12 @@ abbrev mutual
   pub exec_else : Under → Otherwise → Run → List ℕ → World → Outcome
   exec_else u no_else run out w = so_far run out w
   exec_else u (otherwise _ body) run out w = execs u body run out w
+
+  -- what runs where a loop had no items, behind its test, which is charged
+  pub exec_behind_loop : Under → Otherwise → Bool → Run → List ℕ → World → Outcome
+  exec_behind_loop u no_else none_taken run out w = so_far run out w
+  exec_behind_loop u (otherwise _ body) none_taken run out w =
+      use_it (tick w) run out (λ _ world1. choose none_taken (λ _. execs u body run out world1) (λ _. so_far run out world1))
 
 -- ---------------------------------------------------------------- runs
 abbrev pub failed : ErrorKind → Run → List ℕ → World → Outcome

@@ -13,7 +13,7 @@ use Rattle.tm_syntax.specs.declared.tree.Step.{Step, Attribute, end_of-Compariso
 use Rattle.tm_syntax.specs.declared.tree.Target.{Target, Name as To, Unpack' as Items, Attribute as Member, end_of-Target as no_target, more_of-Target as target}
 use Rattle.tm_syntax.specs.declared.tree.Assignment.{Assignment}
 use Rattle.tm_syntax.specs.declared.tree.Assignment.TheVariants.{Assignment as Given}
-use Rattle.tm_syntax.specs.declared.tree.Stmt.{Stmt, EmitRaw, EmitExpr, If', Block', Set, SetBlock', With', Do, AutoEscape', end_of-Stmt as no_statement, more_of-Stmt as statement, Held-Stmt-If-2 as Otherwise, None' as no_else, Some' as otherwise}
+use Rattle.tm_syntax.specs.declared.tree.Stmt.{Stmt, EmitRaw, EmitExpr, If', For', Break, Continue, Block', Set, SetBlock', With', Do, AutoEscape', end_of-Stmt as no_statement, more_of-Stmt as statement, Held-Stmt-If-2 as Otherwise, None' as no_else, Some' as otherwise}
 use Rattle.tm_syntax.specs.Forms.{unary, chained, conditional, condition, comparison, plain, binary, compare, and_then, or_else}
 use Rattle.tm_meaning.specs.Compiled.{code_of}
 use Rattle.tm_meaning.specs.World.{Bindings, find, own, World, Host, View, Reply, gives, faults, Stated, Function, callers}
@@ -278,6 +278,50 @@ fault_in_capture = page (two (raw (codes "b")) (SetBlock' (To (codes "x")) (tt �
 -- {% set a, b %}1{% endset %}
 abbrev pub set_block_of_two : Page
 set_block_of_two = page (one (SetBlock' to_a_and_b (tt ∷ []) (statement (raw (codes "1")) no_statement))) nothing
+
+-- ---------------------------------------------------------------- loops
+abbrev pub numbers : ℕ → ℕ → Expr
+numbers m n = List' (tt ∷ tt ∷ []) (expr (literal_number m) (expr (literal_number n) no_expr))
+
+abbrev pub alone_in_list : Expr → Expr
+alone_in_list e = List' (tt ∷ []) (expr e no_expr)
+
+abbrev pub for_x : Expr → Stmt → Otherwise → Stmt
+for_x e s other = For' (To (codes "x")) e (tt ∷ []) (statement s no_statement) other
+
+-- {% for x in [1,2] %}{{ x }}{% endfor %}
+abbrev pub each_number : Page
+each_number = page (one (for_x (numbers 1 2) (EmitExpr x) no_else)) nothing
+
+-- {% for x in [] %}{% else %}E{% endfor %}
+abbrev pub no_round : Page
+no_round = page (one (For' (To (codes "x")) (List' [] no_expr) [] no_statement (else_one (raw (codes "E"))))) nothing
+
+-- {% for x in [1] %}{% break %}{% else %}E{% endfor %}
+abbrev pub broken_round : Page
+broken_round = page (one (for_x (alone_in_list (literal_number 1)) Break (else_one (raw (codes "E"))))) nothing
+
+-- {% for x in [1] %}{% set y %}a{% break %}{% endset %}{% endfor %}[{{ y }}]
+abbrev pub break_in_capture : Page
+break_in_capture =
+    page (body_of
+    (statement (for_x (alone_in_list (literal_number 1)) (SetBlock' (To (codes "y")) (tt ∷ tt ∷ []) (statement (raw (codes "a")) (statement Break no_statement))) no_else)
+    (statement (raw (codes "[")) (statement (EmitExpr (named (codes "y"))) (statement (raw (codes "]")) no_statement))))) nothing
+
+-- {% for x in [1,2] %}{% with %}{{ x }}{% continue %}{% endwith %}{% endfor %}
+abbrev pub continue_in_scope : Page
+continue_in_scope = page (one (for_x (numbers 1 2) (With' [] (tt ∷ tt ∷ []) (statement (EmitExpr x) (statement Continue no_statement))) no_else)) nothing
+
+-- {% for x in [1,2] %}{{ loop.revindex }}{{ loop.previtem }}{% endfor %}
+abbrev pub loop_members : Page
+loop_members =
+    page (one (For' (To (codes "x")) (numbers 1 2) (tt ∷ tt ∷ [])
+    (statement (EmitExpr (and_one (named (codes "loop")) (Attribute (codes "revindex"))))
+    (statement (EmitExpr (and_one (named (codes "loop")) (Attribute (codes "previtem")))) no_statement)) no_else)) nothing
+
+-- {% for x in 1 %}{% endfor %}
+abbrev pub over_a_number : Page
+over_a_number = page (one (For' (To (codes "x")) (literal_number 1) [] no_statement no_else)) nothing
 
 -- ---------------------------------------------------------------- functions
 abbrev pub answers : Reply → Stated

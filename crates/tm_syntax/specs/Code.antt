@@ -1,5 +1,5 @@
 -- The instructions of a tree, at a place.
-use Rattle.std.specs.Prelude.{ℕ, ◌+◌, List, [], ◌∷◌, ◌++◌, length}
+use Rattle.std.specs.Prelude.{ℕ, ◌+◌, List, [], ◌∷◌, ◌++◌, length, true, false}
 use Rattle.tm_syntax.specs.declared.tree.UnaryOperator.{UnaryOperator}
 use Rattle.tm_syntax.specs.declared.tree.UnaryOperator.TheVariants as unaries
 use Rattle.tm_syntax.specs.declared.tree.BinaryOperator.{BinaryOperator}
@@ -12,8 +12,9 @@ use Rattle.tm_syntax.specs.declared.tree.Step.{Step, Attribute, Row_of-Compariso
 use Rattle.tm_syntax.specs.declared.tree.Target.{Target, Name as To, Unpack' as Items, Attribute as Member, Row_of-Target, end_of-Target as no_target, more_of-Target as target}
 use Rattle.tm_syntax.specs.declared.tree.Assignment.{Assignment}
 use Rattle.tm_syntax.specs.declared.tree.Assignment.TheVariants.{Assignment as Given}
-use Rattle.tm_syntax.specs.declared.tree.Stmt.{Stmt, EmitRaw, EmitExpr, If', Block', Set, SetBlock', With', Do, AutoEscape', Row_of-Stmt, end_of-Stmt as no_statement, more_of-Stmt as statement, Held-Stmt-If-2 as Otherwise, None' as no_else, Some' as otherwise}
+use Rattle.tm_syntax.specs.declared.tree.Stmt.{Stmt, EmitRaw, EmitExpr, If', For', Break, Continue, Block', Set, SetBlock', With', Do, AutoEscape', Row_of-Stmt, end_of-Stmt as no_statement, more_of-Stmt as statement, Held-Stmt-If-2 as Otherwise, None' as no_else, Some' as otherwise}
 use Rattle.tm_syntax.specs.declared.instruction.CaptureMode.TheVariants.{Capture}
+use Rattle.tm_syntax.specs.declared.instruction.LoopFlags.{LoopFlags}
 use Rattle.tm_syntax.specs.declared.instruction.Instruction.{Instruction}
 use Rattle.tm_syntax.specs.declared.instruction.Instruction.TheVariants as i
 use Rattle.tm_syntax.specs.Forms.{unary, chained, conditional, condition, comparison, pair, plain, item, slice, binary, compare, and_then, or_else}
@@ -144,32 +145,79 @@ abbrev pub assignments_code : ℕ → List Assignment → List Instruction
 assignments_code pc [] = []
 assignments_code pc (Given t e ∷ more) = before pc (set_code pc t e) (λ pc1. assignments_code pc1 more)
 
+-- ---------------------------------------------------------------- statements
+-- what was opened since a loop's body began
+pub data Opened : Type 0 where
+  a_scope an_escape a_capture : Opened
+
+-- The innermost loop: where its next item is asked for, what stands behind its jump back, and what was opened since its body began, innermost first.
+pub record Inside : Type 0 where
+  pub again : ℕ
+  pub behind : ℕ
+  pub opened : List Opened
+
+abbrev pub outside : Inside
+outside = record { again = 0; behind = 0; opened = [] }
+
+abbrev pub opening : Opened → Inside → Inside
+opening o k = record k { opened = o ∷ k.opened }
+
+abbrev pub close : Opened → List Instruction
+close a_scope = i.PopFrame ∷ []
+close an_escape = i.PopAutoEscape ∷ []
+close a_capture = i.EndCapture ∷ i.DiscardTop ∷ []
+
+abbrev pub close_all : List Opened → List Instruction
+close_all [] = []
+close_all (o ∷ os) = close o ++ close_all os
+
+abbrev pub for_flags : LoopFlags
+for_flags = record { variable = true; recursive = false }
+
 -- the jump behind a body over its else part
 abbrev pub jump_over : Otherwise → ℕ
 jump_over no_else = 0
 jump_over (otherwise _ body) = 1
 
+-- A loop's code behind what is iterated, given its body's code in a loop: the body is as long wherever that loop goes on.
+abbrev pub loop_code : (Inside → ℕ → List Instruction) → ℕ → Target → (ℕ → List Instruction) → List Instruction
+loop_code body pc t behind =
+    let start = pc + 2 + length (target_code (pc + 2) t) in
+    let end = start + length (body outside start) + 1 in
+    i.PushLoop for_flags ∷ i.Iterate end ∷ (target_code (pc + 2) t
+    ++ (body (record { again = pc + 1; behind = end; opened = [] }) start ++ i.Jump (pc + 1) ∷ behind end))
+
 abbrev mutual
-  pub statement_code : ℕ → Stmt → List Instruction
-  statement_code pc (EmitRaw t) = i.EmitRaw t ∷ []
-  statement_code pc (EmitExpr e) = expr_code pc e ++ i.Emit ∷ []
-  statement_code pc (If' c _ body other) = before pc (expr_code pc c) (λ pc1.
-      i.JumpIfFalse (pc1 + 1 + length (statements_code (pc1 + 1) body) + jump_over other)
-      ∷ before (pc1 + 1) (statements_code (pc1 + 1) body) (λ pc2. otherwise_code pc2 other))
-  statement_code pc (Block' x _ body) = i.CallBlock x ∷ []
-  statement_code pc (Set t e) = set_code pc t e
-  statement_code pc (SetBlock' t _ body) =
-      i.BeginCapture Capture ∷ before (pc + 1) (statements_code (pc + 1) body) (λ pc1. i.EndCapture ∷ target_code (pc1 + 1) t)
-  statement_code pc (With' given _ body) =
-      i.PushWith ∷ before (pc + 1) (assignments_code (pc + 1) given) (λ pc1. statements_code pc1 body ++ i.PopFrame ∷ [])
-  statement_code pc (Do e) = expr_code pc e ++ i.DiscardTop ∷ []
-  statement_code pc (AutoEscape' e _ body) =
-      before pc (expr_code pc e) (λ pc1. i.PushAutoEscape ∷ (statements_code (pc1 + 1) body ++ i.PopAutoEscape ∷ []))
+  pub statement_code : Inside → ℕ → Stmt → List Instruction
+  statement_code k pc (EmitRaw t) = i.EmitRaw t ∷ []
+  statement_code k pc (EmitExpr e) = expr_code pc e ++ i.Emit ∷ []
+  statement_code k pc (If' c _ body other) = before pc (expr_code pc c) (λ pc1.
+      i.JumpIfFalse (pc1 + 1 + length (statements_code k (pc1 + 1) body) + jump_over other)
+      ∷ before (pc1 + 1) (statements_code k (pc1 + 1) body) (λ pc2. otherwise_code k pc2 other))
+  statement_code k pc (For' t e _ body other) = before pc (expr_code pc e) (λ pc1.
+      loop_code (λ k1 pc2. statements_code k1 pc2 body) pc1 t (λ pc2. behind_loop_code k pc2 other))
+  statement_code k pc Break = close_all k.opened ++ i.Jump k.behind ∷ []
+  statement_code k pc Continue = close_all k.opened ++ i.Jump k.again ∷ []
+  statement_code k pc (Block' x _ body) = i.CallBlock x ∷ []
+  statement_code k pc (Set t e) = set_code pc t e
+  statement_code k pc (SetBlock' t _ body) =
+      i.BeginCapture Capture ∷ before (pc + 1) (statements_code (opening a_capture k) (pc + 1) body) (λ pc1. i.EndCapture ∷ target_code (pc1 + 1) t)
+  statement_code k pc (With' given _ body) =
+      i.PushWith ∷ before (pc + 1) (assignments_code (pc + 1) given) (λ pc1. statements_code (opening a_scope k) pc1 body ++ i.PopFrame ∷ [])
+  statement_code k pc (Do e) = expr_code pc e ++ i.DiscardTop ∷ []
+  statement_code k pc (AutoEscape' e _ body) =
+      before pc (expr_code pc e) (λ pc1. i.PushAutoEscape ∷ (statements_code (opening an_escape k) (pc1 + 1) body ++ i.PopAutoEscape ∷ []))
 
-  pub statements_code : {n : _} → ℕ → Row_of-Stmt n → List Instruction
-  statements_code pc no_statement = []
-  statements_code pc (statement s ss) = before pc (statement_code pc s) (λ pc1. statements_code pc1 ss)
+  pub statements_code : {n : _} → Inside → ℕ → Row_of-Stmt n → List Instruction
+  statements_code k pc no_statement = []
+  statements_code k pc (statement s ss) = before pc (statement_code k pc s) (λ pc1. statements_code k pc1 ss)
 
-  pub otherwise_code : ℕ → Otherwise → List Instruction
-  otherwise_code pc no_else = []
-  otherwise_code pc (otherwise _ body) = i.Jump (pc + 1 + length (statements_code (pc + 1) body)) ∷ statements_code (pc + 1) body
+  pub otherwise_code : Inside → ℕ → Otherwise → List Instruction
+  otherwise_code k pc no_else = []
+  otherwise_code k pc (otherwise _ body) = i.Jump (pc + 1 + length (statements_code k (pc + 1) body)) ∷ statements_code k (pc + 1) body
+
+  -- behind a loop's jump back
+  pub behind_loop_code : Inside → ℕ → Otherwise → List Instruction
+  behind_loop_code k pc no_else = i.PopLoopFrame ∷ []
+  behind_loop_code k pc (otherwise _ body) =
+      i.PushDidNotIterate ∷ i.PopLoopFrame ∷ i.JumpIfFalse (pc + 3 + length (statements_code k (pc + 3) body)) ∷ statements_code k (pc + 3) body

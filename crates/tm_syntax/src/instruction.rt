@@ -12,6 +12,15 @@ pub enum CaptureMode {
     Discard,
 }
 
+/// What kind of loop begins.
+#[derive(Clone, Copy, PartialEq, Eq)]
+pub struct LoopFlags {
+    /// Whether its scope has the name `loop`.
+    pub variable: bool,
+    /// Whether it can be called.
+    pub recursive: bool,
+}
+
 /// One instruction. docs/MACHINE.md says what each takes, leaves and is charged.
 #[derive(Drop)]
 pub enum Instruction {
@@ -97,6 +106,14 @@ pub enum Instruction {
     PushWith,
     /// Leaves the innermost scope.
     PopFrame,
+    /// Pops a value, and begins a loop over its items in a scope of its own.
+    PushLoop(LoopFlags),
+    /// Pushes the next item of the innermost loop, or goes to a place where none is left.
+    Iterate(usize),
+    /// Pushes whether the innermost loop has no items.
+    PushDidNotIterate,
+    /// Leaves the innermost loop.
+    PopLoopFrame,
     /// Begins a capture, which takes what is written from here on.
     BeginCapture(CaptureMode),
     /// Ends the innermost capture, and pushes its text, or undefined where that is dropped.

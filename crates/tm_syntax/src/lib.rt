@@ -7,7 +7,7 @@ mod name_map;
 mod token;
 mod tree;
 
-pub use instruction::{CaptureMode, Instruction};
+pub use instruction::{CaptureMode, Instruction, LoopFlags};
 pub use name::Name;
 pub use name_map::NameMap;
 pub use token::{Sign, Tag, Token};

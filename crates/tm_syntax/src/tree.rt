@@ -152,6 +152,12 @@ pub enum Stmt {
     EmitExpr(Boxed<Expr>),
     /// A condition, what runs where it is true, and the else part.
     If(Boxed<Expr>, Items<Stmt>, Option<Items<Stmt>>),
+    /// A target, what is iterated, what runs for each item, and what runs where there is none.
+    For(Target, Boxed<Expr>, Items<Stmt>, Option<Items<Stmt>>),
+    /// The innermost loop is left.
+    Break,
+    /// The innermost loop goes on with its next item.
+    Continue,
     /// A block of a name, and its body.
     Block(Name, Items<Stmt>),
     /// A value for a target.
