@@ -379,10 +379,16 @@ failed kind run out w = ended (fault (kind ∷ [])) run out w
 abbrev pub new_run : Bool → World → Run
 new_run heard w = record { first = w.escape; heard = heard; inside = false; parent = None }
 
--- a stream's end: whatever it was, the run is over
+-- what is done, or a fault where its charge wasn't paid
+abbrev pub done_by : Res (Unit {0}) → Outcome → Outcome
+done_by (Good _ w) o = record o { ending = done; world = w }
+done_by (Bad chain w) o = record o { ending = fault chain; world = w }
+
+-- A stream's end: whatever it was, the run is over. A loop that isn't there is left, or goes on, at a charge; no source has such a tree.
 abbrev pub at_end : Ending → Outcome → Outcome
+at_end done o = record o { ending = done }
 at_end (fault chain) o = o
-at_end e o = record o { ending = done }
+at_end e o = done_by (tick o.world) o
 
 abbrev pub stream_run : Under → Body → Run → List ℕ → World → Outcome
 stream_run u body run out w = let o = execs u body.row run out w in at_end o.ending o

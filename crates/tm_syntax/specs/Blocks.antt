@@ -3,7 +3,7 @@ use Rattle.std.specs.Prelude.{ℕ, List, [], ◌∷◌, ◌++◌, map as each}
 use mathlib.Core.Former.{Count}
 use Rattle.tm_syntax.specs.declared.tree.Stmt.{Stmt, If', For', Block', SetBlock', With', AutoEscape', Row_of-Stmt, end_of-Stmt as no_statement, more_of-Stmt as statement, Held-Stmt-If-2 as Otherwise, None' as no_else, Some' as otherwise}
 use Rattle.tm_syntax.specs.declared.instruction.Instruction.{Instruction}
-use Rattle.tm_syntax.specs.Code.{outside, statements_code}
+use Rattle.tm_syntax.specs.Code.{stream_code}
 use Rattle.tm_syntax.specs.Named.{Named}
 
 pub record Body : Type 0 where
@@ -37,7 +37,7 @@ abbrev mutual
 
 -- the instructions of a body
 abbrev pub code_of : Body → List Instruction
-code_of body = statements_code outside 0 body.row
+code_of body = stream_code body.row
 
 -- a block with its instructions
 abbrev pub compiled : List ℕ × Body → List ℕ × List Instruction

@@ -221,3 +221,7 @@ abbrev mutual
   behind_loop_code k pc no_else = i.PopLoopFrame ∷ []
   behind_loop_code k pc (otherwise _ body) =
       i.PushDidNotIterate ∷ i.PopLoopFrame ∷ i.JumpIfFalse (pc + 3 + length (statements_code k (pc + 3) body)) ∷ statements_code k (pc + 3) body
+
+-- Statements on their own. Where a loop is left or goes on outside of one, which no source spells, they end there.
+abbrev pub stream_code : {n : _} → Row_of-Stmt n → List Instruction
+stream_code ss = let end = length (statements_code outside 0 ss) in statements_code (record { again = end; behind = end; opened = [] }) 0 ss
