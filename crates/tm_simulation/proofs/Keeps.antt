@@ -1,6 +1,7 @@
--- What statements keep, whatever they do: how many scopes lie over how deep an outermost one. A fault leaves them as they are then.
-use Rattle.std.proofs.Common.{◌≡◌, ℕ, zero, suc, ◌+◌, ◌<◌, List, [], ◌∷◌, length, Option, Some, None, Bool, true, false, Ok, Err, nat_lt, refl, sym, subst, ap, ◌∙◌, arith, ltb-true, ◌≤◌}
-use Rattle.std.specs.Prelude.{slice_get, not}
+-- What statements keep, whatever they do: the scopes' loops, how deep the outermost scope lies, and the records of loops that were there. A fault leaves them as they are then.
+use Rattle.std.proofs.Common.{◌≡◌, ℕ, zero, suc, ◌+◌, ◌<◌, List, [], ◌∷◌, length, Option, Some, None, Bool, true, false, Ok, Err, nat_lt, ◌++◌, refl, sym, subst, ap, ◌∙◌, arith, ltb-true, append_assoc, length-append, ◌≤◌}
+use Rattle.std.specs.Prelude.{slice_get, get_or, not, ◌&&◌}
+use Rattle.std.proofs.lemmas.List.{append-nil}
 use Rattle.tm_values.specs.Answer.{Answer}
 use Rattle.tm_values.specs.Val.{Val, undefined, function, none, boolean, number, text, list, map, keywords, exports, macro, loop, namespace}
 use Rattle.tm_values.specs.declared.error.ErrorKind.{ErrorKind}
@@ -18,27 +19,61 @@ use Rattle.tm_syntax.specs.declared.tree.Step.{Step, Attribute, Row_of-Compariso
 use Rattle.tm_syntax.specs.declared.tree.Target.{Target, Name as To, Unpack' as Items, Attribute as Member, Row_of-Target, end_of-Target as no_target, more_of-Target as target}
 use Rattle.tm_syntax.specs.declared.tree.Assignment.{Assignment}
 use Rattle.tm_syntax.specs.declared.tree.Assignment.TheVariants.{Assignment as Given}
-use Rattle.tm_syntax.specs.declared.tree.Stmt.{Stmt, EmitRaw, EmitExpr, If', Block', Set, SetBlock', With', Do, AutoEscape', Row_of-Stmt, end_of-Stmt as no_statement, more_of-Stmt as statement, Held-Stmt-If-2 as Otherwise, None' as no_else, Some' as otherwise}
+use Rattle.tm_syntax.specs.declared.tree.Stmt.{Stmt, EmitRaw, EmitExpr, If', For', Break, Continue, Block', Set, SetBlock', With', Do, AutoEscape', Row_of-Stmt, end_of-Stmt as no_statement, more_of-Stmt as statement, Held-Stmt-If-2 as Otherwise, None' as no_else, Some' as otherwise}
+use Rattle.tm_syntax.specs.Code.{for_flags}
 use Rattle.tm_syntax.specs.Forms.{unary, chained, conditional, condition, comparison, pair, plain, item, slice, binary, compare, and_then, or_else}
 use Rattle.tm_operations.specs.Members.{settable}
-use Rattle.tm_meaning.specs.World.{choose, find, block_of, with_frames, World, Host, Scopes, Scope, Res, Good, Bad, bind, need, check, answered, charged, with_fuel, tick, push, pop, depth, without_first, emitted, looked_up, lookup, Function, callers, Reply, gives, faults, stored_in, store, records_of, with_member, set_member, escape_for, with_escape, captured_text, plain as plain_scope}
+use Rattle.tm_meaning.specs.World.{choose, find, block_of, with_frames, World, Host, Scopes, Scope, Loop, LoopMark, loop_scope, new_loop, open_loop, turned, turned_at, turned_of, top_mark, next_turn, without_locals, cleared, top_loop, items_over, Res, Good, Bad, bind, need, check, answered, charged, with_fuel, tick, push, pop, depth, without_first, emitted, looked_up, lookup, Function, callers, Reply, gives, faults, stored_in, store, records_of, with_member, set_member, escape_for, with_escape, captured_text, plain as plain_scope}
 use Rattle.tm_meaning.specs.Calls.{Callee, whole, Call, Undo, of_block, undone, wrapped, Asked, has, refused, runs, ask, enter_block, call_named, call_value, call_by, replied, required_alone}
-use Rattle.tm_meaning.specs.Meaning.{Run, Outcome, Ending, done, leave, next, fault, Nests, Under, use_it, then_do, on_done, so_far, ended, say, audible, none_waits, value_of, value_behind, in_place_of, behind, block_tag, truth, applied_unary, operated, applied, attribute, eval, eval_all, eval_pair, eval_pairs, eval_argument, eval_arguments, eval_condition, eval_conditions, eval_step, eval_links, eval_steps, assign, assign_all, set_to, set_each, closing_by, closing, capturing, captured_by, captured, emit, behind_first, exec, execs, exec_else, at_end, new_run, nests_of}
+use Rattle.tm_meaning.specs.Meaning.{Run, Outcome, Ending, done, leave, next, fault, Nests, Under, use_it, then_do, on_done, so_far, ended, say, audible, none_waits, value_of, value_behind, in_place_of, behind, block_tag, truth, applied_unary, operated, applied, attribute, eval, eval_all, eval_pair, eval_pairs, eval_argument, eval_arguments, eval_condition, eval_conditions, eval_step, eval_links, eval_steps, assign, assign_all, set_to, set_each, closing_by, closing, capturing, captured_by, captured, round_end, rounds, loop_over, has_none, exec_behind_loop, done_by, emit, behind_first, exec, execs, exec_else, at_end, new_run, nests_of}
 use Rattle.tm_meaning.specs.Tree.{Trees}
 use Rattle.tm_meaning.specs.declared.stream.TemplateId.{TemplateId}
 
+-- the loops of scopes
+abbrev pub marks : List Scope → List (Option LoopMark)
+marks [] = []
+marks (s ∷ ss) = s.mark ∷ marks ss
+
+marks_long : (ss : List Scope) → length (marks ss) ≡ length ss
+marks_long [] = refl
+marks_long (s ∷ ss) = ap suc (marks_long ss)
+
+-- records are there still, and perhaps more behind them
+abbrev pub GoesOn : List Loop → List Loop → Type 0
+GoesOn old new = (more : List Loop) × (new ≡ old ++ more)
+
+goes_on_same : (ls : List Loop) → GoesOn ls ls
+goes_on_same ls = ([], sym (append-nil ls))
+
+goes_on_then : (a b c : List Loop) → GoesOn a b → GoesOn b c → GoesOn a c
+goes_on_then a b c (more, e) (most, d) = (more ++ most, d ∙ ap (λ l. l ++ most) e ∙ append_assoc a more most)
+
+front_record : (a b : List Loop) (n : ℕ) (l : Loop) → slice_get a n ≡ Some l → slice_get (a ++ b) n ≡ Some l
+front_record [] b n l e = absurd (cc e)
+front_record (x ∷ a) b zero l e = e
+front_record (x ∷ a) b (suc n) l e = front_record a b n l e
+
 pub record Kept (old new : World) : Type 0 where
-  pub frames : length new.scopes.frames ≡ length old.scopes.frames
+  pub same_marks : marks new.scopes.frames ≡ marks old.scopes.frames
   pub outer : new.scopes.outer ≡ old.scopes.outer
+  pub loops : GoesOn old.loops new.loops
 
 pub kept_same : (w : World) → Kept w w
-kept_same w = record { frames = refl; outer = refl }
+kept_same w = record { same_marks = refl; outer = refl; loops = goes_on_same w.loops }
 
 pub kept_then : {a b c : World} → Kept a b → Kept b c → Kept a c
-kept_then h k = record { frames = k.frames ∙ h.frames; outer = k.outer ∙ h.outer }
+kept_then {a = a} {b = b} {c = c} h k = record { same_marks = k.same_marks ∙ h.same_marks; outer = k.outer ∙ h.outer; loops = goes_on_then a.loops b.loops c.loops h.loops k.loops }
+
+-- as many scopes
+pub kept_frames : {a b : World} → Kept a b → length b.scopes.frames ≡ length a.scopes.frames
+kept_frames {a = a} {b = b} h = sym (marks_long b.scopes.frames) ∙ ap length h.same_marks ∙ marks_long a.scopes.frames
 
 pub kept_depth : {a b : World} → Kept a b → depth b.scopes ≡ depth a.scopes
-kept_depth h = omega (arith, h.frames, h.outer)
+kept_depth h = omega (arith, kept_frames h, h.outer)
+
+-- the record of a number
+pub kept_record : {a b : World} → Kept a b → (n : ℕ) (l : Loop) → slice_get a.loops n ≡ Some l → slice_get b.loops n ≡ Some l
+kept_record {a = a} {b = b} h n l e = ap (λ ls. slice_get ls n) h.loops.1 ∙ front_record a.loops h.loops.0 n l e
 
 abbrev pub Gives : {A : Type 0} → World → Res A → Type 0
 Gives w (Good a world1) = Kept w world1
@@ -64,7 +99,7 @@ gives_bind w (Good a world1) g h k = gives_then w world1 (g a world1) h (k a wor
 gives_bind w (Bad chain world1) g h k = tt
 
 fuel_gives : (left : Option ℕ) (w : World) → Gives w (with_fuel left w)
-fuel_gives (Some left) w = record { frames = refl; outer = refl }
+fuel_gives (Some left) w = record { same_marks = refl; outer = refl; loops = goes_on_same w.loops }
 fuel_gives None w = tt
 
 pub tick_gives : (w : World) → Gives w (tick w)
@@ -75,16 +110,16 @@ answered_gives (Ok a) w = kept_same w
 answered_gives (Err chain) w = tt
 
 -- ---------------------------------------------------------------- scopes
-stored_frames : (x : List ℕ) (v : Val) (frames : List Scope) → length (stored_in x v frames) ≡ length frames
-stored_frames x v [] = refl
-stored_frames x v (s ∷ ss) = refl
+stored_marks : (x : List ℕ) (v : Val) (frames : List Scope) → marks (stored_in x v frames) ≡ marks frames
+stored_marks x v [] = refl
+stored_marks x v (s ∷ ss) = refl
 
 pub store_kept : (x : List ℕ) (v : Val) (w : World) → Kept w (store x v w)
-store_kept x v w = record { frames = stored_frames x v w.scopes.frames; outer = refl }
+store_kept x v w = record { same_marks = stored_marks x v w.scopes.frames; outer = refl; loops = goes_on_same w.loops }
 
-without_first_of : (n : ℕ) (frames : List Scope) → length frames ≡ suc n → length (without_first frames) ≡ n
-without_first_of n [] e = absurd (cc e)
-without_first_of n (s ∷ ss) e = omega (arith, e)
+without_first_marks : (m : Option LoopMark) (ms : List (Option LoopMark)) (frames : List Scope) → marks frames ≡ m ∷ ms → marks (without_first frames) ≡ ms
+without_first_marks m ms [] e = absurd (cc e)
+without_first_marks m ms (s ∷ ss) e = ap without_first e
 
 -- a world with one scope more
 abbrev pub within : Scope → World → World
@@ -96,7 +131,7 @@ one_more room s w = choose room (λ _. Good tt (within s w)) (λ _. Bad (Invalid
 
 -- without it, behind what keeps it
 pub kept_popped : (s : Scope) (w world1 : World) → Kept (within s w) world1 → Kept w (pop world1)
-kept_popped s w world1 k = record { frames = without_first_of (length w.scopes.frames) world1.scopes.frames k.frames; outer = k.outer }
+kept_popped s w world1 k = record { same_marks = without_first_marks s.mark (marks w.scopes.frames) world1.scopes.frames k.same_marks; outer = k.outer; loops = k.loops }
 
 -- ---------------------------------------------------------------- outcomes
 ends_by_then : (w world1 : World) (e : Ending) (world2 : World) → Kept w world1 → EndsBy world1 e world2 → EndsBy w e world2
@@ -133,6 +168,14 @@ pub ends_do : (w : World) (run : Run) (o : Outcome) (g : Run → List ℕ → Wo
 unfolding Ends
 ends_do w run o g h k = ends_on_done w run o.ending o.parent o.text o.world g h k
 
+ends_leave : (w : World) (run : Run) (out : List ℕ) → Ends w (ended leave run out w)
+unfolding Ends
+ends_leave w run out = kept_same w
+
+ends_next : (w : World) (run : Run) (out : List ℕ) → Ends w (ended next run out w)
+unfolding Ends
+ends_next w run out = kept_same w
+
 -- what follows from what is kept
 ends_kept : {A : Type 0} (w world1 : World) (m : Res A) (run : Run) (out : List ℕ) (g : A → World → Outcome) → Gives world1 m → ((a : A) (world2 : World) → Kept world1 world2 → Ends w (g a world2)) →
     Ends w (use_it m run out g)
@@ -159,7 +202,88 @@ unfolding Ends
 closing_ends w v close k o h = closing_by_ends w v close k o.ending o.parent o.text o.world h
 
 pub kept_escaped : (e : AutoEscape) {w world1 : World} → Kept w world1 → Kept w (with_escape e world1)
-kept_escaped e k = record { frames = k.frames; outer = k.outer }
+kept_escaped e k = record { same_marks = k.same_marks; outer = k.outer; loops = k.loops }
+
+-- ---------------------------------------------------------------- loops
+without_locals_marks : (frames : List Scope) → marks (without_locals frames) ≡ marks frames
+without_locals_marks [] = refl
+without_locals_marks (s ∷ ss) = refl
+
+pub kept_cleared : {w world1 : World} → Kept w world1 → Kept w (cleared world1)
+kept_cleared {world1 = world1} k = record { same_marks = without_locals_marks world1.scopes.frames ∙ k.same_marks; outer = k.outer; loops = k.loops }
+
+-- the record that is asked for its next item
+pub turned_behind : (a b : List Loop) → turned_at (length a) (a ++ b) ≡ a ++ turned_at 0 b
+turned_behind [] b = refl
+turned_behind (l ∷ ls) b = ap (λ m. l ∷ m) (turned_behind ls b)
+
+-- the mark of a loop whose record stands behind those of a world
+abbrev pub mark_behind : World → LoopMark
+mark_behind w = record { number = length w.loops; variable = true }
+
+-- a world with its scope more
+abbrev pub in_loop_of : World → World
+in_loop_of w = within (loop_scope (mark_behind w)) w
+
+pub top_of_marks : (m : Option LoopMark) (ms : List (Option LoopMark)) (frames : List Scope) → marks frames ≡ m ∷ ms → top_mark frames ≡ m
+top_of_marks m ms [] e = absurd (cc e)
+top_of_marks m ms (s ∷ ss) e = cc e
+
+pub kept_turned : (w world1 : World) → Kept (in_loop_of w) world1 → Kept (in_loop_of w) (next_turn world1)
+kept_turned w world1 k =
+    let top : top_mark world1.scopes.frames ≡ Some (mark_behind w) = top_of_marks (Some (mark_behind w)) (marks w.scopes.frames) world1.scopes.frames k.same_marks in
+    let is : next_turn world1 ≡ record world1 { loops = turned_at (length w.loops) world1.loops } = ap (λ m. turned_of m world1) top in
+    let loops : turned_at (length w.loops) world1.loops ≡ w.loops ++ turned_at 0 k.loops.0 = ap (turned_at (length w.loops)) k.loops.1 ∙ turned_behind w.loops k.loops.0 in
+    subst (λ x. Kept (in_loop_of w) x) (sym is) (record { same_marks = k.same_marks; outer = k.outer; loops = (turned_at 0 k.loops.0, loops) })
+
+-- a world with a loop of these items more
+abbrev pub opened : World → List Val → World
+opened w vs = record (in_loop_of w) { loops = w.loops ++ new_loop vs for_flags w ∷ [] }
+
+pub opened_kept : (w : World) (vs : List Val) → Kept (in_loop_of w) (opened w vs)
+opened_kept w vs = record { same_marks = refl; outer = refl; loops = (new_loop vs for_flags w ∷ [], refl) }
+
+-- a round's end
+round_end_ends : (w x : World) (run : Run) (f : Run → List ℕ → World → Outcome) → ((run1 : Run) (out1 : List ℕ) (world1 : World) → Kept (in_loop_of w) world1 → Ends w (f run1 out1 world1)) →
+    (e : Ending) (parent : Option TemplateId) (out : List ℕ) (world1 : World) → Kept (in_loop_of w) x → EndsBy x e world1 →
+    Ends w (round_end e run (record { ending = e; parent = parent; text = out; world = world1 }) f)
+unfolding Ends
+round_end_ends w x run f k done parent out world1 i h = ends_kept w world1 (tick world1) run out _ (tick_gives world1) (λ _ world2 h2. k run out world2 (kept_then i (kept_then h h2)))
+round_end_ends w x run f k leave parent out world1 i h =
+    ends_kept w world1 (tick world1) run out _ (tick_gives world1) (λ _ world2 h2. kept_popped (loop_scope (mark_behind w)) w world2 (kept_then i (kept_then h h2)))
+round_end_ends w x run f k next parent out world1 i h = ends_kept w world1 (tick world1) run out _ (tick_gives world1) (λ _ world2 h2. k run out world2 (kept_then i (kept_then h h2)))
+round_end_ends w x run f k (fault chain) parent out world1 i h = tt
+
+round_end_of : (w x : World) (run : Run) (f : Run → List ℕ → World → Outcome) → ((run1 : Run) (out1 : List ℕ) (world1 : World) → Kept (in_loop_of w) world1 → Ends w (f run1 out1 world1)) →
+    (o : Outcome) → Kept (in_loop_of w) x → Ends x o → Ends w (round_end o.ending run o f)
+unfolding Ends
+round_end_of w x run f k o i h = round_end_ends w x run f k o.ending o.parent o.text o.world i h
+
+-- A loop's rounds leave what lies around it.
+rounds_end : (w : World) (turn : Val → Run → List ℕ → World → Outcome) → ((v : Val) (run : Run) (out : List ℕ) (x : World) → Ends x (turn v run out x)) →
+    (vs : List Val) (run : Run) (out : List ℕ) (world1 : World) → Kept (in_loop_of w) world1 → Ends w (rounds turn vs run out world1)
+rounds_end w turn k [] run out world1 i =
+    ends_kept w world1 (tick world1) run out _ (tick_gives world1) (λ _ world2 h.
+    ends_here w (pop (next_turn world2)) run out (kept_popped (loop_scope (mark_behind w)) w (next_turn world2) (kept_turned w world2 (kept_then i h))))
+rounds_end w turn k (v ∷ vs) run out world1 i =
+    ends_kept w world1 (tick world1) run out _ (tick_gives world1) (λ _ world2 h.
+    let x = cleared (next_turn world2) in
+    let o = turn v run out x in
+    round_end_of w x (record run { parent = o.parent }) _ (λ run1 out1 world3 j. rounds_end w turn k vs run1 out1 world3 j) o
+    (kept_cleared (kept_turned w world2 (kept_then i h))) (k v run out x))
+
+abbrev pub recorded : List Val → World → World → Res (Unit {0})
+recorded vs w world1 = Good tt (record world1 { loops = world1.loops ++ new_loop vs for_flags w ∷ [] })
+
+opened_ends : (w : World) (vs : List Val) (turn : Val → Run → List ℕ → World → Outcome) → ((v : Val) (run : Run) (out : List ℕ) (x : World) → Ends x (turn v run out x)) →
+    (run : Run) (out : List ℕ) (room : Bool) →
+    Ends w (use_it (bind (one_more room (loop_scope (mark_behind w)) w) (λ _ world1. recorded vs w world1)) run out (λ _ world1. rounds turn vs run out world1))
+opened_ends w vs turn k run out true = rounds_end w turn k vs run out _ (opened_kept w vs)
+opened_ends w vs turn k run out false = ends_fault w w run out (InvalidOperation ∷ [])
+
+pub loop_ends : (host : Host) (w : World) (turn : Val → Run → List ℕ → World → Outcome) → ((v : Val) (run : Run) (out : List ℕ) (x : World) → Ends x (turn v run out x)) →
+    (vs : List Val) (run : Run) (out : List ℕ) → Ends w (loop_over host turn vs run out w)
+loop_ends host w turn k vs run out = opened_ends w vs turn k run out (nat_lt (depth w.scopes) host.limit)
 
 -- behind a capture
 captured_by_ends : (w : World) (run : Run) (out : List ℕ) (f : Run → List ℕ → World → Outcome) → ((run1 : Run) (x : List ℕ) (world1 : World) → Ends world1 (f run1 x world1)) →
@@ -207,15 +331,16 @@ ask_push limit w s true g k = k refl
 ask_push limit w s false g k = tt
 
 -- a scope more, and what stands in it, is one level deeper
-entered_asks : (limit : ℕ) (c : Call) (s : Scope) (w world1 : World) → c.undo ≡ of_block w → world1.scopes ≡ record w.scopes { frames = s ∷ w.scopes.frames } → nat_lt (depth w.scopes) limit ≡ true → Asks limit w (runs c world1)
-entered_asks limit c s w world1 e d room =
+entered_asks : (limit : ℕ) (c : Call) (s : Scope) (w world1 : World) → c.undo ≡ of_block w → world1.scopes ≡ record w.scopes { frames = s ∷ w.scopes.frames } → world1.loops ≡ w.loops → nat_lt (depth w.scopes) limit ≡ true → Asks limit w (runs c world1)
+entered_asks limit c s w world1 e d same room =
     let deep : depth world1.scopes ≡ depth w.scopes + 1 = ap depth d ∙ omega arith in
-    let frames : length world1.scopes.frames ≡ suc (length w.scopes.frames) = ap (λ (x : Scopes). length x.frames) d in (
+    let frames : marks world1.scopes.frames ≡ s.mark ∷ marks w.scopes.frames = ap (λ (x : Scopes). marks x.frames) d in (
       deep,
       omega (arith, deep, ltb-true (depth w.scopes) limit room),
       λ world2 k. subst (λ n. Kept w (undone n world2)) (sym e) (record {
-        frames = without_first_of (length w.scopes.frames) world2.scopes.frames (k.frames ∙ frames);
+        same_marks = without_first_marks s.mark (marks w.scopes.frames) world2.scopes.frames (k.same_marks ∙ frames);
         outer = refl;
+        loops = subst (λ ls. GoesOn ls world2.loops) same k.loops;
       }),
     )
 
@@ -226,14 +351,14 @@ block_asks host b w =
     ask_check host.limit w (not (required_alone host (block_of t b) l)) InvalidOperation _ (
     ask_push host.limit w (plain_scope (undefined false)) (nat_lt (depth w.scopes) host.limit) _ (λ room.
     entered_asks host.limit (record { callee = whole (block_of t b); undo = of_block w; wrap = None }) (plain_scope (undefined false)) w
-    (record (with_frames (plain_scope (undefined false) ∷ w.scopes.frames) w) { stream = block_of t b; block = Some b }) refl refl room))))
+    (record (with_frames (plain_scope (undefined false) ∷ w.scopes.frames) w) { stream = block_of t b; block = Some b }) refl refl refl room))))
 
 replied_asks : (limit : ℕ) (reply : Reply) (w : World) → Asks limit w (replied reply w)
 replied_asks limit (gives v) w = kept_same w
 replied_asks limit (faults chain) w = tt
 
 by_asks : (host : Host) (f : Function) (args : List Val) (w : World) → Asks host.limit w (call_by host f args w)
-by_asks host (callers f) args w = asks_then host.limit w _ _ (record { frames = refl; outer = refl }) (replied_asks host.limit _ _)
+by_asks host (callers f) args w = asks_then host.limit w _ _ (record { same_marks = refl; outer = refl; loops = goes_on_same w.loops }) (replied_asks host.limit _ _)
 
 value_asks : (host : Host) (v : Val) (args : List Val) (w : World) → Asks host.limit w (call_value host v args w)
 value_asks host (function n) args w = ask_need host.limit w (slice_get host.functions n) InvalidOperation (λ f world1. call_by host f args world1) (λ f. by_asks host f args w)
@@ -407,7 +532,7 @@ module _ (u : Under) (nest_ends : (k : Callee) (heard : Bool) (out : List ℕ) (
   pub member_gives : (x : List ℕ) (v o : Val) (w : World) → Gives w (set_member x v o w)
   member_gives x v o w =
       gives_bind w (answered (settable (records_of w) o) w) _ (answered_gives _ w) (λ n world1.
-      let kept : Kept world1 (record world1 { namespaces = with_member n x v world1.namespaces }) = record { frames = refl; outer = refl } in kept)
+      let kept : Kept world1 (record world1 { namespaces = with_member n x v world1.namespaces }) = record { same_marks = refl; outer = refl; loops = goes_on_same world1.loops } in kept)
 
   mutual
     pub assign_gives : (run : Run) (t : Target) (v : Val) (w : World) → Gives w (assign u run t v w)
@@ -457,6 +582,13 @@ module _ (u : Under) (nest_ends : (k : Callee) (heard : Bool) (out : List ℕ) (
         ends_within w s (nat_lt (depth w.scopes) u.host.limit) run out _
         (ends_kept w (within s w) (set_each u run given (within s w)) run out _ (set_each_gives run given (within s w)) (λ _ world2 k.
         closing_ends w (within s w) pop (kept_popped s w) (execs u body run out world2) (ends_then (within s w) world2 (execs u body run out world2) k (execs_end body run out world2))))
+    exec_ends (For' t e _ body other) run out w =
+        ends_use w (eval u run e w) run out _ (eval_gives run e w) (λ v world1. ends_use world1 (items_over u.host v world1) run out _ (answered_gives _ world1) (λ vs world2.
+        ends_do world2 run (loop_over u.host (λ item run1 out1 world3. use_it (assign u run1 t item world3) run1 out1 (λ _ world4. execs u body run1 out1 world4)) vs run out world2) _
+        (loop_ends u.host world2 _ (λ item run1 out1 world3. ends_use world3 (assign u run1 t item world3) run1 out1 _ (assign_gives run1 t item world3) (λ _ world4. execs_end body run1 out1 world4)) vs run out)
+        (λ run1 out1 world3. behind_loop_ends other (has_none vs) run1 out1 world3)))
+    exec_ends Break run out w = ends_leave w run out
+    exec_ends Continue run out w = ends_next w run out
     exec_ends (SetBlock' t _ body) run out w =
         captured_ends w run out (execs u body (capturing true run) [] w) _ (execs_end body (capturing true run) [] w) (λ run1 x world1.
         ends_use world1 (tick world1) run1 out _ (tick_gives world1) (λ _ world2.
@@ -476,11 +608,21 @@ module _ (u : Under) (nest_ends : (k : Callee) (heard : Bool) (out : List ℕ) (
     else_ends no_else run out w = ends_here w w run out (kept_same w)
     else_ends (otherwise _ body) run out w = execs_end body run out w
 
+    pub behind_loop_ends : (other : Otherwise) (none_taken : Bool) (run : Run) (out : List ℕ) (w : World) → Ends w (exec_behind_loop u other none_taken run out w)
+    behind_loop_ends no_else none_taken run out w = ends_here w w run out (kept_same w)
+    behind_loop_ends (otherwise _ body) none_taken run out w =
+        ends_use w (tick w) run out _ (tick_gives w) (λ _ world1. choose_ends world1 none_taken _ _ (execs_end body run out world1) (ends_here world1 world1 run out (kept_same world1)))
+
+done_by_ends : (w world1 : World) (m : Res (Unit {0})) (o : Outcome) → Kept w world1 → Gives world1 m → Ends w (done_by m o)
+unfolding Ends
+done_by_ends w world1 (Good _ world2) o h k = kept_then h k
+done_by_ends w world1 (Bad chain world2) o h k = tt
+
 at_end_ends : (w : World) (e : Ending) (parent : Option TemplateId) (out : List ℕ) (world1 : World) → EndsBy w e world1 → Ends w (at_end e (record { ending = e; parent = parent; text = out; world = world1 }))
 unfolding Ends
 at_end_ends w done parent out world1 h = h
-at_end_ends w leave parent out world1 h = h
-at_end_ends w next parent out world1 h = h
+at_end_ends w leave parent out world1 h = done_by_ends w world1 (tick world1) (record { ending = leave; parent = parent; text = out; world = world1 }) h (tick_gives world1)
+at_end_ends w next parent out world1 h = done_by_ends w world1 (tick world1) (record { ending = next; parent = parent; text = out; world = world1 }) h (tick_gives world1)
 at_end_ends w (fault chain) parent out world1 h = tt
 
 pub ends_as : (w : World) (o : Outcome) → Ends w o → EndsBy w o.ending o.world

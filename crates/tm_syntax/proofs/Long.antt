@@ -29,8 +29,8 @@ mutual
   statement_long a b c d pc os (For' t e _ body other) =
       let v = expr_code pc e in
       let pc1 = pc + length v in
-      let tc = target_code (pc1 + 2) t in
-      let start = pc1 + 2 + length tc in
+      let tc = target_code (pc1 + 1 + 1) t in
+      let start = pc1 + 1 + 1 + length tc in
       let end = start + length (statements_code outside start body) + 1 in
       let inner = statements_code (record { again = pc1 + 1; behind = end; opened = [] }) start body in
       let ox = behind_loop_code (in_loop a b os) end other in
@@ -39,9 +39,16 @@ mutual
       let x = tc ++ (inner ++ i.Jump (pc1 + 1) ∷ ox) in
       let y = tc ++ (inner ++ i.Jump (pc1 + 1) ∷ oy) in
       let flags = i.PushLoop (record { variable = true; recursive = false }) in
-      omega (arith, length-append v (flags ∷ i.Iterate end ∷ x), length-append v (flags ∷ i.Iterate end ∷ y),
-      length-append tc (inner ++ i.Jump (pc1 + 1) ∷ ox), length-append tc (inner ++ i.Jump (pc1 + 1) ∷ oy),
-      length-append inner (i.Jump (pc1 + 1) ∷ ox), length-append inner (i.Jump (pc1 + 1) ∷ oy), rest)
+      omega (
+        arith,
+        length-append v (flags ∷ i.Iterate end ∷ x),
+        length-append v (flags ∷ i.Iterate end ∷ y),
+        length-append tc (inner ++ i.Jump (pc1 + 1) ∷ ox),
+        length-append tc (inner ++ i.Jump (pc1 + 1) ∷ oy),
+        length-append inner (i.Jump (pc1 + 1) ∷ ox),
+        length-append inner (i.Jump (pc1 + 1) ∷ oy),
+        rest,
+      )
   statement_long a b c d pc os Break = omega (arith, length-append (close_all os) (i.Jump b ∷ []), length-append (close_all os) (i.Jump d ∷ []))
   statement_long a b c d pc os Continue = omega (arith, length-append (close_all os) (i.Jump a ∷ []), length-append (close_all os) (i.Jump c ∷ []))
   statement_long a b c d pc os (Block' x _ body) = refl
@@ -69,8 +76,14 @@ mutual
       let x = statements_code (in_loop a b (an_escape ∷ os)) pc1 body in
       let y = statements_code (in_loop c d (an_escape ∷ os)) pc1 body in
       let long : length x ≡ length y = statements_long a b c d pc1 (an_escape ∷ os) body in
-      omega (arith, length-append v (i.PushAutoEscape ∷ (x ++ i.PopAutoEscape ∷ [])), length-append v (i.PushAutoEscape ∷ (y ++ i.PopAutoEscape ∷ [])),
-      length-append x (i.PopAutoEscape ∷ []), length-append y (i.PopAutoEscape ∷ []), long)
+      omega (
+        arith,
+        length-append v (i.PushAutoEscape ∷ (x ++ i.PopAutoEscape ∷ [])),
+        length-append v (i.PushAutoEscape ∷ (y ++ i.PopAutoEscape ∷ [])),
+        length-append x (i.PopAutoEscape ∷ []),
+        length-append y (i.PopAutoEscape ∷ []),
+        long,
+      )
 
   pub statements_long : {n : _} → (a b c d pc : ℕ) (os : List Opened) (ss : Row_of-Stmt n) → length (statements_code (in_loop a b os) pc ss) ≡ length (statements_code (in_loop c d os) pc ss)
   statements_long a b c d pc os no_statement = refl

@@ -182,10 +182,11 @@ jump_over (otherwise _ body) = 1
 -- A loop's code behind what is iterated, given its body's code in a loop: the body is as long wherever that loop goes on.
 abbrev pub loop_code : (Inside → ℕ → List Instruction) → ℕ → Target → (ℕ → List Instruction) → List Instruction
 loop_code body pc t behind =
-    let start = pc + 2 + length (target_code (pc + 2) t) in
+    let again = pc + 1 in
+    let start = again + 1 + length (target_code (again + 1) t) in
     let end = start + length (body outside start) + 1 in
-    i.PushLoop for_flags ∷ i.Iterate end ∷ (target_code (pc + 2) t
-    ++ (body (record { again = pc + 1; behind = end; opened = [] }) start ++ i.Jump (pc + 1) ∷ behind end))
+    i.PushLoop for_flags ∷ i.Iterate end ∷ (target_code (again + 1) t
+    ++ (body (record { again = again; behind = end; opened = [] }) start ++ i.Jump again ∷ behind end))
 
 abbrev mutual
   pub statement_code : Inside → ℕ → Stmt → List Instruction
