@@ -1,6 +1,8 @@
 use crate::tokens::spelled;
 use std::alloc::Global;
+use std::rc::RcStr;
 use tm_scanner::{SyntaxConfig, scan};
+use tm_syntax::Token;
 use tm_values::{Error, ErrorKind};
 
 fn is_spelled(alloc: Global, syntax: &SyntaxConfig, source: &str, wanted: &str) -> bool {
@@ -12,10 +14,23 @@ fn is_spelled(alloc: Global, syntax: &SyntaxConfig, source: &str, wanted: &str) 
 
 /// Whether a source spells no tokens.
 fn is_refused(alloc: Global, source: &str) -> bool {
-    match &scan(alloc, &SyntaxConfig::default(), source) {
+    match &spelled(alloc, &SyntaxConfig::default(), source) {
         Ok(_) => false,
         Err(error) => error.kind() == ErrorKind::SyntaxError,
     }
+}
+
+/// Whether each raw text of a source owns a share of it, and no copy.
+fn shares_raw_texts(alloc: Global, syntax: &SyntaxConfig, source: &str) -> Result<bool, Error> {
+    let source = RcStr::from_str(alloc, source)?;
+    let tokens = scan(alloc, syntax, &source)?;
+    let mut owners = 1;
+    for token in &tokens {
+        if let Token::Raw(_) = token {
+            owners += 1;
+        }
+    }
+    Ok(RcStr::strong_count(&source) == owners)
 }
 
 /// Starts and ends of block tags, emissions and comments.
@@ -179,14 +194,19 @@ static MARKED: [(&str, &str); 11] = [
 ];
 
 #[test]
-fn marks_trim(rt: HostRuntime) {
+fn marks_trim(rt: HostRuntime) -> Result<(), Error> {
     let syntax = SyntaxConfig::default();
     for (source, tokens) in &MARKED {
         assert!(rt;
             is_spelled(rt.alloc(), &syntax, source, tokens),
             "at {source}"
         );
+        assert!(rt;
+            shares_raw_texts(rt.alloc(), &syntax, source)?,
+            "at {source}"
+        );
     }
+    Ok(())
 }
 
 /// A source, the flags `trim_blocks` and `lstrip_blocks`, and the tokens.
@@ -256,6 +276,10 @@ fn flags_trim(rt: HostRuntime) -> Result<(), Error> {
             .build()?;
         assert!(rt;
             is_spelled(rt.alloc(), &syntax, source, tokens),
+            "at {source}"
+        );
+        assert!(rt;
+            shares_raw_texts(rt.alloc(), &syntax, source)?,
             "at {source}"
         );
     }
