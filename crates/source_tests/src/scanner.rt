@@ -24,13 +24,8 @@ fn is_refused(alloc: Global, source: &str) -> bool {
 fn shares_raw_texts(alloc: Global, syntax: &SyntaxConfig, source: &str) -> Result<bool, Error> {
     let source = RcStr::from_str(alloc, source)?;
     let tokens = scan(alloc, syntax, &source)?;
-    let mut owners = 1;
-    for token in &tokens {
-        if let Token::Raw(_) = token {
-            owners += 1;
-        }
-    }
-    Ok(RcStr::strong_count(&source) == owners)
+    let raw_texts = tokens.iter().filter(|token| matches!(token, Token::Raw(_)));
+    Ok(RcStr::strong_count(&source) - 1 == raw_texts.count())
 }
 
 /// Starts and ends of block tags, emissions and comments.
