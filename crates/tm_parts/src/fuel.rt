@@ -34,6 +34,9 @@ fn charge(instruction: &Instruction) -> u64
         Instruction::DiscardTop
         | Instruction::PushWith
         | Instruction::PopFrame
+        | Instruction::PushLoop(_)
+        | Instruction::PushDidNotIterate
+        | Instruction::PopLoopFrame
         | Instruction::BeginCapture(_)
         | Instruction::PushAutoEscape
         | Instruction::PopAutoEscape => 0,
