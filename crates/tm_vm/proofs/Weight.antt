@@ -2,10 +2,12 @@
 use Rattle.std.proofs.Common.{◌≡◌, ℕ, zero, suc, ◌+◌, ◌-◌, ◌*◌, ◌<◌, ◌≤◌, List, [], ◌∷◌, length, Option, Some, Result, Ok, Err, Bool, true, false, nat_lt, refl, sym, ap, ◌∙◌, subst, arith}
 use Rattle.std.proofs.Math.Nat.{mul-le-mul_right, suc-mul}
 use Rattle.tm_values.specs.Val.{Val, undefined}
+use Rattle.tm_values.specs.declared.escape.AutoEscape.{AutoEscape}
 use Rattle.tm_syntax.specs.declared.instruction.Instruction.{Instruction}
 use Rattle.tm_syntax.specs.declared.instruction.Instruction.TheVariants as i
-use Rattle.tm_meaning.specs.World.{choose, World, Host, Res, Good, Bad, push, pop, plain}
-use Rattle.tm_meaning.specs.Machine.{Activation, Config, Next, More, Nest, Back, after, on_top, on, goes, stuck, with_world}
+use Rattle.tm_meaning.specs.World.{choose, World, Host, Res, Good, Bad, answered, escape_for, push, pop, plain}
+use Rattle.tm_meaning.specs.Instructions.{pop_auto_escape_with}
+use Rattle.tm_meaning.specs.Machine.{Config, Next, More, Over, Nest, Back, after, on_top, stuck}
 use Rattle.tm_meaning.specs.Steps.{charge_of, effect}
 use Rattle.tm_meaning.specs.declared.base.Base.{Base}
 use Rattle.tm_parts.specs.declared.halt.Halt.{Halt}
@@ -25,43 +27,43 @@ next_place size old new fuel place within =
     let more : new.world.fuel * (size + 1) ≤ old.world.fuel * (size + 1) = mul-le-mul_right (size + 1) fuel in
     omega (arith, more, place, within)
 
--- ---------------------------------------------------------------- free instructions go on to the next place
-dropped : (vs : List Val) (c d : Config) (t : List ℕ) → on_top vs c.world (λ v us. goes us c.world c) ≡ More t d → d.run.place ≡ c.run.place + 1
-dropped [] c d t e = absurd cc
-dropped (v ∷ vs) c d t e =
-    let there : d ≡ on vs (with_world c.world c) = cc in ap (λ (x : Config). x.run.place) there
+-- ---------------------------------------------------------------- free instructions
+-- What an instruction gives goes on to the next place, or ends the run: a run of its own it doesn't need.
+abbrev Onward : Config → Next → Type 0
+Onward c (More t d) = d.run.place ≡ c.run.place + 1
+Onward c (Over e) = Unit {0}
+Onward c (Nest g d back) = ⊥
 
-enters_nothing : (vs : List Val) (c d : Config) (g : Base) (back : Back) → on_top vs c.world (λ v us. goes us c.world c) ≡ Nest g d back → ⊥
-enters_nothing [] c d g back e = absurd cc
-enters_nothing (v ∷ vs) c d g back e = absurd cc
+after_onward : {A : Type 0} (c : Config) (m : Res A) (next : A → World → Next) → ((a : A) (w : World) → Onward c (next a w)) → Onward c (after m next)
+after_onward c (Good a w) next k = k a w
+after_onward c (Bad chain w) next k = tt
 
-pushed : (m : Res (Unit {0})) (c d : Config) (t : List ℕ) → after m (λ _ w. goes c.run.operands w c) ≡ More t d → d.run.place ≡ c.run.place + 1
-pushed (Good a w) c d t e = let there : d ≡ on c.run.operands (with_world w c) = cc in ap (λ (x : Config). x.run.place) there
-pushed (Bad chain w) c d t e = absurd cc
+on_top_onward : (c : Config) (vs : List Val) (w : World) (next : Val → List Val → Next) → ((v : Val) (rest : List Val) → Onward c (next v rest)) → Onward c (on_top vs w next)
+on_top_onward c [] w next k = tt
+on_top_onward c (v ∷ vs) w next k = k v vs
 
-pushed_enters_nothing : (m : Res (Unit {0})) (c d : Config) (g : Base) (back : Back) → after m (λ _ w. goes c.run.operands w c) ≡ Nest g d back → ⊥
-pushed_enters_nothing (Good a w) c d g back e = absurd cc
-pushed_enters_nothing (Bad chain w) c d g back e = absurd cc
+choose_onward : (c : Config) (b : Bool) (n : Next) (w : World) → Onward c n → Onward c (choose b (λ _. n) (λ _. stuck w))
+choose_onward c true n w k = k
+choose_onward c false n w k = tt
 
-popped : (room : Bool) (c d : Config) (t : List ℕ) → choose room (λ _. goes c.run.operands (pop c.world) c) (λ _. stuck c.world) ≡ More t d → d.run.place ≡ c.run.place + 1
-popped true c d t e = let there : d ≡ on c.run.operands (with_world (pop c.world) c) = cc in ap (λ (x : Config). x.run.place) there
-popped false c d t e = absurd cc
+escape_onward : (c : Config) (es : List AutoEscape) → Onward c (pop_auto_escape_with es c)
+escape_onward c [] = tt
+escape_onward c (e ∷ es) = refl
 
-popped_enters_nothing : (room : Bool) (c d : Config) (g : Base) (back : Back) → choose room (λ _. goes c.run.operands (pop c.world) c) (λ _. stuck c.world) ≡ Nest g d back → ⊥
-popped_enters_nothing true c d g back e = absurd cc
-popped_enters_nothing false c d g back e = absurd cc
+free_onward : (host : Host) (f : Base) (x : Instruction) (c : Config) → charge_of x ≡ 0 → Onward c (effect host f x c)
+free_onward host f i.DiscardTop c free = on_top_onward c c.run.operands c.world _ (λ v rest. refl)
+free_onward host f i.PushWith c free = after_onward c (push host (plain (undefined false)) c.world) _ (λ _ w. refl)
+free_onward host f i.PopFrame c free = choose_onward c (nat_lt f.scopes (length c.world.scopes.frames)) _ c.world refl
+free_onward host f (i.BeginCapture mode) c free = refl
+free_onward host f i.PushAutoEscape c free = on_top_onward c c.run.operands c.world _ (λ v rest. after_onward c (answered (escape_for f.first v) c.world) _ (λ e w. refl))
+free_onward host f i.PopAutoEscape c free = escape_onward c c.run.escapes
+free_onward host f _ c free = absurd cc
 
 free_goes_on : (host : Host) (f : Base) (x : Instruction) (c d : Config) (t : List ℕ) → charge_of x ≡ 0 → effect host f x c ≡ More t d → d.run.place ≡ c.run.place + 1
-free_goes_on host f i.DiscardTop c d t free e = dropped c.run.operands c d t e
-free_goes_on host f i.PushWith c d t free e = pushed (push host (plain (undefined false)) c.world) c d t e
-free_goes_on host f i.PopFrame c d t free e = popped (nat_lt f.scopes (length c.world.scopes.frames)) c d t e
-free_goes_on host f _ c d t free e = absurd cc
+free_goes_on host f x c d t free e = subst (λ n. Onward c n) e (free_onward host f x c free)
 
 free_enters_nothing : (host : Host) (f : Base) (x : Instruction) (c d : Config) (g : Base) (back : Back) → charge_of x ≡ 0 → effect host f x c ≡ Nest g d back → ⊥
-free_enters_nothing host f i.DiscardTop c d g back free e = enters_nothing c.run.operands c d g back e
-free_enters_nothing host f i.PushWith c d g back free e = pushed_enters_nothing (push host (plain (undefined false)) c.world) c d g back e
-free_enters_nothing host f i.PopFrame c d g back free e = popped_enters_nothing (nat_lt f.scopes (length c.world.scopes.frames)) c d g back e
-free_enters_nothing host f _ c d g back free e = absurd cc
+free_enters_nothing host f x c d g back free e = subst (λ n. Onward c n) e (free_onward host f x c free)
 
 -- ---------------------------------------------------------------- steps
 went_on : (size n : ℕ) (host : Host) (f : Base) (x : Instruction) (old mid new : Config) (t : List ℕ) → charge_of x ≡ n → mid.world.fuel + n ≡ old.world.fuel → mid.run.place ≡ old.run.place →
