@@ -1,7 +1,7 @@
 //! The code of a tree as a text.
 use std::alloc::{AllocError, Global};
 use tm_compiler::{Instruction, Streams, Tree, generate};
-use tm_syntax::BinaryOperator;
+use tm_syntax::{BinaryOperator, CaptureMode};
 use tm_values::{Error, Node, Value};
 
 static NUMERALS: [&str; 15] = [
@@ -20,6 +20,7 @@ fn constant(value: &Value) -> &str {
         Node::Undefined(true) => "silent",
         Node::None => "none",
         Node::Boolean(true) => "true",
+        Node::Boolean(false) => "false",
         Node::Number(1) => "1",
         Node::Text(content, false) => content.as_str(),
         _ => "?",
@@ -54,6 +55,10 @@ fn word(instruction: &Instruction) -> &'static str {
         Instruction::SetAttr(_) => "set:",
         Instruction::PushWith => "with",
         Instruction::PopFrame => "leave",
+        Instruction::BeginCapture(CaptureMode::Capture) => "capture",
+        Instruction::EndCapture => "captured",
+        Instruction::PushAutoEscape => "escape",
+        Instruction::PopAutoEscape => "escaped",
         _ => operator(instruction),
     }
 }

@@ -6,7 +6,7 @@ use std::test::Fail;
 use tm_compiler::{SyntaxConfig, parse};
 use tm_values::{Error, ErrorKind};
 
-static CODES: [(&str, &str); 14] = [
+static CODES: [(&str, &str); 19] = [
     ("{# c #}", ""),
     ("{{ \"}}\" }}\n", " #}} emit"),
     ("{{ a == none }}", " $a #none == emit"),
@@ -42,6 +42,23 @@ static CODES: [(&str, &str); 14] = [
         "{% with set = 1, x = set %}{{ x }}{% endwith %}",
         " with #1 store:set $set store:x $x emit leave",
     ),
+    (
+        "{% set x %}a{% endset %}",
+        " capture raw:a captured store:x",
+    ),
+    (
+        "{% set a, b %}{% endset %}",
+        " capture captured unpack:2 store:a store:b",
+    ),
+    ("{% set (a) %}{% endset %}", " capture captured store:a"),
+    (
+        "{% set a.b %}x{% endset %}",
+        " capture raw:x captured $a set:b",
+    ),
+    (
+        "{% autoescape false %}x{% endautoescape %}",
+        " #false escape raw:x escaped",
+    ),
 ];
 
 fn code_of(alloc: Global, source: &str) -> Result<String, Error> {
@@ -59,7 +76,7 @@ fn sources_have_their_code(rt: HostRuntime) {
     }
 }
 
-static REFUSED: [&str; 13] = [
+static REFUSED: [&str; 21] = [
     "a{#",
     "{{ \"a }}",
     "{{ 1.5 }}",
@@ -70,7 +87,15 @@ static REFUSED: [&str; 13] = [
     "{% block b %}{% endblock c %}",
     "{% block b %}{% endblock %}{% block b %}{% endblock %}",
     "{% set 1 = 2 %}",
-    "{% set a %}b{% endset %}",
+    "{% set x %}",
+    "{% endset %}",
+    "{% set x %}{% endwith %}",
+    "{% set x %}{% endset x %}",
+    "{% set 1 %}{% endset %}",
+    "{% set %}{% endset %}",
+    "{% autoescape %}x{% endautoescape %}",
+    "{% autoescape 1, 2 %}{% endautoescape %}",
+    "{% autoescape true %}",
     "{% with a = 1 %}",
     "{% for a in b %}{% endfor %}",
 ];

@@ -43,7 +43,7 @@ static SIGNS: [(&str, Sign); 34] = [
     ("true", Sign::True),
 ];
 
-static TAGS: [(&str, Tag); 10] = [
+static TAGS: [(&str, Tag); 13] = [
     ("{%if", Tag::If),
     ("{%elif", Tag::Elif),
     ("{%else", Tag::Else),
@@ -51,9 +51,12 @@ static TAGS: [(&str, Tag); 10] = [
     ("{%block", Tag::Block),
     ("{%endblock", Tag::Endblock),
     ("{%set", Tag::Set),
+    ("{%endset", Tag::Endset),
     ("{%with", Tag::With),
     ("{%endwith", Tag::Endwith),
     ("{%do", Tag::Do),
+    ("{%autoescape", Tag::Autoescape),
+    ("{%endautoescape", Tag::Endautoescape),
 ];
 
 // The token of a word; a word that is no sign and no tag is a name.
@@ -80,7 +83,7 @@ fn tokens_of(alloc: Global, words: &str) -> Result<Vec<Token>, Error> {
 }
 
 // Templates by their words, each of which is a token, with their code.
-static CODES: [(&str, &str); 45] = [
+static CODES: [(&str, &str); 49] = [
     ("{{ a ** b ** c }}", " $a $b ** $c ** emit"),
     ("{{ - a ** b }}", " $a - $b ** emit"),
     ("{{ a ~ b + c }}", " $a $b ~ $c + emit"),
@@ -180,6 +183,22 @@ static CODES: [(&str, &str); 45] = [
         " with block:x leave | x",
     ),
     ("{%do f ( a ) %}", " $a call:f1 drop"),
+    (
+        "{%set ( a , f ( b ) . c ) , %} {{ d }} {%endset %}",
+        " capture $d emit captured unpack:1 unpack:2 store:a $b call:f1 set:c",
+    ),
+    (
+        "{%set a %} {%block x %} {%endblock %} {%endset %}",
+        " capture block:x captured store:a | x",
+    ),
+    (
+        "{%autoescape a if b %} {{ c }} {%endautoescape %}",
+        " $b if-false:4 $a jump:5 #silent escape $c emit escaped",
+    ),
+    (
+        "{%autoescape a %} {%block x %} {%endblock %} {%endautoescape %}",
+        " $a escape block:x escaped | x",
+    ),
 ];
 
 fn code_of(alloc: Global, words: &str) -> Result<String, Error> {
@@ -195,7 +214,7 @@ fn tokens_have_their_code(rt: HostRuntime) {
     }
 }
 
-static REFUSED: [&str; 39] = [
+static REFUSED: [&str; 48] = [
     "{{ a == b == }}",
     "{{ f ( , ) }}",
     "{{ ( a }}",
@@ -224,6 +243,13 @@ static REFUSED: [&str; 39] = [
     "{%set f ( a ) = b %}",
     "{%set ( a ) . b = c %}",
     "{%set a %}",
+    "{%set a %} {%endwith %}",
+    "{%set a %} {%endset a %}",
+    "{%set a ( %} {%endset %}",
+    "{%set a , , %} {%endset %}",
+    "{%set ( a %} {%endset %}",
+    "{%set a %} {%endset %} {%endset %}",
+    "{%set a %} {%block x %} {%endblock %} {%endset %} {%block x %} {%endblock %}",
     "{%set a = %}",
     "{%set a = b = c %}",
     "{%set = a %}",
@@ -233,6 +259,8 @@ static REFUSED: [&str; 39] = [
     "{%with a = b %}",
     "{%with a %} {%endwith %}",
     "{%with a = b , , c = d %} {%endwith %}",
+    "{%autoescape %} {%endautoescape %}",
+    "{%autoescape a , b %} {%endautoescape %}",
     "{%do a %}",
     "{%do f ( a ) . x %}",
 ];
@@ -241,7 +269,7 @@ static REFUSED: [&str; 39] = [
 pub type Pieces = &'static [(Option<usize>, &'static str)];
 
 // What may nest 150 deep.
-static NESTINGS: [Pieces; 15] = [
+static NESTINGS: [Pieces; 16] = [
     &[
         (None, "{{"),
         (Some(0), "("),
@@ -307,6 +335,11 @@ static NESTINGS: [Pieces; 15] = [
         (Some(2), "{%with %}"),
         (None, "{%with ( a ) = ( b ) %} {%endwith %}"),
         (Some(2), "{%endwith %}"),
+    ],
+    &[
+        (Some(2), "{%set a %}"),
+        (None, "{%autoescape ( b ) %} {%endautoescape %}"),
+        (Some(2), "{%endset %}"),
     ],
 ];
 

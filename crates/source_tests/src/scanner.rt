@@ -41,7 +41,7 @@ fn with_delimiters(alloc: Global, texts: &[&str; 6]) -> Result<SyntaxConfig, Err
         .build()
 }
 
-static SPELLED: [(&str, &str); 26] = [
+static SPELLED: [(&str, &str); 27] = [
     ("", ""),
     ("\r\n", ""),
     ("a\n\n", " [a\n]"),
@@ -73,6 +73,10 @@ static SPELLED: [(&str, &str); 26] = [
     (
         "{% with a===b %}{%endwith%}",
         " {%with $a == = $b %} {%endwith %}",
+    ),
+    (
+        "{% set autoescape%}{%endset%}{% autoescape endset %}{% endautoescape %}",
+        " {%set $autoescape %} {%endset %} {%autoescape $endset %} {%endautoescape %}",
     ),
     ("{{ 007 }}", " {{ #7 }}"),
     ("{{ 7.a }}", " {{ #7 . $a }}"),

@@ -57,9 +57,12 @@ fn tag_text(tag: Tag) -> &'static str {
         Tag::Block => "{%block",
         Tag::Endblock => "{%endblock",
         Tag::Set => "{%set",
+        Tag::Endset => "{%endset",
         Tag::With => "{%with",
         Tag::Endwith => "{%endwith",
         Tag::Do => "{%do",
+        Tag::Autoescape => "{%autoescape",
+        Tag::Endautoescape => "{%endautoescape",
     }
 }
 

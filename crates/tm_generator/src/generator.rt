@@ -6,17 +6,17 @@ ghost use Rattle.tm_syntax.specs.Code.{unary_code, binary_code, expr_code, exprs
 ghost use Rattle.tm_syntax.specs.Named.{put as put_named, put_each, by_name};
 ghost use Rattle.tm_syntax.specs.declared.tree.Argument.TheBlock.{hidden-the_row-Expr-1 as exprs, hidden-the_row-Pair-2 as pairs, hidden-the_row-Argument-3 as arguments, hidden-the_row-Step-4 as steps, hidden-the_row-Comparison-6 as comparisons};
 ghost use Rattle.tm_syntax.specs.declared.tree.Stmt.TheBlock.{hidden-the_row-Stmt-0 as statements};
-ghost use Rattle.tm_syntax.specs.declared.tree.Stmt.TheVariants.{If, With};
+ghost use Rattle.tm_syntax.specs.declared.tree.Stmt.TheVariants.{AutoEscape, If, SetBlock, With};
 ghost use Rattle.tm_syntax.specs.declared.instruction.Instruction.TheVariants.{CallBlock};
 ghost use Rattle.tm_values.specs.declared.error.ErrorKind.TheVariants.{OutOfMemory};
 
 use crate::patches::{end_at, put};
-use crate::targets::{push_assignments, push_set};
+use crate::targets::{push_assignments, push_set, push_target};
 use sqlite_items::{Boxed, Items};
 use std::alloc::Global;
 use tm_syntax::{
-    Argument, Assignment, BinaryOperator, Comparison, Condition, Expr, Instruction, Name, NameMap,
-    Pair, Step, Stmt, Tree, UnaryOperator,
+    Argument, Assignment, BinaryOperator, CaptureMode, Comparison, Condition, Expr, Instruction,
+    Name, NameMap, Pair, Step, Stmt, Target, Tree, UnaryOperator,
 };
 use tm_values::Error;
 
@@ -378,12 +378,18 @@ fn push_statement(
         }
         Stmt::Block(name, body) => push_block(alloc, code, blocks, name, body.as_slice()),
         Stmt::Set(target, value) => push_set(alloc, code, target, value.get()),
+        Stmt::SetBlock(target, body) => {
+            push_set_block(alloc, code, blocks, target, body.as_slice())
+        }
         Stmt::With(given, body) => {
             push_with(alloc, code, blocks, given.as_slice(), body.as_slice())
         }
         Stmt::Do(call) => {
             push_expr(alloc, code, call.get())?;
             put(code, Instruction::DiscardTop)
+        }
+        Stmt::AutoEscape(value, body) => {
+            push_autoescape(alloc, code, blocks, value.get(), body.as_slice())
         }
     }
 }
@@ -443,6 +449,27 @@ fn push_block(
     put(code, Instruction::CallBlock(name.share()?))
 }
 
+/// Adds the code of a capture, its body and its target, and that of its blocks; OutOfMemory.
+#[cycle(statements)]
+fn push_set_block(
+    alloc: Global,
+    code: &mut Items<Instruction>,
+    blocks: &mut NameMap<Items<Instruction>>,
+    target: &Target,
+    body: &[Stmt],
+) -> Result<(), Error>
+    ensures code { OnOk result
+        (code.new ≡ code.old ++ statement_code (length code.old) (SetBlock target.now body.now)) }
+    ensures blocks { OnOk result (blocks.new
+        ≡ put_each (compiled_blocks (blocks_of (SetBlock target.now body.now))) blocks.old) }
+    ensures err { IfErr result (λ e. e ≡ OutOfMemory ∷ []) }
+{
+    put(code, Instruction::BeginCapture(CaptureMode::Capture))?;
+    push_statements(alloc, code, blocks, body)?;
+    put(code, Instruction::EndCapture)?;
+    push_target(alloc, code, target)
+}
+
 /// Adds the code of a scope, its values and its body, and that of its blocks; OutOfMemory.
 #[cycle(statements)]
 fn push_with(
@@ -462,6 +489,27 @@ fn push_with(
     push_assignments(alloc, code, given)?;
     push_statements(alloc, code, blocks, body)?;
     put(code, Instruction::PopFrame)
+}
+
+/// Adds the code of an escape and its body, and that of its blocks; OutOfMemory.
+#[cycle(statements)]
+fn push_autoescape(
+    alloc: Global,
+    code: &mut Items<Instruction>,
+    blocks: &mut NameMap<Items<Instruction>>,
+    value: &Expr,
+    body: &[Stmt],
+) -> Result<(), Error>
+    ensures code { OnOk result
+        (code.new ≡ code.old ++ statement_code (length code.old) (AutoEscape value.now body.now)) }
+    ensures blocks { OnOk result (blocks.new
+        ≡ put_each (compiled_blocks (blocks_of (AutoEscape value.now body.now))) blocks.old) }
+    ensures err { IfErr result (λ e. e ≡ OutOfMemory ∷ []) }
+{
+    push_expr(alloc, code, value)?;
+    put(code, Instruction::PushAutoEscape)?;
+    push_statements(alloc, code, blocks, body)?;
+    put(code, Instruction::PopAutoEscape)
 }
 
 /// Adds the code of statements, and that of their blocks; OutOfMemory.

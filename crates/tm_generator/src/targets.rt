@@ -13,7 +13,11 @@ use tm_values::Error;
 
 /// Adds the code that gives the topmost value to a target; OutOfMemory.
 #[cycle(targets)]
-fn push_target(alloc: Global, code: &mut Items<Instruction>, target: &Target) -> Result<(), Error>
+pub(crate) fn push_target(
+    alloc: Global,
+    code: &mut Items<Instruction>,
+    target: &Target,
+) -> Result<(), Error>
     ensures ok { OnOk result (code.new ≡ code.old ++ target_code (length code.old) target.now) }
     ensures err { IfErr result (λ e. e ≡ OutOfMemory ∷ []) }
 {

@@ -3,12 +3,13 @@ use Rattle.std.proofs.Common.{◌≡◌, ◌<◌, List, length, None, inl, inr, 
 use Rattle.tm_values.specs.declared.error.ErrorKind.{ErrorKind}
 use Rattle.tm_syntax.specs.declared.token.Token.{Token}
 use Rattle.tm_syntax.specs.declared.token.Sign.{Sign}
+use Rattle.tm_syntax.specs.declared.tree.Target.{Target}
 use Rattle.tm_rules.specs.Meanings.{Read, got}
 use Rattle.tm_rules.specs.Rule.{Rule, Look}
 use Rattle.tm_rules.specs.Growth as growth
 use Rattle.tm_rules.specs.Combinators.{one_more, many_from}
 use Rattle.tm_parser.specs.Gives.{Refused}
-use Rattle.tm_parser.specs.Grammar.{more_items, comma}
+use Rattle.tm_parser.specs.Grammar.{Inside, more_items, comma, single, more_targets, target_comma}
 
 -- Another reason for the same refusal.
 pub because : {P Q : Type 0} (chain : List ErrorKind) → (P → Q) → Refused chain P → Refused chain Q
@@ -58,3 +59,26 @@ module _ {A : Type 0} (close : Sign) (item : Rule Token A) where
   comma_ends xs ts rest whole = ends (comma close) (λ _. item) xs ts whole rest
 
 pub ruleset commas = (comma_goes_on, comma_comes_nearer, comma_refuses, comma_ends)
+
+-- the same of targets
+module _ (i : Inside) where
+  pub target_goes_on : (xs ys : List Target) (ts behind rest : List Token) (whole : Read Token (List Target)) → (more_targets i xs).reads ts ≡ whole →
+      target_comma.sees ts ≡ got tt behind → (one_more (single i) xs).reads behind ≡ got ys rest → (more_targets i ys).reads rest ≡ whole
+  unfolding more_targets
+  target_goes_on xs ys ts behind rest whole = goes_on target_comma (λ _. single i) xs ts whole tt behind ys rest
+
+  pub target_comes_nearer : (xs ys : List Target) (ts behind rest : List Token) → target_comma.sees ts ≡ got tt behind →
+      (one_more (single i) xs).reads behind ≡ got ys rest → length rest < length ts
+  target_comes_nearer xs ys ts behind rest = comes_nearer target_comma (λ _. single i) xs ts tt behind ys rest
+
+  pub target_refuses : (xs : List Target) (ts behind : List Token) (whole : Read Token (List Target)) (chain : List ErrorKind) → (more_targets i xs).reads ts ≡ whole →
+      target_comma.sees ts ≡ got tt behind → Refused chain ((one_more (single i) xs).reads behind ≡ None) → Refused chain (whole ≡ None)
+  unfolding more_targets
+  target_refuses xs ts behind whole chain = refuses target_comma (λ _. single i) xs ts whole tt behind chain
+
+  pub target_ends : (xs : List Target) (ts rest : List Token) (whole : Read Token (List Target)) → (more_targets i xs).reads ts ≡ whole →
+      (target_comma.sees ts ≡ None) × (rest ≡ ts) → whole ≡ got xs rest
+  unfolding more_targets
+  target_ends xs ts rest whole = ends target_comma (λ _. single i) xs ts whole rest
+
+pub ruleset target_commas = (target_goes_on, target_comes_nearer, target_refuses, target_ends)

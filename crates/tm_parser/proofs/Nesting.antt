@@ -2,7 +2,6 @@
 use Rattle.std.specs.Prelude.{option_map}
 use Rattle.std.proofs.Common.{◌≡◌, ℕ, zero, suc, ◌-◌, List, [], ◌∷◌, ◌++◌, None, Some, refl, sym, ap, arith, ◌∙◌}
 use Rattle.tm_syntax.specs.declared.token.Token.{Token}
-use Rattle.tm_syntax.specs.declared.token.Sign.{Sign}
 use Rattle.tm_syntax.specs.declared.tree.Expr.{Expr}
 use Rattle.tm_syntax.specs.declared.tree.Expr.TheVariants as exprs
 use Rattle.tm_syntax.specs.declared.tree.BinaryOperator.{BinaryOperator}
@@ -88,14 +87,14 @@ some_conditions x (c ∷ cs) h = refl
 
 pub ruleset conditions = (no_conditions, some_conditions)
 
-pub no_target : (depth : ℕ) (close : Sign) (ts : List Token) → depth ≡ 0 → ((inside depth).target close).reads ts ≡ None
+pub no_target : (depth : ℕ) (ts : List Token) → depth ≡ 0 → (inside depth).target.reads ts ≡ None
 unfolding inside
-no_target depth close ts h = ap (λ k. ((inside k).target close).reads ts) h
+no_target depth ts h = ap (λ k. (inside k).target.reads ts) h
 
-pub inner_target : (depth : ℕ) (close : Sign) (ts : List Token) → ¬ (depth ≡ 0) → ((inside depth).target close).reads ts ≡ (target (inside (depth - 1)) close).reads ts
+pub inner_target : (depth : ℕ) (ts : List Token) → ¬ (depth ≡ 0) → (inside depth).target.reads ts ≡ (target (inside (depth - 1))).reads ts
 unfolding inside
-inner_target zero close ts h = absurd (h refl)
-inner_target (suc depth) close ts h = ap (λ k. (target (inside k) close).reads ts) (sym (suc-sub-one depth))
+inner_target zero ts h = absurd (h refl)
+inner_target (suc depth) ts h = ap (λ k. (target (inside k)).reads ts) (sym (suc-sub-one depth))
 
 pub ruleset targets = (no_target, inner_target)
 

@@ -115,8 +115,7 @@ pub record Inside : Type 1 where
   pub expr : Rule Expr
   -- an operand of a level
   pub operand : ℕ → Rule Expr
-  -- a target, up to a sign and with it
-  pub target : Sign → Rule Target
+  pub target : Rule Target
 
 -- a comma with another item behind it, in a list that ends with this sign
 abbrev pub comma : Sign → Look Token (Unit {0})
@@ -380,22 +379,45 @@ member i = do
 
 -- a target with no comma outside brackets
 unfoldable pub single : Inside → Rule Target
-single i = branch (first (is sign.OpenRound)) (λ _. i.target sign.CloseRound) (member i)
+single i = branch (first (is sign.OpenRound))
+    (λ _. do
+      x ← i.target
+      close ← token (is sign.CloseRound)
+      pure x)
+    (member i)
 
--- several targets behind the first one, up to the sign
-unfoldable pub several : Inside → Sign → Target → Rule Target
-several i close x = do
-  comma ← token (is sign.Comma)
-  xs ← items close (single i) (x ∷ [])
+-- what stands behind a target
+abbrev pub ends_target : Token → Option (Unit {0})
+ends_target (tokens.Sign sign.Assign) = Some tt
+ends_target (tokens.Sign sign.CloseRound) = Some tt
+ends_target (tokens.Sign sign.BlockEnd) = Some tt
+ends_target _ = None
+
+-- a comma with another target behind it
+abbrev pub target_comma : Look Token (Unit {0})
+target_comma = not_before (is sign.Comma) ends_target
+
+unfoldable pub more_targets : Inside → List Target → Rule (List Target)
+more_targets i xs = many_from target_comma (λ _. single i) xs
+
+-- several targets behind the first one, with a comma behind the last one or none
+unfoldable pub several : Inside → Target → Rule Target
+several i x = do
+  xs ← more_targets i (x ∷ [])
+  comma ← branch (first (is sign.Comma)) pure (pure tt)
   pure (targets.Unpack xs)
 
--- one target or several, up to the sign
-unfoldable pub target : Inside → Sign → Rule Target
-target i close = do
+abbrev pub is_comma : Token → Bool
+is_comma (tokens.Sign sign.Comma) = true
+is_comma _ = false
+
+-- one target, or several between commas
+unfoldable pub target : Inside → Rule Target
+target i = do
   x ← single i
-  branch (first (is close)) (λ _. pure x) (several i close x)
+  ahead is_comma (several i x) (pure x)
 
 -- what may stand inside n nestings more
 unfoldable pub inside : ℕ → Inside
-inside zero = record { room = nothing; expr = nothing; operand = λ level. nothing; target = λ close. nothing }
+inside zero = record { room = nothing; expr = nothing; operand = λ level. nothing; target = nothing }
 inside (suc n) = record { room = pure tt; expr = expr (inside n); operand = operand (inside n); target = target (inside n) }

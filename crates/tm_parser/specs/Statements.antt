@@ -10,6 +10,7 @@ use Rattle.tm_syntax.specs.declared.token.Token.{Token}
 use Rattle.tm_syntax.specs.declared.token.Token.TheVariants as tokens
 use Rattle.tm_syntax.specs.declared.tree.Expr.{Expr, Call'}
 use Rattle.tm_syntax.specs.declared.tree.Expr.TheVariants as exprs
+use Rattle.tm_syntax.specs.declared.tree.Target.{Target}
 use Rattle.tm_syntax.specs.declared.tree.Assignment.{Assignment}
 use Rattle.tm_syntax.specs.declared.tree.Assignment.TheVariants as assignments
 use Rattle.tm_syntax.specs.declared.tree.Stmt.{Stmt}
@@ -37,6 +38,7 @@ start_of tags.Block = Some starts.Block
 start_of tags.Set = Some starts.Set
 start_of tags.With = Some starts.With
 start_of tags.Do = Some starts.Do
+start_of tags.Autoescape = Some starts.AutoEscape
 start_of _ = None
 
 -- what a statement begins with
@@ -119,15 +121,29 @@ bare i = do
   x ← expr i
   branch (first (is sign.BlockEnd)) (λ _. pure x) (bare_tuple i x)
 
-unfoldable pub set_tag : Inside → Rule Stmt
-set_tag i = do
-  to ← target i sign.Assign
+-- what stands behind the `=` of a `set`
+unfoldable pub set_value : Inside → Target → Rule Stmt
+set_value i to = do
   x ← bare i
   pure (stmts.Set to x)
 
+-- what stands behind the target of a `set` without `=`
+unfoldable pub set_block : Inner → Target → Rule Stmt
+set_block t to = do
+  close ← block_end
+  body ← t.body
+  last ← lone tags.Endset
+  pure (stmts.SetBlock to body)
+
+unfoldable pub set_tag : Inside → Inner → Rule Stmt
+set_tag i t = do
+  to ← target i
+  branch (first (is sign.Assign)) (λ _. set_value i to) (set_block t to)
+
 unfoldable pub assignment : Inside → Rule Assignment
 assignment i = do
-  to ← i.target sign.Assign
+  to ← i.target
+  equals ← token (is sign.Assign)
   x ← i.expr
   pure (assignments.Assignment to x)
 
@@ -137,6 +153,14 @@ with_tag i t = do
   body ← t.body
   last ← lone tags.Endwith
   pure (stmts.With given body)
+
+unfoldable pub autoescape_tag : Inside → Inner → Rule Stmt
+autoescape_tag i t = do
+  x ← i.expr
+  close ← block_end
+  body ← t.body
+  last ← lone tags.Endautoescape
+  pure (stmts.AutoEscape x body)
 
 abbrev pub is_call : Expr → Bool
 is_call (Call' f _ given) = true
@@ -155,9 +179,10 @@ statement i t (starts.Raw text) = pure (stmts.EmitRaw text)
 statement i t starts.Emit = emission i
 statement i t starts.If = if_tag i t
 statement i t starts.Block = block_tag t
-statement i t starts.Set = set_tag i
+statement i t starts.Set = set_tag i t
 statement i t starts.With = with_tag i t
 statement i t starts.Do = do_tag i
+statement i t starts.AutoEscape = autoescape_tag i t
 
 -- statements behind these ones, as long as one begins
 abbrev pub more_statements : Inside → Inner → List Stmt → Rule (List Stmt)

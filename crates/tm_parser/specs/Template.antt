@@ -4,7 +4,7 @@ use Rattle.std.specs.Str.{bytes_eq}
 use Rattle.std.specs.Borrow.{Bor}
 use Rattle.std.specs.List.{IsDistinct}
 use Rattle.tm_syntax.specs.declared.token.Token.{Token}
-use Rattle.tm_syntax.specs.declared.tree.Stmt.{Stmt, EmitRaw, EmitExpr, If', Block', Set, With', Do, Row_of-Stmt, end_of-Stmt as no_statement, more_of-Stmt as statement, Held-Stmt-If-2 as Otherwise, None' as no_else, Some' as otherwise}
+use Rattle.tm_syntax.specs.declared.tree.Stmt.{Stmt, EmitRaw, EmitExpr, If', Block', Set, SetBlock', With', Do, AutoEscape', Row_of-Stmt, end_of-Stmt as no_statement, more_of-Stmt as statement, Held-Stmt-If-2 as Otherwise, None' as no_else, Some' as otherwise}
 use Rattle.tm_syntax.specs.declared.tree.Stmt.TheBlock.{hidden-the_row-Stmt-0 as row}
 use Rattle.tm_syntax.specs.declared.tree.Tree.{Tree}
 use Rattle.tm_parser.specs.Grammar.{inside}
@@ -18,8 +18,10 @@ abbrev mutual
   names_of (If' condition _ body other) = names_in body ++ names_in_otherwise other
   names_of (Block' name _ body) = name ∷ names_in body
   names_of (Set to x) = []
+  names_of (SetBlock' to _ body) = names_in body
   names_of (With' given _ body) = names_in body
   names_of (Do x) = []
+  names_of (AutoEscape' x _ body) = names_in body
 
   pub names_in : {n : _} → Row_of-Stmt n → List (List ℕ)
   names_in no_statement = []

@@ -1,7 +1,7 @@
 //! Tokens one after another.
-ghost use Rattle.std.specs.Prelude.{◌≡◌, ◌∷◌, [], ◌↔◌, IsTrue, MatchResult};
+ghost use Rattle.std.specs.Prelude.{◌≡◌, ◌∷◌, [], ◌↔◌, IsTrue, MatchResult, is_some};
 ghost use Rattle.tm_parser.specs.Gives.{Gives, Takes, TakesSign};
-ghost use Rattle.tm_parser.specs.Grammar.{is, a_name, a_constant, comma, ends_part, link, prefix};
+ghost use Rattle.tm_parser.specs.Grammar.{is, a_name, a_constant, comma, ends_part, ends_target, is_comma, link, prefix, target_comma};
 ghost use Rattle.tm_parser.specs.Looks.{starts};
 ghost use Rattle.tm_parser.specs.Statements.{a_start, is_tag, lone, same_name};
 ghost use Rattle.tm_rules.specs.Combinators.{token};
@@ -64,6 +64,16 @@ impl<'t> Cursor<'t> {
         }
     }
 
+    /// Whether a comma stands here.
+    pub fn is_at_comma(&self) -> bool
+        ensures { result ≡ starts is_comma self.now }
+    {
+        match self.rest {
+            [Token::Sign(Sign::Comma), ..] => true,
+            _ => false,
+        }
+    }
+
     /// Takes this sign.
     pub fn take(&mut self, sign: Sign) -> bool
         ensures { TakesSign result self.old self.new (first_sees (is sign) self.old) }
@@ -97,6 +107,35 @@ impl<'t> Cursor<'t> {
         match self.rest {
             [Token::Sign(Sign::Comma), rest @ ..] => {
                 if Cursor::new(rest).take(close) {
+                    return false;
+                }
+                self.rest = rest;
+                true
+            }
+            _ => false,
+        }
+    }
+
+    /// Whether what stands behind a target stands here.
+    fn ends_target(&self) -> bool
+        ensures { result ≡ is_some (first_sees ends_target self.now) }
+    {
+        match self.rest {
+            [
+                Token::Sign(Sign::Assign | Sign::CloseRound | Sign::BlockEnd),
+                ..
+            ] => true,
+            _ => false,
+        }
+    }
+
+    /// Takes a comma, unless what ends a target stands behind it.
+    pub fn take_target_comma(&mut self) -> bool
+        ensures { TakesSign result self.old self.new (target_comma.sees self.old) }
+    {
+        match self.rest {
+            [Token::Sign(Sign::Comma), rest @ ..] => {
+                if Cursor::new(rest).ends_target() {
                     return false;
                 }
                 self.rest = rest;

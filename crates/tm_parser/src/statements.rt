@@ -3,14 +3,14 @@ ghost use Rattle.std.specs.Prelude.{◌≡◌};
 ghost use Rattle.tm_parser.specs.Gives.{Gives};
 ghost use Rattle.tm_parser.specs.Grammar.{inside};
 ghost use Rattle.tm_parser.specs.Statements as spec;
-ghost use Rattle.tm_parser.specs.Statements.{block_tag, body, do_tag, elif_tag, else_tag, emission, if_tag, inner, rest, set_tag, statement, with_tag};
+ghost use Rattle.tm_parser.specs.Statements.{autoescape_tag, block_tag, body, do_tag, elif_tag, else_tag, emission, if_tag, inner, rest, set_block, set_tag, set_value, statement, with_tag};
 ghost use Rattle.tm_rules.specs.Combinators.{one_more};
 
 use crate::cursor::{Cursor, refusal};
 use crate::tables::Start;
 use sqlite_items::Items;
 use std::alloc::Global;
-use tm_syntax::{Expr, Sign, Stmt, Tag};
+use tm_syntax::{Expr, Sign, Stmt, Tag, Target};
 use tm_values::Error;
 
 // Each method reads one rule, with `depth` nestings to go. SyntaxError where no tokens spell it.
@@ -82,6 +82,7 @@ impl Cursor<'_> {
             Start::Set => self.set_tag(alloc, depth),
             Start::With => self.with_tag(alloc, depth),
             Start::Do => self.do_tag(alloc, depth),
+            Start::AutoEscape => self.autoescape_tag(alloc, depth),
         }
     }
 
@@ -166,14 +167,38 @@ impl Cursor<'_> {
         Ok(Stmt::Block(name, body))
     }
 
-    /// The target of a `set`, its value, and its end.
+    /// The target of a `set`, and its value or its body.
+    #[cycle(statements)]
     #[tactic(auto, unfolding(crate::specs::Statements::set_tag))]
     fn set_tag(&mut self, alloc: Global, depth: u8) -> Result<Stmt, Error>
-        ensures { Gives result self.new ((set_tag (inside depth)).reads self.old) }
+        ensures { Gives result self.new ((set_tag (inside depth) (inner depth)).reads self.old) }
     {
-        let target = self.target(alloc, depth, Sign::Assign)?;
+        let target = self.target(alloc, depth)?;
+        if self.take(Sign::Assign) {
+            return self.set_value(alloc, depth, target);
+        }
+        self.set_block(alloc, depth, target)
+    }
+
+    /// The value of a `set` behind its `=`, and its end.
+    #[tactic(auto, unfolding(crate::specs::Statements::set_value))]
+    fn set_value(&mut self, alloc: Global, depth: u8, target: Target) -> Result<Stmt, Error>
+        ensures { Gives result self.new ((set_value (inside depth) target).reads self.old) }
+    {
         let value = self.bare(alloc, depth)?;
         Ok(Stmt::Set(target, value))
+    }
+
+    /// The body of a `set` without `=`, up to its end tag.
+    #[cycle(statements)]
+    #[tactic(auto, unfolding(crate::specs::Statements::set_block))]
+    fn set_block(&mut self, alloc: Global, depth: u8, target: Target) -> Result<Stmt, Error>
+        ensures { Gives result self.new ((set_block (inner depth) target).reads self.old) }
+    {
+        self.expect(Sign::BlockEnd)?;
+        let body = self.inner_body(alloc, depth)?;
+        self.expect_lone(Tag::Endset)?;
+        Ok(Stmt::SetBlock(target, body))
     }
 
     /// The assignments of a `with` and its body, up to its end tag.
@@ -186,6 +211,20 @@ impl Cursor<'_> {
         let body = self.inner_body(alloc, depth)?;
         self.expect_lone(Tag::Endwith)?;
         Ok(Stmt::With(given, body))
+    }
+
+    /// What an `autoescape` escapes as, and its body, up to its end tag.
+    #[cycle(statements)]
+    #[tactic(auto, unfolding(crate::specs::Statements::autoescape_tag))]
+    fn autoescape_tag(&mut self, alloc: Global, depth: u8) -> Result<Stmt, Error>
+        ensures { Gives result self.new
+            ((autoescape_tag (inside depth) (inner depth)).reads self.old) }
+    {
+        let value = self.inner_expr(alloc, depth)?;
+        self.expect(Sign::BlockEnd)?;
+        let body = self.inner_body(alloc, depth)?;
+        self.expect_lone(Tag::Endautoescape)?;
+        Ok(Stmt::AutoEscape(value, body))
     }
 
     /// The call of a `do`, and its end.

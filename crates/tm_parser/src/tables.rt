@@ -40,6 +40,8 @@ pub enum Start {
     With,
     /// The start of a `do`.
     Do,
+    /// The start of an `autoescape`.
+    AutoEscape,
 }
 
 /// How a sign goes on with a value, and at which level.
@@ -113,6 +115,7 @@ pub fn start_of(tag: Tag) -> Option<Start>
         Tag::Set => Start::Set,
         Tag::With => Start::With,
         Tag::Do => Start::Do,
+        Tag::Autoescape => Start::AutoEscape,
         _ => return None,
     })
 }

@@ -3,7 +3,7 @@ ghost use Rattle.std.specs.Prelude.{◌≡◌, [], MatchResult, None, Some};
 ghost use Rattle.std.specs.Option.{option_copied};
 ghost use Rattle.tm_parser.specs.Gives.{Gives, Refused};
 ghost use Rattle.tm_parser.specs.Grammar as grammar;
-ghost use Rattle.tm_parser.specs.Grammar.{inside, expr, items, member, more_items, several, single, target};
+ghost use Rattle.tm_parser.specs.Grammar.{inside, expr, items, member, more_items, more_targets, several, single, target};
 ghost use Rattle.tm_parser.specs.Statements.{assignment, bare, bare_tuple};
 ghost use Rattle.tm_rules.specs.Combinators.{one_more};
 ghost use Rattle.tm_syntax.specs.declared.token.Sign.TheVariants as sign;
@@ -17,88 +17,57 @@ use tm_values::Error;
 
 // Each method reads one rule, with `depth` nestings to go. SyntaxError where no tokens spell it.
 impl Cursor<'_> {
-    /// A target inside one nesting more, up to a sign and with it.
+    /// A target inside one nesting more.
     #[cycle(targets)]
     #[tactic(auto, using(crate::proofs::Nesting::targets))]
-    fn inner_target(&mut self, alloc: Global, depth: u8, close: Sign) -> Result<Target, Error>
-        ensures { Gives result self.new (((inside depth).target close).reads self.old) }
+    fn inner_target(&mut self, alloc: Global, depth: u8) -> Result<Target, Error>
+        ensures { Gives result self.new ((inside depth).target.reads self.old) }
     {
         if depth == 0 {
             return Err(refusal());
         }
-        self.target(alloc, depth - 1, close)
+        self.target(alloc, depth - 1)
     }
 
-    /// One target or several, up to a sign and with it.
+    /// One target, or several between commas.
     #[cycle(targets)]
     #[tactic(auto, unfolding(crate::specs::Grammar::target))]
-    pub fn target(&mut self, alloc: Global, depth: u8, close: Sign) -> Result<Target, Error>
-        ensures { Gives result self.new ((target (inside depth) close).reads self.old) }
+    pub fn target(&mut self, alloc: Global, depth: u8) -> Result<Target, Error>
+        ensures { Gives result self.new ((target (inside depth)).reads self.old) }
     {
         let first = self.single(alloc, depth)?;
-        if self.take(close) {
+        if !self.is_at_comma() {
             return Ok(first);
         }
-        self.several(alloc, depth, close, first)
+        self.several(alloc, depth, first)
     }
 
-    /// Several targets behind the first one, up to a sign and with it.
+    /// Several targets behind the first one, with a comma behind the last one or none.
     #[cycle(targets)]
     #[tactic(auto, unfolding(crate::specs::Grammar::several))]
-    fn several(
-        &mut self,
-        alloc: Global,
-        depth: u8,
-        close: Sign,
-        first: Target,
-    ) -> Result<Target, Error>
-        ensures { Gives result self.new ((several (inside depth) close first).reads self.old) }
+    fn several(&mut self, alloc: Global, depth: u8, first: Target) -> Result<Target, Error>
+        ensures { Gives result self.new ((several (inside depth) first).reads self.old) }
     {
-        self.expect(Sign::Comma)?;
         let mut targets = Items::new(alloc);
         targets.push(first)?;
-        let targets = self.targets(alloc, depth, close, targets)?;
-        Ok(Target::Unpack(targets))
-    }
-
-    /// More targets behind others, up to a sign and with it.
-    #[cycle(targets)]
-    #[tactic(auto, unfolding(crate::specs::Grammar::items))]
-    fn targets(
-        &mut self,
-        alloc: Global,
-        depth: u8,
-        close: Sign,
-        first: Items<Target>,
-    ) -> Result<Items<Target>, Error>
-        ensures { Gives result self.new
-            ((items close (single (inside depth)) first).reads self.old) }
-    {
-        if self.take(close) {
-            return Ok(first);
-        }
-        let targets = self.one_target(alloc, depth, first)?;
-        let targets = self.more_targets(alloc, depth, close, targets)?;
+        let targets = self.more_targets(alloc, depth, targets)?;
         self.take(Sign::Comma);
-        self.expect(close)?;
-        Ok(targets)
+        Ok(Target::Unpack(targets))
     }
 
     /// More targets, each behind a comma.
     #[cycle(targets)]
-    #[tactic(auto, using(crate::proofs::Loops::commas))]
+    #[tactic(auto, using(crate::proofs::Loops::target_commas))]
     fn more_targets(
         &mut self,
         alloc: Global,
         depth: u8,
-        close: Sign,
         first: Items<Target>,
     ) -> Result<Items<Target>, Error>
-        ensures { Gives result self.new
-            ((more_items close (single (inside depth)) first).reads self.old) }
+        ensures { Gives result self.new ((more_targets (inside depth) first).reads self.old) }
     {
         let mut targets = first;
-        while self.take_comma(close) {
+        while self.take_target_comma() {
             targets = self.one_target(alloc, depth, targets)?;
         }
         Ok(targets)
@@ -126,10 +95,12 @@ impl Cursor<'_> {
     fn single(&mut self, alloc: Global, depth: u8) -> Result<Target, Error>
         ensures { Gives result self.new ((single (inside depth)).reads self.old) }
     {
-        if self.take(Sign::OpenRound) {
-            return self.inner_target(alloc, depth, Sign::CloseRound);
+        if !self.take(Sign::OpenRound) {
+            return self.member(alloc, depth);
         }
-        self.member(alloc, depth)
+        let target = self.inner_target(alloc, depth)?;
+        self.expect(Sign::CloseRound)?;
+        Ok(target)
     }
 
     /// A name or an attribute.
@@ -272,7 +243,8 @@ impl Cursor<'_> {
             ((one_more (assignment (inside depth)) assignments).reads self.old) }
     {
         let mut assignments = assignments;
-        let target = self.inner_target(alloc, depth, Sign::Assign)?;
+        let target = self.inner_target(alloc, depth)?;
+        self.expect(Sign::Assign)?;
         let value = self.inner_expr(alloc, depth)?;
         assignments.push(Assignment::Assignment(target, value))?;
         Ok(assignments)

@@ -46,7 +46,8 @@ abbrev pub tag_words : List (List ℕ × Tag)
 tag_words =
     (codes "if", tag.If) ∷ (codes "elif", tag.Elif) ∷ (codes "else", tag.Else) ∷ (codes "endif", tag.Endif)
     ∷ (codes "block", tag.Block) ∷ (codes "endblock", tag.Endblock) ∷ (codes "set", tag.Set)
-    ∷ (codes "with", tag.With) ∷ (codes "endwith", tag.Endwith) ∷ (codes "do", tag.Do) ∷ []
+    ∷ (codes "endset", tag.Endset) ∷ (codes "with", tag.With) ∷ (codes "endwith", tag.Endwith) ∷ (codes "do", tag.Do)
+    ∷ (codes "autoescape", tag.Autoescape) ∷ (codes "endautoescape", tag.Endautoescape) ∷ []
 
 abbrev pub tag_of : List ℕ → Option Tag
 tag_of name = look_up tag_words name

@@ -88,9 +88,12 @@ pub(crate) fn tag_of(name: &str) -> Option<Tag>
         "block" => Some(Tag::Block),
         "endblock" => Some(Tag::Endblock),
         "set" => Some(Tag::Set),
+        "endset" => Some(Tag::Endset),
         "with" => Some(Tag::With),
         "endwith" => Some(Tag::Endwith),
         "do" => Some(Tag::Do),
+        "autoescape" => Some(Tag::Autoescape),
+        "endautoescape" => Some(Tag::Endautoescape),
         _ => None,
     }
 }

@@ -3,7 +3,7 @@ use Rattle.tm_syntax.specs.Blocks.{blocks_in, compiled_blocks}
 use Rattle.tm_syntax.specs.Code.{statements_code}
 use Rattle.tm_syntax.specs.Named.{put_each}
 use Rattle.tm_syntax.specs.declared.tree.Stmt.TheBlock.{hidden-the_row-Stmt-0 as statements}
-use Rattle.tm_syntax.specs.declared.tree.Stmt.TheVariants.{If}
+use Rattle.tm_syntax.specs.declared.tree.Stmt.TheVariants.{AutoEscape, If, SetBlock}
 use Rattle.tm_syntax.proofs.tree.Stmt.TheLaws.{the_size}
 use Rattle.tm_generator.proofs.generator.+statements.Given as goal
 
@@ -27,3 +27,9 @@ decreases-push_block l = 3 * goal.size-push_block l + 3
 
 abbrev pub decreases-push_with : goal.decreases-push_with
 decreases-push_with l = 3 * goal.size-push_with l + 3
+
+abbrev pub decreases-push_set_block : goal.decreases-push_set_block
+decreases-push_set_block l = 3 * the_size (SetBlock l.target.now l.body.now)
+
+abbrev pub decreases-push_autoescape : goal.decreases-push_autoescape
+decreases-push_autoescape l = 3 * the_size (AutoEscape l.value.now l.body.now)

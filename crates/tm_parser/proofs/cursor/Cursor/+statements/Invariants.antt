@@ -25,17 +25,26 @@ decreases-block_tag l = 16 * l.depth + 1
 abbrev pub decreases-with_tag : goal.decreases-with_tag
 decreases-with_tag l = 16 * l.depth + 1
 
+abbrev pub decreases-set_block : goal.decreases-set_block
+decreases-set_block l = 16 * l.depth + 1
+
+abbrev pub decreases-autoescape_tag : goal.decreases-autoescape_tag
+decreases-autoescape_tag l = 16 * l.depth + 1
+
+abbrev pub decreases-set_tag : goal.decreases-set_tag
+decreases-set_tag l = 16 * l.depth + 2
+
 abbrev pub decreases-rest : goal.decreases-rest
 decreases-rest l = 16 * l.depth + 2
 
 abbrev pub decreases-statement : goal.decreases-statement
-decreases-statement l = 16 * l.depth + 2
+decreases-statement l = 16 * l.depth + 3
 
 abbrev pub decreases-one_statement : goal.decreases-one_statement
-decreases-one_statement l = 16 * l.depth + 3
+decreases-one_statement l = 16 * l.depth + 4
 
 abbrev pub decreases-body : goal.decreases-body
-decreases-body l = 16 * l.depth + 4
+decreases-body l = 16 * l.depth + 5
 
 abbrev pub invariant-body-loop-body : goal.invariant-body-loop-body
 invariant-body-loop-body l = (more_statements (inside l.depth) (inner l.depth) l.body).reads l.self ≡ (body (inside l.depth) (inner l.depth)).reads l.fn.self

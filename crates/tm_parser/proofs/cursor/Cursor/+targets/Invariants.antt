@@ -1,5 +1,5 @@
 use Rattle.std.proofs.Common.{◌≡◌, ◌+◌, ◌*◌, length}
-use Rattle.tm_parser.specs.Grammar.{inside, more_items, single}
+use Rattle.tm_parser.specs.Grammar.{inside, more_targets}
 use Rattle.tm_parser.proofs.cursor.Cursor.+targets.Given as goal
 
 -- each nesting has room for one call of each method, the higher above the lower
@@ -15,18 +15,15 @@ decreases-one_target l = 8 * l.depth + 2
 abbrev pub decreases-more_targets : goal.decreases-more_targets
 decreases-more_targets l = 8 * l.depth + 3
 
-abbrev pub decreases-targets : goal.decreases-targets
-decreases-targets l = 8 * l.depth + 4
-
 abbrev pub decreases-several : goal.decreases-several
-decreases-several l = 8 * l.depth + 5
+decreases-several l = 8 * l.depth + 4
 
 abbrev pub decreases-target : goal.decreases-target
-decreases-target l = 8 * l.depth + 6
+decreases-target l = 8 * l.depth + 5
 
 abbrev pub invariant-more_targets-loop-alloc : goal.invariant-more_targets-loop-alloc
 invariant-more_targets-loop-alloc l =
-    (more_items l.close (single (inside l.depth)) l.targets).reads l.self ≡ (more_items l.close (single (inside l.depth)) l.fn.first).reads l.fn.self
+    (more_targets (inside l.depth) l.targets).reads l.self ≡ (more_targets (inside l.depth) l.fn.first).reads l.fn.self
 
 abbrev pub decreases-more_targets-loop-alloc : goal.decreases-more_targets-loop-alloc
 decreases-more_targets-loop-alloc l = length l.self
