@@ -103,8 +103,8 @@ fn comparison(operator: BinaryOperator) -> &'static str {
 // The name, the place, the number or the operator of an instruction.
 fn detail(instruction: &Instruction) -> &str {
     match instruction {
-        Instruction::EmitRaw(name)
-        | Instruction::Lookup(name)
+        Instruction::EmitRaw(text) => text.as_str(),
+        Instruction::Lookup(name)
         | Instruction::GetAttr(name)
         | Instruction::CallFunction(name, _)
         | Instruction::CallBlock(name)

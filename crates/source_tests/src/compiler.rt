@@ -2,6 +2,7 @@
 use crate::code;
 use crate::parser::{Pieces, joined};
 use std::alloc::Global;
+use std::rc::RcStr;
 use std::test::Fail;
 use tm_compiler::{SyntaxConfig, parse};
 use tm_values::{Error, ErrorKind};
@@ -62,7 +63,8 @@ static CODES: [(&str, &str); 19] = [
 ];
 
 fn code_of(alloc: Global, source: &str) -> Result<String, Error> {
-    let tree = parse(alloc, source, &SyntaxConfig::default())?;
+    let source = RcStr::from_str(alloc, source)?;
+    let tree = parse(alloc, &source, &SyntaxConfig::default())?;
     code::code_of(alloc, &tree)
 }
 
@@ -117,7 +119,8 @@ static NESTINGS: [Pieces; 2] = [
 
 // Whether the source spells a template.
 fn spells(alloc: Global, source: &str) -> Result<bool, Error> {
-    match parse(alloc, source, &SyntaxConfig::default()) {
+    let source = RcStr::from_str(alloc, source)?;
+    match parse(alloc, &source, &SyntaxConfig::default()) {
         Ok(_) => Ok(true),
         Err(error) => {
             if error.kind() == ErrorKind::SyntaxError {

@@ -1,6 +1,8 @@
 use crate::tokens::spelled;
 use std::alloc::Global;
+use std::rc::RcStr;
 use tm_scanner::{SyntaxConfig, scan};
+use tm_syntax::Token;
 use tm_values::{Error, ErrorKind};
 
 fn is_spelled(alloc: Global, syntax: &SyntaxConfig, source: &str, wanted: &str) -> bool {
@@ -12,10 +14,18 @@ fn is_spelled(alloc: Global, syntax: &SyntaxConfig, source: &str, wanted: &str) 
 
 /// Whether a source spells no tokens.
 fn is_refused(alloc: Global, source: &str) -> bool {
-    match &scan(alloc, &SyntaxConfig::default(), source) {
+    match &spelled(alloc, &SyntaxConfig::default(), source) {
         Ok(_) => false,
         Err(error) => error.kind() == ErrorKind::SyntaxError,
     }
+}
+
+/// Whether each raw text of a source owns a share of it, and no copy.
+fn shares_raw_texts(alloc: Global, syntax: &SyntaxConfig, source: &str) -> Result<bool, Error> {
+    let source = RcStr::from_str(alloc, source)?;
+    let tokens = scan(alloc, syntax, &source)?;
+    let raw_texts = tokens.iter().filter(|token| matches!(token, Token::Raw(_)));
+    Ok(RcStr::strong_count(&source) - 1 == raw_texts.count())
 }
 
 /// Starts and ends of block tags, emissions and comments.
@@ -183,14 +193,19 @@ static MARKED: [(&str, &str); 11] = [
 ];
 
 #[test]
-fn marks_trim(rt: HostRuntime) {
+fn marks_trim(rt: HostRuntime) -> Result<(), Error> {
     let syntax = SyntaxConfig::default();
     for (source, tokens) in &MARKED {
         assert!(rt;
             is_spelled(rt.alloc(), &syntax, source, tokens),
             "at {source}"
         );
+        assert!(rt;
+            shares_raw_texts(rt.alloc(), &syntax, source)?,
+            "at {source}"
+        );
     }
+    Ok(())
 }
 
 /// A source, the flags `trim_blocks` and `lstrip_blocks`, and the tokens.
@@ -260,6 +275,10 @@ fn flags_trim(rt: HostRuntime) -> Result<(), Error> {
             .build()?;
         assert!(rt;
             is_spelled(rt.alloc(), &syntax, source, tokens),
+            "at {source}"
+        );
+        assert!(rt;
+            shares_raw_texts(rt.alloc(), &syntax, source)?,
             "at {source}"
         );
     }

@@ -1,5 +1,6 @@
 //! Tokens as the tests print them.
 use std::alloc::{AllocError, Global};
+use std::rc::RcStr;
 use tm_scanner::{SyntaxConfig, scan};
 use tm_syntax::{Sign, Tag, Token};
 use tm_values::{Error, Value};
@@ -101,7 +102,8 @@ fn write_token(alloc: Global, out: &mut String, token: &Token) -> Result<(), All
 
 /// The tokens of a source, each behind a blank.
 pub(crate) fn spelled(alloc: Global, syntax: &SyntaxConfig, source: &str) -> Result<String, Error> {
-    let tokens = scan(alloc, syntax, source)?;
+    let source = RcStr::from_str(alloc, source)?;
+    let tokens = scan(alloc, syntax, &source)?;
     let mut out = String::new(alloc);
     for token in &tokens {
         out.push_str(" ")?;

@@ -81,7 +81,10 @@ impl<'source, O: Drop> EnvironmentOf<'source, O> {
         ensures refused { IfErr result (IsRefused self.old.syntax (string_bytes source)) }
         ensures err { OnErr result (self.new ≡ self.old) }
     {
-        self.put_template(name, Source::Owned(source))
+        match Source::owned(source) {
+            Ok(source) => self.put_template(name, source),
+            Err(error) => Err(error),
+        }
     }
 
     /// Compiles a source and puts it at a name.

@@ -10,8 +10,9 @@ pub use environment::{Environment, EnvironmentOf};
 pub use state::{Captured, CapturedOf, State, StateOf};
 pub use template::{Template, TemplateOf};
 pub use tm_compiler::{
-    Argument, BinaryOperator, Comparison, Condition, Expr, Instruction, Name, NameMap, Pair, Step,
-    Stmt, Streams, SyntaxConfig, SyntaxConfigBuilder, Tree, UnaryOperator, generate, parse,
+    Argument, BinaryOperator, Comparison, Condition, Expr, Instruction, Name, NameMap, Pair,
+    RawText, Step, Stmt, Streams, SyntaxConfig, SyntaxConfigBuilder, Tree, UnaryOperator, generate,
+    parse,
 };
 pub use tm_operations as operations;
 pub use tm_output::{Target, TargetFailed};

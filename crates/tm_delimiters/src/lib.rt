@@ -12,5 +12,5 @@ mod whitespace;
 pub use builder::SyntaxConfigBuilder;
 pub use starts::{next_start, next_tag};
 pub use syntax::{Kind, SyntaxConfig};
-pub use trimming::{Side, trimmed};
+pub use trimming::{Part, Side, trimmed};
 pub use whitespace::{Whitespace, comment_end, ending, whitespace_at};

@@ -13,6 +13,13 @@ pub struct Side {
     pub whitespace: Whitespace,
 }
 
+/// A part of a source: where it begins there, and its text.
+#[derive(Clone, Copy)]
+pub struct Part<'s> {
+    pub start: usize,
+    pub text: &'s str,
+}
+
 /// Whether the flags concern tags of a kind.
 fn is_block(kind: Kind) -> bool
     ensures { result ≡ spec.is_block kind }
@@ -111,17 +118,19 @@ fn by_after<'t>(
 }
 
 /// What is left of a raw text between two tags, of which the source's start and end have none.
-pub fn trimmed<'t>(
+pub fn trimmed<'s>(
     syntax: &SyntaxConfig,
     before: Option<Side>,
     after: Option<Side>,
-    text: &'t str,
-) -> &'t str
-    ensures { result.now ≡ spec.trimmed syntax.now before after text.now }
+    part: Part<'s>,
+) -> Part<'s>
+    ensures { result.text.now ≡ spec.trimmed syntax.now before after part.entry.text.now }
 {
-    by_before(
-        syntax,
-        before,
-        by_after(syntax, before.is_none(), after, text),
-    )
+    let kept = by_after(syntax, before.is_none(), after, part.text);
+    let text = by_before(syntax, before, kept);
+    let skipped = kept.len().saturating_sub(text.len());
+    Part {
+        start: part.start.saturating_add(skipped),
+        text,
+    }
 }

@@ -3,7 +3,7 @@ ghost use Rattle.std.specs.Prelude.{◌≡◌};
 ghost use Rattle.tm_parser.specs.Grammar as grammar;
 ghost use Rattle.tm_parser.specs.Statements as statements;
 
-use tm_syntax::{BinaryOperator, Name, Sign, Tag, UnaryOperator};
+use tm_syntax::{BinaryOperator, RawText, Sign, Tag, UnaryOperator};
 use tm_values::Value;
 
 /// How an expression goes on with a value.
@@ -27,7 +27,7 @@ pub enum Link {
 #[derive(Drop)]
 pub enum Start {
     /// A raw text, which is all of it.
-    Raw(Name),
+    Raw(RawText),
     /// The start of an emission.
     Emit,
     /// The start of an `if`.

@@ -6,6 +6,7 @@ mod names;
 mod numbers;
 mod pieces;
 mod raw;
+mod shared_source;
 mod source;
 mod texts;
 mod tokens;

@@ -10,22 +10,29 @@ ghost use Rattle.tm_values.specs.declared.error.ErrorKind.TheVariants.{OutOfMemo
 use crate::name_pool::NamePool;
 use crate::names::{name_at, tag_of};
 use crate::raw::{past_word, raw_block};
+use crate::shared_source::SharedSource;
 use crate::tokens::content;
 use std::alloc::Global;
 use tm_delimiters::front::past_blanks;
-use tm_delimiters::{Kind, SyntaxConfig, Whitespace, comment_end};
-use tm_syntax::{Name, Sign, Tag, Token};
+use tm_delimiters::{Kind, Part, SyntaxConfig, Whitespace, comment_end};
+use tm_syntax::{Sign, Tag, Token};
 use tm_values::{Error, ErrorKind};
 
-/// Adds the token of a raw text, where it isn't empty. OutOfMemory.
-pub(crate) fn raw(alloc: Global, text: &str, tokens: &mut Vec<Token>) -> Result<(), Error>
-    ensures added { IfOk result (λ _. tokens.new.items ≡ tokens.old.items ++ spec.raw text.now) }
+/// Adds the token of a raw text of the source, where it isn't empty. OutOfMemory.
+pub(crate) fn raw(
+    alloc: Global,
+    source: &SharedSource<'_>,
+    part: Part<'_>,
+    tokens: &mut Vec<Token>,
+) -> Result<(), Error>
+    ensures added { IfOk result
+        (λ _. tokens.new.items ≡ tokens.old.items ++ spec.raw part.entry.text.now) }
     ensures refused { IfErr result (λ e. e ≡ OutOfMemory ∷ []) }
 {
-    if text.is_empty() {
+    if part.text.is_empty() {
         return Ok(());
     }
-    tokens.push(Token::Raw(Name::new(alloc, text)?))?;
+    tokens.push(Token::Raw(source.raw_text(alloc, part)?))?;
     Ok(())
 }
 
@@ -90,6 +97,7 @@ fn block_tag<'s>(
 fn raw_text<'s>(
     alloc: Global,
     syntax: &SyntaxConfig,
+    source: &SharedSource<'_>,
     text: &'s str,
     tokens: &mut Vec<Token>,
 ) -> Result<(Whitespace, &'s str), Error>
@@ -99,10 +107,10 @@ fn raw_text<'s>(
     ensures no_longer { IsNoLonger result text.now }
     ensures refused { Refuses result (spec.IsRawBlock syntax.now text.now) }
 {
-    let Some((inside, whitespace, rest)) = raw_block(syntax, text) else {
+    let Some((inside, whitespace, rest)) = raw_block(syntax, source, text) else {
         return Err(Error::from(ErrorKind::SyntaxError));
     };
-    raw(alloc, inside, tokens)?;
+    raw(alloc, source, inside, tokens)?;
     Ok((whitespace, rest))
 }
 
@@ -113,6 +121,7 @@ fn block<'s>(
     alloc: Global,
     names: &mut NamePool,
     syntax: &SyntaxConfig,
+    source: &SharedSource<'_>,
     text: &'s str,
     tokens: &mut Vec<Token>,
 ) -> Result<(Whitespace, &'s str), Error>
@@ -123,7 +132,7 @@ fn block<'s>(
     ensures refused { Refuses result (spec.IsBlock syntax.now text.now) }
 {
     match past_word("raw", text) {
-        Some(rest) => raw_text(alloc, syntax, rest, tokens),
+        Some(rest) => raw_text(alloc, syntax, source, rest, tokens),
         None => block_tag(alloc, names, syntax.end(Kind::Block), text, tokens),
     }
 }
@@ -135,6 +144,7 @@ pub(crate) fn tag<'s>(
     alloc: Global,
     names: &mut NamePool,
     syntax: &SyntaxConfig,
+    source: &SharedSource<'_>,
     kind: Kind,
     text: &'s str,
     tokens: &mut Vec<Token>,
@@ -146,7 +156,7 @@ pub(crate) fn tag<'s>(
     ensures refused { Refuses result (spec.IsTag syntax.now kind text.now) }
 {
     match kind {
-        Kind::Block => block(alloc, names, syntax, text, tokens),
+        Kind::Block => block(alloc, names, syntax, source, text, tokens),
         Kind::Variable => emission(alloc, names, syntax.end(Kind::Variable), text, tokens),
         Kind::Comment => match comment_end(syntax.end(Kind::Comment), text) {
             Some(end) => Ok(end),

@@ -3,13 +3,14 @@ ghost use Rattle.std.specs.Prelude.{◌≡◌, ◌<◌, ◌≤◌, length, IfSom
 ghost use Rattle.tm_delimiters.specs.Front.{first_of};
 ghost use Rattle.tm_scanner.specs.Pieces as spec;
 ghost use Rattle.tm_delimiters.specs.Syntax.{HasAll};
-ghost use Rattle.tm_delimiters.specs.Views.{parts_of, place_of};
-ghost use Rattle.tm_scanner.specs.Views.{closing_of, closed_of};
+ghost use Rattle.tm_delimiters.specs.Views.{place_of};
+ghost use Rattle.tm_scanner.specs.Views.{closing_of, closed_of, block_of};
 
 use crate::names::leaves_name;
+use crate::shared_source::SharedSource;
 use tm_delimiters::front::{past_blanks, strip};
 use tm_delimiters::{
-    Kind, Side, SyntaxConfig, Whitespace, ending, next_start, trimmed, whitespace_at,
+    Kind, Part, Side, SyntaxConfig, Whitespace, ending, next_start, trimmed, whitespace_at,
 };
 
 /// What is left behind blanks and a word with which no longer name begins.
@@ -59,10 +60,11 @@ fn to_endraw<'s>(
 /// tag ends.
 pub(crate) fn raw_block<'s>(
     syntax: &SyntaxConfig,
+    source: &SharedSource<'_>,
     text: &'s str,
-) -> Option<(&'s str, Whitespace, &'s str)>
+) -> Option<(Part<'s>, Whitespace, &'s str)>
     requires usable { HasAll syntax.now }
-    ensures value { parts_of result ≡ spec.raw_block syntax.now text.now }
+    ensures value { block_of result ≡ spec.raw_block syntax.now text.now }
     ensures no_longer { IfSome result (λ x. length x.2.now ≤ length text.now) }
 {
     let kind = Kind::Block;
@@ -76,5 +78,6 @@ pub(crate) fn raw_block<'s>(
         kind,
         whitespace: closed,
     });
-    Some((trimmed(syntax, before, after, inside), end, rest))
+    let part = source.part(body, inside);
+    Some((trimmed(syntax, before, after, part), end, rest))
 }

@@ -1,5 +1,6 @@
 //! A source as its tokens.
 ghost use Rattle.std.specs.Prelude.{◌≡◌, ℕ, List, IfOk, IfErr};
+ghost use Rattle.std.specs.Rc.{rc_str_bytes};
 ghost use Rattle.tm_scanner.specs.Refused.{Refused};
 ghost use Rattle.tm_scanner.specs.Spells as spec;
 ghost use Rattle.tm_delimiters.specs.Syntax.{Syntax};
@@ -7,7 +8,9 @@ ghost use Rattle.tm_syntax.specs.declared.token.Token as declared;
 
 use crate::name_pool::NamePool;
 use crate::pieces::{raw, tag};
+use crate::shared_source::SharedSource;
 use std::alloc::Global;
+use std::rc::RcStr;
 use tm_delimiters::{Side, SyntaxConfig, next_tag, trimmed};
 use tm_syntax::Token;
 use tm_values::Error;
@@ -37,30 +40,38 @@ fn read_of<'s>(syntax: &SyntaxConfig, source: &'s str) -> &'s str
 }
 
 /// The tokens that a source spells; SyntaxError where it spells none, OutOfMemory.
-pub fn scan(alloc: Global, syntax: &SyntaxConfig, source: &str) -> Result<Vec<Token>, Error>
-    ensures found { IfOk result (λ tokens. spec.SpellsTokens syntax.now source.now tokens.items) }
-    ensures refused { IfErr result (λ e. Refused e
-        ((ts : List declared.Token) → spec.SpellsTokens syntax.now source.now ts → ⊥)) }
+pub fn scan(alloc: Global, syntax: &SyntaxConfig, source: &RcStr) -> Result<Vec<Token>, Error>
+    ensures found { IfOk result
+        (λ tokens. spec.SpellsTokens syntax.now (rc_str_bytes source.now) tokens.items) }
+    ensures refused { IfErr result (λ e. Refused e ((ts : List declared.Token) →
+        spec.SpellsTokens syntax.now (rc_str_bytes source.now) ts → ⊥)) }
 {
     syntax.note_usable();
     let mut names = NamePool::new(alloc);
     let mut tokens = Vec::new(alloc);
     let mut before = None;
-    let mut rest = read_of(syntax, source);
+    let mut rest = read_of(syntax, source.as_str());
+    let shared = SharedSource::new(source, rest);
     while let Some((text, start, behind)) = next_tag(syntax, rest) {
-        raw(
+        let part = trimmed(syntax, before, Some(start), shared.part(rest, text));
+        raw(alloc, &shared, part, &mut tokens)?;
+        let (whitespace, left) = tag(
             alloc,
-            trimmed(syntax, before, Some(start), text),
+            &mut names,
+            syntax,
+            &shared,
+            start.kind,
+            behind,
             &mut tokens,
         )?;
-        let (whitespace, left) = tag(alloc, &mut names, syntax, start.kind, behind, &mut tokens)?;
         before = Some(Side {
             kind: start.kind,
             whitespace,
         });
         rest = left;
     }
-    raw(alloc, trimmed(syntax, before, None, rest), &mut tokens)?;
+    let part = trimmed(syntax, before, None, shared.part(rest, rest));
+    raw(alloc, &shared, part, &mut tokens)?;
     Ok(tokens)
 }
 

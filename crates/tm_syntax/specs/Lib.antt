@@ -2,3 +2,4 @@ pub mod Forms
 pub mod Code
 pub mod Named
 pub mod Blocks
+pub mod RawText

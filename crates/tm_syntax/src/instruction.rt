@@ -1,5 +1,6 @@
 //! Instructions.
 use crate::name::Name;
+use crate::raw_text::RawText;
 use crate::tree::BinaryOperator;
 use tm_values::Value;
 
@@ -16,7 +17,7 @@ pub enum CaptureMode {
 #[derive(Drop)]
 pub enum Instruction {
     /// Writes a text as it stands.
-    EmitRaw(Name),
+    EmitRaw(RawText),
     /// Pops a value and writes it.
     Emit,
     /// Pushes the value of a name, undefined where there is none.

@@ -1,15 +1,17 @@
-//! What a template is made of: names, tokens, trees and instructions, each declared once.
+//! What a template is made of: names, raw texts, tokens, trees and instructions, each declared once.
 #![tactic(auto)]
 
 mod instruction;
 mod name;
 mod name_map;
+mod raw_text;
 mod token;
 mod tree;
 
 pub use instruction::{CaptureMode, Instruction};
 pub use name::Name;
 pub use name_map::NameMap;
+pub use raw_text::RawText;
 pub use token::{Sign, Tag, Token};
 pub use tree::{
     Argument, Assignment, BinaryOperator, Comparison, Condition, Expr, Pair, Step, Stmt, Target,

@@ -9,7 +9,7 @@ use std::cmp::Ordering;
 use std::marker::Model;
 use std::rc::RcStr;
 
-/// A text of a template: a name, a raw text. A contract sees its bytes; a second owner costs no memory.
+/// A name of a template. A contract sees its bytes; a second owner costs no memory.
 #[derive(Drop)]
 pub struct Name {
     text: RcStr,

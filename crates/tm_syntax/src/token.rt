@@ -1,5 +1,6 @@
 //! Tokens.
 use crate::name::Name;
+use crate::raw_text::RawText;
 use tm_values::Value;
 
 /// A delimiter, a mark or a reserved word.
@@ -116,7 +117,7 @@ pub enum Tag {
 #[derive(Drop)]
 pub enum Token {
     /// Raw text, which isn't empty.
-    Raw(Name),
+    Raw(RawText),
     /// A block tag's start and word.
     Tag(Tag),
     /// A name.

@@ -1,5 +1,6 @@
 //! Syntax trees. What goes on with a value is a list, so that a tree is as deep as its source nests.
 use crate::name::Name;
+use crate::raw_text::RawText;
 use sqlite_items::{Boxed, Items};
 use tm_values::Value;
 
@@ -147,7 +148,7 @@ pub enum Assignment {
 #[derive(Drop)]
 pub enum Stmt {
     /// Raw text.
-    EmitRaw(Name),
+    EmitRaw(RawText),
     /// An emission.
     EmitExpr(Boxed<Expr>),
     /// A condition, what runs where it is true, and the else part.

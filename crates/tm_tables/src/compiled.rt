@@ -1,9 +1,11 @@
 //! Compiled templates.
-ghost use Rattle.std.specs.Prelude.{◌≡◌, IfOk, IfErr};
+ghost use Rattle.std.specs.Prelude.{◌≡◌, [], ◌∷◌, IfOk, IfErr, string_bytes};
+ghost use Rattle.std.specs.Rc.{rc_str_bytes};
 ghost use Rattle.tm_syntax.specs.Blocks.{code_of};
 ghost use Rattle.tm_syntax.specs.Named.{find};
 ghost use Rattle.tm_delimiters.specs.Syntax.{default_syntax};
 ghost use Rattle.tm_values.specs.Answer.{IsLent};
+ghost use Rattle.tm_values.specs.declared.error.ErrorKind.TheVariants.{OutOfMemory};
 ghost use Rattle.tm_meaning.specs.Tree.{part_of};
 ghost use Rattle.tm_tables.specs.Templates.{IsTemplate, IsRefused, body, block_codes, tree_of};
 ghost use Rattle.tm_tables.specs.Sources.{source_bytes};
@@ -12,6 +14,7 @@ use crate::defaults::EscapeSetting;
 use sqlite_items::Items;
 use std::alloc::Global;
 use std::marker::Model;
+use std::rc::RcStr;
 use tm_compiler::{Instruction, Name, NameMap, Streams, SyntaxConfig, Tree, generate, parse};
 use tm_values::{AutoEscape, Error};
 
@@ -42,11 +45,30 @@ impl Default for TemplateConfig {
 pub enum Source<'source> {
     /// The caller's.
     Lent(&'source str),
-    /// Its own.
-    Owned(String),
+    /// Its own, which the template's raw texts share.
+    Owned(RcStr),
 }
 
 impl<'source> Source<'source> {
+    /// A source of its own; OutOfMemory.
+    pub fn owned(source: String) -> Result<Source<'source>, Error>
+        ensures owned { IfOk result (λ s. source_bytes s ≡ string_bytes source) }
+        ensures refused { IfErr result (λ e. e ≡ OutOfMemory ∷ []) }
+    {
+        Ok(Source::Owned(RcStr::from_string(source)?))
+    }
+
+    /// The text for raw texts to share, a copy of the caller's; OutOfMemory.
+    fn shared(&self, alloc: Global) -> Result<RcStr, Error>
+        ensures shared { IfOk result (λ text. rc_str_bytes text ≡ source_bytes self.now) }
+        ensures refused { IfErr result (λ e. e ≡ OutOfMemory ∷ []) }
+    {
+        match self {
+            Source::Lent(text) => Ok(RcStr::from_str(alloc, text)?),
+            Source::Owned(text) => Ok(text.clone()?),
+        }
+    }
+
     /// The text.
     pub fn as_str(&self) -> &str
         ensures { result.now ≡ source_bytes self.now }
@@ -99,7 +121,11 @@ impl<'source> CompiledTemplate<'source> {
         ensures refused { IfErr result
             (IsRefused config.now.syntax_config (source_bytes source.entry)) }
     {
-        let tree = match parse(alloc, source.as_str(), &config.syntax_config) {
+        let text = match source.shared(alloc) {
+            Ok(text) => text,
+            Err(error) => return Err(error),
+        };
+        let tree = match parse(alloc, &text, &config.syntax_config) {
             Ok(tree) => tree,
             Err(error) => return Err(error),
         };

@@ -10,7 +10,7 @@ use crate::machine::Machine;
 use std::alloc::Global;
 use tm_meaning::Base;
 use tm_parts::{Halt, Sink};
-use tm_syntax::Name;
+use tm_syntax::RawText;
 use tm_tables::Host;
 use tm_values::Value;
 
@@ -63,7 +63,7 @@ impl Machine<'_> {
     pub(crate) fn do_emit_raw<W: Sink>(
         &mut self,
         base: &Base,
-        text: &Name,
+        text: &RawText,
         writer: &mut W,
     ) -> Result<Flow, Halt>
         requires { CanGoOn self.old.run }

@@ -1,4 +1,5 @@
 use Rattle.std.proofs.Common.{sym, subst}
+use Rattle.std.specs.Rc.{rc_str_bytes}
 use Rattle.tm_scanner.specs.Spells.{SpellsTokens}
 use Rattle.tm_scanner.proofs.Refusals.{refused_by, refused_result, passed}
 use Rattle.tm_compiler.proofs.Sources.{no_tokens, no_tree}
@@ -8,9 +9,9 @@ pub returns-in_err-tokens-clause-refused : goal.returns-in_err-tokens-clause-ref
 returns-in_err-tokens-clause-refused c =
     let e = c.in_err-tokens.field-0.0 in
     passed c.from_residual.result _ e c.from_residual.ensures.1
-    (refused_by e (no_tokens c.args.syntax.now c.args.source.now) c.in_err-tokens.ensures.refused)
+    (refused_by e (no_tokens c.args.syntax.now (rc_str_bytes c.args.source.now)) c.in_err-tokens.ensures.refused)
 
 pub returns-clause-refused : goal.returns-clause-refused
 returns-clause-refused c =
-    let found = subst (SpellsTokens c.args.syntax.now c.args.source.now) (sym c.deref.ensures.value) c.in_ok-tokens.ensures.found in
-    refused_result c.parse_tokens.result (no_tree c.args.syntax.now c.args.source.now _ found) c.parse_tokens.ensures.refused
+    let found = subst (SpellsTokens c.args.syntax.now (rc_str_bytes c.args.source.now)) (sym c.deref.ensures.value) c.in_ok-tokens.ensures.found in
+    refused_result c.parse_tokens.result (no_tree c.args.syntax.now (rc_str_bytes c.args.source.now) _ found) c.parse_tokens.ensures.refused

@@ -1,0 +1,13 @@
+-- Raw texts as ranges of a source.
+use Rattle.std.specs.Prelude.{ℕ, List, ◌≡◌, ◌≤◌, ◌<◌, slice_range}
+use Rattle.std.specs.Str.{IsCharBoundary}
+
+-- the range may be cut out of the source: no character stands on both sides of an end
+abbrev pub IsRange : List ℕ → ℕ → ℕ → Type 0
+IsRange source start end =
+    (start ≤ end) × (0 < start → IsCharBoundary source start) × IsCharBoundary source end
+
+-- such a range, in which this text stands
+abbrev pub IsPart : List ℕ → ℕ → ℕ → List ℕ → Type 0
+IsPart source start end text =
+    IsRange source start end × (slice_range source start end ≡ text)
