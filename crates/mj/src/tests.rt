@@ -1,6 +1,6 @@
 //! What no clause says: which words serve, what is read and written, and how faults are told.
 
-use crate::run::{Texts, run};
+use mj_run::{Texts, run};
 use std::alloc::Global;
 use std::io::{self, Write};
 use std::process::Abort;
