@@ -20,7 +20,7 @@ use Rattle.tm_tables.specs.Templates.{Compiled, IsRefused}
 use Rattle.template_machine.specs.Environment.{EnvironmentValue, TemplateValue, IsTemplateOf, new_environment, greatest_limit}
 use Rattle.template_machine.specs.Renders.{CapturedValue, answer_by, greatest, meaning, Rendered, as_meant, by_writer, by_memory}
 use Rattle.mj_words.specs.CommandLine.{Text, Asked}
-use Rattle.mj_run.specs.Program.{context_of, limit_of, template_in, meaning_of, IsRendered, IsBegun, IsFault, no_memory, write_failed, flush_failed, no_tree, meant}
+use Rattle.mj_run.specs.Program.{context_of, limit_of, template_in, meaning_of, IsMeant, IsRendered, IsBegun, IsFault, no_memory, write_failed, flush_failed, no_tree, meant}
 
 found_there : (name : Text) (t : Compiled) → find name (put name t []) ≡ Some t
 found_there name t = ap (λ o. cond (is_eq o) (Some t) None) (tied_itself nat_list_cmp_total name)
@@ -78,7 +78,7 @@ module _ {C : Type 0} where
   pub is_meant : (fs : List Function) (a : Asked) (source : Text) (set added : EnvironmentValue (List C)) (t : Compiled) (found : TemplateValue (List C)) (context : Val) →
       (found.environment.objects ≡ [] → fs ≡ []) → set ≡ settled a → IsTemplateOf set a.file source t → added ≡ record set { templates = put a.file t set.templates } →
       (found.environment ≡ added) × (find a.file added.templates ≡ Some found.template) → context ≡ context_of a.texts →
-      (tree : Tree) × Spells default_syntax source tree × (meaning (λ _. fs) found 0 context ≡ meaning_of a source tree)
+      IsMeant (λ _. fs) found context a source
   is_meant fs a source set added t found context none start is put_there (same, there) given =
       let whole : added ≡ record (settled a) { templates = put a.file t [] } =
       put_there ∙ ap (λ (e : EnvironmentValue (List C)). record e { templates = put a.file t e.templates }) start in
@@ -106,11 +106,11 @@ module _ {C : Type 0} where
       ap (λ (e : EnvironmentValue (List C)). find name e.templates) put_there ∙ ap (λ es. find name (put name t es)) start ∙ found_there name t in
       absurd (cc)
 
-  -- a render as the first state of a counter
-  pub at_first : (fs : List Function) (t : TemplateValue (List C)) (context : Val) (id : ℕ) (r : Result (CapturedValue (List C)) (List ErrorKind)) (told now : Option Text) (faults count : ℕ) → id ≡ 0 →
-      (id < greatest → Rendered t (meaning (λ _. fs) t id context) r told now faults count) → Rendered t (meaning (λ _. fs) t 0 context) r told now faults count
-  at_first fs t context id r told now faults count e rendered =
-      subst (λ n. Rendered t (meaning (λ _. fs) t n context) r told now faults count) e (rendered (omega (arith, e)))
+-- a render as the first state of a counter
+pub at_first : {P : Type 0} (functions : P → List Function) (t : TemplateValue P) (context : Val) (id : ℕ) (r : Result (CapturedValue P) (List ErrorKind)) (told now : Option Text) (faults count : ℕ) → id ≡ 0 →
+    (id < greatest → Rendered t (meaning functions t id context) r told now faults count) → Rendered t (meaning functions t 0 context) r told now faults count
+at_first functions t context id r told now faults count e rendered =
+    subst (λ n. Rendered t (meaning functions t n context) r told now faults count) e (rendered (omega (arith, e)))
 
 -- an error that was passed on
 pub passed : {T E : Type 0} (r : Result T E) (P : T → Type 0) (Q : E → Type 0) (e : E) → IsErrAnd r (λ x. x ≡ e) → Q e → MatchResult r P Q

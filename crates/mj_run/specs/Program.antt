@@ -48,6 +48,10 @@ template_of a source tree = template_in a (record { name = a.file; source = sour
 abbrev pub meaning_of : Asked → Text → Tree → Outcome
 meaning_of a source tree = meaning (λ functions. functions) (template_of a source tree) 0 (context_of a.texts)
 
+-- A template over a context means, as the first state, what the words and a tree of the source mean.
+abbrev pub IsMeant : {P : Type 0} → (P → List Function) → TemplateValue P → Val → Asked → Text → Type 0
+IsMeant functions t context a source = (tree : Tree) × Spells default_syntax source tree × (meaning functions t 0 context ≡ meaning_of a source tree)
+
 abbrev either : Bool → Type 0 → Type 0 → Type 0
 either true A B = A
 either false A B = B

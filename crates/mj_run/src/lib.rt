@@ -1,4 +1,4 @@
-//! The program over words, files and streams that it is given: a template's source is read and rendered.
+//! The program over words, files and streams that it is given.
 #![tactic(auto)]
 
 mod program;
