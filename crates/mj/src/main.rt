@@ -1,19 +1,14 @@
 //! The command line of template machine: a file is rendered to standard output.
 #![tactic(auto)]
 
-mod arguments;
-mod render;
-mod run;
-mod tell;
 #[cfg(test)]
 mod tests;
 
-use arguments::Refusal;
-use run::{Texts, run};
+use mj_run::{Texts, run};
+use mj_words::{Refusal, tell_refusal};
 use std::io::{self, BufWriter, Read};
 use std::process::ExitCode;
 use std::{env, fs};
-use tell::tell_refusal;
 use tm_parts::Counted;
 
 /// The files of the system, and its standard input.

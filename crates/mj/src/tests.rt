@@ -1,6 +1,6 @@
 //! What no clause says: which words serve, what is read and written, and how faults are told.
 
-use crate::run::{Texts, run};
+use mj_run::{Texts, run};
 use std::alloc::Global;
 use std::io::{self, Write};
 use std::process::Abort;
@@ -160,30 +160,47 @@ impl Shelf {
     }
 }
 
+/// The files that hold text.
+static FILES: [(&str, &str); 9] = [
+    ("hello.txt", "Hello {{ name }}!\n"),
+    ("tag.txt", "a{% x %}"),
+    ("call.txt", "a{{ nope() }}b"),
+    ("block.txt", "a{% block x %}b{% endblock %}"),
+    ("-x", "never read"),
+    ("mail.txt", MAIL),
+    ("server.conf", SERVER),
+    ("page.html", PAGE),
+    ("notice.txt", NOTICE),
+];
+
+/// The text of a file.
+fn text_of(path: &str) -> Option<&'static str> {
+    for (name, text) in &FILES {
+        if *name == path {
+            return Some(*text);
+        }
+    }
+    None
+}
+
 impl Texts for Shelf {
     fn file(&mut self, path: &str) -> io::Result<Vec<u8>> {
         self.reads = self.reads.saturating_add(1);
-        let bytes: &[u8] = match path {
-            "hello.txt" => b"Hello {{ name }}!\n",
-            "tag.txt" => b"a{% x %}",
-            "call.txt" => b"a{{ nope() }}b",
-            "block.txt" => b"a{% block x %}b{% endblock %}",
-            "bytes.bin" => b"\xff\xfe",
-            "-x" => b"never read",
-            "vast.txt" => return Err(io::Error::from(io::ErrorKind::OutOfMemory)),
-            "mail.txt" => MAIL.as_bytes(),
-            "server.conf" => SERVER.as_bytes(),
-            "page.html" => PAGE.as_bytes(),
-            "notice.txt" => NOTICE.as_bytes(),
-            _ => return Err(io::Error::from(io::ErrorKind::NotFound)),
-        };
-        Ok(bytes.to_vec(self.alloc)?)
+        if path == "bytes.bin" {
+            return Ok(b"\xff\xfe".to_vec(self.alloc)?);
+        }
+        if path == "vast.txt" {
+            return Err(io::Error::from(io::ErrorKind::OutOfMemory));
+        }
+        match text_of(path) {
+            Some(text) => Ok(text.as_bytes().to_vec(self.alloc)?),
+            None => Err(io::Error::from(io::ErrorKind::NotFound)),
+        }
     }
 
     fn standard_input(&mut self) -> io::Result<Vec<u8>> {
         self.reads = self.reads.saturating_add(1);
-        let bytes: &[u8] = b"Hello {{ name }}!";
-        Ok(bytes.to_vec(self.alloc)?)
+        Ok(b"Hello {{ name }}!".to_vec(self.alloc)?)
     }
 }
 
@@ -267,22 +284,41 @@ fn owned(alloc: Global, words: &[&str]) -> Result<Vec<String>, Fail> {
     Ok(owned)
 }
 
+/// What a run leaves: its status, the page, what is told, and how often is read.
+#[derive(Drop)]
+struct Ran {
+    status: u8,
+    page: Page,
+    told: Vec<u8>,
+    reads: u64,
+}
+
+/// Runs the program over these words, onto this page.
+fn run_onto(page: Page, words: &[&str]) -> Result<Ran, Fail> {
+    let alloc = *page.bytes.allocator();
+    let words = owned(alloc, words)?;
+    let mut shelf = Shelf::new(alloc);
+    let mut out = Counted::new(page);
+    let mut err = Counted::new(Vec::new(alloc));
+    let status = run(alloc, words.as_slice(), &mut shelf, &mut out, &mut err);
+    Ok(Ran {
+        status,
+        page: out.into_inner(),
+        told: err.into_inner(),
+        reads: shelf.reads,
+    })
+}
+
 /// Runs the program over these words, onto this page, and compares what it answers.
 fn expect(rt: &impl Abort, page: Page, words: &[&str], wanted: &Answer) -> Result<(), Fail> {
-    let alloc = *page.bytes.allocator();
-    let mut out = Counted::new(page);
-    let mut err = Counted::new(Vec::<u8>::new(alloc));
-    let mut shelf = Shelf::new(alloc);
-    let owned = owned(alloc, words)?;
-    let status = run(alloc, owned.as_slice(), &mut shelf, &mut out, &mut err);
-    let told = std::str::from_utf8(err.inner().as_slice())?;
+    let ran = run_onto(page, words)?;
+    let told = std::str::from_utf8(ran.told.as_slice())?;
     assert_eq!(rt; told, wanted.told, "told of {words:?}");
-    assert_eq!(rt; status, wanted.status, "status of {words:?}");
-    let page = out.inner();
-    let written = std::str::from_utf8(page.bytes.as_slice())?;
+    assert_eq!(rt; ran.status, wanted.status, "status of {words:?}");
+    let written = std::str::from_utf8(ran.page.bytes.as_slice())?;
     assert_eq!(rt; written, wanted.written, "written of {words:?}");
-    assert_eq!(rt; shelf.reads, wanted.reads, "reads of {words:?}");
-    assert_eq!(rt; page.flushes, wanted.flushes, "flushes of {words:?}");
+    assert_eq!(rt; ran.reads, wanted.reads, "reads of {words:?}");
+    assert_eq!(rt; ran.page.flushes, wanted.flushes, "flushes of {words:?}");
     Ok(())
 }
 

@@ -187,6 +187,32 @@ static ROWS: &[Row] = &[
     Row("{% do keep() %}{{ read() }}", "1", Ok(3)),
     Row("{% do w %}", "", Err(ErrorKind::SyntaxError)),
     Row("{% set x %}", "", Err(ErrorKind::SyntaxError)),
+    Row("{% set x %}a{{ 1 }}{% endset %}{{ x }}", "a1", Ok(7)),
+    Row(
+        "{% set x %}{% block b %}q{% endblock %}{% endset %}[{{ x }}]",
+        "[q]",
+        Ok(8),
+    ),
+    Row(
+        "b{% set x %}a{{ nope() }}{% endset %}",
+        "b",
+        Err(ErrorKind::UnknownFunction),
+    ),
+    Row(
+        "{% autoescape \"html\" %}{{ \"<\" }}{% endautoescape %}{{ \"<\" }}",
+        "&lt;<",
+        Ok(5),
+    ),
+    Row(
+        "{% autoescape 1 %}{% block b %}{{ \"<\" }}{% endblock %}{% endautoescape %}",
+        "&lt;",
+        Ok(4),
+    ),
+    Row(
+        "{% autoescape \"xml\" %}x{% endautoescape %}",
+        "",
+        Err(ErrorKind::InvalidOperation),
+    ),
 ];
 
 /// The context of the rows: a truth value, a text and an empty map.

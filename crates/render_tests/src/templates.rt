@@ -125,6 +125,12 @@ struct Named(&'static str, &'static str, &'static str);
 static NAMED: &[Named] = &[
     Named("p.html", "{{ '<' }}{{ '<' ~ '>' }}", "&lt;&lt;&gt;"),
     Named("p.html.j2", "{{ '<' }}", "&lt;"),
+    Named("p.html", "{% set x %}<b>{% endset %}{{ x }}", "<b>"),
+    Named(
+        "p.html",
+        "{% autoescape false %}{% set x %}<b>{% endset %}{% endautoescape %}{{ x }}",
+        "&lt;b&gt;",
+    ),
     Named("html", "{{ '<' }}", "&lt;"),
     Named("p.txt", "{{ '<' }}", "<"),
     Named("p.json", "{{ {'a': [1, none]} }}", "{\"a\":[1,null]}"),

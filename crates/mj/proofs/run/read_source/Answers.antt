@@ -1,6 +1,0 @@
-use Rattle.std.proofs.Common.{inr, IsOk, subst}
-use Rattle.mj.proofs.run.read_source.Goals as goal
-
--- bytes that are no text
-pub returns-in-Err-from_utf8 : goal.returns-in-Err-from_utf8
-returns-in-Err-from_utf8 g c = inr (c.in-Ok.bytes.items, c.in-Ok.ensures, λ text. let ok = subst (λ r. IsOk r) c.in-Err-from_utf8.is (c.from_utf8.ensures.succeeds text) in cc)

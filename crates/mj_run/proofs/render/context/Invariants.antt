@@ -1,0 +1,8 @@
+use Rattle.std.proofs.Common.{◌≡◌, ◌++◌, drop, map}
+use Rattle.mj_words.specs.CommandLine.{plain}
+use Rattle.mj_run.specs.Program.{pair_of}
+use Rattle.mj_run.proofs.render.context.Given as goal
+
+-- the pairs of the texts that are left are left
+abbrev pub invariant-loop-name : goal.invariant-loop-name
+invariant-loop-name l = l.pairs.items ++ map pair_of (map plain (drop l.name-index l.texts)) ≡ map pair_of (map plain l.texts)

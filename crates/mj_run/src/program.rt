@@ -1,0 +1,103 @@
+//! The program over words, files and streams that it is given.
+ghost use Rattle.std.specs.Prelude.{◌≡◌, ◌≢◌, ◌≤◌, ◌⊎◌, List, [], ◌∷◌, ⊤, true, Option, None, Some, map, string_bytes, MatchResult};
+ghost use Rattle.tm_values.specs.declared.error.ErrorKind.{ErrorKind as Kind};
+ghost use Rattle.tm_values.specs.Chain.{ends_in_memory};
+ghost use Rattle.mj_words.specs.CommandLine.{Text, Asked, asked};
+ghost use Rattle.mj_run.specs.Program.{IsRead, IsInput, IsUnread, IsWrongUse, IsRendered, IsFault};
+ghost use Rattle.mj_words.specs.Told.{IsTold, message, usage};
+
+use crate::render::render;
+use mj_words::{Refusal, parse, tell_error, tell_refusal};
+use std::alloc::Global;
+use std::io::{self, Write};
+use tm_parts::Counted;
+
+/// The status of a run without a fault.
+const SUCCESS: u8 = 0;
+
+/// Where templates are read from.
+pub trait Texts {
+    // What may be read of a path: bytes, or none. The default says nothing.
+    ghost of_file: { Self → Text → Option Text → Type 0 } = { λ _ _ _. ⊤ };
+
+    // The same of standard input.
+    ghost of_input: { Self → Option Text → Type 0 } = { λ _ _. ⊤ };
+
+    /// The bytes of a file.
+    fn file(&mut self, path: &str) -> io::Result<Vec<u8>>
+        ensures { MatchResult result (λ bytes. of_file self.old path.now (Some bytes.items))
+            (λ _. of_file self.old path.now None) };
+
+    /// The bytes of standard input.
+    fn standard_input(&mut self) -> io::Result<Vec<u8>>
+        ensures { MatchResult result (λ bytes. of_input self.old (Some bytes.items))
+            (λ _. of_input self.old None) };
+}
+
+/// Renders what the words ask for to `out` as it goes, tells faults to `err`, and gives the exit
+/// status: 0 where all was written, 1 behind a fault, 2 where the words or the file do not serve.
+pub fn run<T: Texts, O: Write + Drop, E: Write + Drop>(
+    alloc: Global,
+    words: &[String],
+    texts: &mut T,
+    out: &mut Counted<O>,
+    err: &mut Counted<E>,
+) -> u8
+    ensures status { result ≤ 2 }
+    ensures rendered { result ≡ 0 → (err.new ≡ err.old) × (a : Asked) × (source : Text)
+        × IsInput T.of_file T.of_input texts.old (map string_bytes words.now) a source
+        × IsRendered O.contents a source out.old out.new }
+    ensures fault { result ≡ 1 → (kind : Kind) × (kinds : List Kind)
+        × IsTold E.contents err.old err.new (message kind kinds)
+        × (((ends_in_memory (kind ∷ kinds) ≡ true) × (out.new ≡ out.old))
+        ⊎ ((a : Asked) × (source : Text)
+        × IsInput T.of_file T.of_input texts.old (map string_bytes words.now) a source
+        × IsFault O.contents a source (kind ∷ kinds) out.old out.new)) }
+    ensures wrong_use { result ≡ 2 → (out.new ≡ out.old)
+        × IsTold E.contents err.old err.new usage
+        × IsWrongUse T.of_file T.of_input texts.old (map string_bytes words.now) }
+    ensures refused { asked [] None None (map string_bytes words.now) ≡ None →
+        (result ≢ 0) × (out.new ≡ out.old) }
+{
+    let arguments = match parse(alloc, words) {
+        Ok(arguments) => arguments,
+        Err(refusal) => return tell_refusal(err, refusal),
+    };
+    let source = match read_source(texts, arguments.file) {
+        Ok(source) => source,
+        Err(refusal) => return tell_refusal(err, refusal),
+    };
+    match render(alloc, &arguments, source.as_str(), out) {
+        Ok(()) => SUCCESS,
+        Err(error) => tell_error(err, &error),
+    }
+}
+
+/// The source of a template. OutOfMemory where a read finds no memory, and else Usage where nothing
+/// is read, or no UTF-8.
+fn read_source<T: Texts>(texts: &mut T, file: &str) -> Result<String, Refusal>
+    ensures { MatchResult result
+        (λ source. IsRead T.of_file T.of_input texts.old file.now (Some (string_bytes source)))
+        (λ _. IsUnread T.of_file T.of_input texts.old file.now) }
+{
+    match read_bytes(texts, file) {
+        Ok(bytes) => match String::from_utf8(bytes) {
+            Ok(source) => Ok(source),
+            Err(_error) => Err(Refusal::Usage),
+        },
+        Err(error) => Err(Refusal::of_read(&error)),
+    }
+}
+
+/// The bytes of a file; `-` is standard input.
+fn read_bytes<T: Texts>(texts: &mut T, file: &str) -> io::Result<Vec<u8>>
+    ensures { MatchResult result
+        (λ bytes. IsRead T.of_file T.of_input texts.old file.now (Some bytes.items))
+        (λ _. IsRead T.of_file T.of_input texts.old file.now None) }
+{
+    if file == "-" {
+        texts.standard_input()
+    } else {
+        texts.file(file)
+    }
+}

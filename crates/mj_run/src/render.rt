@@ -1,0 +1,108 @@
+//! The render that the words ask for.
+ghost use Rattle.std.specs.Prelude.{◌≡◌, [], ◌∷◌, map, min, MatchResult};
+ghost use Rattle.mj_words.specs.CommandLine.{Asked, Text, asked_of, plain};
+ghost use Rattle.template_machine.specs.Environment.{greatest_limit, new_environment};
+ghost use Rattle.mj_run.specs.Program.{context_of, limit_of, IsMeant, IsRendered, IsFault};
+
+use mj_words::Arguments;
+use std::alloc::Global;
+use std::io::Write;
+use template_machine::{Environment, Parties, TemplateOf};
+use tm_parts::Counted;
+use tm_state::StateIds;
+use tm_values::{Error, ErrorKind, Value, ValueMap};
+
+/// Renders the source and flushes, also after a render that failed, whose error is the one that
+/// counts. SyntaxError where the source spells no template, WriteFailure where a write or the flush
+/// fails, OutOfMemory where there is no memory; else the fault that was meant.
+pub fn render<O: Write + Drop>(
+    alloc: Global,
+    arguments: &Arguments<'_>,
+    source: &str,
+    out: &mut Counted<O>,
+) -> Result<(), Error>
+    ensures { MatchResult result
+        (λ _. IsRendered O.contents (asked_of arguments.now) source.now out.old out.new)
+        (λ e. IsFault O.contents (asked_of arguments.now) source.now e out.old out.new) }
+{
+    let rendered = render_unflushed(alloc, arguments, source, out);
+    let flushed = out.flush();
+    rendered?;
+    match flushed {
+        Ok(()) => Ok(()),
+        Err(_error) => Err(Error::from(ErrorKind::WriteFailure)),
+    }
+}
+
+/// Renders the source, whose end may still be in a buffer of the writer.
+fn render_unflushed<O: Write + Drop>(
+    alloc: Global,
+    arguments: &Arguments<'_>,
+    source: &str,
+    out: &mut Counted<O>,
+) -> Result<(), Error>
+    ensures { MatchResult result
+        (λ _. IsRendered O.contents (asked_of arguments.now) source.now out.old out.new)
+        (λ e. IsFault O.contents (asked_of arguments.now) source.now e out.old out.new) }
+{
+    let context = context(alloc, arguments.texts.as_slice())?;
+    let mut environment = Environment::new(alloc)?;
+    render_in(&mut environment, arguments, source, context, out)
+}
+
+/// Renders the source in a new environment, over the context of the words.
+fn render_in<'a, O: Write + Drop>(
+    environment: &mut Environment<'a>,
+    arguments: &Arguments<'_>,
+    source: &'a str,
+    context: Value,
+    out: &mut Counted<O>,
+) -> Result<(), Error>
+    requires new { environment.now ≡ new_environment [] }
+    requires given { context ≡ context_of (map plain arguments.now.texts.items) }
+    ensures { MatchResult result
+        (λ _. IsRendered O.contents (asked_of arguments.now) source.entry.now out.old out.new)
+        (λ e. IsFault O.contents (asked_of arguments.now) source.entry.now e out.old out.new) }
+{
+    environment.set_fuel(arguments.fuel);
+    environment.set_recursion_limit(limit(arguments.limit));
+    environment.add_template(arguments.file, source)?;
+    let template = environment.get_template(arguments.file)?;
+    render_template(&template, context, out)
+}
+
+/// Renders the template as the first state: as any words and source that it means.
+fn render_template<P: Parties, O: Write + Drop>(
+    template: &TemplateOf<'_, '_, P>,
+    context: Value,
+    out: &mut Counted<O>,
+) -> Result<(), Error>
+    ensures { (a : Asked) → (source : Text) → IsMeant P.functions template.now context a source →
+        MatchResult result (λ _. IsRendered O.contents a source out.old out.new)
+        (λ e. IsFault O.contents a source e out.old out.new) }
+{
+    template.render_captured_to(&mut StateIds::new(), context, out)?;
+    Ok(())
+}
+
+/// How deep scopes may lie, where the words say so.
+fn limit(given: Option<u64>) -> usize
+    ensures { min result greatest_limit ≡ limit_of given }
+{
+    match given {
+        Some(limit) => limit as usize,
+        None => usize::MAX,
+    }
+}
+
+/// The map of the names to their texts. Fails by OutOfMemory alone.
+fn context(alloc: Global, texts: &[(&str, &str)]) -> Result<Value, Error>
+    ensures { MatchResult result (λ v. v ≡ context_of (map plain texts.now))
+        (λ e. e ≡ ErrorKind.OutOfMemory ∷ []) }
+{
+    let mut pairs = Vec::with_capacity(alloc, texts.len())?;
+    for (name, text) in texts {
+        pairs.push((Value::text(alloc, name)?, Value::text(alloc, text)?))?;
+    }
+    Value::from_map(alloc, ValueMap::from_pairs(pairs)?)
+}

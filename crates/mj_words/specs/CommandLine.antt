@@ -1,0 +1,82 @@
+-- What the words of a command line ask for.
+use Rattle.std.specs.Prelude.{ℕ, ◌^◌, List, codes, [], ◌∷◌, ◌++◌, length, map, drop, slice_index, Option, None, Some, Bool, ◌&&◌, ◌==◌, nat_lt, if◌then◌else◌}
+use Rattle.std.specs.Borrow.{Bor}
+use Rattle.std.specs.List.{before_first, after_first, position_or_len}
+use Rattle.std.specs.Str.{all_ascii_digits, bytes_eq}
+use Rattle.std.specs.Str.Parse.{digits_value}
+use Rattle.mj_words.specs.declared.arguments.Arguments.{Arguments}
+
+abbrev pub Text : Type 0
+Text = List ℕ
+
+-- the texts by name in their order, the fuel, how deep scopes may lie, and the file
+pub record Asked : Type 0 where
+  pub texts : List (Text × Text)
+  pub fuel : Option ℕ
+  pub limit : Option ℕ
+  pub file : Text
+
+-- a word that begins with `-`, and is not `-` alone
+abbrev pub is_option : Text → Bool
+is_option word = nat_lt 1 (length word) && (slice_index word 0 == 45)
+
+-- a word that begins with `-D`
+abbrev pub begins_definition : Text → Bool
+begins_definition word = nat_lt 1 (length word) && ((slice_index word 0 == 45) && (slice_index word 1 == 68))
+
+-- the number that a word of decimal digits alone writes, where 64 bits hold it
+abbrev pub number : Text → Option ℕ
+number word =
+    if nat_lt 0 (length word) && (all_ascii_digits word && nat_lt (digits_value 10 word) (2 ^ 64))
+    then Some (digits_value 10 word) else None
+
+-- what stands before and after the first `=` of a word
+abbrev pub definition : Text → Option (Text × Text)
+definition word =
+    if nat_lt (position_or_len (λ b. b == 61) word) (length word)
+    then Some (before_first (λ b. b == 61) word, after_first (λ b. b == 61) word) else None
+
+abbrev pub with_number : Option ℕ → (ℕ → Option Asked) → Option Asked
+with_number None go_on = None
+with_number (Some n) go_on = go_on n
+
+abbrev pub with_text : Option (Text × Text) → (Text × Text → Option Asked) → Option Asked
+with_text None go_on = None
+with_text (Some p) go_on = go_on p
+
+-- what words ask for, behind others that gave these texts, this fuel and this limit: options, and then one file
+abbrev mutual
+  pub asked : List (Text × Text) → Option ℕ → Option ℕ → List Text → Option Asked
+  asked texts fuel limit [] = None
+  asked texts fuel limit (word ∷ words) =
+      if is_option word then
+      (if bytes_eq word (codes "--fuel") then asked_fuel texts limit words
+      else if bytes_eq word (codes "--limit") then asked_limit texts fuel words
+      else if bytes_eq word (codes "-D") then asked_text texts fuel limit words
+      else if begins_definition word then with_text (definition (drop 2 word)) (λ p. asked (texts ++ (p ∷ [])) fuel limit words)
+      else None)
+      else if length words == 0 then Some (record { texts = texts; fuel = fuel; limit = limit; file = word })
+      else None
+
+  -- the same behind `--fuel`, whose number stands in place of an earlier one
+  pub asked_fuel : List (Text × Text) → Option ℕ → List Text → Option Asked
+  asked_fuel texts limit [] = None
+  asked_fuel texts limit (word ∷ words) = with_number (number word) (λ n. asked texts (Some n) limit words)
+
+  -- the same behind `--limit`
+  pub asked_limit : List (Text × Text) → Option ℕ → List Text → Option Asked
+  asked_limit texts fuel [] = None
+  asked_limit texts fuel (word ∷ words) = with_number (number word) (λ n. asked texts fuel (Some n) words)
+
+  -- the same behind `-D`
+  pub asked_text : List (Text × Text) → Option ℕ → Option ℕ → List Text → Option Asked
+  asked_text texts fuel limit [] = None
+  asked_text texts fuel limit (word ∷ words) = with_text (definition word) (λ p. asked (texts ++ (p ∷ [])) fuel limit words)
+
+-- the texts as plain data
+abbrev pub plain : Bor Text × Bor Text → Text × Text
+plain p = (p.0.now, p.1.now)
+
+-- what arguments ask for
+abbrev pub asked_of : Arguments → Asked
+asked_of a = record { texts = map plain a.texts.items; fuel = a.fuel; limit = a.limit; file = a.file.now }

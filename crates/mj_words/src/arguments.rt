@@ -1,0 +1,159 @@
+//! The words of a command line.
+ghost use Rattle.std.specs.Prelude.{◌≡◌, ◌<◌, ◌⊎◌, ◌↔◌, [], ◌∷◌, None, Some, false, true, drop, length, map, string_bytes, MatchOption, MatchResult};
+ghost use Rattle.std.specs.IoError.{error_kind};
+ghost use Rattle.mj_words.specs.CommandLine as spec;
+
+use std::alloc::{AllocError, AllocFailed, Global};
+use std::io::{self, ErrorKind};
+
+/// What a command line asks for.
+#[derive(Drop)]
+pub struct Arguments<'a> {
+    /// The names of the context and their texts, of which the last of a name counts.
+    pub texts: Vec<(&'a str, &'a str)>,
+    /// The fuel of the render, where it is limited.
+    pub fuel: Option<u64>,
+    /// How deep scopes may lie, where that is said.
+    pub limit: Option<u64>,
+    /// The file of the template; `-` is standard input.
+    pub file: &'a str,
+}
+
+/// Why there is nothing to run.
+#[derive(Clone, Copy, Debug, PartialEq, Eq)]
+pub enum Refusal {
+    /// The words or the file do not serve.
+    Usage,
+    /// No memory was found.
+    OutOfMemory,
+}
+
+impl Refusal {
+    /// Why a read that failed gives nothing to run. Want of memory says nothing of what was read.
+    pub fn of_read(error: &io::Error) -> Refusal
+        ensures { (result ≡ Refusal.OutOfMemory)
+            ↔ (error_kind error.now ≡ ErrorKind.OutOfMemory) }
+    {
+        if error.kind() == ErrorKind::OutOfMemory {
+            Refusal::OutOfMemory
+        } else {
+            Refusal::Usage
+        }
+    }
+}
+
+impl From<AllocError> for Refusal {
+    ghost use Rattle.std.specs.Prelude.{◌≡◌};
+    ghost use Rattle.mj_words.specs.declared.arguments.Refusal.TheVariants.{OutOfMemory};
+
+    ghost from_gives = { λ _ e. e ≡ OutOfMemory };
+
+    fn from(_error: AllocError) -> Refusal {
+        Refusal::OutOfMemory
+    }
+}
+
+impl<T: Drop> From<AllocFailed<T>> for Refusal {
+    ghost use Rattle.std.specs.Prelude.{◌≡◌};
+    ghost use Rattle.mj_words.specs.declared.arguments.Refusal.TheVariants.{OutOfMemory};
+
+    ghost from_gives = { λ _ e. e ≡ OutOfMemory };
+
+    fn from(_error: AllocFailed<T>) -> Refusal {
+        Refusal::OutOfMemory
+    }
+}
+
+/// Reads the words after the program's name: options, and then one file.
+pub fn parse(alloc: Global, words: &[String]) -> Result<Arguments<'_>, Refusal>
+    ensures { let asked = spec.asked [] None None (map string_bytes words.now) in MatchResult result
+        (λ a. asked ≡ Some (spec.asked_of a))
+        (λ e. (e ≡ Refusal.OutOfMemory) ⊎ ((e ≡ Refusal.Usage) × (asked ≡ None))) }
+{
+    let mut texts = Vec::new(alloc);
+    let mut fuel = None;
+    let mut limit = None;
+    let mut rest = words;
+    while let Some((word, after)) = first(rest) {
+        if !is_option(word) {
+            if !after.is_empty() {
+                return Err(Refusal::Usage);
+            }
+            return Ok(Arguments {
+                texts,
+                fuel,
+                limit,
+                file: word,
+            });
+        }
+        rest = after;
+        if word == "--fuel" {
+            let (word, after) = first(rest).ok_or(Refusal::Usage)?;
+            fuel = Some(number(word).ok_or(Refusal::Usage)?);
+            rest = after;
+        } else if word == "--limit" {
+            let (word, after) = first(rest).ok_or(Refusal::Usage)?;
+            limit = Some(number(word).ok_or(Refusal::Usage)?);
+            rest = after;
+        } else if word == "-D" {
+            let (word, after) = first(rest).ok_or(Refusal::Usage)?;
+            texts.push(definition(word).ok_or(Refusal::Usage)?)?;
+            rest = after;
+        } else if let Some(word) = joined(word) {
+            texts.push(definition(word).ok_or(Refusal::Usage)?)?;
+        } else {
+            return Err(Refusal::Usage);
+        }
+    }
+    Err(Refusal::Usage)
+}
+
+/// The first word, and the words after it.
+fn first(words: &[String]) -> Option<(&str, &[String])>
+    ensures { MatchOption result (words.now ≡ []) (λ p. (length p.1.now < length words.now)
+        × (map string_bytes words.now ≡ p.0.now ∷ map string_bytes p.1.now)) }
+{
+    match words.split_first() {
+        Some((word, after)) => Some((word.as_str(), after)),
+        None => None,
+    }
+}
+
+/// Whether a word is no file.
+fn is_option(word: &str) -> bool
+    ensures { result ≡ spec.is_option word.now }
+{
+    word.len() > 1 && word.as_bytes()[0] == b'-'
+}
+
+/// The name before the first `=`, and the text after it.
+fn definition(word: &str) -> Option<(&str, &str)>
+    ensures { MatchOption result (spec.definition word.now ≡ None)
+        (λ p. spec.definition word.now ≡ Some (spec.plain p)) }
+{
+    word.split_once('=')
+}
+
+/// What follows `-D` in a word.
+fn joined(word: &str) -> Option<&str>
+    ensures { MatchOption result (spec.begins_definition word.now ≡ false)
+        (λ t. (spec.begins_definition word.now ≡ true) × (t.now ≡ drop 2 word.now)) }
+{
+    let bytes = word.as_bytes();
+    if bytes.len() > 1 && bytes[0] == b'-' && bytes[1] == b'D' {
+        Some(&word[2..])
+    } else {
+        None
+    }
+}
+
+/// The number that a word of decimal digits alone writes, where 64 bits hold it.
+fn number(word: &str) -> Option<u64>
+    ensures { result ≡ spec.number word.now }
+{
+    // The library's own reading takes a plus in front.
+    if word.starts_with('+') {
+        return None;
+    }
+    word.parse::<u64>().ok()
+}

@@ -1,0 +1,8 @@
+//! The words of the program: what a command line asks for, and what is told on standard error.
+#![tactic(auto)]
+
+mod arguments;
+mod tell;
+
+pub use arguments::{Arguments, Refusal, parse};
+pub use tell::{tell_error, tell_refusal};
