@@ -6,8 +6,9 @@ use Rattle.tm_syntax.specs.declared.instruction.CaptureMode.{CaptureMode}
 use Rattle.tm_syntax.specs.declared.instruction.LoopFlags.{LoopFlags}
 use Rattle.tm_syntax.specs.declared.instruction.CaptureMode.TheVariants as modes
 use Rattle.tm_syntax.specs.declared.tree.UnaryOperator.{UnaryOperator}
+use Rattle.tm_meaning.specs.declared.mark.LoopMark.{LoopMark}
 use Rattle.tm_syntax.specs.declared.tree.BinaryOperator.{BinaryOperator}
-use Rattle.tm_meaning.specs.World.{choose, World, Host, Loop, LoopMark, top_mark, top_loop, open_loop, next_turn, cleared, items_over, Res, Good, answered, looked_up, emitted, escape_for, with_escape, store, items_of, set_member, push, pop, plain}
+use Rattle.tm_meaning.specs.World.{choose, World, Host, Loop, top_mark, top_loop, open_loop, next_turn, cleared, items_over, Res, Good, answered, looked_up, emitted, escape_for, with_escape, store, items_of, set_member, push, pop, plain}
 use Rattle.tm_meaning.specs.Calls.{enter_block, call_named}
 use Rattle.tm_meaning.specs.Meaning.{none_waits, truth, applied_unary, operated, attribute, item_at, slice_of, list_of_values, map_of_pairs}
 use Rattle.tm_meaning.specs.Machine.{Capture, Return, Activation, Config, Base, Next, More, after, on_top, take_n, on, goes, jumps, stuck, with_world, audible, writes, new_capture, captured_value, asked, asked_in_place}
@@ -146,13 +147,15 @@ abbrev pub push_did_not_iterate_of : Config → Next
 push_did_not_iterate_of c =
     on_loop c.run.loops (top_loop c.world) c.world (λ l. goes (boolean (nat_eq (length l.items) 0) ∷ c.run.operands) c.world c)
 
--- Where no call of it is open it is left; nothing calls one yet.
+-- Where no call of it is open it is left; nothing calls one yet. One that stood before the run isn't left.
 abbrev pub pop_loop_with : List (Option Return) → Config → Next
 pop_loop_with (None ∷ rs) c = goes c.run.operands (pop c.world) (looping rs c)
 pop_loop_with _ c = stuck c.world
 
-abbrev pub pop_loop_frame_of : Config → Next
-pop_loop_frame_of c = on_loop c.run.loops (top_loop c.world) c.world (λ l. pop_loop_with c.run.loops c)
+abbrev pub pop_loop_frame_of : Base → Config → Next
+pop_loop_frame_of f c =
+    choose (nat_lt f.scopes (length c.world.scopes.frames))
+    (λ _. on_loop c.run.loops (top_loop c.world) c.world (λ l. pop_loop_with c.run.loops c)) (λ _. stuck c.world)
 
 -- ---------------------------------------------------------------- captures and escapes
 abbrev pub is_heard : CaptureMode → Bool

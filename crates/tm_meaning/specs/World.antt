@@ -1,5 +1,5 @@
 -- What a state is to the meaning and to the machine, and what both do to it.
-use Rattle.std.specs.Prelude.{ℕ, zero, suc, ◌+◌, ◌-◌, List, [], ◌∷◌, ◌++◌, length, map as each, Option, Some, None, option_and_then, Bool, true, false, ◌&&◌, nat_lt, nat_eq, if◌then◌else◌, Ok, Err, slice_get, codes}
+use Rattle.std.specs.Prelude.{ℕ, zero, suc, ◌+◌, ◌-◌, ◌^◌, min, List, [], ◌∷◌, ◌++◌, length, map as each, Option, Some, None, option_and_then, Bool, true, false, ◌&&◌, nat_lt, nat_eq, if◌then◌else◌, Ok, Err, slice_get, codes}
 use Rattle.tm_syntax.specs.declared.instruction.LoopFlags.{LoopFlags}
 pub use Rattle.tm_syntax.specs.Named.{Named, same_name, find, put, put_each}
 use Rattle.tm_values.specs.Answer.{Answer, invalid}
@@ -15,6 +15,7 @@ use Rattle.tm_values.specs.declared.escape.AutoEscape.{AutoEscape}
 use Rattle.tm_values.specs.declared.escape.AutoEscape.TheVariants as escapes
 use Rattle.tm_values.specs.declared.undefined.UndefinedBehavior.{UndefinedBehavior}
 use Rattle.tm_values.specs.declared.undefined.UndefinedUse.TheVariants.{Emission}
+use Rattle.tm_meaning.specs.declared.mark.LoopMark.{LoopMark}
 pub use Rattle.tm_meaning.specs.declared.stream.TemplateId.{TemplateId}
 pub use Rattle.tm_meaning.specs.declared.stream.TemplateId.TheVariants.{Own as own, Entry as entry}
 pub use Rattle.tm_meaning.specs.declared.stream.StreamId.{StreamId}
@@ -59,11 +60,6 @@ pub record Template : Type 0 where
   pub blocks : Named Card
 
 -- ---------------------------------------------------------------- a state
--- A scope's loop: its record's number, and whether the scope has the name `loop`.
-pub record LoopMark : Type 0 where
-  pub number : ℕ
-  pub variable : Bool
-
 -- A scope: its names, the value whose keys are names too, its loop, the closure made in it, the closure it reads.
 pub record Scope : Type 0 where
   pub locals : Bindings
@@ -259,7 +255,7 @@ read_closure closures (Some n) x = option_and_then (find x) (slice_get closures 
 
 -- a scope's own: its locals, then `loop`, then the closure that it reads
 abbrev pub in_scope : View → List ℕ → Scope → Option Val
-in_scope view x s = or_else (find x s.locals) (or_else (marked_loop view.id s.mark x) (read_closure view.closures s.reads x))
+in_scope view x s = or_else (find x s.locals) (or_else (marked_loop view.records.state s.mark x) (read_closure view.closures s.reads x))
 
 abbrev pub namespace_member : Option (List (Val × Val)) → List ℕ → Answer (Option Val)
 namespace_member None x = invalid
@@ -341,10 +337,10 @@ abbrev pub innermost : List Scope → Option ℕ
 innermost [] = None
 innermost (s ∷ ss) = or_else (number_of s.mark) (innermost ss)
 
--- one deeper in a loop that can be called, and else outermost
+-- one deeper in a loop that can be called, as far as numbers of the machine go, and else outermost
 abbrev pub depth_inside : Option Loop → ℕ
 depth_inside None = 0
-depth_inside (Some l) = if l.recursive then l.depth + 1 else 0
+depth_inside (Some l) = if l.recursive then min (l.depth + 1) (2 ^ 64 - 1) else 0
 
 abbrev pub loop_depth : World → ℕ
 loop_depth w = depth_inside (option_and_then (slice_get w.loops) (innermost w.scopes.frames))

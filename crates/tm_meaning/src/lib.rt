@@ -6,10 +6,12 @@ ghost use Rattle.tm_meaning.specs.Machine.{Program, Base, Next};
 ghost use Rattle.tm_meaning.specs.Steps.{Final, Leads};
 
 mod base;
+mod mark;
 mod rows;
 mod stream;
 
 pub use base::Base;
+pub use mark::LoopMark;
 pub use rows::{
     attribute_rows, block_rows, call_rows, chain_rows, condition_rows, conditional_rows,
     hello_rows, operator_rows,

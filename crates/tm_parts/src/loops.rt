@@ -1,17 +1,18 @@
 //! The records of loops.
-ghost use Rattle.std.specs.Prelude.{◌≡◌, None, length, nat_eq, slice_get};
+ghost use Rattle.std.specs.Prelude.{◌≡◌, None, Some, length, map, nat_eq, option_and_then, option_map, slice_get};
 ghost use Rattle.tm_values.specs.Answer.{IsLent};
 ghost use Rattle.tm_values.specs.Position.{position_of};
 ghost use Rattle.tm_meaning.specs.World.{turned, loop_data, depth_inside};
 
 use std::marker::Model;
+use std::rc::Rc;
 use tm_meaning::StreamId;
 use tm_values::{LoopPosition, Value};
 
 /// A loop: its items, how often the next one was asked for, how many loops that can be called lie around it, whether it can be called, and its stream.
 #[derive(Drop)]
 pub struct LoopState {
-    items: Vec<Value>,
+    items: Rc<Vec<Value>>,
     turns: usize,
     depth: usize,
     recursive: bool,
@@ -29,7 +30,7 @@ impl Model for LoopState {
     ghost coded = { Prim.hlevel (codes, coded_Val) };
 
     ghost view = { λ l. record {
-      items = l.items.items;
+      items = l.items.value.items;
       turns = l.turns;
       depth = l.depth;
       number = 0;
@@ -38,14 +39,14 @@ impl Model for LoopState {
       kept = None;
     } };
 
-    ghost invariant = { λ l. l.turns ≤ length l.items.items + 1 };
+    ghost invariant = { λ l. l.turns ≤ length l.items.value.items + 1 };
 }
 
 impl LoopState {
     /// A loop over items, none of which was asked for yet.
-    pub fn new(items: Vec<Value>, depth: usize, recursive: bool, stream: StreamId) -> LoopState
+    pub fn new(items: Rc<Vec<Value>>, depth: usize, recursive: bool, stream: StreamId) -> LoopState
         ensures { result ≡ record {
-          items = items.items;
+          items = items.value.items;
           turns = 0;
           depth = depth;
           number = 0;
@@ -86,6 +87,17 @@ impl LoopState {
         self.items.is_empty()
     }
 
+    /// How deep a loop in it stands: one deeper where it can be called, and else outermost.
+    pub fn depth_inside(&self) -> usize
+        ensures { result ≡ depth_inside (Some self.now) }
+    {
+        if self.recursive {
+            self.depth.saturating_add(1)
+        } else {
+            0
+        }
+    }
+
     /// Where it stands.
     pub fn position(&self) -> LoopPosition
         ensures { result ≡ position_of (loop_data self.now) }
@@ -112,5 +124,37 @@ impl LoopState {
             return None;
         }
         self.items.get(self.turns)
+    }
+}
+
+/// Where the loop of a number stands.
+pub fn position_at(loops: &[LoopState], index: usize) -> Option<LoopPosition>
+    ensures { result ≡ option_map position_of (slice_get (map loop_data loops.now) index) }
+{
+    match loops.get(index) {
+        Some(state) => Some(state.position()),
+        None => None,
+    }
+}
+
+/// The item before that of the loop of a number, where there is one.
+pub fn previous_at(loops: &[LoopState], index: usize) -> Option<&Value>
+    ensures { IsLent result
+        (option_and_then (λ l. l.previous) (slice_get (map loop_data loops.now) index)) }
+{
+    match loops.get(index) {
+        Some(state) => state.previous_item(),
+        None => None,
+    }
+}
+
+/// The item behind that of the loop of a number, where there is one.
+pub fn following_at(loops: &[LoopState], index: usize) -> Option<&Value>
+    ensures { IsLent result
+        (option_and_then (λ l. l.following) (slice_get (map loop_data loops.now) index)) }
+{
+    match loops.get(index) {
+        Some(state) => state.following_item(),
+        None => None,
     }
 }

@@ -23,8 +23,9 @@ use Rattle.tm_syntax.specs.declared.tree.Stmt.{Stmt, EmitRaw, EmitExpr, If', For
 use Rattle.tm_syntax.specs.Code.{for_flags}
 use Rattle.tm_syntax.specs.Forms.{unary, chained, conditional, condition, comparison, pair, plain, item, slice, binary, compare, and_then, or_else}
 use Rattle.tm_operations.specs.Members.{settable}
-use Rattle.tm_meaning.specs.World.{choose, find, block_of, with_frames, World, Host, Scopes, Scope, Loop, LoopMark, loop_scope, new_loop, open_loop, turned, turned_at, turned_of, top_mark, next_turn, without_locals, cleared, top_loop, items_over, Res, Good, Bad, bind, need, check, answered, charged, with_fuel, tick, push, pop, depth, without_first, emitted, looked_up, lookup, Function, callers, Reply, gives, faults, stored_in, store, records_of, with_member, set_member, escape_for, with_escape, captured_text, plain as plain_scope}
+use Rattle.tm_meaning.specs.World.{choose, find, block_of, with_frames, World, Host, Scopes, Scope, Loop, loop_scope, new_loop, open_loop, turned, turned_at, turned_of, top_mark, next_turn, without_locals, cleared, top_loop, items_over, Res, Good, Bad, bind, need, check, answered, charged, with_fuel, tick, push, pop, depth, without_first, emitted, looked_up, lookup, Function, callers, Reply, gives, faults, stored_in, store, records_of, with_member, set_member, escape_for, with_escape, captured_text, plain as plain_scope}
 use Rattle.tm_meaning.specs.Calls.{Callee, whole, Call, Undo, of_block, undone, wrapped, Asked, has, refused, runs, ask, enter_block, call_named, call_value, call_by, replied, required_alone}
+use Rattle.tm_meaning.specs.declared.mark.LoopMark.{LoopMark}
 use Rattle.tm_meaning.specs.Meaning.{Run, Outcome, Ending, done, leave, next, fault, Nests, Under, use_it, then_do, on_done, so_far, ended, say, audible, none_waits, value_of, value_behind, in_place_of, behind, block_tag, truth, applied_unary, operated, applied, attribute, eval, eval_all, eval_pair, eval_pairs, eval_argument, eval_arguments, eval_condition, eval_conditions, eval_step, eval_links, eval_steps, assign, assign_all, set_to, set_each, closing_by, closing, capturing, captured_by, captured, round_end, rounds, loop_over, has_none, exec_behind_loop, done_by, emit, behind_first, exec, execs, exec_else, at_end, new_run, nests_of}
 use Rattle.tm_meaning.specs.Tree.{Trees}
 use Rattle.tm_meaning.specs.declared.stream.TemplateId.{TemplateId}

@@ -2,7 +2,8 @@
 use Rattle.std.proofs.Common.{◌≡◌, ℕ, zero, suc, ◌+◌, ◌<◌, List, [], ◌∷◌, ◌++◌, length, Option, Some, None, Bool, true, false, nat_lt, refl, sym, ap, ◌∙◌, subst, arith, length-append, append_assoc, le-ltb, ne_eqb}
 use Rattle.std.specs.Prelude.{slice_get, nat_eq, option_and_then}
 use Rattle.tm_values.specs.Val.{Val}
-use Rattle.tm_meaning.specs.World.{World, Loop, LoopMark, turned, turned_at, turned_of, top_mark, next_turn, cleared, top_loop}
+use Rattle.tm_meaning.specs.World.{World, Loop, turned, turned_at, turned_of, top_mark, next_turn, cleared, top_loop}
+use Rattle.tm_meaning.specs.declared.mark.LoopMark.{LoopMark}
 use Rattle.tm_meaning.specs.Meaning.{has_none}
 use Rattle.tm_simulation.proofs.Keeps.{Kept, marks, mark_behind, in_loop_of, top_of_marks}
 

@@ -698,12 +698,16 @@ module _ (p : Program) (f : Base) (r : Final) (trees : Trees) (n : ℕ)
   looped s = record s { run = record s.run { loops = None ∷ s.run.loops } }
 
   -- a loop that wasn't called is left, which is free
-  left_loop_then : (s : Spot) (q : Option TemplateId) (out : List ℕ) (pc : ℕ) (stack : List Val) (w x : World) (l : Loop) → Kept (in_loop_of w) x → slice_get x.loops (length w.loops) ≡ Some l →
+  left_loop_then : (s : Spot) (q : Option TemplateId) (out : List ℕ) (pc : ℕ) (stack : List Val) (w x : World) (l : Loop) → Deep w → Kept (in_loop_of w) x → slice_get x.loops (length w.loops) ≡ Some l →
       slice_get (p.code s.run.stream) pc ≡ Some i.PopLoopFrame → Go p f r (later s q out) (pc + 1) stack (pop x) → Go p f r (later (looped s) q out) pc stack x
-  left_loop_then s q out pc stack w x l k e is g =
+  left_loop_then s q out pc stack w x l d k e is g =
+      let stands : f.scopes < length x.scopes.frames = omega (arith, kept_frames k, d.1) in
+      let c = cfg (later (looped s) q out) pc stack x in
       at p f r i.PopLoopFrame (later (looped s) q out) pc stack x is
+      (subst (λ b. Leads p f (told_by s.bed out) (choose b (λ _. on_loop (None ∷ s.run.loops) (top_loop x) x (λ m. pop_loop_with (None ∷ s.run.loops) c)) (λ _. stuck x)) r)
+      (sym (lt-ltb f.scopes (length x.scopes.frames) stands))
       (subst (λ (o : Option Loop). Leads p f (told_by s.bed out) (on_loop (None ∷ s.run.loops) o x (λ m. pop_loop_with (None ∷ s.run.loops) (cfg (later (looped s) q out) pc stack x))) r)
-      (sym (top_loop_is w x l k e)) (silent p f r (told_by s.bed out) _ g))
+      (sym (top_loop_is w x l k e)) (silent p f r (told_by s.bed out) _ g)))
 
   did_not_is : (s : Spot) (q : Option TemplateId) (out : List ℕ) (pc : ℕ) (stack : List Val) (w x : World) (l : Loop) (vs : List Val) → Kept (in_loop_of w) x → slice_get x.loops (length w.loops) ≡ Some l → l.items ≡ vs →
       push_did_not_iterate_of (cfg (later (looped s) q out) pc stack x) ≡ goes (boolean (has_none vs) ∷ stack) x (cfg (later (looped s) q out) pc stack x)
@@ -999,7 +1003,7 @@ module _ (p : Program) (f : Base) (r : Final) (trees : Trees) (n : ℕ)
         Kept (in_loop_of w) x → slice_get x.loops (length w.loops) ≡ Some l → l.items ≡ vs → end + length (behind_loop_code k end other) ≡ to → HasAt (p.code s.run.stream) end (behind_loop_code k end other) → (q : Option TemplateId) (out : List ℕ) →
         Ends r s.bed (exec_behind_loop u other (has_none vs) (record run { parent = q }) out (pop x)) (λ q1 out1 v. Go p f r (later s q1 out1) to stack v) L N → Go p f r (later (looped s) q out) end stack x
     behind_loop_runs k no_else vs run s pc end to stack w x l L N fits d j kept e same place is q out h =
-        left_loop_then s q out end stack w x l kept e is.0 (move p f r (later s q out) _ _ stack (pop x) place (so_far_then r s.bed (record run { parent = q }) out (pop x) _ L N h))
+        left_loop_then s q out end stack w x l d kept e is.0 (move p f r (later s q out) _ _ stack (pop x) place (so_far_then r s.bed (record run { parent = q }) out (pop x) _ L N h))
     behind_loop_runs k (otherwise _ eb) vs run s pc end to stack w x l L N fits d j kept e same place is q out h =
         let all = p.code s.run.stream in
         let ec = statements_code k (end + 3) eb in
@@ -1012,7 +1016,7 @@ module _ (p : Program) (f : Base) (r : Final) (trees : Trees) (n : ℕ)
         at p f r i.PushDidNotIterate (later (looped s) q out) end stack x is.0
         (subst (λ n. Leads p f (told_by s.bed out) n r) (sym (did_not_is s q out end stack w x l vs kept e same))
         (silent p f r (told_by s.bed out) _
-        (left_loop_then s q out (end + 1) (boolean b ∷ stack) w x l kept e is.1.0
+        (left_loop_then s q out (end + 1) (boolean b ∷ stack) w x l d kept e is.1.0
         (at p f r test (later s q out) (end + 1 + 1) (boolean b ∷ stack) (pop x) is.1.1.0 (after_then p f r (told_by s.bed out) (tick (pop x)) _
         (use_then r s.bed (pop x) (tick (pop x)) (record run { parent = q }) out _ D0 L N _ (tick_gives (pop x)) h (λ _ v k1 h1.
         choose_ends p f r b (execs u eb (record run { parent = q }) out v) (so_far (record run { parent = q }) out v) _ _ (told_by s.bed out) s.bed D0 L N h1
