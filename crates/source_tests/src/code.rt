@@ -53,6 +53,10 @@ fn word(instruction: &Instruction) -> &'static str {
         Instruction::StoreLocal(_) => "store:",
         Instruction::UnpackList(_) => "unpack:",
         Instruction::SetAttr(_) => "set:",
+        Instruction::PushLoop(_) => "loop",
+        Instruction::Iterate(_) => "iterate:",
+        Instruction::PushDidNotIterate => "empty",
+        Instruction::PopLoopFrame => "looped",
         Instruction::PushWith => "with",
         Instruction::PopFrame => "leave",
         Instruction::BeginCapture(CaptureMode::Capture) => "capture",
@@ -116,6 +120,7 @@ fn detail(instruction: &Instruction) -> &str {
         | Instruction::BuildTuple(number)
         | Instruction::BuildMap(number)
         | Instruction::UnpackList(number)
+        | Instruction::Iterate(number)
         | Instruction::Jump(number)
         | Instruction::JumpIfFalse(number)
         | Instruction::JumpIfFalseOrPop(number)

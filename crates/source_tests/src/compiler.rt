@@ -7,7 +7,7 @@ use std::test::Fail;
 use tm_compiler::{SyntaxConfig, parse};
 use tm_values::{Error, ErrorKind};
 
-static CODES: [(&str, &str); 19] = [
+static CODES: [(&str, &str); 25] = [
     ("{# c #}", ""),
     ("{{ \"}}\" }}\n", " #}} emit"),
     ("{{ a == none }}", " $a #none == emit"),
@@ -60,6 +60,30 @@ static CODES: [(&str, &str); 19] = [
         "{% autoescape false %}x{% endautoescape %}",
         " #false escape raw:x escaped",
     ),
+    (
+        "{% for x in y %}{% endfor %}",
+        " $y loop iterate:5 store:x jump:2 looped",
+    ),
+    (
+        "{% for a, b in c %}{{ a }}{% else %}e{% endfor %}",
+        " $c loop iterate:9 unpack:2 store:a store:b $a emit jump:2 empty looped if-false:13 raw:e",
+    ),
+    (
+        "{% for (a, b) in c, d %}{% endfor %}",
+        " $c $d tuple:2 loop iterate:9 unpack:2 store:a store:b jump:4 looped",
+    ),
+    (
+        "{% for x in y %}{% if x %}{% break %}{% endif %}{% continue %}{% endfor %}",
+        " $y loop iterate:9 store:x $x if-false:7 jump:9 jump:2 jump:2 looped",
+    ),
+    (
+        "{% for x in y %}{% with %}{% break %}{% endwith %}{% endfor %}",
+        " $y loop iterate:9 store:x with leave jump:9 leave jump:2 looped",
+    ),
+    (
+        "{% for x in y %}{% for x in y %}{% else %}{% break %}{% endfor %}{% endfor %}",
+        " $y loop iterate:14 store:x $y loop iterate:9 store:x jump:6 empty looped if-false:13 jump:14 jump:2 looped",
+    ),
 ];
 
 fn code_of(alloc: Global, source: &str) -> Result<String, Error> {
@@ -78,7 +102,7 @@ fn sources_have_their_code(rt: HostRuntime) {
     }
 }
 
-static REFUSED: [&str; 21] = [
+static REFUSED: [&str; 33] = [
     "a{#",
     "{{ \"a }}",
     "{{ 1.5 }}",
@@ -99,7 +123,19 @@ static REFUSED: [&str; 21] = [
     "{% autoescape 1, 2 %}{% endautoescape %}",
     "{% autoescape true %}",
     "{% with a = 1 %}",
-    "{% for a in b %}{% endfor %}",
+    "{% break %}",
+    "{% continue %}",
+    "{% for x in y %}",
+    "{% endfor %}",
+    "{% for x in y %}{% block b %}{% break %}{% endblock %}{% endfor %}",
+    "{% for x in y %}{% else %}{% break %}{% endfor %}",
+    "{% for x %}{% endfor %}",
+    "{% for 1 in x %}{% endfor %}",
+    "{% for x in y %}{% endfor x %}",
+    "{% for x in y %}{% break 1 %}{% endfor %}",
+    "{% for x in y %}{% else %}{% else %}{% endfor %}",
+    "{% for x in y recursive %}{% endfor %}",
+    "{% for x in y if x %}{% endfor %}",
 ];
 
 static NESTINGS: [Pieces; 2] = [

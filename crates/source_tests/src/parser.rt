@@ -43,11 +43,15 @@ static SIGNS: [(&str, Sign); 34] = [
     ("true", Sign::True),
 ];
 
-static TAGS: [(&str, Tag); 13] = [
+static TAGS: [(&str, Tag); 17] = [
     ("{%if", Tag::If),
     ("{%elif", Tag::Elif),
     ("{%else", Tag::Else),
     ("{%endif", Tag::Endif),
+    ("{%for", Tag::For),
+    ("{%endfor", Tag::Endfor),
+    ("{%break", Tag::Break),
+    ("{%continue", Tag::Continue),
     ("{%block", Tag::Block),
     ("{%endblock", Tag::Endblock),
     ("{%set", Tag::Set),
@@ -83,7 +87,7 @@ fn tokens_of(alloc: Global, words: &str) -> Result<Vec<Token>, Error> {
 }
 
 // Templates by their words, each of which is a token, with their code.
-static CODES: [(&str, &str); 49] = [
+static CODES: [(&str, &str); 55] = [
     ("{{ a ** b ** c }}", " $a $b ** $c ** emit"),
     ("{{ - a ** b }}", " $a - $b ** emit"),
     ("{{ a ~ b + c }}", " $a $b ~ $c + emit"),
@@ -199,6 +203,30 @@ static CODES: [(&str, &str); 49] = [
         "{%autoescape a %} {%block x %} {%endblock %} {%endautoescape %}",
         " $a escape block:x escaped | x",
     ),
+    (
+        "{%for ( a ) , b . c , in d , %} {%endfor %}",
+        " $d tuple:1 loop iterate:9 unpack:2 store:a $b set:c jump:3 looped",
+    ),
+    (
+        "{%for a in b in c %} {%endfor %}",
+        " $b $c in loop iterate:7 store:a jump:4 looped",
+    ),
+    (
+        "{%for a in b %} {%block x %} {%endblock %} {%else %} {%block y %} {%endblock %} {%endfor %}",
+        " $b loop iterate:6 store:a block:x jump:2 empty looped if-false:10 block:y | x | y",
+    ),
+    (
+        "{%for a in b %} {%block x %} {%for a in b %} {%break %} {%endfor %} {%endblock %} {%endfor %}",
+        " $b loop iterate:6 store:a block:x jump:2 looped | x $b loop iterate:6 store:a jump:6 jump:2 looped",
+    ),
+    (
+        "{%for a in b %} {%set c %} {%break %} {%endset %} {%endfor %}",
+        " $b loop iterate:11 store:a capture captured drop jump:11 captured store:c jump:2 looped",
+    ),
+    (
+        "{%for a in b %} {%autoescape a %} {%continue %} {%endautoescape %} {%endfor %}",
+        " $b loop iterate:10 store:a $a escape escaped jump:2 escaped jump:2 looped",
+    ),
 ];
 
 fn code_of(alloc: Global, words: &str) -> Result<String, Error> {
@@ -214,7 +242,7 @@ fn tokens_have_their_code(rt: HostRuntime) {
     }
 }
 
-static REFUSED: [&str; 48] = [
+static REFUSED: [&str; 54] = [
     "{{ a == b == }}",
     "{{ f ( , ) }}",
     "{{ ( a }}",
@@ -261,6 +289,12 @@ static REFUSED: [&str; 48] = [
     "{%with a = b , , c = d %} {%endwith %}",
     "{%autoescape %} {%endautoescape %}",
     "{%autoescape a , b %} {%endautoescape %}",
+    "{%for a in %} {%endfor %}",
+    "{%for in b %} {%endfor %}",
+    "{%for a = b %} {%endfor %}",
+    "{%for a in , %} {%endfor %}",
+    "{%for a in b , c if d %} {%endfor %}",
+    "{%for a in b %} {%block x %} {%endblock %} {%else %} {%block x %} {%endblock %} {%endfor %}",
     "{%do a %}",
     "{%do f ( a ) . x %}",
 ];
@@ -269,7 +303,7 @@ static REFUSED: [&str; 48] = [
 pub type Pieces = &'static [(Option<usize>, &'static str)];
 
 // What may nest 150 deep.
-static NESTINGS: [Pieces; 16] = [
+static NESTINGS: [Pieces; 19] = [
     &[
         (None, "{{"),
         (Some(0), "("),
@@ -341,14 +375,34 @@ static NESTINGS: [Pieces; 16] = [
         (None, "{%autoescape ( b ) %} {%endautoescape %}"),
         (Some(2), "{%endset %}"),
     ],
+    &[
+        (Some(0), "{%for a in b %}"),
+        (None, "{%break %}"),
+        (Some(0), "{%endfor %}"),
+    ],
+    &[
+        (Some(2), "{%for a in b %}"),
+        (None, "{%for ( a ) in ( b ) , c %} {%endfor %}"),
+        (Some(2), "{%endfor %}"),
+    ],
+    &[
+        (Some(2), "{%with %}"),
+        (None, "{%for a in b %} {%else %} {%endfor %}"),
+        (Some(2), "{%endwith %}"),
+    ],
 ];
 
 // A long row nests no deeper than a short one.
-static LONG: [Pieces; 5] = [
+static LONG: [Pieces; 6] = [
     &[(None, "{{ a"), (Some(0), "and b . c"), (None, "}}")],
     &[(None, "{{ a"), (Some(0), "if c"), (None, "}}")],
     &[(None, "{{ a"), (Some(0), "< b"), (None, "}}")],
     &[(None, "{%set a"), (Some(0), ", b"), (None, "= c , d %}")],
+    &[
+        (None, "{%for a in b"),
+        (Some(0), ", c"),
+        (None, "%} {%endfor %}"),
+    ],
     &[
         (None, "{%with a = b"),
         (Some(0), ", c = d"),

@@ -35,6 +35,14 @@ pub names_of_if_else : (x : Expr) (body other : List Stmt) → names_of (stmts.I
 unfolding hidden row shape-the_row-Stmt-0
 names_of_if_else x body other = refl
 
+pub names_of_for : (to : Target) (over : Expr) (body : List Stmt) → names_of (stmts.For to over body None) ≡ block_names body
+unfolding hidden row shape-the_row-Stmt-0
+names_of_for to over body = append-nil _
+
+pub names_of_for_else : (to : Target) (over : Expr) (body other : List Stmt) → names_of (stmts.For to over body (Some other)) ≡ block_names body ++ block_names other
+unfolding hidden row shape-the_row-Stmt-0
+names_of_for_else to over body other = refl
+
 pub names_of_block : (name : List ℕ) (body : List Stmt) → names_of (stmts.Block name body) ≡ name ∷ block_names body
 unfolding hidden row shape-the_row-Stmt-0
 names_of_block name body = refl
@@ -51,7 +59,7 @@ pub names_of_autoescape : (x : Expr) (body : List Stmt) → names_of (stmts.Auto
 unfolding hidden row shape-the_row-Stmt-0
 names_of_autoescape x body = refl
 
-pub ruleset forms = (names_of_if, names_of_if_else, names_of_block, names_of_set_block, names_of_with, names_of_autoescape)
+pub ruleset forms = (names_of_if, names_of_if_else, names_of_for, names_of_for_else, names_of_block, names_of_set_block, names_of_with, names_of_autoescape)
 
 -- the loop over statements: what is left behind one, and behind the last
 pub one_more : (old new goal : List (List ℕ)) (ss : List Stmt) (k : ℕ) (s : Stmt) → k < length ss → s ≡ get_or ss k s → new ≡ old ++ names_of s →

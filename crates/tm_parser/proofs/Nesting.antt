@@ -1,6 +1,7 @@
 -- One nesting less, one level less, what stands behind a value or a comparison, and what is a target.
 use Rattle.std.specs.Prelude.{option_map}
-use Rattle.std.proofs.Common.{◌≡◌, ℕ, zero, suc, ◌-◌, List, [], ◌∷◌, ◌++◌, None, Some, refl, sym, ap, arith, ◌∙◌}
+use Rattle.std.proofs.Common.{◌≡◌, ℕ, zero, suc, ◌-◌, Bool, false, List, [], ◌∷◌, ◌++◌, None, Some, refl, sym, ap, arith, ◌∙◌}
+use Rattle.tm_syntax.specs.declared.token.Tag.{Tag}
 use Rattle.tm_syntax.specs.declared.token.Token.{Token}
 use Rattle.tm_syntax.specs.declared.tree.Expr.{Expr}
 use Rattle.tm_syntax.specs.declared.tree.Expr.TheVariants as exprs
@@ -13,7 +14,7 @@ use Rattle.tm_syntax.specs.declared.tree.Target.TheVariants as target_forms
 use Rattle.tm_rules.specs.Meanings.{got}
 use Rattle.tm_rules.specs.Combinators.{branch, ◌>>=◌, pure}
 use Rattle.tm_parser.specs.Grammar.{Inside, inside, expr, operand, expr_at, primary, prefix, chained, compared, conditional, target, target_of, lone_target, last_target, attribute_name, split_last}
-use Rattle.tm_parser.specs.Statements.{inner, body, rest}
+use Rattle.tm_parser.specs.Statements.{inner, body, rest, else_or_end, bare}
 
 suc-sub-one : (n : ℕ) → suc n - 1 ≡ n
 suc-sub-one n = omega arith
@@ -118,22 +119,45 @@ an_attribute x ss before s name h some = ap (target_of x) h ∙ behind_all x bef
 
 pub ruleset members = (lone_of, no_attribute, an_attribute)
 
-pub no_body : (depth : ℕ) (ts : List Token) → depth ≡ 0 → (inner depth).body.reads ts ≡ None
+pub no_body : (depth : ℕ) (looping : Bool) (ts : List Token) → depth ≡ 0 → ((inner depth).body looping).reads ts ≡ None
 unfolding inner
-no_body depth ts h = ap (λ k. (inner k).body.reads ts) h
+no_body depth looping ts h = ap (λ k. ((inner k).body looping).reads ts) h
 
-pub inner_body : (depth : ℕ) (ts : List Token) → ¬ (depth ≡ 0) → (inner depth).body.reads ts ≡ (body (inside (depth - 1)) (inner (depth - 1))).reads ts
+pub inner_body : (depth : ℕ) (looping : Bool) (ts : List Token) → ¬ (depth ≡ 0) →
+    ((inner depth).body looping).reads ts ≡ (body (inside (depth - 1)) (inner (depth - 1)) looping).reads ts
 unfolding inner
-inner_body zero ts h = absurd (h refl)
-inner_body (suc depth) ts h = ap (λ k. (body (inside k) (inner k)).reads ts) (sym (suc-sub-one depth))
+inner_body zero looping ts h = absurd (h refl)
+inner_body (suc depth) looping ts h = ap (λ k. (body (inside k) (inner k) looping).reads ts) (sym (suc-sub-one depth))
 
-pub no_rest : (depth : ℕ) (ts : List Token) → depth ≡ 0 → (inner depth).rest.reads ts ≡ None
+pub no_rest : (depth : ℕ) (looping : Bool) (ts : List Token) → depth ≡ 0 → ((inner depth).rest looping).reads ts ≡ None
 unfolding inner
-no_rest depth ts h = ap (λ k. (inner k).rest.reads ts) h
+no_rest depth looping ts h = ap (λ k. ((inner k).rest looping).reads ts) h
 
-pub inner_rest : (depth : ℕ) (ts : List Token) → ¬ (depth ≡ 0) → (inner depth).rest.reads ts ≡ (rest (inside (depth - 1)) (inner (depth - 1))).reads ts
+pub inner_rest : (depth : ℕ) (looping : Bool) (ts : List Token) → ¬ (depth ≡ 0) →
+    ((inner depth).rest looping).reads ts ≡ (rest (inside (depth - 1)) (inner (depth - 1)) looping).reads ts
 unfolding inner
-inner_rest zero ts h = absurd (h refl)
-inner_rest (suc depth) ts h = ap (λ k. (rest (inside k) (inner k)).reads ts) (sym (suc-sub-one depth))
+inner_rest zero looping ts h = absurd (h refl)
+inner_rest (suc depth) looping ts h = ap (λ k. (rest (inside k) (inner k) looping).reads ts) (sym (suc-sub-one depth))
 
-pub ruleset statements = (no_body, inner_body, no_rest, inner_rest)
+pub no_else_or_end : (depth : ℕ) (end : Tag) (looping : Bool) (ts : List Token) → depth ≡ 0 → ((inner depth).else_or_end end looping).reads ts ≡ None
+unfolding inner
+no_else_or_end depth end looping ts h = ap (λ k. ((inner k).else_or_end end looping).reads ts) h
+
+pub inner_else_or_end : (depth : ℕ) (end : Tag) (looping : Bool) (ts : List Token) → ¬ (depth ≡ 0) →
+    ((inner depth).else_or_end end looping).reads ts ≡ (else_or_end (inner (depth - 1)) end looping).reads ts
+unfolding inner
+inner_else_or_end zero end looping ts h = absurd (h refl)
+inner_else_or_end (suc depth) end looping ts h = ap (λ k. (else_or_end (inner k) end looping).reads ts) (sym (suc-sub-one depth))
+
+pub ruleset statements = (no_body, inner_body, no_rest, inner_rest, no_else_or_end, inner_else_or_end)
+
+pub none_iterated : (depth : ℕ) (ts : List Token) → depth ≡ 0 → (inner depth).iterated.reads ts ≡ None
+unfolding inner
+none_iterated depth ts h = ap (λ k. (inner k).iterated.reads ts) h
+
+pub inner_iterated : (depth : ℕ) (ts : List Token) → ¬ (depth ≡ 0) → (inner depth).iterated.reads ts ≡ (bare (inside (depth - 1)) false).reads ts
+unfolding inner
+inner_iterated zero ts h = absurd (h refl)
+inner_iterated (suc depth) ts h = ap (λ k. (bare (inside k) false).reads ts) (sym (suc-sub-one depth))
+
+pub ruleset iterated = (none_iterated, inner_iterated)

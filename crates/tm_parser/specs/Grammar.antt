@@ -389,6 +389,7 @@ single i = branch (first (is sign.OpenRound))
 -- what stands behind a target
 abbrev pub ends_target : Token → Option (Unit {0})
 ends_target (tokens.Sign sign.Assign) = Some tt
+ends_target (tokens.Sign sign.In) = Some tt
 ends_target (tokens.Sign sign.CloseRound) = Some tt
 ends_target (tokens.Sign sign.BlockEnd) = Some tt
 ends_target _ = None

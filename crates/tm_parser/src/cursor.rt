@@ -122,7 +122,7 @@ impl<'t> Cursor<'t> {
     {
         match self.rest {
             [
-                Token::Sign(Sign::Assign | Sign::CloseRound | Sign::BlockEnd),
+                Token::Sign(Sign::Assign | Sign::In | Sign::CloseRound | Sign::BlockEnd),
                 ..
             ] => true,
             _ => false,

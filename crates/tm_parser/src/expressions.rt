@@ -2,7 +2,7 @@
 ghost use Rattle.std.specs.Prelude.{◌≡◌, ◌∷◌, [], MatchResult};
 ghost use Rattle.tm_parser.specs.Gives.{Gives};
 ghost use Rattle.tm_parser.specs.Grammar as grammar;
-ghost use Rattle.tm_parser.specs.Grammar.{inside, argument, attribute, bracketed, behind_comparison, comparison, comparisons_from, condition, conditions_from, conjunction, disjunction, else_part, expr, expr_at, items, last_part, list_literal, map_literal, more_items, named, operand, operation, pair, part, primary, slice, step, steps_from, subscript, tuple};
+ghost use Rattle.tm_parser.specs.Grammar.{inside, argument, attribute, bracketed, behind_comparison, comparison, comparisons_from, condition, conditions_from, conjunction, disjunction, else_part, expr, expr_at, items, last_part, list_literal, map_literal, more_items, named, operand, operation, pair, part, primary, slice, step, steps_from, subscript, tuple, whole};
 ghost use Rattle.tm_rules.specs.Combinators.{one_more};
 ghost use Rattle.tm_syntax.specs.declared.token.Sign.TheVariants as sign;
 ghost use Rattle.tm_values.specs.declared.error.ErrorKind.TheVariants.{OutOfMemory};
@@ -107,6 +107,13 @@ impl Cursor<'_> {
             return self.inner_expr(alloc, depth);
         }
         no_else(alloc)
+    }
+
+    /// A value with all operators, without conditions behind it.
+    pub fn whole(&mut self, alloc: Global, depth: u8) -> Result<Boxed<Expr>, Error>
+        ensures { Gives result self.new ((whole (inside depth)).reads self.old) }
+    {
+        self.expr_at(alloc, depth, LOOSEST)
     }
 
     /// An operand of a level, and the steps of that level behind it.

@@ -3,8 +3,8 @@ ghost use Rattle.std.specs.Prelude.{◌≡◌, [], MatchResult, None, Some};
 ghost use Rattle.std.specs.Option.{option_copied};
 ghost use Rattle.tm_parser.specs.Gives.{Gives, Refused};
 ghost use Rattle.tm_parser.specs.Grammar as grammar;
-ghost use Rattle.tm_parser.specs.Grammar.{inside, expr, items, member, more_items, more_targets, several, single, target};
-ghost use Rattle.tm_parser.specs.Statements.{assignment, bare, bare_tuple};
+ghost use Rattle.tm_parser.specs.Grammar.{inside, items, member, more_items, more_targets, several, single, target};
+ghost use Rattle.tm_parser.specs.Statements.{assignment, bare, bare_item, bare_tuple, inner};
 ghost use Rattle.tm_rules.specs.Combinators.{one_more};
 ghost use Rattle.tm_syntax.specs.declared.token.Sign.TheVariants as sign;
 
@@ -20,7 +20,7 @@ impl Cursor<'_> {
     /// A target inside one nesting more.
     #[cycle(targets)]
     #[tactic(auto, using(crate::proofs::Nesting::targets))]
-    fn inner_target(&mut self, alloc: Global, depth: u8) -> Result<Target, Error>
+    pub fn inner_target(&mut self, alloc: Global, depth: u8) -> Result<Target, Error>
         ensures { Gives result self.new ((inside depth).target.reads self.old) }
     {
         if depth == 0 {
@@ -113,16 +113,49 @@ impl Cursor<'_> {
         target_of(alloc, value, steps)
     }
 
+    /// What a loop goes over, and the end of its tag, inside one nesting more.
+    #[tactic(auto, using(crate::proofs::Nesting::iterated))]
+    pub fn inner_iterated(&mut self, alloc: Global, depth: u8) -> Result<Boxed<Expr>, Error>
+        ensures { Gives result self.new ((inner depth).iterated.reads self.old) }
+    {
+        if depth == 0 {
+            return Err(refusal());
+        }
+        self.bare(alloc, depth - 1, false)
+    }
+
     /// An expression or a tuple without brackets, and the end of the tag.
     #[tactic(auto, unfolding(crate::specs::Statements::bare))]
-    pub fn bare(&mut self, alloc: Global, depth: u8) -> Result<Boxed<Expr>, Error>
-        ensures { Gives result self.new ((bare (inside depth)).reads self.old) }
+    pub fn bare(
+        &mut self,
+        alloc: Global,
+        depth: u8,
+        conditional: bool,
+    ) -> Result<Boxed<Expr>, Error>
+        ensures { Gives result self.new ((bare (inside depth) conditional).reads self.old) }
     {
-        let first = self.expr(alloc, depth)?;
+        let first = self.bare_item(alloc, depth, conditional)?;
         if self.take(Sign::BlockEnd) {
             return Ok(first);
         }
-        self.bare_tuple(alloc, depth, first)
+        self.bare_tuple(alloc, depth, conditional, first)
+    }
+
+    /// An expression, behind which conditions may stand or not.
+    fn bare_item(
+        &mut self,
+        alloc: Global,
+        depth: u8,
+        conditional: bool,
+    ) -> Result<Boxed<Expr>, Error>
+        ensures { Gives result self.new
+            ((bare_item (inside depth) conditional).reads self.old) }
+    {
+        if conditional {
+            self.expr(alloc, depth)
+        } else {
+            self.whole(alloc, depth)
+        }
     }
 
     /// A tuple without brackets behind its first item, and the end of the tag.
@@ -131,14 +164,16 @@ impl Cursor<'_> {
         &mut self,
         alloc: Global,
         depth: u8,
+        conditional: bool,
         first: Boxed<Expr>,
     ) -> Result<Boxed<Expr>, Error>
-        ensures { Gives result self.new ((bare_tuple (inside depth) first).reads self.old) }
+        ensures { Gives result self.new
+            ((bare_tuple (inside depth) conditional first).reads self.old) }
     {
         self.expect(Sign::Comma)?;
         let mut items = Items::new(alloc);
         items.push(first.into_inner())?;
-        let items = self.bare_items(alloc, depth, items)?;
+        let items = self.bare_items(alloc, depth, conditional, items)?;
         Ok(Boxed::new(alloc, Expr::Tuple(items))?)
     }
 
@@ -148,16 +183,17 @@ impl Cursor<'_> {
         &mut self,
         alloc: Global,
         depth: u8,
+        conditional: bool,
         first: Items<Expr>,
     ) -> Result<Items<Expr>, Error>
         ensures { Gives result self.new
-            ((items sign.BlockEnd (expr (inside depth)) first).reads self.old) }
+            ((items sign.BlockEnd (bare_item (inside depth) conditional) first).reads self.old) }
     {
         if self.take(Sign::BlockEnd) {
             return Ok(first);
         }
-        let items = self.bare_item(alloc, depth, first)?;
-        let items = self.more_bare_items(alloc, depth, items)?;
+        let items = self.one_bare_item(alloc, depth, conditional, first)?;
+        let items = self.more_bare_items(alloc, depth, conditional, items)?;
         self.take(Sign::Comma);
         self.expect(Sign::BlockEnd)?;
         Ok(items)
@@ -169,29 +205,33 @@ impl Cursor<'_> {
         &mut self,
         alloc: Global,
         depth: u8,
+        conditional: bool,
         first: Items<Expr>,
     ) -> Result<Items<Expr>, Error>
         ensures { Gives result self.new
-            ((more_items sign.BlockEnd (expr (inside depth)) first).reads self.old) }
+            ((more_items sign.BlockEnd (bare_item (inside depth) conditional) first).reads
+            self.old) }
     {
         let mut items = first;
         while self.take_comma(Sign::BlockEnd) {
-            items = self.bare_item(alloc, depth, items)?;
+            items = self.one_bare_item(alloc, depth, conditional, items)?;
         }
         Ok(items)
     }
 
     /// An expression, at the end of others.
-    fn bare_item(
+    fn one_bare_item(
         &mut self,
         alloc: Global,
         depth: u8,
+        conditional: bool,
         items: Items<Expr>,
     ) -> Result<Items<Expr>, Error>
-        ensures { Gives result self.new ((one_more (expr (inside depth)) items).reads self.old) }
+        ensures { Gives result self.new
+            ((one_more (bare_item (inside depth) conditional) items).reads self.old) }
     {
         let mut items = items;
-        let value = self.expr(alloc, depth)?;
+        let value = self.bare_item(alloc, depth, conditional)?;
         items.push(value.into_inner())?;
         Ok(items)
     }

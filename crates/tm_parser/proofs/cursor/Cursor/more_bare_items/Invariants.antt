@@ -1,10 +1,11 @@
 use Rattle.std.proofs.Common.{◌≡◌, length}
 use Rattle.tm_syntax.specs.declared.token.Sign.TheVariants as sign
-use Rattle.tm_parser.specs.Grammar.{inside, more_items, expr}
+use Rattle.tm_parser.specs.Grammar.{inside, more_items}
+use Rattle.tm_parser.specs.Statements.{bare_item}
 use Rattle.tm_parser.proofs.cursor.Cursor.more_bare_items.Given as goal
 
 abbrev pub invariant-loop-alloc : goal.invariant-loop-alloc
-invariant-loop-alloc l = (more_items sign.BlockEnd (expr (inside l.depth)) l.items).reads l.self ≡ (more_items sign.BlockEnd (expr (inside l.depth)) l.fn.first).reads l.fn.self
+invariant-loop-alloc l = (more_items sign.BlockEnd (bare_item (inside l.depth) l.conditional) l.items).reads l.self ≡ (more_items sign.BlockEnd (bare_item (inside l.depth) l.conditional) l.fn.first).reads l.fn.self
 
 abbrev pub decreases-loop-alloc : goal.decreases-loop-alloc
 decreases-loop-alloc l = length l.self
