@@ -12,8 +12,9 @@ use Rattle.tm_syntax.specs.declared.tree.Target.TheBlock.{shape-the_row-Target-0
 use Rattle.tm_syntax.specs.declared.tree.Stmt.{Stmt}
 use Rattle.tm_syntax.specs.declared.tree.Stmt.TheBlock.{shape-the_row-Stmt-0, hidden-the_row-Stmt-0 as statements}
 use Rattle.tm_syntax.specs.declared.instruction.Instruction.{Instruction}
-use Rattle.tm_syntax.specs.Code.{expr_code, exprs_code, pair_code, pairs_code, argument_code, arguments_code, step_code, steps_code, target_code, targets_code, statement_code, statements_code, count, count_exprs, count_pairs, count_targets}
+use Rattle.tm_syntax.specs.Code.{Inside, Opened, expr_code, exprs_code, pair_code, pairs_code, argument_code, arguments_code, step_code, steps_code, target_code, targets_code, statement_code, statements_code, count, count_exprs, count_pairs, count_targets}
 use Rattle.tm_syntax.specs.Blocks.{blocks_of, blocks_in}
+use Rattle.tm_generator.specs.Exits.{unset, exits_of, exits_in}
 
 exprs-nil : (pc : ℕ) → exprs_code pc (exprs []) ≡ []
 unfolding hidden exprs shape-the_row-Expr-1
@@ -75,13 +76,21 @@ unfolding hidden targets shape-the_row-Target-0
 count-targets [] = refl
 count-targets (x ∷ xs) = omega (arith, count-targets xs)
 
-statements-nil : (pc : ℕ) → statements_code pc (statements []) ≡ []
+statements-nil : (k : Inside) (pc : ℕ) → statements_code k pc (statements []) ≡ []
 unfolding hidden statements shape-the_row-Stmt-0
-statements-nil pc = refl
+statements-nil k pc = refl
 
-statements-cons : (pc : ℕ) (x : Stmt) (xs : List Stmt) → statements_code pc (statements (x ∷ xs)) ≡ statement_code pc x ++ statements_code (pc + length (statement_code pc x)) (statements xs)
+statements-cons : (k : Inside) (pc : ℕ) (x : Stmt) (xs : List Stmt) → statements_code k pc (statements (x ∷ xs)) ≡ statement_code k pc x ++ statements_code k (pc + length (statement_code k pc x)) (statements xs)
 unfolding hidden statements shape-the_row-Stmt-0
-statements-cons pc x xs = refl
+statements-cons k pc x xs = refl
+
+pub exits-nil : (os : List Opened) (pc : ℕ) → exits_in os pc (statements []) ≡ []
+unfolding hidden statements shape-the_row-Stmt-0
+exits-nil os pc = refl
+
+pub exits-cons : (os : List Opened) (pc : ℕ) (x : Stmt) (xs : List Stmt) → exits_in os pc (statements (x ∷ xs)) ≡ exits_of os pc x ++ exits_in os (pc + length (statement_code (unset os) pc x)) (statements xs)
+unfolding hidden statements shape-the_row-Stmt-0
+exits-cons os pc x xs = refl
 
 pub blocks-nil : blocks_in (statements []) ≡ []
 unfolding hidden statements shape-the_row-Stmt-0
@@ -138,9 +147,9 @@ more_targets = more target_code (λ pc xs. targets_code pc (targets xs)) targets
 pub no_more_targets : (l goal : List Instruction) (xs : List Target) → xs ≡ [] → l ++ targets_code (length l) (targets xs) ≡ goal → l ≡ goal
 no_more_targets = no_more target_code (λ pc xs. targets_code pc (targets xs)) targets-nil
 
-pub more_statements : (old new goal : List Instruction) (xs rest : List Stmt) (x : Stmt) → xs ≡ x ∷ rest → new ≡ old ++ statement_code (length old) x →
-    old ++ statements_code (length old) (statements xs) ≡ goal → new ++ statements_code (length new) (statements rest) ≡ goal
-more_statements = more statement_code (λ pc xs. statements_code pc (statements xs)) statements-cons
+pub more_statements : (k : Inside) (old new goal : List Instruction) (xs rest : List Stmt) (x : Stmt) → xs ≡ x ∷ rest → new ≡ old ++ statement_code k (length old) x →
+    old ++ statements_code k (length old) (statements xs) ≡ goal → new ++ statements_code k (length new) (statements rest) ≡ goal
+more_statements k = more (statement_code k) (λ pc xs. statements_code k pc (statements xs)) (statements-cons k)
 
-pub no_more_statements : (l goal : List Instruction) (xs : List Stmt) → xs ≡ [] → l ++ statements_code (length l) (statements xs) ≡ goal → l ≡ goal
-no_more_statements = no_more statement_code (λ pc xs. statements_code pc (statements xs)) statements-nil
+pub no_more_statements : (k : Inside) (l goal : List Instruction) (xs : List Stmt) → xs ≡ [] → l ++ statements_code k (length l) (statements xs) ≡ goal → l ≡ goal
+no_more_statements k = no_more (statement_code k) (λ pc xs. statements_code k pc (statements xs)) (statements-nil k)

@@ -2,6 +2,7 @@
 #![tactic(auto, using(tm_syntax::proofs::Forms::boxes))]
 
 mod generator;
+mod loops;
 mod patches;
 mod targets;
 
