@@ -13,7 +13,7 @@ mod view;
 
 pub use callable::{Answer, Callable, Reply};
 pub use compiled::{CompiledTemplate, Source, TemplateConfig};
-pub use context::{Context, Frame};
+pub use context::{Context, Found, Frame};
 pub use defaults::{EscapeSetting, default_auto_escape_callback};
 pub use host::Host;
 pub use objects::{Objects, Parties};

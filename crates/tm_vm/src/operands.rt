@@ -32,7 +32,7 @@ impl Machine<'_> {
             self.old self.new result }
     {
         let value = match self.state.lookup(host, name.as_str()) {
-            Ok(Some(value)) => value.share()?,
+            Ok(Some(value)) => value,
             Ok(None) => Value::undefined(),
             Err(error) => return Err(Halt::Fault(error)),
         };

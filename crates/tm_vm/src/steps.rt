@@ -79,6 +79,10 @@ impl Machine<'_> {
             Instruction::SetAttr(name) => self.do_set_attr(alloc, name),
             Instruction::PushWith => self.do_push_with(alloc, host, base),
             Instruction::PopFrame => self.do_pop_frame(base),
+            Instruction::PushLoop(flags) => self.do_push_loop(alloc, host, base, *flags),
+            Instruction::Iterate(place) => self.do_iterate(alloc, *place),
+            Instruction::PushDidNotIterate => self.do_push_did_not_iterate(),
+            Instruction::PopLoopFrame => self.do_pop_loop_frame(base),
             Instruction::BeginCapture(mode) => self.do_begin_capture(alloc, *mode),
             Instruction::EndCapture => self.do_end_capture(alloc),
             Instruction::PushAutoEscape => self.do_push_auto_escape(base),
@@ -117,6 +121,7 @@ impl Machine<'_> {
             && base.captures == self.captures.depth()
             && base.scopes == self.state.height()
             && self.run.escapes_are_closed()
+            && !self.run.has_loop()
         {
             return Ok(Flow::Done);
         }
