@@ -355,7 +355,7 @@ fn push_steps(alloc: Global, code: &mut Items<Instruction>, behind: &[Step]) -> 
     Ok(())
 }
 
-/// Adds the code of a statement and the jumps out of it, and the code of its blocks; OutOfMemory.
+/// Adds the code of a statement and the jumps out of it, and that of its blocks; OutOfMemory.
 #[cycle(statements)]
 fn push_statement(
     alloc: Global,
@@ -482,9 +482,11 @@ fn push_for(
         ++ statement_code (unset around.old.opened) (length code.old)
         (For target.now iterable.now body.now other.now)) }
     ensures around { OnOk result (around.new ≡ with_exits around.old
-        (exits_of around.old.opened (length code.old) (For target.now iterable.now body.now other.now))) }
-    ensures blocks { OnOk result (blocks.new
-        ≡ put_each (compiled_blocks (blocks_of (For target.now iterable.now body.now other.now))) blocks.old) }
+        (exits_of around.old.opened (length code.old)
+        (For target.now iterable.now body.now other.now))) }
+    ensures blocks { OnOk result (blocks.new ≡ put_each
+        (compiled_blocks (blocks_of (For target.now iterable.now body.now other.now)))
+        blocks.old) }
     ensures err { IfErr result (λ e. e ≡ OutOfMemory ∷ []) }
 {
     push_expr(alloc, code, iterable)?;
@@ -495,7 +497,7 @@ fn push_for(
     push_no_round(alloc, code, blocks, around, other.as_slice())
 }
 
-/// Adds the code of a loop's rounds, up to its jump back, and the code of their blocks; OutOfMemory.
+/// Adds the code of a loop's rounds, up to its jump back, and that of their blocks; OutOfMemory.
 #[cycle(statements)]
 fn push_rounds(
     alloc: Global,
@@ -655,7 +657,7 @@ fn push_autoescape(
     put(code, Instruction::PopAutoEscape)
 }
 
-/// Adds the code of statements and the jumps out of them, and the code of their blocks; OutOfMemory.
+/// Adds the code of statements and the jumps out of them, and that of their blocks; OutOfMemory.
 #[cycle(statements)]
 fn push_statements(
     alloc: Global,

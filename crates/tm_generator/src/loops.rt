@@ -104,7 +104,8 @@ impl Enclosing {
         put(code, Instruction::Jump(0))
     }
 
-    /// Lets the jumps out of the body lead to where the next item is asked for, and behind the loop.
+    /// Lets each jump out of the body lead to where the next item is asked for, or behind the
+    /// loop.
     pub(crate) fn lead(&self, code: &mut Items<Instruction>, again: usize, behind: usize)
         requires { All (λ exit. place_of exit < length code.old) self.now.exits }
         ensures { code.new ≡ led code.old self.now.exits again behind }
