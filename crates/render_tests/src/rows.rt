@@ -189,6 +189,40 @@ static ROWS: &[Row] = &[
     Row("{% set x %}", "", Err(ErrorKind::SyntaxError)),
     Row("{% set x %}a{{ 1 }}{% endset %}{{ x }}", "a1", Ok(7)),
     Row(
+        "{% for x in [1,2] %}{{ x }}{% endfor %}{{ x }}",
+        "12",
+        Ok(16),
+    ),
+    Row("{% for x in [] %}{% else %}E{% endfor %}", "E", Ok(4)),
+    Row(
+        "{% for x in [1] %}{% break %}{% else %}E{% endfor %}",
+        "",
+        Ok(6),
+    ),
+    Row(
+        "{% for x in [1] %}{% set y %}a{% break %}{% endset %}{% endfor %}[{{ y }}]",
+        "[]",
+        Ok(11),
+    ),
+    Row(
+        "{% for x in [1,2] %}{% with %}{{ x }}{% continue %}{% endwith %}{% endfor %}",
+        "12",
+        Ok(14),
+    ),
+    Row(
+        "{% for x in \"ab\" %}{{ loop.previtem }}{{ loop.revindex }}{{ loop.nextitem }}{% endfor %}",
+        "2ba1",
+        Ok(26),
+    ),
+    Row(
+        "{% for x in [1,2] %}{% for y in [3] %}{{ x }}{{ y }}{{ loop.length }}{% endfor %}{% endfor %}",
+        "131231",
+        Ok(36),
+    ),
+    Row("a{% for x in 1 %}{% endfor %}", "a", Err(ErrorKind::InvalidOperation)),
+    Row("a{% for x, y in [1] %}{% endfor %}", "a", Err(ErrorKind::CannotUnpack)),
+    Row("{% break %}", "", Err(ErrorKind::SyntaxError)),
+    Row(
         "{% set x %}{% block b %}q{% endblock %}{% endset %}[{{ x }}]",
         "[q]",
         Ok(8),
