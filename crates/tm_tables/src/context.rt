@@ -149,6 +149,13 @@ impl Frame {
         Ok(())
     }
 
+    /// Loses its names.
+    fn clear(&mut self, alloc: Global)
+        ensures { self.new ≡ record self.old { locals = [] } }
+    {
+        self.locals = NameMap::new(alloc);
+    }
+
     /// The names that it exports, in their order: its own that don't begin with `_`. OutOfMemory.
     fn exports(&self, alloc: Global) -> Result<Vec<&str>, Error>
         ensures { OkOrOutOfMemory result (λ names. texts_of names.items ≡ exported_by self.now) }
@@ -305,7 +312,7 @@ impl Context {
         ensures { self.new ≡ record self.old { frames = without_locals self.old.frames } }
     {
         if let Some(innermost) = self.frames.len().checked_sub(1) {
-            self.frames[innermost].locals = NameMap::new(alloc);
+            self.frames[innermost].clear(alloc);
         }
     }
 
