@@ -219,8 +219,16 @@ static ROWS: &[Row] = &[
         "131231",
         Ok(36),
     ),
-    Row("a{% for x in 1 %}{% endfor %}", "a", Err(ErrorKind::InvalidOperation)),
-    Row("a{% for x, y in [1] %}{% endfor %}", "a", Err(ErrorKind::CannotUnpack)),
+    Row(
+        "a{% for x in 1 %}{% endfor %}",
+        "a",
+        Err(ErrorKind::InvalidOperation),
+    ),
+    Row(
+        "a{% for x, y in [1] %}{% endfor %}",
+        "a",
+        Err(ErrorKind::CannotUnpack),
+    ),
     Row("{% break %}", "", Err(ErrorKind::SyntaxError)),
     Row(
         "{% set x %}{% block b %}q{% endblock %}{% endset %}[{{ x }}]",
