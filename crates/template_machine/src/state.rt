@@ -1,9 +1,8 @@
 //! States, and what a render leaves.
 ghost use Rattle.std.specs.Prelude.{◌≡◌, ◌+◌, Some, IfSome, string_bytes};
 ghost use Rattle.tm_syntax.specs.Named.{find};
-ghost use Rattle.tm_values.specs.Answer.{IsLent, OkOrOutOfMemory};
+ghost use Rattle.tm_values.specs.Answer.{IsAnswer, IsLent, OkOrOutOfMemory};
 ghost use Rattle.tm_meaning.specs.World.{find_name, fuel_levels, name_of, view_of};
-ghost use Rattle.tm_tables.specs.Found.{IsFound};
 ghost use Rattle.tm_syntax.specs.Named.{texts_of};
 ghost use Rattle.tm_state.specs.State.{exported};
 ghost use Rattle.template_machine.specs.Environment.{host_of};
@@ -84,9 +83,9 @@ impl<'env, O: Parties> StateOf<'env, O> {
         self.rendering.template_name(&self.kept.stream().template)
     }
 
-    /// The value of a name: of the scopes, an inner one's first, else of the globals. InvalidOperation where a scope on the way is over a namespace whose record isn't there.
-    pub fn lookup(&self, name: &str) -> Result<Option<&Value>, Error>
-        ensures { IsFound result (find_name
+    /// The value of a name: of the scopes, an inner one's first, else of the globals. InvalidOperation where a scope on the way is over a namespace whose record isn't there; OutOfMemory.
+    pub fn lookup(&self, name: &str) -> Result<Option<Value>, Error>
+        ensures { IsAnswer result (find_name
             (view_of (host_of O.functions self.now.template) self.now.world) name.now) }
     {
         self.kept.lookup(&self.rendering, name)
