@@ -38,6 +38,7 @@ fn kept(
         0,
         &context,
         &[],
+        &[],
         &globals,
         &temps,
         "page",
