@@ -16,7 +16,9 @@ pub struct Side {
 /// A part of a source: where it begins there, and its text.
 #[derive(Clone, Copy)]
 pub struct Part<'s> {
+    /// Its place in the source, in bytes.
     pub start: usize,
+    /// What stands there.
     pub text: &'s str,
 }
 
