@@ -4,7 +4,7 @@ set -euo pipefail
 cd "$(dirname "${BASH_SOURCE[0]}")"
 
 failed=0
-for input in hello.txt mail.txt server.conf page.html notice.txt; do
+for input in hello.txt mail.txt server.conf page.html notice.txt table.html; do
     base=${input%.*}
     words=()
     while IFS= read -r line; do

@@ -8,8 +8,8 @@ use std::alloc::Global;
 use std::test::Fail;
 use tm_compiler::NameMap;
 use tm_tables::{
-    Answer, Callable, CompiledTemplate, Context, Frame, Objects, Parties, Source, TemplateConfig,
-    View,
+    Answer, Callable, Called, CompiledTemplate, Context, Frame, Objects, Parties, Source,
+    TemplateConfig, View,
 };
 use tm_values::{AutoEscape, Error, UndefinedBehavior, Value};
 
@@ -38,6 +38,7 @@ fn kept(
         0,
         &context,
         &[],
+        &[],
         &globals,
         &temps,
         "page",
@@ -45,8 +46,8 @@ fn kept(
         UndefinedBehavior::Lenient,
     );
     match objects.call_function(alloc, number, &[], &view) {
-        Some(answer) => Ok(answer.temps.len()),
-        None => Ok(0),
+        Some(Called::Answered(answer)) => Ok(answer.temps.len()),
+        _ => Ok(0),
     }
 }
 

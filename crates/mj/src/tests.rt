@@ -160,8 +160,47 @@ impl Shelf {
     }
 }
 
+const TABLE: &str = "<!DOCTYPE html>
+<html lang=\"en\">
+  <head>
+    <meta charset=\"utf-8\">
+    <title>{{ title }}</title>
+  </head>
+  <body>
+    <h1>{{ title }}</h1>
+    <table>
+      {%- for a in range(1, 5) %}
+      <tr>{% for b in range(1, 5) %}<td>{{ a * b }}</td>{% endfor %}</tr>
+      {%- endfor %}
+    </table>
+    <p>These divide 12: {% for n in range(2, 12) if 12 % n == 0 %}{{ n }}{% if not loop.last %}, {% endif %}{% endfor %}.</p>
+  </body>
+</html>
+";
+
+const TABLE_NAMES: &str = "title=Products & divisors
+";
+
+const TABLE_EXPECTED: &str = "<!DOCTYPE html>
+<html lang=\"en\">
+  <head>
+    <meta charset=\"utf-8\">
+    <title>Products &amp; divisors</title>
+  </head>
+  <body>
+    <h1>Products &amp; divisors</h1>
+    <table>
+      <tr><td>1</td><td>2</td><td>3</td><td>4</td></tr>
+      <tr><td>2</td><td>4</td><td>6</td><td>8</td></tr>
+      <tr><td>3</td><td>6</td><td>9</td><td>12</td></tr>
+      <tr><td>4</td><td>8</td><td>12</td><td>16</td></tr>
+    </table>
+    <p>These divide 12: 2, 3, 4, 6.</p>
+  </body>
+</html>";
+
 /// The files that hold text.
-static FILES: [(&str, &str); 9] = [
+static FILES: [(&str, &str); 10] = [
     ("hello.txt", "Hello {{ name }}!\n"),
     ("tag.txt", "a{% x %}"),
     ("call.txt", "a{{ nope() }}b"),
@@ -171,6 +210,7 @@ static FILES: [(&str, &str); 9] = [
     ("server.conf", SERVER),
     ("page.html", PAGE),
     ("notice.txt", NOTICE),
+    ("table.html", TABLE),
 ];
 
 /// The text of a file.
@@ -502,11 +542,12 @@ fn words_of<'a>(alloc: Global, names: &'a str, path: &'a str) -> Result<Vec<&'a 
     Ok(words)
 }
 
-static EXAMPLES: [(&str, &str, &str); 4] = [
+static EXAMPLES: [(&str, &str, &str); 5] = [
     ("mail.txt", MAIL_NAMES, MAIL_EXPECTED),
     ("server.conf", SERVER_NAMES, SERVER_EXPECTED),
     ("page.html", PAGE_NAMES, PAGE_EXPECTED),
     ("notice.txt", NOTICE_NAMES, NOTICE_EXPECTED),
+    ("table.html", TABLE_NAMES, TABLE_EXPECTED),
 ];
 
 #[test]

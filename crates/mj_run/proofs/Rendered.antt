@@ -1,6 +1,6 @@
 -- What the program renders is what the words and the source mean.
 use Rattle.std.proofs.Common.{◌≡◌, ℕ, inl, inr, List, [], ◌∷◌, Option, None, Some, Result, Ok, Err, map, min, IsErrAnd, MatchResult, is_eq, ◌<◌, arith, refl, sym, ap, subst, ◌∙◌}
-use Rattle.std.specs.Prelude.{cond}
+use Rattle.std.specs.Prelude.{cond, true}
 use Rattle.std.specs.Io.KnownBytes.{Keeps, Appends}
 use Rattle.std.proofs.lemmas.Cmp.{nat_list_cmp_total, tied_itself}
 use Rattle.tm_values.specs.Val.{Val}
@@ -12,12 +12,13 @@ use Rattle.tm_delimiters.specs.Syntax.{Syntax, default_syntax}
 use Rattle.tm_syntax.specs.declared.tree.Tree.{Tree}
 use Rattle.tm_syntax.specs.Named.{Named, find, put}
 use Rattle.tm_compiler.specs.Spells.{Spells, SpellsNone}
-use Rattle.tm_meaning.specs.World.{Function, World}
+use Rattle.tm_meaning.specs.World.{Function, View, Stated, World}
 use Rattle.tm_meaning.specs.Meaning.{Ending, done, leave, next, fault, Outcome, chain_in, chain_of}
 use Rattle.tm_output.specs.Counts.{Tally, AppendsBeginning}
 use Rattle.tm_tables.specs.Defaults.{escape_by_name, escape_of}
+use Rattle.tm_tables.specs.Stated.{Table, language_functions, functions_of, behind_language}
 use Rattle.tm_tables.specs.Templates.{Compiled, IsRefused}
-use Rattle.template_machine.specs.Environment.{EnvironmentValue, TemplateValue, IsTemplateOf, new_environment, greatest_limit}
+use Rattle.template_machine.specs.Environment.{EnvironmentValue, TemplateValue, IsTemplateOf, expected_environment, new_environment, greatest_limit}
 use Rattle.template_machine.specs.Renders.{CapturedValue, answer_by, greatest, meaning, Rendered, as_meant, by_writer, by_memory}
 use Rattle.mj_words.specs.CommandLine.{Text, Asked}
 use Rattle.mj_run.specs.Program.{context_of, limit_of, template_in, meaning_of, IsMeant, IsRendered, IsBegun, IsFault, no_memory, write_failed, flush_failed, no_tree, meant}
@@ -32,7 +33,7 @@ found_is_put name t u e = let there : find name (put name t []) ≡ Some t = fou
 -- Objects that are no functions: a template means what it means where there are none.
 abbrev template_over : {O : Type 0} → O → Named Compiled → Option ℕ → ℕ → Compiled → TemplateValue O
 template_over objects templates fuel limit t = record {
-  environment = record (new_environment objects) { templates = templates; fuel = fuel; limit = limit };
+  environment = record (expected_environment objects) { templates = templates; fuel = fuel; limit = limit };
   template = t;
 }
 
@@ -41,9 +42,9 @@ means_same : {O P : Type 0} (fs gs : List Function) (o : O) (p : P) (templates :
 means_same fs gs o p templates fuel limit t id context same =
     ap (λ (hs : List Function). meaning (λ x. x) (template_over hs templates fuel limit t) id context) same
 
--- no objects are no functions
-pub none_of : {C : Type 0} (f : C → Function) (objects : List C) → objects ≡ [] → map f objects ≡ []
-none_of f objects none = ap (map f) none
+-- without objects there are the functions of the language
+pub none_of : {C : Type 0} (answers : C → List Val → View → Stated) (objects : Table C) → objects ≡ language_functions → functions_of answers objects ≡ behind_language true []
+none_of answers objects none = ap (functions_of answers) none
 
 compiled_is : (t : Compiled) (name source : Text) (escape : AutoEscape) → t.name ≡ name → t.source ≡ source → t.escape ≡ escape →
     t ≡ record { name = name; source = source; escape = escape; tree = t.tree }
@@ -53,57 +54,57 @@ compiled_is t name source escape named from escaped =
     ∙ ap (λ (x : AutoEscape). let u : Compiled = record { name = name; source = source; escape = x; tree = t.tree } in u) escaped
 
 module _ {C : Type 0} where
-  abbrev empty : EnvironmentValue (List C)
-  empty = new_environment []
+  abbrev empty : EnvironmentValue (Table C)
+  empty = new_environment
 
-  abbrev settled : Asked → EnvironmentValue (List C)
+  abbrev settled : Asked → EnvironmentValue (Table C)
   settled a = record empty { fuel = a.fuel; limit = limit_of a.limit }
 
   -- what an environment is behind its settings
-  pub started : (a : Asked) (limit : ℕ) (first fuelled set : EnvironmentValue (List C)) → first ≡ empty → fuelled ≡ record first { fuel = a.fuel } →
+  pub started : (a : Asked) (limit : ℕ) (first fuelled set : EnvironmentValue (Table C)) → first ≡ empty → fuelled ≡ record first { fuel = a.fuel } →
       set ≡ record fuelled { limit = min limit greatest_limit } → min limit greatest_limit ≡ limit_of a.limit → set ≡ settled a
   started a limit first fuelled set start fuel limited same =
-      limited ∙ (ap (λ (e : EnvironmentValue (List C)). record e { limit = min limit greatest_limit }) (fuel ∙ ap (λ (e : EnvironmentValue (List C)). record e { fuel = a.fuel }) start)
+      limited ∙ (ap (λ (e : EnvironmentValue (Table C)). record e { limit = min limit greatest_limit }) (fuel ∙ ap (λ (e : EnvironmentValue (Table C)). record e { fuel = a.fuel }) start)
       ∙ ap (λ n. record empty { fuel = a.fuel; limit = n }) same)
 
   -- another template of the environment in which one was put alone
-  abbrev put_there_as : Asked → Compiled → Compiled → TemplateValue (List C)
-  put_there_as a t u = template_over [] (put a.file t []) a.fuel (limit_of a.limit) u
+  abbrev put_there_as : Asked → Compiled → Compiled → TemplateValue (Table C)
+  put_there_as a t u = template_over language_functions (put a.file t []) a.fuel (limit_of a.limit) u
 
   -- a template that was put alone
-  abbrev put_alone : Asked → Compiled → TemplateValue (List C)
+  abbrev put_alone : Asked → Compiled → TemplateValue (Table C)
   put_alone a t = put_there_as a t t
 
   -- The template that is found means what the words and a tree of the source mean.
-  pub is_meant : (fs : List Function) (a : Asked) (source : Text) (set added : EnvironmentValue (List C)) (t : Compiled) (found : TemplateValue (List C)) (context : Val) →
-      (found.environment.objects ≡ [] → fs ≡ []) → set ≡ settled a → IsTemplateOf set a.file source t → added ≡ record set { templates = put a.file t set.templates } →
+  pub is_meant : (fs : List Function) (a : Asked) (source : Text) (set added : EnvironmentValue (Table C)) (t : Compiled) (found : TemplateValue (Table C)) (context : Val) →
+      (found.environment.objects ≡ language_functions → fs ≡ behind_language true []) → set ≡ settled a → IsTemplateOf set a.file source t → added ≡ record set { templates = put a.file t set.templates } →
       (found.environment ≡ added) × (find a.file added.templates ≡ Some found.template) → context ≡ context_of a.texts →
       IsMeant (λ _. fs) found context a source
   is_meant fs a source set added t found context none start is put_there (same, there) given =
       let whole : added ≡ record (settled a) { templates = put a.file t [] } =
-      put_there ∙ ap (λ (e : EnvironmentValue (List C)). record e { templates = put a.file t e.templates }) start in
-      let template : t ≡ found.template = found_is_put a.file t found.template (subst (λ (e : EnvironmentValue (List C)). find a.file e.templates ≡ Some found.template) whole there) in
+      put_there ∙ ap (λ (e : EnvironmentValue (Table C)). record e { templates = put a.file t e.templates }) start in
+      let template : t ≡ found.template = found_is_put a.file t found.template (subst (λ (e : EnvironmentValue (Table C)). find a.file e.templates ≡ Some found.template) whole there) in
       let alone : found ≡ put_alone a t =
-      ap (λ (e : EnvironmentValue (List C)). let v : TemplateValue (List C) = record { environment = e; template = found.template } in v) (same ∙ whole)
+      ap (λ (e : EnvironmentValue (Table C)). let v : TemplateValue (Table C) = record { environment = e; template = found.template } in v) (same ∙ whole)
       ∙ ap (λ (u : Compiled). put_there_as a t u) (sym template) in
-      let objects : found.environment.objects ≡ [] = ap (λ (e : EnvironmentValue (List C)). e.objects) (same ∙ whole) in
-      let escaped : t.escape ≡ escape_by_name a.file = is.escape_is ∙ ap (λ (e : EnvironmentValue (List C)). escape_of e.escaping a.file) start in
+      let objects : found.environment.objects ≡ language_functions = ap (λ (e : EnvironmentValue (Table C)). e.objects) (same ∙ whole) in
+      let escaped : t.escape ≡ escape_by_name a.file = is.escape_is ∙ ap (λ (e : EnvironmentValue (Table C)). escape_of e.escaping a.file) start in
       let named : t ≡ record { name = a.file; source = source; escape = escape_by_name a.file; tree = t.tree } =
       compiled_is t a.file source (escape_by_name a.file) is.name_is is.source_is escaped in (
         t.tree,
-        subst (λ (e : EnvironmentValue (List C)). Spells e.syntax source t.tree) start is.spelled,
-        ap (λ (v : TemplateValue (List C)). meaning (λ _. fs) v 0 context) alone
+        subst (λ (e : EnvironmentValue (Table C)). Spells e.syntax source t.tree) start is.spelled,
+        ap (λ (v : TemplateValue (Table C)). meaning (λ _. fs) v 0 context) alone
             ∙ (ap (λ v. meaning (λ _. fs) (put_alone a t) 0 v) given
-            ∙ (means_same {O = List C} {P = List Function} fs [] [] [] (put a.file t []) a.fuel (limit_of a.limit) t 0 (context_of a.texts) (none objects)
+            ∙ (means_same {O = Table C} {P = List Function} fs (behind_language true []) language_functions (behind_language true []) (put a.file t []) a.fuel (limit_of a.limit) t 0 (context_of a.texts) (none objects)
             ∙ ap (λ (u : Compiled). meaning (λ fs. fs) (template_in a u) 0 (context_of a.texts)) named)),
       )
 
   -- The template is found: it was put.
-  pub is_found : {X : Type 0} (name : Text) (set added : EnvironmentValue (List C)) (t : Compiled) → set.templates ≡ [] → added ≡ record set { templates = put name t set.templates } →
+  pub is_found : {X : Type 0} (name : Text) (set added : EnvironmentValue (Table C)) (t : Compiled) → set.templates ≡ [] → added ≡ record set { templates = put name t set.templates } →
       find name added.templates ≡ None → X
   is_found name set added t start put_there none =
       let there : find name added.templates ≡ Some t =
-      ap (λ (e : EnvironmentValue (List C)). find name e.templates) put_there ∙ ap (λ es. find name (put name t es)) start ∙ found_there name t in
+      ap (λ (e : EnvironmentValue (Table C)). find name e.templates) put_there ∙ ap (λ es. find name (put name t es)) start ∙ found_there name t in
       absurd (cc)
 
 -- a render as the first state of a counter

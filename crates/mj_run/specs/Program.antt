@@ -16,7 +16,8 @@ use Rattle.tm_meaning.specs.Meaning.{Outcome, chain_of}
 use Rattle.tm_output.specs.Counts.{Tally, one_more, AppendsBeginning}
 use Rattle.tm_tables.specs.Defaults.{escape_by_name}
 use Rattle.tm_tables.specs.Templates.{Compiled}
-use Rattle.template_machine.specs.Environment.{TemplateValue, new_environment, greatest_limit}
+use Rattle.template_machine.specs.Environment.{TemplateValue, expected_environment, greatest_limit}
+use Rattle.tm_tables.specs.Stated.{behind_language}
 use Rattle.template_machine.specs.Renders.{meaning}
 use Rattle.mj_words.specs.CommandLine.{Text, Asked, asked}
 
@@ -33,10 +34,10 @@ abbrev pub limit_of : Option ℕ → ℕ
 limit_of None = greatest_limit
 limit_of (Some n) = min n greatest_limit
 
--- the one template of a new environment, which has no functions, with the fuel and the limit of the words
+-- the one template of a new environment, which has the functions of the language, with the fuel and the limit of the words
 abbrev pub template_in : Asked → Compiled → TemplateValue (List Function)
 template_in a t = record {
-  environment = record (new_environment []) { templates = put a.file t []; fuel = a.fuel; limit = limit_of a.limit };
+  environment = record (expected_environment (behind_language true [])) { templates = put a.file t []; fuel = a.fuel; limit = limit_of a.limit };
   template = t;
 }
 

@@ -58,7 +58,7 @@ fn render_in<'a, O: Write + Drop>(
     context: Value,
     out: &mut Counted<O>,
 ) -> Result<(), Error>
-    requires new { environment.now ≡ new_environment [] }
+    requires new { environment.now ≡ new_environment }
     requires given { context ≡ context_of (map plain arguments.now.texts.items) }
     ensures { MatchResult result
         (λ _. IsRendered O.contents (asked_of arguments.now) source.entry.now out.old out.new)

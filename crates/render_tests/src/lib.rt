@@ -2,6 +2,8 @@
 #![tactic(auto)]
 
 #[cfg(test)]
+mod globals;
+#[cfg(test)]
 mod rows;
 #[cfg(test)]
 mod templates;

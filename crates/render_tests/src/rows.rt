@@ -1,10 +1,10 @@
 //! Rows of expected renders: what a source gives, and what it is charged.
-ghost use Rattle.std.specs.Prelude.{◌≡◌, List, [], ◌∷◌, codes, option_copied, pos, slice_get};
+ghost use Rattle.std.specs.Prelude.{◌≡◌, ◌-◌, List, [], ◌∷◌, codes, length, option_copied, pos, slice_get};
 ghost use Rattle.tm_values.specs.Val.{number};
 ghost use Rattle.tm_syntax.specs.Named.{find};
 ghost use Rattle.tm_meaning.specs.World.{gives, faults, or_undefined};
 ghost use Rattle.tm_tables.specs.Stated.{IsStated, just, keeping};
-ghost use Rattle.render_tests.specs.declared.rows.Party.TheVariants.{Second, Keeper, Reader, Faulty};
+ghost use Rattle.render_tests.specs.declared.rows.Party.TheVariants.{Second, Last, Keeper, Reader, Faulty};
 
 use std::alloc::Global;
 use std::process::Abort;
@@ -16,6 +16,8 @@ use template_machine::*;
 enum Party {
     /// Answers its second argument.
     Second,
+    /// Answers its last argument.
+    Last,
     /// Keeps 1 at `k`, and answers 2.
     Keeper,
     /// Answers what is kept at `k`.
@@ -27,6 +29,7 @@ enum Party {
 impl Callable for Party {
     ghost answers = { elim [
       | Second ↦ λ args view. just (gives (or_undefined (slice_get args 1)))
+      | Last ↦ λ args view. just (gives (or_undefined (slice_get args (length args - 1))))
       | Keeper ↦ λ args view.
           keeping (codes "k") (number (pos 1)) (just (gives (number (pos 2))))
       | Reader ↦ λ args view. just (gives (or_undefined (find (codes "k") view.temps)))
@@ -36,6 +39,7 @@ impl Callable for Party {
     fn call(&self, alloc: Global, args: &[Value], view: &View<'_>) -> Answer {
         match self {
             Party::Second => shared(alloc, args.get(1)),
+            Party::Last => shared(alloc, args.last()),
             Party::Keeper => Answer::value(alloc, Value::number(2)).keep(
                 alloc,
                 "k",
@@ -63,7 +67,9 @@ fn shared(alloc: Global, found: Option<&Value>) -> Answer
 /// An environment of such functions.
 type Rows = EnvironmentOf<'static, Objects<Party>>;
 
+// The first one gets the number behind those of the language.
 static FUNCTIONS: &[(&str, Party)] = &[
+    ("f", Party::Last),
     ("second", Party::Second),
     ("keep", Party::Keeper),
     ("read", Party::Reader),
@@ -82,6 +88,9 @@ fn row_environment(alloc: Global) -> Result<Rows, Error> {
     }
     Ok(environment)
 }
+
+/// A loop under a condition, whose render takes 29 charges.
+const CHOSEN: &str = "{% for x in [1,2] if x > 1 %}{{ x }}{% endfor %}";
 
 /// A source, what it writes, and how it ends: with so many charges, or by a fault.
 struct Row(&'static str, &'static str, Result<u64, ErrorKind>);
@@ -105,6 +114,42 @@ static ROWS: &[Row] = &[
         Ok(3),
     ),
     Row("{{ second(\"a\", 1) }}", "1", Ok(4)),
+    Row("{{ f(\"a\", 1) }}", "1", Ok(4)),
+    Row("{{ f(\"a\", k=1) }}", "{\"k\": 1}", Ok(6)),
+    Row("{{ range(4) }}", "[0, 1, 2, 3]", Ok(3)),
+    Row("{{ range(0, 4, 1) }}", "[0, 1, 2, 3]", Ok(5)),
+    Row("{{ range(5, 0, -2) }}", "[5, 3, 1]", Ok(6)),
+    Row(
+        "{{ range(9223372036854775806, 9223372036854775807) }}",
+        "[9223372036854775806]",
+        Ok(4),
+    ),
+    Row(
+        "{{ range(0, -9223372036854775807, -9223372036854775807) }}",
+        "[0]",
+        Ok(7),
+    ),
+    Row("{{ range() }}", "", Err(ErrorKind::MissingArgument)),
+    Row("{{ range(1,2,3,4) }}", "", Err(ErrorKind::TooManyArguments)),
+    Row("{{ range(\"a\") }}", "", Err(ErrorKind::InvalidOperation)),
+    Row("{{ range(100001) }}", "", Err(ErrorKind::InvalidOperation)),
+    Row("{{ range(1, 2, 0) }}", "", Err(ErrorKind::InvalidOperation)),
+    Row(
+        "{{ dict({\"a\": 1}, a=2, b=3) }}",
+        "{\"a\": 2, \"b\": 3}",
+        Ok(10),
+    ),
+    Row(
+        "{% set ns = namespace(n=0) %}{% for x in [1,2,3] %}{% set ns.n = ns.n + x %}{% endfor %}{{ ns.n }}",
+        "6",
+        Ok(40),
+    ),
+    Row(
+        "{% set ns = namespace() %}{% set ns.a = ns %}{{ ns }}",
+        "",
+        Err(ErrorKind::InvalidOperation),
+    ),
+    Row("{{ nope() }}", "", Err(ErrorKind::UnknownFunction)),
     Row("{{ keep() }}{{ read() }}", "21", Ok(4)),
     Row(
         "a{{ nope(second()) }}",
@@ -189,6 +234,59 @@ static ROWS: &[Row] = &[
     Row("{% set x %}", "", Err(ErrorKind::SyntaxError)),
     Row("{% set x %}a{{ 1 }}{% endset %}{{ x }}", "a1", Ok(7)),
     Row(
+        "{% for x in [1,2] %}{{ x }}{% endfor %}{{ x }}",
+        "12",
+        Ok(16),
+    ),
+    Row("{% for x in [] %}{% else %}E{% endfor %}", "E", Ok(4)),
+    Row(
+        "{% for x in [1] %}{% break %}{% else %}E{% endfor %}",
+        "",
+        Ok(6),
+    ),
+    Row(
+        "{% for x in [1] %}{% set y %}a{% break %}{% endset %}{% endfor %}[{{ y }}]",
+        "[]",
+        Ok(11),
+    ),
+    Row(
+        "{% for x in [1,2] %}{% with %}{{ x }}{% continue %}{% endwith %}{% endfor %}",
+        "12",
+        Ok(14),
+    ),
+    Row(
+        "{% for x in \"ab\" %}{{ loop.previtem }}{{ loop.revindex }}{{ loop.nextitem }}{% endfor %}",
+        "2ba1",
+        Ok(26),
+    ),
+    Row(
+        "{% for x in [1,2] %}{% for y in [3] %}{{ x }}{{ y }}{{ loop.length }}{% endfor %}{% endfor %}",
+        "131231",
+        Ok(36),
+    ),
+    Row(
+        "a{% for x in 1 %}{% endfor %}",
+        "a",
+        Err(ErrorKind::InvalidOperation),
+    ),
+    Row(
+        "a{% for x, y in [1] %}{% endfor %}",
+        "a",
+        Err(ErrorKind::CannotUnpack),
+    ),
+    Row(CHOSEN, "2", Ok(29)),
+    Row(
+        "{% for x in [1,2,3] if x > 1 %}{{ loop.index }}:{{ x }};{% endfor %}",
+        "1:2;2:3;",
+        Ok(55),
+    ),
+    Row(
+        "{% for x in [1] if false %}a{% else %}E{% endfor %}",
+        "E",
+        Ok(13),
+    ),
+    Row("{% break %}", "", Err(ErrorKind::SyntaxError)),
+    Row(
         "{% set x %}{% block b %}q{% endblock %}{% endset %}[{{ x }}]",
         "[q]",
         Ok(8),
@@ -269,6 +367,23 @@ fn exports(environment: &Rows) -> Result<bool, Error> {
     Ok(names.len() == 1 && names[0] == "y")
 }
 
+/// Whether the first function of the caller stands behind the three of the language.
+fn numbers_behind_the_language(environment: &Rows) -> Result<bool, Error> {
+    let template = environment.template_from_str("")?;
+    let mut ids = StateIds::new();
+    let captured = template.render_captured_to(&mut ids, Value::undefined(), &mut NullWriter)?;
+    let Some(first) = captured.state().lookup("f")? else {
+        return Ok(false);
+    };
+    Ok(first == Value::function(3))
+}
+
+/// How a render of the loop under a condition ends.
+fn charges_of_chosen(alloc: Global, environment: &Rows) -> Result<u64, ErrorKind> {
+    let mut writer = Counted::new(Vec::<u8>::new(alloc));
+    charges(environment, CHOSEN, Value::undefined(), &mut writer)
+}
+
 /// Renders the rows, and compares what they write and how they end.
 fn expect_rows(rt: &impl Abort, alloc: Global, environment: &Rows) -> Result<(), Fail> {
     for Row(source, text, end) in ROWS {
@@ -282,9 +397,14 @@ fn expect_rows(rt: &impl Abort, alloc: Global, environment: &Rows) -> Result<(),
 
 #[test]
 fn rows_render(rt: HostRuntime) -> Result<(), Fail> {
-    let environment = row_environment(rt.alloc())?;
+    let mut environment = row_environment(rt.alloc())?;
     expect_rows(&rt, rt.alloc(), &environment)?;
     assert!(rt; keeps_apart(&environment)?);
     assert!(rt; exports(&environment)?);
+    assert!(rt; numbers_behind_the_language(&environment)?);
+    environment.set_fuel(Some(29));
+    assert!(rt; charges_of_chosen(rt.alloc(), &environment) == Err(ErrorKind::OutOfFuel));
+    environment.set_fuel(Some(30));
+    assert!(rt; charges_of_chosen(rt.alloc(), &environment) == Ok(29));
     Ok(())
 }

@@ -4,8 +4,9 @@ use tm_compiler::{Instruction, Streams, Tree, generate};
 use tm_syntax::{BinaryOperator, CaptureMode};
 use tm_values::{Error, Node, Value};
 
-static NUMERALS: [&str; 15] = [
-    "0", "1", "2", "3", "4", "5", "6", "7", "8", "9", "10", "11", "12", "13", "14",
+static NUMERALS: [&str; 23] = [
+    "0", "1", "2", "3", "4", "5", "6", "7", "8", "9", "10", "11", "12", "13", "14", "15", "16",
+    "17", "18", "19", "20", "21", "22",
 ];
 
 fn numeral(number: usize) -> &'static str {
@@ -21,7 +22,9 @@ fn constant(value: &Value) -> &str {
         Node::None => "none",
         Node::Boolean(true) => "true",
         Node::Boolean(false) => "false",
+        Node::Number(0) => "0",
         Node::Number(1) => "1",
+        Node::Number(2) => "2",
         Node::Text(content, false) => content.as_str(),
         _ => "?",
     }
@@ -36,13 +39,16 @@ fn word(instruction: &Instruction) -> &'static str {
         Instruction::GetAttr(_) => ".",
         Instruction::GetItem => "item",
         Instruction::Slice => "slice",
-        Instruction::BuildList(_) => "list:",
+        Instruction::BuildList(Some(_)) => "list:",
+        Instruction::BuildList(None) => "list",
         Instruction::BuildTuple(_) => "tuple:",
         Instruction::BuildMap(_) => "map:",
+        Instruction::BuildKwargs(_) => "named:",
         Instruction::Neg => "-",
         Instruction::Not => "not",
         Instruction::CompareAndPreserve(_) => "keep:",
         Instruction::Swap => "swap",
+        Instruction::DupTop => "copy",
         Instruction::DiscardTop => "drop",
         Instruction::Jump(_) => "jump:",
         Instruction::JumpIfFalse(_) => "if-false:",
@@ -53,6 +59,11 @@ fn word(instruction: &Instruction) -> &'static str {
         Instruction::StoreLocal(_) => "store:",
         Instruction::UnpackList(_) => "unpack:",
         Instruction::SetAttr(_) => "set:",
+        Instruction::PushLoop(flags) if flags.variable => "loop",
+        Instruction::PushLoop(_) => "pass",
+        Instruction::Iterate(_) => "iterate:",
+        Instruction::PushDidNotIterate => "empty",
+        Instruction::PopLoopFrame => "looped",
         Instruction::PushWith => "with",
         Instruction::PopFrame => "leave",
         Instruction::BeginCapture(CaptureMode::Capture) => "capture",
@@ -112,10 +123,12 @@ fn detail(instruction: &Instruction) -> &str {
         | Instruction::SetAttr(name) => name.as_str(),
         Instruction::LoadConst(value) => constant(value),
         Instruction::CompareAndPreserve(operator) => comparison(*operator),
-        Instruction::BuildList(number)
+        Instruction::BuildList(Some(number))
         | Instruction::BuildTuple(number)
         | Instruction::BuildMap(number)
+        | Instruction::BuildKwargs(number)
         | Instruction::UnpackList(number)
+        | Instruction::Iterate(number)
         | Instruction::Jump(number)
         | Instruction::JumpIfFalse(number)
         | Instruction::JumpIfFalseOrPop(number)

@@ -7,7 +7,7 @@ use std::test::Fail;
 use tm_compiler::{SyntaxConfig, parse};
 use tm_values::{Error, ErrorKind};
 
-static CODES: [(&str, &str); 19] = [
+static CODES: [(&str, &str); 30] = [
     ("{# c #}", ""),
     ("{{ \"}}\" }}\n", " #}} emit"),
     ("{{ a == none }}", " $a #none == emit"),
@@ -18,6 +18,9 @@ static CODES: [(&str, &str); 19] = [
     ),
     ("{{ f(1, (a),) }}x", " #1 $a call:f2 emit raw:x"),
     ("{{ f() == true }}", " call:f0 #true == emit"),
+    ("{{ f(a, b=1) }}", " $a #b #1 named:1 call:f2 emit"),
+    ("{{ f(b=1,) }}", " #b #1 named:1 call:f1 emit"),
+    ("{{ f(b=1, c=2) }}", " #b #1 #c #2 named:2 call:f1 emit"),
     (
         "{{ 1 < a < 1 if b }}",
         " $b if-false:12 #1 $a keep:< and:9 #1 < jump:11 swap drop jump:13 #silent emit",
@@ -60,6 +63,38 @@ static CODES: [(&str, &str); 19] = [
         "{% autoescape false %}x{% endautoescape %}",
         " #false escape raw:x escaped",
     ),
+    (
+        "{% for x in y %}{% endfor %}",
+        " $y loop iterate:5 store:x jump:2 looped",
+    ),
+    (
+        "{% for a, b in c %}{{ a }}{% else %}e{% endfor %}",
+        " $c loop iterate:9 unpack:2 store:a store:b $a emit jump:2 empty looped if-false:13 raw:e",
+    ),
+    (
+        "{% for (a, b) in c, d %}{% endfor %}",
+        " $c $d tuple:2 loop iterate:9 unpack:2 store:a store:b jump:4 looped",
+    ),
+    (
+        "{% for x in a if x %}{% endfor %}",
+        " #0 $a pass iterate:14 copy store:x $x if-false:12 swap #1 + jump:3 drop jump:3 looped list loop iterate:20 store:x jump:17 looped",
+    ),
+    (
+        "{% for x in a, b if x %}{% endfor %}",
+        " #0 $a $b tuple:2 pass iterate:16 copy store:x $x if-false:14 swap #1 + jump:5 drop jump:5 looped list loop iterate:22 store:x jump:19 looped",
+    ),
+    (
+        "{% for x in y %}{% if x %}{% break %}{% endif %}{% continue %}{% endfor %}",
+        " $y loop iterate:9 store:x $x if-false:7 jump:9 jump:2 jump:2 looped",
+    ),
+    (
+        "{% for x in y %}{% with %}{% break %}{% endwith %}{% endfor %}",
+        " $y loop iterate:9 store:x with leave jump:9 leave jump:2 looped",
+    ),
+    (
+        "{% for x in y %}{% for x in y %}{% else %}{% break %}{% endfor %}{% endfor %}",
+        " $y loop iterate:14 store:x $y loop iterate:9 store:x jump:6 empty looped if-false:13 jump:14 jump:2 looped",
+    ),
 ];
 
 fn code_of(alloc: Global, source: &str) -> Result<String, Error> {
@@ -78,7 +113,7 @@ fn sources_have_their_code(rt: HostRuntime) {
     }
 }
 
-static REFUSED: [&str; 21] = [
+static REFUSED: [&str; 39] = [
     "a{#",
     "{{ \"a }}",
     "{{ 1.5 }}",
@@ -99,7 +134,25 @@ static REFUSED: [&str; 21] = [
     "{% autoescape 1, 2 %}{% endautoescape %}",
     "{% autoescape true %}",
     "{% with a = 1 %}",
-    "{% for a in b %}{% endfor %}",
+    "{% break %}",
+    "{% continue %}",
+    "{% for x in y %}",
+    "{% endfor %}",
+    "{% for x in y %}{% block b %}{% break %}{% endblock %}{% endfor %}",
+    "{% for x in y %}{% else %}{% break %}{% endfor %}",
+    "{% for x %}{% endfor %}",
+    "{% for 1 in x %}{% endfor %}",
+    "{% for x in y %}{% endfor x %}",
+    "{% for x in y %}{% break 1 %}{% endfor %}",
+    "{% for x in y %}{% else %}{% else %}{% endfor %}",
+    "{% for x in y recursive %}{% endfor %}",
+    "{{ f(b=1, a) }}",
+    "{{ f(b=) }}",
+    "{{ f(1=2) }}",
+    "{{ f(b=1 c=2) }}",
+    "{% for x in a if %}{% endfor %}",
+    "{% for x in a if b if c %}{% endfor %}",
+    "{% for x in a if b else c %}{% endfor %}",
 ];
 
 static NESTINGS: [Pieces; 2] = [

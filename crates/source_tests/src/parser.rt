@@ -43,11 +43,15 @@ static SIGNS: [(&str, Sign); 34] = [
     ("true", Sign::True),
 ];
 
-static TAGS: [(&str, Tag); 13] = [
+static TAGS: [(&str, Tag); 17] = [
     ("{%if", Tag::If),
     ("{%elif", Tag::Elif),
     ("{%else", Tag::Else),
     ("{%endif", Tag::Endif),
+    ("{%for", Tag::For),
+    ("{%endfor", Tag::Endfor),
+    ("{%break", Tag::Break),
+    ("{%continue", Tag::Continue),
     ("{%block", Tag::Block),
     ("{%endblock", Tag::Endblock),
     ("{%set", Tag::Set),
@@ -83,7 +87,7 @@ fn tokens_of(alloc: Global, words: &str) -> Result<Vec<Token>, Error> {
 }
 
 // Templates by their words, each of which is a token, with their code.
-static CODES: [(&str, &str); 49] = [
+static CODES: [(&str, &str); 60] = [
     ("{{ a ** b ** c }}", " $a $b ** $c ** emit"),
     ("{{ - a ** b }}", " $a - $b ** emit"),
     ("{{ a ~ b + c }}", " $a $b ~ $c + emit"),
@@ -94,6 +98,15 @@ static CODES: [(&str, &str); 49] = [
     ("{{ a [ : ] }}", " $a #none #none #none slice emit"),
     ("{{ a [ : : b ] }}", " $a #none #none $b slice emit"),
     ("{{ a [ b ] . c }}", " $a $b item .c emit"),
+    (
+        "{{ f ( a , b , c = d , c = e , ) }}",
+        " $a $b #c $d #c $e named:2 call:f3 emit",
+    ),
+    (
+        "{{ f ( a = b if c ) }}",
+        " #a $c if-false:5 $b jump:6 #silent named:1 call:f1 emit",
+    ),
+    ("{{ f ( a == b ) }}", " $a $b == call:f1 emit"),
     ("{{ ( a , ) }}", " $a tuple:1 emit"),
     ("{{ ( ) }}", " tuple:0 emit"),
     ("{{ ( a ) }}", " $a emit"),
@@ -199,6 +212,38 @@ static CODES: [(&str, &str); 49] = [
         "{%autoescape a %} {%block x %} {%endblock %} {%endautoescape %}",
         " $a escape block:x escaped | x",
     ),
+    (
+        "{%for ( a ) , b . c , in d , %} {%endfor %}",
+        " $d tuple:1 loop iterate:9 unpack:2 store:a $b set:c jump:3 looped",
+    ),
+    (
+        "{%for a in b in c %} {%endfor %}",
+        " $b $c in loop iterate:7 store:a jump:4 looped",
+    ),
+    (
+        "{%for a in b , if c %} {%endfor %}",
+        " #0 $b tuple:1 pass iterate:15 copy store:a $c if-false:13 swap #1 + jump:4 drop jump:4 looped list loop iterate:21 store:a jump:18 looped",
+    ),
+    (
+        "{%for a in b if c or d %} {%endfor %}",
+        " #0 $b pass iterate:16 copy store:a $c or:9 $d if-false:14 swap #1 + jump:3 drop jump:3 looped list loop iterate:22 store:a jump:19 looped",
+    ),
+    (
+        "{%for a in b %} {%block x %} {%endblock %} {%else %} {%block y %} {%endblock %} {%endfor %}",
+        " $b loop iterate:6 store:a block:x jump:2 empty looped if-false:10 block:y | x | y",
+    ),
+    (
+        "{%for a in b %} {%block x %} {%for a in b %} {%break %} {%endfor %} {%endblock %} {%endfor %}",
+        " $b loop iterate:6 store:a block:x jump:2 looped | x $b loop iterate:6 store:a jump:6 jump:2 looped",
+    ),
+    (
+        "{%for a in b %} {%set c %} {%break %} {%endset %} {%endfor %}",
+        " $b loop iterate:11 store:a capture captured drop jump:11 captured store:c jump:2 looped",
+    ),
+    (
+        "{%for a in b %} {%autoescape a %} {%continue %} {%endautoescape %} {%endfor %}",
+        " $b loop iterate:10 store:a $a escape escaped jump:2 escaped jump:2 looped",
+    ),
 ];
 
 fn code_of(alloc: Global, words: &str) -> Result<String, Error> {
@@ -214,9 +259,15 @@ fn tokens_have_their_code(rt: HostRuntime) {
     }
 }
 
-static REFUSED: [&str; 48] = [
+static REFUSED: [&str; 64] = [
     "{{ a == b == }}",
     "{{ f ( , ) }}",
+    "{{ f ( a = b , c ) }}",
+    "{{ f ( a = ) }}",
+    "{{ f ( true = a ) }}",
+    "{{ f ( a = b c = d ) }}",
+    "{{ f ( a = b , , ) }}",
+    "{{ f ( a . b = c ) }}",
     "{{ ( a }}",
     "{{ a [ ] }}",
     "{{ a [ : : : ] }}",
@@ -261,6 +312,16 @@ static REFUSED: [&str; 48] = [
     "{%with a = b , , c = d %} {%endwith %}",
     "{%autoescape %} {%endautoescape %}",
     "{%autoescape a , b %} {%endautoescape %}",
+    "{%for a in %} {%endfor %}",
+    "{%for in b %} {%endfor %}",
+    "{%for a = b %} {%endfor %}",
+    "{%for a in , %} {%endfor %}",
+    "{%for a in b if %} {%endfor %}",
+    "{%for a in b if c if d %} {%endfor %}",
+    "{%for a in b if c else d %} {%endfor %}",
+    "{%for a in b if c , d %} {%endfor %}",
+    "{%for a in if b %} {%endfor %}",
+    "{%for a in b %} {%block x %} {%endblock %} {%else %} {%block x %} {%endblock %} {%endfor %}",
     "{%do a %}",
     "{%do f ( a ) . x %}",
 ];
@@ -269,7 +330,7 @@ static REFUSED: [&str; 48] = [
 pub type Pieces = &'static [(Option<usize>, &'static str)];
 
 // What may nest 150 deep.
-static NESTINGS: [Pieces; 16] = [
+static NESTINGS: [Pieces; 20] = [
     &[
         (None, "{{"),
         (Some(0), "("),
@@ -280,6 +341,13 @@ static NESTINGS: [Pieces; 16] = [
     &[
         (None, "{{"),
         (Some(0), "f ("),
+        (None, "a"),
+        (Some(0), ")"),
+        (None, "}}"),
+    ],
+    &[
+        (None, "{{"),
+        (Some(0), "f ( a ="),
         (None, "a"),
         (Some(0), ")"),
         (None, "}}"),
@@ -341,14 +409,35 @@ static NESTINGS: [Pieces; 16] = [
         (None, "{%autoescape ( b ) %} {%endautoescape %}"),
         (Some(2), "{%endset %}"),
     ],
+    &[
+        (Some(0), "{%for a in b %}"),
+        (None, "{%break %}"),
+        (Some(0), "{%endfor %}"),
+    ],
+    &[
+        (Some(2), "{%for a in b %}"),
+        (None, "{%for ( a ) in ( b ) , c if ( d ) %} {%endfor %}"),
+        (Some(2), "{%endfor %}"),
+    ],
+    &[
+        (Some(2), "{%with %}"),
+        (None, "{%for a in b %} {%else %} {%endfor %}"),
+        (Some(2), "{%endwith %}"),
+    ],
 ];
 
 // A long row nests no deeper than a short one.
-static LONG: [Pieces; 5] = [
+static LONG: [Pieces; 7] = [
     &[(None, "{{ a"), (Some(0), "and b . c"), (None, "}}")],
     &[(None, "{{ a"), (Some(0), "if c"), (None, "}}")],
     &[(None, "{{ a"), (Some(0), "< b"), (None, "}}")],
     &[(None, "{%set a"), (Some(0), ", b"), (None, "= c , d %}")],
+    &[
+        (None, "{%for a in b"),
+        (Some(0), ", c"),
+        (None, "if d %} {%endfor %}"),
+    ],
+    &[(None, "{{ f ( a"), (Some(0), ", b = c"), (None, ") }}")],
     &[
         (None, "{%with a = b"),
         (Some(0), ", c = d"),

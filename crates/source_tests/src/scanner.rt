@@ -51,7 +51,7 @@ fn with_delimiters(alloc: Global, texts: &[&str; 6]) -> Result<SyntaxConfig, Err
         .build()
 }
 
-static SPELLED: [(&str, &str); 27] = [
+static SPELLED: [(&str, &str); 28] = [
     ("", ""),
     ("\r\n", ""),
     ("a\n\n", " [a\n]"),
@@ -87,6 +87,10 @@ static SPELLED: [(&str, &str); 27] = [
     (
         "{% set autoescape%}{%endset%}{% autoescape endset %}{% endautoescape %}",
         " {%set $autoescape %} {%endset %} {%autoescape $endset %} {%endautoescape %}",
+    ),
+    (
+        "{% for for in break %}{%continue%}{% break%}{% endfor endfor %}",
+        " {%for $for in $break %} {%continue %} {%break %} {%endfor $endfor %}",
     ),
     ("{{ 007 }}", " {{ #7 }}"),
     ("{{ 7.a }}", " {{ #7 . $a }}"),
@@ -130,7 +134,7 @@ static REFUSED: [&str; 23] = [
     "{{ a ; b }}",
     "{{ \"a }}",
     "{% %}",
-    "{% for x %}",
+    "{% macro x %}",
     "{{ 1.5 }}",
     "{{ 1e5 }}",
     "{{ 1_0E5 }}",

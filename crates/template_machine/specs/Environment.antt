@@ -1,5 +1,5 @@
 -- Environments and templates as plain data, over all objects of the caller as one.
-use Rattle.std.specs.Prelude.{ℕ, List, [], ◌∷◌, ◌++◌, length, map as each, Option, Some, None}
+use Rattle.std.specs.Prelude.{ℕ, List, [], codes, map as each, Option, Some, None}
 use Rattle.tm_values.specs.Val.{Val, function}
 use Rattle.tm_values.specs.declared.undefined.UndefinedBehavior.{UndefinedBehavior}
 use Rattle.tm_values.specs.declared.undefined.UndefinedBehavior.TheVariants.{Lenient}
@@ -12,6 +12,7 @@ use Rattle.tm_meaning.specs.declared.stream.TemplateId.{TemplateId}
 use Rattle.tm_meaning.specs.declared.stream.TemplateId.TheVariants.{Own, Entry}
 use Rattle.tm_meaning.specs.World.{Bindings, Host, Template, Function, or_is}
 use Rattle.tm_meaning.specs.Tree.{TemplateTree, Trees, template_of, trees_of}
+use Rattle.tm_tables.specs.Stated.{Table, language_functions, with_object, next_number}
 use Rattle.tm_tables.specs.Templates.{Compiled, IsTemplate, tree_of}
 use Rattle.tm_tables.specs.declared.defaults.EscapeSetting.{EscapeSetting}
 use Rattle.tm_tables.specs.declared.defaults.EscapeSetting.TheVariants as escapes
@@ -48,18 +49,29 @@ empty_environment objects = record {
   limit = greatest_limit;
 }
 
--- the same, with what a template may expect: it is escaped as its name asks
-abbrev pub new_environment : {O : Type 0} → O → EnvironmentValue O
-new_environment objects = record (empty_environment objects) { escaping = escapes.ByName }
+-- the functions of the language by their names
+abbrev pub language_globals : Bindings
+language_globals = put (codes "namespace") (function 2) (put (codes "dict") (function 1) (put (codes "range") (function 0) []))
+
+-- an environment with what a template may expect: the names of the language's functions, and it is escaped as its name asks
+abbrev pub expected_environment : {O : Type 0} → O → EnvironmentValue O
+expected_environment objects = record (empty_environment objects) { escaping = escapes.ByName; globals = language_globals }
+
+abbrev pub new_environment : {C : Type 0} → EnvironmentValue (Table C)
+new_environment = expected_environment language_functions
 
 -- the template that a source is in an environment, under a name
 abbrev pub IsTemplateOf : {O : Type 0} → EnvironmentValue O → List ℕ → List ℕ → Compiled → Type 0
 IsTemplateOf e name source t = IsTemplate e.syntax e.escaping name source t
 
+-- the value as the global of a name
+abbrev pub with_global : {O : Type 0} → List ℕ → Val → EnvironmentValue O → EnvironmentValue O
+with_global x value e = record e { globals = put x value e.globals }
+
 -- the object under the next number, and the function of that number as the global of a name
-abbrev pub with_function : {C : Type 0} → List ℕ → C → EnvironmentValue (List C) → EnvironmentValue (List C)
+abbrev pub with_function : {C : Type 0} → List ℕ → C → EnvironmentValue (Table C) → EnvironmentValue (Table C)
 with_function x object e =
-    record e { objects = e.objects ++ object ∷ []; globals = put x (function (length e.objects)) e.globals }
+    record e { objects = with_object object e.objects; globals = put x (function (next_number e.objects)) e.globals }
 
 -- ---------------------------------------------------------------- what it is to the machine
 abbrev pub trees_in : Named Compiled → Named TemplateTree

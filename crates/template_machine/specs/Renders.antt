@@ -7,6 +7,7 @@ use Rattle.tm_values.specs.Chain.{ends_in_memory}
 use Rattle.tm_values.specs.Val.{Val}
 use Rattle.tm_values.specs.declared.error.ErrorKind.{ErrorKind}
 use Rattle.tm_values.specs.declared.error.ErrorKind.TheVariants.{InvalidOperation, WriteFailure}
+use Rattle.tm_syntax.specs.Named.{put}
 use Rattle.tm_meaning.specs.World.{Function, World}
 use Rattle.tm_meaning.specs.declared.stream.TemplateId.TheVariants.{Own}
 use Rattle.tm_meaning.specs.Machine.{Capture, new_capture, put_in, put_out}
@@ -26,6 +27,10 @@ pub record StateValue (O : Type 0) : Type 0 where
 pub record CapturedValue (O : Type 0) : Type 0 where
   pub output : List ℕ
   pub state : StateValue O
+
+-- the state, with a value that is kept at a name
+abbrev pub with_temp : {O : Type 0} → List ℕ → Val → StateValue O → StateValue O
+with_temp x value s = record s { world = record s.world { temps = put x value s.world.temps } }
 
 -- the greatest u64: a counter of state ids that stands there is full, and a count of faults stays there
 abbrev pub greatest : ℕ

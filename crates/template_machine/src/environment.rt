@@ -1,12 +1,14 @@
 //! The environment.
-ghost use Rattle.std.specs.Prelude.{◌≡◌, ◌<◌, [], ◌∷◌, Some, None, codes, min, OnOk, OnErr, IfOk, IfErr, MatchResult, length, slice_get};
-ghost use Rattle.tm_syntax.specs.Named.{find, put};
+ghost use Rattle.std.specs.Prelude.{◌≡◌, ◌≢◌, ◌<◌, [], ◌∷◌, Some, None, codes, min, OnOk, OnErr, IfOk, IfErr, MatchResult, length, slice_get};
+ghost use Rattle.tm_syntax.specs.Named.{find, pairs_of, put, without};
+ghost use Rattle.tm_tables.specs.Stated.{no_functions};
 ghost use Rattle.tm_tables.specs.Templates.{Compiled, IsRefused};
 ghost use Rattle.tm_values.specs.Answer.{IsLent, OkOrOutOfMemory};
+ghost use Rattle.tm_values.specs.Val.{function};
 ghost use Rattle.std.specs.Prelude.{string_bytes};
 ghost use Rattle.tm_tables.specs.Sources.{source_bytes};
 ghost use Rattle.template_machine.specs.Renders.{greatest, IsUnnumbered, RenderedSource};
-ghost use Rattle.template_machine.specs.Environment.{IsTemplateOf, empty_environment, new_environment, with_function, greatest_limit};
+ghost use Rattle.template_machine.specs.Environment.{IsTemplateOf, empty_environment, new_environment, language_globals, with_function, with_global, greatest_limit};
 
 use crate::template::{Held, TemplateOf};
 use std::alloc::Global;
@@ -200,6 +202,36 @@ impl<'source, O: Drop> EnvironmentOf<'source, O> {
         &self.config.syntax_config
     }
 
+    /// Makes a value a global: its name stands for it, in place of what stood there, a function too. Where there is no memory, OutOfMemory, and the environment stays as it was.
+    pub fn add_global(&mut self, name: &str, value: Value) -> Result<(), Error>
+        ensures ok { OnOk result (self.new ≡ with_global name.now value self.old) }
+        ensures kind { IfErr result (λ e. e ≡ ErrorKind.OutOfMemory ∷ []) }
+        ensures err { OnErr result (self.new ≡ self.old) }
+    {
+        let name = Name::new(self.alloc, name)?;
+        self.globals.insert(name, value)?;
+        Ok(())
+    }
+
+    /// Drops the global of a name, a function's too; the functions keep their numbers. Other names stand for what they did, and a name that isn't there changes nothing.
+    pub fn remove_global(&mut self, name: &str)
+        ensures rest { self.new ≡ record self.old { globals = without name.now self.old.globals } }
+        ensures absent { find name.now self.old.globals ≡ None → self.new ≡ self.old }
+        ensures gone { find name.now self.new.globals ≡ None }
+        ensures others { (x : _) → x ≢ name.now →
+            find x self.new.globals ≡ find x self.old.globals }
+    {
+        let _removed = self.globals.remove(name);
+    }
+
+    /// The globals with their values, functions among them, in the order of their names. Fails by OutOfMemory alone.
+    pub fn globals(&self) -> Result<Vec<(&str, &Value)>, Error>
+        ensures { OkOrOutOfMemory result (λ pairs. pairs_of pairs.items ≡ self.now.globals) }
+    {
+        let pairs = self.globals.pairs(self.alloc)?;
+        Ok(pairs)
+    }
+
     /// The allocator of what the environment makes.
     pub(crate) fn allocator(&self) -> Global {
         self.alloc
@@ -212,8 +244,8 @@ impl<'source, O: Drop> EnvironmentOf<'source, O> {
         &self.objects
     }
 
-    /// The globals.
-    pub(crate) fn globals(&self) -> &NameMap<Value>
+    /// The globals by name.
+    pub(crate) fn global_names(&self) -> &NameMap<Value>
         ensures { result.now ≡ self.now.globals }
     {
         &self.globals
@@ -268,26 +300,42 @@ impl<'source, O: Parties> EnvironmentOf<'source, O> {
 }
 
 impl<'source, C: Drop> EnvironmentOf<'source, Objects<C>> {
-    /// An environment with what a template may expect: what it emits is escaped as its name asks (`default_auto_escape_callback`); else the same as `empty`. Fails by OutOfMemory alone.
+    /// An environment with what a template may expect: what it emits is escaped as its name asks (`default_auto_escape_callback`), and it has the globals `range`, `dict` and `namespace`, the functions 0, 1 and 2; else the same as `empty`. Fails by OutOfMemory alone.
     pub fn new(alloc: Global) -> Result<EnvironmentOf<'source, Objects<C>>, Error>
-        ensures { OkOrOutOfMemory result (λ e. e ≡ new_environment []) }
+        ensures { OkOrOutOfMemory result (λ e. e ≡ new_environment) }
     {
-        Ok(EnvironmentOf::escaping(alloc, EscapeSetting::ByName))
+        let globals = language_globals(alloc)?;
+        Ok(EnvironmentOf::with(
+            alloc,
+            EscapeSetting::ByName,
+            Objects::of_language(alloc),
+            globals,
+        ))
     }
 
     /// No templates, the default delimiters, nothing escaped, no functions, lenient undefined values, no fuel set, and scopes at most 500 deep.
     pub fn empty(alloc: Global) -> EnvironmentOf<'source, Objects<C>>
-        ensures { result ≡ empty_environment [] }
+        ensures { result ≡ empty_environment no_functions }
     {
-        EnvironmentOf::escaping(alloc, EscapeSetting::Never)
+        EnvironmentOf::with(
+            alloc,
+            EscapeSetting::Never,
+            Objects::new(alloc),
+            NameMap::new(alloc),
+        )
     }
 
-    /// The same, with the escapes that this setting chooses.
-    fn escaping(
+    /// The same, with the escapes that this setting chooses, and with these functions and globals.
+    fn with(
         alloc: Global,
         default_auto_escape: EscapeSetting,
+        objects: Objects<C>,
+        globals: NameMap<Value>,
     ) -> EnvironmentOf<'source, Objects<C>>
-        ensures { result ≡ record (empty_environment []) { escaping = default_auto_escape } }
+        ensures { result ≡ record (empty_environment objects) {
+          escaping = default_auto_escape;
+          globals = globals;
+        } }
     {
         EnvironmentOf {
             alloc,
@@ -296,8 +344,8 @@ impl<'source, C: Drop> EnvironmentOf<'source, Objects<C>> {
                 syntax_config: SyntaxConfig::default(),
                 default_auto_escape,
             },
-            objects: Objects::new(alloc),
-            globals: NameMap::new(alloc),
+            objects,
+            globals,
             undefined: UndefinedBehavior::Lenient,
             fuel: None,
             limit: GREATEST_LIMIT,
@@ -311,7 +359,9 @@ impl<'source, C: Drop> EnvironmentOf<'source, Objects<C>> {
         ensures err { OnErr result (self.new ≡ self.old) }
     {
         let name = Name::new(self.alloc, name)?;
-        let number = self.objects.len();
+        let Some(number) = self.objects.next_number() else {
+            return Err(Error::from(ErrorKind::OutOfMemory));
+        };
         self.objects.add(object)?;
         if self.globals.insert(name, Value::function(number)).is_err() {
             let _refused = self.objects.pop();
@@ -319,4 +369,29 @@ impl<'source, C: Drop> EnvironmentOf<'source, Objects<C>> {
         }
         Ok(())
     }
+}
+
+/// The functions of the language by their names. Fails by OutOfMemory alone.
+fn language_globals(alloc: Global) -> Result<NameMap<Value>, Error>
+    ensures { OkOrOutOfMemory result (λ globals. globals ≡ language_globals) }
+{
+    let mut globals = NameMap::new(alloc);
+    name_function(alloc, &mut globals, "range", 0)?;
+    name_function(alloc, &mut globals, "dict", 1)?;
+    name_function(alloc, &mut globals, "namespace", 2)?;
+    Ok(globals)
+}
+
+/// Makes the function of a number the global of a name. Fails by OutOfMemory alone.
+fn name_function(
+    alloc: Global,
+    globals: &mut NameMap<Value>,
+    name: &str,
+    number: usize,
+) -> Result<(), Error>
+    ensures ok { OnOk result (globals.new ≡ put name.now (function number) globals.old) }
+    ensures kind { IfErr result (λ e. e ≡ ErrorKind.OutOfMemory ∷ []) }
+{
+    globals.insert(Name::new(alloc, name)?, Value::function(number))?;
+    Ok(())
 }

@@ -10,18 +10,19 @@ pub use environment::{Environment, EnvironmentOf};
 pub use state::{Captured, CapturedOf, State, StateOf};
 pub use template::{Template, TemplateOf};
 pub use tm_compiler::{
-    Argument, BinaryOperator, Comparison, Condition, Expr, Instruction, Name, NameMap, Pair,
-    RawText, Step, Stmt, Streams, SyntaxConfig, SyntaxConfigBuilder, Tree, UnaryOperator, generate,
-    parse,
+    Argument, BinaryOperator, Comparison, Condition, Expr, Instruction, Keyword, Name, NameMap,
+    Pair, RawText, Step, Stmt, Streams, SyntaxConfig, SyntaxConfigBuilder, Tree, UnaryOperator,
+    generate, parse,
 };
+pub use tm_meaning::GlobalFunction;
 pub use tm_operations as operations;
 pub use tm_output::{Target, TargetFailed};
 pub use tm_parts::{Counted, FuelTracker, NullWriter, Output, Sink, WriteWrapper};
 pub use tm_printing as printing;
 pub use tm_state::StateIds;
 pub use tm_tables::{
-    Answer, Answering, Callable, CompiledTemplate, EscapeSetting, Objects, Parties, Plain, Reply,
-    Source, TemplateConfig, View, default_auto_escape_callback,
+    Answer, Answering, Callable, Called, CompiledTemplate, EscapeSetting, Objects, Parties, Plain,
+    Reply, Source, TemplateConfig, View, default_auto_escape_callback,
 };
 pub use tm_values::{
     AutoEscape, Error, ErrorKind, LoopPosition, NoRecords, Records, UndefinedBehavior,

@@ -7,7 +7,7 @@ use std::alloc::Global;
 use std::marker::Model;
 use tm_meaning::{StreamId, TemplateId};
 use tm_syntax::{Instruction, NameMap};
-use tm_tables::{Answer, CompiledTemplate, Host, Parties, View};
+use tm_tables::{Called, CompiledTemplate, Host, Parties, View};
 use tm_values::{UndefinedBehavior, Value};
 
 /// The environment and the template that is rendered: the machine's one party.
@@ -71,7 +71,7 @@ impl<O: Parties> Host for Rendering<'_, O> {
     ghost code = { code };
 
     fn globals(&self) -> &NameMap<Value> {
-        self.environment.globals()
+        self.environment.global_names()
     }
 
     fn recursion_limit(&self) -> usize {
@@ -100,7 +100,7 @@ impl<O: Parties> Host for Rendering<'_, O> {
         number: usize,
         args: &[Value],
         view: &View<'_>,
-    ) -> Option<Answer> {
+    ) -> Option<Called> {
         self.environment
             .objects()
             .call_function(alloc, number, args, view)

@@ -1,18 +1,19 @@
 //! States, and what a render leaves.
-ghost use Rattle.std.specs.Prelude.{◌≡◌, ◌+◌, Some, IfSome, string_bytes};
+ghost use Rattle.std.specs.Prelude.{◌≡◌, ◌+◌, [], ◌∷◌, Some, IfErr, IfOk, IfSome, OnErr, OnOk, string_bytes};
 ghost use Rattle.tm_syntax.specs.Named.{find};
-ghost use Rattle.tm_values.specs.Answer.{IsLent, OkOrOutOfMemory};
+ghost use Rattle.tm_values.specs.Answer.{IsAnswer, IsLent, OkOrOutOfMemory};
 ghost use Rattle.tm_meaning.specs.World.{find_name, fuel_levels, name_of, view_of};
-ghost use Rattle.tm_tables.specs.Found.{IsFound};
 ghost use Rattle.tm_syntax.specs.Named.{texts_of};
 ghost use Rattle.tm_state.specs.State.{exported};
 ghost use Rattle.template_machine.specs.Environment.{host_of};
+ghost use Rattle.template_machine.specs.Renders.{with_temp};
 
 use crate::rendering::Rendering;
 use std::marker::Model;
 use tm_state::StateData;
+use tm_syntax::Name;
 use tm_tables::{Callable, Host, Objects, Parties};
-use tm_values::{AutoEscape, Error, Value};
+use tm_values::{AutoEscape, Error, ErrorKind, Value};
 
 /// The state of a render. A contract sees the template that was rendered, and a world of the definitions.
 #[derive(Drop)]
@@ -60,6 +61,17 @@ impl<'env, O: Drop> StateOf<'env, O> {
         self.kept.get_temp(name)
     }
 
+    /// Keeps a value at a name, and gives the one that was kept there. Where there is no memory, OutOfMemory, and the state stays as it was.
+    pub fn set_temp(&mut self, name: &str, value: Value) -> Result<Option<Value>, Error>
+        ensures before { IfOk result (λ before. before ≡ find name.now self.old.world.temps) }
+        ensures ok { OnOk result (self.new ≡ with_temp name.now value self.old) }
+        ensures kind { IfErr result (λ e. e ≡ ErrorKind.OutOfMemory ∷ []) }
+        ensures err { OnErr result (self.new ≡ self.old) }
+    {
+        let name = Name::new(self.rendering.allocator(), name)?;
+        self.kept.set_temp(name, value)
+    }
+
     /// How what is emitted is escaped.
     pub fn auto_escape(&self) -> AutoEscape
         ensures { result ≡ self.now.world.escape }
@@ -84,9 +96,9 @@ impl<'env, O: Parties> StateOf<'env, O> {
         self.rendering.template_name(&self.kept.stream().template)
     }
 
-    /// The value of a name: of the scopes, an inner one's first, else of the globals. InvalidOperation where a scope on the way is over a namespace whose record isn't there.
-    pub fn lookup(&self, name: &str) -> Result<Option<&Value>, Error>
-        ensures { IsFound result (find_name
+    /// The value of a name: of the scopes, an inner one's first, else of the globals. InvalidOperation where a scope on the way is over a namespace whose record isn't there; OutOfMemory.
+    pub fn lookup(&self, name: &str) -> Result<Option<Value>, Error>
+        ensures { IsAnswer result (find_name
             (view_of (host_of O.functions self.now.template) self.now.world) name.now) }
     {
         self.kept.lookup(&self.rendering, name)
@@ -137,5 +149,14 @@ impl<'env, O: Drop> CapturedOf<'env, O> {
         ensures { result.now ≡ self.now.state }
     {
         &self.state
+    }
+
+    /// The text that went to no writer, and the state that the render left, which may be changed from then on.
+    pub fn into_parts(self) -> (String, StateOf<'env, O>)
+        ensures output { string_bytes result.0 ≡ self.entry.output }
+        ensures state { result.1 ≡ self.entry.state }
+    {
+        let CapturedOf { output, state } = self;
+        (output, state)
     }
 }

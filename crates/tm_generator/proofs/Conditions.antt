@@ -9,7 +9,7 @@ use denote.Hole.Carrier.{hidden, out, shown}
 use Rattle.tm_syntax.specs.declared.tree.Expr.{Expr}
 use Rattle.tm_syntax.specs.declared.tree.Expr.TheVariants as e
 use Rattle.tm_syntax.specs.declared.tree.Condition.{Condition}
-use Rattle.tm_syntax.specs.declared.tree.Argument.TheBlock.{shown-the_row-Expr-0, hidden-the_row-Expr-0, shape-the_row-Condition-5, hidden-the_row-Condition-5 as conditions}
+use Rattle.tm_syntax.specs.declared.tree.Argument.TheBlock.{shown-the_row-Expr-0, hidden-the_row-Expr-0, shape-the_row-Condition-6, hidden-the_row-Condition-6 as conditions}
 use Rattle.tm_syntax.specs.declared.tree.Argument.TheViews.{out-Condition}
 use Rattle.tm_syntax.specs.declared.instruction.Instruction.{Instruction}
 use Rattle.tm_syntax.specs.declared.instruction.Instruction.TheVariants as i
@@ -20,11 +20,11 @@ use Rattle.tm_generator.specs.Jumps.{asked, asked_places, answered, all_answered
 use Rattle.tm_generator.proofs.Generated.{next, patched}
 
 conditions-nil : (value : ℕ → List Instruction) (pc : ℕ) → conditions_code (conditions []) value pc ≡ value pc
-unfolding hidden conditions shape-the_row-Condition-5
+unfolding hidden conditions shape-the_row-Condition-6
 conditions-nil value pc = refl
 
 conditions-cons : (c : Condition) (cs : List Condition) (value : ℕ → List Instruction) (pc : ℕ) → conditions_code (conditions (c ∷ cs)) value pc ≡ conditions_code (conditions cs) (λ pc1. condition_code c value pc1) pc
-unfolding hidden conditions shape-the_row-Condition-5
+unfolding hidden conditions shape-the_row-Condition-6
 conditions-cons c cs value pc = refl
 
 -- ---------------------------------------------------------------- what conditions ask

@@ -1,6 +1,7 @@
 -- Code that is put one part behind another is the code of a form.
 use Rattle.std.proofs.Common.{◌≡◌, ℕ, ◌+◌, ◌<◌, List, [], ◌∷◌, ◌++◌, length, drop, refl, sym, ap, ◌∙◌, arith, append_assoc, length-append, drop-cons}
-use Rattle.std.specs.Prelude.{get_or, slice_set}
+use Rattle.std.specs.Prelude.{get_or, slice_set, Some, false, min}
+use Rattle.tm_values.specs.Val.{Val, text}
 use Rattle.std.proofs.Math.Seq.{set-append_seam}
 use borrow.Enum.Total.{values_d}
 use denote.Hole.Carrier.{hidden, out, shown}
@@ -9,19 +10,21 @@ use Rattle.tm_syntax.specs.declared.tree.BinaryOperator.{BinaryOperator}
 use Rattle.tm_syntax.specs.declared.tree.Expr.{Expr}
 use Rattle.tm_syntax.specs.declared.tree.Expr.TheVariants as e
 use Rattle.tm_syntax.specs.declared.tree.Argument.{Argument}
-use Rattle.tm_syntax.specs.declared.tree.Argument.TheBlock.{shown-the_row-Expr-0, hidden-the_row-Expr-0, hidden-the_row-Expr-1 as exprs, hidden-the_row-Pair-2 as pairs, hidden-the_row-Argument-3 as arguments, hidden-the_row-Step-4 as steps}
-use Rattle.tm_syntax.specs.declared.tree.Argument.TheViews.{out-Pair}
+use Rattle.tm_syntax.specs.declared.tree.Argument.TheBlock.{shown-the_row-Expr-0, hidden-the_row-Expr-0, hidden-the_row-Expr-1 as exprs, hidden-the_row-Pair-2 as pairs, hidden-the_row-Argument-3 as arguments, hidden-the_row-Keyword-4 as keywords, hidden-the_row-Step-5 as steps}
+use Rattle.tm_syntax.specs.declared.tree.Argument.TheViews.{out-Pair, out-Keyword}
+use Rattle.tm_syntax.specs.declared.tree.Keyword.{Keyword}
 use Rattle.tm_syntax.specs.declared.tree.Pair.{Pair}
 use Rattle.tm_syntax.specs.declared.tree.Step.{Step}
 use Rattle.tm_syntax.specs.declared.tree.Step.TheVariants as s
 use Rattle.tm_syntax.specs.declared.instruction.Instruction.{Instruction}
 use Rattle.tm_syntax.specs.declared.instruction.Instruction.TheVariants as i
-use Rattle.tm_syntax.specs.Code.{unary_code, binary_code, expr_code, exprs_code, pair_code, pairs_code, argument_code, arguments_code, step_code, steps_code, before, count, count_exprs, count_pairs}
-use Rattle.tm_syntax.specs.Forms.{pair}
+use Rattle.tm_syntax.specs.Code.{unary_code, binary_code, expr_code, exprs_code, pair_code, pairs_code, argument_code, arguments_code, keyword_code, named_code, step_code, steps_code, before, count, together, count_exprs, count_pairs}
+use Rattle.tm_syntax.specs.Forms.{pair, keyword}
 use Rattle.tm_syntax.specs.contracts.tree.Argument.{enum as the_enum}
+use Rattle.tm_syntax.specs.contracts.tree.Keyword.{enum as the_keyword}
 use Rattle.tm_syntax.specs.contracts.tree.Pair.{enum as the_pair}
 use Rattle.tm_syntax.proofs.Forms.{whole}
-use Rattle.tm_generator.proofs.Rows.{count-exprs, count-pairs, count-arguments}
+use Rattle.tm_generator.proofs.Rows.{count-exprs, count-pairs, count-arguments, together-is}
 
 -- ---------------------------------------------------------------- the code of forms as the program holds them
 code-unary : (pc : ℕ) (op : UnaryOperator) (x : Expr) → expr_code pc (e.Unary op x) ≡ expr_code pc x ++ unary_code op ∷ []
@@ -57,6 +60,11 @@ whole_pair : (x : Pair) (h g : _) (k v : Expr) → k ≡ (values_d the_pair 0 h 
 unfolding out-Pair out shown-the_row-Expr-0 shown
 whole_pair (pair y z) h g k v ek ev = ap (λ j. pair j z) (sym ek) ∙ ap (λ j. pair k j) (sym ev)
 
+-- and of a keyword
+whole_keyword : (x : Keyword) (h g : _) (f : List ℕ) (v : Expr) → f ≡ (values_d the_keyword 0 h x).0 → v ≡ (values_d the_keyword 0 g x).1.0 → x ≡ keyword f v
+unfolding out-Keyword out shown-the_row-Expr-0 shown
+whole_keyword (keyword y z) h g f v ek ev = ap (λ j. keyword j z) (sym ek) ∙ ap (λ j. keyword f j) (sym ev)
+
 -- ---------------------------------------------------------------- loops
 pub next : {X : Type 0} → (xs : List X) (k : ℕ) (x : X) → k < length xs → x ≡ get_or xs k x → drop k xs ≡ x ∷ drop (k + 1) xs
 next xs k x lt d = grind (arith, drop-cons xs k x lt, d)
@@ -74,8 +82,8 @@ placed base c1 c2 first rest d put2 = behind base c1 c2 first (rest (length base
 counted : (take_all : ℕ → Instruction) (base c1 c2 parts : List Instruction) (n m : ℕ) → c1 ≡ base ++ parts → n ≡ m → c2 ≡ c1 ++ take_all n ∷ [] → c2 ≡ base ++ (parts ++ take_all m ∷ [])
 counted take_all base c1 c2 parts n m d k put2 = behind base c1 c2 parts (take_all m ∷ []) d (put2 ∙ ap (λ j. c1 ++ take_all j ∷ []) k)
 
-pub made_list : (base c1 c2 : List Instruction) (n : ℕ) (xs : List Expr) → c1 ≡ base ++ exprs_code (length base) (exprs xs) → n ≡ length xs → c2 ≡ c1 ++ i.BuildList n ∷ [] → c2 ≡ base ++ expr_code (length base) (e.List xs)
-made_list base c1 c2 n xs d k put2 = counted i.BuildList base c1 c2 (exprs_code (length base) (exprs xs)) n (count_exprs (exprs xs)) d (k ∙ sym (count-exprs xs)) put2
+pub made_list : (base c1 c2 : List Instruction) (n : ℕ) (xs : List Expr) → c1 ≡ base ++ exprs_code (length base) (exprs xs) → n ≡ length xs → c2 ≡ c1 ++ i.BuildList (Some n) ∷ [] → c2 ≡ base ++ expr_code (length base) (e.List xs)
+made_list base c1 c2 n xs d k put2 = counted (λ j. i.BuildList (Some j)) base c1 c2 (exprs_code (length base) (exprs xs)) n (count_exprs (exprs xs)) d (k ∙ sym (count-exprs xs)) put2
 
 pub made_tuple : (base c1 c2 : List Instruction) (n : ℕ) (xs : List Expr) → c1 ≡ base ++ exprs_code (length base) (exprs xs) → n ≡ length xs → c2 ≡ c1 ++ i.BuildTuple n ∷ [] → c2 ≡ base ++ expr_code (length base) (e.Tuple xs)
 made_tuple base c1 c2 n xs d k put2 = counted i.BuildTuple base c1 c2 (exprs_code (length base) (exprs xs)) n (count_exprs (exprs xs)) d (k ∙ sym (count-exprs xs)) put2
@@ -83,10 +91,14 @@ made_tuple base c1 c2 n xs d k put2 = counted i.BuildTuple base c1 c2 (exprs_cod
 pub made_map : (base c1 c2 : List Instruction) (n : ℕ) (xs : List Pair) → c1 ≡ base ++ pairs_code (length base) (pairs xs) → n ≡ length xs → c2 ≡ c1 ++ i.BuildMap n ∷ [] → c2 ≡ base ++ expr_code (length base) (e.Map xs)
 made_map base c1 c2 n xs d k put2 = counted i.BuildMap base c1 c2 (pairs_code (length base) (pairs xs)) n (count_pairs (pairs xs)) d (k ∙ sym (count-pairs xs)) put2
 
-pub made_call : (base c1 c2 : List Instruction) (n : ℕ) (f g : List ℕ) (xs : List Argument) → c1 ≡ base ++ arguments_code (length base) (arguments xs) → n ≡ length xs → g ≡ f → c2 ≡ c1 ++ i.CallFunction g n ∷ [] →
-    c2 ≡ base ++ expr_code (length base) (e.Call f xs)
-made_call base c1 c2 n f g xs d m k put2 =
-    counted (i.CallFunction f) base c1 c2 (arguments_code (length base) (arguments xs)) n (count (arguments xs)) d (m ∙ sym (count-arguments xs)) (put2 ∙ ap (λ h. c1 ++ i.CallFunction h n ∷ []) k)
+pub made_call : (base c1 c2 c3 : List Instruction) (n : ℕ) (f g : List ℕ) (xs : List Argument) (ks : List Keyword) → c1 ≡ base ++ arguments_code (length base) (arguments xs) → c2 ≡ c1 ++ named_code (length c1) (keywords ks) →
+    (given named : ℕ) → given ≡ length xs → named ≡ length ks → n ≡ given + min named 1 → g ≡ f → c3 ≡ c2 ++ i.CallFunction g n ∷ [] → c3 ≡ base ++ expr_code (length base) (e.Call f xs ks)
+made_call base c1 c2 c3 n f g xs ks d d2 given named m m2 k same put2 =
+    let all = placed base c1 c2 (arguments_code (length base) (arguments xs)) (λ pc. named_code pc (keywords ks)) d d2 in
+    let count_is : n ≡ count (arguments xs) + together (keywords ks) =
+    k ∙ ap (λ j. j + min named 1) (m ∙ sym (count-arguments xs)) ∙ ap (λ j. count (arguments xs) + j) (ap (λ j. min j 1) m2 ∙ sym (together-is ks)) in
+    counted (i.CallFunction f) base c2 c3 (before (length base) (arguments_code (length base) (arguments xs)) (λ pc. named_code pc (keywords ks))) n (count (arguments xs) + together (keywords ks)) all count_is
+    (put2 ∙ ap (λ h. c2 ++ i.CallFunction h n ∷ []) same)
 
 pub made_unary : (base c1 c2 : List Instruction) (o : Instruction) (op : UnaryOperator) (x : Expr) → c1 ≡ base ++ expr_code (length base) x → o ≡ unary_code op → c2 ≡ c1 ++ o ∷ [] → c2 ≡ base ++ expr_code (length base) (e.Unary op x)
 made_unary base c1 c2 o op x d k put2 =
@@ -100,6 +112,11 @@ pub made_pair : (base c1 c2 : List Instruction) (x : Pair) (h g : _) (k v : Expr
     c2 ≡ base ++ pair_code (length base) x
 made_pair base c1 c2 x h g k v ek ev d put2 =
     placed base c1 c2 (expr_code (length base) k) (λ n. expr_code n v) d put2 ∙ ap (λ z. base ++ pair_code (length base) z) (sym (whole_pair x h g k v ek ev))
+
+pub made_keyword : (base c1 c2 : List Instruction) (x : Keyword) (h g : _) (f : List ℕ) (v : Expr) (t : Val) → f ≡ (values_d the_keyword 0 h x).0 → v ≡ (values_d the_keyword 0 g x).1.0 → t ≡ text f false →
+    c1 ≡ base ++ i.LoadConst t ∷ [] → c2 ≡ c1 ++ expr_code (length c1) v → c2 ≡ base ++ keyword_code (length base) x
+made_keyword base c1 c2 x h g f v t ef ev et d put2 =
+    placed base c1 c2 (i.LoadConst (text f false) ∷ []) (λ n. expr_code n v) (d ∙ ap (λ y. base ++ i.LoadConst y ∷ []) et) put2 ∙ ap (λ z. base ++ keyword_code (length base) z) (sym (whole_keyword x h g f v ef ev))
 
 pub made_plain : (base c1 : List Instruction) (x : Argument) (h : _) (y : Expr) → y ≡ (values_d the_enum 0 h x).0 → c1 ≡ base ++ expr_code (length base) y → c1 ≡ base ++ argument_code (length base) x
 made_plain base c1 x h y e d = d ∙ ap (λ z. base ++ expr_code (length base) z) e ∙ ap (λ z. base ++ argument_code (length base) z) (sym (whole x h))

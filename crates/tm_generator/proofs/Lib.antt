@@ -3,4 +3,7 @@ pub mod Generated
 pub mod Links
 pub mod Conditions
 pub mod Assigned
+pub mod Exits
 pub mod Statements
+pub mod Rounds
+pub mod Filtered

@@ -9,7 +9,7 @@ use denote.Hole.Carrier.{hidden, out, shown}
 use Rattle.tm_syntax.specs.declared.tree.BinaryOperator.{BinaryOperator}
 use Rattle.tm_syntax.specs.declared.tree.Expr.{Expr}
 use Rattle.tm_syntax.specs.declared.tree.Comparison.{Comparison}
-use Rattle.tm_syntax.specs.declared.tree.Argument.TheBlock.{shown-the_row-Expr-0, hidden-the_row-Expr-0, shape-the_row-Comparison-6, hidden-the_row-Comparison-6 as comparisons}
+use Rattle.tm_syntax.specs.declared.tree.Argument.TheBlock.{shown-the_row-Expr-0, hidden-the_row-Expr-0, shape-the_row-Comparison-7, hidden-the_row-Comparison-7 as comparisons}
 use Rattle.tm_syntax.specs.declared.tree.Argument.TheViews.{out-Comparison}
 use Rattle.tm_syntax.specs.declared.tree.Step.TheVariants as s
 use Rattle.tm_syntax.specs.declared.instruction.Instruction.{Instruction}
@@ -29,12 +29,12 @@ abbrev links : ℕ → ℕ → BinaryOperator → List Comparison → List Instr
 links end pc op cs = links_code end pc op (comparisons cs)
 
 links-nil : (end pc : ℕ) (op : BinaryOperator) → links end pc op [] ≡ binary_code op
-unfolding hidden comparisons shape-the_row-Comparison-6
+unfolding hidden comparisons shape-the_row-Comparison-7
 links-nil end pc op = refl
 
 links-cons : (end pc : ℕ) (op op1 : BinaryOperator) (a : Expr) (cs : List Comparison) → links end pc op (comparison op1 a ∷ cs) ≡
     i.CompareAndPreserve op ∷ i.JumpIfFalseOrPop end ∷ (expr_code (pc + 2) a ++ links end (pc + 2 + length (expr_code (pc + 2) a)) op1 cs)
-unfolding hidden comparisons shape-the_row-Comparison-6
+unfolding hidden comparisons shape-the_row-Comparison-7
 links-cons end pc op op1 a cs = refl
 
 -- ---------------------------------------------------------------- one comparison more

@@ -1,1 +1,3 @@
 pub mod Jumps
+pub mod Exits
+pub mod Filters

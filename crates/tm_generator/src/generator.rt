@@ -1,24 +1,27 @@
 //! Instructions from trees.
-ghost use Rattle.std.specs.Prelude.{◌≡◌, ◌++◌, ◌<◌, [], ◌∷◌, All, OnOk, IfOk, IfErr, length, reverse};
+ghost use Rattle.std.specs.Prelude.{◌≡◌, ◌++◌, ◌+◌, ◌<◌, [], ◌∷◌, All, OnOk, IfOk, IfErr, length, min, reverse};
+ghost use Rattle.tm_generator.specs.Exits.{unset, with_exits, exits_of, exits_in, rounds_code, no_round_code};
 ghost use Rattle.tm_generator.specs.Jumps.{link_places, asked, asked_places, all_answered};
 ghost use Rattle.tm_syntax.specs.Blocks.{blocks_of, blocks_in, compiled_blocks};
-ghost use Rattle.tm_syntax.specs.Code.{unary_code, binary_code, expr_code, exprs_code, pair_code, pairs_code, argument_code, arguments_code, step_code, links_code, in_a_row, steps_code, statement_code, statements_code};
+ghost use Rattle.tm_syntax.specs.Code.{unary_code, binary_code, expr_code, exprs_code, pair_code, pairs_code, argument_code, arguments_code, keyword_code, keywords_code, named_code, step_code, links_code, in_a_row, steps_code, statement_code, statements_code, stream_code};
 ghost use Rattle.tm_syntax.specs.Named.{put as put_named, put_each, by_name};
-ghost use Rattle.tm_syntax.specs.declared.tree.Argument.TheBlock.{hidden-the_row-Expr-1 as exprs, hidden-the_row-Pair-2 as pairs, hidden-the_row-Argument-3 as arguments, hidden-the_row-Step-4 as steps, hidden-the_row-Comparison-6 as comparisons};
+ghost use Rattle.tm_syntax.specs.declared.tree.Argument.TheBlock.{hidden-the_row-Expr-1 as exprs, hidden-the_row-Pair-2 as pairs, hidden-the_row-Argument-3 as arguments, hidden-the_row-Keyword-4 as keywords, hidden-the_row-Step-5 as steps, hidden-the_row-Comparison-7 as comparisons};
 ghost use Rattle.tm_syntax.specs.declared.tree.Stmt.TheBlock.{hidden-the_row-Stmt-0 as statements};
-ghost use Rattle.tm_syntax.specs.declared.tree.Stmt.TheVariants.{AutoEscape, If, SetBlock, With};
+ghost use Rattle.tm_syntax.specs.declared.tree.Stmt.TheVariants.{AutoEscape, For, If, SetBlock, With};
 ghost use Rattle.tm_syntax.specs.declared.instruction.Instruction.TheVariants.{CallBlock};
 ghost use Rattle.tm_values.specs.declared.error.ErrorKind.TheVariants.{OutOfMemory};
 
+use crate::filters::push_iterable;
+use crate::loops::{Enclosing, Opened};
 use crate::patches::{end_at, put};
 use crate::targets::{push_assignments, push_set, push_target};
 use sqlite_items::{Boxed, Items};
 use std::alloc::Global;
 use tm_syntax::{
     Argument, Assignment, BinaryOperator, CaptureMode, Comparison, Condition, Expr, Instruction,
-    Name, NameMap, Pair, Step, Stmt, Target, Tree, UnaryOperator,
+    Keyword, LoopFlags, Name, NameMap, Pair, Step, Stmt, Target, Tree, UnaryOperator,
 };
-use tm_values::Error;
+use tm_values::{Error, ErrorKind, Value};
 
 /// The streams of a template.
 #[derive(Drop)]
@@ -68,6 +71,17 @@ fn push_binary(code: &mut Items<Instruction>, operator: BinaryOperator) -> Resul
     put(code, instruction)
 }
 
+/// How many arguments a call has whose keywords are one together; OutOfMemory.
+fn call_count(given: usize, named: usize) -> Result<usize, Error>
+    ensures ok { IfOk result (λ n. n ≡ given + min named 1) }
+    ensures err { IfErr result (λ e. e ≡ OutOfMemory ∷ []) }
+{
+    match given.checked_add(named.min(1)) {
+        Some(count) => Ok(count),
+        None => Err(Error::from(ErrorKind::OutOfMemory)),
+    }
+}
+
 /// Adds the code of an expression; OutOfMemory.
 #[cycle(expressions)]
 pub(crate) fn push_expr(
@@ -83,7 +97,7 @@ pub(crate) fn push_expr(
         Expr::Const(value) => put(code, Instruction::LoadConst(value.share()?)),
         Expr::List(items) => {
             push_exprs(alloc, code, items.as_slice())?;
-            put(code, Instruction::BuildList(items.len()))
+            put(code, Instruction::BuildList(Some(items.len())))
         }
         Expr::Tuple(items) => {
             push_exprs(alloc, code, items.as_slice())?;
@@ -93,9 +107,11 @@ pub(crate) fn push_expr(
             push_pairs(alloc, code, entries.as_slice())?;
             put(code, Instruction::BuildMap(entries.len()))
         }
-        Expr::Call(name, given) => {
+        Expr::Call(name, given, named) => {
             push_arguments(alloc, code, given.as_slice())?;
-            put(code, Instruction::CallFunction(name.share()?, given.len()))
+            push_named(alloc, code, named.as_slice())?;
+            let count = call_count(given.len(), named.len())?;
+            put(code, Instruction::CallFunction(name.share()?, count))
         }
         Expr::Unary(operator, operand) => {
             push_expr(alloc, code, operand.get())?;
@@ -186,6 +202,56 @@ fn push_arguments(
         push_argument(alloc, code, argument)?;
     }
     Ok(())
+}
+
+/// Adds the code of a keyword; OutOfMemory.
+#[cycle(expressions)]
+fn push_keyword(
+    alloc: Global,
+    code: &mut Items<Instruction>,
+    keyword: &Keyword,
+) -> Result<(), Error>
+    ensures ok { OnOk result (code.new ≡ code.old ++ keyword_code (length code.old) keyword.now) }
+    ensures err { IfErr result (λ e. e ≡ OutOfMemory ∷ []) }
+{
+    let Keyword::Keyword(name, value) = keyword;
+    put(
+        code,
+        Instruction::LoadConst(Value::text(alloc, name.as_str())?),
+    )?;
+    push_expr(alloc, code, value.get())?;
+    Ok(())
+}
+
+/// Adds the code of keywords; OutOfMemory.
+#[cycle(expressions)]
+fn push_keywords(
+    alloc: Global,
+    code: &mut Items<Instruction>,
+    named: &[Keyword],
+) -> Result<(), Error>
+    ensures ok { OnOk result
+        (code.new ≡ code.old ++ keywords_code (length code.old) (keywords named.now)) }
+    ensures err { IfErr result (λ e. e ≡ OutOfMemory ∷ []) }
+{
+    for keyword in named {
+        push_keyword(alloc, code, keyword)?;
+    }
+    Ok(())
+}
+
+/// Adds the code of keywords as one argument, where there are any; OutOfMemory.
+#[cycle(expressions)]
+fn push_named(alloc: Global, code: &mut Items<Instruction>, named: &[Keyword]) -> Result<(), Error>
+    ensures ok { OnOk result
+        (code.new ≡ code.old ++ named_code (length code.old) (keywords named.now)) }
+    ensures err { IfErr result (λ e. e ≡ OutOfMemory ∷ []) }
+{
+    if named.is_empty() {
+        return Ok(());
+    }
+    push_keywords(alloc, code, named)?;
+    put(code, Instruction::BuildKwargs(named.len()))
 }
 
 /// Adds what conditions ask, the last first, and the places of their jumps; OutOfMemory.
@@ -353,16 +419,19 @@ fn push_steps(alloc: Global, code: &mut Items<Instruction>, behind: &[Step]) -> 
     Ok(())
 }
 
-/// Adds the code of a statement, and that of its blocks; OutOfMemory.
+/// Adds the code of a statement and the jumps out of it, and that of its blocks; OutOfMemory.
 #[cycle(statements)]
 fn push_statement(
     alloc: Global,
     code: &mut Items<Instruction>,
     blocks: &mut NameMap<Items<Instruction>>,
+    around: &mut Enclosing,
     statement: &Stmt,
 ) -> Result<(), Error>
-    ensures code { OnOk result
-        (code.new ≡ code.old ++ statement_code (length code.old) statement.now) }
+    ensures code { OnOk result (code.new ≡ code.old
+        ++ statement_code (unset around.old.opened) (length code.old) statement.now) }
+    ensures around { OnOk result (around.new ≡ with_exits around.old
+        (exits_of around.old.opened (length code.old) statement.now)) }
     ensures blocks { OnOk result
         (blocks.new ≡ put_each (compiled_blocks (blocks_of statement.now)) blocks.old) }
     ensures err { IfErr result (λ e. e ≡ OutOfMemory ∷ []) }
@@ -374,38 +443,72 @@ fn push_statement(
             put(code, Instruction::Emit)
         }
         Stmt::If(condition, body, other) => {
-            push_if(alloc, code, blocks, condition.get(), body.as_slice(), other)
+            push_if(
+                alloc,
+                code,
+                blocks,
+                around,
+                condition.get(),
+                body.as_slice(),
+                other,
+            )
         }
+        Stmt::For(target, iterable, condition, body, other) => {
+            push_for(
+                alloc,
+                code,
+                blocks,
+                around,
+                target,
+                iterable.get(),
+                condition,
+                body.as_slice(),
+                other,
+            )
+        }
+        Stmt::Break => around.push_break(code),
+        Stmt::Continue => around.push_continue(code),
         Stmt::Block(name, body) => push_block(alloc, code, blocks, name, body.as_slice()),
         Stmt::Set(target, value) => push_set(alloc, code, target, value.get()),
         Stmt::SetBlock(target, body) => {
-            push_set_block(alloc, code, blocks, target, body.as_slice())
+            push_set_block(alloc, code, blocks, around, target, body.as_slice())
         }
         Stmt::With(given, body) => {
-            push_with(alloc, code, blocks, given.as_slice(), body.as_slice())
+            push_with(
+                alloc,
+                code,
+                blocks,
+                around,
+                given.as_slice(),
+                body.as_slice(),
+            )
         }
         Stmt::Do(call) => {
             push_expr(alloc, code, call.get())?;
             put(code, Instruction::DiscardTop)
         }
         Stmt::AutoEscape(value, body) => {
-            push_autoescape(alloc, code, blocks, value.get(), body.as_slice())
+            push_autoescape(alloc, code, blocks, around, value.get(), body.as_slice())
         }
     }
 }
 
-/// Adds the code of a condition and its bodies, and that of their blocks; OutOfMemory.
+/// Adds the code of a condition and its bodies, like that of a statement; OutOfMemory.
 #[cycle(statements)]
 fn push_if(
     alloc: Global,
     code: &mut Items<Instruction>,
     blocks: &mut NameMap<Items<Instruction>>,
+    around: &mut Enclosing,
     condition: &Expr,
     body: &[Stmt],
     other: &Option<Items<Stmt>>,
 ) -> Result<(), Error>
     ensures code { OnOk result (code.new ≡ code.old
-        ++ statement_code (length code.old) (If condition.now body.now other.now)) }
+        ++ statement_code (unset around.old.opened) (length code.old)
+        (If condition.now body.now other.now)) }
+    ensures around { OnOk result (around.new ≡ with_exits around.old
+        (exits_of around.old.opened (length code.old) (If condition.now body.now other.now))) }
     ensures blocks { OnOk result (blocks.new
         ≡ put_each (compiled_blocks (blocks_of (If condition.now body.now other.now))) blocks.old) }
     ensures err { IfErr result (λ e. e ≡ OutOfMemory ∷ []) }
@@ -413,7 +516,7 @@ fn push_if(
     push_expr(alloc, code, condition)?;
     let test = code.len();
     put(code, Instruction::JumpIfFalse(0))?;
-    push_statements(alloc, code, blocks, body)?;
+    push_statements(alloc, code, blocks, around, body)?;
     let behind = code.len();
     let Some(other) = other else {
         code.set(test, Instruction::JumpIfFalse(behind));
@@ -421,10 +524,102 @@ fn push_if(
     };
     put(code, Instruction::Jump(0))?;
     let start = code.len();
-    push_statements(alloc, code, blocks, other.as_slice())?;
+    push_statements(alloc, code, blocks, around, other.as_slice())?;
     let end = code.len();
     code.set(test, Instruction::JumpIfFalse(start));
     code.set(behind, Instruction::Jump(end));
+    Ok(())
+}
+
+/// Adds the code of a loop, like that of a statement; OutOfMemory.
+#[cycle(statements)]
+fn push_for(
+    alloc: Global,
+    code: &mut Items<Instruction>,
+    blocks: &mut NameMap<Items<Instruction>>,
+    around: &mut Enclosing,
+    target: &Target,
+    iterable: &Expr,
+    condition: &Option<Boxed<Expr>>,
+    body: &[Stmt],
+    other: &Option<Items<Stmt>>,
+) -> Result<(), Error>
+    ensures code { OnOk result (code.new ≡ code.old
+        ++ statement_code (unset around.old.opened) (length code.old)
+        (For target.now iterable.now condition.now body.now other.now)) }
+    ensures around { OnOk result (around.new ≡ with_exits around.old
+        (exits_of around.old.opened (length code.old)
+        (For target.now iterable.now condition.now body.now other.now))) }
+    ensures blocks { OnOk result (blocks.new ≡ put_each
+        (compiled_blocks
+        (blocks_of (For target.now iterable.now condition.now body.now other.now)))
+        blocks.old) }
+    ensures err { IfErr result (λ e. e ≡ OutOfMemory ∷ []) }
+{
+    push_iterable(alloc, code, target, iterable, condition)?;
+    push_rounds(alloc, code, blocks, target, body)?;
+    let Some(other) = other else {
+        return put(code, Instruction::PopLoopFrame);
+    };
+    push_no_round(alloc, code, blocks, around, other.as_slice())
+}
+
+/// Adds the code of a loop's rounds, up to its jump back, and that of their blocks; OutOfMemory.
+#[cycle(statements)]
+fn push_rounds(
+    alloc: Global,
+    code: &mut Items<Instruction>,
+    blocks: &mut NameMap<Items<Instruction>>,
+    target: &Target,
+    body: &[Stmt],
+) -> Result<(), Error>
+    ensures code { OnOk result (code.new ≡ code.old
+        ++ rounds_code (length code.old) target.now (statements body.now)) }
+    ensures blocks { OnOk result
+        (blocks.new ≡ put_each (compiled_blocks (blocks_in (statements body.now))) blocks.old) }
+    ensures err { IfErr result (λ e. e ≡ OutOfMemory ∷ []) }
+{
+    let flags = LoopFlags {
+        variable: true,
+        recursive: false,
+    };
+    put(code, Instruction::PushLoop(flags))?;
+    let again = code.len();
+    put(code, Instruction::Iterate(0))?;
+    push_target(alloc, code, target)?;
+    let mut inner = Enclosing::new(alloc);
+    push_statements(alloc, code, blocks, &mut inner, body)?;
+    put(code, Instruction::Jump(again))?;
+    let behind = code.len();
+    code.set(again, Instruction::Iterate(behind));
+    inner.lead(code, again, behind);
+    Ok(())
+}
+
+/// Adds what ends a loop with an else part, and this; OutOfMemory.
+#[cycle(statements)]
+fn push_no_round(
+    alloc: Global,
+    code: &mut Items<Instruction>,
+    blocks: &mut NameMap<Items<Instruction>>,
+    around: &mut Enclosing,
+    other: &[Stmt],
+) -> Result<(), Error>
+    ensures code { OnOk result (code.new ≡ code.old
+        ++ no_round_code (unset around.old.opened) (length code.old) (statements other.now)) }
+    ensures around { OnOk result (around.new ≡ with_exits around.old
+        (exits_in around.old.opened (length code.old + 3) (statements other.now))) }
+    ensures blocks { OnOk result
+        (blocks.new ≡ put_each (compiled_blocks (blocks_in (statements other.now))) blocks.old) }
+    ensures err { IfErr result (λ e. e ≡ OutOfMemory ∷ []) }
+{
+    put(code, Instruction::PushDidNotIterate)?;
+    put(code, Instruction::PopLoopFrame)?;
+    let test = code.len();
+    put(code, Instruction::JumpIfFalse(0))?;
+    push_statements(alloc, code, blocks, around, other)?;
+    let end = code.len();
+    code.set(test, Instruction::JumpIfFalse(end));
     Ok(())
 }
 
@@ -439,109 +634,147 @@ fn push_block(
 ) -> Result<(), Error>
     ensures code { OnOk result (code.new ≡ code.old ++ CallBlock name.now ∷ []) }
     ensures blocks { OnOk result
-        (blocks.new ≡ put_named name.now (statements_code 0 (statements body.now))
+        (blocks.new ≡ put_named name.now (stream_code (statements body.now))
         (put_each (compiled_blocks (blocks_in (statements body.now))) blocks.old)) }
     ensures err { IfErr result (λ e. e ≡ OutOfMemory ∷ []) }
 {
-    let mut inner = Items::new(alloc);
-    push_statements(alloc, &mut inner, blocks, body)?;
+    let inner = stream(alloc, blocks, body)?;
     blocks.insert(name.share()?, inner)?;
     put(code, Instruction::CallBlock(name.share()?))
 }
 
-/// Adds the code of a capture, its body and its target, and that of its blocks; OutOfMemory.
+/// Adds the code of a capture, its body and its target, like that of a statement; OutOfMemory.
 #[cycle(statements)]
 fn push_set_block(
     alloc: Global,
     code: &mut Items<Instruction>,
     blocks: &mut NameMap<Items<Instruction>>,
+    around: &mut Enclosing,
     target: &Target,
     body: &[Stmt],
 ) -> Result<(), Error>
-    ensures code { OnOk result
-        (code.new ≡ code.old ++ statement_code (length code.old) (SetBlock target.now body.now)) }
+    ensures code { OnOk result (code.new ≡ code.old
+        ++ statement_code (unset around.old.opened) (length code.old)
+        (SetBlock target.now body.now)) }
+    ensures around { OnOk result (around.new ≡ with_exits around.old
+        (exits_of around.old.opened (length code.old) (SetBlock target.now body.now))) }
     ensures blocks { OnOk result (blocks.new
         ≡ put_each (compiled_blocks (blocks_of (SetBlock target.now body.now))) blocks.old) }
     ensures err { IfErr result (λ e. e ≡ OutOfMemory ∷ []) }
 {
     put(code, Instruction::BeginCapture(CaptureMode::Capture))?;
-    push_statements(alloc, code, blocks, body)?;
+    around.begin(Opened::Capture)?;
+    push_statements(alloc, code, blocks, around, body)?;
+    around.end();
     put(code, Instruction::EndCapture)?;
     push_target(alloc, code, target)
 }
 
-/// Adds the code of a scope, its values and its body, and that of its blocks; OutOfMemory.
+/// Adds the code of a scope, its values and its body, like that of a statement; OutOfMemory.
 #[cycle(statements)]
 fn push_with(
     alloc: Global,
     code: &mut Items<Instruction>,
     blocks: &mut NameMap<Items<Instruction>>,
+    around: &mut Enclosing,
     given: &[Assignment],
     body: &[Stmt],
 ) -> Result<(), Error>
-    ensures code { OnOk result
-        (code.new ≡ code.old ++ statement_code (length code.old) (With given.now body.now)) }
+    ensures code { OnOk result (code.new ≡ code.old
+        ++ statement_code (unset around.old.opened) (length code.old)
+        (With given.now body.now)) }
+    ensures around { OnOk result (around.new ≡ with_exits around.old
+        (exits_of around.old.opened (length code.old) (With given.now body.now))) }
     ensures blocks { OnOk result (blocks.new
         ≡ put_each (compiled_blocks (blocks_of (With given.now body.now))) blocks.old) }
     ensures err { IfErr result (λ e. e ≡ OutOfMemory ∷ []) }
 {
     put(code, Instruction::PushWith)?;
     push_assignments(alloc, code, given)?;
-    push_statements(alloc, code, blocks, body)?;
+    around.begin(Opened::Scope)?;
+    push_statements(alloc, code, blocks, around, body)?;
+    around.end();
     put(code, Instruction::PopFrame)
 }
 
-/// Adds the code of an escape and its body, and that of its blocks; OutOfMemory.
+/// Adds the code of an escape and its body, like that of a statement; OutOfMemory.
 #[cycle(statements)]
 fn push_autoescape(
     alloc: Global,
     code: &mut Items<Instruction>,
     blocks: &mut NameMap<Items<Instruction>>,
+    around: &mut Enclosing,
     value: &Expr,
     body: &[Stmt],
 ) -> Result<(), Error>
-    ensures code { OnOk result
-        (code.new ≡ code.old ++ statement_code (length code.old) (AutoEscape value.now body.now)) }
+    ensures code { OnOk result (code.new ≡ code.old
+        ++ statement_code (unset around.old.opened) (length code.old)
+        (AutoEscape value.now body.now)) }
+    ensures around { OnOk result (around.new ≡ with_exits around.old
+        (exits_of around.old.opened (length code.old) (AutoEscape value.now body.now))) }
     ensures blocks { OnOk result (blocks.new
         ≡ put_each (compiled_blocks (blocks_of (AutoEscape value.now body.now))) blocks.old) }
     ensures err { IfErr result (λ e. e ≡ OutOfMemory ∷ []) }
 {
     push_expr(alloc, code, value)?;
     put(code, Instruction::PushAutoEscape)?;
-    push_statements(alloc, code, blocks, body)?;
+    around.begin(Opened::Escape)?;
+    push_statements(alloc, code, blocks, around, body)?;
+    around.end();
     put(code, Instruction::PopAutoEscape)
 }
 
-/// Adds the code of statements, and that of their blocks; OutOfMemory.
+/// Adds the code of statements and the jumps out of them, and that of their blocks; OutOfMemory.
 #[cycle(statements)]
 fn push_statements(
     alloc: Global,
     code: &mut Items<Instruction>,
     blocks: &mut NameMap<Items<Instruction>>,
+    around: &mut Enclosing,
     body: &[Stmt],
 ) -> Result<(), Error>
-    ensures code { OnOk result
-        (code.new ≡ code.old ++ statements_code (length code.old) (statements body.now)) }
+    ensures code { OnOk result (code.new ≡ code.old
+        ++ statements_code (unset around.old.opened) (length code.old) (statements body.now)) }
+    ensures around { OnOk result (around.new ≡ with_exits around.old
+        (exits_in around.old.opened (length code.old) (statements body.now))) }
     ensures blocks { OnOk result
         (blocks.new ≡ put_each (compiled_blocks (blocks_in (statements body.now))) blocks.old) }
     ensures err { IfErr result (λ e. e ≡ OutOfMemory ∷ []) }
 {
     for statement in body {
-        push_statement(alloc, code, blocks, statement)?;
+        push_statement(alloc, code, blocks, around, statement)?;
     }
     Ok(())
 }
 
+/// The code of statements on their own, and that of their blocks; OutOfMemory.
+#[cycle(statements)]
+fn stream(
+    alloc: Global,
+    blocks: &mut NameMap<Items<Instruction>>,
+    body: &[Stmt],
+) -> Result<Items<Instruction>, Error>
+    ensures code { IfOk result (λ code. code ≡ stream_code (statements body.now)) }
+    ensures blocks { OnOk result
+        (blocks.new ≡ put_each (compiled_blocks (blocks_in (statements body.now))) blocks.old) }
+    ensures err { IfErr result (λ e. e ≡ OutOfMemory ∷ []) }
+{
+    let mut code = Items::new(alloc);
+    let mut around = Enclosing::new(alloc);
+    push_statements(alloc, &mut code, blocks, &mut around, body)?;
+    let end = code.len();
+    around.lead(&mut code, end, end);
+    Ok(code)
+}
+
 /// The streams of a tree, which share its texts and literals; OutOfMemory.
 pub fn generate(alloc: Global, tree: &Tree) -> Result<Streams, Error>
-    ensures root { IfOk result
-        (λ s. s.root ≡ statements_code 0 (statements tree.now.statements)) }
+    ensures root { IfOk result (λ s. s.root ≡ stream_code (statements tree.now.statements)) }
     ensures blocks { IfOk result
         (λ s. s.blocks ≡ by_name (compiled_blocks (blocks_in (statements tree.now.statements)))) }
     ensures err { IfErr result (λ e. e ≡ OutOfMemory ∷ []) }
 {
-    let mut root = Items::new(alloc);
     let mut blocks = NameMap::new(alloc);
-    push_statements(alloc, &mut root, &mut blocks, tree.statements.as_slice())?;
+    let root = stream(alloc, &mut blocks, tree.statements.as_slice())?;
     Ok(Streams { root, blocks })
 }

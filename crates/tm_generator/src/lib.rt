@@ -1,7 +1,9 @@
 //! Instructions from trees.
 #![tactic(auto, using(tm_syntax::proofs::Forms::boxes))]
 
+mod filters;
 mod generator;
+mod loops;
 mod patches;
 mod targets;
 

@@ -1,9 +1,13 @@
 -- What a call comes to, up to the run that it needs: the meaning and the machine share it. Neither trees nor instructions stand here.
 use Rattle.std.specs.Prelude.{ℕ, List, [], ◌∷◌, length, map as each, Option, Some, None, Bool, true, false, not, nat_eq, ◌&&◌, slice_get}
-use Rattle.tm_values.specs.Val.{Val, undefined, function}
+use Rattle.tm_operations.specs.Maps.{dict_of, namespace_of}
+use Rattle.tm_operations.specs.Ranges.{range_of}
+use Rattle.tm_values.specs.Val.{Val, undefined, map, function, pairs_of}
 use Rattle.tm_values.specs.declared.error.ErrorKind.{ErrorKind}
 use Rattle.tm_values.specs.declared.error.ErrorKind.TheVariants.{InvalidOperation, UnknownFunction, UnknownBlock}
-use Rattle.tm_meaning.specs.World.{TemplateId, StreamId, block_of, Named, find, put_each, Card, Layers, World, Host, View, Reply, gives, faults, Stated, Function, callers, Res, Good, Bad, need, check, card_at, view_of, lookup, plain, push, pop}
+use Rattle.tm_meaning.specs.declared.function.GlobalFunction.{GlobalFunction}
+use Rattle.tm_meaning.specs.declared.function.GlobalFunction.TheVariants as own
+use Rattle.tm_meaning.specs.World.{TemplateId, StreamId, block_of, Named, find, put_each, Card, Layers, World, Host, View, Reply, gives, faults, Stated, Function, callers, languages, Res, Good, Bad, bind, answered, records_of, make_namespace, need, check, card_at, view_of, lookup, plain, push, pop}
 
 -- What is run: a whole stream.
 pub data Callee : Type 0 where
@@ -70,10 +74,17 @@ abbrev pub replied : Reply → World → Asked
 replied (gives v) w = has v w
 replied (faults chain) w = refused chain w
 
+-- what a function of the language gives
+abbrev pub given_by : GlobalFunction → List Val → World → Res Val
+given_by own.Range args w = answered (range_of args) w
+given_by own.Dict args w = bind (answered (dict_of (records_of w) args) w) (λ ps world1. Good (map (pairs_of ps)) world1)
+given_by own.Namespace args w = bind (answered (namespace_of (records_of w) args) w) (λ ps world1. make_namespace ps world1)
+
 abbrev pub call_by : Host → Function → List Val → World → Asked
 call_by host (callers f) args w =
     let stated = f args (view_of host w) in
     replied stated.reply (record w { temps = put_each stated.temps w.temps })
+call_by host (languages g) args w = ask (given_by g args w) has
 
 -- a value is called: of values alone a function can be, by its number
 abbrev pub call_value : Host → Val → List Val → World → Asked

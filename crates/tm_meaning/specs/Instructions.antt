@@ -1,15 +1,17 @@
 -- What each instruction does once it is paid for.
-use Rattle.std.specs.Prelude.{ℕ, ◌+◌, List, [], ◌∷◌, ◌++◌, length, nat_lt, Bool, true, false, ◌&&◌}
-use Rattle.tm_values.specs.Val.{Val, undefined}
+use Rattle.std.specs.Prelude.{ℕ, ◌+◌, pos, List, [], ◌∷◌, ◌++◌, length, nat_lt, nat_eq, Option, Some, None, Bool, true, false, ◌&&◌, slice_get}
+use Rattle.tm_values.specs.Val.{Val, undefined, boolean, number}
 use Rattle.tm_values.specs.declared.escape.AutoEscape.{AutoEscape}
 use Rattle.tm_syntax.specs.declared.instruction.CaptureMode.{CaptureMode}
+use Rattle.tm_syntax.specs.declared.instruction.LoopFlags.{LoopFlags}
 use Rattle.tm_syntax.specs.declared.instruction.CaptureMode.TheVariants as modes
 use Rattle.tm_syntax.specs.declared.tree.UnaryOperator.{UnaryOperator}
+use Rattle.tm_meaning.specs.declared.mark.LoopMark.{LoopMark}
 use Rattle.tm_syntax.specs.declared.tree.BinaryOperator.{BinaryOperator}
-use Rattle.tm_meaning.specs.World.{choose, World, Host, Res, Good, answered, looked_up, emitted, escape_for, with_escape, store, items_of, set_member, push, pop, plain}
+use Rattle.tm_meaning.specs.World.{choose, World, Host, Loop, top_mark, top_loop, open_loop, next_turn, cleared, items_over, Res, Good, answered, looked_up, emitted, escape_for, with_escape, store, items_of, set_member, push, pop, plain}
 use Rattle.tm_meaning.specs.Calls.{enter_block, call_named}
-use Rattle.tm_meaning.specs.Meaning.{none_waits, truth, applied_unary, operated, attribute, item_at, slice_of, list_of_values, map_of_pairs}
-use Rattle.tm_meaning.specs.Machine.{Capture, Activation, Config, Base, Next, More, after, on_top, take_n, on, goes, jumps, stuck, with_world, audible, writes, new_capture, captured_value, asked, asked_in_place}
+use Rattle.tm_meaning.specs.Meaning.{none_waits, truth, applied_unary, operated, attribute, item_at, slice_of, list_of_values, map_of_pairs, keyword_map}
+use Rattle.tm_meaning.specs.Machine.{Capture, Return, Activation, Config, Base, Next, More, after, on_top, take_n, on, goes, jumps, stuck, with_world, audible, writes, new_capture, captured_value, asked, asked_in_place}
 
 -- ---------------------------------------------------------------- output
 abbrev pub emit_raw_of : Base → List ℕ → Config → Next
@@ -51,6 +53,9 @@ compare_and_preserve_of host op c =
 abbrev pub swap_of : Config → Next
 swap_of c = on_top c.run.operands c.world (λ b vs. on_top vs c.world (λ a rest. goes (a ∷ b ∷ rest) c.world c))
 
+abbrev pub dup_top_of : Config → Next
+dup_top_of c = on_top c.run.operands c.world (λ v vs. goes (v ∷ v ∷ vs) c.world c)
+
 abbrev pub discard_top_of : Config → Next
 discard_top_of c = on_top c.run.operands c.world (λ v vs. goes vs c.world c)
 
@@ -64,8 +69,22 @@ slice_instruction_of host c =
     after (slice_of host v start stop by c.world) (λ x w. goes (x ∷ rest) w c)))))
 
 -- ---------------------------------------------------------------- lists and maps
-abbrev pub build_list_of : ℕ → Config → Next
-build_list_of n c = take_n n c.run.operands c.world (λ vs rest. goes (list_of_values vs ∷ rest) c.world c)
+abbrev pub list_on : ℕ → List Val → Config → Next
+list_on n us c = take_n n us c.world (λ vs rest. goes (list_of_values vs ∷ rest) c.world c)
+
+-- how many a number counts
+abbrev pub count_in : Val → Option ℕ
+count_in (number (pos n)) = Some n
+count_in v = None
+
+abbrev pub on_count : Option ℕ → World → (ℕ → Next) → Next
+on_count None w f = stuck w
+on_count (Some n) w f = f n
+
+-- so many values, or as many as the number on top of them counts
+abbrev pub build_list_of : Option ℕ → Config → Next
+build_list_of (Some n) c = list_on n c.run.operands c
+build_list_of None c = on_top c.run.operands c.world (λ v us. on_count (count_in v) c.world (λ n. list_on n us c))
 
 -- keys, each with its value behind it
 abbrev pub paired : List Val → List (Val × Val)
@@ -74,6 +93,10 @@ paired _ = []
 
 abbrev pub build_map_of : ℕ → Config → Next
 build_map_of n c = take_n (n + n) c.run.operands c.world (λ vs rest. goes (map_of_pairs (paired vs) ∷ rest) c.world c)
+
+-- names, each with its value behind it
+abbrev pub build_kwargs_of : ℕ → Config → Next
+build_kwargs_of n c = take_n (n + n) c.run.operands c.world (λ vs rest. goes (keyword_map (paired vs) ∷ rest) c.world c)
 
 -- ---------------------------------------------------------------- jumps
 abbrev pub jump_of : ℕ → Config → Next
@@ -108,10 +131,52 @@ set_attr_of x c =
 abbrev pub push_with_of : Host → Config → Next
 push_with_of host c = after (push host (plain (undefined false)) c.world) (λ _ w. goes c.run.operands w c)
 
--- A scope that stood before the run isn't left.
+abbrev pub is_no_loop : Option LoopMark → Bool
+is_no_loop None = true
+is_no_loop (Some m) = false
+
+-- A scope that stood before the run isn't left, nor a loop's.
 abbrev pub pop_frame_of : Base → Config → Next
 pop_frame_of f c =
-    choose (nat_lt f.scopes (length c.world.scopes.frames)) (λ _. goes c.run.operands (pop c.world) c) (λ _. stuck c.world)
+    choose (nat_lt f.scopes (length c.world.scopes.frames) && is_no_loop (top_mark c.world.scopes.frames))
+    (λ _. goes c.run.operands (pop c.world) c) (λ _. stuck c.world)
+
+-- ---------------------------------------------------------------- loops
+-- the loops that the run has open, each with where it goes on if it was called
+abbrev pub looping : List (Option Return) → Config → Config
+looping rs c = record c { run = record c.run { loops = rs } }
+
+abbrev pub push_loop_of : Host → LoopFlags → Config → Next
+push_loop_of host flags c =
+    on_top c.run.operands c.world (λ v vs. after (items_over host v c.world) (λ items w. after (open_loop host items flags w) (λ _ world1.
+    goes vs world1 (looping (None ∷ c.run.loops) c))))
+
+-- the innermost loop's record, where the run opened that and its scope is on top
+abbrev pub on_loop : List (Option Return) → Option Loop → World → (Loop → Next) → Next
+on_loop [] l w f = stuck w
+on_loop (r ∷ rs) None w f = stuck w
+on_loop (r ∷ rs) (Some l) w f = f l
+
+abbrev pub iterate_with : Option Val → ℕ → Config → Next
+iterate_with None n c = jumps n c.run.operands (next_turn c.world) c
+iterate_with (Some v) n c = goes (v ∷ c.run.operands) (cleared (next_turn c.world)) c
+
+abbrev pub iterate_of : ℕ → Config → Next
+iterate_of n c = on_loop c.run.loops (top_loop c.world) c.world (λ l. iterate_with (slice_get l.items l.turns) n c)
+
+abbrev pub push_did_not_iterate_of : Config → Next
+push_did_not_iterate_of c =
+    on_loop c.run.loops (top_loop c.world) c.world (λ l. goes (boolean (nat_eq (length l.items) 0) ∷ c.run.operands) c.world c)
+
+-- Where no call of it is open it is left; nothing calls one yet. One that stood before the run isn't left.
+abbrev pub pop_loop_with : List (Option Return) → Config → Next
+pop_loop_with (None ∷ rs) c = goes c.run.operands (pop c.world) (looping rs c)
+pop_loop_with _ c = stuck c.world
+
+abbrev pub pop_loop_frame_of : Base → Config → Next
+pop_loop_frame_of f c =
+    choose (nat_lt f.scopes (length c.world.scopes.frames))
+    (λ _. on_loop c.run.loops (top_loop c.world) c.world (λ l. pop_loop_with c.run.loops c)) (λ _. stuck c.world)
 
 -- ---------------------------------------------------------------- captures and escapes
 abbrev pub is_heard : CaptureMode → Bool

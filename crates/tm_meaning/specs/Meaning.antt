@@ -1,10 +1,10 @@
 -- What trees mean. No stream's place and no operand stands here.
-use Rattle.std.specs.Prelude.{ℕ, zero, suc, ◌+◌, ◌^◌, ◌-◌, List, [], ◌∷◌, ◌++◌, Option, Some, None, Bool, true, false, not, ◌&&◌, Ok, Err}
+use Rattle.std.specs.Prelude.{ℕ, zero, suc, ◌+◌, ◌^◌, ◌-◌, pos, List, [], ◌∷◌, ◌++◌, Option, Some, None, Bool, true, false, not, ◌&&◌, Ok, Err}
 use Rattle.std.specs.Result.{result_map_both}
 use Rattle.tm_values.specs.Answer.{Answer}
 use Rattle.tm_values.specs.Map.{put_all}
 use Rattle.tm_values.specs.Records.{RecordData}
-use Rattle.tm_values.specs.Val.{Val, undefined, boolean, list, map, vals_of, pairs_of}
+use Rattle.tm_values.specs.Val.{Val, undefined, boolean, number, text, list, map, keywords, vals_of, pairs_of}
 use Rattle.tm_values.specs.declared.error.ErrorKind.{ErrorKind}
 use Rattle.tm_values.specs.declared.error.ErrorKind.TheVariants.{InvalidOperation}
 use Rattle.tm_values.specs.declared.escape.AutoEscape.{AutoEscape}
@@ -21,18 +21,19 @@ use Rattle.tm_syntax.specs.declared.tree.UnaryOperator.{UnaryOperator}
 use Rattle.tm_syntax.specs.declared.tree.UnaryOperator.TheVariants as unaries
 use Rattle.tm_syntax.specs.declared.tree.BinaryOperator.{BinaryOperator}
 use Rattle.tm_syntax.specs.declared.tree.BinaryOperator.TheVariants as binaries
-use Rattle.tm_syntax.specs.declared.tree.Expr.{Expr, Var, Const, List', Tuple', Map', Call', Row_of-Expr, end_of-Expr as no_expr, more_of-Expr as expr, Row_of-Pair, end_of-Pair as no_pair, more_of-Pair as with_pair, Row_of-Argument, end_of-Argument as no_argument, more_of-Argument as argument, Row_of-Step, end_of-Step as no_step, more_of-Step as step, Row_of-Condition, end_of-Condition as no_condition, more_of-Condition as with_condition}
+use Rattle.tm_syntax.specs.declared.tree.Expr.{Expr, Var, Const, List', Tuple', Map', Call', Row_of-Expr, end_of-Expr as no_expr, more_of-Expr as expr, Row_of-Pair, end_of-Pair as no_pair, more_of-Pair as with_pair, Row_of-Argument, end_of-Argument as no_argument, more_of-Argument as argument, Row_of-Keyword, end_of-Keyword as no_keyword, more_of-Keyword as with_keyword, Row_of-Step, end_of-Step as no_step, more_of-Step as step, Row_of-Condition, end_of-Condition as no_condition, more_of-Condition as with_condition}
 use Rattle.tm_syntax.specs.declared.tree.Argument.{Argument}
+use Rattle.tm_syntax.specs.declared.tree.Keyword.{Keyword}
 use Rattle.tm_syntax.specs.declared.tree.Pair.{Pair}
 use Rattle.tm_syntax.specs.declared.tree.Condition.{Condition}
 use Rattle.tm_syntax.specs.declared.tree.Step.{Step, Attribute, Row_of-Comparison, end_of-Comparison as no_comparison, more_of-Comparison as with_comparison}
 use Rattle.tm_syntax.specs.declared.tree.Target.{Target, Name as To, Unpack' as Items, Attribute as Member, Row_of-Target, end_of-Target as no_target, more_of-Target as target}
 use Rattle.tm_syntax.specs.declared.tree.Assignment.{Assignment}
 use Rattle.tm_syntax.specs.declared.tree.Assignment.TheVariants.{Assignment as Given}
-use Rattle.tm_syntax.specs.declared.tree.Stmt.{Stmt, EmitRaw, EmitExpr, If', Block', Set, SetBlock', With', Do, AutoEscape', Row_of-Stmt, end_of-Stmt as no_statement, more_of-Stmt as statement, Held-Stmt-If-2 as Otherwise, None' as no_else, Some' as otherwise}
-use Rattle.tm_syntax.specs.Forms.{unary, chained, conditional, condition, comparison, pair, plain, item, slice, binary, compare, and_then, or_else}
-use Rattle.tm_syntax.specs.Code.{count_targets}
-use Rattle.tm_meaning.specs.World.{choose, TemplateId, root_of, StreamId, World, Host, Res, Good, Bad, bind, answered, tick, ticked, looked_up, records_of, template_at, emitted, escape_for, with_escape, captured_text, store, set_member, items_of, push, pop, plain as plain_scope}
+use Rattle.tm_syntax.specs.declared.tree.Stmt.{Stmt, EmitRaw, EmitExpr, If', For', Break, Continue, Block', Set, SetBlock', With', Do, AutoEscape', Row_of-Stmt, end_of-Stmt as no_statement, more_of-Stmt as statement, Held-Stmt-If-2 as Otherwise, None' as no_else, Some' as otherwise}
+use Rattle.tm_syntax.specs.Forms.{unary, chained, conditional, condition, comparison, pair, plain, keyword, item, slice, binary, compare, and_then, or_else}
+use Rattle.tm_syntax.specs.Code.{count_targets, for_flags, filter_flags}
+use Rattle.tm_meaning.specs.World.{choose, TemplateId, root_of, StreamId, World, Host, Res, Good, Bad, bind, answered, tick, ticked, looked_up, records_of, template_at, emitted, escape_for, with_escape, captured_text, open_loop, next_turn, cleared, items_over, store, set_member, items_of, push, pop, plain as plain_scope}
 use Rattle.tm_meaning.specs.Calls.{Callee, whole, Call, Asked, has, refused, runs, undone, wrapped, enter_block, call_named, own_blocks}
 use Rattle.tm_meaning.specs.Tree.{Body, Trees}
 
@@ -185,6 +186,10 @@ list_of_values vs = list (vals_of vs)
 abbrev pub map_of_pairs : List (Val × Val) → Val
 map_of_pairs ps = map (pairs_of (put_all ps))
 
+-- and of arguments by their names
+abbrev pub keyword_map : List (Val × Val) → Val
+keyword_map ps = keywords (pairs_of (put_all ps))
+
 -- ---------------------------------------------------------------- expressions
 abbrev mutual
   pub eval : Under → Run → Expr → World → Res Val
@@ -193,7 +198,9 @@ abbrev mutual
   eval u run (List' _ es) w = bind (eval_all u run es w) (λ vs world1. ticked world1 (λ world2. Good (list_of_values vs) world2))
   eval u run (Tuple' _ es) w = bind (eval_all u run es w) (λ vs world1. ticked world1 (λ world2. Good (list_of_values vs) world2))
   eval u run (Map' _ ps) w = bind (eval_pairs u run ps w) (λ es world1. ticked world1 (λ world2. Good (map_of_pairs es) world2))
-  eval u run (Call' f _ given) w = bind (eval_arguments u run given w) (λ vs world1. ticked world1 (λ world2. value_of u (call_named u.host f vs world2)))
+  eval u run (Call' f _ given _ named) w =
+      bind (eval_arguments u run given w) (λ vs world1. bind (eval_named u run named world1) (λ ks world2.
+      ticked world2 (λ world3. value_of u (call_named u.host f (vs ++ ks) world3))))
   eval u run (unary op a) w = bind (eval u run a w) (λ v world1. ticked world1 (λ world2. applied_unary u.host op v world2))
   eval u run (chained a _ ss) w = bind (eval u run a w) (λ v world1. eval_steps u run ss v world1)
   eval u run (conditional a _ cs) w = eval_conditions u run cs (λ world1. eval u run a world1) w
@@ -229,6 +236,22 @@ abbrev mutual
   eval_arguments u run no_argument w = Good [] w
   eval_arguments u run (argument a more) w =
       bind (eval_argument u run a w) (λ v world1. bind (eval_arguments u run more world1) (λ vs world2. Good (v ∷ vs) world2))
+
+  -- a name, charged, before its value
+  pub eval_keyword : Under → Run → Keyword → World → Res (Val × Val)
+  eval_keyword u run (keyword x a) w = ticked w (λ world1. bind (eval u run a world1) (λ v world2. Good (text x false, v) world2))
+
+  pub eval_keywords : {n : _} → Under → Run → Row_of-Keyword n → World → Res (List (Val × Val))
+  eval_keywords u run no_keyword w = Good [] w
+  eval_keywords u run (with_keyword k more) w =
+      bind (eval_keyword u run k w) (λ x world1. bind (eval_keywords u run more world1) (λ xs world2. Good (x ∷ xs) world2))
+
+  -- arguments by their names are one argument, charged, where there are any
+  pub eval_named : {n : _} → Under → Run → Row_of-Keyword n → World → Res (List Val)
+  eval_named u run no_keyword w = Good [] w
+  eval_named u run (with_keyword k more) w =
+      bind (eval_keyword u run k w) (λ x world1. bind (eval_keywords u run more world1) (λ xs world2.
+      ticked world2 (λ world3. Good (keyword_map (x ∷ xs) ∷ []) world3)))
 
   -- a value goes on; `and` and `or` charge their test, and give the operand that ran last
   pub eval_step : Under → Run → Step → Val → World → Res Val
@@ -307,6 +330,52 @@ abbrev pub behind_first : Otherwise → Run → Outcome → Outcome
 behind_first no_else run o = o
 behind_first (otherwise _ body) run o = then_do run o (λ run1 out1 world1. use_it (tick world1) run1 out1 (λ _ world2. so_far run1 out1 world2))
 
+-- ---------------------------------------------------------------- loops
+-- a round's end, charged: its loop is left, or goes on
+abbrev pub round_end : Ending → Run → Outcome → (Run → List ℕ → World → Outcome) → Outcome
+round_end (fault chain) run o f = o
+round_end leave run o f = use_it (tick o.world) run o.text (λ _ world1. so_far run o.text (pop world1))
+round_end e run o f = use_it (tick o.world) run o.text (λ _ world1. f run o.text world1)
+
+-- A round for each item: the next one is asked for, charged, the scope loses its names, and the body runs. Where no item is left the loop is.
+abbrev pub rounds : (Val → Run → List ℕ → World → Outcome) → List Val → Run → List ℕ → World → Outcome
+rounds turn [] run out w = use_it (tick w) run out (λ _ world1. so_far run out (pop (next_turn world1)))
+rounds turn (v ∷ vs) run out w =
+    use_it (tick w) run out (λ _ world1.
+    let o = turn v run out (cleared (next_turn world1)) in
+    round_end o.ending (record run { parent = o.parent }) o (λ run1 out1 world2. rounds turn vs run1 out1 world2))
+
+abbrev pub loop_over : Host → (Val → Run → List ℕ → World → Outcome) → List Val → Run → List ℕ → World → Outcome
+loop_over host turn vs run out w = use_it (open_loop host vs for_flags w) run out (λ _ world1. rounds turn vs run out world1)
+
+-- The count of what is taken, one more as numbers are added, behind three charges.
+abbrev pub one_counted : ℕ → World → Res Val
+one_counted n w =
+    ticked w (λ world1. ticked world1 (λ world2. ticked world2 (λ world3. answered (arithmetic.added (number (pos n)) (number (pos 1))) world3)))
+
+-- Of items those whose condition is true, of which so many are taken already: the next item is asked for, charged, the scope loses its names, the condition is tested, charged,
+-- and what is taken is counted; then the jump back is charged. Where no item is left the loop is.
+abbrev pub kept : Host → (Val → World → Res Val) → ℕ → List Val → World → Res (List Val)
+kept host test n [] w = ticked w (λ world1. Good [] (pop (next_turn world1)))
+kept host test n (v ∷ vs) w =
+    ticked w (λ world1. bind (test v (cleared (next_turn world1))) (λ c world2. ticked world2 (λ world3. bind (truth host c world3) (λ b world4.
+    choose b
+    (λ _. bind (one_counted n world4) (λ _ world5. ticked world5 (λ world6. bind (kept host test (n + 1) vs world6) (λ us world7. Good (v ∷ us) world7))))
+    (λ _. ticked world4 (λ world5. kept host test n vs world5))))))
+
+-- what a loop goes over: with a condition the items for which that is true, in a loop without the name `loop` before it
+abbrev pub loop_items : Under → Run → Target → Expr → Option Expr → World → Res (List Val)
+loop_items u run t e None w = bind (eval u run e w) (λ v world1. items_over u.host v world1)
+loop_items u run t e (Some c) w =
+    ticked w (λ world1. bind (eval u run e world1) (λ v world2. bind (items_over u.host v world2) (λ vs world3.
+    bind (open_loop u.host vs filter_flags world3) (λ _ world4.
+    bind (kept u.host (λ x world5. bind (assign u run t x world5) (λ _ world6. eval u run c world6)) 0 vs world4) (λ us world5.
+    ticked world5 (λ world6. Good us world6))))))
+
+abbrev pub has_none : List Val → Bool
+has_none [] = true
+has_none (v ∷ vs) = false
+
 abbrev mutual
   pub exec : Under → Stmt → Run → List ℕ → World → Outcome
   exec u (EmitRaw t) run out w = use_it (tick w) run out (λ _ world1. so_far run (say run t out) world1)
@@ -314,6 +383,13 @@ abbrev mutual
   exec u (If' c _ body other) run out w =
       use_it (eval u run c w) run out (λ v world1. use_it (tick world1) run out (λ _ world2. use_it (truth u.host v world2) run out (λ b world3.
       choose b (λ _. behind_first other run (execs u body run out world3)) (λ _. exec_else u other run out world3))))
+  exec u (For' t e c _ body other) run out w =
+      use_it (loop_items u run t e c w) run out (λ vs world1.
+      then_do run
+      (loop_over u.host (λ item run1 out1 world2. use_it (assign u run1 t item world2) run1 out1 (λ _ world3. execs u body run1 out1 world3)) vs run out world1)
+      (λ run1 out1 world2. exec_behind_loop u other (has_none vs) run1 out1 world2))
+  exec u Break run out w = ended leave run out w
+  exec u Continue run out w = ended next run out w
   exec u (Block' b _ body) run out w = use_it (tick w) run out (λ _ world1. block_tag u run b out world1)
   exec u (Set t e) run out w = use_it (set_to u run t e w) run out (λ _ world1. so_far run out world1)
   exec u (SetBlock' t _ body) run out w =
@@ -337,6 +413,12 @@ abbrev mutual
   exec_else u no_else run out w = so_far run out w
   exec_else u (otherwise _ body) run out w = execs u body run out w
 
+  -- what runs where a loop had no items, behind its test, which is charged
+  pub exec_behind_loop : Under → Otherwise → Bool → Run → List ℕ → World → Outcome
+  exec_behind_loop u no_else none_taken run out w = so_far run out w
+  exec_behind_loop u (otherwise _ body) none_taken run out w =
+      use_it (tick w) run out (λ _ world1. choose none_taken (λ _. execs u body run out world1) (λ _. so_far run out world1))
+
 -- ---------------------------------------------------------------- runs
 abbrev pub failed : ErrorKind → Run → List ℕ → World → Outcome
 failed kind run out w = ended (fault (kind ∷ [])) run out w
@@ -344,10 +426,16 @@ failed kind run out w = ended (fault (kind ∷ [])) run out w
 abbrev pub new_run : Bool → World → Run
 new_run heard w = record { first = w.escape; heard = heard; inside = false; parent = None }
 
--- a stream's end: whatever it was, the run is over
+-- what is done, or a fault where its charge wasn't paid
+abbrev pub done_by : Res (Unit {0}) → Outcome → Outcome
+done_by (Good _ w) o = record o { ending = done; world = w }
+done_by (Bad chain w) o = record o { ending = fault chain; world = w }
+
+-- A stream's end: whatever it was, the run is over. A loop that isn't there is left, or goes on, at a charge; no source has such a tree.
 abbrev pub at_end : Ending → Outcome → Outcome
+at_end done o = record o { ending = done }
 at_end (fault chain) o = o
-at_end e o = record o { ending = done }
+at_end e o = done_by (tick o.world) o
 
 abbrev pub stream_run : Under → Body → Run → List ℕ → World → Outcome
 stream_run u body run out w = let o = execs u body.row run out w in at_end o.ending o

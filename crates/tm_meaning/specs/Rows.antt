@@ -8,15 +8,16 @@ use Rattle.tm_values.specs.declared.undefined.UndefinedBehavior.{UndefinedBehavi
 use Rattle.tm_values.specs.declared.undefined.UndefinedBehavior.TheVariants.{Lenient}
 use Rattle.tm_syntax.specs.declared.tree.UnaryOperator.TheVariants as unaries
 use Rattle.tm_syntax.specs.declared.tree.BinaryOperator.TheVariants as binaries
-use Rattle.tm_syntax.specs.declared.tree.Expr.{Expr, Var, Const, List', Tuple', Call', end_of-Expr as no_expr, more_of-Expr as expr, end_of-Argument as no_argument, more_of-Argument as argument, end_of-Step as no_step, more_of-Step as step, end_of-Condition as no_condition, more_of-Condition as with_condition}
+use Rattle.tm_syntax.specs.declared.tree.Expr.{Expr, Var, Const, List', Tuple', Call', end_of-Expr as no_expr, more_of-Expr as expr, end_of-Argument as no_argument, more_of-Argument as argument, end_of-Keyword as no_keyword, more_of-Keyword as with_keyword, end_of-Step as no_step, more_of-Step as step, end_of-Condition as no_condition, more_of-Condition as with_condition}
 use Rattle.tm_syntax.specs.declared.tree.Step.{Step, Attribute, end_of-Comparison as no_comparison, more_of-Comparison as with_comparison}
 use Rattle.tm_syntax.specs.declared.tree.Target.{Target, Name as To, Unpack' as Items, Attribute as Member, end_of-Target as no_target, more_of-Target as target}
 use Rattle.tm_syntax.specs.declared.tree.Assignment.{Assignment}
 use Rattle.tm_syntax.specs.declared.tree.Assignment.TheVariants.{Assignment as Given}
-use Rattle.tm_syntax.specs.declared.tree.Stmt.{Stmt, EmitRaw, EmitExpr, If', Block', Set, SetBlock', With', Do, AutoEscape', end_of-Stmt as no_statement, more_of-Stmt as statement, Held-Stmt-If-2 as Otherwise, None' as no_else, Some' as otherwise}
-use Rattle.tm_syntax.specs.Forms.{unary, chained, conditional, condition, comparison, plain, binary, compare, and_then, or_else}
+use Rattle.tm_syntax.specs.declared.tree.Stmt.{Stmt, EmitRaw, EmitExpr, If', For', Break, Continue, Block', Set, SetBlock', With', Do, AutoEscape', end_of-Stmt as no_statement, more_of-Stmt as statement, Held-Stmt-If-2 as Otherwise, None' as no_else, Some' as otherwise}
+use Rattle.tm_syntax.specs.Forms.{unary, chained, conditional, condition, comparison, plain, keyword, binary, compare, and_then, or_else}
 use Rattle.tm_meaning.specs.Compiled.{code_of}
-use Rattle.tm_meaning.specs.World.{Bindings, find, own, World, Host, View, Reply, gives, faults, Stated, Function, callers}
+use Rattle.tm_meaning.specs.World.{Bindings, find, own, World, Host, View, Reply, gives, faults, Stated, Function, callers, languages}
+use Rattle.tm_meaning.specs.declared.function.GlobalFunction.TheVariants as own
 use Rattle.tm_meaning.specs.Calls.{whole}
 use Rattle.tm_meaning.specs.Tree.{Body, body_of, TemplateTree, Trees, template_of, trees_of}
 use Rattle.tm_meaning.specs.Meaning.{Outcome, rendered, first_world, chain_of}
@@ -273,11 +274,79 @@ escaped_by e =
 
 -- {% set x %}a{{ nope() }}{% endset %}
 abbrev pub fault_in_capture : Page
-fault_in_capture = page (two (raw (codes "b")) (SetBlock' (To (codes "x")) (tt ∷ tt ∷ []) (statement (raw (codes "a")) (statement (EmitExpr (Call' (codes "nope") [] no_argument)) no_statement)))) nothing
+fault_in_capture = page (two (raw (codes "b")) (SetBlock' (To (codes "x")) (tt ∷ tt ∷ []) (statement (raw (codes "a")) (statement (EmitExpr (Call' (codes "nope") [] no_argument [] no_keyword)) no_statement)))) nothing
 
 -- {% set a, b %}1{% endset %}
 abbrev pub set_block_of_two : Page
 set_block_of_two = page (one (SetBlock' to_a_and_b (tt ∷ []) (statement (raw (codes "1")) no_statement))) nothing
+
+-- ---------------------------------------------------------------- loops
+abbrev pub numbers : ℕ → ℕ → Expr
+numbers m n = List' (tt ∷ tt ∷ []) (expr (literal_number m) (expr (literal_number n) no_expr))
+
+abbrev pub alone_in_list : Expr → Expr
+alone_in_list e = List' (tt ∷ []) (expr e no_expr)
+
+abbrev pub for_x : Expr → Stmt → Otherwise → Stmt
+for_x e s other = For' (To (codes "x")) e None (tt ∷ []) (statement s no_statement) other
+
+-- {% for x in [1,2] %}{{ x }}{% endfor %}
+abbrev pub each_number : Page
+each_number = page (one (for_x (numbers 1 2) (EmitExpr x) no_else)) nothing
+
+-- {% for x in [] %}{% else %}E{% endfor %}
+abbrev pub no_round : Page
+no_round = page (one (For' (To (codes "x")) (List' [] no_expr) None [] no_statement (else_one (raw (codes "E"))))) nothing
+
+-- {% for x in [1] %}{% break %}{% else %}E{% endfor %}
+abbrev pub broken_round : Page
+broken_round = page (one (for_x (alone_in_list (literal_number 1)) Break (else_one (raw (codes "E"))))) nothing
+
+-- {% for x in [1] %}{% set y %}a{% break %}{% endset %}{% endfor %}[{{ y }}]
+abbrev pub break_in_capture : Page
+break_in_capture =
+    page (body_of
+    (statement (for_x (alone_in_list (literal_number 1)) (SetBlock' (To (codes "y")) (tt ∷ tt ∷ []) (statement (raw (codes "a")) (statement Break no_statement))) no_else)
+    (statement (raw (codes "[")) (statement (EmitExpr (named (codes "y"))) (statement (raw (codes "]")) no_statement))))) nothing
+
+-- {% for x in [1,2] %}{% with %}{{ x }}{% continue %}{% endwith %}{% endfor %}
+abbrev pub continue_in_scope : Page
+continue_in_scope = page (one (for_x (numbers 1 2) (With' [] (tt ∷ tt ∷ []) (statement (EmitExpr x) (statement Continue no_statement))) no_else)) nothing
+
+-- {% for x in [1,2] %}{{ loop.revindex }}{{ loop.previtem }}{% endfor %}
+abbrev pub loop_members : Page
+loop_members =
+    page (one (For' (To (codes "x")) (numbers 1 2) None (tt ∷ tt ∷ [])
+    (statement (EmitExpr (and_one (named (codes "loop")) (Attribute (codes "revindex"))))
+    (statement (EmitExpr (and_one (named (codes "loop")) (Attribute (codes "previtem")))) no_statement)) no_else)) nothing
+
+-- {% for x in [1,2] %}{{ y }}{% set y = x %}{% endfor %}
+abbrev pub set_in_round : Page
+set_in_round =
+    page (one (For' (To (codes "x")) (numbers 1 2) None (tt ∷ tt ∷ [])
+    (statement (EmitExpr (named (codes "y"))) (statement (Set (To (codes "y")) x) no_statement)) no_else)) nothing
+
+-- {% for x in [1,2] if x > n %}{{ x }}{% endfor %}
+abbrev pub above : ℕ → Expr
+above n = and_one x (binary binaries.Greater (literal_number n))
+
+abbrev pub chosen : ℕ → Page
+chosen n = page (one (For' (To (codes "x")) (numbers 1 2) (Some (above n)) (tt ∷ []) (statement (EmitExpr x) no_statement) (else_one (raw (codes "E"))))) nothing
+
+abbrev pub chosen_alone : Page
+chosen_alone = page (one (For' (To (codes "x")) (numbers 1 2) (Some (above 1)) (tt ∷ []) (statement (EmitExpr x) no_statement) no_else)) nothing
+
+-- {% for x in [1,2] if x > 1 %}{{ loop.index }}{% endfor %}
+abbrev pub chosen_index : Page
+chosen_index = page (one (For' (To (codes "x")) (numbers 1 2) (Some (above 1)) (tt ∷ []) (statement (EmitExpr (and_one (named (codes "loop")) (Attribute (codes "index")))) no_statement) no_else)) nothing
+
+-- {% for x in [1,2] if loop %}{{ x }}{% else %}E{% endfor %}
+abbrev pub chosen_by_loop : Page
+chosen_by_loop = page (one (For' (To (codes "x")) (numbers 1 2) (Some (named (codes "loop"))) (tt ∷ []) (statement (EmitExpr x) no_statement) (else_one (raw (codes "E"))))) nothing
+
+-- {% for x in 1 %}{% endfor %}
+abbrev pub over_a_number : Page
+over_a_number = page (one (For' (To (codes "x")) (literal_number 1) None [] no_statement no_else)) nothing
 
 -- ---------------------------------------------------------------- functions
 abbrev pub answers : Reply → Stated
@@ -308,7 +377,7 @@ abbrev pub reading : Function
 reading = callers (λ vs view. answers (gives (or_nothing (find (codes "k") view.temps))))
 
 abbrev pub call_none : List ℕ → Expr
-call_none f = Call' f [] no_argument
+call_none f = Call' f [] no_argument [] no_keyword
 
 abbrev pub with_functions : Function → Function → Page → Page
 with_functions f g p = record p {
@@ -318,7 +387,7 @@ with_functions f g p = record p {
 
 -- {{ f("a", 1) }}
 abbrev pub called_with_two : Expr
-called_with_two = Call' (codes "f") (tt ∷ tt ∷ []) (argument (plain (literal (codes "a"))) (argument (plain (Const (number (pos 1)))) no_argument))
+called_with_two = Call' (codes "f") (tt ∷ tt ∷ []) (argument (plain (literal (codes "a"))) (argument (plain (Const (number (pos 1)))) no_argument)) [] no_keyword
 
 abbrev pub calling : Function → Page
 calling f = with_functions f f (page (one (EmitExpr called_with_two)) nothing)
@@ -327,10 +396,54 @@ calling f = with_functions f f (page (one (EmitExpr called_with_two)) nothing)
 abbrev pub keep_and_read : Page
 keep_and_read = with_functions keeping reading (page (two (EmitExpr (call_none (codes "f"))) (EmitExpr (call_none (codes "g")))) nothing)
 
+-- the functions of the language
+abbrev pub with_languages : Page → Page
+with_languages p = record p {
+  globals = (codes "dict", function 1) ∷ (codes "namespace", function 2) ∷ (codes "range", function 0) ∷ [];
+  functions = languages own.Range ∷ languages own.Dict ∷ languages own.Namespace ∷ [];
+}
+
+abbrev pub called : List ℕ → Expr → Expr
+called f a = Call' f (tt ∷ []) (argument (plain a) no_argument) [] no_keyword
+
+abbrev pub one_named : List ℕ → List ℕ → Expr → Expr
+one_named f k a = Call' f [] no_argument (tt ∷ []) (with_keyword (keyword k a) no_keyword)
+
+-- {{ range(3) }}
+abbrev pub range_of_three : Page
+range_of_three = with_languages (page (one (EmitExpr (called (codes "range") (literal_number 3)))) nothing)
+
+-- {{ range(a=3) }}
+abbrev pub range_by_name : Page
+range_by_name = with_languages (page (one (EmitExpr (one_named (codes "range") (codes "a") (literal_number 3)))) nothing)
+
+abbrev pub map_of_a : ℕ → Expr
+map_of_a n = Const (map (pairs_of ((text (codes "a") false, number (pos n)) ∷ [])))
+
+-- {{ dict(m, a=2, b=3) }}, where m is the constant {"a": 1}
+abbrev pub dict_by_names : Page
+dict_by_names =
+    with_languages (page (one (EmitExpr (Call' (codes "dict") (tt ∷ []) (argument (plain (map_of_a 1)) no_argument)
+    (tt ∷ tt ∷ []) (with_keyword (keyword (codes "a") (literal_number 2)) (with_keyword (keyword (codes "b") (literal_number 3)) no_keyword))))) nothing)
+
+abbrev pub ns : Expr
+ns = named (codes "ns")
+
+abbrev pub ns_n : Expr
+ns_n = and_one ns (Attribute (codes "n"))
+
+-- {% set ns = namespace(n=0) %}{% for x in [1,2] %}{% set ns.n = ns.n + x %}{% endfor %}{{ ns.n }}
+abbrev pub summed : Page
+summed =
+    with_languages (page (body_of
+    (statement (Set (To (codes "ns")) (one_named (codes "namespace") (codes "n") (literal_number 0)))
+    (statement (for_x (numbers 1 2) (Set (Member ns (codes "n")) (chained ns (tt ∷ tt ∷ []) (step (Attribute (codes "n")) (step (binary binaries.Add x) no_step)))) no_else)
+    (statement (EmitExpr ns_n) no_statement)))) nothing)
+
 -- {% do f() %}x
 abbrev pub do_call : Page
 do_call = with_functions last_function last_function (page (two (Do (call_none (codes "f"))) (raw (codes "x"))) nothing)
 
 -- a{{ nope(f()) }}
 abbrev pub unknown_behind : Function → Page
-unknown_behind f = with_functions f f (page (two (raw (codes "a")) (EmitExpr (Call' (codes "nope") (tt ∷ []) (argument (plain (call_none (codes "f"))) no_argument)))) nothing)
+unknown_behind f = with_functions f f (page (two (raw (codes "a")) (EmitExpr (Call' (codes "nope") (tt ∷ []) (argument (plain (call_none (codes "f"))) no_argument) [] no_keyword))) nothing)

@@ -7,13 +7,17 @@ use Rattle.tm_syntax.specs.declared.tree.UnaryOperator.TheVariants as unaries
 use Rattle.tm_syntax.specs.declared.tree.BinaryOperator.TheVariants as binaries
 use Rattle.tm_meaning.specs.World.{choose, World, Host, Res, pays}
 use Rattle.tm_meaning.specs.Machine.{Config, Return, Base, End, Finished, Back, back_to, Next, More, Over, Nest, Program, after, stuck, with_world}
-use Rattle.tm_meaning.specs.Instructions.{emit_raw_of, emit_of, lookup_of, load_const_of, get_attr_of, unary_of, binary_of, compare_and_preserve_of, swap_of, discard_top_of, get_item_of, slice_instruction_of, build_list_of, build_map_of, jump_of, jump_if_false_of, jump_if_false_or_pop_of, jump_if_true_or_pop_of, call_function_of, call_block_of, store_local_of, unpack_list_of, set_attr_of, push_with_of, pop_frame_of, begin_capture_of, end_capture_of, push_auto_escape_of, pop_auto_escape_of}
+use Rattle.tm_meaning.specs.Instructions.{emit_raw_of, emit_of, lookup_of, load_const_of, get_attr_of, unary_of, binary_of, compare_and_preserve_of, swap_of, dup_top_of, discard_top_of, get_item_of, slice_instruction_of, build_list_of, build_map_of, build_kwargs_of, jump_of, jump_if_false_of, jump_if_false_or_pop_of, jump_if_true_or_pop_of, call_function_of, call_block_of, store_local_of, unpack_list_of, set_attr_of, push_with_of, pop_frame_of, push_loop_of, iterate_of, push_did_not_iterate_of, pop_loop_frame_of, begin_capture_of, end_capture_of, push_auto_escape_of, pop_auto_escape_of}
 
 -- what an instruction is charged: 0 where it is free
 abbrev pub charge_of : Instruction → ℕ
+charge_of i.DupTop = 0
 charge_of i.DiscardTop = 0
 charge_of i.PushWith = 0
 charge_of i.PopFrame = 0
+charge_of (i.PushLoop flags) = 0
+charge_of i.PushDidNotIterate = 0
+charge_of i.PopLoopFrame = 0
 charge_of (i.BeginCapture mode) = 0
 charge_of i.PushAutoEscape = 0
 charge_of i.PopAutoEscape = 0
@@ -32,8 +36,9 @@ effect host f (i.GetAttr x) c = get_attr_of host x c
 effect host f i.GetItem c = get_item_of host c
 effect host f i.Slice c = slice_instruction_of host c
 effect host f (i.BuildList n) c = build_list_of n c
-effect host f (i.BuildTuple n) c = build_list_of n c
+effect host f (i.BuildTuple n) c = build_list_of (Some n) c
 effect host f (i.BuildMap n) c = build_map_of n c
+effect host f (i.BuildKwargs n) c = build_kwargs_of n c
 effect host f i.Eq c = binary_of host binaries.Equal c
 effect host f i.Ne c = binary_of host binaries.NotEqual c
 effect host f i.Lt c = binary_of host binaries.Less c
@@ -53,6 +58,7 @@ effect host f i.Pow c = binary_of host binaries.Power c
 effect host f i.Neg c = unary_of host unaries.Negate c
 effect host f i.Not c = unary_of host unaries.Not c
 effect host f i.Swap c = swap_of c
+effect host f i.DupTop c = dup_top_of c
 effect host f i.DiscardTop c = discard_top_of c
 effect host f (i.Jump n) c = jump_of n c
 effect host f (i.JumpIfFalse n) c = jump_if_false_of host n c
@@ -65,6 +71,10 @@ effect host f (i.UnpackList n) c = unpack_list_of n c
 effect host f (i.SetAttr x) c = set_attr_of x c
 effect host f i.PushWith c = push_with_of host c
 effect host f i.PopFrame c = pop_frame_of f c
+effect host f (i.PushLoop flags) c = push_loop_of host flags c
+effect host f (i.Iterate n) c = iterate_of n c
+effect host f i.PushDidNotIterate c = push_did_not_iterate_of c
+effect host f i.PopLoopFrame c = pop_loop_frame_of f c
 effect host f (i.BeginCapture mode) c = begin_capture_of mode c
 effect host f i.EndCapture c = end_capture_of c
 effect host f i.PushAutoEscape c = push_auto_escape_of f c

@@ -1,5 +1,6 @@
 -- What a state is to the meaning and to the machine, and what both do to it.
-use Rattle.std.specs.Prelude.{ℕ, zero, suc, ◌+◌, ◌-◌, List, [], ◌∷◌, length, map as each, Option, Some, None, option_and_then, Bool, true, false, ◌&&◌, nat_lt, nat_eq, if◌then◌else◌, Ok, Err, slice_get, codes}
+use Rattle.std.specs.Prelude.{ℕ, zero, suc, ◌+◌, ◌-◌, ◌^◌, min, List, [], ◌∷◌, ◌++◌, length, map as each, Option, Some, None, option_and_then, Bool, true, false, ◌&&◌, nat_lt, nat_eq, if◌then◌else◌, Ok, Err, slice_get, codes}
+use Rattle.tm_syntax.specs.declared.instruction.LoopFlags.{LoopFlags}
 pub use Rattle.tm_syntax.specs.Named.{Named, same_name, find, put, put_each}
 use Rattle.tm_values.specs.Answer.{Answer, invalid}
 use Rattle.tm_values.specs.Map.{member}
@@ -14,10 +15,12 @@ use Rattle.tm_values.specs.declared.escape.AutoEscape.{AutoEscape}
 use Rattle.tm_values.specs.declared.escape.AutoEscape.TheVariants as escapes
 use Rattle.tm_values.specs.declared.undefined.UndefinedBehavior.{UndefinedBehavior}
 use Rattle.tm_values.specs.declared.undefined.UndefinedUse.TheVariants.{Emission}
+use Rattle.tm_meaning.specs.declared.function.GlobalFunction.{GlobalFunction}
+use Rattle.tm_meaning.specs.declared.mark.LoopMark.{LoopMark}
 pub use Rattle.tm_meaning.specs.declared.stream.TemplateId.{TemplateId}
 pub use Rattle.tm_meaning.specs.declared.stream.TemplateId.TheVariants.{Own as own, Entry as entry}
 pub use Rattle.tm_meaning.specs.declared.stream.StreamId.{StreamId}
-use Rattle.tm_operations.specs.Iteration.{unpacked}
+use Rattle.tm_operations.specs.Iteration.{iterated, unpacked}
 use Rattle.tm_operations.specs.Members.{settable}
 use Rattle.tm_operations.specs.Undefined.{refusal_of, unless}
 use Rattle.tm_printing.specs.Emitted.{emission_verdict, emitted_text}
@@ -58,11 +61,6 @@ pub record Template : Type 0 where
   pub blocks : Named Card
 
 -- ---------------------------------------------------------------- a state
--- A scope's loop: its record's number, and whether the scope has the name `loop`.
-pub record LoopMark : Type 0 where
-  pub number : ℕ
-  pub variable : Bool
-
 -- A scope: its names, the value whose keys are names too, its loop, the closure made in it, the closure it reads.
 pub record Scope : Type 0 where
   pub locals : Bindings
@@ -76,7 +74,7 @@ pub record Scopes : Type 0 where
   pub frames : List Scope
   pub outer : ℕ
 
--- A loop's record: its items, how often the next one was asked for, its depth, its number in its stream in source order, and the arguments of `changed`.
+-- A loop's record: its items, how often the next one was asked for, once more than there are at most, its depth, its number in its stream in source order, and the arguments of `changed`.
 pub record Loop : Type 0 where
   pub items : List Val
   pub turns : ℕ
@@ -130,9 +128,10 @@ pub record Stated : Type 0 where
   pub temps : Bindings
   pub reply : Reply
 
--- A function that the environment has.
+-- A function that the environment has: an object of the caller, or one of the language.
 pub data Function : Type 0 where
   callers : (List Val → View → Stated) → Function
+  languages : GlobalFunction → Function
 
 -- What the environment gives. Trees and code aren't here: they are functions of a stream.
 pub record Host : Type 0 where
@@ -258,7 +257,7 @@ read_closure closures (Some n) x = option_and_then (find x) (slice_get closures 
 
 -- a scope's own: its locals, then `loop`, then the closure that it reads
 abbrev pub in_scope : View → List ℕ → Scope → Option Val
-in_scope view x s = or_else (find x s.locals) (or_else (marked_loop view.id s.mark x) (read_closure view.closures s.reads x))
+in_scope view x s = or_else (find x s.locals) (or_else (marked_loop view.records.state s.mark x) (read_closure view.closures s.reads x))
 
 abbrev pub namespace_member : Option (List (Val × Val)) → List ℕ → Answer (Option Val)
 namespace_member None x = invalid
@@ -330,6 +329,80 @@ stored_in x v (s ∷ ss) = record s { locals = put x v s.locals } ∷ ss
 abbrev pub store : List ℕ → Val → World → World
 store x v w = with_frames (stored_in x v w.scopes.frames) w
 
+-- ---------------------------------------------------------------- loops
+-- the number of the innermost loop's record
+abbrev pub number_of : Option LoopMark → Option ℕ
+number_of None = None
+number_of (Some m) = Some m.number
+
+abbrev pub innermost : List Scope → Option ℕ
+innermost [] = None
+innermost (s ∷ ss) = or_else (number_of s.mark) (innermost ss)
+
+-- one deeper in a loop that can be called, as far as numbers of the machine go, and else outermost
+abbrev pub depth_inside : Option Loop → ℕ
+depth_inside None = 0
+depth_inside (Some l) = if l.recursive then min (l.depth + 1) (2 ^ 64 - 1) else 0
+
+abbrev pub loop_depth : World → ℕ
+loop_depth w = depth_inside (option_and_then (slice_get w.loops) (innermost w.scopes.frames))
+
+abbrev pub loop_scope : LoopMark → Scope
+loop_scope m = record (plain (undefined false)) { mark = Some m }
+
+abbrev pub new_loop : List Val → LoopFlags → World → Loop
+new_loop items flags w = record {
+  items = items;
+  turns = 0;
+  depth = loop_depth w;
+  number = 0;
+  recursive = flags.recursive;
+  stream = w.stream;
+  kept = None;
+}
+
+-- A loop in a scope of its own, with a record behind all others; where there is no room for the scope there is no record.
+abbrev pub open_loop : Host → List Val → LoopFlags → World → Res (Unit {0})
+open_loop host items flags w =
+    bind (push host (loop_scope (record { number = length w.loops; variable = flags.variable })) w) (λ _ world1.
+    Good tt (record world1 { loops = world1.loops ++ new_loop items flags w ∷ [] }))
+
+abbrev pub turned : Loop → Loop
+turned l = if nat_lt (length l.items) l.turns then l else record l { turns = l.turns + 1 }
+
+abbrev pub turned_at : ℕ → List Loop → List Loop
+turned_at n [] = []
+turned_at zero (l ∷ ls) = turned l ∷ ls
+turned_at (suc n) (l ∷ ls) = l ∷ turned_at n ls
+
+abbrev pub turned_of : Option LoopMark → World → World
+turned_of None w = w
+turned_of (Some m) w = record w { loops = turned_at m.number w.loops }
+
+abbrev pub top_mark : List Scope → Option LoopMark
+top_mark [] = None
+top_mark (s ∷ ss) = s.mark
+
+-- The innermost scope's loop is asked for its next item.
+abbrev pub next_turn : World → World
+next_turn w = turned_of (top_mark w.scopes.frames) w
+
+abbrev pub without_locals : List Scope → List Scope
+without_locals [] = []
+without_locals (s ∷ ss) = record s { locals = [] } ∷ ss
+
+-- The innermost scope loses its names.
+abbrev pub cleared : World → World
+cleared w = with_frames (without_locals w.scopes.frames) w
+
+-- the record of the innermost scope, where that is a loop's
+abbrev pub top_loop : World → Option Loop
+top_loop w = option_and_then (λ (m : LoopMark). slice_get w.loops m.number) (top_mark w.scopes.frames)
+
+-- what a loop goes over
+abbrev pub items_over : Host → Val → World → Res (List Val)
+items_over host v w = answered (iterated host.undefined (records_of w) v) w
+
 -- ---------------------------------------------------------------- namespaces
 abbrev pub with_member : ℕ → List ℕ → Val → List (List (Val × Val)) → List (List (Val × Val))
 with_member n x v [] = []
@@ -340,6 +413,10 @@ with_member (suc n) x v (ps ∷ more) = ps ∷ with_member n x v more
 abbrev pub set_member : List ℕ → Val → Val → World → Res (Unit {0})
 set_member x v o w =
     bind (answered (settable (records_of w) o) w) (λ n world1. Good tt (record world1 { namespaces = with_member n x v world1.namespaces }))
+
+-- A namespace more, of these pairs, behind all others.
+abbrev pub make_namespace : List (Val × Val) → World → Res Val
+make_namespace ps w = Good (namespace w.id (length w.namespaces)) (record w { namespaces = w.namespaces ++ ps ∷ [] })
 
 -- so many items of a value
 abbrev pub items_of : ℕ → Val → World → Res (List Val)

@@ -6,13 +6,17 @@ ghost use Rattle.tm_meaning.specs.Machine.{Program, Base, Next};
 ghost use Rattle.tm_meaning.specs.Steps.{Final, Leads};
 
 mod base;
+mod function;
+mod mark;
 mod rows;
 mod stream;
 
 pub use base::Base;
+pub use function::GlobalFunction;
+pub use mark::LoopMark;
 pub use rows::{
-    attribute_rows, block_rows, call_rows, chain_rows, condition_rows, conditional_rows,
-    hello_rows, operator_rows,
+    attribute_rows, block_rows, call_rows, capture_rows, chain_rows, condition_rows,
+    conditional_rows, filter_rows, function_rows, hello_rows, loop_rows, operator_rows, scope_rows,
 };
 pub use stream::{StreamId, TemplateId};
 

@@ -3,7 +3,7 @@ ghost use Rattle.std.specs.Prelude.{[], ◌∷◌, ◌++◌, true, false, codes}
 ghost use Rattle.std.specs.Fmt.{decimal};
 ghost use Rattle.tm_values.specs.Val.{boolean, map, no_pairs};
 ghost use Rattle.tm_values.specs.declared.error.ErrorKind.TheVariants.{CannotUnpack, InvalidOperation, MissingArgument, UndefinedError, UnknownFunction, OutOfFuel, WriteFailure, BadStream, OutOfMemory};
-ghost use Rattle.tm_meaning.specs.Rows.{Says, Charges, Fails, nothing, with_value, hello, either_text, of_three, empty_condition, shown, a_and_b_c, a_or_x, not_equal, a_b, literal_number, three_in_a_row, false_before_fault, no_value, one_condition, two_conditions, in_block, block_not_reached, with_two, empty_with, set_two, set_two_of_one, set_attribute, literal, set_block, set_under, escaped_by, fault_in_capture, set_block_of_two, literal_truth, do_call, last_function, faulty, calling, keep_and_read, unknown_behind};
+ghost use Rattle.tm_meaning.specs.Rows.{Says, Charges, Fails, nothing, with_value, hello, either_text, of_three, empty_condition, shown, a_and_b_c, a_or_x, not_equal, a_b, literal_number, three_in_a_row, false_before_fault, no_value, one_condition, two_conditions, in_block, block_not_reached, with_two, empty_with, set_two, set_two_of_one, set_attribute, literal, each_number, no_round, broken_round, break_in_capture, continue_in_scope, loop_members, set_in_round, chosen, chosen_alone, chosen_index, chosen_by_loop, range_of_three, range_by_name, dict_by_names, summed, over_a_number, set_block, set_under, escaped_by, fault_in_capture, set_block_of_two, literal_truth, do_call, last_function, faulty, calling, keep_and_read, unknown_behind};
 
 /// `Hello {{ name }}!` with the name World takes 4 charges, so 5 units of fuel; with fewer it ends where the fuel does.
 pub fn hello_rows()
@@ -84,6 +84,43 @@ pub fn capture_rows()
     ensures switched_on { Charges (escaped_by (literal_number 1)) (codes "&lt;<") 5 }
     ensures switched_off { Charges (escaped_by (literal_number 2)) (codes "<<") 5 }
     ensures no_such { Fails (escaped_by (literal (codes "xml"))) [] (InvalidOperation ∷ []) }
+{}
+
+/// `{% for x in [1,2] %}{{ x }}{% endfor %}`, loops without items, that are left or go on early, and `loop`.
+pub fn loop_rows()
+    ensures charges { Charges each_number (decimal 1 ++ decimal 2) 14 }
+    ensures enough { Says each_number 15 (decimal 1 ++ decimal 2) 1 [] }
+    ensures last { Says each_number 14 (decimal 1 ++ decimal 2) 0 (OutOfFuel ∷ []) }
+    ensures ten { Says each_number 10 (decimal 1) 0 (OutOfFuel ∷ []) }
+    ensures eight { Says each_number 8 (decimal 1) 0 (OutOfFuel ∷ []) }
+    ensures seven { Says each_number 7 [] 0 (OutOfFuel ∷ []) }
+    ensures no_round { Charges no_round (codes "E") 4 }
+    ensures broken { Charges broken_round [] 6 }
+    ensures capture { Charges break_in_capture (codes "[]") 11 }
+    ensures scope { Charges continue_in_scope (decimal 1 ++ decimal 2) 14 }
+    ensures members { Charges loop_members (decimal 2 ++ decimal 1 ++ decimal 1) 22 }
+    ensures forgotten { Charges set_in_round [] 18 }
+    ensures number { Fails over_a_number [] (InvalidOperation ∷ []) }
+{}
+
+/// `{% for x in [1,2] if x > 1 %}{{ x }}{% endfor %}`, with an else part, under a condition that holds for none, and what `loop` is in the body and in the condition.
+pub fn filter_rows()
+    ensures alone { Charges chosen_alone (decimal 2) 29 }
+    ensures last { Says chosen_alone 29 (decimal 2) 0 (OutOfFuel ∷ []) }
+    ensures chosen { Charges (chosen 1) (decimal 2) 30 }
+    ensures none { Charges (chosen 2) (codes "E") 23 }
+    ensures index { Charges chosen_index (decimal 1) 30 }
+    ensures no_loop { Charges chosen_by_loop (codes "E") 19 }
+{}
+
+/// `{{ range(3) }}`, `{{ range(a=3) }}`, `{{ dict(m, a=2, b=3) }}` of a constant map and `{% set ns = namespace(n=0) %}{% for x in [1,2] %}{% set ns.n = ns.n + x %}{% endfor %}{{ ns.n }}`.
+pub fn function_rows()
+    ensures range { Charges range_of_three
+        (codes "[" ++ decimal 0 ++ codes ", " ++ decimal 1 ++ codes ", " ++ decimal 2 ++ codes "]") 3 }
+    ensures by_name { Fails range_by_name [] (InvalidOperation ∷ []) }
+    ensures dict { Charges dict_by_names
+        (codes "{\"a\": " ++ decimal 2 ++ codes ", \"b\": " ++ decimal 3 ++ codes "}") 8 }
+    ensures summed { Charges summed (decimal 3) 30 }
 {}
 
 /// `{{ f("a", 1) }}`, `{{ f() }}{{ g() }}` and `a{{ nope(f()) }}`, by what f answers.

@@ -46,6 +46,20 @@ impl StreamId {
         }
     }
 
+    /// The same stream. Fails only where the owners of a name can't be counted.
+    pub fn share(&self) -> Result<StreamId, AllocError>
+        ensures { IfOk result (λ stream. stream ≡ self.now) }
+    {
+        let block = match &self.block {
+            Some(name) => Some(name.share()?),
+            None => None,
+        };
+        Ok(StreamId {
+            template: self.template.share()?,
+            block,
+        })
+    }
+
     /// A block of a template.
     pub fn block(template: TemplateId, name: Name) -> StreamId
         ensures { result ≡ block_of template name }

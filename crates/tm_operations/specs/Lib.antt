@@ -4,7 +4,10 @@ pub mod Arithmetic
 pub mod Comparison
 pub mod Members
 pub mod Containment
+pub mod Ranges
 pub mod Slices
 pub mod Concatenation
 pub mod Names
 pub mod Iteration
+pub mod Maps
+pub mod Rows

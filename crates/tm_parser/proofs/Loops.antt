@@ -1,41 +1,68 @@
--- What a loop that reads items one after another has still to read.
+-- What a loop that reads one thing after another has still to read.
 use Rattle.std.proofs.Common.{◌≡◌, ◌<◌, List, length, None, inl, inr, sym, ◌∙◌, ap, arith}
 use Rattle.tm_values.specs.declared.error.ErrorKind.{ErrorKind}
 use Rattle.tm_syntax.specs.declared.token.Token.{Token}
 use Rattle.tm_syntax.specs.declared.token.Sign.{Sign}
+use Rattle.tm_syntax.specs.declared.token.Sign.TheVariants as sign
+use Rattle.tm_syntax.specs.declared.tree.Expr.{Expr}
 use Rattle.tm_syntax.specs.declared.tree.Target.{Target}
 use Rattle.tm_rules.specs.Meanings.{Read, got}
 use Rattle.tm_rules.specs.Rule.{Rule, Look}
 use Rattle.tm_rules.specs.Growth as growth
-use Rattle.tm_rules.specs.Combinators.{one_more, many_from}
+use Rattle.tm_rules.specs.Combinators.{grow, one_more, many_from}
 use Rattle.tm_parser.specs.Gives.{Refused}
-use Rattle.tm_parser.specs.Grammar.{Inside, more_items, comma, single, more_targets, target_comma}
+use Rattle.tm_parser.specs.declared.expressions.Passed.{Passed}
+use Rattle.tm_parser.specs.Grammar.{Inside, more_items, comma, one_passed, more_passed, single, more_targets, target_comma, whole}
+use Rattle.tm_parser.specs.Statements.{iterated_comma, more_iterated}
 
 -- Another reason for the same refusal.
 pub because : {P Q : Type 0} (chain : List ErrorKind) → (P → Q) → Refused chain P → Refused chain Q
 because chain f (inl memory) = inl memory
 because chain f (inr refused) = inr (refused.0, f refused.1)
 
+-- what a value that grows has still to become
+module _ {T A B : Type 0} (p : Look T A) (part : A → B → Rule T B) where
+  abbrev becomes : B → List T → Read T B
+  becomes x = (grow p part x).reads
+
+  pub grows_on : (x : B) (ts : List T) (whole : Read T B) (a : A) (behind : List T) (y : B) (rest : List T) →
+      becomes x ts ≡ whole → p.sees ts ≡ got a behind → (part a x).reads behind ≡ got y rest → becomes y rest ≡ whole
+  grows_on x ts whole a behind y rest so seen read = sym (growth.grow_some p part x ts a behind y rest seen read) ∙ so
+
+  pub grows_nearer : (x : B) (ts : List T) (a : A) (behind : List T) (y : B) (rest : List T) →
+      p.sees ts ≡ got a behind → (part a x).reads behind ≡ got y rest → length rest < length ts
+  grows_nearer x ts a behind y rest seen read =
+      omega (arith, p.nearer ts a behind seen, (part a x).shorter behind y rest ((part a x).found behind y rest read))
+
+  pub grows_not : (x : B) (ts : List T) (whole : Read T B) (a : A) (behind : List T) (chain : List ErrorKind) →
+      becomes x ts ≡ whole → p.sees ts ≡ got a behind → Refused chain ((part a x).reads behind ≡ None) → Refused chain (whole ≡ None)
+  grows_not x ts whole a behind chain so seen refused = because chain (λ none. sym so ∙ growth.grow_fails p part x ts a behind seen none) refused
+
+  pub is_grown : (x : B) (ts : List T) (whole : Read T B) (rest : List T) → becomes x ts ≡ whole → (p.sees ts ≡ None) × (rest ≡ ts) → whole ≡ got x rest
+  is_grown x ts whole rest so h = sym so ∙ growth.grow_none p part x ts h.0 ∙ ap (got x) (sym h.1)
+
+-- the same of a list that grows by an item
 module _ {T A B : Type 0} (p : Look T A) (item : A → Rule T B) where
   abbrev reads : List B → List T → Read T (List B)
   reads xs = (many_from p item xs).reads
 
+  abbrev longer : A → List B → Rule T (List B)
+  longer a xs = one_more (item a) xs
+
   pub goes_on : (xs : List B) (ts : List T) (whole : Read T (List B)) (a : A) (behind : List T) (ys : List B) (rest : List T) →
       reads xs ts ≡ whole → p.sees ts ≡ got a behind → (one_more (item a) xs).reads behind ≡ got ys rest → reads ys rest ≡ whole
-  goes_on xs ts whole a behind ys rest so seen read = sym (growth.grow_some p (λ b zs. one_more (item b) zs) xs ts a behind ys rest seen read) ∙ so
+  goes_on = grows_on p longer
 
   pub comes_nearer : (xs : List B) (ts : List T) (a : A) (behind : List T) (ys : List B) (rest : List T) →
       p.sees ts ≡ got a behind → (one_more (item a) xs).reads behind ≡ got ys rest → length rest < length ts
-  comes_nearer xs ts a behind ys rest seen read =
-      omega (arith, p.nearer ts a behind seen, (one_more (item a) xs).shorter behind ys rest ((one_more (item a) xs).found behind ys rest read))
+  comes_nearer = grows_nearer p longer
 
   pub refuses : (xs : List B) (ts : List T) (whole : Read T (List B)) (a : A) (behind : List T) (chain : List ErrorKind) →
       reads xs ts ≡ whole → p.sees ts ≡ got a behind → Refused chain ((one_more (item a) xs).reads behind ≡ None) → Refused chain (whole ≡ None)
-  refuses xs ts whole a behind chain so seen refused =
-      because chain (λ none. sym so ∙ growth.grow_fails p (λ b zs. one_more (item b) zs) xs ts a behind seen none) refused
+  refuses = grows_not p longer
 
   pub ends : (xs : List B) (ts : List T) (whole : Read T (List B)) (rest : List T) → reads xs ts ≡ whole → (p.sees ts ≡ None) × (rest ≡ ts) → whole ≡ got xs rest
-  ends xs ts whole rest so h = sym so ∙ growth.grow_none p (λ b zs. one_more (item b) zs) xs ts h.0 ∙ ap (got xs) (sym h.1)
+  ends = is_grown p longer
 
 -- the same of items between commas
 module _ {A : Type 0} (close : Sign) (item : Rule Token A) where
@@ -82,3 +109,49 @@ module _ (i : Inside) where
   target_ends xs ts rest whole = ends target_comma (λ _. single i) xs ts whole rest
 
 pub ruleset target_commas = (target_goes_on, target_comes_nearer, target_refuses, target_ends)
+
+-- the same of arguments
+module _ (i : Inside) where
+  pub passed_goes_on : (x y : Passed) (ts behind rest : List Token) (all : Read Token Passed) → (more_passed i x).reads ts ≡ all →
+      (comma sign.CloseRound).sees ts ≡ got tt behind → (one_passed i x).reads behind ≡ got y rest → (more_passed i y).reads rest ≡ all
+  unfolding more_passed
+  passed_goes_on x y ts behind rest all = grows_on (comma sign.CloseRound) (λ _ xs. one_passed i xs) x ts all tt behind y rest
+
+  pub passed_comes_nearer : (x y : Passed) (ts behind rest : List Token) → (comma sign.CloseRound).sees ts ≡ got tt behind →
+      (one_passed i x).reads behind ≡ got y rest → length rest < length ts
+  passed_comes_nearer x y ts behind rest = grows_nearer (comma sign.CloseRound) (λ _ xs. one_passed i xs) x ts tt behind y rest
+
+  pub passed_refuses : (x : Passed) (ts behind : List Token) (all : Read Token Passed) (chain : List ErrorKind) → (more_passed i x).reads ts ≡ all →
+      (comma sign.CloseRound).sees ts ≡ got tt behind → Refused chain ((one_passed i x).reads behind ≡ None) → Refused chain (all ≡ None)
+  unfolding more_passed
+  passed_refuses x ts behind all chain = grows_not (comma sign.CloseRound) (λ _ xs. one_passed i xs) x ts all tt behind chain
+
+  pub passed_ends : (x : Passed) (ts rest : List Token) (all : Read Token Passed) → (more_passed i x).reads ts ≡ all →
+      ((comma sign.CloseRound).sees ts ≡ None) × (rest ≡ ts) → all ≡ got x rest
+  unfolding more_passed
+  passed_ends x ts rest all = is_grown (comma sign.CloseRound) (λ _ xs. one_passed i xs) x ts all rest
+
+pub ruleset arguments = (passed_goes_on, passed_comes_nearer, passed_refuses, passed_ends)
+
+-- the same of what a loop goes over
+module _ (i : Inside) where
+  pub iterated_goes_on : (xs ys : List Expr) (ts behind rest : List Token) (all : Read Token (List Expr)) → (more_iterated i xs).reads ts ≡ all →
+      iterated_comma.sees ts ≡ got tt behind → (one_more (whole i) xs).reads behind ≡ got ys rest → (more_iterated i ys).reads rest ≡ all
+  unfolding more_iterated
+  iterated_goes_on xs ys ts behind rest all = goes_on iterated_comma (λ _. whole i) xs ts all tt behind ys rest
+
+  pub iterated_comes_nearer : (xs ys : List Expr) (ts behind rest : List Token) → iterated_comma.sees ts ≡ got tt behind →
+      (one_more (whole i) xs).reads behind ≡ got ys rest → length rest < length ts
+  iterated_comes_nearer xs ys ts behind rest = comes_nearer iterated_comma (λ _. whole i) xs ts tt behind ys rest
+
+  pub iterated_refuses : (xs : List Expr) (ts behind : List Token) (all : Read Token (List Expr)) (chain : List ErrorKind) → (more_iterated i xs).reads ts ≡ all →
+      iterated_comma.sees ts ≡ got tt behind → Refused chain ((one_more (whole i) xs).reads behind ≡ None) → Refused chain (all ≡ None)
+  unfolding more_iterated
+  iterated_refuses xs ts behind all chain = refuses iterated_comma (λ _. whole i) xs ts all tt behind chain
+
+  pub iterated_ends : (xs : List Expr) (ts rest : List Token) (all : Read Token (List Expr)) → (more_iterated i xs).reads ts ≡ all →
+      (iterated_comma.sees ts ≡ None) × (rest ≡ ts) → all ≡ got xs rest
+  unfolding more_iterated
+  iterated_ends xs ts rest all = ends iterated_comma (λ _. whole i) xs ts all rest
+
+pub ruleset iterations = (iterated_goes_on, iterated_comes_nearer, iterated_refuses, iterated_ends)

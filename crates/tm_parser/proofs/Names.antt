@@ -1,5 +1,5 @@
 -- The names of the blocks of statements, and a set of those that were seen.
-use Rattle.std.proofs.Common.{◌≡◌, ℕ, ◌+◌, ◌<◌, ◌≤◌, Bool, true, false, cond, not, List, [], ◌∷◌, ◌++◌, length, drop, Some, None, Bor, Ordering, refl, sym, ap, subst, ◌∙◌, arith, append_assoc, drop-cons}
+use Rattle.std.proofs.Common.{◌≡◌, ℕ, ◌+◌, ◌<◌, ◌≤◌, Bool, true, false, cond, not, List, [], ◌∷◌, ◌++◌, length, drop, Option, Some, None, Bor, Ordering, refl, sym, ap, subst, ◌∙◌, arith, append_assoc, drop-cons}
 use Rattle.std.proofs.lemmas.List.{append-nil, drop_all}
 use Rattle.std.proofs.lemmas.Map.Text.{is_eq-slice_cmp}
 use Rattle.std.specs.Prelude.{get_or, ◌↔◌}
@@ -35,6 +35,14 @@ pub names_of_if_else : (x : Expr) (body other : List Stmt) → names_of (stmts.I
 unfolding hidden row shape-the_row-Stmt-0
 names_of_if_else x body other = refl
 
+pub names_of_for : (to : Target) (over : Expr) (asked : Option Expr) (body : List Stmt) → names_of (stmts.For to over asked body None) ≡ block_names body
+unfolding hidden row shape-the_row-Stmt-0
+names_of_for to over asked body = append-nil _
+
+pub names_of_for_else : (to : Target) (over : Expr) (asked : Option Expr) (body other : List Stmt) → names_of (stmts.For to over asked body (Some other)) ≡ block_names body ++ block_names other
+unfolding hidden row shape-the_row-Stmt-0
+names_of_for_else to over asked body other = refl
+
 pub names_of_block : (name : List ℕ) (body : List Stmt) → names_of (stmts.Block name body) ≡ name ∷ block_names body
 unfolding hidden row shape-the_row-Stmt-0
 names_of_block name body = refl
@@ -51,7 +59,7 @@ pub names_of_autoescape : (x : Expr) (body : List Stmt) → names_of (stmts.Auto
 unfolding hidden row shape-the_row-Stmt-0
 names_of_autoescape x body = refl
 
-pub ruleset forms = (names_of_if, names_of_if_else, names_of_block, names_of_set_block, names_of_with, names_of_autoescape)
+pub ruleset forms = (names_of_if, names_of_if_else, names_of_for, names_of_for_else, names_of_block, names_of_set_block, names_of_with, names_of_autoescape)
 
 -- the loop over statements: what is left behind one, and behind the last
 pub one_more : (old new goal : List (List ℕ)) (ss : List Stmt) (k : ℕ) (s : Stmt) → k < length ss → s ≡ get_or ss k s → new ≡ old ++ names_of s →

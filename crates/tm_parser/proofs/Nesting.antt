@@ -1,6 +1,7 @@
 -- One nesting less, one level less, what stands behind a value or a comparison, and what is a target.
 use Rattle.std.specs.Prelude.{option_map}
-use Rattle.std.proofs.Common.{◌≡◌, ℕ, zero, suc, ◌-◌, List, [], ◌∷◌, ◌++◌, None, Some, refl, sym, ap, arith, ◌∙◌}
+use Rattle.std.proofs.Common.{◌≡◌, ℕ, zero, suc, ◌-◌, Bool, true, false, List, [], ◌∷◌, ◌++◌, None, Some, refl, sym, ap, arith, ◌∙◌}
+use Rattle.tm_syntax.specs.declared.token.Tag.{Tag}
 use Rattle.tm_syntax.specs.declared.token.Token.{Token}
 use Rattle.tm_syntax.specs.declared.tree.Expr.{Expr}
 use Rattle.tm_syntax.specs.declared.tree.Expr.TheVariants as exprs
@@ -12,8 +13,8 @@ use Rattle.tm_syntax.specs.declared.tree.Step.TheVariants as steps
 use Rattle.tm_syntax.specs.declared.tree.Target.TheVariants as target_forms
 use Rattle.tm_rules.specs.Meanings.{got}
 use Rattle.tm_rules.specs.Combinators.{branch, ◌>>=◌, pure}
-use Rattle.tm_parser.specs.Grammar.{Inside, inside, expr, operand, expr_at, primary, prefix, chained, compared, conditional, target, target_of, lone_target, last_target, attribute_name, split_last}
-use Rattle.tm_parser.specs.Statements.{inner, body, rest}
+use Rattle.tm_parser.specs.Grammar.{Inside, inside, expr, operand, expr_at, primary, prefix, chained, compared, conditional, target, target_of, lone_target, last_target, attribute_name, split_last, are_none}
+use Rattle.tm_parser.specs.Statements.{inner, body, rest, else_or_end, looped}
 
 suc-sub-one : (n : ℕ) → suc n - 1 ≡ n
 suc-sub-one n = omega arith
@@ -118,22 +119,54 @@ an_attribute x ss before s name h some = ap (target_of x) h ∙ behind_all x bef
 
 pub ruleset members = (lone_of, no_attribute, an_attribute)
 
-pub no_body : (depth : ℕ) (ts : List Token) → depth ≡ 0 → (inner depth).body.reads ts ≡ None
+pub no_body : (depth : ℕ) (looping : Bool) (ts : List Token) → depth ≡ 0 → ((inner depth).body looping).reads ts ≡ None
 unfolding inner
-no_body depth ts h = ap (λ k. (inner k).body.reads ts) h
+no_body depth looping ts h = ap (λ k. ((inner k).body looping).reads ts) h
 
-pub inner_body : (depth : ℕ) (ts : List Token) → ¬ (depth ≡ 0) → (inner depth).body.reads ts ≡ (body (inside (depth - 1)) (inner (depth - 1))).reads ts
+pub inner_body : (depth : ℕ) (looping : Bool) (ts : List Token) → ¬ (depth ≡ 0) →
+    ((inner depth).body looping).reads ts ≡ (body (inside (depth - 1)) (inner (depth - 1)) looping).reads ts
 unfolding inner
-inner_body zero ts h = absurd (h refl)
-inner_body (suc depth) ts h = ap (λ k. (body (inside k) (inner k)).reads ts) (sym (suc-sub-one depth))
+inner_body zero looping ts h = absurd (h refl)
+inner_body (suc depth) looping ts h = ap (λ k. (body (inside k) (inner k) looping).reads ts) (sym (suc-sub-one depth))
 
-pub no_rest : (depth : ℕ) (ts : List Token) → depth ≡ 0 → (inner depth).rest.reads ts ≡ None
+pub no_rest : (depth : ℕ) (looping : Bool) (ts : List Token) → depth ≡ 0 → ((inner depth).rest looping).reads ts ≡ None
 unfolding inner
-no_rest depth ts h = ap (λ k. (inner k).rest.reads ts) h
+no_rest depth looping ts h = ap (λ k. ((inner k).rest looping).reads ts) h
 
-pub inner_rest : (depth : ℕ) (ts : List Token) → ¬ (depth ≡ 0) → (inner depth).rest.reads ts ≡ (rest (inside (depth - 1)) (inner (depth - 1))).reads ts
+pub inner_rest : (depth : ℕ) (looping : Bool) (ts : List Token) → ¬ (depth ≡ 0) →
+    ((inner depth).rest looping).reads ts ≡ (rest (inside (depth - 1)) (inner (depth - 1)) looping).reads ts
 unfolding inner
-inner_rest zero ts h = absurd (h refl)
-inner_rest (suc depth) ts h = ap (λ k. (rest (inside k) (inner k)).reads ts) (sym (suc-sub-one depth))
+inner_rest zero looping ts h = absurd (h refl)
+inner_rest (suc depth) looping ts h = ap (λ k. (rest (inside k) (inner k) looping).reads ts) (sym (suc-sub-one depth))
 
-pub ruleset statements = (no_body, inner_body, no_rest, inner_rest)
+pub no_else_or_end : (depth : ℕ) (end : Tag) (looping : Bool) (ts : List Token) → depth ≡ 0 → ((inner depth).else_or_end end looping).reads ts ≡ None
+unfolding inner
+no_else_or_end depth end looping ts h = ap (λ k. ((inner k).else_or_end end looping).reads ts) h
+
+pub inner_else_or_end : (depth : ℕ) (end : Tag) (looping : Bool) (ts : List Token) → ¬ (depth ≡ 0) →
+    ((inner depth).else_or_end end looping).reads ts ≡ (else_or_end (inner (depth - 1)) end looping).reads ts
+unfolding inner
+inner_else_or_end zero end looping ts h = absurd (h refl)
+inner_else_or_end (suc depth) end looping ts h = ap (λ k. (else_or_end (inner k) end looping).reads ts) (sym (suc-sub-one depth))
+
+pub ruleset statements = (no_body, inner_body, no_rest, inner_rest, no_else_or_end, inner_else_or_end)
+
+pub none_looped : (depth : ℕ) (ts : List Token) → depth ≡ 0 → (inner depth).looped.reads ts ≡ None
+unfolding inner
+none_looped depth ts h = ap (λ k. (inner k).looped.reads ts) h
+
+pub inner_looped : (depth : ℕ) (ts : List Token) → ¬ (depth ≡ 0) → (inner depth).looped.reads ts ≡ (looped (inside (depth - 1))).reads ts
+unfolding inner
+inner_looped zero ts h = absurd (h refl)
+inner_looped (suc depth) ts h = ap (λ k. (looped (inside k)).reads ts) (sym (suc-sub-one depth))
+
+pub ruleset loops = (none_looped, inner_looped)
+
+pub no_names : {A : Type 0} (xs : List A) → xs ≡ [] → are_none xs ≡ true
+no_names xs h = ap are_none h
+
+pub some_names : {A : Type 0} (xs : List A) → ¬ (xs ≡ []) → are_none xs ≡ false
+some_names [] h = absurd (h refl)
+some_names (x ∷ xs) h = refl
+
+pub ruleset names = (no_names, some_names)

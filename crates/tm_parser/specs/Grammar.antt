@@ -1,5 +1,5 @@
 -- The grammar of expressions and targets.
-use Rattle.std.specs.Prelude.{ℕ, zero, suc, List, [], ◌∷◌, true, false, Bool, Option, Some, None, option_map, if◌then◌else◌, nat_eq}
+use Rattle.std.specs.Prelude.{ℕ, zero, suc, List, [], ◌∷◌, true, false, Bool, Option, Some, None, ◌++◌, option_map, if◌then◌else◌, nat_eq}
 use denote.Enum.Bare.{sameb}
 use Rattle.tm_values.specs.Val as value
 use Rattle.tm_values.specs.Val.{Val}
@@ -16,6 +16,8 @@ use Rattle.tm_syntax.specs.declared.tree.Expr.{Expr, Var}
 use Rattle.tm_syntax.specs.declared.tree.Expr.TheVariants as exprs
 use Rattle.tm_syntax.specs.declared.tree.Argument.{Argument}
 use Rattle.tm_syntax.specs.declared.tree.Argument.TheVariants as arguments
+use Rattle.tm_syntax.specs.declared.tree.Keyword.{Keyword}
+use Rattle.tm_syntax.specs.declared.tree.Keyword.TheVariants as keywords
 use Rattle.tm_syntax.specs.declared.tree.Pair.{Pair}
 use Rattle.tm_syntax.specs.declared.tree.Pair.TheVariants as pairs
 use Rattle.tm_syntax.specs.declared.tree.Condition.{Condition}
@@ -28,10 +30,11 @@ use Rattle.tm_syntax.specs.declared.tree.Target.{Target}
 use Rattle.tm_syntax.specs.declared.tree.Target.TheVariants as targets
 use Rattle.tm_parser.specs.declared.tables.Link.{Link}
 use Rattle.tm_parser.specs.declared.tables.Link.TheVariants as links
+use Rattle.tm_parser.specs.declared.expressions.Passed.{Passed}
 use Rattle.tm_rules.specs.Rule as rules
 use Rattle.tm_rules.specs.Rule.{Look}
-use Rattle.tm_rules.specs.Combinators.{first, not_before, nothing, pure, ◌>>=◌, branch, token, one_more, many_from}
-use Rattle.tm_parser.specs.Looks.{or_else, before, ahead}
+use Rattle.tm_rules.specs.Combinators.{first, not_before, nothing, pure, ◌>>=◌, provided, branch, token, grow, one_more, many_from}
+use Rattle.tm_parser.specs.Looks.{or_else, before, followed, ahead}
 
 abbrev pub Rule : Type 0 → Type 1
 Rule A = rules.Rule Token A
@@ -133,18 +136,52 @@ items close item xs = branch (first (is close)) (λ _. pure xs) (do
   end ← token (is close)
   pure zs)
 
-unfoldable pub argument : Inside → Rule Argument
-argument i = do
+-- a name with `=` behind it
+abbrev pub keyword_start : Look Token (List ℕ)
+keyword_start = followed a_name (is sign.Assign)
+
+abbrev pub passed : List Argument → List Keyword → Passed
+passed xs ks = record { by_place = xs; by_name = ks }
+
+-- an argument by its name, behind its `=`
+unfoldable pub keyword : Inside → Passed → List ℕ → Rule Passed
+keyword i given name = do
   x ← i.expr
-  pure (arguments.Plain x)
+  pure (passed given.by_place (given.by_name ++ keywords.Keyword name x ∷ []))
+
+abbrev pub are_none : {A : Type 0} → List A → Bool
+are_none [] = true
+are_none (x ∷ xs) = false
+
+-- an argument by its place, which stands behind none by its name
+unfoldable pub argument : Inside → Passed → Rule Passed
+argument i given = provided (are_none given.by_name) (do
+  x ← i.expr
+  pure (passed (given.by_place ++ arguments.Plain x ∷ []) given.by_name))
+
+-- one argument behind these
+unfoldable pub one_passed : Inside → Passed → Rule Passed
+one_passed i given = branch keyword_start (keyword i given) (argument i given)
+
+unfoldable pub more_passed : Inside → Passed → Rule Passed
+more_passed i given = grow (comma sign.CloseRound) (λ _ xs. one_passed i xs) given
+
+-- the arguments of a call, with commas between them and behind the last one a comma or none, and their end
+unfoldable pub all_passed : Inside → Rule Passed
+all_passed i = branch (first (is sign.CloseRound)) (λ _. pure (passed [] [])) (do
+  one ← one_passed i (passed [] [])
+  given ← more_passed i one
+  comma ← branch (first (is sign.Comma)) pure (pure tt)
+  end ← token (is sign.CloseRound)
+  pure given)
 
 -- a name, or the call of one
 unfoldable pub named : Inside → List ℕ → Rule Expr
 named i name = branch (first (is sign.OpenRound))
     (λ _. do
       room ← i.room
-      given ← items sign.CloseRound (argument i) []
-      pure (exprs.Call name given))
+      given ← all_passed i
+      pure (exprs.Call name given.by_place given.by_name))
     (pure (exprs.Var name))
 
 -- a tuple behind its first item
@@ -389,6 +426,7 @@ single i = branch (first (is sign.OpenRound))
 -- what stands behind a target
 abbrev pub ends_target : Token → Option (Unit {0})
 ends_target (tokens.Sign sign.Assign) = Some tt
+ends_target (tokens.Sign sign.In) = Some tt
 ends_target (tokens.Sign sign.CloseRound) = Some tt
 ends_target (tokens.Sign sign.BlockEnd) = Some tt
 ends_target _ = None

@@ -1,9 +1,9 @@
 -- Looks at two tokens, and at one that is not taken.
-use Rattle.std.specs.Prelude.{◌≡◌, ◌<◌, Bool, true, false, List, [], ◌∷◌, length, Option, Some, None, option_and_then, refl}
-use Rattle.std.proofs.Common.{arith, ◌∙◌}
+use Rattle.std.specs.Prelude.{◌≡◌, ◌<◌, Bool, true, false, List, [], ◌∷◌, length, Option, Some, None, option_and_then, option_map, refl}
+use Rattle.std.proofs.Common.{arith, ◌∙◌, ap}
 use Rattle.tm_rules.specs.Meanings.{Read, got, bind_reads, first_sees}
 use Rattle.tm_rules.specs.Rule.{Rule, Look}
-use Rattle.tm_rules.specs.Laws.{not_got, first_nearer}
+use Rattle.tm_rules.specs.Laws.{not_got, same_got, first_nearer}
 
 -- what was seen, and where nothing was seen the other
 abbrev pub or_seen : {T A : Type 0} → Read T A → Read T A → Read T A
@@ -26,6 +26,22 @@ or_else p q = record { sees = λ ts. or_seen (p.sees ts) (q.sees ts); nearer = �
 -- a first token that p knows, with one behind it that q knows
 abbrev pub before : {T A B : Type 0} → (T → Option A) → (T → Option B) → Look T B
 before p q = record { sees = bind_reads (first_sees p) (λ _. first_sees q); nearer = λ ts. behind_nearer p q ts (first_sees p ts) refl }
+
+pub followed_nearer : {T A B : Type 0} (p : T → Option A) (q : T → Option B) (ts : List T) (seen : Read T A) → first_sees p ts ≡ seen → (a : A) (rest : List T) →
+    option_and_then (λ x. option_map (λ y. (x.0, y.1)) (first_sees q x.1)) seen ≡ got a rest → length rest < length ts
+followed_nearer p q ts None e a rest h = absurd (not_got a rest h)
+followed_nearer p q ts (Some x) e a rest h = behind (first_sees q x.1) refl h
+  where
+    behind : (seen : _) → first_sees q x.1 ≡ seen → option_map (λ y. (x.0, y.1)) seen ≡ got a rest → length rest < length ts
+    behind None g k = absurd (not_got a rest k)
+    behind (Some y) g k = omega (arith, first_nearer p ts x.0 x.1 e, first_nearer q x.1 y.0 y.1 g, ap length (same_got x.0 a y.1 rest k).1)
+
+-- a first token that p knows, with one behind it that q knows: what p knows it as
+abbrev pub followed : {T A B : Type 0} → (T → Option A) → (T → Option B) → Look T A
+followed p q = record {
+  sees = λ ts. option_and_then (λ x. option_map (λ y. (x.0, y.1)) (first_sees q x.1)) (first_sees p ts);
+  nearer = λ ts. followed_nearer p q ts (first_sees p ts) refl;
+}
 
 -- Whether the first token is one of these.
 abbrev pub starts : {T : Type 0} → (T → Bool) → List T → Bool

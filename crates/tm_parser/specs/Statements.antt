@@ -17,23 +17,32 @@ use Rattle.tm_syntax.specs.declared.tree.Stmt.{Stmt}
 use Rattle.tm_syntax.specs.declared.tree.Stmt.TheVariants as stmts
 use Rattle.tm_parser.specs.declared.tables.Start.{Start}
 use Rattle.tm_parser.specs.declared.tables.Start.TheVariants as starts
-use Rattle.tm_rules.specs.Combinators.{provided, first, nothing, pure, ◌>>=◌, branch, token, many_from}
-use Rattle.tm_parser.specs.Grammar.{Rule, is, a_name, Inside, inside, items, expr, target}
+use Rattle.tm_rules.specs.Combinators.{provided, first, nothing, pure, ◌>>=◌, branch, token, not_before, many_from}
+use Rattle.tm_rules.specs.Rule.{Look}
+use Rattle.tm_parser.specs.Looks.{ahead}
+use Rattle.tm_parser.specs.Grammar.{Rule, is, a_name, is_comma, Inside, inside, items, whole, expr, target}
 
 -- this tag
 abbrev pub is_tag : Tag → Token → Option (Unit {0})
 is_tag t (tokens.Tag u) = if sameb the_type u t then Some tt else None
 is_tag t _ = None
 
--- What may stand inside one more tag, or in one more part of it.
+-- What may stand inside one more tag, or in one more part of it; of statements, whether a loop is around them.
 pub record Inner : Type 1 where
-  pub body : Rule (List Stmt)
+  pub body : Bool → Rule (List Stmt)
   -- what stands behind the body of an `if`
-  pub rest : Rule (Option (List Stmt))
+  pub rest : Bool → Rule (Option (List Stmt))
+  -- an else part or none, up to this end tag
+  pub else_or_end : Tag → Bool → Rule (Option (List Stmt))
+  -- what a loop goes over, the condition of an item, and the end of its tag
+  pub looped : Rule (Expr × Option Expr)
 
 -- Each tag that begins a statement.
 abbrev pub start_of : Tag → Option Start
 start_of tags.If = Some starts.If
+start_of tags.For = Some starts.For
+start_of tags.Break = Some starts.Break
+start_of tags.Continue = Some starts.Continue
 start_of tags.Block = Some starts.Block
 start_of tags.Set = Some starts.Set
 start_of tags.With = Some starts.With
@@ -67,42 +76,62 @@ emission i = do
   close ← token (is sign.VariableEnd)
   pure (stmts.EmitExpr x)
 
-unfoldable pub if_tag : Inside → Inner → Rule Stmt
-if_tag i t = do
+unfoldable pub if_tag : Inside → Inner → Bool → Rule Stmt
+if_tag i t looping = do
   condition ← i.expr
   close ← block_end
-  body ← t.body
-  other ← t.rest
+  body ← t.body looping
+  other ← t.rest looping
   pure (stmts.If condition body other)
 
-unfoldable pub elif_tag : Inside → Inner → Rule (Option (List Stmt))
-elif_tag i t = do
+unfoldable pub elif_tag : Inside → Inner → Bool → Rule (Option (List Stmt))
+elif_tag i t looping = do
   condition ← expr i
   close ← block_end
-  body ← t.body
-  other ← t.rest
+  body ← t.body looping
+  other ← t.rest looping
   pure (Some (stmts.If condition body other ∷ []))
 
-unfoldable pub else_tag : Inner → Rule (Option (List Stmt))
-else_tag t = do
+-- what stands behind `else`, up to this end tag
+unfoldable pub else_tag : Inner → Tag → Bool → Rule (Option (List Stmt))
+else_tag t end looping = do
   close ← block_end
-  body ← t.body
-  last ← lone tags.Endif
+  body ← t.body looping
+  last ← lone end
   pure (Some body)
 
--- what stands behind the body of an `if`, up to its end tag
-unfoldable pub rest : Inside → Inner → Rule (Option (List Stmt))
-rest i t =
-    branch (first (is_tag tags.Elif)) (λ _. elif_tag i t) (
-    branch (first (is_tag tags.Else)) (λ _. else_tag t) (do
-      last ← lone tags.Endif
-      pure None))
+-- an else part or none, up to this end tag
+unfoldable pub else_or_end : Inner → Tag → Bool → Rule (Option (List Stmt))
+else_or_end t end looping = branch (first (is_tag tags.Else)) (λ _. else_tag t end looping) (do
+  last ← lone end
+  pure None)
 
+-- what stands behind the body of an `if`, up to its end tag
+unfoldable pub rest : Inside → Inner → Bool → Rule (Option (List Stmt))
+rest i t looping = branch (first (is_tag tags.Elif)) (λ _. elif_tag i t looping) (else_or_end t tags.Endif looping)
+
+-- A loop's else part stands outside of it.
+unfoldable pub for_tag : Inside → Inner → Bool → Rule Stmt
+for_tag i t looping = do
+  to ← i.target
+  word ← token (is sign.In)
+  over ← t.looped
+  body ← t.body true
+  other ← t.else_or_end tags.Endfor looping
+  pure (stmts.For to over.0 over.1 body other)
+
+-- a statement of one word that stands nowhere but inside a loop
+unfoldable pub jump : Bool → Stmt → Rule Stmt
+jump looping s = provided looping (do
+  last ← block_end
+  pure s)
+
+-- The loops around a block aren't around its body.
 unfoldable pub block_tag : Inner → Rule Stmt
 block_tag t = do
   name ← token a_name
   close ← block_end
-  body ← t.body
+  body ← t.body false
   word ← token (is_tag tags.Endblock)
   again ← same_name name
   last ← block_end
@@ -121,6 +150,48 @@ bare i = do
   x ← expr i
   branch (first (is sign.BlockEnd)) (λ _. pure x) (bare_tuple i x)
 
+-- what stands behind what a loop goes over
+abbrev pub ends_iterated : Token → Option (Unit {0})
+ends_iterated (tokens.Sign sign.If) = Some tt
+ends_iterated (tokens.Sign sign.BlockEnd) = Some tt
+ends_iterated _ = None
+
+-- a comma with another item behind it
+abbrev pub iterated_comma : Look Token (Unit {0})
+iterated_comma = not_before (is sign.Comma) ends_iterated
+
+unfoldable pub more_iterated : Inside → List Expr → Rule (List Expr)
+more_iterated i xs = many_from iterated_comma (λ _. whole i) xs
+
+-- a tuple without brackets behind its first item, with a comma behind the last one or none
+unfoldable pub iterated_tuple : Inside → Expr → Rule Expr
+iterated_tuple i x = do
+  xs ← more_iterated i (x ∷ [])
+  comma ← branch (first (is sign.Comma)) pure (pure tt)
+  pure (exprs.Tuple xs)
+
+-- What a loop goes over: a value or a tuple without brackets, behind which an `if` is the loop's.
+unfoldable pub iterated : Inside → Rule Expr
+iterated i = do
+  x ← whole i
+  ahead is_comma (iterated_tuple i x) (pure x)
+
+-- the condition of a loop's item, behind which no other one may stand
+unfoldable pub filter : Inside → Rule (Option Expr)
+filter i = branch (first (is sign.If))
+    (λ _. do
+      asked ← whole i
+      pure (Some asked))
+    (pure None)
+
+-- what a loop goes over, the condition of an item, and the end of the tag
+unfoldable pub looped : Inside → Rule (Expr × Option Expr)
+looped i = do
+  over ← iterated i
+  asked ← filter i
+  close ← block_end
+  pure (over, asked)
+
 -- what stands behind the `=` of a `set`
 unfoldable pub set_value : Inside → Target → Rule Stmt
 set_value i to = do
@@ -128,17 +199,17 @@ set_value i to = do
   pure (stmts.Set to x)
 
 -- what stands behind the target of a `set` without `=`
-unfoldable pub set_block : Inner → Target → Rule Stmt
-set_block t to = do
+unfoldable pub set_block : Inner → Bool → Target → Rule Stmt
+set_block t looping to = do
   close ← block_end
-  body ← t.body
+  body ← t.body looping
   last ← lone tags.Endset
   pure (stmts.SetBlock to body)
 
-unfoldable pub set_tag : Inside → Inner → Rule Stmt
-set_tag i t = do
+unfoldable pub set_tag : Inside → Inner → Bool → Rule Stmt
+set_tag i t looping = do
   to ← target i
-  branch (first (is sign.Assign)) (λ _. set_value i to) (set_block t to)
+  branch (first (is sign.Assign)) (λ _. set_value i to) (set_block t looping to)
 
 unfoldable pub assignment : Inside → Rule Assignment
 assignment i = do
@@ -147,23 +218,23 @@ assignment i = do
   x ← i.expr
   pure (assignments.Assignment to x)
 
-unfoldable pub with_tag : Inside → Inner → Rule Stmt
-with_tag i t = do
+unfoldable pub with_tag : Inside → Inner → Bool → Rule Stmt
+with_tag i t looping = do
   given ← items sign.BlockEnd (assignment i) []
-  body ← t.body
+  body ← t.body looping
   last ← lone tags.Endwith
   pure (stmts.With given body)
 
-unfoldable pub autoescape_tag : Inside → Inner → Rule Stmt
-autoescape_tag i t = do
+unfoldable pub autoescape_tag : Inside → Inner → Bool → Rule Stmt
+autoescape_tag i t looping = do
   x ← i.expr
   close ← block_end
-  body ← t.body
+  body ← t.body looping
   last ← lone tags.Endautoescape
   pure (stmts.AutoEscape x body)
 
 abbrev pub is_call : Expr → Bool
-is_call (Call' f _ given) = true
+is_call (Call' f _ given _ named) = true
 is_call _ = false
 
 unfoldable pub do_tag : Inside → Rule Stmt
@@ -174,24 +245,32 @@ do_tag i = do
     pure (stmts.Do x))
 
 -- what stands behind the start of a statement
-abbrev pub statement : Inside → Inner → Start → Rule Stmt
-statement i t (starts.Raw text) = pure (stmts.EmitRaw text)
-statement i t starts.Emit = emission i
-statement i t starts.If = if_tag i t
-statement i t starts.Block = block_tag t
-statement i t starts.Set = set_tag i t
-statement i t starts.With = with_tag i t
-statement i t starts.Do = do_tag i
-statement i t starts.AutoEscape = autoescape_tag i t
+abbrev pub statement : Inside → Inner → Bool → Start → Rule Stmt
+statement i t looping (starts.Raw text) = pure (stmts.EmitRaw text)
+statement i t looping starts.Emit = emission i
+statement i t looping starts.If = if_tag i t looping
+statement i t looping starts.For = for_tag i t looping
+statement i t looping starts.Break = jump looping stmts.Break
+statement i t looping starts.Continue = jump looping stmts.Continue
+statement i t looping starts.Block = block_tag t
+statement i t looping starts.Set = set_tag i t looping
+statement i t looping starts.With = with_tag i t looping
+statement i t looping starts.Do = do_tag i
+statement i t looping starts.AutoEscape = autoescape_tag i t looping
 
 -- statements behind these ones, as long as one begins
-abbrev pub more_statements : Inside → Inner → List Stmt → Rule (List Stmt)
-more_statements i t xs = many_from (first a_start) (statement i t) xs
+abbrev pub more_statements : Inside → Inner → Bool → List Stmt → Rule (List Stmt)
+more_statements i t looping xs = many_from (first a_start) (statement i t looping) xs
 
-unfoldable pub body : Inside → Inner → Rule (List Stmt)
-body i t = more_statements i t []
+unfoldable pub body : Inside → Inner → Bool → Rule (List Stmt)
+body i t looping = more_statements i t looping []
 
 -- what may stand inside n nestings more
 unfoldable pub inner : ℕ → Inner
-inner zero = record { body = nothing; rest = nothing }
-inner (suc n) = record { body = body (inside n) (inner n); rest = rest (inside n) (inner n) }
+inner zero = record { body = λ looping. nothing; rest = λ looping. nothing; else_or_end = λ end looping. nothing; looped = nothing }
+inner (suc n) = record {
+  body = body (inside n) (inner n);
+  rest = rest (inside n) (inner n);
+  else_or_end = else_or_end (inner n);
+  looped = looped (inside n);
+}

@@ -1,10 +1,10 @@
 -- Which tokens spell which tree.
-use Rattle.std.specs.Prelude.{ℕ, List, [], ◌∷◌, ◌++◌, map}
+use Rattle.std.specs.Prelude.{ℕ, false, List, [], ◌∷◌, ◌++◌, map}
 use Rattle.std.specs.Str.{bytes_eq}
 use Rattle.std.specs.Borrow.{Bor}
 use Rattle.std.specs.List.{IsDistinct}
 use Rattle.tm_syntax.specs.declared.token.Token.{Token}
-use Rattle.tm_syntax.specs.declared.tree.Stmt.{Stmt, EmitRaw, EmitExpr, If', Block', Set, SetBlock', With', Do, AutoEscape', Row_of-Stmt, end_of-Stmt as no_statement, more_of-Stmt as statement, Held-Stmt-If-2 as Otherwise, None' as no_else, Some' as otherwise}
+use Rattle.tm_syntax.specs.declared.tree.Stmt.{Stmt, EmitRaw, EmitExpr, If', For', Break, Continue, Block', Set, SetBlock', With', Do, AutoEscape', Row_of-Stmt, end_of-Stmt as no_statement, more_of-Stmt as statement, Held-Stmt-If-2 as Otherwise, None' as no_else, Some' as otherwise}
 use Rattle.tm_syntax.specs.declared.tree.Stmt.TheBlock.{hidden-the_row-Stmt-0 as row}
 use Rattle.tm_syntax.specs.declared.tree.Tree.{Tree}
 use Rattle.tm_parser.specs.Grammar.{inside}
@@ -16,6 +16,9 @@ abbrev mutual
   names_of (EmitRaw text) = []
   names_of (EmitExpr x) = []
   names_of (If' condition _ body other) = names_in body ++ names_in_otherwise other
+  names_of (For' to over asked _ body other) = names_in body ++ names_in_otherwise other
+  names_of Break = []
+  names_of Continue = []
   names_of (Block' name _ body) = name ∷ names_in body
   names_of (Set to x) = []
   names_of (SetBlock' to _ body) = names_in body
@@ -41,9 +44,9 @@ AreDistinct = IsDistinct bytes_eq
 abbrev pub texts : List (Bor (List ℕ)) → List (List ℕ)
 texts = map (λ name. name.now)
 
--- All tokens are the statements of the tree, with at most 150 nestings at once, and no name is that of two blocks.
+-- All tokens are the statements of the tree, around which is no loop, with at most 150 nestings at once, and no name is that of two blocks.
 pub record SpellsTemplate (tokens : List Token) (tree : Tree) : Type 0 where
-  pub spelled : (body (inside 150) (inner 150)).spells tokens tree.statements []
+  pub spelled : (body (inside 150) (inner 150) false).spells tokens tree.statements []
   pub distinct : AreDistinct (block_names tree.statements)
 
 abbrev pub SpellsNone : List Token → Type 0

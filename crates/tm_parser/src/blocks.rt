@@ -35,9 +35,16 @@ fn add_names_of<'t>(names: &mut Vec<&'t str>, statement: &'t Stmt) -> Result<(),
         (texts names.new.items ≡ texts names.old.items ++ names_of statement.now) }
 {
     match statement {
-        Stmt::EmitRaw(_) | Stmt::EmitExpr(_) | Stmt::Set(_, _) | Stmt::Do(_) => Ok(()),
-        Stmt::If(_, body, None) => add_names(names, body.as_slice()),
-        Stmt::If(_, body, Some(other)) => {
+        Stmt::EmitRaw(_)
+        | Stmt::EmitExpr(_)
+        | Stmt::Break
+        | Stmt::Continue
+        | Stmt::Set(_, _)
+        | Stmt::Do(_) => Ok(()),
+        Stmt::If(_, body, None) | Stmt::For(_, _, _, body, None) => {
+            add_names(names, body.as_slice())
+        }
+        Stmt::If(_, body, Some(other)) | Stmt::For(_, _, _, body, Some(other)) => {
             add_names(names, body.as_slice())?;
             add_names(names, other.as_slice())
         }

@@ -1,9 +1,9 @@
 //! Tokens one after another.
 ghost use Rattle.std.specs.Prelude.{◌≡◌, ◌∷◌, [], ◌↔◌, IsTrue, MatchResult, is_some};
 ghost use Rattle.tm_parser.specs.Gives.{Gives, Takes, TakesSign};
-ghost use Rattle.tm_parser.specs.Grammar.{is, a_name, a_constant, comma, ends_part, ends_target, is_comma, link, prefix, target_comma};
+ghost use Rattle.tm_parser.specs.Grammar.{is, a_name, a_constant, comma, ends_part, ends_target, is_comma, keyword_start, link, prefix, target_comma};
 ghost use Rattle.tm_parser.specs.Looks.{starts};
-ghost use Rattle.tm_parser.specs.Statements.{a_start, is_tag, lone, same_name};
+ghost use Rattle.tm_parser.specs.Statements.{a_start, ends_iterated, is_tag, iterated_comma, lone, same_name};
 ghost use Rattle.tm_rules.specs.Combinators.{token};
 ghost use Rattle.tm_rules.specs.Meanings.{first_sees};
 
@@ -122,7 +122,7 @@ impl<'t> Cursor<'t> {
     {
         match self.rest {
             [
-                Token::Sign(Sign::Assign | Sign::CloseRound | Sign::BlockEnd),
+                Token::Sign(Sign::Assign | Sign::In | Sign::CloseRound | Sign::BlockEnd),
                 ..
             ] => true,
             _ => false,
@@ -145,6 +145,32 @@ impl<'t> Cursor<'t> {
         }
     }
 
+    /// Whether what stands behind what a loop goes over stands here.
+    fn ends_iterated(&self) -> bool
+        ensures { result ≡ is_some (first_sees ends_iterated self.now) }
+    {
+        match self.rest {
+            [Token::Sign(Sign::If | Sign::BlockEnd), ..] => true,
+            _ => false,
+        }
+    }
+
+    /// Takes a comma, unless what ends what a loop goes over stands behind it.
+    pub fn take_iterated_comma(&mut self) -> bool
+        ensures { TakesSign result self.old self.new (iterated_comma.sees self.old) }
+    {
+        match self.rest {
+            [Token::Sign(Sign::Comma), rest @ ..] => {
+                if Cursor::new(rest).ends_iterated() {
+                    return false;
+                }
+                self.rest = rest;
+                true
+            }
+            _ => false,
+        }
+    }
+
     /// Takes a name, and answers a second owner of it. OutOfMemory where there can be none.
     pub fn take_name(&mut self) -> Result<Option<Name>, Error>
         ensures { MatchResult result
@@ -153,6 +179,23 @@ impl<'t> Cursor<'t> {
     {
         match self.rest {
             [Token::Name(name), rest @ ..] => {
+                let name = name.share()?;
+                self.rest = rest;
+                Ok(Some(name))
+            }
+            _ => Ok(None),
+        }
+    }
+
+    /// Takes a name with `=` behind it, and answers a second owner of the name. OutOfMemory where
+    /// there can be none.
+    pub fn take_keyword(&mut self) -> Result<Option<Name>, Error>
+        ensures { MatchResult result
+            (λ name. Takes name self.old self.new (keyword_start.sees self.old))
+            (λ e. e ≡ ErrorKind.OutOfMemory ∷ []) }
+    {
+        match self.rest {
+            [Token::Name(name), Token::Sign(Sign::Assign), rest @ ..] => {
                 let name = name.share()?;
                 self.rest = rest;
                 Ok(Some(name))

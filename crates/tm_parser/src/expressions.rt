@@ -2,7 +2,7 @@
 ghost use Rattle.std.specs.Prelude.{◌≡◌, ◌∷◌, [], MatchResult};
 ghost use Rattle.tm_parser.specs.Gives.{Gives};
 ghost use Rattle.tm_parser.specs.Grammar as grammar;
-ghost use Rattle.tm_parser.specs.Grammar.{inside, argument, attribute, bracketed, behind_comparison, comparison, comparisons_from, condition, conditions_from, conjunction, disjunction, else_part, expr, expr_at, items, last_part, list_literal, map_literal, more_items, named, operand, operation, pair, part, primary, slice, step, steps_from, subscript, tuple};
+ghost use Rattle.tm_parser.specs.Grammar.{inside, all_passed, argument, attribute, bracketed, behind_comparison, comparison, comparisons_from, condition, conditions_from, conjunction, disjunction, else_part, expr, expr_at, items, keyword, last_part, list_literal, map_literal, more_items, more_passed, named, one_passed, operand, operation, pair, part, primary, slice, step, steps_from, subscript, tuple, whole};
 ghost use Rattle.tm_rules.specs.Combinators.{one_more};
 ghost use Rattle.tm_syntax.specs.declared.token.Sign.TheVariants as sign;
 ghost use Rattle.tm_values.specs.declared.error.ErrorKind.TheVariants.{OutOfMemory};
@@ -11,8 +11,19 @@ use crate::cursor::{Cursor, refusal};
 use crate::tables::Link;
 use sqlite_items::{Boxed, Items};
 use std::alloc::Global;
-use tm_syntax::{Argument, BinaryOperator, Comparison, Condition, Expr, Name, Pair, Sign, Step};
+use tm_syntax::{
+    Argument, BinaryOperator, Comparison, Condition, Expr, Keyword, Name, Pair, Sign, Step,
+};
 use tm_values::{Error, Value};
+
+/// What a call is passed.
+#[derive(Drop)]
+pub struct Passed {
+    /// By their places.
+    by_place: Items<Argument>,
+    /// By their names, behind all others.
+    by_name: Items<Keyword>,
+}
 
 /// The loosest level.
 const LOOSEST: u8 = 7;
@@ -107,6 +118,13 @@ impl Cursor<'_> {
             return self.inner_expr(alloc, depth);
         }
         no_else(alloc)
+    }
+
+    /// A value with all operators, without conditions behind it.
+    pub fn whole(&mut self, alloc: Global, depth: u8) -> Result<Boxed<Expr>, Error>
+        ensures { Gives result self.new ((whole (inside depth)).reads self.old) }
+    {
+        self.expr_at(alloc, depth, LOOSEST)
     }
 
     /// An operand of a level, and the steps of that level behind it.
@@ -377,8 +395,8 @@ impl Cursor<'_> {
             return Ok(Boxed::new(alloc, Expr::Var(name))?);
         }
         self.room(depth)?;
-        let arguments = self.arguments(alloc, depth)?;
-        Ok(Boxed::new(alloc, Expr::Call(name, arguments))?)
+        let given = self.all_passed(alloc, depth)?;
+        Ok(Boxed::new(alloc, Expr::Call(name, given.by_place, given.by_name))?)
     }
 
     /// The expression or tuple in round brackets, and their end.
@@ -550,57 +568,80 @@ impl Cursor<'_> {
 
     /// The arguments of a call, and the end of its brackets.
     #[cycle(expressions)]
-    #[tactic(auto, unfolding(crate::specs::Grammar::items))]
-    fn arguments(&mut self, alloc: Global, depth: u8) -> Result<Items<Argument>, Error>
-        ensures { Gives result self.new
-            ((items sign.CloseRound (argument (inside depth)) []).reads self.old) }
+    #[tactic(auto, unfolding(crate::specs::Grammar::all_passed))]
+    fn all_passed(&mut self, alloc: Global, depth: u8) -> Result<Passed, Error>
+        ensures { Gives result self.new ((all_passed (inside depth)).reads self.old) }
     {
-        let arguments = Items::new(alloc);
+        let given = Passed {
+            by_place: Items::new(alloc),
+            by_name: Items::new(alloc),
+        };
         if self.take(Sign::CloseRound) {
-            return Ok(arguments);
+            return Ok(given);
         }
-        let arguments = self.one_argument(alloc, depth, arguments)?;
-        let arguments = self.more_arguments(alloc, depth, arguments)?;
+        let given = self.one_passed(alloc, depth, given)?;
+        let given = self.more_passed(alloc, depth, given)?;
         self.take(Sign::Comma);
         self.expect(Sign::CloseRound)?;
-        Ok(arguments)
+        Ok(given)
     }
 
     /// More arguments, each behind a comma.
     #[cycle(expressions)]
-    #[tactic(auto, using(crate::proofs::Loops::commas))]
-    fn more_arguments(
-        &mut self,
-        alloc: Global,
-        depth: u8,
-        first: Items<Argument>,
-    ) -> Result<Items<Argument>, Error>
-        ensures { Gives result self.new
-            ((more_items sign.CloseRound (argument (inside depth)) first).reads self.old) }
+    #[tactic(auto, using(crate::proofs::Loops::arguments))]
+    fn more_passed(&mut self, alloc: Global, depth: u8, first: Passed) -> Result<Passed, Error>
+        ensures { Gives result self.new ((more_passed (inside depth) first).reads self.old) }
     {
-        let mut arguments = first;
+        let mut given = first;
         while self.take_comma(Sign::CloseRound) {
-            arguments = self.one_argument(alloc, depth, arguments)?;
+            given = self.one_passed(alloc, depth, given)?;
         }
-        Ok(arguments)
+        Ok(given)
     }
 
-    /// An argument, at the end of others.
+    /// An argument, behind others.
     #[cycle(expressions)]
-    #[tactic(auto, unfolding(crate::specs::Grammar::argument))]
-    fn one_argument(
+    #[tactic(auto, unfolding(crate::specs::Grammar::one_passed))]
+    fn one_passed(&mut self, alloc: Global, depth: u8, given: Passed) -> Result<Passed, Error>
+        ensures { Gives result self.new ((one_passed (inside depth) given).reads self.old) }
+    {
+        if let Some(name) = self.take_keyword()? {
+            return self.keyword(alloc, depth, given, name);
+        }
+        self.argument(alloc, depth, given)
+    }
+
+    /// An argument by its name, behind its `=`.
+    #[cycle(expressions)]
+    #[tactic(auto, unfolding(crate::specs::Grammar::keyword))]
+    fn keyword(
         &mut self,
         alloc: Global,
         depth: u8,
-        arguments: Items<Argument>,
-    ) -> Result<Items<Argument>, Error>
-        ensures { Gives result self.new
-            ((one_more (argument (inside depth)) arguments).reads self.old) }
+        given: Passed,
+        name: Name,
+    ) -> Result<Passed, Error>
+        ensures { Gives result self.new ((keyword (inside depth) given name).reads self.old) }
     {
-        let mut arguments = arguments;
+        let mut given = given;
         let value = self.inner_expr(alloc, depth)?;
-        arguments.push(Argument::Plain(value))?;
-        Ok(arguments)
+        given.by_name.push(Keyword::Keyword(name, value))?;
+        Ok(given)
+    }
+
+    /// An argument by its place, which stands behind none by its name.
+    #[cycle(expressions)]
+    #[tactic(auto, unfolding(crate::specs::Grammar::argument), using(crate::proofs::Nesting::names))]
+    fn argument(&mut self, alloc: Global, depth: u8, given: Passed) -> Result<Passed, Error>
+        ensures { Gives result self.new ((argument (inside depth) given).reads self.old) }
+    {
+        if !given.by_name.is_empty() {
+            return Err(refusal());
+        }
+        let mut given = given;
+        let value = self.inner_expr(alloc, depth)?;
+        given.by_place.push(Argument::Plain(value))?;
+        Ok(given)
     }
 }
 

@@ -3,7 +3,7 @@ ghost use Rattle.std.specs.Prelude.{◌≡◌};
 ghost use Rattle.tm_parser.specs.Gives.{Gives};
 ghost use Rattle.tm_parser.specs.Grammar.{inside};
 ghost use Rattle.tm_parser.specs.Statements as spec;
-ghost use Rattle.tm_parser.specs.Statements.{autoescape_tag, block_tag, body, do_tag, elif_tag, else_tag, emission, if_tag, inner, rest, set_block, set_tag, set_value, statement, with_tag};
+ghost use Rattle.tm_parser.specs.Statements.{autoescape_tag, block_tag, body, do_tag, elif_tag, else_or_end, else_tag, emission, for_tag, if_tag, inner, jump, rest, set_block, set_tag, set_value, statement, with_tag};
 ghost use Rattle.tm_rules.specs.Combinators.{one_more};
 
 use crate::cursor::{Cursor, refusal};
@@ -13,40 +13,65 @@ use std::alloc::Global;
 use tm_syntax::{Expr, Sign, Stmt, Tag, Target};
 use tm_values::Error;
 
-// Each method reads one rule, with `depth` nestings to go. SyntaxError where no tokens spell it.
+// Each method reads one rule, with `depth` nestings to go, and where `looping` with a loop around
+// it. SyntaxError where no tokens spell it.
 impl Cursor<'_> {
     /// Statements inside one nesting more.
     #[cycle(statements)]
     #[tactic(auto, using(crate::proofs::Nesting::statements))]
-    fn inner_body(&mut self, alloc: Global, depth: u8) -> Result<Items<Stmt>, Error>
-        ensures { Gives result self.new ((inner depth).body.reads self.old) }
+    fn inner_body(&mut self, alloc: Global, depth: u8, looping: bool) -> Result<Items<Stmt>, Error>
+        ensures { Gives result self.new (((inner depth).body looping).reads self.old) }
     {
         if depth == 0 {
             return Err(refusal());
         }
-        self.body(alloc, depth - 1)
+        self.body(alloc, depth - 1, looping)
     }
 
     /// What stands behind the body of an `if`, inside one nesting more.
     #[cycle(statements)]
     #[tactic(auto, using(crate::proofs::Nesting::statements))]
-    fn inner_rest(&mut self, alloc: Global, depth: u8) -> Result<Option<Items<Stmt>>, Error>
-        ensures { Gives result self.new ((inner depth).rest.reads self.old) }
+    fn inner_rest(
+        &mut self,
+        alloc: Global,
+        depth: u8,
+        looping: bool,
+    ) -> Result<Option<Items<Stmt>>, Error>
+        ensures { Gives result self.new (((inner depth).rest looping).reads self.old) }
     {
         if depth == 0 {
             return Err(refusal());
         }
-        self.rest(alloc, depth - 1)
+        self.rest(alloc, depth - 1, looping)
+    }
+
+    /// An else part or none, up to this end tag, inside one nesting more.
+    #[cycle(statements)]
+    #[tactic(auto, using(crate::proofs::Nesting::statements))]
+    fn inner_else_or_end(
+        &mut self,
+        alloc: Global,
+        depth: u8,
+        end: Tag,
+        looping: bool,
+    ) -> Result<Option<Items<Stmt>>, Error>
+        ensures { Gives result self.new (((inner depth).else_or_end end looping).reads self.old) }
+    {
+        if depth == 0 {
+            return Err(refusal());
+        }
+        self.else_or_end(alloc, depth - 1, end, looping)
     }
 
     /// Statements, as long as one begins.
     #[cycle(statements)]
-    pub fn body(&mut self, alloc: Global, depth: u8) -> Result<Items<Stmt>, Error>
-        ensures { Gives result self.new ((body (inside depth) (inner depth)).reads self.old) }
+    pub fn body(&mut self, alloc: Global, depth: u8, looping: bool) -> Result<Items<Stmt>, Error>
+        ensures { Gives result self.new
+            ((body (inside depth) (inner depth) looping).reads self.old) }
     {
         let mut body = Items::new(alloc);
         while let Some(start) = self.take_start()? {
-            body = self.one_statement(alloc, depth, start, body)?;
+            body = self.one_statement(alloc, depth, looping, start, body)?;
         }
         Ok(body)
     }
@@ -57,32 +82,43 @@ impl Cursor<'_> {
         &mut self,
         alloc: Global,
         depth: u8,
+        looping: bool,
         start: Start,
         body: Items<Stmt>,
     ) -> Result<Items<Stmt>, Error>
         ensures { Gives result self.new
-            ((one_more (statement (inside depth) (inner depth) start) body).reads self.old) }
+            ((one_more (statement (inside depth) (inner depth) looping start) body).reads
+            self.old) }
     {
         let mut body = body;
-        body.push(self.statement(alloc, depth, start)?)?;
+        body.push(self.statement(alloc, depth, looping, start)?)?;
         Ok(body)
     }
 
     /// The statement behind its start.
     #[cycle(statements)]
-    fn statement(&mut self, alloc: Global, depth: u8, start: Start) -> Result<Stmt, Error>
+    fn statement(
+        &mut self,
+        alloc: Global,
+        depth: u8,
+        looping: bool,
+        start: Start,
+    ) -> Result<Stmt, Error>
         ensures { Gives result self.new
-            ((statement (inside depth) (inner depth) start).reads self.old) }
+            ((statement (inside depth) (inner depth) looping start).reads self.old) }
     {
         match start {
             Start::Raw(text) => Ok(Stmt::EmitRaw(text)),
             Start::Emit => self.emission(alloc, depth),
-            Start::If => self.if_tag(alloc, depth),
+            Start::If => self.if_tag(alloc, depth, looping),
+            Start::For => self.for_tag(alloc, depth, looping),
+            Start::Break => self.jump(looping, Stmt::Break),
+            Start::Continue => self.jump(looping, Stmt::Continue),
             Start::Block => self.block_tag(alloc, depth),
-            Start::Set => self.set_tag(alloc, depth),
-            Start::With => self.with_tag(alloc, depth),
+            Start::Set => self.set_tag(alloc, depth, looping),
+            Start::With => self.with_tag(alloc, depth, looping),
             Start::Do => self.do_tag(alloc, depth),
-            Start::AutoEscape => self.autoescape_tag(alloc, depth),
+            Start::AutoEscape => self.autoescape_tag(alloc, depth, looping),
         }
     }
 
@@ -99,60 +135,123 @@ impl Cursor<'_> {
     /// The condition of an `if`, its body, and all up to its end tag.
     #[cycle(statements)]
     #[tactic(auto, unfolding(crate::specs::Statements::if_tag))]
-    fn if_tag(&mut self, alloc: Global, depth: u8) -> Result<Stmt, Error>
-        ensures { Gives result self.new ((if_tag (inside depth) (inner depth)).reads self.old) }
+    fn if_tag(&mut self, alloc: Global, depth: u8, looping: bool) -> Result<Stmt, Error>
+        ensures { Gives result self.new
+            ((if_tag (inside depth) (inner depth) looping).reads self.old) }
     {
         let condition = self.inner_expr(alloc, depth)?;
         self.expect(Sign::BlockEnd)?;
-        let body = self.inner_body(alloc, depth)?;
-        let other = self.inner_rest(alloc, depth)?;
+        let body = self.inner_body(alloc, depth, looping)?;
+        let other = self.inner_rest(alloc, depth, looping)?;
         Ok(Stmt::If(condition, body, other))
     }
 
     /// What stands behind the body of an `if`, up to its end tag: the else part, or none.
     #[cycle(statements)]
     #[tactic(auto, unfolding(crate::specs::Statements::rest))]
-    fn rest(&mut self, alloc: Global, depth: u8) -> Result<Option<Items<Stmt>>, Error>
-        ensures { Gives result self.new ((rest (inside depth) (inner depth)).reads self.old) }
+    fn rest(
+        &mut self,
+        alloc: Global,
+        depth: u8,
+        looping: bool,
+    ) -> Result<Option<Items<Stmt>>, Error>
+        ensures { Gives result self.new
+            ((rest (inside depth) (inner depth) looping).reads self.old) }
     {
         if self.take_tag(Tag::Elif) {
-            return self.elif_tag(alloc, depth);
+            return self.elif_tag(alloc, depth, looping);
         }
-        if self.take_tag(Tag::Else) {
-            return self.else_tag(alloc, depth);
-        }
-        self.expect_lone(Tag::Endif)?;
-        Ok(None)
+        self.else_or_end(alloc, depth, Tag::Endif, looping)
     }
 
     /// An else part that is one `if`.
     #[cycle(statements)]
     #[tactic(auto, unfolding(crate::specs::Statements::elif_tag))]
-    fn elif_tag(&mut self, alloc: Global, depth: u8) -> Result<Option<Items<Stmt>>, Error>
-        ensures { Gives result self.new ((elif_tag (inside depth) (inner depth)).reads self.old) }
+    fn elif_tag(
+        &mut self,
+        alloc: Global,
+        depth: u8,
+        looping: bool,
+    ) -> Result<Option<Items<Stmt>>, Error>
+        ensures { Gives result self.new
+            ((elif_tag (inside depth) (inner depth) looping).reads self.old) }
     {
         let condition = self.expr(alloc, depth)?;
         self.expect(Sign::BlockEnd)?;
-        let body = self.inner_body(alloc, depth)?;
-        let other = self.inner_rest(alloc, depth)?;
+        let body = self.inner_body(alloc, depth, looping)?;
+        let other = self.inner_rest(alloc, depth, looping)?;
         let mut part = Items::new(alloc);
         part.push(Stmt::If(condition, body, other))?;
         Ok(Some(part))
     }
 
-    /// An else part, which may be empty, and the end tag.
+    /// An else part or none, and this end tag.
+    #[cycle(statements)]
+    #[tactic(auto, unfolding(crate::specs::Statements::else_or_end))]
+    fn else_or_end(
+        &mut self,
+        alloc: Global,
+        depth: u8,
+        end: Tag,
+        looping: bool,
+    ) -> Result<Option<Items<Stmt>>, Error>
+        ensures { Gives result self.new ((else_or_end (inner depth) end looping).reads self.old) }
+    {
+        if self.take_tag(Tag::Else) {
+            return self.else_tag(alloc, depth, end, looping);
+        }
+        self.expect_lone(end)?;
+        Ok(None)
+    }
+
+    /// An else part, which may be empty, and this end tag.
     #[cycle(statements)]
     #[tactic(auto, unfolding(crate::specs::Statements::else_tag))]
-    fn else_tag(&mut self, alloc: Global, depth: u8) -> Result<Option<Items<Stmt>>, Error>
-        ensures { Gives result self.new ((else_tag (inner depth)).reads self.old) }
+    fn else_tag(
+        &mut self,
+        alloc: Global,
+        depth: u8,
+        end: Tag,
+        looping: bool,
+    ) -> Result<Option<Items<Stmt>>, Error>
+        ensures { Gives result self.new ((else_tag (inner depth) end looping).reads self.old) }
     {
         self.expect(Sign::BlockEnd)?;
-        let body = self.inner_body(alloc, depth)?;
-        self.expect_lone(Tag::Endif)?;
+        let body = self.inner_body(alloc, depth, looping)?;
+        self.expect_lone(end)?;
         Ok(Some(body))
     }
 
-    /// A block's name and body, up to its end tag, which may say the name again.
+    /// The target of a `for`, what it goes over, its condition, its body, and all up to its end
+    /// tag. Around its else part is no other loop than around it.
+    #[cycle(statements)]
+    #[tactic(auto, unfolding(crate::specs::Statements::for_tag))]
+    fn for_tag(&mut self, alloc: Global, depth: u8, looping: bool) -> Result<Stmt, Error>
+        ensures { Gives result self.new
+            ((for_tag (inside depth) (inner depth) looping).reads self.old) }
+    {
+        let target = self.inner_target(alloc, depth)?;
+        self.expect(Sign::In)?;
+        let (iterated, condition) = self.inner_looped(alloc, depth)?;
+        let body = self.inner_body(alloc, depth, true)?;
+        let other = self.inner_else_or_end(alloc, depth, Tag::Endfor, looping)?;
+        Ok(Stmt::For(target, iterated, condition, body, other))
+    }
+
+    /// The end of a tag of one word, whose statement stands nowhere but inside a loop.
+    #[tactic(auto, unfolding(crate::specs::Statements::jump))]
+    fn jump(&mut self, looping: bool, statement: Stmt) -> Result<Stmt, Error>
+        ensures { Gives result self.new ((jump looping statement).reads self.old) }
+    {
+        if !looping {
+            return Err(refusal());
+        }
+        self.expect(Sign::BlockEnd)?;
+        Ok(statement)
+    }
+
+    /// A block's name and body, up to its end tag, which may say the name again. Around the body is
+    /// no loop.
     #[cycle(statements)]
     #[tactic(auto, unfolding(crate::specs::Statements::block_tag))]
     fn block_tag(&mut self, alloc: Global, depth: u8) -> Result<Stmt, Error>
@@ -160,7 +259,7 @@ impl Cursor<'_> {
     {
         let name = self.expect_name()?;
         self.expect(Sign::BlockEnd)?;
-        let body = self.inner_body(alloc, depth)?;
+        let body = self.inner_body(alloc, depth, false)?;
         self.expect_tag(Tag::Endblock)?;
         self.expect_same(&name)?;
         self.expect(Sign::BlockEnd)?;
@@ -170,14 +269,15 @@ impl Cursor<'_> {
     /// The target of a `set`, and its value or its body.
     #[cycle(statements)]
     #[tactic(auto, unfolding(crate::specs::Statements::set_tag))]
-    fn set_tag(&mut self, alloc: Global, depth: u8) -> Result<Stmt, Error>
-        ensures { Gives result self.new ((set_tag (inside depth) (inner depth)).reads self.old) }
+    fn set_tag(&mut self, alloc: Global, depth: u8, looping: bool) -> Result<Stmt, Error>
+        ensures { Gives result self.new
+            ((set_tag (inside depth) (inner depth) looping).reads self.old) }
     {
         let target = self.target(alloc, depth)?;
         if self.take(Sign::Assign) {
             return self.set_value(alloc, depth, target);
         }
-        self.set_block(alloc, depth, target)
+        self.set_block(alloc, depth, looping, target)
     }
 
     /// The value of a `set` behind its `=`, and its end.
@@ -192,11 +292,17 @@ impl Cursor<'_> {
     /// The body of a `set` without `=`, up to its end tag.
     #[cycle(statements)]
     #[tactic(auto, unfolding(crate::specs::Statements::set_block))]
-    fn set_block(&mut self, alloc: Global, depth: u8, target: Target) -> Result<Stmt, Error>
-        ensures { Gives result self.new ((set_block (inner depth) target).reads self.old) }
+    fn set_block(
+        &mut self,
+        alloc: Global,
+        depth: u8,
+        looping: bool,
+        target: Target,
+    ) -> Result<Stmt, Error>
+        ensures { Gives result self.new ((set_block (inner depth) looping target).reads self.old) }
     {
         self.expect(Sign::BlockEnd)?;
-        let body = self.inner_body(alloc, depth)?;
+        let body = self.inner_body(alloc, depth, looping)?;
         self.expect_lone(Tag::Endset)?;
         Ok(Stmt::SetBlock(target, body))
     }
@@ -204,11 +310,12 @@ impl Cursor<'_> {
     /// The assignments of a `with` and its body, up to its end tag.
     #[cycle(statements)]
     #[tactic(auto, unfolding(crate::specs::Statements::with_tag))]
-    fn with_tag(&mut self, alloc: Global, depth: u8) -> Result<Stmt, Error>
-        ensures { Gives result self.new ((with_tag (inside depth) (inner depth)).reads self.old) }
+    fn with_tag(&mut self, alloc: Global, depth: u8, looping: bool) -> Result<Stmt, Error>
+        ensures { Gives result self.new
+            ((with_tag (inside depth) (inner depth) looping).reads self.old) }
     {
         let given = self.assignments(alloc, depth)?;
-        let body = self.inner_body(alloc, depth)?;
+        let body = self.inner_body(alloc, depth, looping)?;
         self.expect_lone(Tag::Endwith)?;
         Ok(Stmt::With(given, body))
     }
@@ -216,13 +323,13 @@ impl Cursor<'_> {
     /// What an `autoescape` escapes as, and its body, up to its end tag.
     #[cycle(statements)]
     #[tactic(auto, unfolding(crate::specs::Statements::autoescape_tag))]
-    fn autoescape_tag(&mut self, alloc: Global, depth: u8) -> Result<Stmt, Error>
+    fn autoescape_tag(&mut self, alloc: Global, depth: u8, looping: bool) -> Result<Stmt, Error>
         ensures { Gives result self.new
-            ((autoescape_tag (inside depth) (inner depth)).reads self.old) }
+            ((autoescape_tag (inside depth) (inner depth) looping).reads self.old) }
     {
         let value = self.inner_expr(alloc, depth)?;
         self.expect(Sign::BlockEnd)?;
-        let body = self.inner_body(alloc, depth)?;
+        let body = self.inner_body(alloc, depth, looping)?;
         self.expect_lone(Tag::Endautoescape)?;
         Ok(Stmt::AutoEscape(value, body))
     }
@@ -246,7 +353,7 @@ fn is_call(expr: &Expr) -> bool
     ensures { result ≡ spec.is_call expr.now }
 {
     match expr {
-        Expr::Call(_, _) => true,
+        Expr::Call(_, _, _) => true,
         _ => false,
     }
 }

@@ -32,6 +32,12 @@ pub enum Start {
     Emit,
     /// The start of an `if`.
     If,
+    /// The start of a `for`.
+    For,
+    /// The start of a `break`.
+    Break,
+    /// The start of a `continue`.
+    Continue,
     /// The start of a block.
     Block,
     /// The start of a `set`.
@@ -111,6 +117,9 @@ pub fn start_of(tag: Tag) -> Option<Start>
 {
     Some(match tag {
         Tag::If => Start::If,
+        Tag::For => Start::For,
+        Tag::Break => Start::Break,
+        Tag::Continue => Start::Continue,
         Tag::Block => Start::Block,
         Tag::Set => Start::Set,
         Tag::With => Start::With,

@@ -3,8 +3,8 @@ ghost use Rattle.std.specs.Prelude.{◌≡◌, [], MatchResult, None, Some};
 ghost use Rattle.std.specs.Option.{option_copied};
 ghost use Rattle.tm_parser.specs.Gives.{Gives, Refused};
 ghost use Rattle.tm_parser.specs.Grammar as grammar;
-ghost use Rattle.tm_parser.specs.Grammar.{inside, expr, items, member, more_items, more_targets, several, single, target};
-ghost use Rattle.tm_parser.specs.Statements.{assignment, bare, bare_tuple};
+ghost use Rattle.tm_parser.specs.Grammar.{inside, expr, items, member, more_items, more_targets, several, single, target, whole};
+ghost use Rattle.tm_parser.specs.Statements.{assignment, bare, bare_tuple, filter, inner, iterated, iterated_tuple, looped, more_iterated};
 ghost use Rattle.tm_rules.specs.Combinators.{one_more};
 ghost use Rattle.tm_syntax.specs.declared.token.Sign.TheVariants as sign;
 
@@ -20,7 +20,7 @@ impl Cursor<'_> {
     /// A target inside one nesting more.
     #[cycle(targets)]
     #[tactic(auto, using(crate::proofs::Nesting::targets))]
-    fn inner_target(&mut self, alloc: Global, depth: u8) -> Result<Target, Error>
+    pub fn inner_target(&mut self, alloc: Global, depth: u8) -> Result<Target, Error>
         ensures { Gives result self.new ((inside depth).target.reads self.old) }
     {
         if depth == 0 {
@@ -113,6 +113,110 @@ impl Cursor<'_> {
         target_of(alloc, value, steps)
     }
 
+    /// What a loop goes over, the condition of an item, and the end of its tag, inside one nesting
+    /// more.
+    #[tactic(auto, using(crate::proofs::Nesting::loops))]
+    pub fn inner_looped(
+        &mut self,
+        alloc: Global,
+        depth: u8,
+    ) -> Result<(Boxed<Expr>, Option<Boxed<Expr>>), Error>
+        ensures { Gives result self.new ((inner depth).looped.reads self.old) }
+    {
+        if depth == 0 {
+            return Err(refusal());
+        }
+        self.looped(alloc, depth - 1)
+    }
+
+    /// What a loop goes over, the condition of an item, and the end of its tag.
+    #[tactic(auto, unfolding(crate::specs::Statements::looped))]
+    fn looped(
+        &mut self,
+        alloc: Global,
+        depth: u8,
+    ) -> Result<(Boxed<Expr>, Option<Boxed<Expr>>), Error>
+        ensures { Gives result self.new ((looped (inside depth)).reads self.old) }
+    {
+        let iterated = self.iterated(alloc, depth)?;
+        let condition = self.filter(alloc, depth)?;
+        self.expect(Sign::BlockEnd)?;
+        Ok((iterated, condition))
+    }
+
+    /// The condition of a loop's item, if it stands there.
+    #[tactic(auto, unfolding(crate::specs::Statements::filter))]
+    fn filter(&mut self, alloc: Global, depth: u8) -> Result<Option<Boxed<Expr>>, Error>
+        ensures { Gives result self.new ((filter (inside depth)).reads self.old) }
+    {
+        if self.take(Sign::If) {
+            return Ok(Some(self.whole(alloc, depth)?));
+        }
+        Ok(None)
+    }
+
+    /// A value or a tuple without brackets, behind which an `if` is the loop's.
+    #[tactic(auto, unfolding(crate::specs::Statements::iterated))]
+    fn iterated(&mut self, alloc: Global, depth: u8) -> Result<Boxed<Expr>, Error>
+        ensures { Gives result self.new ((iterated (inside depth)).reads self.old) }
+    {
+        let first = self.whole(alloc, depth)?;
+        if !self.is_at_comma() {
+            return Ok(first);
+        }
+        self.iterated_tuple(alloc, depth, first)
+    }
+
+    /// A tuple without brackets behind its first item, with a comma behind the last one or none.
+    #[tactic(auto, unfolding(crate::specs::Statements::iterated_tuple))]
+    fn iterated_tuple(
+        &mut self,
+        alloc: Global,
+        depth: u8,
+        first: Boxed<Expr>,
+    ) -> Result<Boxed<Expr>, Error>
+        ensures { Gives result self.new ((iterated_tuple (inside depth) first).reads self.old) }
+    {
+        let mut items = Items::new(alloc);
+        items.push(first.into_inner())?;
+        let items = self.more_iterated(alloc, depth, items)?;
+        self.take(Sign::Comma);
+        Ok(Boxed::new(alloc, Expr::Tuple(items))?)
+    }
+
+    /// More values, each behind a comma.
+    #[tactic(auto, using(crate::proofs::Loops::iterations))]
+    fn more_iterated(
+        &mut self,
+        alloc: Global,
+        depth: u8,
+        first: Items<Expr>,
+    ) -> Result<Items<Expr>, Error>
+        ensures { Gives result self.new ((more_iterated (inside depth) first).reads self.old) }
+    {
+        let mut items = first;
+        while self.take_iterated_comma() {
+            items = self.one_iterated(alloc, depth, items)?;
+        }
+        Ok(items)
+    }
+
+    /// A value, at the end of others.
+    fn one_iterated(
+        &mut self,
+        alloc: Global,
+        depth: u8,
+        items: Items<Expr>,
+    ) -> Result<Items<Expr>, Error>
+        ensures { Gives result self.new
+            ((one_more (whole (inside depth)) items).reads self.old) }
+    {
+        let mut items = items;
+        let value = self.whole(alloc, depth)?;
+        items.push(value.into_inner())?;
+        Ok(items)
+    }
+
     /// An expression or a tuple without brackets, and the end of the tag.
     #[tactic(auto, unfolding(crate::specs::Statements::bare))]
     pub fn bare(&mut self, alloc: Global, depth: u8) -> Result<Boxed<Expr>, Error>
@@ -156,7 +260,7 @@ impl Cursor<'_> {
         if self.take(Sign::BlockEnd) {
             return Ok(first);
         }
-        let items = self.bare_item(alloc, depth, first)?;
+        let items = self.one_bare_item(alloc, depth, first)?;
         let items = self.more_bare_items(alloc, depth, items)?;
         self.take(Sign::Comma);
         self.expect(Sign::BlockEnd)?;
@@ -176,19 +280,20 @@ impl Cursor<'_> {
     {
         let mut items = first;
         while self.take_comma(Sign::BlockEnd) {
-            items = self.bare_item(alloc, depth, items)?;
+            items = self.one_bare_item(alloc, depth, items)?;
         }
         Ok(items)
     }
 
     /// An expression, at the end of others.
-    fn bare_item(
+    fn one_bare_item(
         &mut self,
         alloc: Global,
         depth: u8,
         items: Items<Expr>,
     ) -> Result<Items<Expr>, Error>
-        ensures { Gives result self.new ((one_more (expr (inside depth)) items).reads self.old) }
+        ensures { Gives result self.new
+            ((one_more (expr (inside depth)) items).reads self.old) }
     {
         let mut items = items;
         let value = self.expr(alloc, depth)?;

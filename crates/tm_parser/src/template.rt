@@ -21,7 +21,7 @@ pub fn parse_tokens(alloc: Global, tokens: &[Token]) -> Result<Tree, Error>
     ensures refused { IfErr result (λ e. Refused e (SpellsNone tokens.now)) }
 {
     let mut cursor = Cursor::new(tokens);
-    let statements = cursor.body(alloc, NESTINGS)?;
+    let statements = cursor.body(alloc, NESTINGS, false)?;
     if !cursor.is_done() {
         return Err(refusal());
     }

@@ -31,9 +31,13 @@ fn charge(instruction: &Instruction) -> u64
     ensures { result ≡ charge_of instruction.now }
 {
     match instruction {
-        Instruction::DiscardTop
+        Instruction::DupTop
+        | Instruction::DiscardTop
         | Instruction::PushWith
         | Instruction::PopFrame
+        | Instruction::PushLoop(_)
+        | Instruction::PushDidNotIterate
+        | Instruction::PopLoopFrame
         | Instruction::BeginCapture(_)
         | Instruction::PushAutoEscape
         | Instruction::PopAutoEscape => 0,

@@ -45,6 +45,7 @@ reserved name = look_up reserved_words name
 abbrev pub tag_words : List (List ℕ × Tag)
 tag_words =
     (codes "if", tag.If) ∷ (codes "elif", tag.Elif) ∷ (codes "else", tag.Else) ∷ (codes "endif", tag.Endif)
+    ∷ (codes "for", tag.For) ∷ (codes "endfor", tag.Endfor) ∷ (codes "break", tag.Break) ∷ (codes "continue", tag.Continue)
     ∷ (codes "block", tag.Block) ∷ (codes "endblock", tag.Endblock) ∷ (codes "set", tag.Set)
     ∷ (codes "endset", tag.Endset) ∷ (codes "with", tag.With) ∷ (codes "endwith", tag.Endwith) ∷ (codes "do", tag.Do)
     ∷ (codes "autoescape", tag.Autoescape) ∷ (codes "endautoescape", tag.Endautoescape) ∷ []

@@ -5,9 +5,11 @@ use Rattle.std.specs.Prelude.{slice_get}
 use Rattle.tm_values.specs.Val.{Val}
 use Rattle.tm_values.specs.declared.error.ErrorKind.{ErrorKind}
 use Rattle.tm_syntax.specs.declared.instruction.Instruction.{Instruction}
-use Rattle.tm_meaning.specs.World.{choose, World, Scope, Res, Good, Bad, bind, tick}
-use Rattle.tm_meaning.specs.Meaning.{Run, Outcome, Ending, done, leave, next, fault, ended, so_far, use_it, then_do, closing_by, closing, captured_by, captured}
-use Rattle.tm_simulation.proofs.Keeps.{Kept, within, one_more, Gives, EndsBy as EndsKept, Ends as KeptEnds}
+use Rattle.tm_syntax.specs.declared.instruction.LoopFlags.{LoopFlags}
+use Rattle.tm_syntax.specs.Code.{for_flags}
+use Rattle.tm_meaning.specs.World.{choose, World, Scope, Res, Good, Bad, bind, tick, pop, loop_scope}
+use Rattle.tm_meaning.specs.Meaning.{Run, Outcome, Ending, done, leave, next, fault, ended, so_far, use_it, then_do, closing_by, closing, captured_by, captured, round_end}
+use Rattle.tm_simulation.proofs.Keeps.{Kept, within, one_more, mark_behind, recorded, opened, Gives, EndsBy as EndsKept, Ends as KeptEnds}
 use Rattle.tm_meaning.specs.Machine.{Capture, Activation, Config, Failed, Next, More, Program, after, goes, jumps}
 use Rattle.tm_meaning.specs.Steps.{act, step, Final, final, Leads, over, more}
 use Rattle.tm_meaning.specs.declared.stream.TemplateId.{TemplateId}
@@ -70,10 +72,20 @@ pub follows_map : {A : Type 0} (r : Final) (t : List ℕ) (m : Res A) (K L : A �
 follows_map r t (Good a w) K L h g = g a w h
 follows_map r t (Bad chain w) K L h g = h
 
+-- the same of what keeps the scopes
+pub follows_map_kept : {A : Type 0} (r : Final) (t : List ℕ) (w : World) (m : Res A) (K L : A → World → Type 0) → Gives w m → Follows r t m K → ((a : A) (world1 : World) → Kept w world1 → K a world1 → L a world1) → Follows r t m L
+follows_map_kept r t w (Good a world1) K L e h g = g a world1 e h
+follows_map_kept r t w (Bad chain world1) K L e h g = h
+
 -- what is bound, of its parts
 pub follows_bind : {A B : Type 0} (r : Final) (t : List ℕ) (m : Res A) (g : A → World → Res B) (K : B → World → Type 0) → Follows r t m (λ a w. Follows r t (g a w) K) → Follows r t (bind m g) K
 follows_bind r t (Good a w) g K h = h
 follows_bind r t (Bad chain w) g K h = h
+
+-- and the parts of what is bound
+pub bound_follows : {A B : Type 0} (r : Final) (t : List ℕ) (m : Res A) (g : A → World → Res B) (K : B → World → Type 0) → Follows r t (bind m g) K → Follows r t m (λ a w. Follows r t (g a w) K)
+bound_follows r t (Good a w) g K h = h
+bound_follows r t (Bad chain w) g K h = h
 
 -- the first part of what is bound, and what it keeps
 pub bind_then : {A B : Type 0} (r : Final) (t : List ℕ) (w : World) (m : Res A) (g : A → World → Res B) (K : B → World → Type 0) (L : A → World → Type 0) →
@@ -193,6 +205,63 @@ ends_by_map r b (fault chain) parent out w D K L N h k = h
 
 pub ends_map : (r : Final) (b : Bed) (o : Outcome) (D K L N : Then) → Ends r b o D L N → ((parent : Option TemplateId) (out : List ℕ) (w : World) → D parent out w → K parent out w) → Ends r b o K L N
 ends_map r b o D K L N h k = ends_by_map r b o.ending o.parent o.text o.world D K L N h (k o.parent o.text o.world)
+
+-- the same of what keeps the scopes
+ends_by_map_kept : (r : Final) (b : Bed) (w : World) (e : Ending) (parent : Option TemplateId) (out : List ℕ) (world1 : World) (D K L N : Then) → EndsKept w e world1 → Ends r b (whole_of e parent out world1) D L N →
+    (Kept w world1 → D parent out world1 → K parent out world1) → Ends r b (whole_of e parent out world1) K L N
+unfolding Ends
+ends_by_map_kept r b w done parent out world1 D K L N e h k = k e h
+ends_by_map_kept r b w leave parent out world1 D K L N e h k = h
+ends_by_map_kept r b w next parent out world1 D K L N e h k = h
+ends_by_map_kept r b w (fault chain) parent out world1 D K L N e h k = h
+
+pub ends_map_kept : (r : Final) (b : Bed) (w : World) (o : Outcome) (D K L N : Then) → KeptEnds w o → Ends r b o D L N →
+    ((parent : Option TemplateId) (out : List ℕ) (world1 : World) → Kept w world1 → D parent out world1 → K parent out world1) → Ends r b o K L N
+ends_map_kept r b w o D K L N e h k =
+    ends_by_map_kept r b w o.ending o.parent o.text o.world D K L N (kept_by w o.ending o.parent o.text o.world e) h (k o.parent o.text o.world)
+
+pub leave_then : (r : Final) (b : Bed) (run : Run) (out : List ℕ) (w : World) (D L N : Then) → Ends r b (ended leave run out w) D L N → L run.parent out w
+unfolding Ends
+leave_then r b run out w D L N h = h
+
+pub next_then : (r : Final) (b : Bed) (run : Run) (out : List ℕ) (w : World) (D L N : Then) → Ends r b (ended next run out w) D L N → N run.parent out w
+unfolding Ends
+next_then r b run out w D L N h = h
+
+-- ---------------------------------------------------------------- loops
+-- what follows behind a round, charged: what comes next
+abbrev pub Goes : Final → Bed → Run → (Run → List ℕ → World → Outcome) → Then → Then → Then → Then
+Goes r b run g D L N q out w = Ends r b (use_it (tick w) (record run { parent = q }) out (λ _ world1. g (record run { parent = q }) out world1)) D L N
+
+-- a round's end, of its body's
+round_by : (r : Final) (b : Bed) (run : Run) (e : Ending) (parent : Option TemplateId) (out : List ℕ) (w : World) (g : Run → List ℕ → World → Outcome) (D L N : Then) →
+    Ends r b (round_end e (record run { parent = parent }) (whole_of e parent out w) g) D L N →
+    Ends r b (whole_of e parent out w) (Goes r b run g D L N) (Goes r b run (λ run1 out1 world1. so_far run1 out1 (pop world1)) D L N) (Goes r b run g D L N)
+unfolding Ends
+round_by r b run done parent out w g D L N h = h
+round_by r b run leave parent out w g D L N h = h
+round_by r b run next parent out w g D L N h = h
+round_by r b run (fault chain) parent out w g D L N h = h
+
+pub round_then : (r : Final) (b : Bed) (run : Run) (o : Outcome) (g : Run → List ℕ → World → Outcome) (D L N : Then) →
+    Ends r b (round_end o.ending (record run { parent = o.parent }) o g) D L N →
+    Ends r b o (Goes r b run g D L N) (Goes r b run (λ run1 out1 world1. so_far run1 out1 (pop world1)) D L N) (Goes r b run g D L N)
+round_then r b run o g D L N h = round_by r b run o.ending o.parent o.text o.world g D L N h
+
+-- a loop opened, where there is room for its scope
+pub opened_then : (r : Final) (b : Bed) (w : World) (vs : List Val) (room : Bool) (run : Run) (out : List ℕ) (g : Unit {0} → World → Outcome) (D L N : Then) (K : World → Type 0) →
+    Ends r b (use_it (bind (one_more room (loop_scope (mark_behind for_flags w)) w) (λ _ world1. recorded for_flags vs w world1)) run out g) D L N → (Ends r b (g tt (opened for_flags w vs)) D L N → K (opened for_flags w vs)) →
+    Follows r (told_by b out) (bind (one_more room (loop_scope (mark_behind for_flags w)) w) (λ _ world1. recorded for_flags vs w world1)) (λ _ world1. K world1)
+unfolding Ends
+opened_then r b w vs true run out g D L N K h k = k h
+opened_then r b w vs false run out g D L N K h k = h
+
+-- the same before values
+pub opened_follows : {A : Type 0} (r : Final) (t : List ℕ) (g : LoopFlags) (w : World) (vs : List Val) (room : Bool) (rest : World → Res A) (K : A → World → Type 0) (L : World → Type 0) →
+    Follows r t (bind (bind (one_more room (loop_scope (mark_behind g w)) w) (λ _ world1. recorded g vs w world1)) (λ _ x. rest x)) K → (Follows r t (rest (opened g w vs)) K → L (opened g w vs)) →
+    Follows r t (bind (one_more room (loop_scope (mark_behind g w)) w) (λ _ world1. recorded g vs w world1)) (λ _ world1. L world1)
+opened_follows r t g w vs true rest K L h k = k h
+opened_follows r t g w vs false rest K L h k = h
 
 module _ (p : Program) (f : Base) (r : Final) where
   -- the machine comes from here to the end

@@ -1,6 +1,7 @@
--- What statements keep, whatever they do: how many scopes lie over how deep an outermost one. A fault leaves them as they are then.
-use Rattle.std.proofs.Common.{◌≡◌, ℕ, zero, suc, ◌+◌, ◌<◌, List, [], ◌∷◌, length, Option, Some, None, Bool, true, false, Ok, Err, nat_lt, refl, sym, subst, ap, ◌∙◌, arith, ltb-true, ◌≤◌}
-use Rattle.std.specs.Prelude.{slice_get, not}
+-- What statements keep, whatever they do: the scopes' loops, how deep the outermost scope lies, and the records of loops that were there. A fault leaves them as they are then.
+use Rattle.std.proofs.Common.{◌≡◌, ℕ, zero, suc, ◌+◌, ◌<◌, List, [], ◌∷◌, length, Option, Some, None, Bool, true, false, Ok, Err, nat_lt, ◌++◌, refl, sym, subst, ap, ◌∙◌, arith, ltb-true, append_assoc, length-append, ◌≤◌}
+use Rattle.std.specs.Prelude.{slice_get, get_or, not, ◌&&◌}
+use Rattle.std.proofs.lemmas.List.{append-nil}
 use Rattle.tm_values.specs.Answer.{Answer}
 use Rattle.tm_values.specs.Val.{Val, undefined, function, none, boolean, number, text, list, map, keywords, exports, macro, loop, namespace}
 use Rattle.tm_values.specs.declared.error.ErrorKind.{ErrorKind}
@@ -10,35 +11,75 @@ use Rattle.tm_syntax.specs.declared.tree.UnaryOperator.{UnaryOperator}
 use Rattle.tm_syntax.specs.declared.tree.UnaryOperator.TheVariants as unaries
 use Rattle.tm_syntax.specs.declared.tree.BinaryOperator.{BinaryOperator}
 use Rattle.tm_syntax.specs.declared.tree.BinaryOperator.TheVariants as binaries
-use Rattle.tm_syntax.specs.declared.tree.Expr.{Expr, Var, Const, List', Tuple', Map', Call', Row_of-Expr, end_of-Expr as no_expr, more_of-Expr as expr, Row_of-Pair, end_of-Pair as no_pair, more_of-Pair as with_pair, Row_of-Argument, end_of-Argument as no_argument, more_of-Argument as argument, Row_of-Step, end_of-Step as no_step, more_of-Step as step, Row_of-Condition, end_of-Condition as no_condition, more_of-Condition as with_condition}
+use Rattle.tm_syntax.specs.declared.tree.Expr.{Expr, Var, Const, List', Tuple', Map', Call', Row_of-Expr, end_of-Expr as no_expr, more_of-Expr as expr, Row_of-Pair, end_of-Pair as no_pair, more_of-Pair as with_pair, Row_of-Argument, end_of-Argument as no_argument, more_of-Argument as argument, Row_of-Keyword, end_of-Keyword as no_keyword, more_of-Keyword as with_keyword, Row_of-Step, end_of-Step as no_step, more_of-Step as step, Row_of-Condition, end_of-Condition as no_condition, more_of-Condition as with_condition}
 use Rattle.tm_syntax.specs.declared.tree.Argument.{Argument}
+use Rattle.tm_syntax.specs.declared.tree.Keyword.{Keyword}
 use Rattle.tm_syntax.specs.declared.tree.Pair.{Pair}
 use Rattle.tm_syntax.specs.declared.tree.Condition.{Condition}
 use Rattle.tm_syntax.specs.declared.tree.Step.{Step, Attribute, Row_of-Comparison, end_of-Comparison as no_comparison, more_of-Comparison as with_comparison}
 use Rattle.tm_syntax.specs.declared.tree.Target.{Target, Name as To, Unpack' as Items, Attribute as Member, Row_of-Target, end_of-Target as no_target, more_of-Target as target}
 use Rattle.tm_syntax.specs.declared.tree.Assignment.{Assignment}
 use Rattle.tm_syntax.specs.declared.tree.Assignment.TheVariants.{Assignment as Given}
-use Rattle.tm_syntax.specs.declared.tree.Stmt.{Stmt, EmitRaw, EmitExpr, If', Block', Set, SetBlock', With', Do, AutoEscape', Row_of-Stmt, end_of-Stmt as no_statement, more_of-Stmt as statement, Held-Stmt-If-2 as Otherwise, None' as no_else, Some' as otherwise}
-use Rattle.tm_syntax.specs.Forms.{unary, chained, conditional, condition, comparison, pair, plain, item, slice, binary, compare, and_then, or_else}
+use Rattle.tm_syntax.specs.declared.tree.Stmt.{Stmt, EmitRaw, EmitExpr, If', For', Break, Continue, Block', Set, SetBlock', With', Do, AutoEscape', Row_of-Stmt, end_of-Stmt as no_statement, more_of-Stmt as statement, Held-Stmt-If-2 as Otherwise, None' as no_else, Some' as otherwise}
+use Rattle.tm_syntax.specs.declared.instruction.LoopFlags.{LoopFlags}
+use Rattle.tm_syntax.specs.Code.{for_flags, filter_flags}
+use Rattle.tm_syntax.specs.Forms.{unary, chained, conditional, condition, comparison, pair, plain, keyword, item, slice, binary, compare, and_then, or_else}
+use Rattle.tm_operations.specs.Maps.{dict_of, namespace_of}
 use Rattle.tm_operations.specs.Members.{settable}
-use Rattle.tm_meaning.specs.World.{choose, find, block_of, with_frames, World, Host, Scopes, Scope, Res, Good, Bad, bind, need, check, answered, charged, with_fuel, tick, push, pop, depth, without_first, emitted, looked_up, lookup, Function, callers, Reply, gives, faults, stored_in, store, records_of, with_member, set_member, escape_for, with_escape, captured_text, plain as plain_scope}
-use Rattle.tm_meaning.specs.Calls.{Callee, whole, Call, Undo, of_block, undone, wrapped, Asked, has, refused, runs, ask, enter_block, call_named, call_value, call_by, replied, required_alone}
-use Rattle.tm_meaning.specs.Meaning.{Run, Outcome, Ending, done, leave, next, fault, Nests, Under, use_it, then_do, on_done, so_far, ended, say, audible, none_waits, value_of, value_behind, in_place_of, behind, block_tag, truth, applied_unary, operated, applied, attribute, eval, eval_all, eval_pair, eval_pairs, eval_argument, eval_arguments, eval_condition, eval_conditions, eval_step, eval_links, eval_steps, assign, assign_all, set_to, set_each, closing_by, closing, capturing, captured_by, captured, emit, behind_first, exec, execs, exec_else, at_end, new_run, nests_of}
+use Rattle.tm_meaning.specs.World.{choose, find, block_of, with_frames, World, Host, Scopes, Scope, Loop, loop_scope, new_loop, open_loop, turned, turned_at, turned_of, top_mark, next_turn, without_locals, cleared, top_loop, items_over, Res, Good, Bad, bind, need, check, answered, charged, with_fuel, tick, push, pop, depth, without_first, emitted, looked_up, lookup, Function, callers, languages, Reply, gives, faults, stored_in, store, records_of, with_member, set_member, escape_for, with_escape, captured_text, plain as plain_scope}
+use Rattle.tm_meaning.specs.Calls.{Callee, whole, Call, Undo, of_block, undone, wrapped, Asked, has, refused, runs, ask, enter_block, call_named, call_value, call_by, given_by, replied, required_alone}
+use Rattle.tm_meaning.specs.declared.function.GlobalFunction.{GlobalFunction}
+use Rattle.tm_meaning.specs.declared.function.GlobalFunction.TheVariants as own
+use Rattle.tm_meaning.specs.declared.mark.LoopMark.{LoopMark}
+use Rattle.tm_meaning.specs.Meaning.{Run, Outcome, Ending, done, leave, next, fault, Nests, Under, use_it, then_do, on_done, so_far, ended, say, audible, none_waits, value_of, value_behind, in_place_of, behind, block_tag, truth, applied_unary, operated, applied, attribute, eval, eval_all, eval_pair, eval_pairs, eval_argument, eval_arguments, eval_keyword, eval_keywords, eval_named, one_counted, kept, loop_items, eval_condition, eval_conditions, eval_step, eval_links, eval_steps, assign, assign_all, set_to, set_each, closing_by, closing, capturing, captured_by, captured, round_end, rounds, loop_over, has_none, exec_behind_loop, done_by, emit, behind_first, exec, execs, exec_else, at_end, new_run, nests_of}
 use Rattle.tm_meaning.specs.Tree.{Trees}
 use Rattle.tm_meaning.specs.declared.stream.TemplateId.{TemplateId}
 
+-- the loops of scopes
+abbrev pub marks : List Scope → List (Option LoopMark)
+marks [] = []
+marks (s ∷ ss) = s.mark ∷ marks ss
+
+marks_long : (ss : List Scope) → length (marks ss) ≡ length ss
+marks_long [] = refl
+marks_long (s ∷ ss) = ap suc (marks_long ss)
+
+-- records are there still, and perhaps more behind them
+abbrev pub GoesOn : List Loop → List Loop → Type 0
+GoesOn old new = (more : List Loop) × (new ≡ old ++ more)
+
+goes_on_same : (ls : List Loop) → GoesOn ls ls
+goes_on_same ls = ([], sym (append-nil ls))
+
+goes_on_then : (a b c : List Loop) → GoesOn a b → GoesOn b c → GoesOn a c
+goes_on_then a b c (more, e) (most, d) = (more ++ most, d ∙ ap (λ l. l ++ most) e ∙ append_assoc a more most)
+
+front_record : (a b : List Loop) (n : ℕ) (l : Loop) → slice_get a n ≡ Some l → slice_get (a ++ b) n ≡ Some l
+front_record [] b n l e = absurd (cc e)
+front_record (x ∷ a) b zero l e = e
+front_record (x ∷ a) b (suc n) l e = front_record a b n l e
+
 pub record Kept (old new : World) : Type 0 where
-  pub frames : length new.scopes.frames ≡ length old.scopes.frames
+  pub same_marks : marks new.scopes.frames ≡ marks old.scopes.frames
   pub outer : new.scopes.outer ≡ old.scopes.outer
+  pub loops : GoesOn old.loops new.loops
 
 pub kept_same : (w : World) → Kept w w
-kept_same w = record { frames = refl; outer = refl }
+kept_same w = record { same_marks = refl; outer = refl; loops = goes_on_same w.loops }
 
 pub kept_then : {a b c : World} → Kept a b → Kept b c → Kept a c
-kept_then h k = record { frames = k.frames ∙ h.frames; outer = k.outer ∙ h.outer }
+kept_then {a = a} {b = b} {c = c} h k = record { same_marks = k.same_marks ∙ h.same_marks; outer = k.outer ∙ h.outer; loops = goes_on_then a.loops b.loops c.loops h.loops k.loops }
+
+-- as many scopes
+pub kept_frames : {a b : World} → Kept a b → length b.scopes.frames ≡ length a.scopes.frames
+kept_frames {a = a} {b = b} h = sym (marks_long b.scopes.frames) ∙ ap length h.same_marks ∙ marks_long a.scopes.frames
 
 pub kept_depth : {a b : World} → Kept a b → depth b.scopes ≡ depth a.scopes
-kept_depth h = omega (arith, h.frames, h.outer)
+kept_depth h = omega (arith, kept_frames h, h.outer)
+
+-- the record of a number
+pub kept_record : {a b : World} → Kept a b → (n : ℕ) (l : Loop) → slice_get a.loops n ≡ Some l → slice_get b.loops n ≡ Some l
+kept_record {a = a} {b = b} h n l e = ap (λ ls. slice_get ls n) h.loops.1 ∙ front_record a.loops h.loops.0 n l e
 
 abbrev pub Gives : {A : Type 0} → World → Res A → Type 0
 Gives w (Good a world1) = Kept w world1
@@ -63,8 +104,13 @@ pub gives_bind : {A B : Type 0} (w : World) (m : Res A) (g : A → World → Res
 gives_bind w (Good a world1) g h k = gives_then w world1 (g a world1) h (k a world1)
 gives_bind w (Bad chain world1) g h k = tt
 
+-- the same, given what the first part keeps
+pub gives_kept : {A B : Type 0} (w world1 : World) (m : Res A) (g : A → World → Res B) → Gives world1 m → ((a : A) (world2 : World) → Kept world1 world2 → Gives w (g a world2)) → Gives w (bind m g)
+gives_kept w world1 (Good a world2) g h k = k a world2 h
+gives_kept w world1 (Bad chain world2) g h k = tt
+
 fuel_gives : (left : Option ℕ) (w : World) → Gives w (with_fuel left w)
-fuel_gives (Some left) w = record { frames = refl; outer = refl }
+fuel_gives (Some left) w = record { same_marks = refl; outer = refl; loops = goes_on_same w.loops }
 fuel_gives None w = tt
 
 pub tick_gives : (w : World) → Gives w (tick w)
@@ -75,16 +121,16 @@ answered_gives (Ok a) w = kept_same w
 answered_gives (Err chain) w = tt
 
 -- ---------------------------------------------------------------- scopes
-stored_frames : (x : List ℕ) (v : Val) (frames : List Scope) → length (stored_in x v frames) ≡ length frames
-stored_frames x v [] = refl
-stored_frames x v (s ∷ ss) = refl
+stored_marks : (x : List ℕ) (v : Val) (frames : List Scope) → marks (stored_in x v frames) ≡ marks frames
+stored_marks x v [] = refl
+stored_marks x v (s ∷ ss) = refl
 
 pub store_kept : (x : List ℕ) (v : Val) (w : World) → Kept w (store x v w)
-store_kept x v w = record { frames = stored_frames x v w.scopes.frames; outer = refl }
+store_kept x v w = record { same_marks = stored_marks x v w.scopes.frames; outer = refl; loops = goes_on_same w.loops }
 
-without_first_of : (n : ℕ) (frames : List Scope) → length frames ≡ suc n → length (without_first frames) ≡ n
-without_first_of n [] e = absurd (cc e)
-without_first_of n (s ∷ ss) e = omega (arith, e)
+without_first_marks : (m : Option LoopMark) (ms : List (Option LoopMark)) (frames : List Scope) → marks frames ≡ m ∷ ms → marks (without_first frames) ≡ ms
+without_first_marks m ms [] e = absurd (cc e)
+without_first_marks m ms (s ∷ ss) e = ap without_first e
 
 -- a world with one scope more
 abbrev pub within : Scope → World → World
@@ -96,7 +142,7 @@ one_more room s w = choose room (λ _. Good tt (within s w)) (λ _. Bad (Invalid
 
 -- without it, behind what keeps it
 pub kept_popped : (s : Scope) (w world1 : World) → Kept (within s w) world1 → Kept w (pop world1)
-kept_popped s w world1 k = record { frames = without_first_of (length w.scopes.frames) world1.scopes.frames k.frames; outer = k.outer }
+kept_popped s w world1 k = record { same_marks = without_first_marks s.mark (marks w.scopes.frames) world1.scopes.frames k.same_marks; outer = k.outer; loops = k.loops }
 
 -- ---------------------------------------------------------------- outcomes
 ends_by_then : (w world1 : World) (e : Ending) (world2 : World) → Kept w world1 → EndsBy world1 e world2 → EndsBy w e world2
@@ -133,6 +179,14 @@ pub ends_do : (w : World) (run : Run) (o : Outcome) (g : Run → List ℕ → Wo
 unfolding Ends
 ends_do w run o g h k = ends_on_done w run o.ending o.parent o.text o.world g h k
 
+ends_leave : (w : World) (run : Run) (out : List ℕ) → Ends w (ended leave run out w)
+unfolding Ends
+ends_leave w run out = kept_same w
+
+ends_next : (w : World) (run : Run) (out : List ℕ) → Ends w (ended next run out w)
+unfolding Ends
+ends_next w run out = kept_same w
+
 -- what follows from what is kept
 ends_kept : {A : Type 0} (w world1 : World) (m : Res A) (run : Run) (out : List ℕ) (g : A → World → Outcome) → Gives world1 m → ((a : A) (world2 : World) → Kept world1 world2 → Ends w (g a world2)) →
     Ends w (use_it m run out g)
@@ -159,7 +213,88 @@ unfolding Ends
 closing_ends w v close k o h = closing_by_ends w v close k o.ending o.parent o.text o.world h
 
 pub kept_escaped : (e : AutoEscape) {w world1 : World} → Kept w world1 → Kept w (with_escape e world1)
-kept_escaped e k = record { frames = k.frames; outer = k.outer }
+kept_escaped e k = record { same_marks = k.same_marks; outer = k.outer; loops = k.loops }
+
+-- ---------------------------------------------------------------- loops
+without_locals_marks : (frames : List Scope) → marks (without_locals frames) ≡ marks frames
+without_locals_marks [] = refl
+without_locals_marks (s ∷ ss) = refl
+
+pub kept_cleared : {w world1 : World} → Kept w world1 → Kept w (cleared world1)
+kept_cleared {world1 = world1} k = record { same_marks = without_locals_marks world1.scopes.frames ∙ k.same_marks; outer = k.outer; loops = k.loops }
+
+-- the record that is asked for its next item
+pub turned_behind : (a b : List Loop) → turned_at (length a) (a ++ b) ≡ a ++ turned_at 0 b
+turned_behind [] b = refl
+turned_behind (l ∷ ls) b = ap (λ m. l ∷ m) (turned_behind ls b)
+
+-- the mark of a loop whose record stands behind those of a world
+abbrev pub mark_behind : LoopFlags → World → LoopMark
+mark_behind g w = record { number = length w.loops; variable = g.variable }
+
+-- a world with its scope more
+abbrev pub in_loop_of : LoopFlags → World → World
+in_loop_of g w = within (loop_scope (mark_behind g w)) w
+
+pub top_of_marks : (m : Option LoopMark) (ms : List (Option LoopMark)) (frames : List Scope) → marks frames ≡ m ∷ ms → top_mark frames ≡ m
+top_of_marks m ms [] e = absurd (cc e)
+top_of_marks m ms (s ∷ ss) e = cc e
+
+pub kept_turned : (g : LoopFlags) (w world1 : World) → Kept (in_loop_of g w) world1 → Kept (in_loop_of g w) (next_turn world1)
+kept_turned g w world1 k =
+    let top : top_mark world1.scopes.frames ≡ Some (mark_behind g w) = top_of_marks (Some (mark_behind g w)) (marks w.scopes.frames) world1.scopes.frames k.same_marks in
+    let is : next_turn world1 ≡ record world1 { loops = turned_at (length w.loops) world1.loops } = ap (λ m. turned_of m world1) top in
+    let loops : turned_at (length w.loops) world1.loops ≡ w.loops ++ turned_at 0 k.loops.0 = ap (turned_at (length w.loops)) k.loops.1 ∙ turned_behind w.loops k.loops.0 in
+    subst (λ x. Kept (in_loop_of g w) x) (sym is) (record { same_marks = k.same_marks; outer = k.outer; loops = (turned_at 0 k.loops.0, loops) })
+
+-- a world with a loop of these items more
+abbrev pub opened : LoopFlags → World → List Val → World
+opened g w vs = record (in_loop_of g w) { loops = w.loops ++ new_loop vs g w ∷ [] }
+
+pub opened_kept : (g : LoopFlags) (w : World) (vs : List Val) → Kept (in_loop_of g w) (opened g w vs)
+opened_kept g w vs = record { same_marks = refl; outer = refl; loops = (new_loop vs g w ∷ [], refl) }
+
+-- a round's end
+round_end_ends : (w x : World) (run : Run) (f : Run → List ℕ → World → Outcome) → ((run1 : Run) (out1 : List ℕ) (world1 : World) → Kept (in_loop_of for_flags w) world1 → Ends w (f run1 out1 world1)) →
+    (e : Ending) (parent : Option TemplateId) (out : List ℕ) (world1 : World) → Kept (in_loop_of for_flags w) x → EndsBy x e world1 →
+    Ends w (round_end e run (record { ending = e; parent = parent; text = out; world = world1 }) f)
+unfolding Ends
+round_end_ends w x run f k done parent out world1 i h = ends_kept w world1 (tick world1) run out _ (tick_gives world1) (λ _ world2 h2. k run out world2 (kept_then i (kept_then h h2)))
+round_end_ends w x run f k leave parent out world1 i h =
+    ends_kept w world1 (tick world1) run out _ (tick_gives world1) (λ _ world2 h2. kept_popped (loop_scope (mark_behind for_flags w)) w world2 (kept_then i (kept_then h h2)))
+round_end_ends w x run f k next parent out world1 i h = ends_kept w world1 (tick world1) run out _ (tick_gives world1) (λ _ world2 h2. k run out world2 (kept_then i (kept_then h h2)))
+round_end_ends w x run f k (fault chain) parent out world1 i h = tt
+
+round_end_of : (w x : World) (run : Run) (f : Run → List ℕ → World → Outcome) → ((run1 : Run) (out1 : List ℕ) (world1 : World) → Kept (in_loop_of for_flags w) world1 → Ends w (f run1 out1 world1)) →
+    (o : Outcome) → Kept (in_loop_of for_flags w) x → Ends x o → Ends w (round_end o.ending run o f)
+unfolding Ends
+round_end_of w x run f k o i h = round_end_ends w x run f k o.ending o.parent o.text o.world i h
+
+-- A loop's rounds leave what lies around it.
+rounds_end : (w : World) (turn : Val → Run → List ℕ → World → Outcome) → ((v : Val) (run : Run) (out : List ℕ) (x : World) → Ends x (turn v run out x)) →
+    (vs : List Val) (run : Run) (out : List ℕ) (world1 : World) → Kept (in_loop_of for_flags w) world1 → Ends w (rounds turn vs run out world1)
+rounds_end w turn k [] run out world1 i =
+    ends_kept w world1 (tick world1) run out _ (tick_gives world1) (λ _ world2 h.
+    ends_here w (pop (next_turn world2)) run out (kept_popped (loop_scope (mark_behind for_flags w)) w (next_turn world2) (kept_turned for_flags w world2 (kept_then i h))))
+rounds_end w turn k (v ∷ vs) run out world1 i =
+    ends_kept w world1 (tick world1) run out _ (tick_gives world1) (λ _ world2 h.
+    let x = cleared (next_turn world2) in
+    let o = turn v run out x in
+    round_end_of w x (record run { parent = o.parent }) _ (λ run1 out1 world3 j. rounds_end w turn k vs run1 out1 world3 j) o
+    (kept_cleared (kept_turned for_flags w world2 (kept_then i h))) (k v run out x))
+
+abbrev pub recorded : LoopFlags → List Val → World → World → Res (Unit {0})
+recorded g vs w world1 = Good tt (record world1 { loops = world1.loops ++ new_loop vs g w ∷ [] })
+
+opened_ends : (w : World) (vs : List Val) (turn : Val → Run → List ℕ → World → Outcome) → ((v : Val) (run : Run) (out : List ℕ) (x : World) → Ends x (turn v run out x)) →
+    (run : Run) (out : List ℕ) (room : Bool) →
+    Ends w (use_it (bind (one_more room (loop_scope (mark_behind for_flags w)) w) (λ _ world1. recorded for_flags vs w world1)) run out (λ _ world1. rounds turn vs run out world1))
+opened_ends w vs turn k run out true = rounds_end w turn k vs run out _ (opened_kept for_flags w vs)
+opened_ends w vs turn k run out false = ends_fault w w run out (InvalidOperation ∷ [])
+
+pub loop_ends : (host : Host) (w : World) (turn : Val → Run → List ℕ → World → Outcome) → ((v : Val) (run : Run) (out : List ℕ) (x : World) → Ends x (turn v run out x)) →
+    (vs : List Val) (run : Run) (out : List ℕ) → Ends w (loop_over host turn vs run out w)
+loop_ends host w turn k vs run out = opened_ends w vs turn k run out (nat_lt (depth w.scopes) host.limit)
 
 -- behind a capture
 captured_by_ends : (w : World) (run : Run) (out : List ℕ) (f : Run → List ℕ → World → Outcome) → ((run1 : Run) (x : List ℕ) (world1 : World) → Ends world1 (f run1 x world1)) →
@@ -207,15 +342,16 @@ ask_push limit w s true g k = k refl
 ask_push limit w s false g k = tt
 
 -- a scope more, and what stands in it, is one level deeper
-entered_asks : (limit : ℕ) (c : Call) (s : Scope) (w world1 : World) → c.undo ≡ of_block w → world1.scopes ≡ record w.scopes { frames = s ∷ w.scopes.frames } → nat_lt (depth w.scopes) limit ≡ true → Asks limit w (runs c world1)
-entered_asks limit c s w world1 e d room =
+entered_asks : (limit : ℕ) (c : Call) (s : Scope) (w world1 : World) → c.undo ≡ of_block w → world1.scopes ≡ record w.scopes { frames = s ∷ w.scopes.frames } → world1.loops ≡ w.loops → nat_lt (depth w.scopes) limit ≡ true → Asks limit w (runs c world1)
+entered_asks limit c s w world1 e d same room =
     let deep : depth world1.scopes ≡ depth w.scopes + 1 = ap depth d ∙ omega arith in
-    let frames : length world1.scopes.frames ≡ suc (length w.scopes.frames) = ap (λ (x : Scopes). length x.frames) d in (
+    let frames : marks world1.scopes.frames ≡ s.mark ∷ marks w.scopes.frames = ap (λ (x : Scopes). marks x.frames) d in (
       deep,
       omega (arith, deep, ltb-true (depth w.scopes) limit room),
       λ world2 k. subst (λ n. Kept w (undone n world2)) (sym e) (record {
-        frames = without_first_of (length w.scopes.frames) world2.scopes.frames (k.frames ∙ frames);
+        same_marks = without_first_marks s.mark (marks w.scopes.frames) world2.scopes.frames (k.same_marks ∙ frames);
         outer = refl;
+        loops = subst (λ ls. GoesOn ls world2.loops) same k.loops;
       }),
     )
 
@@ -226,14 +362,22 @@ block_asks host b w =
     ask_check host.limit w (not (required_alone host (block_of t b) l)) InvalidOperation _ (
     ask_push host.limit w (plain_scope (undefined false)) (nat_lt (depth w.scopes) host.limit) _ (λ room.
     entered_asks host.limit (record { callee = whole (block_of t b); undo = of_block w; wrap = None }) (plain_scope (undefined false)) w
-    (record (with_frames (plain_scope (undefined false) ∷ w.scopes.frames) w) { stream = block_of t b; block = Some b }) refl refl room))))
+    (record (with_frames (plain_scope (undefined false) ∷ w.scopes.frames) w) { stream = block_of t b; block = Some b }) refl refl refl room))))
 
 replied_asks : (limit : ℕ) (reply : Reply) (w : World) → Asks limit w (replied reply w)
 replied_asks limit (gives v) w = kept_same w
 replied_asks limit (faults chain) w = tt
 
+given_gives : (g : GlobalFunction) (args : List Val) (w : World) → Gives w (given_by g args w)
+given_gives own.Range args w = answered_gives _ w
+given_gives own.Dict args w = gives_bind w (answered (dict_of (records_of w) args) w) _ (answered_gives _ w) (λ ps world1. kept_same world1)
+given_gives own.Namespace args w =
+    gives_bind w (answered (namespace_of (records_of w) args) w) _ (answered_gives _ w) (λ ps world1.
+    let kept : Kept world1 (record world1 { namespaces = world1.namespaces ++ ps ∷ [] }) = record { same_marks = refl; outer = refl; loops = goes_on_same world1.loops } in kept)
+
 by_asks : (host : Host) (f : Function) (args : List Val) (w : World) → Asks host.limit w (call_by host f args w)
-by_asks host (callers f) args w = asks_then host.limit w _ _ (record { frames = refl; outer = refl }) (replied_asks host.limit _ _)
+by_asks host (callers f) args w = asks_then host.limit w _ _ (record { same_marks = refl; outer = refl; loops = goes_on_same w.loops }) (replied_asks host.limit _ _)
+by_asks host (languages g) args w = ask_then host.limit w (given_by g args w) has (given_gives g args w) (λ v world1. kept_same world1)
 
 value_asks : (host : Host) (v : Val) (args : List Val) (w : World) → Asks host.limit w (call_value host v args w)
 value_asks host (function n) args w = ask_need host.limit w (slice_get host.functions n) InvalidOperation (λ f world1. call_by host f args world1) (λ f. by_asks host f args w)
@@ -327,9 +471,10 @@ module _ (u : Under) (nest_ends : (k : Callee) (heard : Bool) (out : List ℕ) (
         gives_bind w (eval_all u run es w) _ (all_give run es w) (λ vs world1. gives_bind world1 (tick world1) _ (tick_gives world1) (λ _ world2. kept_same world2))
     eval_gives run (Map' _ ps) w =
         gives_bind w (eval_pairs u run ps w) _ (pairs_give run ps w) (λ xs world1. gives_bind world1 (tick world1) _ (tick_gives world1) (λ _ world2. kept_same world2))
-    eval_gives run (Call' f _ given) w =
+    eval_gives run (Call' f _ given _ named) w =
         gives_bind w (eval_arguments u run given w) _ (arguments_give run given w) (λ vs world1.
-        gives_bind world1 (tick world1) _ (tick_gives world1) (λ _ world2. value_gives world2 _ (named_asks u.host f vs world2)))
+        gives_bind world1 (eval_named u run named world1) _ (named_give run named world1) (λ ks world2.
+        gives_bind world2 (tick world2) _ (tick_gives world2) (λ _ world3. value_gives world3 _ (named_asks u.host f (vs ++ ks) world3))))
     eval_gives run (unary op a) w =
         gives_bind w (eval u run a w) _ (eval_gives run a w) (λ v world1. gives_bind world1 (tick world1) _ (tick_gives world1) (λ _ world2. unary_gives op v world2))
     eval_gives run (chained a _ ss) w = gives_bind w (eval u run a w) _ (eval_gives run a w) (λ v world1. steps_give run ss v world1)
@@ -371,6 +516,21 @@ module _ (u : Under) (nest_ends : (k : Callee) (heard : Bool) (out : List ℕ) (
         gives_bind w (eval_argument u run a w) _ (argument_gives run a w) (λ v world1.
         gives_bind world1 (eval_arguments u run more world1) _ (arguments_give run more world1) (λ vs world2. kept_same world2))
 
+    pub keyword_gives : (run : Run) (k : Keyword) (w : World) → Gives w (eval_keyword u run k w)
+    keyword_gives run (keyword x a) w =
+        gives_bind w (tick w) _ (tick_gives w) (λ _ world1. gives_bind world1 (eval u run a world1) _ (eval_gives run a world1) (λ v world2. kept_same world2))
+
+    pub keywords_give : {n : _} → (run : Run) (ks : Row_of-Keyword n) (w : World) → Gives w (eval_keywords u run ks w)
+    keywords_give run no_keyword w = kept_same w
+    keywords_give run (with_keyword k more) w =
+        gives_bind w (eval_keyword u run k w) _ (keyword_gives run k w) (λ x world1. gives_bind world1 (eval_keywords u run more world1) _ (keywords_give run more world1) (λ xs world2. kept_same world2))
+
+    pub named_give : {n : _} → (run : Run) (ks : Row_of-Keyword n) (w : World) → Gives w (eval_named u run ks w)
+    named_give run no_keyword w = kept_same w
+    named_give run (with_keyword k more) w =
+        gives_bind w (eval_keyword u run k w) _ (keyword_gives run k w) (λ x world1.
+        gives_bind world1 (eval_keywords u run more world1) _ (keywords_give run more world1) (λ xs world2. gives_bind world2 (tick world2) _ (tick_gives world2) (λ _ world3. kept_same world3)))
+
     pub step_gives : (run : Run) (s : Step) (v : Val) (w : World) → Gives w (eval_step u run s v w)
     step_gives run (Attribute x) v w = gives_bind w (tick w) _ (tick_gives w) (λ _ world1. answered_gives _ world1)
     step_gives run (item a) v w =
@@ -407,7 +567,7 @@ module _ (u : Under) (nest_ends : (k : Callee) (heard : Bool) (out : List ℕ) (
   pub member_gives : (x : List ℕ) (v o : Val) (w : World) → Gives w (set_member x v o w)
   member_gives x v o w =
       gives_bind w (answered (settable (records_of w) o) w) _ (answered_gives _ w) (λ n world1.
-      let kept : Kept world1 (record world1 { namespaces = with_member n x v world1.namespaces }) = record { frames = refl; outer = refl } in kept)
+      let kept : Kept world1 (record world1 { namespaces = with_member n x v world1.namespaces }) = record { same_marks = refl; outer = refl; loops = goes_on_same world1.loops } in kept)
 
   mutual
     pub assign_gives : (run : Run) (t : Target) (v : Val) (w : World) → Gives w (assign u run t v w)
@@ -428,6 +588,51 @@ module _ (u : Under) (nest_ends : (k : Callee) (heard : Bool) (out : List ℕ) (
   pub set_each_gives : (run : Run) (given : List Assignment) (w : World) → Gives w (set_each u run given w)
   set_each_gives run [] w = kept_same w
   set_each_gives run (Given t e ∷ more) w = gives_bind w (set_to u run t e w) _ (set_gives run t e w) (λ _ world1. set_each_gives run more world1)
+
+  -- ---------------------------------------------------------------- items under a condition
+  pub one_counted_gives : (n : ℕ) (w : World) → Gives w (one_counted n w)
+  one_counted_gives n w =
+      gives_bind w (tick w) _ (tick_gives w) (λ _ world1. gives_bind world1 (tick world1) _ (tick_gives world1) (λ _ world2. gives_bind world2 (tick world2) _ (tick_gives world2) (λ _ world3. answered_gives _ world3)))
+
+  -- The pass over items leaves what lies around its loop.
+  pub kept_gives : (w : World) (test : Val → World → Res Val) → ((v : Val) (x : World) → Gives x (test v x)) → (n : ℕ) (vs : List Val) (x : World) → Kept (in_loop_of filter_flags w) x →
+      Gives w (kept u.host test n vs x)
+  kept_gives w test given n [] x i =
+      gives_kept w x (tick x) _ (tick_gives x) (λ _ world1 h.
+      kept_popped (loop_scope (mark_behind filter_flags w)) w (next_turn world1) (kept_turned filter_flags w world1 (kept_then i h)))
+  kept_gives w test given n (v ∷ vs) x i =
+      gives_kept w x (tick x) _ (tick_gives x) (λ _ world1 h1.
+      let y = cleared (next_turn world1) in
+      let kept_y : Kept (in_loop_of filter_flags w) y = kept_cleared (kept_turned filter_flags w world1 (kept_then i h1)) in
+      gives_kept w y (test v y) _ (given v y) (λ c world2 h2.
+      gives_kept w world2 (tick world2) _ (tick_gives world2) (λ _ world3 h3.
+      gives_kept w world3 (truth u.host c world3) _ (answered_gives _ world3) (λ b world4 h4.
+      let kept4 = kept_then kept_y (kept_then h2 (kept_then h3 h4)) in
+      choose_gives w b _ _
+      (gives_kept w world4 (one_counted n world4) _ (one_counted_gives n world4) (λ _ world5 h5.
+      gives_kept w world5 (tick world5) _ (tick_gives world5) (λ _ world6 h6.
+      gives_bind w (kept u.host test (n + 1) vs world6) _ (kept_gives w test given (n + 1) vs world6 (kept_then kept4 (kept_then h5 h6))) (λ us world7. kept_same world7))))
+      (gives_kept w world4 (tick world4) _ (tick_gives world4) (λ _ world5 h5. kept_gives w test given n vs world5 (kept_then kept4 h5)))))))
+
+  -- what stands in a loop that was opened, where there is room for it
+  opened_gives : {A : Type 0} (g : LoopFlags) (w : World) (vs : List Val) (room : Bool) (rest : World → Res A) → Gives w (rest (opened g w vs)) →
+      Gives w (bind (bind (one_more room (loop_scope (mark_behind g w)) w) (λ _ world1. recorded g vs w world1)) (λ _ x. rest x))
+  opened_gives g w vs true rest k = k
+  opened_gives g w vs false rest k = tt
+
+  pub test_gives : (run : Run) (t : Target) (c : Expr) (v : Val) (w : World) → Gives w (bind (assign u run t v w) (λ _ world1. eval u run c world1))
+  test_gives run t c v w = gives_bind w (assign u run t v w) _ (assign_gives run t v w) (λ _ world1. eval_gives run c world1)
+
+  pub loop_items_give : (run : Run) (t : Target) (e : Expr) (c : Option Expr) (w : World) → Gives w (loop_items u run t e c w)
+  loop_items_give run t e None w = gives_bind w (eval u run e w) _ (eval_gives run e w) (λ v world1. answered_gives _ world1)
+  loop_items_give run t e (Some c) w =
+      gives_bind w (tick w) _ (tick_gives w) (λ _ world1.
+      gives_bind world1 (eval u run e world1) _ (eval_gives run e world1) (λ v world2.
+      gives_bind world2 (items_over u.host v world2) _ (answered_gives _ world2) (λ vs world3.
+      opened_gives filter_flags world3 vs (nat_lt (depth world3.scopes) u.host.limit) _
+      (gives_bind world3 (kept u.host (λ x world5. bind (assign u run t x world5) (λ _ world6. eval u run c world6)) 0 vs (opened filter_flags world3 vs)) _
+      (kept_gives world3 _ (λ x world5. test_gives run t c x world5) 0 vs (opened filter_flags world3 vs) (opened_kept filter_flags world3 vs)) (λ us world5.
+      gives_bind world5 (tick world5) _ (tick_gives world5) (λ _ world6. kept_same world6))))))
 
   emit_ends : (run : Run) (out : List ℕ) (v : Val) (w : World) → Ends w (emit u run out v w)
   emit_ends run out v w =
@@ -457,6 +662,13 @@ module _ (u : Under) (nest_ends : (k : Callee) (heard : Bool) (out : List ℕ) (
         ends_within w s (nat_lt (depth w.scopes) u.host.limit) run out _
         (ends_kept w (within s w) (set_each u run given (within s w)) run out _ (set_each_gives run given (within s w)) (λ _ world2 k.
         closing_ends w (within s w) pop (kept_popped s w) (execs u body run out world2) (ends_then (within s w) world2 (execs u body run out world2) k (execs_end body run out world2))))
+    exec_ends (For' t e c _ body other) run out w =
+        ends_use w (loop_items u run t e c w) run out _ (loop_items_give run t e c w) (λ vs world1.
+        ends_do world1 run (loop_over u.host (λ item run1 out1 world2. use_it (assign u run1 t item world2) run1 out1 (λ _ world3. execs u body run1 out1 world3)) vs run out world1) _
+        (loop_ends u.host world1 _ (λ item run1 out1 world2. ends_use world2 (assign u run1 t item world2) run1 out1 _ (assign_gives run1 t item world2) (λ _ world3. execs_end body run1 out1 world3)) vs run out)
+        (λ run1 out1 world2. behind_loop_ends other (has_none vs) run1 out1 world2))
+    exec_ends Break run out w = ends_leave w run out
+    exec_ends Continue run out w = ends_next w run out
     exec_ends (SetBlock' t _ body) run out w =
         captured_ends w run out (execs u body (capturing true run) [] w) _ (execs_end body (capturing true run) [] w) (λ run1 x world1.
         ends_use world1 (tick world1) run1 out _ (tick_gives world1) (λ _ world2.
@@ -476,11 +688,21 @@ module _ (u : Under) (nest_ends : (k : Callee) (heard : Bool) (out : List ℕ) (
     else_ends no_else run out w = ends_here w w run out (kept_same w)
     else_ends (otherwise _ body) run out w = execs_end body run out w
 
+    pub behind_loop_ends : (other : Otherwise) (none_taken : Bool) (run : Run) (out : List ℕ) (w : World) → Ends w (exec_behind_loop u other none_taken run out w)
+    behind_loop_ends no_else none_taken run out w = ends_here w w run out (kept_same w)
+    behind_loop_ends (otherwise _ body) none_taken run out w =
+        ends_use w (tick w) run out _ (tick_gives w) (λ _ world1. choose_ends world1 none_taken _ _ (execs_end body run out world1) (ends_here world1 world1 run out (kept_same world1)))
+
+done_by_ends : (w world1 : World) (m : Res (Unit {0})) (o : Outcome) → Kept w world1 → Gives world1 m → Ends w (done_by m o)
+unfolding Ends
+done_by_ends w world1 (Good _ world2) o h k = kept_then h k
+done_by_ends w world1 (Bad chain world2) o h k = tt
+
 at_end_ends : (w : World) (e : Ending) (parent : Option TemplateId) (out : List ℕ) (world1 : World) → EndsBy w e world1 → Ends w (at_end e (record { ending = e; parent = parent; text = out; world = world1 }))
 unfolding Ends
 at_end_ends w done parent out world1 h = h
-at_end_ends w leave parent out world1 h = h
-at_end_ends w next parent out world1 h = h
+at_end_ends w leave parent out world1 h = done_by_ends w world1 (tick world1) (record { ending = leave; parent = parent; text = out; world = world1 }) h (tick_gives world1)
+at_end_ends w next parent out world1 h = done_by_ends w world1 (tick world1) (record { ending = next; parent = parent; text = out; world = world1 }) h (tick_gives world1)
 at_end_ends w (fault chain) parent out world1 h = tt
 
 pub ends_as : (w : World) (o : Outcome) → Ends w o → EndsBy w o.ending o.world

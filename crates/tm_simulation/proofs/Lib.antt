@@ -1,5 +1,6 @@
 pub mod Place
 pub mod Keeps
+pub mod Loops
 pub mod Follow
 pub mod Forms
 pub mod Simulation

@@ -14,6 +14,13 @@ pub has_front : (all : List Instruction) (pc : ℕ) (a b : List Instruction) →
 has_front all pc [] b h = tt
 has_front all pc (i ∷ a) b h = (h.0, has_front all (pc + 1) a b h.1)
 
+-- two parts, one behind the other
+pub has_both : (all : List Instruction) (pc : ℕ) (a b : List Instruction) → HasAt all pc a → HasAt all (pc + length a) b → HasAt all pc (a ++ b)
+has_both all pc [] b h k = let e : pc + 0 ≡ pc = omega arith in subst (λ n. HasAt all n b) e k
+has_both all pc (i ∷ a) b h k =
+    let e : pc + length (i ∷ a) ≡ pc + 1 + length a = omega arith in
+    (h.0, has_both all (pc + 1) a b h.1 (subst (λ n. HasAt all n b) e k))
+
 -- what stands behind them
 pub has_behind : (all : List Instruction) (pc : ℕ) (a b : List Instruction) → HasAt all pc (a ++ b) → HasAt all (pc + length a) b
 has_behind all pc [] b h = let e : pc ≡ pc + 0 = omega arith in subst (λ n. HasAt all n b) e h

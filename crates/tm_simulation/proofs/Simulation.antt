@@ -1,43 +1,49 @@
 -- The code of trees comes to what the trees mean.
 use Rattle.std.proofs.Common.{◌≡◌, ℕ, zero, suc, ◌+◌, ◌<◌, ◌≤◌, ◌⊎◌, inl, inr, List, [], ◌∷◌, ◌++◌, length, Option, Some, None, Bool, true, false, refl, sym, ap, ◌∙◌, subst, arith, length-append, eq-eqb, lt-ltb, eqb-true}
-use Rattle.std.specs.Prelude.{slice_get, ◌&&◌, nat_eq, nat_lt, ◌==◌, cond, Ok, Err}
+use Rattle.std.specs.Prelude.{ℤ, pos, slice_get, ◌&&◌, nat_eq, nat_lt, ◌==◌, cond, Ok, Err}
 use Rattle.std.proofs.lemmas.List.{append-nil}
 use Rattle.std.proofs.lemmas.Option.{slice_get_past}
 use Rattle.tm_values.specs.Answer.{Answer}
-use Rattle.tm_values.specs.Val.{Val, undefined}
+use Rattle.tm_values.specs.Val.{Val, undefined, boolean, number, text, vals_of, list_of}
+use Rattle.tm_values.specs.declared.escape.AutoEscape.{AutoEscape}
 use Rattle.tm_values.specs.declared.error.ErrorKind.TheVariants.{CannotUnpack}
 use Rattle.tm_operations.specs.Iteration.{exactly}
+use Rattle.tm_operations.specs.Arithmetic.{added, number_answer}
 use Rattle.tm_syntax.specs.declared.tree.UnaryOperator.{UnaryOperator}
 use Rattle.tm_syntax.specs.declared.tree.UnaryOperator.TheVariants as unaries
 use Rattle.tm_syntax.specs.declared.tree.BinaryOperator.{BinaryOperator}
 use Rattle.tm_syntax.specs.declared.tree.BinaryOperator.TheVariants as binaries
-use Rattle.tm_syntax.specs.declared.tree.Expr.{Expr, Var, Const, List', Tuple', Map', Call', Row_of-Expr, end_of-Expr as no_expr, more_of-Expr as expr, Row_of-Pair, end_of-Pair as no_pair, more_of-Pair as with_pair, Row_of-Argument, end_of-Argument as no_argument, more_of-Argument as argument, Row_of-Step, end_of-Step as no_step, more_of-Step as step_and, Row_of-Condition, end_of-Condition as no_condition, more_of-Condition as with_condition}
+use Rattle.tm_syntax.specs.declared.tree.Expr.{Expr, Var, Const, List', Tuple', Map', Call', Row_of-Expr, end_of-Expr as no_expr, more_of-Expr as expr, Row_of-Pair, end_of-Pair as no_pair, more_of-Pair as with_pair, Row_of-Argument, end_of-Argument as no_argument, more_of-Argument as argument, Row_of-Keyword, end_of-Keyword as no_keyword, more_of-Keyword as with_keyword, Row_of-Step, end_of-Step as no_step, more_of-Step as step_and, Row_of-Condition, end_of-Condition as no_condition, more_of-Condition as with_condition}
 use Rattle.tm_syntax.specs.declared.tree.Argument.{Argument}
+use Rattle.tm_syntax.specs.declared.tree.Keyword.{Keyword}
 use Rattle.tm_syntax.specs.declared.tree.Pair.{Pair}
 use Rattle.tm_syntax.specs.declared.tree.Condition.{Condition}
 use Rattle.tm_syntax.specs.declared.tree.Step.{Step, Attribute, Row_of-Comparison, end_of-Comparison as no_comparison, more_of-Comparison as with_comparison}
 use Rattle.tm_syntax.specs.declared.tree.Target.{Target, Name as To, Unpack' as Items, Attribute as Member, Row_of-Target, end_of-Target as no_target, more_of-Target as target}
 use Rattle.tm_syntax.specs.declared.tree.Assignment.{Assignment}
 use Rattle.tm_syntax.specs.declared.tree.Assignment.TheVariants.{Assignment as Given}
-use Rattle.tm_syntax.specs.declared.tree.Stmt.{Stmt, EmitRaw, EmitExpr, If', Block', Set, SetBlock', With', Do, AutoEscape', Row_of-Stmt, end_of-Stmt as no_statement, more_of-Stmt as statement, Held-Stmt-If-2 as Otherwise, None' as no_else, Some' as otherwise}
+use Rattle.tm_syntax.specs.declared.tree.Stmt.{Stmt, EmitRaw, EmitExpr, If', For', Break, Continue, Block', Set, SetBlock', With', Do, AutoEscape', Row_of-Stmt, end_of-Stmt as no_statement, more_of-Stmt as statement, Held-Stmt-If-2 as Otherwise, None' as no_else, Some' as otherwise}
 use Rattle.tm_syntax.specs.declared.instruction.CaptureMode.TheVariants.{Capture}
+use Rattle.tm_syntax.specs.declared.instruction.LoopFlags.{LoopFlags}
 use Rattle.tm_syntax.specs.declared.instruction.Instruction.{Instruction}
 use Rattle.tm_syntax.specs.declared.instruction.Instruction.TheVariants as i
-use Rattle.tm_syntax.specs.Forms.{unary, chained, conditional, condition, comparison, pair, plain, item, slice, binary, compare, and_then, or_else}
-use Rattle.tm_syntax.specs.Code.{expr_code, condition_code, conditions_code, exprs_code, pair_code, pairs_code, argument_code, arguments_code, step_code, links_code, steps_code, count, count_exprs, count_pairs, unary_code, binary_code, count_targets, target_code, targets_code, set_code, assignments_code, statement_code, statements_code, otherwise_code, jump_over}
-use Rattle.tm_meaning.specs.World.{choose, World, Scope, Host, Res, Good, Bad, bind, tick, depth, push, pop, plain as plain_scope, items_of, set_member, answered, emitted, looked_up, escape_for, with_escape, captured_text}
+use Rattle.tm_syntax.specs.Forms.{unary, chained, conditional, condition, comparison, pair, plain, keyword, item, slice, binary, compare, and_then, or_else}
+use Rattle.tm_syntax.specs.Code.{expr_code, condition_code, conditions_code, exprs_code, pair_code, pairs_code, argument_code, arguments_code, keyword_code, keywords_code, named_code, count_keywords, together, filter_code, iterable_code, filter_flags, step_code, links_code, steps_code, count, count_exprs, count_pairs, unary_code, binary_code, count_targets, target_code, targets_code, set_code, assignments_code, Opened, a_scope, an_escape, a_capture, Inside, outside, opening, close_all, for_flags, statement_code, statements_code, otherwise_code, behind_loop_code, jump_over}
+use Rattle.tm_syntax.proofs.Long.{statements_long}
+use Rattle.tm_meaning.specs.World.{choose, World, Scope, Loop, Host, loop_scope, new_loop, open_loop, turned, next_turn, cleared, top_mark, top_loop, items_over, Res, Good, Bad, bind, tick, depth, push, pop, plain as plain_scope, items_of, set_member, answered, emitted, looked_up, escape_for, with_escape, captured_text}
 use Rattle.tm_meaning.specs.Calls.{Callee, whole, Call, Asked, has, refused, runs, enter_block, call_named}
 use Rattle.tm_meaning.specs.Tree.{Trees, Body}
-use Rattle.tm_meaning.specs.Meaning.{Run, Outcome, Ending, done, leave, next, fault, Nests, Under, so_far, say, use_it, then_do, value_of, in_place_of, block_tag, truth, applied_unary, operated, applied, attribute, item_at, slice_of, list_of_values, map_of_pairs, audible as heard_here, none_waits, eval, eval_all, eval_pair, eval_pairs, eval_argument, eval_arguments, eval_condition, eval_conditions, eval_step, eval_links, eval_steps, assign, assign_all, set_to, set_each, closing, capturing, captured, emit, behind_first, exec, execs, exec_else, new_run, at_end, stream_run, nests_of, rendered}
+use Rattle.tm_meaning.specs.Meaning.{Run, Outcome, Ending, done, leave, next, fault, Nests, Under, so_far, say, use_it, then_do, value_of, in_place_of, block_tag, truth, applied_unary, operated, applied, attribute, item_at, slice_of, list_of_values, map_of_pairs, audible as heard_here, none_waits, eval, eval_all, eval_pair, eval_pairs, eval_argument, eval_arguments, eval_keyword, eval_keywords, eval_named, keyword_map, one_counted, kept, loop_items, eval_condition, eval_conditions, eval_step, eval_links, eval_steps, assign, assign_all, set_to, set_each, closing, capturing, captured, rounds, loop_over, has_none, exec_behind_loop, done_by, emit, behind_first, exec, execs, exec_else, new_run, at_end, stream_run, nests_of, rendered}
 use Rattle.tm_meaning.specs.Machine.{Activation, Config, Finished, Failed, Stuck, Next, More, Over, Program, after, goes, taken, on_taken, asked, asked_in_place, base_of, start, run_from, stuck, audible, with_world}
-use Rattle.tm_meaning.specs.Instructions.{binary_of, paired, end_capture_of, replacing}
+use Rattle.tm_meaning.specs.Instructions.{binary_of, paired, end_capture_of, replacing, is_no_loop, on_loop, iterate_of, iterate_with, push_did_not_iterate_of, pop_loop_with, looping}
 use Rattle.tm_meaning.specs.Steps.{act, step, closed, finish, Final, final, Leads, over}
 use Rattle.tm_meaning.specs.Compiled.{IsCompiled, code_of}
 use Rattle.tm_meaning.proofs.Ends.{one_end}
 use Rattle.tm_simulation.specs.Reached.{final_by, final_of, Renders}
-use Rattle.tm_simulation.proofs.Place.{HasAt, has_front, has_behind, has_whole}
-use Rattle.tm_simulation.proofs.Keeps.{Kept, kept_depth, kept_same, Gives, EndsBy as EndsKept, Ends as KeptEnds, ends_as, tick_gives, answered_gives, Asks, block_asks, named_asks, eval_gives, condition_gives, all_give, pair_gives, pairs_give, argument_gives, arguments_give, step_gives, steps_give, unary_gives, binary_gives, looked_up_gives, within, kept_escaped, assign_gives, set_gives, set_each_gives, exec_ends, execs_end, nests_end}
-use Rattle.tm_simulation.proofs.Follow.{Bed, air, inside, captures_of, told_by, Spot, told, cfg, later, Follows, Then, Ends, whole_of, follows_map, follows_bind, bind_then, use_then, so_far_then, fault_then, do_then, within_then, Closed, closed_then, captured_in, Dropped, captured_then, ends_map, Go, silent, at, after_then, move, pushes, choose_then, choose_ends}
+use Rattle.tm_simulation.proofs.Place.{HasAt, has_front, has_behind, has_both, has_whole}
+use Rattle.tm_simulation.proofs.Loops.{LeftOf, seam_some, next_item, no_item, left_then, turned_items, top_loop_is, next_record, none_is}
+use Rattle.tm_simulation.proofs.Keeps.{Kept, marks, kept_frames, kept_depth, kept_same, kept_then, kept_record, kept_popped, kept_cleared, kept_turned, top_of_marks, mark_behind, in_loop_of, opened, opened_kept, loop_ends, ends_use, Gives, EndsBy as EndsKept, Ends as KeptEnds, ends_as, tick_gives, answered_gives, Asks, block_asks, named_asks, eval_gives, condition_gives, all_give, pair_gives, pairs_give, argument_gives, arguments_give, keyword_gives, keywords_give, named_give, one_counted_gives, kept_gives, test_gives, loop_items_give, recorded, step_gives, steps_give, unary_gives, binary_gives, looked_up_gives, within, kept_escaped, assign_gives, set_gives, set_each_gives, exec_ends, execs_end, nests_end}
+use Rattle.tm_simulation.proofs.Follow.{follows_map_kept, bound_follows, ends_map_kept, leave_then, next_then, Goes, round_then, opened_then, opened_follows, Bed, air, inside, captures_of, told_by, Spot, told, cfg, later, Follows, Then, Ends, whole_of, follows_map, follows_bind, bind_then, use_then, so_far_then, fault_then, do_then, within_then, Closed, closed_then, captured_in, Dropped, captured_then, ends_map, Go, silent, at, after_then, move, pushes, choose_then, choose_ends}
 use Rattle.tm_simulation.proofs.Forms.{Fits, Stands, fits_captured, audible_is, writes_then, end_by, end_of, Entered, call_in_place, call_as_value}
 use Rattle.tm_meaning.specs.declared.stream.TemplateId.{TemplateId}
 use Rattle.tm_meaning.specs.declared.stream.StreamId.{StreamId}
@@ -48,6 +54,10 @@ use Rattle.tm_meaning.specs.declared.base.Base.{Base}
 abbrev pub onto : List Val → List Val → List Val
 onto [] stack = stack
 onto (v ∷ vs) stack = onto vs (v ∷ stack)
+
+onto_both : (vs ks stack : List Val) → onto (vs ++ ks) stack ≡ onto ks (onto vs stack)
+onto_both [] ks stack = refl
+onto_both (v ∷ vs) ks stack = onto_both vs ks (v ∷ stack)
 
 taken_onto : (vs : List Val) (m : ℕ) (acc stack : List Val) → taken (length vs + m) acc (onto vs stack) ≡ taken m (vs ++ acc) stack
 taken_onto [] m acc stack = let e : 0 + m ≡ m = omega arith in ap (λ k. taken k acc stack) e
@@ -77,6 +87,16 @@ arguments_long : {n : _} → (u : Under) (run : Run) (given : Row_of-Argument n)
 arguments_long u run no_argument w = refl
 arguments_long u run (argument a more) w =
     long_bind _ (eval_argument u run a w) _ (λ v world1. long_more v (count more) (eval_arguments u run more world1) (arguments_long u run more world1))
+
+keywords_long : {n : _} → (u : Under) (run : Run) (ks : Row_of-Keyword n) (w : World) → IsLong (count_keywords ks) (eval_keywords u run ks w)
+keywords_long u run no_keyword w = refl
+keywords_long u run (with_keyword x more) w =
+    long_bind _ (eval_keyword u run x w) _ (λ y world1. long_more y (count_keywords more) (eval_keywords u run more world1) (keywords_long u run more world1))
+
+named_long : {n : _} → (u : Under) (run : Run) (ks : Row_of-Keyword n) (w : World) → IsLong (together ks) (eval_named u run ks w)
+named_long u run no_keyword w = refl
+named_long u run (with_keyword x more) w =
+    long_bind _ (eval_keyword u run x w) _ (λ y world1. long_bind _ (eval_keywords u run more world1) _ (λ ys world2. long_bind _ (tick world2) _ (λ _ world3. refl)))
 
 all_long : {n : _} → (u : Under) (run : Run) (es : Row_of-Expr n) (w : World) → IsLong (count_exprs es) (eval_all u run es w)
 all_long u run no_expr w = refl
@@ -127,6 +147,20 @@ links_long end to pc op (with_comparison (comparison op1 a) more) =
     let place = pc + 2 + length c in
     omega (arith, length-append c (links_code end place op1 more), length-append c (links_code to place op1 more), links_long end to place op1 more)
 
+-- one more than a count, where that is a number still
+counted_by : (r : Final) (t : List ℕ) (z : ℤ) (fits : Bool) (w : World) (K L : Val → World → Type 0) → Follows r t (answered (number_answer (cond fits (Some z) None)) w) K → (K (number z) w → L (number z) w) →
+    Follows r t (answered (number_answer (cond fits (Some z) None)) w) L
+counted_by r t z true w K L h k = k h
+counted_by r t z false w K L h k = h
+
+one_more_then : (r : Final) (t : List ℕ) (n : ℕ) (w : World) (K L : Val → World → Type 0) → Follows r t (answered (added (number (pos n)) (number (pos 1))) w) K → (K (number (pos (n + 1))) w → L (number (pos (n + 1))) w) →
+    Follows r t (answered (added (number (pos n)) (number (pos 1))) w) L
+one_more_then r t n w K L h k = counted_by r t (pos (n + 1)) _ w K L h k
+
+items_back : (vs : List Val) → list_of (vals_of vs) ≡ vs
+items_back [] = refl
+items_back (v ∷ vs) = ap (λ us. v ∷ us) (items_back vs)
+
 -- the run of a meaning, with the parent that waits at a spot
 abbrev as_at : Run → Spot → Run
 as_at run s = record run { parent = s.parent }
@@ -149,7 +183,7 @@ module _ (p : Program) (f : Base) (r : Final) (trees : Trees) (n : ℕ)
   Deep w = (p.host.limit + 1 ≤ suc n + depth w.scopes) × (f.scopes ≤ length w.scopes.frames)
 
   deep_kept : {w world1 : World} → Kept w world1 → Deep w → Deep world1
-  deep_kept k d = (omega (arith, kept_depth k, d.0), omega (arith, k.frames, d.1))
+  deep_kept k d = (omega (arith, kept_depth k, d.0), omega (arith, kept_frames k, d.1))
 
   deep_within : (a : Scope) (w : World) → Deep w → Deep (within a w)
   deep_within a w d = (omega (arith, d.0), omega (arith, d.1))
@@ -245,7 +279,7 @@ module _ (p : Program) (f : Base) (r : Final) (trees : Trees) (n : ℕ)
         silent p f r (told s) _ h1)))
     expr_runs (List' _ es) run s pc stack w d is h =
         let c = exprs_code pc es in
-        let last = i.BuildList (count_exprs es) in
+        let last = i.BuildList (Some (count_exprs es)) in
         let behind = has_behind (p.code s.run.stream) pc c (last ∷ []) is in
         let place : pc + length c + 1 ≡ pc + length (c ++ last ∷ []) = omega (arith, length-append c (last ∷ [])) in
         exprs_run es run s pc stack w d (has_front (p.code s.run.stream) pc c _ is)
@@ -275,17 +309,28 @@ module _ (p : Program) (f : Base) (r : Final) (trees : Trees) (n : ℕ)
         (after_then p f r (told s) (tick world1) _ (bind_then r (told s) world1 (tick world1) _ _ _ (tick_gives world1) h1 (λ _ world2 k2 h2.
         built_then (λ vs. map_of_pairs (paired vs)) s (pc + length c) (n + n) (flat xs) stack world2 (flat_long n xs l)
         (subst (λ ys. Go p f r s (pc + length c + 1) (map_of_pairs ys ∷ stack) world2) (sym (paired_flat xs)) (move p f r s _ _ (map_of_pairs xs ∷ stack) world2 place h2)))))))
-    expr_runs (Call' g _ given) run s pc stack w d is h =
+    expr_runs (Call' g _ given _ named) run s pc stack w d is h =
+        let all = p.code s.run.stream in
         let c = arguments_code pc given in
-        let behind = has_behind (p.code s.run.stream) pc c (i.CallFunction g (count given) ∷ []) is in
-        let place : pc + length c + 1 ≡ pc + length (c ++ i.CallFunction g (count given) ∷ []) = omega (arith, length-append c (i.CallFunction g (count given) ∷ [])) in
-        arguments_run given run s pc stack w d (has_front (p.code s.run.stream) pc c _ is)
+        let kc = named_code (pc + length c) named in
+        let n = count given + together named in
+        let last = i.CallFunction g n in
+        let front = has_front all pc (c ++ kc) (last ∷ []) is in
+        let behind = has_behind all pc (c ++ kc) (last ∷ []) is in
+        let there : pc + length c + length kc ≡ pc + length (c ++ kc) = omega (arith, length-append c kc) in
+        let place : pc + length (c ++ kc) + 1 ≡ pc + length ((c ++ kc) ++ last ∷ []) = omega (arith, length-append (c ++ kc) (last ∷ [])) in
+        arguments_run given run s pc stack w d (has_front all pc c kc front)
         (bind_long r (told s) w (count given) (eval_arguments u run given w) _ _ _ (arguments_give u nest_ends run given w) (arguments_long u run given w) h (λ vs world1 k l h1.
-        at p f r (i.CallFunction g (count given)) s (pc + length c) (onto vs stack) world1 behind.0
-        (after_then p f r (told s) (tick world1) _ (bind_then r (told s) world1 (tick world1) _ _ _ (tick_gives world1) h1 (λ _ world2 k2 h2.
-        subst (λ t. Leads p f (told s) (on_taken t world2 (λ xs rest. asked (cfg s (pc + length c) (onto vs stack) world2) rest (call_named p.host g xs world2))) r) (sym (taken_all vs (count given) stack l))
-        (asked_then s (pc + length c) stack (onto vs stack) world2 world2 (call_named p.host g vs world2) (named_asks p.host g vs world2) (deep_kept k2 (deep_kept k d))
-        (follows_map r (told s) (value_of u (call_named p.host g vs world2)) _ _ h2 (λ v world3 g3. move p f r s _ _ (v ∷ stack) world3 place g3))))))))
+        named_runs named run s (pc + length c) (onto vs stack) world1 (deep_kept k d) (has_behind all pc c kc front)
+        (bind_long r (told s) world1 (together named) (eval_named u run named world1) _ _ _ (named_give u nest_ends run named world1) (named_long u run named world1) h1 (λ ks world2 k2 l2 h2.
+        let long : length (vs ++ ks) ≡ n = omega (arith, length-append vs ks, l, l2) in
+        move p f r s _ _ (onto ks (onto vs stack)) world2 there
+        (subst (λ us. Go p f r s (pc + length (c ++ kc)) us world2) (onto_both vs ks stack)
+        (at p f r last s (pc + length (c ++ kc)) (onto (vs ++ ks) stack) world2 behind.0
+        (after_then p f r (told s) (tick world2) _ (bind_then r (told s) world2 (tick world2) _ _ _ (tick_gives world2) h2 (λ _ world3 k3 h3.
+        subst (λ t. Leads p f (told s) (on_taken t world3 (λ xs rest. asked (cfg s (pc + length (c ++ kc)) (onto (vs ++ ks) stack) world3) rest (call_named p.host g xs world3))) r) (sym (taken_all (vs ++ ks) n stack long))
+        (asked_then s (pc + length (c ++ kc)) stack (onto (vs ++ ks) stack) world3 world3 (call_named p.host g (vs ++ ks) world3) (named_asks p.host g (vs ++ ks) world3) (deep_kept k3 (deep_kept k2 (deep_kept k d)))
+        (follows_map r (told s) (value_of u (call_named p.host g (vs ++ ks) world3)) _ _ h3 (λ v world4 g3. move p f r s _ _ (v ∷ stack) world4 place g3))))))))))))
     expr_runs (unary op a) run s pc stack w d is h =
         let c = expr_code pc a in
         let behind = has_behind (p.code s.run.stream) pc c (unary_code op ∷ []) is in
@@ -397,6 +442,55 @@ module _ (p : Program) (f : Base) (r : Final) (trees : Trees) (n : ℕ)
         arguments_run more run s (pc + length c) (v ∷ stack) world1 (deep_kept k d) (has_behind (p.code s.run.stream) pc c rest is)
         (bind_then r (told s) world1 (eval_arguments u run more world1) _ _ _ (arguments_give u nest_ends run more world1) h1 (λ vs world2 k2 g.
         move p f r s _ _ (onto vs (v ∷ stack)) world2 place g))))
+
+    -- A keyword's code pushes its name and then its value.
+    keyword_runs : (x : Keyword) (run : Run) (s : Spot) (pc : ℕ) (stack : List Val) (w : World) → Deep w → HasAt (p.code s.run.stream) pc (keyword_code pc x) →
+        Follows r (told s) (eval_keyword u run x w) (λ y world1. Go p f r s (pc + length (keyword_code pc x)) (y.1 ∷ y.0 ∷ stack) world1) → Go p f r s pc stack w
+    keyword_runs (keyword x a) run s pc stack w d is h =
+        let place : pc + 1 + length (expr_code (pc + 1) a) ≡ pc + suc (length (expr_code (pc + 1) a)) = omega arith in
+        at p f r (i.LoadConst (text x false)) s pc stack w is.0 (after_then p f r (told s) (tick w) _ (bind_then r (told s) w (tick w) _ _ _ (tick_gives w) h (λ _ world1 k h1.
+        silent p f r (told s) _
+        (expr_runs a run s (pc + 1) (text x false ∷ stack) world1 (deep_kept k d) is.1
+        (bind_then r (told s) world1 (eval u run a world1) _ _ _ (eval_gives u nest_ends run a world1) h1 (λ v world2 k2 g.
+        move p f r s _ _ (v ∷ text x false ∷ stack) world2 place g))))))
+
+    keywords_run : {m : _} → (ks : Row_of-Keyword m) (run : Run) (s : Spot) (pc : ℕ) (stack : List Val) (w : World) → Deep w → HasAt (p.code s.run.stream) pc (keywords_code pc ks) →
+        Follows r (told s) (eval_keywords u run ks w) (λ xs world1. Go p f r s (pc + length (keywords_code pc ks)) (onto (flat xs) stack) world1) → Go p f r s pc stack w
+    keywords_run no_keyword run s pc stack w d is h = move p f r s pc (pc + 0) stack w (omega arith) h
+    keywords_run (with_keyword x more) run s pc stack w d is h =
+        let c = keyword_code pc x in
+        let rest = keywords_code (pc + length c) more in
+        let place : pc + length c + length rest ≡ pc + length (c ++ rest) = omega (arith, length-append c rest) in
+        keyword_runs x run s pc stack w d (has_front (p.code s.run.stream) pc c rest is)
+        (bind_then r (told s) w (eval_keyword u run x w) _ _ _ (keyword_gives u nest_ends run x w) h (λ y world1 k h1.
+        keywords_run more run s (pc + length c) (y.1 ∷ y.0 ∷ stack) world1 (deep_kept k d) (has_behind (p.code s.run.stream) pc c rest is)
+        (bind_then r (told s) world1 (eval_keywords u run more world1) _ _ _ (keywords_give u nest_ends run more world1) h1 (λ ys world2 k2 g.
+        move p f r s _ _ (onto (flat ys) (y.1 ∷ y.0 ∷ stack)) world2 place g))))
+
+    -- keywords become one argument
+    named_runs : {m : _} → (ks : Row_of-Keyword m) (run : Run) (s : Spot) (pc : ℕ) (stack : List Val) (w : World) → Deep w → HasAt (p.code s.run.stream) pc (named_code pc ks) →
+        Follows r (told s) (eval_named u run ks w) (λ vs world1. Go p f r s (pc + length (named_code pc ks)) (onto vs stack) world1) → Go p f r s pc stack w
+    named_runs no_keyword run s pc stack w d is h = move p f r s pc (pc + 0) stack w (omega arith) h
+    named_runs (with_keyword x more) run s pc stack w d is h =
+        let all = p.code s.run.stream in
+        let c = keyword_code pc x in
+        let pc1 = pc + length c in
+        let rest = keywords_code pc1 more in
+        let n = count_keywords more + 1 in
+        let last = i.BuildKwargs n in
+        let from_rest = has_behind all pc c (rest ++ last ∷ []) is in
+        let behind = has_behind all pc1 rest (last ∷ []) from_rest in
+        let place : pc1 + length rest + 1 ≡ pc + length (c ++ (rest ++ last ∷ [])) = omega (arith, length-append c (rest ++ last ∷ []), length-append rest (last ∷ [])) in
+        keyword_runs x run s pc stack w d (has_front all pc c (rest ++ last ∷ []) is)
+        (bind_then r (told s) w (eval_keyword u run x w) _ _ _ (keyword_gives u nest_ends run x w) h (λ y world1 k h1.
+        keywords_run more run s pc1 (y.1 ∷ y.0 ∷ stack) world1 (deep_kept k d) (has_front all pc1 rest (last ∷ []) from_rest)
+        (bind_long r (told s) world1 (count_keywords more) (eval_keywords u run more world1) _ _ _ (keywords_give u nest_ends run more world1) (keywords_long u run more world1) h1 (λ ys world2 k2 l h2.
+        let xs = y ∷ ys in
+        let long : length xs ≡ n = omega (arith, l) in
+        at p f r last s (pc1 + length rest) (onto (flat xs) stack) world2 behind.0
+        (after_then p f r (told s) (tick world2) _ (bind_then r (told s) world2 (tick world2) _ _ _ (tick_gives world2) h2 (λ _ world3 k3 h3.
+        built_then (λ vs. keyword_map (paired vs)) s (pc1 + length rest) (n + n) (flat xs) stack world3 (flat_long n xs long)
+        (subst (λ zs. Go p f r s (pc1 + length rest + 1) (keyword_map zs ∷ stack) world3) (sym (paired_flat xs)) (move p f r s _ _ (keyword_map xs ∷ stack) world3 place h3)))))))))
 
     -- A step's code replaces the value on top.
     step_runs : (x : Step) (run : Run) (s : Spot) (pc : ℕ) (v : Val) (stack : List Val) (w : World) → Deep w → HasAt (p.code s.run.stream) pc (step_code pc x) →
@@ -591,12 +685,14 @@ module _ (p : Program) (f : Base) (r : Final) (trees : Trees) (n : ℕ)
       sets_run more run s (pc + length c) stack world1 (deep_kept k d) (has_behind (p.code s.run.stream) pc c rest is)
       (follows_map r (told s) (set_each u run more world1) _ _ h1 (λ _ world2 g. move p f r s _ _ stack world2 place g))))
 
-  -- A scope of the run's own is left, which is free.
-  popped_then : (s : Spot) (pc : ℕ) (stack : List Val) (w : World) → f.scopes < length w.scopes.frames → slice_get (p.code s.run.stream) pc ≡ Some i.PopFrame → Go p f r s (pc + 1) stack (pop w) → Go p f r s pc stack w
-  popped_then s pc stack w stands e g =
+  -- A scope of the run's own, which is no loop's, is left, which is free.
+  popped_then : (s : Spot) (pc : ℕ) (stack : List Val) (w : World) → f.scopes < length w.scopes.frames → top_mark w.scopes.frames ≡ None → slice_get (p.code s.run.stream) pc ≡ Some i.PopFrame →
+      Go p f r s (pc + 1) stack (pop w) → Go p f r s pc stack w
+  popped_then s pc stack w stands no_loop e g =
+      let b : (nat_lt f.scopes (length w.scopes.frames) && is_no_loop (top_mark w.scopes.frames)) ≡ true = rw (lt-ltb f.scopes (length w.scopes.frames) stands, no_loop) refl in
       at p f r i.PopFrame s pc stack w e
       (subst (λ b. Leads p f (told s) (choose b (λ _. goes stack (pop w) (cfg s pc stack w)) (λ _. stuck w)) r)
-      (sym (lt-ltb f.scopes (length w.scopes.frames) stands)) (silent p f r (told s) _ g))
+      (sym b) (silent p f r (told s) _ g))
 
   -- A capture above the run's floor is ended, and its text pushed.
   ended_then : (s : Spot) (q : Option TemplateId) (x : List ℕ) (pc : ℕ) (stack : List Val) (w : World) → s.run.floor < suc (length (captures_of s.bed s.out)) →
@@ -634,78 +730,395 @@ module _ (p : Program) (f : Base) (r : Final) (trees : Trees) (n : ℕ)
       (λ h2. placed_then run s pc stack stack world1 world1 (enter_block p.host b world1) D L N fits.2 (block_asks p.host b world1) (deep_kept k d) h2 g)
       (λ h2. silent p f r (told s) _ (g s.out world1 (so_far_then r s.bed (as_at run s) s.out world1 D L N h2)))))))
 
+  -- What is open around a statement's code is closed, and the innermost loop left or gone on with: from here to where that goes on.
+  abbrev Jumps : ℕ → List Opened → Spot → List Val → World → Then → Type 0
+  Jumps to os s stack w L =
+      (q : Option TemplateId) (out : List ℕ) (v : World) (pc : ℕ) → Kept w v → HasAt (p.code s.run.stream) pc (close_all os ++ i.Jump to ∷ []) → L q out v → Go p f r (later s q out) pc stack v
+
+  abbrev Around : Inside → Spot → List Val → World → Then → Then → Type 0
+  Around k s stack w L N = Jumps k.behind k.opened s stack w L × Jumps k.again k.opened s stack w N
+
+  around_kept : (k : Inside) (s : Spot) (stack : List Val) (L N : Then) {w v : World} → Kept w v → Around k s stack w L N → Around k s stack v L N
+  around_kept k s stack L N e j = (λ q out x pc h is l. j.0 q out x pc (kept_then e h) is l, λ q out x pc h is l. j.1 q out x pc (kept_then e h) is l)
+
+  jumps_scope : (to : ℕ) (os : List Opened) (s : Spot) (stack : List Val) (w v : World) (L : Then) → Deep w → Kept (within (plain_scope (undefined false)) w) v → Jumps to os s stack w L → Jumps to (a_scope ∷ os) s stack v (Closed pop L)
+  jumps_scope to os s stack w v L d k j q out x pc h is l =
+      let a = plain_scope (undefined false) in
+      let all = kept_then k h in
+      popped_then (later s q out) pc stack x (omega (arith, kept_frames all, d.1)) (top_of_marks None (marks w.scopes.frames) x.scopes.frames all.same_marks) is.0
+      (j q out (pop x) (pc + 1) (kept_popped a w x all) is.1 l)
+
+  around_scope : (k : Inside) (s : Spot) (stack : List Val) (w v : World) (L N : Then) → Deep w → Kept (within (plain_scope (undefined false)) w) v → Around k s stack w L N → Around (opening a_scope k) s stack v (Closed pop L) (Closed pop N)
+  around_scope k s stack w v L N d e j = (jumps_scope k.behind k.opened s stack w v L d e j.0, jumps_scope k.again k.opened s stack w v N d e j.1)
+
+  abbrev escaping : Spot → AutoEscape → Spot
+  escaping s e = record s { run = record s.run { escapes = e ∷ s.run.escapes } }
+
+  jumps_escape : (to : ℕ) (os : List Opened) (s : Spot) (stack : List Val) (w : World) (e : AutoEscape) (L : Then) → Jumps to os s stack w L →
+      Jumps to (an_escape ∷ os) (escaping s w.escape) stack (with_escape e w) (Closed (with_escape w.escape) L)
+  jumps_escape to os s stack w e L j q out x pc h is l =
+      at p f r i.PopAutoEscape (later (escaping s w.escape) q out) pc stack x is.0
+      (silent p f r (told_by s.bed out) _ (j q out (with_escape w.escape x) (pc + 1) (kept_then (kept_escaped e (kept_same w)) (kept_escaped w.escape h)) is.1 l))
+
+  around_escape : (k : Inside) (s : Spot) (stack : List Val) (w : World) (e : AutoEscape) (L N : Then) → Around k s stack w L N →
+      Around (opening an_escape k) (escaping s w.escape) stack (with_escape e w) (Closed (with_escape w.escape) L) (Closed (with_escape w.escape) N)
+  around_escape k s stack w e L N j = (jumps_escape k.behind k.opened s stack w e L j.0, jumps_escape k.again k.opened s stack w e N j.1)
+
+  jumps_capture : (to : ℕ) (os : List Opened) (s : Spot) (stack : List Val) (w : World) (L : Then) → s.run.floor < suc (length (captures_of s.bed s.out)) → Jumps to os s stack w L →
+      Jumps to (a_capture ∷ os) (record s { bed = captured_in s.bed s.out; out = [] }) stack w (Dropped r s.bed s.out L)
+  jumps_capture to os s stack w L stands j q x v pc h is l =
+      at p f r i.EndCapture (later (record s { bed = captured_in s.bed s.out; out = [] }) q x) pc stack v is.0 (after_then p f r (told s) (tick v) _
+      (follows_map_kept r (told s) v (tick v) _ _ (tick_gives v) l (λ _ world1 k1 l1.
+      ended_then s q x pc stack world1 stands
+      (at p f r i.DiscardTop (later s q s.out) (pc + 1) (captured_text x world1 ∷ stack) world1 is.1.0
+      (silent p f r (told s) _ (j q s.out world1 (pc + 1 + 1) (kept_then h k1) is.1.1 l1))))))
+
+  around_capture : (k : Inside) (s : Spot) (stack : List Val) (w : World) (L N : Then) → s.run.floor < suc (length (captures_of s.bed s.out)) → Around k s stack w L N →
+      Around (opening a_capture k) (record s { bed = captured_in s.bed s.out; out = [] }) stack w (Dropped r s.bed s.out L) (Dropped r s.bed s.out N)
+  around_capture k s stack w L N stands j = (jumps_capture k.behind k.opened s stack w L stands j.0, jumps_capture k.again k.opened s stack w N stands j.1)
+
   -- The code of statements comes behind itself with what they mean, or to their fault.
-  abbrev StmtsRun : {m : _} → Row_of-Stmt m → Type 1
-  StmtsRun ss =
-      (run : Run) (s : Spot) (pc : ℕ) (stack : List Val) (w : World) (L N : Then) → Stands f run s → Deep w → HasAt (p.code s.run.stream) pc (statements_code pc ss) →
-      Ends r s.bed (execs u ss (as_at run s) s.out w) (λ q out1 world1. Go p f r (later s q out1) (pc + length (statements_code pc ss)) stack world1) L N → Go p f r s pc stack w
+  abbrev StmtsRun : {m : _} → Inside → Row_of-Stmt m → Type 1
+  StmtsRun k ss =
+      (run : Run) (s : Spot) (pc : ℕ) (stack : List Val) (w : World) (L N : Then) → Stands f run s → Deep w → Around k s stack w L N → HasAt (p.code s.run.stream) pc (statements_code k pc ss) →
+      Ends r s.bed (execs u ss (as_at run s) s.out w) (λ q out1 world1. Go p f r (later s q out1) (pc + length (statements_code k pc ss)) stack world1) L N → Go p f r s pc stack w
+
+  -- ---------------------------------------------------------------- loops
+  -- a run with a loop more open
+  abbrev looped : Spot → Spot
+  looped s = record s { run = record s.run { loops = None ∷ s.run.loops } }
+
+  -- a loop that wasn't called is left, which is free
+  left_loop_then : (g : LoopFlags) (s : Spot) (q : Option TemplateId) (out : List ℕ) (pc : ℕ) (stack : List Val) (w x : World) (l : Loop) → Deep w → Kept (in_loop_of g w) x → slice_get x.loops (length w.loops) ≡ Some l →
+      slice_get (p.code s.run.stream) pc ≡ Some i.PopLoopFrame → Go p f r (later s q out) (pc + 1) stack (pop x) → Go p f r (later (looped s) q out) pc stack x
+  left_loop_then g s q out pc stack w x l d k e is z =
+      let stands : f.scopes < length x.scopes.frames = omega (arith, kept_frames k, d.1) in
+      let c = cfg (later (looped s) q out) pc stack x in
+      at p f r i.PopLoopFrame (later (looped s) q out) pc stack x is
+      (subst (λ b. Leads p f (told_by s.bed out) (choose b (λ _. on_loop (None ∷ s.run.loops) (top_loop x) x (λ m. pop_loop_with (None ∷ s.run.loops) c)) (λ _. stuck x)) r)
+      (sym (lt-ltb f.scopes (length x.scopes.frames) stands))
+      (subst (λ (o : Option Loop). Leads p f (told_by s.bed out) (on_loop (None ∷ s.run.loops) o x (λ m. pop_loop_with (None ∷ s.run.loops) (cfg (later (looped s) q out) pc stack x))) r)
+      (sym (top_loop_is g w x l k e)) (silent p f r (told_by s.bed out) _ z)))
+
+  did_not_is : (g : LoopFlags) (s : Spot) (q : Option TemplateId) (out : List ℕ) (pc : ℕ) (stack : List Val) (w x : World) (l : Loop) (vs : List Val) → Kept (in_loop_of g w) x → slice_get x.loops (length w.loops) ≡ Some l → l.items ≡ vs →
+      push_did_not_iterate_of (cfg (later (looped s) q out) pc stack x) ≡ goes (boolean (has_none vs) ∷ stack) x (cfg (later (looped s) q out) pc stack x)
+  did_not_is g s q out pc stack w x l vs k e same =
+      let c = cfg (later (looped s) q out) pc stack x in
+      ap (λ (o : Option Loop). on_loop (None ∷ s.run.loops) o x (λ m. goes (boolean (nat_eq (length m.items) 0) ∷ stack) x c)) (top_loop_is g w x l k e)
+      ∙ ap (λ (items : List Val). goes (boolean (nat_eq (length items) 0) ∷ stack) x c) same
+      ∙ ap (λ b. goes (boolean b ∷ stack) x c) (none_is vs)
+
+  -- a loop is asked for its next item
+  iterate_is : (g : LoopFlags) (s : Spot) (q : Option TemplateId) (out : List ℕ) (pc end : ℕ) (stack : List Val) (w x : World) (l : Loop) (next_one : Option Val) → Kept (in_loop_of g w) x → slice_get x.loops (length w.loops) ≡ Some l →
+      slice_get l.items l.turns ≡ next_one → iterate_of end (cfg (later (looped s) q out) pc stack x) ≡ iterate_with next_one end (cfg (later (looped s) q out) pc stack x)
+  iterate_is g s q out pc end stack w x l next_one k e is =
+      let c = cfg (later (looped s) q out) pc stack x in
+      ap (λ (o : Option Loop). on_loop (None ∷ s.run.loops) o x (λ m. iterate_with (slice_get m.items m.turns) end c)) (top_loop_is g w x l k e) ∙ ap (λ o. iterate_with o end c) is
+
+  -- what a round does with its item
+  abbrev turn_of : {m : _} → Target → Row_of-Stmt m → Val → Run → List ℕ → World → Outcome
+  turn_of t body v run out w = use_it (assign u run t v w) run out (λ _ world1. execs u body run out world1)
+
+  turn_ends : {m : _} → (t : Target) (body : Row_of-Stmt m) (v : Val) (run : Run) (out : List ℕ) (w : World) → KeptEnds w (turn_of t body v run out w)
+  turn_ends t body v run out w = ends_use w (assign u run t v w) run out _ (assign_gives u nest_ends run t v w) (λ _ world1. execs_end u nest_ends body run out world1)
+
+  -- a loop's instructions, where its jump back ends them
+  has_loop : (all : List Instruction) (pc end : ℕ) (tc bc oc : List Instruction) → HasAt all (pc + 1) (i.Iterate end ∷ (tc ++ (bc ++ i.Jump (pc + 1) ∷ oc))) → HasAt all (pc + 1) (i.Iterate end ∷ (tc ++ (bc ++ i.Jump (pc + 1) ∷ [])))
+  has_loop all pc end tc bc oc is =
+      let behind = has_behind all (pc + 1 + 1) tc (bc ++ i.Jump (pc + 1) ∷ oc) is.1 in
+      let last = has_behind all (pc + 1 + 1 + length tc) bc (i.Jump (pc + 1) ∷ oc) behind in (
+        is.0,
+        has_both all (pc + 1 + 1) tc (bc ++ i.Jump (pc + 1) ∷ []) (has_front all (pc + 1 + 1) tc _ is.1)
+            (has_both all (pc + 1 + 1 + length tc) bc (i.Jump (pc + 1) ∷ []) (has_front all (pc + 1 + 1 + length tc) bc _ behind) (last.0, tt)),
+      )
+
+  -- what follows once all rounds are over, at the place behind the jump back
+  abbrev Rounded : Spot → List Val → List Val → World → Then → ℕ → Type 0
+  Rounded s stack items w D end =
+      (q : Option TemplateId) (out : List ℕ) (x : World) (l : Loop) → Kept (in_loop_of for_flags w) x → slice_get x.loops (length w.loops) ≡ Some l → l.items ≡ items → D q out (pop x) → Go p f r (later (looped s) q out) end stack x
+
+  -- A loop's rounds, from where the next item is asked for.
+  rounds_run : {m : _} → (t : Target) (body : Row_of-Stmt m) (again end : ℕ) → StmtsRun (record { again = again; behind = end; opened = [] }) body → (items vs : List Val) (run : Run) (s : Spot) (stack : List Val) (w x : World) (l : Loop) (D L N : Then) →
+      Stands f run s → Deep (in_loop_of for_flags w) → Kept (in_loop_of for_flags w) x → slice_get x.loops (length w.loops) ≡ Some l → LeftOf l items vs →
+      HasAt (p.code s.run.stream) again (i.Iterate end ∷ (target_code (again + 1) t ++ (statements_code (record { again = again; behind = end; opened = [] }) (again + 1 + length (target_code (again + 1) t)) body ++ i.Jump again ∷ []))) →
+      Rounded s stack items w D end → Ends r s.bed (rounds (turn_of t body) vs (as_at run s) s.out x) D L N → Go p f r (looped s) again stack x
+  rounds_run t body again end part items [] run s stack w x l D L N fits d k e left is over_it h =
+      at p f r (i.Iterate end) (looped s) again stack x is.0 (after_then p f r (told s) (tick x) _ (use_then r s.bed x (tick x) (as_at run s) s.out _ D L N _ (tick_gives x) h (λ _ world1 k1 h1.
+      let kept = kept_then k k1 in
+      let record1 = kept_record k1 (length w.loops) l e in
+      subst (λ n. Leads p f (told s) n r) (sym (iterate_is for_flags s s.parent s.out again end stack w world1 l None kept record1 (no_item l items left)))
+      (silent p f r (told s) _ (over_it s.parent s.out (next_turn world1) (turned l) (kept_turned for_flags w world1 kept) (next_record for_flags w world1 l kept record1) (turned_items l items left)
+      (so_far_then r s.bed (as_at run s) s.out (pop (next_turn world1)) D L N h1))))))
+  rounds_run t body again end part items (v ∷ vs) run s stack w x l D L N fits d k e left is over_it h =
+      let all = p.code s.run.stream in
+      let inner : Inside = record { again = again; behind = end; opened = [] } in
+      let tc = target_code (again + 1) t in
+      let start = again + 1 + length tc in
+      let bc = statements_code inner start body in
+      let from_body = has_behind all (again + 1) tc (bc ++ i.Jump again ∷ []) is.1 in
+      let last = has_behind all start bc (i.Jump again ∷ []) from_body in
+      at p f r (i.Iterate end) (looped s) again stack x is.0 (after_then p f r (told s) (tick x) _ (use_then r s.bed x (tick x) (as_at run s) s.out _ D L N _ (tick_gives x) h (λ _ world1 k1 h1.
+      let kept = kept_then k k1 in
+      let record1 = kept_record k1 (length w.loops) l e in
+      let y = cleared (next_turn world1) in
+      let kept_y : Kept (in_loop_of for_flags w) y = kept_cleared (kept_turned for_flags w world1 kept) in
+      let record_y = next_record for_flags w world1 l kept record1 in
+      let left_y = left_then l items v vs left in
+      let o = turn_of t body v (as_at run s) s.out y in
+      let next_round : Run → List ℕ → World → Outcome = λ run1 out1 z. rounds (turn_of t body) vs run1 out1 z in
+      let D1 = Goes r s.bed (as_at run s) next_round D L N in
+      let L1 = Goes r s.bed (as_at run s) (λ run1 out1 z. so_far run1 out1 (pop z)) D L N in
+      let goes_on : (q : Option TemplateId) (out1 : List ℕ) (z : World) (pc : ℕ) → Kept y z → slice_get all pc ≡ Some (i.Jump again) → D1 q out1 z → Go p f r (later (looped s) q out1) pc stack z =
+      λ q out1 z pc kz is1 g.
+      at p f r (i.Jump again) (later (looped s) q out1) pc stack z is1 (after_then p f r (told_by s.bed out1) (tick z) _
+      (use_then r s.bed z (tick z) (record run { parent = q }) out1 _ D L N _ (tick_gives z) g (λ _ z1 kz1 g1.
+      silent p f r (told_by s.bed out1) _
+      (rounds_run t body again end part items vs run (later s q out1) stack w z1 (turned l) D L N (stands_later run s fits q out1) d (kept_then kept_y (kept_then kz kz1)) (kept_record (kept_then kz kz1) (length w.loops) (turned l) record_y) left_y is over_it g1)))) in
+      let leaves : Jumps end [] (looped s) stack y L1 =
+      λ q out1 z pc kz is1 g.
+      at p f r (i.Jump end) (later (looped s) q out1) pc stack z is1.0 (after_then p f r (told_by s.bed out1) (tick z) _
+      (use_then r s.bed z (tick z) (record run { parent = q }) out1 _ D L N _ (tick_gives z) g (λ _ z1 kz1 g1.
+      silent p f r (told_by s.bed out1) _
+      (over_it q out1 z1 (turned l) (kept_then kept_y (kept_then kz kz1)) (kept_record (kept_then kz kz1) (length w.loops) (turned l) record_y) left_y.same (so_far_then r s.bed (record run { parent = q }) out1 (pop z1) D L N g1))))) in
+      let nexts : Jumps again [] (looped s) stack y D1 = λ q out1 z pc kz is1 g. goes_on q out1 z pc kz is1.0 g in
+      subst (λ n. Leads p f (told s) n r) (sym (iterate_is for_flags s s.parent s.out again end stack w world1 l (Some v) kept record1 (next_item l items v vs left)))
+      (silent p f r (told s) _
+      (target_runs t (as_at run s) (looped s) (again + 1) v stack y (deep_kept kept_y d) (has_front all (again + 1) tc (bc ++ i.Jump again ∷ []) is.1)
+      (use_then r s.bed y (assign u (as_at run s) t v y) (as_at run s) s.out (λ _ z. execs u body (as_at run s) s.out z) D1 L1 D1 _ (assign_gives u nest_ends (as_at run s) t v y)
+      (round_then r s.bed (as_at run s) o next_round D L N h1) (λ _ z k2 h2.
+      part run (looped s) start stack z L1 D1 fits (deep_kept (kept_then kept_y k2) d) (around_kept inner (looped s) stack L1 D1 k2 (leaves, nexts)) (has_front all start bc (i.Jump again ∷ []) from_body)
+      (ends_map_kept r s.bed z (execs u body (as_at run s) s.out z) D1 _ L1 D1 (execs_end u nest_ends body (as_at run s) s.out z) h2 (λ q out1 z1 k3 g.
+      goes_on q out1 z1 (start + length bc) (kept_then k2 k3) last.0 g)))))))))
+
+  -- ---------------------------------------------------------------- items under a condition
+  -- an item is stored, and its condition asked
+  abbrev test_of : Run → Target → Expr → Val → World → Res Val
+  test_of run t c v w = bind (assign u run t v w) (λ _ world1. eval u run c world1)
+
+  -- From where the next item is asked for the pass comes behind its loop, with what it takes below the count.
+  filter_runs : (t : Target) (c : Expr) (again : ℕ) (items vs : List Val) (n : ℕ) (run : Run) (s : Spot) (below : List Val) (w x : World) (l : Loop) →
+      Deep w → Kept (in_loop_of filter_flags w) x → slice_get x.loops (length w.loops) ≡ Some l → LeftOf l items vs →
+      (tc qc : List Instruction) → tc ≡ target_code (again + 1 + 1) t → qc ≡ expr_code (again + 1 + 1 + length tc) c → (end : ℕ) → end ≡ again + 1 + 1 + length tc + length qc →
+      HasAt (p.code s.run.stream) again (i.Iterate (end + 7) ∷ i.DupTop ∷ (tc ++ (qc
+      ++ i.JumpIfFalse (end + 5) ∷ i.Swap ∷ i.LoadConst (number (pos 1)) ∷ i.Add ∷ i.Jump again ∷ i.DiscardTop ∷ i.Jump again ∷ i.PopLoopFrame ∷ i.BuildList None ∷ []))) →
+      Follows r (told s) (kept p.host (test_of run t c) n vs x) (λ us y. (m : ℕ) → m ≡ n + length us → Go p f r s (end + 1 + 1 + 1 + 1 + 1 + 1 + 1 + 1) (number (pos m) ∷ onto us below) y) →
+      Go p f r (looped s) again (number (pos n) ∷ below) x
+  filter_runs t c again items [] n run s below w x l d k e left tc qc et ec end ee is h =
+      let all = p.code s.run.stream in
+      let from_test = has_behind all (again + 1 + 1) tc _ is.1.1 in
+      let last = has_behind all (again + 1 + 1 + length tc) qc _ from_test in
+      let here : again + 1 + 1 + length tc + length qc ≡ end = sym ee in
+      let tail = subst (λ m. HasAt all m (i.JumpIfFalse (end + 5) ∷ i.Swap ∷ i.LoadConst (number (pos 1)) ∷ i.Add ∷ i.Jump again ∷ i.DiscardTop ∷ i.Jump again ∷ i.PopLoopFrame ∷ i.BuildList None ∷ [])) here last in
+      let there : end + 7 ≡ end + 1 + 1 + 1 + 1 + 1 + 1 + 1 = omega arith in
+      at p f r (i.Iterate (end + 7)) (looped s) again (number (pos n) ∷ below) x is.0 (after_then p f r (told s) (tick x) _ (bind_then r (told s) x (tick x) _ _ _ (tick_gives x) h (λ _ world1 k1 h1.
+      let all_kept = kept_then k k1 in
+      let record1 = kept_record k1 (length w.loops) l e in
+      subst (λ a. Leads p f (told s) a r) (sym (iterate_is filter_flags s s.parent s.out again (end + 7) (number (pos n) ∷ below) w world1 l None all_kept record1 (no_item l items left)))
+      (silent p f r (told s) _ (move p f r (looped s) _ _ (number (pos n) ∷ below) (next_turn world1) there
+      (left_loop_then filter_flags s s.parent s.out _ (number (pos n) ∷ below) w (next_turn world1) (turned l) d (kept_turned filter_flags w world1 all_kept) (next_record filter_flags w world1 l all_kept record1) tail.1.1.1.1.1.1.1.0
+      (h1 n (omega arith))))))))
+  filter_runs t c again items (v ∷ vs) n run s below w x l d k e left tc qc et ec end ee is h =
+      let all = p.code s.run.stream in
+      let from_test = has_behind all (again + 1 + 1) tc _ is.1.1 in
+      let last = has_behind all (again + 1 + 1 + length tc) qc _ from_test in
+      let here : again + 1 + 1 + length tc + length qc ≡ end = sym ee in
+      let tail = subst (λ m. HasAt all m (i.JumpIfFalse (end + 5) ∷ i.Swap ∷ i.LoadConst (number (pos 1)) ∷ i.Add ∷ i.Jump again ∷ i.DiscardTop ∷ i.Jump again ∷ i.PopLoopFrame ∷ i.BuildList None ∷ [])) here last in
+      let no : end + 5 ≡ end + 1 + 1 + 1 + 1 + 1 = omega arith in
+      let count = number (pos n) in
+      let deep = deep_within (loop_scope (mark_behind filter_flags w)) w d in
+      let q = looped s in
+      at p f r (i.Iterate (end + 7)) q again (count ∷ below) x is.0 (after_then p f r (told s) (tick x) _ (bind_then r (told s) x (tick x) _ _ _ (tick_gives x) h (λ _ world1 k1 h1.
+      let all_kept = kept_then k k1 in
+      let record1 = kept_record k1 (length w.loops) l e in
+      let y = cleared (next_turn world1) in
+      let kept_y : Kept (in_loop_of filter_flags w) y = kept_cleared (kept_turned filter_flags w world1 all_kept) in
+      let record_y = next_record filter_flags w world1 l all_kept record1 in
+      let left_y = left_then l items v vs left in
+      subst (λ a. Leads p f (told s) a r) (sym (iterate_is filter_flags s s.parent s.out again (end + 7) (count ∷ below) w world1 l (Some v) all_kept record1 (next_item l items v vs left)))
+      (silent p f r (told s) _
+      (at p f r i.DupTop q (again + 1) (v ∷ count ∷ below) y is.1.0 (silent p f r (told s) _
+      (target_runs t run q (again + 1 + 1) v (v ∷ count ∷ below) y (deep_kept kept_y deep) (subst (λ a. HasAt all (again + 1 + 1) a) et (has_front all (again + 1 + 1) tc _ is.1.1))
+      (bind_then r (told s) y (assign u run t v y) (λ _ z. eval u run c z) _ _ (assign_gives u nest_ends run t v y)
+      (bound_follows r (told s) (test_of run t c v y) _ _ h1) (λ _ world2 k2 h2.
+      move p f r q _ _ (v ∷ count ∷ below) world2 (ap (λ a. again + 1 + 1 + length a) (sym et))
+      (expr_runs c run q (again + 1 + 1 + length tc) (v ∷ count ∷ below) world2 (deep_kept (kept_then kept_y k2) deep) (subst (λ a. HasAt all (again + 1 + 1 + length tc) a) ec (has_front all (again + 1 + 1 + length tc) qc _ from_test))
+      (follows_map_kept r (told s) world2 (eval u run c world2) _ _ (eval_gives u nest_ends run c world2) h2 (λ b world3 k3 h3.
+      move p f r q _ _ (b ∷ v ∷ count ∷ below) world3 (ap (λ a. again + 1 + 1 + length tc + length a) (sym ec) ∙ here)
+      (at p f r (i.JumpIfFalse (end + 5)) q end (b ∷ v ∷ count ∷ below) world3 tail.0 (after_then p f r (told s) (tick world3) _ (bind_then r (told s) world3 (tick world3) _ _ _ (tick_gives world3) h3 (λ _ world4 k4 h4.
+      after_then p f r (told s) (truth p.host b world4) _ (bind_then r (told s) world4 (truth p.host b world4) _ _ _ (answered_gives _ world4) h4 (λ yes world5 k5 h5.
+      let kept5 = kept_then kept_y (kept_then k2 (kept_then k3 (kept_then k4 k5))) in
+      let record5 : (z : World) → Kept world5 z → slice_get z.loops (length w.loops) ≡ Some (turned l) = λ z kz. kept_record (kept_then k2 (kept_then k3 (kept_then k4 (kept_then k5 kz)))) (length w.loops) (turned l) record_y in
+      choose_then p f r yes _ _ _ _ (told s) _ h5
+      (λ h6. silent p f r (told s) _
+      (at p f r i.Swap q (end + 1) (v ∷ count ∷ below) world5 tail.1.0 (after_then p f r (told s) (tick world5) _ (bind_then r (told s) world5 (tick world5) _ _ _ (tick_gives world5)
+      (follows_map_kept r (told s) world5 (one_counted n world5) _ (λ _ z. Kept world5 z × Follows r (told s) (bind (tick z) (λ _ z1. bind (kept p.host (test_of run t c) (n + 1) vs z1) (λ us z2. Good (v ∷ us) z2))) _) (one_counted_gives u nest_ends n world5)
+      (bound_follows r (told s) (one_counted n world5) _ _ h6) (λ _ z kz hz. (kz, hz))) (λ _ world6 k6 h7.
+      silent p f r (told s) _
+      (at p f r (i.LoadConst (number (pos 1))) q (end + 1 + 1) (count ∷ v ∷ below) world6 tail.1.1.0 (after_then p f r (told s) (tick world6) _ (bind_then r (told s) world6 (tick world6) _ _ _ (tick_gives world6) h7 (λ _ world7 k7 h8.
+      silent p f r (told s) _
+      (at p f r i.Add q (end + 1 + 1 + 1) (number (pos 1) ∷ count ∷ v ∷ below) world7 tail.1.1.1.0 (after_then p f r (told s) (tick world7) _ (bind_then r (told s) world7 (tick world7) _ _ _ (tick_gives world7) h8 (λ _ world8 k8 h9.
+      pushes p f r q (end + 1 + 1 + 1) (v ∷ below) (number (pos 1) ∷ count ∷ v ∷ below) world8 (operated p.host binaries.Add count (number (pos 1)) world8)
+      (one_more_then r (told s) n world8 _ (λ z world9. Go p f r q (end + 1 + 1 + 1 + 1) (z ∷ v ∷ below) world9) h9 (λ both.
+      at p f r (i.Jump again) q (end + 1 + 1 + 1 + 1) (number (pos (n + 1)) ∷ v ∷ below) world8 tail.1.1.1.1.0 (after_then p f r (told s) (tick world8) _ (bind_then r (told s) world8 (tick world8) _ _ _ (tick_gives world8) both.1 (λ _ world9 k9 h10.
+      silent p f r (told s) _
+      (filter_runs t c again items vs (n + 1) run s (v ∷ below) w world9 (turned l) d (kept_then kept5 (kept_then both.0 k9)) (record5 world9 (kept_then both.0 k9)) left_y tc qc et ec end ee is
+      (follows_map r (told s) (kept p.host (test_of run t c) (n + 1) vs world9) _ _ (bound_follows r (told s) (kept p.host (test_of run t c) (n + 1) vs world9) _ _ h10) (λ us z g m em. g m (omega (arith, em)))))))))))))))))))))))
+      (λ h6. silent p f r (told s) _ (move p f r q _ _ (v ∷ count ∷ below) world5 no
+      (at p f r i.DiscardTop q (end + 1 + 1 + 1 + 1 + 1) (v ∷ count ∷ below) world5 tail.1.1.1.1.1.0 (silent p f r (told s) _
+      (at p f r (i.Jump again) q (end + 1 + 1 + 1 + 1 + 1 + 1) (count ∷ below) world5 tail.1.1.1.1.1.1.0 (after_then p f r (told s) (tick world5) _ (bind_then r (told s) world5 (tick world5) _ _ _ (tick_gives world5) h6 (λ _ world6 k6 h7.
+      silent p f r (told s) _
+      (filter_runs t c again items vs n run s below w world6 (turned l) d (kept_then kept5 k6) (record5 world6 k6) left_y tc qc et ec end ee is h7)))))))))))))))))))))))))))
+
+  -- What is iterated, up to where its loop's scope is opened.
+  iterable_runs : (t : Target) (e : Expr) (c : Option Expr) (run : Run) (s : Spot) (pc : ℕ) (stack : List Val) (w : World) → Deep w → HasAt (p.code s.run.stream) pc (iterable_code pc t e c) →
+      slice_get (p.code s.run.stream) (pc + length (iterable_code pc t e c)) ≡ Some (i.PushLoop for_flags) →
+      Follows r (told s) (loop_items u run t e c w) (λ vs world1. (old : List Val) →
+      Leads p f (told s) (after (open_loop p.host vs for_flags world1) (λ _ y. goes stack y (looping (None ∷ s.run.loops) (cfg s (pc + length (iterable_code pc t e c)) old world1)))) r) → Go p f r s pc stack w
+  iterable_runs t e None run s pc stack w d is there h =
+      expr_runs e run s pc stack w d is
+      (bind_then r (told s) w (eval u run e w) _ _ _ (eval_gives u nest_ends run e w) h (λ v world1 k1 h1.
+      at p f r (i.PushLoop for_flags) s (pc + length (expr_code pc e)) (v ∷ stack) world1 there (after_then p f r (told s) (items_over p.host v world1) _
+      (follows_map_kept r (told s) world1 (items_over p.host v world1) _ _ (answered_gives _ world1) h1 (λ vs world2 k2 g. g (v ∷ stack))))))
+  iterable_runs t e (Some c) run s pc stack w d is there h =
+      let all = p.code s.run.stream in
+      let ec = expr_code (pc + 1) e in
+      let pc1 = pc + 1 + length ec in
+      let fc = filter_code pc1 t c in
+      let again = pc1 + 1 in
+      let tc = target_code (again + 1 + 1) t in
+      let test = again + 1 + 1 + length tc in
+      let qc = expr_code test c in
+      let end = test + length qc in
+      let build = end + 1 + 1 + 1 + 1 + 1 + 1 + 1 + 1 in
+      let behind = has_behind all (pc + 1) ec fc is.1 in
+      let tail = has_behind all test qc _ (has_behind all (again + 1 + 1) tc _ behind.1.1.1) in
+      let tail_code = i.JumpIfFalse (end + 5) ∷ i.Swap ∷ i.LoadConst (number (pos 1)) ∷ i.Add ∷ i.Jump again ∷ i.DiscardTop ∷ i.Jump again ∷ i.PopLoopFrame ∷ i.BuildList None ∷ [] in
+      let place : build + 1 ≡ pc + suc (length (ec ++ fc)) = omega (arith, length-append ec fc, length-append tc (qc ++ tail_code), length-append qc tail_code) in
+      at p f r (i.LoadConst (number (pos 0))) s pc stack w is.0 (after_then p f r (told s) (tick w) _ (bind_then r (told s) w (tick w) _ _ _ (tick_gives w) h (λ _ world1 k1 h1.
+      silent p f r (told s) _
+      (expr_runs e run s (pc + 1) (number (pos 0) ∷ stack) world1 (deep_kept k1 d) (has_front all (pc + 1) ec fc is.1)
+      (bind_then r (told s) world1 (eval u run e world1) _ _ _ (eval_gives u nest_ends run e world1) h1 (λ v world2 k2 h2.
+      at p f r (i.PushLoop filter_flags) s pc1 (v ∷ number (pos 0) ∷ stack) world2 behind.0 (after_then p f r (told s) (items_over p.host v world2) _
+      (bind_then r (told s) world2 (items_over p.host v world2) _ _ _ (answered_gives _ world2) h2 (λ vs world3 k3 h3.
+      let d3 = deep_kept k3 (deep_kept k2 (deep_kept k1 d)) in
+      after_then p f r (told s) (open_loop p.host vs filter_flags world3) _
+      (opened_follows r (told s) filter_flags world3 vs (nat_lt (depth world3.scopes) p.host.limit) _ _ (λ y. Leads p f (told s) (goes (number (pos 0) ∷ stack) y (looping (None ∷ s.run.loops) (cfg s pc1 (v ∷ number (pos 0) ∷ stack) world3))) r) h3 (λ h4.
+      silent p f r (told s) _
+      (filter_runs t c again vs vs 0 run s stack world3 (opened filter_flags world3 vs) (new_loop vs filter_flags world3) d3
+      (opened_kept filter_flags world3 vs) (seam_some world3.loops [] (new_loop vs filter_flags world3)) (record { before = []; same = refl; all = refl; turns = refl }) tc qc refl refl end refl behind.1
+      (follows_map r (told s) (kept p.host (test_of run t c) 0 vs (opened filter_flags world3 vs)) _ _ (bound_follows r (told s) (kept p.host (test_of run t c) 0 vs (opened filter_flags world3 vs)) _ _ h4) (λ us y h5 m em.
+      at p f r (i.BuildList None) s build (number (pos m) ∷ onto us stack) y tail.1.1.1.1.1.1.1.1.0 (after_then p f r (told s) (tick y) _ (bind_then r (told s) y (tick y) _ _ _ (tick_gives y) h5 (λ _ y1 k6 h6.
+      built_then list_of_values s build m us stack y1 (omega (arith, em))
+      (move p f r s _ _ (list_of_values us ∷ stack) y1 place
+      (at p f r (i.PushLoop for_flags) s (pc + suc (length (ec ++ fc))) (list_of_values us ∷ stack) y1 there
+      (subst (λ zs. Leads p f (told s) (after (open_loop p.host zs for_flags y1) (λ _ z. goes stack z (looping (None ∷ s.run.loops) (cfg s (pc + suc (length (ec ++ fc))) (list_of_values us ∷ stack) y1)))) r) (sym (items_back us))
+      (h6 (list_of_values us ∷ stack))))))))))))))))))))))
 
   -- the part that runs where the condition is true, and the jump over the other
-  first_runs : {m : _} → (body : Row_of-Stmt m) → StmtsRun body → (other : Otherwise) (run : Run) (s : Spot) (pc end : ℕ) (stack : List Val) (w : World) (L N : Then) → Stands f run s → Deep w →
-      pc + length (statements_code pc body) + length (otherwise_code (pc + length (statements_code pc body)) other) ≡ end →
-      HasAt (p.code s.run.stream) pc (statements_code pc body ++ otherwise_code (pc + length (statements_code pc body)) other) →
+  first_runs : {m : _} → (k : Inside) (body : Row_of-Stmt m) → StmtsRun k body → (other : Otherwise) (run : Run) (s : Spot) (pc end : ℕ) (stack : List Val) (w : World) (L N : Then) → Stands f run s → Deep w → Around k s stack w L N →
+      pc + length (statements_code k pc body) + length (otherwise_code k (pc + length (statements_code k pc body)) other) ≡ end →
+      HasAt (p.code s.run.stream) pc (statements_code k pc body ++ otherwise_code k (pc + length (statements_code k pc body)) other) →
       Ends r s.bed (behind_first other (as_at run s) (execs u body (as_at run s) s.out w)) (λ q out1 world1. Go p f r (later s q out1) end stack world1) L N → Go p f r s pc stack w
-  first_runs body part no_else run s pc end stack w L N fits d place is h =
-      let bc = statements_code pc body in
+  first_runs k body part no_else run s pc end stack w L N fits d j place is h =
+      let bc = statements_code k pc body in
       let here : pc + length bc ≡ end = omega (arith, place) in
-      part run s pc stack w L N fits d (has_front (p.code s.run.stream) pc bc [] is)
+      part run s pc stack w L N fits d j (has_front (p.code s.run.stream) pc bc [] is)
       (ends_map r s.bed (execs u body (as_at run s) s.out w) _ _ L N h (λ q out1 world1 g. move p f r (later s q out1) _ _ stack world1 here g))
-  first_runs body part (otherwise _ eb) run s pc end stack w L N fits d place is h =
-      let bc = statements_code pc body in
-      let ec = statements_code (pc + length bc + 1) eb in
+  first_runs k body part (otherwise _ eb) run s pc end stack w L N fits d j place is h =
+      let bc = statements_code k pc body in
+      let ec = statements_code k (pc + length bc + 1) eb in
       let to = pc + length bc + 1 + length ec in
       let jumped : to ≡ end = omega (arith, place) in
       let behind = has_behind (p.code s.run.stream) pc bc (i.Jump to ∷ ec) is in
       let D : Then = λ q out1 world1. Go p f r (later s q out1) end stack world1 in
-      part run s pc stack w L N fits d (has_front (p.code s.run.stream) pc bc (i.Jump to ∷ ec) is)
+      part run s pc stack w L N fits d j (has_front (p.code s.run.stream) pc bc (i.Jump to ∷ ec) is)
       (do_then r s.bed (as_at run s) w (execs u body (as_at run s) s.out w) (λ run1 out1 world1. use_it (tick world1) run1 out1 (λ _ world2. so_far run1 out1 world2)) D L N _
-      (execs_end u nest_ends body (as_at run s) s.out w) h (λ q out1 world1 k h1.
+      (execs_end u nest_ends body (as_at run s) s.out w) h (λ q out1 world1 k1 h1.
       at p f r (i.Jump to) (later s q out1) (pc + length bc) stack world1 behind.0 (after_then p f r (told (later s q out1)) (tick world1) _
       (use_then r s.bed world1 (tick world1) (record run { parent = q }) out1 (λ _ world2. so_far (record run { parent = q }) out1 world2) D L N _ (tick_gives world1) h1 (λ _ world2 k2 h2.
       silent p f r (told (later s q out1)) _ (move p f r (later s q out1) to end stack world2 jumped (so_far_then r s.bed (record run { parent = q }) out1 world2 D L N h2)))))))
 
   mutual
     -- A statement's code comes behind itself with what it means, or to its fault.
-    pub stmt_runs : (x : Stmt) (run : Run) (s : Spot) (pc : ℕ) (stack : List Val) (w : World) (L N : Then) → Stands f run s → Deep w → HasAt (p.code s.run.stream) pc (statement_code pc x) →
-        Ends r s.bed (exec u x (as_at run s) s.out w) (λ q out1 world1. Go p f r (later s q out1) (pc + length (statement_code pc x)) stack world1) L N → Go p f r s pc stack w
-    stmt_runs (EmitRaw t) run s pc stack w L N fits d is h =
-        at p f r (i.EmitRaw t) s pc stack w is.0 (after_then p f r (told s) (tick w) _ (use_then r s.bed w (tick w) (as_at run s) s.out _ _ L N _ (tick_gives w) h (λ _ world1 k h1.
+    pub stmt_runs : (k : Inside) (x : Stmt) (run : Run) (s : Spot) (pc : ℕ) (stack : List Val) (w : World) (L N : Then) → Stands f run s → Deep w → Around k s stack w L N → HasAt (p.code s.run.stream) pc (statement_code k pc x) →
+        Ends r s.bed (exec u x (as_at run s) s.out w) (λ q out1 world1. Go p f r (later s q out1) (pc + length (statement_code k pc x)) stack world1) L N → Go p f r s pc stack w
+    stmt_runs k (EmitRaw t) run s pc stack w L N fits d j is h =
+        at p f r (i.EmitRaw t) s pc stack w is.0 (after_then p f r (told s) (tick w) _ (use_then r s.bed w (tick w) (as_at run s) s.out _ _ L N _ (tick_gives w) h (λ _ world1 k1 h1.
         writes_then p f r (as_at run s) t s (pc + 1) stack world1 refl fits.2 (so_far_then r s.bed (as_at run s) (say (as_at run s) t s.out) world1 _ L N h1))))
-    stmt_runs (EmitExpr e) run s pc stack w L N fits d is h =
+    stmt_runs k (EmitExpr e) run s pc stack w L N fits d j is h =
         let c = expr_code pc e in
         let behind = has_behind (p.code s.run.stream) pc c (i.Emit ∷ []) is in
         let place : pc + length c + 1 ≡ pc + length (c ++ i.Emit ∷ []) = omega (arith, length-append c (i.Emit ∷ [])) in
         expr_runs e (as_at run s) s pc stack w d (has_front (p.code s.run.stream) pc c _ is)
-        (use_then r s.bed w (eval u (as_at run s) e w) (as_at run s) s.out _ _ L N _ (eval_gives u nest_ends (as_at run s) e w) h (λ v world1 k h1.
+        (use_then r s.bed w (eval u (as_at run s) e w) (as_at run s) s.out _ _ L N _ (eval_gives u nest_ends (as_at run s) e w) h (λ v world1 k1 h1.
         emit_then run s (pc + length c) v stack world1 _ L N fits behind.0 h1 (λ out1 world2 g. move p f r (later s s.parent out1) _ _ stack world2 place g)))
-    stmt_runs (If' c z body other) run s pc stack w L N fits d is h =
+    stmt_runs k (If' c z body other) run s pc stack w L N fits d j is h =
         let test = expr_code pc c in
         let pc1 = pc + length test in
-        let bc = statements_code (pc1 + 1) body in
-        let oc = otherwise_code (pc1 + 1 + length bc) other in
+        let bc = statements_code k (pc1 + 1) body in
+        let oc = otherwise_code k (pc1 + 1 + length bc) other in
         let to = pc1 + 1 + length bc + jump_over other in
-        let end = pc + length (statement_code pc (If' c z body other)) in
+        let end = pc + length (statement_code k pc (If' c z body other)) in
         let place : pc1 + 1 + length bc + length oc ≡ end = omega (arith, length-append test (i.JumpIfFalse to ∷ (bc ++ oc)), length-append bc oc) in
         let behind = has_behind (p.code s.run.stream) pc test (i.JumpIfFalse to ∷ (bc ++ oc)) is in
         expr_runs c (as_at run s) s pc stack w d (has_front (p.code s.run.stream) pc test (i.JumpIfFalse to ∷ (bc ++ oc)) is)
-        (use_then r s.bed w (eval u (as_at run s) c w) (as_at run s) s.out _ _ L N _ (eval_gives u nest_ends (as_at run s) c w) h (λ v world1 k h1.
+        (use_then r s.bed w (eval u (as_at run s) c w) (as_at run s) s.out _ _ L N _ (eval_gives u nest_ends (as_at run s) c w) h (λ v world1 k1 h1.
         at p f r (i.JumpIfFalse to) s pc1 (v ∷ stack) world1 behind.0 (after_then p f r (told s) (tick world1) _
         (use_then r s.bed world1 (tick world1) (as_at run s) s.out _ _ L N _ (tick_gives world1) h1 (λ _ world2 k2 h2.
         after_then p f r (told s) (truth p.host v world2) _ (use_then r s.bed world2 (truth p.host v world2) (as_at run s) s.out _ _ L N _ (answered_gives _ world2) h2 (λ b world3 k3 h3.
-        let deep3 = deep_kept k3 (deep_kept k2 (deep_kept k d)) in
+        let deep3 = deep_kept k3 (deep_kept k2 (deep_kept k1 d)) in
+        let around3 = around_kept k s stack L N (kept_then k1 (kept_then k2 k3)) j in
         choose_ends p f r b (behind_first other (as_at run s) (execs u body (as_at run s) s.out world3)) (exec_else u other (as_at run s) s.out world3) _ _ (told s) s.bed _ L N h3
-        (λ h4. silent p f r (told s) _ (first_runs body (stmts_run body) other run s (pc1 + 1) end stack world3 L N fits deep3 place behind.1 h4))
-        (λ h4. silent p f r (told s) _ (second_runs body other run s (pc1 + 1) end stack world3 L N fits deep3 place behind.1 h4)))))))))
-    stmt_runs (Block' b _ body) run s pc stack w L N fits d is h = tag_then run s pc b stack w _ L N fits d is.0 h (λ out1 world1 g. g)
-    stmt_runs (Set t e) run s pc stack w L N fits d is h =
+        (λ h4. silent p f r (told s) _ (first_runs k body (stmts_run k body) other run s (pc1 + 1) end stack world3 L N fits deep3 around3 place behind.1 h4))
+        (λ h4. silent p f r (told s) _ (second_runs k body other run s (pc1 + 1) end stack world3 L N fits deep3 around3 place behind.1 h4)))))))))
+    stmt_runs k (For' t e c _ body other) run s pc stack w L N fits d j is h =
+        let all = p.code s.run.stream in
+        let ec = iterable_code pc t e c in
+        let pc1 = pc + length ec in
+        let tc = target_code (pc1 + 1 + 1) t in
+        let start = pc1 + 1 + 1 + length tc in
+        let end = start + length (statements_code outside start body) + 1 in
+        let inner : Inside = record { again = pc1 + 1; behind = end; opened = [] } in
+        let bc = statements_code inner start body in
+        let oc = behind_loop_code k end other in
+        let rest = tc ++ (bc ++ i.Jump (pc1 + 1) ∷ oc) in
+        let behind = has_behind all pc ec (i.PushLoop for_flags ∷ i.Iterate end ∷ rest) is in
+        let from_body = has_behind all (pc1 + 1 + 1) tc (bc ++ i.Jump (pc1 + 1) ∷ oc) behind.1.1 in
+        let last = has_behind all start bc (i.Jump (pc1 + 1) ∷ oc) from_body in
+        let long : length bc ≡ length (statements_code outside start body) = statements_long (pc1 + 1) end 0 0 start [] body in
+        let ended_at : start + length bc + 1 ≡ end = omega (arith, long) in
+        let at_end_of : HasAt all end oc = subst (λ n. HasAt all n oc) ended_at last.1 in
+        let place : end + length oc ≡ pc + length (ec ++ i.PushLoop for_flags ∷ i.Iterate end ∷ rest) =
+        omega (arith, long, length-append ec (i.PushLoop for_flags ∷ i.Iterate end ∷ rest), length-append tc (bc ++ i.Jump (pc1 + 1) ∷ oc), length-append bc (i.Jump (pc1 + 1) ∷ oc)) in
+        let D0 : Then = λ q out1 v. Go p f r (later s q out1) (pc + length (ec ++ i.PushLoop for_flags ∷ i.Iterate end ∷ rest)) stack v in
+        iterable_runs t e c (as_at run s) s pc stack w d (has_front all pc ec (i.PushLoop for_flags ∷ i.Iterate end ∷ rest) is) behind.0
+        (use_then r s.bed w (loop_items u (as_at run s) t e c w) (as_at run s) s.out _ D0 L N _ (loop_items_give u nest_ends (as_at run s) t e c w) h (λ vs world1 k1 h1 old.
+        let turn = turn_of t body in
+        let d1 = deep_kept k1 d in
+        let j1 = around_kept k s stack L N k1 j in
+        let D1 : Then = λ q out1 x. Ends r s.bed (exec_behind_loop u other (has_none vs) (record run { parent = q }) out1 x) D0 L N in
+        let over_it = do_then r s.bed (as_at run s) world1 (loop_over p.host turn vs (as_at run s) s.out world1) (λ run1 out1 world2. exec_behind_loop u other (has_none vs) run1 out1 world2) D0 L N D1
+        (loop_ends p.host world1 turn (turn_ends t body) vs (as_at run s) s.out) h1 (λ q out1 x k3 h3. h3) in
+        after_then p f r (told s) (open_loop p.host vs for_flags world1) _
+        (opened_then r s.bed world1 vs (nat_lt (depth world1.scopes) p.host.limit) (as_at run s) s.out (λ _ x. rounds turn vs (as_at run s) s.out x) D1 L N
+        (λ x. Leads p f (told s) (goes stack x (looping (None ∷ s.run.loops) (cfg s pc1 old world1))) r) over_it (λ h4.
+        silent p f r (told s) _
+        (rounds_run t body (pc1 + 1) end (stmts_run inner body) vs vs run s stack world1 (opened for_flags world1 vs) (new_loop vs for_flags world1) D1 L N fits (deep_within (loop_scope (mark_behind for_flags world1)) world1 d1)
+        (opened_kept for_flags world1 vs) (seam_some world1.loops [] (new_loop vs for_flags world1)) (record { before = []; same = refl; all = refl; turns = refl })
+        (has_loop all pc1 end tc bc oc behind.1) (λ q out1 x l k3 e3 same d3.
+        behind_loop_runs k other vs run s pc1 end (pc + length (ec ++ i.PushLoop for_flags ∷ i.Iterate end ∷ rest)) stack world1 x l L N fits d1 j1 k3 e3 same place at_end_of q out1 d3) h4)))))
+    stmt_runs k Break run s pc stack w L N fits d j is h = j.0 s.parent s.out w pc (kept_same w) is (leave_then r s.bed (as_at run s) s.out w _ L N h)
+    stmt_runs k Continue run s pc stack w L N fits d j is h = j.1 s.parent s.out w pc (kept_same w) is (next_then r s.bed (as_at run s) s.out w _ L N h)
+    stmt_runs k (Block' b _ body) run s pc stack w L N fits d j is h = tag_then run s pc b stack w _ L N fits d is.0 h (λ out1 world1 g. g)
+    stmt_runs k (Set t e) run s pc stack w L N fits d j is h =
         set_runs t e (as_at run s) s pc stack w d is
-        (use_then r s.bed w (set_to u (as_at run s) t e w) (as_at run s) s.out _ _ L N _ (set_gives u nest_ends (as_at run s) t e w) h (λ _ world1 k h1.
+        (use_then r s.bed w (set_to u (as_at run s) t e w) (as_at run s) s.out _ _ L N _ (set_gives u nest_ends (as_at run s) t e w) h (λ _ world1 k1 h1.
         so_far_then r s.bed (as_at run s) s.out world1 _ L N h1))
-    stmt_runs (With' given _ body) run s pc stack w L N fits d is h =
+    stmt_runs k (With' given _ body) run s pc stack w L N fits d j is h =
         let all = p.code s.run.stream in
         let gc = assignments_code (pc + 1) given in
         let pc1 = pc + 1 + length gc in
-        let bc = statements_code pc1 body in
+        let bc = statements_code (opening a_scope k) pc1 body in
         let from_body = has_behind all (pc + 1) gc (bc ++ i.PopFrame ∷ []) is.1 in
         let last = has_behind all pc1 bc (i.PopFrame ∷ []) from_body in
         let place : pc1 + length bc + 1 ≡ pc + suc (length (gc ++ (bc ++ i.PopFrame ∷ []))) =
@@ -716,13 +1129,13 @@ module _ (p : Program) (f : Base) (r : Final) (trees : Trees) (n : ℕ)
         (within_then r s.bed w a (nat_lt (depth w.scopes) p.host.limit) (as_at run s) s.out _ _ L N (λ world1. Leads p f (told s) (goes stack world1 (cfg s pc stack w)) r) h (λ h1.
         silent p f r (told s) _ (sets_run given (as_at run s) s (pc + 1) stack (within a w) deep1 (has_front all (pc + 1) gc (bc ++ i.PopFrame ∷ []) is.1)
         (use_then r s.bed (within a w) (set_each u (as_at run s) given (within a w)) (as_at run s) s.out _ _ L N _ (set_each_gives u nest_ends (as_at run s) given (within a w)) h1 (λ _ world2 k2 h2.
-        stmts_run body run s pc1 stack world2 (Closed pop L) (Closed pop N) fits (deep_kept k2 deep1) (has_front all pc1 bc (i.PopFrame ∷ []) from_body)
+        stmts_run (opening a_scope k) body run s pc1 stack world2 (Closed pop L) (Closed pop N) fits (deep_kept k2 deep1) (around_scope k s stack w world2 L N d k2 j) (has_front all pc1 bc (i.PopFrame ∷ []) from_body)
         (closed_then r s.bed world2 pop (execs u body (as_at run s) s.out world2) _ L N _ (execs_end u nest_ends body (as_at run s) s.out world2) h2 (λ q out1 world3 k3 g.
-        popped_then (later s q out1) (pc1 + length bc) stack world3 (omega (arith, k3.frames, k2.frames, d.1)) last.0
+        popped_then (later s q out1) (pc1 + length bc) stack world3 (omega (arith, kept_frames k3, kept_frames k2, d.1)) (top_of_marks None (marks w.scopes.frames) world3.scopes.frames (k3.same_marks ∙ k2.same_marks)) last.0
         (move p f r (later s q out1) _ _ stack (pop world3) place g)))))))))
-    stmt_runs (SetBlock' t _ body) run s pc stack w L N fits d is h =
+    stmt_runs k (SetBlock' t _ body) run s pc stack w L N fits d j is h =
         let all = p.code s.run.stream in
-        let bc = statements_code (pc + 1) body in
+        let bc = statements_code (opening a_capture k) (pc + 1) body in
         let pc1 = pc + 1 + length bc in
         let tc = target_code (pc1 + 1) t in
         let behind = has_behind all (pc + 1) bc (i.EndCapture ∷ tc) is.1 in
@@ -730,19 +1143,19 @@ module _ (p : Program) (f : Base) (r : Final) (trees : Trees) (n : ℕ)
         let inner : Spot = record s { bed = captured_in s.bed s.out; out = [] } in
         let o = execs u body (capturing true (as_at run s)) [] w in
         at p f r (i.BeginCapture Capture) s pc stack w is.0 (silent p f r (told s) _
-        (stmts_run body (capturing true run) inner (pc + 1) stack w (Dropped r s.bed s.out L) (Dropped r s.bed s.out N) (stands_captured run s fits) d (has_front all (pc + 1) bc (i.EndCapture ∷ tc) is.1)
-        (captured_then r s.bed (as_at run s) s.out w o _ _ L N _ (execs_end u nest_ends body (capturing true (as_at run s)) [] w) h (λ q x world1 k h1.
+        (stmts_run (opening a_capture k) body (capturing true run) inner (pc + 1) stack w (Dropped r s.bed s.out L) (Dropped r s.bed s.out N) (stands_captured run s fits) d (around_capture k s stack w L N (omega (arith, fits.1)) j) (has_front all (pc + 1) bc (i.EndCapture ∷ tc) is.1)
+        (captured_then r s.bed (as_at run s) s.out w o _ _ L N _ (execs_end u nest_ends body (capturing true (as_at run s)) [] w) h (λ q x world1 k1 h1.
         at p f r i.EndCapture (later inner q x) pc1 stack world1 behind.0 (after_then p f r (told s) (tick world1) _
         (use_then r s.bed world1 (tick world1) (record run { parent = q }) s.out _ _ L N _ (tick_gives world1) h1 (λ _ world2 k2 h2.
         ended_then s q x pc1 stack world2 (omega (arith, fits.1))
-        (target_runs t (record run { parent = q }) (later s q s.out) (pc1 + 1) (captured_text x world2) stack world2 (deep_kept k2 (deep_kept k d)) behind.1
+        (target_runs t (record run { parent = q }) (later s q s.out) (pc1 + 1) (captured_text x world2) stack world2 (deep_kept k2 (deep_kept k1 d)) behind.1
         (use_then r s.bed world2 (assign u (record run { parent = q }) t (captured_text x world2) world2) (record run { parent = q }) s.out _ _ L N _ (assign_gives u nest_ends (record run { parent = q }) t (captured_text x world2) world2) h2 (λ _ world3 k3 h3.
         move p f r (later s q s.out) _ _ stack world3 place (so_far_then r s.bed (record run { parent = q }) s.out world3 _ L N h3)))))))))))
-    stmt_runs (AutoEscape' e _ body) run s pc stack w L N fits d is h =
+    stmt_runs k (AutoEscape' e _ body) run s pc stack w L N fits d j is h =
         let all = p.code s.run.stream in
         let ec = expr_code pc e in
         let pc1 = pc + length ec in
-        let bc = statements_code (pc1 + 1) body in
+        let bc = statements_code (opening an_escape k) (pc1 + 1) body in
         let behind = has_behind all pc ec (i.PushAutoEscape ∷ (bc ++ i.PopAutoEscape ∷ [])) is in
         let last = has_behind all (pc1 + 1) bc (i.PopAutoEscape ∷ []) behind.1 in
         let place : pc1 + 1 + length bc + 1 ≡ pc + length (ec ++ i.PushAutoEscape ∷ (bc ++ i.PopAutoEscape ∷ [])) =
@@ -755,49 +1168,77 @@ module _ (p : Program) (f : Base) (r : Final) (trees : Trees) (n : ℕ)
         (use_then r s.bed world1 (answered (escape_for run.first v) world1) (as_at run s) s.out _ _ L N _ (answered_gives _ world1) h1 (λ x world2 k2 h2.
         let inner : Spot = record s { run = record s.run { escapes = world2.escape ∷ s.run.escapes } } in
         silent p f r (told s) _
-        (stmts_run body run inner (pc1 + 1) stack (with_escape x world2) (Closed (with_escape world2.escape) L) (Closed (with_escape world2.escape) N) fits
-        (deep_kept (kept_escaped x (kept_same world2)) (deep_kept k2 (deep_kept k1 d))) (has_front all (pc1 + 1) bc (i.PopAutoEscape ∷ []) behind.1)
+        (stmts_run (opening an_escape k) body run inner (pc1 + 1) stack (with_escape x world2) (Closed (with_escape world2.escape) L) (Closed (with_escape world2.escape) N) fits
+        (deep_kept (kept_escaped x (kept_same world2)) (deep_kept k2 (deep_kept k1 d))) (around_escape k s stack world2 x L N (around_kept k s stack L N (kept_then k1 k2) j)) (has_front all (pc1 + 1) bc (i.PopAutoEscape ∷ []) behind.1)
         (closed_then r s.bed (with_escape x world2) (with_escape world2.escape) (execs u body (as_at run s) s.out (with_escape x world2)) _ L N _ (execs_end u nest_ends body (as_at run s) s.out (with_escape x world2)) h2 (λ q out1 world3 k3 g.
         at p f r i.PopAutoEscape (later inner q out1) (pc1 + 1 + length bc) stack world3 last.0
         (silent p f r (told (later s q out1)) _ (move p f r (later s q out1) _ _ stack (with_escape world2.escape world3) place g)))))))))))
-    stmt_runs (Do e) run s pc stack w L N fits d is h =
+    stmt_runs k (Do e) run s pc stack w L N fits d j is h =
         let c = expr_code pc e in
         let behind = has_behind (p.code s.run.stream) pc c (i.DiscardTop ∷ []) is in
         let place : pc + length c + 1 ≡ pc + length (c ++ i.DiscardTop ∷ []) = omega (arith, length-append c (i.DiscardTop ∷ [])) in
         expr_runs e (as_at run s) s pc stack w d (has_front (p.code s.run.stream) pc c (i.DiscardTop ∷ []) is)
-        (use_then r s.bed w (eval u (as_at run s) e w) (as_at run s) s.out _ _ L N _ (eval_gives u nest_ends (as_at run s) e w) h (λ v world1 k h1.
+        (use_then r s.bed w (eval u (as_at run s) e w) (as_at run s) s.out _ _ L N _ (eval_gives u nest_ends (as_at run s) e w) h (λ v world1 k1 h1.
         at p f r i.DiscardTop s (pc + length c) (v ∷ stack) world1 behind.0
         (silent p f r (told s) _ (move p f r s _ _ stack world1 place (so_far_then r s.bed (as_at run s) s.out world1 _ L N h1)))))
 
-    pub stmts_run : {m : _} → (ss : Row_of-Stmt m) (run : Run) (s : Spot) (pc : ℕ) (stack : List Val) (w : World) (L N : Then) → Stands f run s → Deep w → HasAt (p.code s.run.stream) pc (statements_code pc ss) →
-        Ends r s.bed (execs u ss (as_at run s) s.out w) (λ q out1 world1. Go p f r (later s q out1) (pc + length (statements_code pc ss)) stack world1) L N → Go p f r s pc stack w
-    stmts_run no_statement run s pc stack w L N fits d is h = move p f r s pc (pc + 0) stack w (omega arith) (so_far_then r s.bed (as_at run s) s.out w _ L N h)
-    stmts_run (statement x ss) run s pc stack w L N fits d is h =
-        let c = statement_code pc x in
-        let rest = statements_code (pc + length c) ss in
+    pub stmts_run : {m : _} → (k : Inside) (ss : Row_of-Stmt m) (run : Run) (s : Spot) (pc : ℕ) (stack : List Val) (w : World) (L N : Then) → Stands f run s → Deep w → Around k s stack w L N → HasAt (p.code s.run.stream) pc (statements_code k pc ss) →
+        Ends r s.bed (execs u ss (as_at run s) s.out w) (λ q out1 world1. Go p f r (later s q out1) (pc + length (statements_code k pc ss)) stack world1) L N → Go p f r s pc stack w
+    stmts_run k no_statement run s pc stack w L N fits d j is h = move p f r s pc (pc + 0) stack w (omega arith) (so_far_then r s.bed (as_at run s) s.out w _ L N h)
+    stmts_run k (statement x ss) run s pc stack w L N fits d j is h =
+        let c = statement_code k pc x in
+        let rest = statements_code k (pc + length c) ss in
         let place : pc + length c + length rest ≡ pc + length (c ++ rest) = omega (arith, length-append c rest) in
         let end = pc + length (c ++ rest) in
         let D : Then = λ q out1 world1. Go p f r (later s q out1) end stack world1 in
-        stmt_runs x run s pc stack w L N fits d (has_front (p.code s.run.stream) pc c rest is)
-        (do_then r s.bed (as_at run s) w (exec u x (as_at run s) s.out w) (λ run1 out1 world1. execs u ss run1 out1 world1) D L N _ (exec_ends u nest_ends x (as_at run s) s.out w) h (λ q out1 world1 k h1.
-        stmts_run ss run (later s q out1) (pc + length c) stack world1 L N (stands_later run s fits q out1) (deep_kept k d) (has_behind (p.code s.run.stream) pc c rest is)
+        stmt_runs k x run s pc stack w L N fits d j (has_front (p.code s.run.stream) pc c rest is)
+        (do_then r s.bed (as_at run s) w (exec u x (as_at run s) s.out w) (λ run1 out1 world1. execs u ss run1 out1 world1) D L N _ (exec_ends u nest_ends x (as_at run s) s.out w) h (λ q out1 world1 k1 h1.
+        stmts_run k ss run (later s q out1) (pc + length c) stack world1 L N (stands_later run s fits q out1) (deep_kept k1 d) (around_kept k s stack L N k1 j) (has_behind (p.code s.run.stream) pc c rest is)
         (ends_map r s.bed (execs u ss (record run { parent = q }) out1 world1) D _ L N h1 (λ q2 out2 world2 g. move p f r (later s q2 out2) _ end stack world2 place g))))
 
     -- the other part
-    second_runs : {m : _} → (body : Row_of-Stmt m) (other : Otherwise) (run : Run) (s : Spot) (pc end : ℕ) (stack : List Val) (w : World) (L N : Then) → Stands f run s → Deep w →
-        pc + length (statements_code pc body) + length (otherwise_code (pc + length (statements_code pc body)) other) ≡ end →
-        HasAt (p.code s.run.stream) pc (statements_code pc body ++ otherwise_code (pc + length (statements_code pc body)) other) →
-        Ends r s.bed (exec_else u other (as_at run s) s.out w) (λ q out1 world1. Go p f r (later s q out1) end stack world1) L N → Go p f r s (pc + length (statements_code pc body) + jump_over other) stack w
-    second_runs body no_else run s pc end stack w L N fits d place is h =
-        let here : pc + length (statements_code pc body) + 0 ≡ end = omega (arith, place) in
+    second_runs : {m : _} → (k : Inside) (body : Row_of-Stmt m) (other : Otherwise) (run : Run) (s : Spot) (pc end : ℕ) (stack : List Val) (w : World) (L N : Then) → Stands f run s → Deep w → Around k s stack w L N →
+        pc + length (statements_code k pc body) + length (otherwise_code k (pc + length (statements_code k pc body)) other) ≡ end →
+        HasAt (p.code s.run.stream) pc (statements_code k pc body ++ otherwise_code k (pc + length (statements_code k pc body)) other) →
+        Ends r s.bed (exec_else u other (as_at run s) s.out w) (λ q out1 world1. Go p f r (later s q out1) end stack world1) L N → Go p f r s (pc + length (statements_code k pc body) + jump_over other) stack w
+    second_runs k body no_else run s pc end stack w L N fits d j place is h =
+        let here : pc + length (statements_code k pc body) + 0 ≡ end = omega (arith, place) in
         move p f r s _ _ stack w here (so_far_then r s.bed (as_at run s) s.out w _ L N h)
-    second_runs body (otherwise _ eb) run s pc end stack w L N fits d place is h =
-        let bc = statements_code pc body in
-        let ec = statements_code (pc + length bc + 1) eb in
+    second_runs k body (otherwise _ eb) run s pc end stack w L N fits d j place is h =
+        let bc = statements_code k pc body in
+        let ec = statements_code k (pc + length bc + 1) eb in
         let here : pc + length bc + 1 + length ec ≡ end = omega (arith, place) in
         let behind = has_behind (p.code s.run.stream) pc bc (i.Jump (pc + length bc + 1 + length ec) ∷ ec) is in
-        stmts_run eb run s (pc + length bc + 1) stack w L N fits d behind.1
+        stmts_run k eb run s (pc + length bc + 1) stack w L N fits d j behind.1
         (ends_map r s.bed (execs u eb (as_at run s) s.out w) _ _ L N h (λ q out1 world1 g. move p f r (later s q out1) _ _ stack world1 here g))
+
+    -- behind a loop's last round
+    behind_loop_runs : (k : Inside) (other : Otherwise) (vs : List Val) (run : Run) (s : Spot) (pc end to : ℕ) (stack : List Val) (w x : World) (l : Loop) (L N : Then) → Stands f run s → Deep w → Around k s stack w L N →
+        Kept (in_loop_of for_flags w) x → slice_get x.loops (length w.loops) ≡ Some l → l.items ≡ vs → end + length (behind_loop_code k end other) ≡ to → HasAt (p.code s.run.stream) end (behind_loop_code k end other) → (q : Option TemplateId) (out : List ℕ) →
+        Ends r s.bed (exec_behind_loop u other (has_none vs) (record run { parent = q }) out (pop x)) (λ q1 out1 v. Go p f r (later s q1 out1) to stack v) L N → Go p f r (later (looped s) q out) end stack x
+    behind_loop_runs k no_else vs run s pc end to stack w x l L N fits d j kept e same place is q out h =
+        left_loop_then for_flags s q out end stack w x l d kept e is.0 (move p f r (later s q out) _ _ stack (pop x) place (so_far_then r s.bed (record run { parent = q }) out (pop x) _ L N h))
+    behind_loop_runs k (otherwise _ eb) vs run s pc end to stack w x l L N fits d j kept e same place is q out h =
+        let all = p.code s.run.stream in
+        let ec = statements_code k (end + 3) eb in
+        let test = i.JumpIfFalse (end + 3 + length ec) in
+        let b = has_none vs in
+        let D0 : Then = λ q1 out1 v. Go p f r (later s q1 out1) to stack v in
+        let here : end + 3 + length ec ≡ to = omega (arith, place) in
+        let first : end + 1 + 1 + 1 ≡ end + 3 = omega arith in
+        let popped = kept_popped (loop_scope (mark_behind for_flags w)) w x kept in
+        at p f r i.PushDidNotIterate (later (looped s) q out) end stack x is.0
+        (subst (λ n. Leads p f (told_by s.bed out) n r) (sym (did_not_is for_flags s q out end stack w x l vs kept e same))
+        (silent p f r (told_by s.bed out) _
+        (left_loop_then for_flags s q out (end + 1) (boolean b ∷ stack) w x l d kept e is.1.0
+        (at p f r test (later s q out) (end + 1 + 1) (boolean b ∷ stack) (pop x) is.1.1.0 (after_then p f r (told_by s.bed out) (tick (pop x)) _
+        (use_then r s.bed (pop x) (tick (pop x)) (record run { parent = q }) out _ D0 L N _ (tick_gives (pop x)) h (λ _ v k1 h1.
+        choose_ends p f r b (execs u eb (record run { parent = q }) out v) (so_far (record run { parent = q }) out v) _ _ (told_by s.bed out) s.bed D0 L N h1
+        (λ h2. silent p f r (told_by s.bed out) _ (move p f r (later s q out) _ _ stack v first
+        (stmts_run k eb run (later s q out) (end + 3) stack v L N (stands_later run s fits q out) (deep_kept (kept_then popped k1) d) (around_kept k s stack L N (kept_then popped k1) j)
+        (subst (λ n. HasAt all n ec) first is.1.1.1)
+        (ends_map r s.bed (execs u eb (record run { parent = q }) out v) _ _ L N h2 (λ q1 out1 y g. move p f r (later s q1 out1) _ _ stack y here g)))))
+        (λ h2. silent p f r (told_by s.bed out) _ (move p f r (later s q out) _ _ stack v here (so_far_then r s.bed (record run { parent = q }) out v D0 L N h2))))))))))
 
 -- ---------------------------------------------------------------- streams
 -- where a stream's run stands
@@ -823,18 +1264,27 @@ module _ (p : Program) (trees : Trees) (compiled : IsCompiled trees p) where
       let past : slice_get (p.code id) (length (p.code id)) ≡ None = slice_get_past (p.code id) (length (p.code id)) (omega arith) in
       let place : nat_eq (length (p.code id)) (length (p.code id)) ≡ true = eq-eqb (length (p.code id)) (length (p.code id)) refl in
       let captures : nat_eq (length (captures_of b out)) (length (captures_of b x)) ≡ true = eq-eqb _ _ (same_captures b out x) in
-      let scopes : nat_eq (length w.scopes.frames) (length v.scopes.frames) ≡ true = eq-eqb (length w.scopes.frames) (length v.scopes.frames) (sym k.frames) in
+      let scopes : nat_eq (length w.scopes.frames) (length v.scopes.frames) ≡ true = eq-eqb (length w.scopes.frames) (length v.scopes.frames) (sym (kept_frames k)) in
       let ends : finish (length (p.code id)) f c ≡ Over (Finished (captures_of b x) v) = rw (place, captures, scopes) refl in
       over (ap (λ o. act p f o c) past ∙ ends) e
+
+  -- where a loop that isn't there is left, or goes on
+  abbrev Stops : Final → Bed → Then
+  Stops r b q x v = Follows r (told_by b x) (tick v) (λ _ world1. r ≡ final (told_by b x) (Finished (captures_of b x) world1))
+
+  stopped_by : (b : Bed) (q : Option TemplateId) (x : List ℕ) (v : World) (e : Ending) (m : Res (Unit {0})) →
+      Follows (end_of b (done_by m (whole_of e q x v))) (told_by b x) m (λ _ world1. end_of b (done_by m (whole_of e q x v)) ≡ final (told_by b x) (Finished (captures_of b x) world1))
+  stopped_by b q x v e (Good _ world1) = refl
+  stopped_by b q x v e (Bad chain world1) = refl
 
   end_then : (id : StreamId) (heard : Bool) (b : Bed) (out : List ℕ) (w : World) (e : Ending) (q : Option TemplateId) (x : List ℕ) (v : World) → EndsKept w e v →
       Ends (end_of b (at_end e (whole_of e q x v))) b (whole_of e q x v)
       (λ q1 x1 v1. Go p (base_of heard (captures_of b out) w) (end_of b (at_end e (whole_of e q x v))) (later (spot_of id b out) q1 x1) (length (p.code id)) [] v1)
-      (λ q1 x1 v1. Unit {0}) (λ q1 x1 v1. Unit {0})
+      (Stops (end_of b (at_end e (whole_of e q x v))) b) (Stops (end_of b (at_end e (whole_of e q x v))) b)
   unfolding Ends
   end_then id heard b out w done q x v k = finishes id heard b out w q x v _ k refl
-  end_then id heard b out w leave q x v k = tt
-  end_then id heard b out w next q x v k = tt
+  end_then id heard b out w leave q x v k = stopped_by b q x v leave (tick v)
+  end_then id heard b out w next q x v k = stopped_by b q x v next (tick v)
   end_then id heard b out w (fault chain) q x v k = refl
 
   -- A stream's run comes to what its tree means, where what nests does so a level below.
@@ -847,12 +1297,21 @@ module _ (p : Program) (trees : Trees) (compiled : IsCompiled trees p) where
       let r = end_of b (at_end o.ending o) in
       let f = base_of heard (captures_of b out) w in
       let s = spot_of id b out in
-      let code = statements_code 0 (trees id).row in
+      let row = (trees id).row in
+      let stop = length (statements_code outside 0 row) in
+      let k : Inside = record { again = stop; behind = stop; opened = [] } in
+      let code = statements_code k 0 row in
       let stands : HasAt (p.code id) 0 code = subst (λ c. HasAt c 0 code) (sym (compiled id)) (has_whole code) in
       let size : length (p.code id) ≡ 0 + length code = ap length (compiled id) ∙ omega arith in
       let ends = end_then id heard b out w o.ending o.parent o.text o.world (ends_as w o (execs_end u (nests_end p.host trees n) (trees id).row (new_run heard w) out w)) in
-      let placed = ends_map r b o _ (λ q x v. Go p f r (later s q x) (0 + length code) [] v) (λ q x v. Unit {0}) (λ q x v. Unit {0}) ends (λ q x v g. move p f r (later s q x) _ _ [] v (sym size) g) in
-      stmts_run p f r trees n below (trees id).row (new_run heard w) s 0 [] w (λ q x v. Unit {0}) (λ q x v. Unit {0}) (stands_start id b out heard w) (deep, omega arith) stands placed
+      let placed = ends_map r b o _ (λ q x v. Go p f r (later s q x) (0 + length code) [] v) (Stops r b) (Stops r b) ends (λ q x v g. move p f r (later s q x) _ _ [] v (sym size) g) in
+      let end_of_code : stop ≡ length (p.code id) = statements_long 0 0 stop stop 0 [] row ∙ sym (size ∙ omega arith) in
+      let stops : (q : Option TemplateId) (x : List ℕ) (v : World) (pc : ℕ) → Kept w v → HasAt (p.code id) pc (i.Jump stop ∷ []) → Stops r b q x v → Go p f r (later s q x) pc [] v =
+      λ q x v pc kept is l.
+      at p f r (i.Jump stop) (later s q x) pc [] v is.0 (after_then p f r (told_by b x) (tick v) _
+      (follows_map_kept r (told_by b x) v (tick v) _ _ (tick_gives v) l (λ _ v1 k1 e.
+      silent p f r (told_by b x) _ (move p f r (later s q x) _ _ [] v1 end_of_code (finishes id heard b out w q x v1 r (kept_then kept k1) e))))) in
+      stmts_run p f r trees n below k row (new_run heard w) s 0 [] w (Stops r b) (Stops r b) (stands_start id b out heard w) (deep, omega arith) (stops, stops) stands placed
 
   -- What nests comes to what it means. Level zero isn't reached, since a run stands one level deeper than the one that needs it, within the limit.
   pub nests_run : (n : ℕ) (k : Callee) (heard : Bool) (b : Bed) (out : List ℕ) (w : World) → p.host.limit + 1 ≤ n + depth w.scopes → depth w.scopes ≤ p.host.limit →

@@ -3,9 +3,12 @@ use Rattle.std.specs.Prelude.{◌≡◌, ◌≤◌, ℕ, List, Result, Ok, Err, 
 use Rattle.tm_values.specs.Chain.{ends_in_memory}
 use Rattle.tm_values.specs.declared.error.ErrorKind.{ErrorKind}
 use Rattle.tm_syntax.specs.Named.{put_each}
+use Rattle.tm_values.specs.Val.{Val}
+use Rattle.tm_tables.specs.declared.callable.Called.{Called}
+use Rattle.tm_tables.specs.declared.callable.Called.TheVariants as called
 use Rattle.tm_tables.specs.Stated.{is_for_memory}
-use Rattle.tm_meaning.specs.World.{World, Res, Good, Bad, Stated}
-use Rattle.tm_meaning.specs.Calls.{Asked, refused, replied}
+use Rattle.tm_meaning.specs.World.{World, Res, Good, Bad}
+use Rattle.tm_meaning.specs.Calls.{Asked, has, refused, ask, replied, given_by}
 
 -- What every answer keeps, also where it is a halt.
 pub record Keeps (old new : World) : Type 0 where
@@ -18,7 +21,8 @@ abbrev pub CanBeEmitted : Result (Unit {0}) (List ErrorKind) → Res (List ℕ) 
 CanBeEmitted (Ok _) emitted text w = emitted ≡ Good text w
 CanBeEmitted (Err chain) emitted text w = ends_in_memory chain ≡ false → emitted ≡ Bad chain w
 
--- What a call comes to: what was answered, with its values kept; or the call is refused.
-abbrev pub Calls : Result Stated (List ErrorKind) → Asked → World → Type 0
-Calls (Ok answer) asked w = is_for_memory answer.reply ≡ false → asked ≡ replied answer.reply (record w { temps = put_each answer.temps w.temps })
-Calls (Err chain) asked w = ends_in_memory chain ≡ false → asked ≡ refused chain w
+-- What a call of these arguments comes to: what was answered, with its values kept; or what a function of the language gives; or the call is refused.
+abbrev pub Calls : Result Called (List ErrorKind) → Asked → List Val → World → Type 0
+Calls (Ok (called.Answered answer)) asked args w = is_for_memory answer.reply ≡ false → asked ≡ replied answer.reply (record w { temps = put_each answer.temps w.temps })
+Calls (Ok (called.Language g)) asked args w = asked ≡ ask (given_by g args w) has
+Calls (Err chain) asked args w = ends_in_memory chain ≡ false → asked ≡ refused chain w

@@ -1,12 +1,14 @@
 -- What a state's fields stand for, and what is put back behind a block.
-use Rattle.std.specs.Prelude.{◌≡◌, ℕ, List, [], ◌∷◌, map as each, Option, Some, None, Bool, true, false}
+use Rattle.std.specs.Prelude.{◌≡◌, ℕ, List, [], ◌∷◌, ◌++◌, length, map as each, Option, Some, None, Bool, true, false}
 use Rattle.tm_values.specs.Val.{Val, undefined}
 use Rattle.tm_values.specs.declared.escape.AutoEscape.{AutoEscape}
 use Rattle.tm_syntax.specs.declared.instruction.Instruction.{Instruction}
-use Rattle.tm_meaning.specs.World.{Named, World, Layers, root_of, block_of, plain, with_frames, pop}
+use Rattle.tm_meaning.specs.World.{Named, World, Loop, loop_scope, new_loop, Layers, root_of, block_of, plain, with_frames, pop}
 use Rattle.tm_meaning.specs.Calls.{Asked, runs, whole, of_block, with_outer}
 use Rattle.tm_meaning.specs.Meaning.{first_fuel}
 use Rattle.tm_meaning.specs.declared.stream.TemplateId.TheVariants.{Own}
+use Rattle.tm_meaning.specs.declared.stream.StreamId.{StreamId}
+use Rattle.tm_syntax.specs.declared.instruction.LoopFlags.{LoopFlags}
 use Rattle.tm_parts.specs.Fuel.{Fuel}
 use Rattle.tm_tables.specs.Scopes.{exported_of}
 use Rattle.tm_state.specs.declared.saved.Saved.{Saved}
@@ -66,6 +68,25 @@ IsThere false found = found ≡ None
 -- one scope more, over no context
 abbrev pub scoped : World → World
 scoped w = with_frames (plain (undefined false) ∷ w.scopes.frames) w
+
+-- a loop's record, none of whose items was asked for yet
+abbrev pub loop_record : List Val → ℕ → Bool → StreamId → Loop
+loop_record items depth recursive stream = record {
+  items = items;
+  turns = 0;
+  depth = depth;
+  number = 0;
+  recursive = recursive;
+  stream = stream;
+  kept = None;
+}
+
+-- a loop more, in a scope of its own
+abbrev pub looped : List Val → LoopFlags → World → World
+looped items flags w =
+    record (with_frames (loop_scope (record { number = length w.loops; variable = flags.variable }) ∷ w.scopes.frames) w) {
+      loops = w.loops ++ new_loop items flags w ∷ [];
+    }
 
 -- The names that a state exports: its outermost scope's own, in the order of the scope's locals, without those that begin with `_`.
 abbrev pub exported : World → List (List ℕ)

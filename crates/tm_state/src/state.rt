@@ -1,28 +1,28 @@
 //! The data of a state.
-ghost use Rattle.std.specs.Prelude.{◌≡◌, ◌+◌, ◌≤◌, ◌<◌, List, [], ◌∷◌, Some, None, false, true, length, nat_lt, OnOk, OnErr, IfErr, IfOk, IfSome, MatchOption, MatchResult};
-ghost use Rattle.tm_values.specs.Answer.{OkOrOutOfMemory, IsLent};
+ghost use Rattle.std.specs.Prelude.{◌≡◌, ◌+◌, ◌≤◌, ◌<◌, List, [], ◌∷◌, ◌++◌, Some, None, false, true, is_some, length, nat_lt, OnOk, OnErr, IfErr, IfOk, IfSome, MatchOption, MatchResult};
+ghost use Rattle.tm_values.specs.Answer.{IsAnswer, OkOrOutOfMemory, IsLent};
 ghost use Rattle.tm_values.specs.Chain.{ends_in_memory};
-ghost use Rattle.tm_syntax.specs.Named.{find, put_each, texts_of};
-ghost use Rattle.tm_meaning.specs.World.{depth, with_escape, pop, store, set_member, with_member, emitted, records_of, fuel_levels, find_name, view_of, name_of, Good, Bad, block_of};
-ghost use Rattle.tm_meaning.specs.Calls.{enter_block, call_named, refused};
+ghost use Rattle.tm_syntax.specs.Named.{find, put, put_each, texts_of};
+ghost use Rattle.tm_meaning.specs.World.{depth, with_escape, loop_depth, top_loop, top_mark, next_turn, turned_at, cleared, pop, store, set_member, with_member, make_namespace, emitted, records_of, fuel_levels, find_name, view_of, name_of, Good, Bad, block_of};
+ghost use Rattle.tm_meaning.specs.Calls.{enter_block, call_named, given_by, refused};
 ghost use Rattle.tm_meaning.specs.Steps.{charge_of, pay};
 ghost use Rattle.tm_printing.specs.Emitted.{emitted_text};
-ghost use Rattle.tm_tables.specs.Found.{IsFound};
 ghost use Rattle.tm_tables.specs.Scopes.{PushFails};
 ghost use Rattle.tm_state.specs.Answers.{Keeps, CanBeEmitted, Calls};
-ghost use Rattle.tm_state.specs.State.{exported, started, put_back, saved_of, runs_block, IsThere, scoped};
+ghost use Rattle.tm_state.specs.State.{looped, loop_record, exported, started, put_back, saved_of, runs_block, IsThere, scoped};
 
 use crate::saved::Saved;
 use sqlite_items::Items;
 use std::alloc::Global;
 use std::marker::Model;
 use std::mem;
-use tm_meaning::{StreamId, TemplateId};
-use tm_operations::{check_defined, check_settable};
-use tm_parts::FuelTracker;
+use std::rc::Rc;
+use tm_meaning::{GlobalFunction, LoopMark, StreamId, TemplateId};
+use tm_operations::{check_defined, check_settable, dict, namespace, range};
+use tm_parts::{FuelTracker, LoopState, following_at, position_at, previous_at};
 use tm_printing::check_emission;
-use tm_syntax::{Instruction, Name, NameMap};
-use tm_tables::{Answer, Context, Frame, Host, View};
+use tm_syntax::{Instruction, LoopFlags, Name, NameMap};
+use tm_tables::{Called, Context, Frame, Host, View};
 use tm_values::{
     AutoEscape, Error, ErrorKind, LoopPosition, Node, Records, UndefinedUse, Value, ValueMap,
 };
@@ -33,6 +33,7 @@ pub struct StateData<'env> {
     id: u64,
     context: Context,
     namespaces: Vec<ValueMap>,
+    loops: Vec<LoopState>,
     temps: NameMap<Value>,
     blocks: &'env NameMap<Items<Instruction>>,
     block: Option<Name>,
@@ -57,7 +58,7 @@ impl<'env> Model for StateData<'env> {
       id = s.id;
       scopes = s.context;
       namespaces = s.namespaces.items;
-      loops = [];
+      loops = s.loops.items;
       closures = [];
       streams = [];
       temps = s.temps;
@@ -92,6 +93,7 @@ impl<'env> StateData<'env> {
             id,
             context,
             namespaces: Vec::new(alloc),
+            loops: Vec::new(alloc),
             temps: NameMap::new(alloc),
             blocks,
             block: None,
@@ -135,6 +137,7 @@ impl<'env> StateData<'env> {
             self.id,
             &self.context,
             &self.namespaces,
+            &self.loops,
             host.globals(),
             &self.temps,
             host.template_name(&self.stream.template),
@@ -144,16 +147,16 @@ impl<'env> StateData<'env> {
     }
 
     /// The value of a name: of the scopes, an inner one's first, else of the globals. InvalidOperation where a context value on the way can't be known.
-    pub fn lookup<'a, H: Host>(
-        &'a self,
-        host: &'a H,
-        name: &str,
-    ) -> Result<Option<&'a Value>, Error>
-        ensures { IsFound result (find_name (view_of (H.meaning host.now) self.now) name.now) }
+    pub fn lookup<H: Host>(&self, host: &H, name: &str) -> Result<Option<Value>, Error>
+        ensures { IsAnswer result (find_name (view_of (H.meaning host.now) self.now) name.now) }
     {
         match self.context.find(name, self) {
-            Ok(None) => Ok(host.globals().get(name)),
-            found => found,
+            Ok(Some(found)) => Ok(Some(found.value(self.id)?)),
+            Ok(None) => match host.globals().get(name) {
+                Some(global) => Ok(Some(global.share()?)),
+                None => Ok(None),
+            },
+            Err(error) => Err(error),
         }
     }
 
@@ -162,6 +165,18 @@ impl<'env> StateData<'env> {
         ensures { IsLent result (find name.now self.now.temps) }
     {
         self.temps.get(name)
+    }
+
+    /// Keeps a value at a name, and gives the one that was kept there. Fails by OutOfMemory alone, and then all stays as it was.
+    pub fn set_temp(&mut self, name: Name, value: Value) -> Result<Option<Value>, Error>
+        ensures before { IfOk result (λ before. before ≡ find name self.old.temps) }
+        ensures ok { OnOk result
+            (self.new ≡ record self.old { temps = put name value self.old.temps }) }
+        ensures kind { IfErr result (λ e. e ≡ ErrorKind.OutOfMemory ∷ []) }
+        ensures err { OnErr result (self.new ≡ self.old) }
+    {
+        let before = self.temps.replace(name, value)?;
+        Ok(before)
     }
 
     /// The names that the outermost scope exports, in their order: those of its own that don't begin with `_`. Fails by OutOfMemory alone.
@@ -180,15 +195,16 @@ impl<'env> StateData<'env> {
         keep_each(&mut self.temps, temps)
     }
 
-    /// What the function of a name answers to these arguments. UnknownFunction where the name isn't found, InvalidOperation where its value can't be called or a context value on the way can't be known.
+    /// What the function of a name answers to these arguments, or which one of the language it is. UnknownFunction where the name isn't found, InvalidOperation where its value can't be called or a context value on the way can't be known.
     pub fn call<H: Host>(
         &self,
         alloc: Global,
         host: &H,
         name: &Name,
         args: &[Value],
-    ) -> Result<Answer, Error>
-        ensures { Calls result (call_named (H.meaning host.now) name.now args.now self.now) self.now }
+    ) -> Result<Called, Error>
+        ensures { Calls result (call_named (H.meaning host.now) name.now args.now self.now)
+            args.now self.now }
     {
         let found = match self.lookup(host, name.as_str()) {
             Ok(Some(value)) => value,
@@ -200,9 +216,47 @@ impl<'env> StateData<'env> {
         };
         let view = self.view(host);
         match host.call_function(alloc, *number, args, &view) {
-            Some(answer) => Ok(answer),
+            Some(called) => Ok(called),
             None => Err(Error::from(ErrorKind::InvalidOperation)),
         }
+    }
+
+    /// What a function of the language gives for these arguments; a namespace's record then stands behind all others. Fails as `range`, `dict` and `namespace` do; then the state stays as it was.
+    pub fn call_language(
+        &mut self,
+        alloc: Global,
+        function: GlobalFunction,
+        args: &[Value],
+    ) -> Result<Value, Error>
+        ensures ok { IfOk result (λ v. given_by function args.now self.old ≡ Good v self.new) }
+        ensures err { IfErr result (λ e. ends_in_memory e ≡ false →
+            given_by function args.now self.old ≡ Bad e self.old) }
+        ensures unchanged { OnErr result (self.new ≡ self.old) }
+        ensures rest { self.new ≡ record self.old { namespaces = self.new.namespaces } }
+    {
+        match function {
+            GlobalFunction::Range => range(alloc, args),
+            GlobalFunction::Dict => match dict(alloc, args, self) {
+                Ok(pairs) => Value::from_map(alloc, pairs),
+                Err(error) => Err(error),
+            },
+            GlobalFunction::Namespace => match namespace(alloc, args, self) {
+                Ok(pairs) => self.add_namespace(pairs),
+                Err(error) => Err(error),
+            },
+        }
+    }
+
+    /// A namespace of these pairs, whose record stands behind all others. Fails by OutOfMemory alone; then the state stays as it was.
+    fn add_namespace(&mut self, pairs: ValueMap) -> Result<Value, Error>
+        ensures ok { IfOk result (λ v. make_namespace pairs self.old ≡ Good v self.new) }
+        ensures kind { IfErr result (λ e. e ≡ ErrorKind.OutOfMemory ∷ []) }
+        ensures err { OnErr result (self.new ≡ self.old) }
+        ensures rest { self.new ≡ record self.old { namespaces = self.new.namespaces } }
+    {
+        let number = self.namespaces.len();
+        self.namespaces.push(pairs)?;
+        Ok(Value::namespace(self.id, number))
     }
 
     /// Whether a value can be emitted: UndefinedError where it is undefined and the behaviour refuses that, else what the escape refuses.
@@ -301,6 +355,78 @@ impl<'env> StateData<'env> {
             .push_frame(Frame::new(alloc, Value::undefined()), limit)
     }
 
+    /// A loop over items in a scope of its own, with a record behind all others. InvalidOperation where the scope would lie deeper than the limit, OutOfMemory where there is no memory; then the state stays as it was.
+    pub fn open_loop(
+        &mut self,
+        alloc: Global,
+        items: Rc<Vec<Value>>,
+        flags: LoopFlags,
+        limit: usize,
+    ) -> Result<(), Error>
+        ensures ok { OnOk result (self.new ≡ looped items.value.items flags self.old) }
+        ensures fits { OnOk result (nat_lt (depth self.old.scopes) limit ≡ true) }
+        ensures kind { IfErr result (PushFails (nat_lt (depth self.old.scopes) limit)) }
+        ensures err { OnErr result (self.new ≡ self.old) }
+    {
+        let depth = self.loop_depth();
+        let mark = LoopMark {
+            number: self.loops.len(),
+            variable: flags.variable,
+        };
+        self.context.push_frame(Frame::of_loop(alloc, mark), limit)?;
+        let added = add_loop(&mut self.loops, &self.stream, items, depth, flags.recursive);
+        if added.is_err() {
+            self.context.pop_frame();
+        }
+        added
+    }
+
+    /// How deep a loop stands that is opened now.
+    fn loop_depth(&self) -> usize
+        ensures { result ≡ loop_depth self.now }
+    {
+        match self.context.innermost_loop() {
+            Some(number) => match self.loops.get(number) {
+                Some(state) => state.depth_inside(),
+                None => 0,
+            },
+            None => 0,
+        }
+    }
+
+    /// The record of the innermost scope, where that is a loop's.
+    pub fn top_loop(&self) -> Option<&LoopState>
+        ensures { IsLent result (top_loop self.now) }
+    {
+        match self.context.top_mark() {
+            Some(mark) => self.loops.get(mark.number),
+            None => None,
+        }
+    }
+
+    /// Asks the innermost scope's loop for its next item.
+    pub fn next_turn(&mut self)
+        ensures { self.new ≡ next_turn self.old }
+    {
+        if let Some(mark) = self.context.top_mark() {
+            turn_at(&mut self.loops, mark.number);
+        }
+    }
+
+    /// The innermost scope loses its names.
+    pub fn clear_locals(&mut self, alloc: Global)
+        ensures { self.new ≡ cleared self.old }
+    {
+        self.context.clear_locals(alloc);
+    }
+
+    /// Whether the innermost scope is a loop's.
+    pub fn is_in_loop(&self) -> bool
+        ensures { result ≡ is_some (top_mark self.now.scopes.frames) }
+    {
+        self.context.top_mark().is_some()
+    }
+
     /// Leaves the innermost scope.
     pub fn pop_scope(&mut self)
         ensures { self.new ≡ pop self.old }
@@ -391,6 +517,32 @@ fn set_in(
     namespaces[index].insert(key, value)
 }
 
+/// Adds the record of a loop behind all others. Fails by OutOfMemory alone, and then they stay as they were.
+fn add_loop(
+    loops: &mut Vec<LoopState>,
+    stream: &StreamId,
+    items: Rc<Vec<Value>>,
+    depth: usize,
+    recursive: bool,
+) -> Result<(), Error>
+    ensures ok { OnOk result (loops.new.items
+        ≡ loops.old.items ++ loop_record items.value.items depth recursive stream.now ∷ []) }
+    ensures kind { IfErr result (λ e. e ≡ ErrorKind.OutOfMemory ∷ []) }
+    ensures err { OnErr result (loops.new.items ≡ loops.old.items) }
+{
+    loops.push(LoopState::new(items, depth, recursive, stream.share()?))?;
+    Ok(())
+}
+
+/// Asks the loop of a number, where there is one, for its next item.
+fn turn_at(loops: &mut Vec<LoopState>, number: usize)
+    ensures { loops.new.items ≡ turned_at number loops.old.items }
+{
+    if number < loops.len() {
+        loops[number].turn();
+    }
+}
+
 /// Keeps values by name, one behind the other. Fails by OutOfMemory alone.
 fn keep_each(temps: &mut NameMap<Value>, kept: Vec<(Name, Value)>) -> Result<(), Error>
     ensures ok { OnOk result (temps.new ≡ put_each kept.items temps.old) }
@@ -402,7 +554,6 @@ fn keep_each(temps: &mut NameMap<Value>, kept: Vec<(Name, Value)>) -> Result<(),
     Ok(())
 }
 
-/// There are no loops yet. Each call reads a field, since a proof knows nothing of a state that isn't read.
 impl Records for StateData<'_> {
     ghost use Rattle.tm_meaning.specs.World.{records_of};
 
@@ -420,18 +571,15 @@ impl Records for StateData<'_> {
         self.namespaces.get(index)
     }
 
-    fn loop_position(&self, _index: usize) -> Option<LoopPosition> {
-        let _state = self.id;
-        None
+    fn loop_position(&self, index: usize) -> Option<LoopPosition> {
+        position_at(&self.loops, index)
     }
 
-    fn previous_item(&self, _index: usize) -> Option<&Value> {
-        let _state = self.id;
-        None
+    fn previous_item(&self, index: usize) -> Option<&Value> {
+        previous_at(&self.loops, index)
     }
 
-    fn following_item(&self, _index: usize) -> Option<&Value> {
-        let _state = self.id;
-        None
+    fn following_item(&self, index: usize) -> Option<&Value> {
+        following_at(&self.loops, index)
     }
 }

@@ -1,5 +1,7 @@
 -- Maps by name, whose keys lie in memory, against the pairs that contracts see.
-use Rattle.std.proofs.Common.{◌≡◌, ℕ, List, [], ◌∷◌, map, refl, sym, ap, Option, Some, None, MatchOption, Bor, cond}
+use Rattle.std.proofs.Common.{◌≡◌, ◌≢◌, ◌∙◌, ℕ, List, [], ◌∷◌, map, refl, sym, ap, Option, Some, None, MatchOption, Bor, Bool, true, false, cond}
+use Rattle.std.proofs.lemmas.Map.Text.{is_eq-slice_cmp}
+use Rattle.std.proofs.lemmas.Slice.Eq.{bytes_eq-Decides}
 use Rattle.std.specs.Option.{option_copied}
 use Rattle.std.specs.Rc.{rc_str_bytes}
 use Rattle.std.specs.declared.rc.RcStr.{RcStr}
@@ -8,8 +10,8 @@ use Rattle.std.specs.declared.cmp.Ordering.{Ordering}
 use Rattle.std.specs.declared.cmp.Ordering.TheVariants.{Less, Equal, Greater}
 use Rattle.std.specs.Ordering.{match_ordering}
 use Rattle.std.specs.BTreeMap.{insert_entry, is_at}
-use Rattle.std.specs.Map.{keys_of, lookup}
-use Rattle.tm_syntax.specs.Named.{name_cmp, find, put, named_of}
+use Rattle.std.specs.Map.{keys_of, lookup, remove_entry}
+use Rattle.tm_syntax.specs.Named.{Named, name_cmp, find, put, without, named_of}
 
 map_match_ordering : {A B : Type 0} (f : A → B) (o : Ordering) (x y z : List A) → map f (match_ordering o x y z) ≡ match_ordering o (map f x) (map f y) (map f z)
 map_match_ordering f Less x y z = refl
@@ -33,3 +35,41 @@ found_there (Some a) o e = sym e
 pub keys_named : {A : Type 0} (es : List (RcStr Global × A)) → map rc_str_bytes (keys_of es) ≡ keys_of (named_of es)
 keys_named [] = refl
 keys_named (e ∷ es) = ap (λ l. rc_str_bytes e.0 ∷ l) (keys_named es)
+
+map_cond : {A B : Type 0} (f : A → B) (b : Bool) (x y : List A) → map f (cond b x y) ≡ cond b (map f x) (map f y)
+map_cond f true x y = refl
+map_cond f false x y = refl
+
+pub without_named : {A : Type 0} (es : List (RcStr Global × A)) (name : List ℕ) →
+    named_of (remove_entry (is_at (λ k. name_cmp name (rc_str_bytes k))) es) ≡ without name (named_of es)
+without_named [] name = refl
+without_named (e ∷ es) name = rw map_cond (rw (without_named es name) refl)
+
+same_text : (x y : List ℕ) → is_at (name_cmp x) y ≡ true → x ≡ y
+same_text x y h = (bytes_eq-Decides x y).0 (sym (is_eq-slice_cmp x y) ∙ h)
+
+other_text : (x y : List ℕ) → x ≢ y → (b : Bool) → is_at (name_cmp x) y ≡ b → b ≡ false
+other_text x y apart true h = absurd (apart (same_text x y h))
+other_text x y apart false h = refl
+
+kept_by : {A : Type 0} (x y : List ℕ) → x ≢ y → (p : List ℕ × A) (ps : Named A) → find x (without y ps) ≡ find x ps →
+    (b : Bool) → is_at (name_cmp y) p.0 ≡ b → find x (cond b ps (p ∷ without y ps)) ≡ find x (p ∷ ps)
+kept_by x y apart p ps more true h =
+    let behind = other_text x p.0 (λ same. apart (same ∙ sym (same_text y p.0 h))) (is_at (name_cmp x) p.0) refl in
+    sym (ap (λ b. cond b (Some p.1) (find x ps)) behind)
+kept_by x y apart p ps more false h = ap (cond (is_at (name_cmp x) p.0) (Some p.1)) more
+
+-- a name that is left stands for what it did
+pub find_others : {A : Type 0} (x y : List ℕ) → x ≢ y → (ps : Named A) → find x (without y ps) ≡ find x ps
+find_others x y apart [] = refl
+find_others x y apart (p ∷ ps) = kept_by x y apart p ps (find_others x y apart ps) (is_at (name_cmp y) p.0) refl
+
+kept_whole : {A : Type 0} (x : List ℕ) (p : List ℕ × A) (ps : Named A) (b : Bool) → (find x ps ≡ None → without x ps ≡ ps) →
+    cond b (Some p.1) (find x ps) ≡ None → cond b ps (p ∷ without x ps) ≡ p ∷ ps
+kept_whole x p ps true more h = absurd (let e = h in cc)
+kept_whole x p ps false more h = ap (λ qs. p ∷ qs) (more h)
+
+-- without a name that isn't there nothing changes
+pub without_absent : {A : Type 0} (x : List ℕ) (ps : Named A) → find x ps ≡ None → without x ps ≡ ps
+without_absent x [] h = refl
+without_absent x (p ∷ ps) h = kept_whole x p ps (is_at (name_cmp x) p.0) (without_absent x ps) h

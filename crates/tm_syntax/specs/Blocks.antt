@@ -1,9 +1,9 @@
 -- Statements as one thing, and the blocks among them.
 use Rattle.std.specs.Prelude.{ℕ, List, [], ◌∷◌, ◌++◌, map as each}
 use mathlib.Core.Former.{Count}
-use Rattle.tm_syntax.specs.declared.tree.Stmt.{Stmt, If', Block', SetBlock', With', AutoEscape', Row_of-Stmt, end_of-Stmt as no_statement, more_of-Stmt as statement, Held-Stmt-If-2 as Otherwise, None' as no_else, Some' as otherwise}
+use Rattle.tm_syntax.specs.declared.tree.Stmt.{Stmt, If', For', Block', SetBlock', With', AutoEscape', Row_of-Stmt, end_of-Stmt as no_statement, more_of-Stmt as statement, Held-Stmt-If-2 as Otherwise, None' as no_else, Some' as otherwise}
 use Rattle.tm_syntax.specs.declared.instruction.Instruction.{Instruction}
-use Rattle.tm_syntax.specs.Code.{statements_code}
+use Rattle.tm_syntax.specs.Code.{stream_code}
 use Rattle.tm_syntax.specs.Named.{Named}
 
 pub record Body : Type 0 where
@@ -20,6 +20,7 @@ empty = body_of no_statement
 abbrev mutual
   pub blocks_of : Stmt → Named Body
   blocks_of (If' c _ body other) = blocks_in body ++ blocks_else other
+  blocks_of (For' t e c _ body other) = blocks_in body ++ blocks_else other
   blocks_of (Block' x _ body) = blocks_in body ++ (x, body_of body) ∷ []
   blocks_of (SetBlock' t _ body) = blocks_in body
   blocks_of (With' given _ body) = blocks_in body
@@ -36,7 +37,7 @@ abbrev mutual
 
 -- the instructions of a body
 abbrev pub code_of : Body → List Instruction
-code_of body = statements_code 0 body.row
+code_of body = stream_code body.row
 
 -- a block with its instructions
 abbrev pub compiled : List ℕ × Body → List ℕ × List Instruction

@@ -1,22 +1,25 @@
 -- The instructions of a tree, at a place.
-use Rattle.std.specs.Prelude.{ℕ, ◌+◌, List, [], ◌∷◌, ◌++◌, length}
+use Rattle.std.specs.Prelude.{ℕ, ◌+◌, pos, List, [], ◌∷◌, ◌++◌, length, Option, Some, None, true, false}
+use Rattle.tm_values.specs.Val.{Val, number, text}
 use Rattle.tm_syntax.specs.declared.tree.UnaryOperator.{UnaryOperator}
 use Rattle.tm_syntax.specs.declared.tree.UnaryOperator.TheVariants as unaries
 use Rattle.tm_syntax.specs.declared.tree.BinaryOperator.{BinaryOperator}
 use Rattle.tm_syntax.specs.declared.tree.BinaryOperator.TheVariants as binaries
-use Rattle.tm_syntax.specs.declared.tree.Expr.{Expr, Var, Const, List', Tuple', Map', Call', Row_of-Expr, end_of-Expr as no_expr, more_of-Expr as expr, Row_of-Pair, end_of-Pair as no_pair, more_of-Pair as with_pair, Row_of-Argument, end_of-Argument as no_argument, more_of-Argument as argument, Row_of-Step, end_of-Step as no_step, more_of-Step as step, Row_of-Condition, end_of-Condition as no_condition, more_of-Condition as with_condition}
+use Rattle.tm_syntax.specs.declared.tree.Expr.{Expr, Var, Const, List', Tuple', Map', Call', Row_of-Expr, end_of-Expr as no_expr, more_of-Expr as expr, Row_of-Pair, end_of-Pair as no_pair, more_of-Pair as with_pair, Row_of-Argument, end_of-Argument as no_argument, more_of-Argument as argument, Row_of-Keyword, end_of-Keyword as no_keyword, more_of-Keyword as with_keyword, Row_of-Step, end_of-Step as no_step, more_of-Step as step, Row_of-Condition, end_of-Condition as no_condition, more_of-Condition as with_condition}
 use Rattle.tm_syntax.specs.declared.tree.Argument.{Argument}
+use Rattle.tm_syntax.specs.declared.tree.Keyword.{Keyword}
 use Rattle.tm_syntax.specs.declared.tree.Pair.{Pair}
 use Rattle.tm_syntax.specs.declared.tree.Condition.{Condition}
 use Rattle.tm_syntax.specs.declared.tree.Step.{Step, Attribute, Row_of-Comparison, end_of-Comparison as no_comparison, more_of-Comparison as with_comparison}
 use Rattle.tm_syntax.specs.declared.tree.Target.{Target, Name as To, Unpack' as Items, Attribute as Member, Row_of-Target, end_of-Target as no_target, more_of-Target as target}
 use Rattle.tm_syntax.specs.declared.tree.Assignment.{Assignment}
 use Rattle.tm_syntax.specs.declared.tree.Assignment.TheVariants.{Assignment as Given}
-use Rattle.tm_syntax.specs.declared.tree.Stmt.{Stmt, EmitRaw, EmitExpr, If', Block', Set, SetBlock', With', Do, AutoEscape', Row_of-Stmt, end_of-Stmt as no_statement, more_of-Stmt as statement, Held-Stmt-If-2 as Otherwise, None' as no_else, Some' as otherwise}
+use Rattle.tm_syntax.specs.declared.tree.Stmt.{Stmt, EmitRaw, EmitExpr, If', For', Break, Continue, Block', Set, SetBlock', With', Do, AutoEscape', Row_of-Stmt, end_of-Stmt as no_statement, more_of-Stmt as statement, Held-Stmt-If-2 as Otherwise, None' as no_else, Some' as otherwise}
 use Rattle.tm_syntax.specs.declared.instruction.CaptureMode.TheVariants.{Capture}
+use Rattle.tm_syntax.specs.declared.instruction.LoopFlags.{LoopFlags}
 use Rattle.tm_syntax.specs.declared.instruction.Instruction.{Instruction}
 use Rattle.tm_syntax.specs.declared.instruction.Instruction.TheVariants as i
-use Rattle.tm_syntax.specs.Forms.{unary, chained, conditional, condition, comparison, pair, plain, item, slice, binary, compare, and_then, or_else}
+use Rattle.tm_syntax.specs.Forms.{unary, chained, conditional, condition, comparison, pair, plain, keyword, item, slice, binary, compare, and_then, or_else}
 
 abbrev pub unary_code : UnaryOperator → Instruction
 unary_code unaries.Not = i.Not
@@ -44,6 +47,15 @@ abbrev pub count : {n : _} → Row_of-Argument n → ℕ
 count no_argument = 0
 count (argument a more) = count more + 1
 
+abbrev pub count_keywords : {n : _} → Row_of-Keyword n → ℕ
+count_keywords no_keyword = 0
+count_keywords (with_keyword k more) = count_keywords more + 1
+
+-- arguments by their names are one argument together
+abbrev pub together : {n : _} → Row_of-Keyword n → ℕ
+together no_keyword = 0
+together (with_keyword k more) = 1
+
 abbrev pub count_exprs : {n : _} → Row_of-Expr n → ℕ
 count_exprs no_expr = 0
 count_exprs (expr e more) = count_exprs more + 1
@@ -64,10 +76,10 @@ abbrev mutual
   pub expr_code : ℕ → Expr → List Instruction
   expr_code pc (Var x) = i.Lookup x ∷ []
   expr_code pc (Const v) = i.LoadConst v ∷ []
-  expr_code pc (List' _ es) = exprs_code pc es ++ i.BuildList (count_exprs es) ∷ []
+  expr_code pc (List' _ es) = exprs_code pc es ++ i.BuildList (Some (count_exprs es)) ∷ []
   expr_code pc (Tuple' _ es) = exprs_code pc es ++ i.BuildTuple (count_exprs es) ∷ []
   expr_code pc (Map' _ ps) = pairs_code pc ps ++ i.BuildMap (count_pairs ps) ∷ []
-  expr_code pc (Call' f _ given) = arguments_code pc given ++ i.CallFunction f (count given) ∷ []
+  expr_code pc (Call' f _ given _ named) = before pc (arguments_code pc given) (λ pc1. named_code pc1 named) ++ i.CallFunction f (count given + together named) ∷ []
   expr_code pc (unary op a) = expr_code pc a ++ unary_code op ∷ []
   expr_code pc (chained a _ ss) = before pc (expr_code pc a) (λ pc1. steps_code pc1 ss)
   expr_code pc (conditional a _ cs) = conditions_code cs (λ pc1. expr_code pc1 a) pc
@@ -102,6 +114,19 @@ abbrev mutual
   arguments_code pc no_argument = []
   arguments_code pc (argument a more) = before pc (argument_code pc a) (λ pc1. arguments_code pc1 more)
 
+  pub keyword_code : ℕ → Keyword → List Instruction
+  keyword_code pc (keyword x a) = i.LoadConst (text x false) ∷ expr_code (pc + 1) a
+
+  pub keywords_code : {n : _} → ℕ → Row_of-Keyword n → List Instruction
+  keywords_code pc no_keyword = []
+  keywords_code pc (with_keyword k more) = before pc (keyword_code pc k) (λ pc1. keywords_code pc1 more)
+
+  -- a keyword map of them, where there are any
+  pub named_code : {n : _} → ℕ → Row_of-Keyword n → List Instruction
+  named_code pc no_keyword = []
+  named_code pc (with_keyword k more) =
+      before pc (keyword_code pc k) (λ pc1. keywords_code pc1 more ++ i.BuildKwargs (count_keywords more + 1) ∷ [])
+
   pub step_code : ℕ → Step → List Instruction
   step_code pc (Attribute x) = i.GetAttr x ∷ []
   step_code pc (item a) = expr_code pc a ++ i.GetItem ∷ []
@@ -121,6 +146,10 @@ abbrev mutual
   pub steps_code : {n : _} → ℕ → Row_of-Step n → List Instruction
   steps_code pc no_step = []
   steps_code pc (step s ss) = before pc (step_code pc s) (λ pc1. steps_code pc1 ss)
+
+-- the arguments of a call
+abbrev pub given_code : {n m : _} → ℕ → Row_of-Argument n → Row_of-Keyword m → List Instruction
+given_code pc given named = before pc (arguments_code pc given) (λ pc1. named_code pc1 named)
 
 abbrev pub count_targets : {n : _} → Row_of-Target n → ℕ
 count_targets no_target = 0
@@ -144,32 +173,104 @@ abbrev pub assignments_code : ℕ → List Assignment → List Instruction
 assignments_code pc [] = []
 assignments_code pc (Given t e ∷ more) = before pc (set_code pc t e) (λ pc1. assignments_code pc1 more)
 
+-- ---------------------------------------------------------------- statements
+-- what was opened since a loop's body began
+pub data Opened : Type 0 where
+  a_scope an_escape a_capture : Opened
+
+-- The innermost loop: where its next item is asked for, what stands behind its jump back, and what was opened since its body began, innermost first.
+pub record Inside : Type 0 where
+  pub again : ℕ
+  pub behind : ℕ
+  pub opened : List Opened
+
+abbrev pub outside : Inside
+outside = record { again = 0; behind = 0; opened = [] }
+
+abbrev pub opening : Opened → Inside → Inside
+opening o k = record k { opened = o ∷ k.opened }
+
+abbrev pub close : Opened → List Instruction
+close a_scope = i.PopFrame ∷ []
+close an_escape = i.PopAutoEscape ∷ []
+close a_capture = i.EndCapture ∷ i.DiscardTop ∷ []
+
+abbrev pub close_all : List Opened → List Instruction
+close_all [] = []
+close_all (o ∷ os) = close o ++ close_all os
+
+abbrev pub for_flags : LoopFlags
+for_flags = record { variable = true; recursive = false }
+
+-- of the pass that takes the items whose condition is true
+abbrev pub filter_flags : LoopFlags
+filter_flags = record { variable = false; recursive = false }
+
 -- the jump behind a body over its else part
 abbrev pub jump_over : Otherwise → ℕ
 jump_over no_else = 0
 jump_over (otherwise _ body) = 1
 
+-- A loop's code behind what is iterated, given its body's code in a loop: the body is as long wherever that loop goes on.
+abbrev pub loop_code : (Inside → ℕ → List Instruction) → ℕ → Target → (ℕ → List Instruction) → List Instruction
+loop_code body pc t behind =
+    let again = pc + 1 in
+    let start = again + 1 + length (target_code (again + 1) t) in
+    let end = start + length (body outside start) + 1 in
+    i.PushLoop for_flags ∷ i.Iterate end ∷ (target_code (again + 1) t
+    ++ (body (record { again = again; behind = end; opened = [] }) start ++ i.Jump again ∷ behind end))
+
+-- A loop that takes the items whose condition is true: each stays below their count, which is one more then, or is dropped. It leaves a list of them.
+abbrev pub filter_code : ℕ → Target → Expr → List Instruction
+filter_code pc t c =
+    let again = pc + 1 in
+    let test = again + 1 + 1 + length (target_code (again + 1 + 1) t) in
+    let end = test + length (expr_code test c) in
+    i.PushLoop filter_flags ∷ i.Iterate (end + 7) ∷ i.DupTop ∷ (target_code (again + 1 + 1) t
+    ++ (expr_code test c
+    ++ i.JumpIfFalse (end + 5) ∷ i.Swap ∷ i.LoadConst (number (pos 1)) ∷ i.Add ∷ i.Jump again ∷ i.DiscardTop ∷ i.Jump again
+    ∷ i.PopLoopFrame ∷ i.BuildList None ∷ []))
+
+-- what is iterated: with a condition the items for which that is true
+abbrev pub iterable_code : ℕ → Target → Expr → Option Expr → List Instruction
+iterable_code pc t e None = expr_code pc e
+iterable_code pc t e (Some c) = i.LoadConst (number (pos 0)) ∷ before (pc + 1) (expr_code (pc + 1) e) (λ pc1. filter_code pc1 t c)
+
 abbrev mutual
-  pub statement_code : ℕ → Stmt → List Instruction
-  statement_code pc (EmitRaw t) = i.EmitRaw t ∷ []
-  statement_code pc (EmitExpr e) = expr_code pc e ++ i.Emit ∷ []
-  statement_code pc (If' c _ body other) = before pc (expr_code pc c) (λ pc1.
-      i.JumpIfFalse (pc1 + 1 + length (statements_code (pc1 + 1) body) + jump_over other)
-      ∷ before (pc1 + 1) (statements_code (pc1 + 1) body) (λ pc2. otherwise_code pc2 other))
-  statement_code pc (Block' x _ body) = i.CallBlock x ∷ []
-  statement_code pc (Set t e) = set_code pc t e
-  statement_code pc (SetBlock' t _ body) =
-      i.BeginCapture Capture ∷ before (pc + 1) (statements_code (pc + 1) body) (λ pc1. i.EndCapture ∷ target_code (pc1 + 1) t)
-  statement_code pc (With' given _ body) =
-      i.PushWith ∷ before (pc + 1) (assignments_code (pc + 1) given) (λ pc1. statements_code pc1 body ++ i.PopFrame ∷ [])
-  statement_code pc (Do e) = expr_code pc e ++ i.DiscardTop ∷ []
-  statement_code pc (AutoEscape' e _ body) =
-      before pc (expr_code pc e) (λ pc1. i.PushAutoEscape ∷ (statements_code (pc1 + 1) body ++ i.PopAutoEscape ∷ []))
+  pub statement_code : Inside → ℕ → Stmt → List Instruction
+  statement_code k pc (EmitRaw t) = i.EmitRaw t ∷ []
+  statement_code k pc (EmitExpr e) = expr_code pc e ++ i.Emit ∷ []
+  statement_code k pc (If' c _ body other) = before pc (expr_code pc c) (λ pc1.
+      i.JumpIfFalse (pc1 + 1 + length (statements_code k (pc1 + 1) body) + jump_over other)
+      ∷ before (pc1 + 1) (statements_code k (pc1 + 1) body) (λ pc2. otherwise_code k pc2 other))
+  statement_code k pc (For' t e c _ body other) = before pc (iterable_code pc t e c) (λ pc1.
+      loop_code (λ k1 pc2. statements_code k1 pc2 body) pc1 t (λ pc2. behind_loop_code k pc2 other))
+  statement_code k pc Break = close_all k.opened ++ i.Jump k.behind ∷ []
+  statement_code k pc Continue = close_all k.opened ++ i.Jump k.again ∷ []
+  statement_code k pc (Block' x _ body) = i.CallBlock x ∷ []
+  statement_code k pc (Set t e) = set_code pc t e
+  statement_code k pc (SetBlock' t _ body) =
+      i.BeginCapture Capture ∷ before (pc + 1) (statements_code (opening a_capture k) (pc + 1) body) (λ pc1. i.EndCapture ∷ target_code (pc1 + 1) t)
+  statement_code k pc (With' given _ body) =
+      i.PushWith ∷ before (pc + 1) (assignments_code (pc + 1) given) (λ pc1. statements_code (opening a_scope k) pc1 body ++ i.PopFrame ∷ [])
+  statement_code k pc (Do e) = expr_code pc e ++ i.DiscardTop ∷ []
+  statement_code k pc (AutoEscape' e _ body) =
+      before pc (expr_code pc e) (λ pc1. i.PushAutoEscape ∷ (statements_code (opening an_escape k) (pc1 + 1) body ++ i.PopAutoEscape ∷ []))
 
-  pub statements_code : {n : _} → ℕ → Row_of-Stmt n → List Instruction
-  statements_code pc no_statement = []
-  statements_code pc (statement s ss) = before pc (statement_code pc s) (λ pc1. statements_code pc1 ss)
+  pub statements_code : {n : _} → Inside → ℕ → Row_of-Stmt n → List Instruction
+  statements_code k pc no_statement = []
+  statements_code k pc (statement s ss) = before pc (statement_code k pc s) (λ pc1. statements_code k pc1 ss)
 
-  pub otherwise_code : ℕ → Otherwise → List Instruction
-  otherwise_code pc no_else = []
-  otherwise_code pc (otherwise _ body) = i.Jump (pc + 1 + length (statements_code (pc + 1) body)) ∷ statements_code (pc + 1) body
+  pub otherwise_code : Inside → ℕ → Otherwise → List Instruction
+  otherwise_code k pc no_else = []
+  otherwise_code k pc (otherwise _ body) = i.Jump (pc + 1 + length (statements_code k (pc + 1) body)) ∷ statements_code k (pc + 1) body
+
+  -- behind a loop's jump back
+  pub behind_loop_code : Inside → ℕ → Otherwise → List Instruction
+  behind_loop_code k pc no_else = i.PopLoopFrame ∷ []
+  behind_loop_code k pc (otherwise _ body) =
+      i.PushDidNotIterate ∷ i.PopLoopFrame ∷ i.JumpIfFalse (pc + 3 + length (statements_code k (pc + 3) body)) ∷ statements_code k (pc + 3) body
+
+-- Statements on their own. Where a loop is left or goes on outside of one, which no source spells, they end there.
+abbrev pub stream_code : {n : _} → Row_of-Stmt n → List Instruction
+stream_code ss = let end = length (statements_code outside 0 ss) in statements_code (record { again = end; behind = end; opened = [] }) 0 ss

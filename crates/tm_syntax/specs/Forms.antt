@@ -1,10 +1,12 @@
 -- The forms of a tree that hold boxes, as patterns: a box is what it holds.
+use Rattle.std.specs.Prelude.{ℕ, List}
 use mathlib.Core.Former.{arity, this}
 use Rattle.sqlite_items.specs.formers.items.Items as items
 use Rattle.tm_syntax.specs.declared.tree.UnaryOperator.{UnaryOperator}
 use Rattle.tm_syntax.specs.declared.tree.BinaryOperator.{BinaryOperator}
 use Rattle.tm_syntax.specs.declared.tree.Expr.{Expr, Unary', Chain', Conditional', end_of-Expr, more_of-Expr, Row_of-Step, Row_of-Condition}
 use Rattle.tm_syntax.specs.declared.tree.Argument.{Argument, Plain'}
+use Rattle.tm_syntax.specs.declared.tree.Keyword.{Keyword, Keyword'}
 use Rattle.tm_syntax.specs.declared.tree.Pair.{Pair, Pair'}
 use Rattle.tm_syntax.specs.declared.tree.Condition.{Condition, Condition'}
 use Rattle.tm_syntax.specs.declared.tree.Comparison.{Comparison, Comparison'}
@@ -27,6 +29,9 @@ comparison op a = Comparison' op tt (more_of-Expr a end_of-Expr)
 
 pattern abbrev pub plain : Expr → Argument
 plain a = Plain' tt (more_of-Expr a end_of-Expr)
+
+pattern abbrev pub keyword : List ℕ → Expr → Keyword
+keyword x a = Keyword' x tt (more_of-Expr a end_of-Expr)
 
 pattern abbrev pub pair : Expr → Expr → Pair
 pair k v = Pair' tt (more_of-Expr k end_of-Expr) tt (more_of-Expr v end_of-Expr)

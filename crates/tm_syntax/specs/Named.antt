@@ -3,7 +3,7 @@ use Rattle.std.specs.Prelude.{ℕ, List, [], ◌∷◌, Option, Bool, nat_eq, ma
 use Rattle.std.specs.BTreeMap.{insert_entry, is_at}
 use Rattle.std.specs.Borrow.{Bor}
 use Rattle.std.specs.Cmp.Lexicographic.{pointwise, slice_cmp}
-use Rattle.std.specs.Map.{lookup}
+use Rattle.std.specs.Map.{lookup, remove_entry}
 use Rattle.std.specs.Ordering.{nat_cmp}
 use Rattle.std.specs.Rc.{rc_str_bytes}
 use Rattle.std.specs.declared.alloc.Global.{Global}
@@ -27,6 +27,10 @@ find x ps = lookup (is_at (name_cmp x)) ps
 abbrev pub put : {A : Type 0} → List ℕ → A → Named A → Named A
 put x a ps = insert_entry name_cmp ps x a
 
+-- the other names, with what they stand for
+abbrev pub without : {A : Type 0} → List ℕ → Named A → Named A
+without x ps = remove_entry (is_at (name_cmp x)) ps
+
 -- pairs put one after the other
 abbrev pub put_each : {A : Type 0} → Named A → Named A → Named A
 put_each [] ps = ps
@@ -38,6 +42,10 @@ by_name ps = put_each ps []
 -- the texts that are lent
 abbrev pub texts_of : List (Bor (List ℕ)) → List (List ℕ)
 texts_of lent = map (λ text. text.now) lent
+
+-- the pairs that are lent
+abbrev pub pairs_of : {A : Type 0} → List (Bor (List ℕ) × Bor A) → Named A
+pairs_of {A = A} lent = map (λ (p : Bor (List ℕ) × Bor A). (p.0.now, p.1.now)) lent
 
 -- the names as the program holds them
 abbrev pub named_of : {A : Type 0} → List (RcStr Global × A) → Named A

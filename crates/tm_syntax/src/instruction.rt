@@ -13,6 +13,15 @@ pub enum CaptureMode {
     Discard,
 }
 
+/// What kind of loop begins.
+#[derive(Clone, Copy, PartialEq, Eq)]
+pub struct LoopFlags {
+    /// Whether its scope has the name `loop`.
+    pub variable: bool,
+    /// Whether it can be called.
+    pub recursive: bool,
+}
+
 /// One instruction. docs/MACHINE.md says what each takes, leaves and is charged.
 #[derive(Drop)]
 pub enum Instruction {
@@ -30,12 +39,14 @@ pub enum Instruction {
     GetItem,
     /// Replaces a value, a start, a stop and a step by the value's slice.
     Slice,
-    /// Replaces so many values by a list of them.
-    BuildList(usize),
+    /// Replaces so many values by a list of them. Without a count that is on top of them, a number.
+    BuildList(Option<usize>),
     /// Replaces so many values by a tuple of them.
     BuildTuple(usize),
     /// Replaces so many keys, each with its value, by a map of them.
     BuildMap(usize),
+    /// Replaces so many names, each with its value, by a keyword map of them.
+    BuildKwargs(usize),
     /// Replaces two values by whether they are equal.
     Eq,
     /// Replaces two values by whether they differ.
@@ -74,6 +85,8 @@ pub enum Instruction {
     Not,
     /// Turns the two topmost values round.
     Swap,
+    /// Pushes the topmost value once more.
+    DupTop,
     /// Drops a value.
     DiscardTop,
     /// Goes to a place.
@@ -98,6 +111,14 @@ pub enum Instruction {
     PushWith,
     /// Leaves the innermost scope.
     PopFrame,
+    /// Pops a value, and begins a loop over its items in a scope of its own.
+    PushLoop(LoopFlags),
+    /// Pushes the next item of the innermost loop, or goes to a place where none is left.
+    Iterate(usize),
+    /// Pushes whether the innermost loop has no items.
+    PushDidNotIterate,
+    /// Leaves the innermost loop.
+    PopLoopFrame,
     /// Begins a capture, which takes what is written from here on.
     BeginCapture(CaptureMode),
     /// Ends the innermost capture, and pushes its text, or undefined where that is dropped.

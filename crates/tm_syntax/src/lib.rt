@@ -8,12 +8,12 @@ mod raw_text;
 mod token;
 mod tree;
 
-pub use instruction::{CaptureMode, Instruction};
+pub use instruction::{CaptureMode, Instruction, LoopFlags};
 pub use name::Name;
 pub use name_map::NameMap;
 pub use raw_text::RawText;
 pub use token::{Sign, Tag, Token};
 pub use tree::{
-    Argument, Assignment, BinaryOperator, Comparison, Condition, Expr, Pair, Step, Stmt, Target,
-    Tree, UnaryOperator,
+    Argument, Assignment, BinaryOperator, Comparison, Condition, Expr, Keyword, Pair, Step, Stmt,
+    Target, Tree, UnaryOperator,
 };

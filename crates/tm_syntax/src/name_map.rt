@@ -1,7 +1,7 @@
 //! Maps by name.
 ghost use Rattle.std.specs.Map.{keys_of};
-ghost use Rattle.std.specs.Prelude.{◌≡◌, [], None, Some, IfOk, MatchOption, OnOk, OnErr, length};
-ghost use Rattle.tm_syntax.specs.Named.{find, put, texts_of};
+ghost use Rattle.std.specs.Prelude.{◌≡◌, ◌≢◌, [], None, Some, IfOk, MatchOption, OnOk, OnErr, length};
+ghost use Rattle.tm_syntax.specs.Named.{find, pairs_of, put, texts_of, without};
 
 use crate::name::Name;
 use std::alloc::{AllocError, Global};
@@ -53,6 +53,17 @@ impl<T> NameMap<T> {
         }
         Ok(names)
     }
+
+    /// The names with what they stand for, in the order of the names. AllocError for want of memory.
+    pub fn pairs(&self, alloc: Global) -> Result<Vec<(&str, &T)>, AllocError>
+        ensures { IfOk result (λ pairs. pairs_of pairs.items ≡ self.now) }
+    {
+        let mut pairs = Vec::new(alloc);
+        for (name, item) in self.by_name.iter() {
+            pairs.push((name.as_str(), item))?;
+        }
+        Ok(pairs)
+    }
 }
 
 impl<T: Drop> NameMap<T> {
@@ -61,7 +72,28 @@ impl<T: Drop> NameMap<T> {
         ensures ok { OnOk result (self.new ≡ put name item self.old) }
         ensures err { OnErr result (self.new ≡ self.old) }
     {
-        self.by_name.insert(name.into_text(), item)?;
+        self.replace(name, item)?;
         Ok(())
+    }
+
+    /// Lets a name stand for this, and gives what it stood for. AllocError for want of memory, and all stays as it was.
+    pub fn replace(&mut self, name: Name, item: T) -> Result<Option<T>, AllocError>
+        ensures before { IfOk result (λ before. before ≡ find name self.old) }
+        ensures ok { OnOk result (self.new ≡ put name item self.old) }
+        ensures err { OnErr result (self.new ≡ self.old) }
+    {
+        let before = self.by_name.insert(name.into_text(), item)?;
+        Ok(before)
+    }
+
+    /// Drops a name, and gives what it stood for; other names stand for what they did.
+    pub fn remove(&mut self, name: &str) -> Option<T>
+        ensures before { result ≡ find name.now self.old }
+        ensures rest { self.new ≡ without name.now self.old }
+        ensures absent { find name.now self.old ≡ None → self.new ≡ self.old }
+        ensures gone { find name.now self.new ≡ None }
+        ensures others { (x : _) → x ≢ name.now → find x self.new ≡ find x self.old }
+    {
+        self.by_name.remove(name)
     }
 }

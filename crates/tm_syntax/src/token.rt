@@ -93,6 +93,14 @@ pub enum Tag {
     Else,
     /// `{% endif`
     Endif,
+    /// `{% for`
+    For,
+    /// `{% endfor`
+    Endfor,
+    /// `{% break`
+    Break,
+    /// `{% continue`
+    Continue,
     /// `{% block`
     Block,
     /// `{% endblock`

@@ -64,8 +64,8 @@ pub enum Expr {
     Tuple(Items<Expr>),
     /// A map of pairs.
     Map(Items<Pair>),
-    /// A call of a name, with its arguments.
-    Call(Name, Items<Argument>),
+    /// A call of a name, with its arguments by their places and those by their names.
+    Call(Name, Items<Argument>, Items<Keyword>),
     /// A prefix operator and its operand.
     Unary(UnaryOperator, Boxed<Expr>),
     /// A value and the steps behind it, from the left.
@@ -82,12 +82,20 @@ pub enum Pair {
     Pair(Boxed<Expr>, Boxed<Expr>),
 }
 
-/// An argument of a call.
+/// An argument of a call, by its place.
 #[cycle(expr)]
 #[derive(Drop)]
 pub enum Argument {
-    /// By its place.
+    /// A value.
     Plain(Boxed<Expr>),
+}
+
+/// An argument of a call, by its name.
+#[cycle(expr)]
+#[derive(Drop)]
+pub enum Keyword {
+    /// The name, and the value.
+    Keyword(Name, Boxed<Expr>),
 }
 
 /// A condition of a value.
@@ -153,6 +161,12 @@ pub enum Stmt {
     EmitExpr(Boxed<Expr>),
     /// A condition, what runs where it is true, and the else part.
     If(Boxed<Expr>, Items<Stmt>, Option<Items<Stmt>>),
+    /// A target, what is iterated, the condition of an item that is taken, what runs for each of these, and what runs where there is none.
+    For(Target, Boxed<Expr>, Option<Boxed<Expr>>, Items<Stmt>, Option<Items<Stmt>>),
+    /// The innermost loop is left.
+    Break,
+    /// The innermost loop goes on with its next item.
+    Continue,
     /// A block of a name, and its body.
     Block(Name, Items<Stmt>),
     /// A value for a target.

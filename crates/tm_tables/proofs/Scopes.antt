@@ -4,7 +4,7 @@ use Rattle.std.proofs.lemmas.Grind.{reverse_onto}
 use Rattle.std.proofs.lemmas.List.{length-reverse}
 use Rattle.tm_values.specs.Val.{Val}
 use Rattle.tm_syntax.specs.Named.{put}
-use Rattle.tm_meaning.specs.World.{Scope, stored_in}
+use Rattle.tm_meaning.specs.World.{Scope, stored_in, without_locals}
 use Rattle.tm_tables.specs.Scopes.{exported_by, exported_of}
 
 exported-behind : (s : Scope) (ss : List Scope) → exported_of (ss ++ s ∷ []) ≡ exported_by s
@@ -39,3 +39,17 @@ stored-last x v (t ∷ u ∷ ss) (suc n) s h e =
     let more : length (u ∷ ss) ≡ suc n = omega (arith, h) in
     reverse_onto (slice_set (u ∷ ss) n (record s { locals = put x v s.locals })) t [] ∙ ap (λ l. l ++ t ∷ []) (stored-last x v (u ∷ ss) n s more e)
     ∙ stored-before x v (reverse (u ∷ ss)) (t ∷ []) (reverse-long (u ∷ ss) n more) ∙ ap (stored_in x v) (sym (reverse_onto (u ∷ ss) t []))
+
+cleared-before : (ss ts : List Scope) → 0 < length ss → without_locals ss ++ ts ≡ without_locals (ss ++ ts)
+cleared-before [] ts h = absurd (omega (arith, h))
+cleared-before (s ∷ ss) ts h = refl
+
+pub cleared-last : (ss : List Scope) (n : ℕ) (s : Scope) → length ss ≡ suc n → s ≡ get_or ss n s → reverse (slice_set ss n (record s { locals = [] })) ≡ without_locals (reverse ss)
+cleared-last [] n s h e = absurd (omega (arith, h))
+cleared-last (t ∷ []) zero s h e = ap (λ (u : Scope). record u { locals = [] } ∷ []) e
+cleared-last (t ∷ []) (suc n) s h e = absurd (omega (arith, h))
+cleared-last (t ∷ u ∷ ss) zero s h e = absurd (omega (arith, h))
+cleared-last (t ∷ u ∷ ss) (suc n) s h e =
+    let more : length (u ∷ ss) ≡ suc n = omega (arith, h) in
+    reverse_onto (slice_set (u ∷ ss) n (record s { locals = [] })) t [] ∙ ap (λ l. l ++ t ∷ []) (cleared-last (u ∷ ss) n s more e)
+    ∙ cleared-before (reverse (u ∷ ss)) (t ∷ []) (reverse-long (u ∷ ss) n more) ∙ ap without_locals (sym (reverse_onto (u ∷ ss) t []))

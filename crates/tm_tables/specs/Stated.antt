@@ -1,8 +1,12 @@
 -- What callables answer.
-use Rattle.std.specs.Prelude.{◌≡◌, ℕ, Bool, true, false, List, [], ◌∷◌, ◌++◌, map as each}
+use Rattle.std.specs.Prelude.{◌≡◌, ◌+◌, ℕ, zero, suc, Bool, true, false, List, [], ◌∷◌, ◌++◌, length, map as each}
 use Rattle.tm_values.specs.Chain.{ends_in_memory}
 use Rattle.tm_values.specs.Val.{Val}
-use Rattle.tm_meaning.specs.World.{View, Function, callers, Reply, gives, faults, Stated}
+use Rattle.tm_meaning.specs.declared.function.GlobalFunction.{GlobalFunction}
+use Rattle.tm_meaning.specs.declared.function.GlobalFunction.TheVariants as own
+use Rattle.tm_meaning.specs.World.{View, Function, callers, languages, Reply, gives, faults, Stated}
+use Rattle.tm_tables.specs.declared.callable.Called.{Called}
+use Rattle.tm_tables.specs.declared.callable.Called.TheVariants as called
 use Rattle.tm_tables.specs.declared.callable.Reply.{Reply as Replied}
 use Rattle.tm_tables.specs.declared.callable.Reply.TheVariants as variant
 
@@ -20,9 +24,12 @@ is_for_memory (faults chain) = ends_in_memory chain
 abbrev pub IsStated : Stated → Stated → Type 0
 IsStated answer stated = is_for_memory answer.reply ≡ false → answer ≡ stated
 
--- what a function states
-abbrev pub stated_by : Function → List Val → View → Stated
-stated_by (callers f) args view = f args view
+-- what was called is this function: an object of the caller answered as it states
+abbrev pub IsCalled : Called → Function → List Val → View → Type 0
+IsCalled (called.Answered answer) (callers f) args view = IsStated answer (f args view)
+IsCalled (called.Answered answer) (languages g) args view = ⊥
+IsCalled (called.Language g) (callers f) args view = ⊥
+IsCalled (called.Language g) (languages h) args view = g ≡ h
 
 -- an answer that keeps nothing
 abbrev pub just : Reply → Stated
@@ -32,6 +39,42 @@ just reply = record { temps = []; reply = reply }
 abbrev pub keeping : List ℕ → Val → Stated → Stated
 keeping x v stated = record stated { temps = stated.temps ++ (x, v) ∷ [] }
 
+-- The functions by number: those of the language first, where they are there, and then the objects of the caller.
+pub record Table (C : Type 0) : Type 0 where
+  pub language : Bool
+  pub objects : List C
+
+abbrev pub no_functions : {C : Type 0} → Table C
+no_functions = record { language = false; objects = [] }
+
+abbrev pub language_functions : {C : Type 0} → Table C
+language_functions = record { language = true; objects = [] }
+
+-- an object more, behind all others
+abbrev pub with_object : {C : Type 0} → C → Table C → Table C
+with_object object t = record t { objects = t.objects ++ object ∷ [] }
+
+abbrev pub language_count : Bool → ℕ
+language_count false = 0
+language_count true = 3
+
+-- the number of an object that is added now
+abbrev pub next_number : {C : Type 0} → Table C → ℕ
+next_number t = language_count t.language + length t.objects
+
 -- what callables are to the machine, by what they answer
-abbrev pub functions_of : {C : Type 0} → (C → List Val → View → Stated) → List C → List Function
-functions_of answers cs = each (λ c. callers (answers c)) cs
+abbrev pub callables : {C : Type 0} → (C → List Val → View → Stated) → List C → List Function
+callables answers cs = each (λ c. callers (answers c)) cs
+
+abbrev pub behind_language : Bool → List Function → List Function
+behind_language false fs = fs
+behind_language true fs = languages own.Range ∷ languages own.Dict ∷ languages own.Namespace ∷ fs
+
+-- the function of the language of a number below 3
+abbrev pub language_at : ℕ → GlobalFunction
+language_at zero = own.Range
+language_at (suc zero) = own.Dict
+language_at (suc (suc n)) = own.Namespace
+
+abbrev pub functions_of : {C : Type 0} → (C → List Val → View → Stated) → Table C → List Function
+functions_of answers t = behind_language t.language (callables answers t.objects)

@@ -1,8 +1,9 @@
 -- Words on views.
-use Rattle.std.specs.Prelude.{ℕ, List, []}
+use Rattle.std.specs.Prelude.{ℕ, List, map as each}
 use Rattle.tm_values.specs.Val.{Val}
 use Rattle.tm_values.specs.Records.{RecordData}
+use Rattle.tm_meaning.specs.World.{Loop, loop_data}
 
--- the records of a state that has no loops
-abbrev pub without_loops : ℕ → List (List (Val × Val)) → RecordData
-without_loops id namespaces = record { state = id; namespaces = namespaces; loops = [] }
+-- the records of a state of these namespaces and loops
+abbrev pub records_with : ℕ → List (List (Val × Val)) → List Loop → RecordData
+records_with id namespaces loops = record { state = id; namespaces = namespaces; loops = each loop_data loops }

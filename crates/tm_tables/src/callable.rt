@@ -7,6 +7,7 @@ ghost use Rattle.tm_tables.specs.Stated.{IsStated, just, keeping};
 use crate::view::View;
 use std::alloc::Global;
 use std::marker::Model;
+use tm_meaning::GlobalFunction;
 use tm_syntax::Name;
 use tm_values::{Error, Value};
 
@@ -76,6 +77,15 @@ impl Answer {
             Err(error) => Answer::fault(alloc, Error::from(error)),
         }
     }
+}
+
+/// What the function of a number is to a call.
+#[derive(Drop)]
+pub enum Called {
+    /// An object of the caller, which answered.
+    Answered(Answer),
+    /// A function of the language, which the machine runs.
+    Language(GlobalFunction),
 }
 
 /// An object of the caller that templates call. What it means is a function of its arguments and of what it sees.

@@ -1,14 +1,16 @@
 //! Scopes.
-ghost use Rattle.std.specs.Prelude.{◌≡◌, ◌<◌, ◌^◌, ◌-◌, [], ◌∷◌, true, false, length, min, nat_lt, OnErr, OnOk, IfErr, MatchOption};
+ghost use Rattle.std.specs.Prelude.{ℕ, option_map, ◌≡◌, ◌<◌, ◌^◌, ◌-◌, [], ◌∷◌, true, false, length, min, nat_lt, OnErr, OnOk, IfErr, MatchOption};
 ghost use Rattle.tm_syntax.specs.Named.{put, texts_of};
 ghost use Rattle.tm_values.specs.Answer.{OkOrOutOfMemory};
+ghost use Rattle.tm_values.specs.Val.{loop};
 ghost use Rattle.tm_values.specs.declared.error.ErrorKind.TheVariants.{OutOfMemory};
-ghost use Rattle.tm_meaning.specs.World.{plain, depth, context_member, stored_in, without_first};
-ghost use Rattle.tm_tables.specs.Found.{IsFound, IsFoundIn};
+ghost use Rattle.tm_meaning.specs.World.{plain, loop_scope, marked_loop, depth, context_member, innermost, stored_in, top_mark, without_first, without_locals};
+ghost use Rattle.tm_tables.specs.Found.{IsHeld, IsFoundIn, meant_by};
 ghost use Rattle.tm_tables.specs.Scopes.{one_scope, PushFails, is_exported, exported_by, exported_of};
 
 use std::alloc::Global;
 use std::marker::Model;
+use tm_meaning::LoopMark;
 use tm_syntax::{Name, NameMap};
 use tm_values::{Error, ErrorKind, Node, Records, Value, find_namespace};
 
@@ -22,11 +24,33 @@ fn is_exported(name: &str) -> bool
     }
 }
 
-/// A scope: its own names, and the value whose keys are names too.
+/// What a name stands for in scopes.
+#[derive(Drop)]
+pub enum Found<'a> {
+    /// A value that is held there.
+    Held(&'a Value),
+    /// A scope's loop, by the number of its record.
+    Loop(usize),
+}
+
+impl Found<'_> {
+    /// The value, in the state of an id. Fails by OutOfMemory alone.
+    pub fn value(&self, state: u64) -> Result<Value, Error>
+        ensures { OkOrOutOfMemory result (λ v. v ≡ meant_by state self.now) }
+    {
+        match self {
+            Found::Held(value) => value.share(),
+            Found::Loop(number) => Ok(Value::loop_record(state, *number)),
+        }
+    }
+}
+
+/// A scope: its own names, the value whose keys are names too, and its loop.
 #[derive(Drop)]
 pub struct Frame {
     locals: NameMap<Value>,
     context: Value,
+    mark: Option<LoopMark>,
 }
 
 impl Model for Frame {
@@ -38,7 +62,7 @@ impl Model for Frame {
 
     ghost coded = { Prim.hlevel (codes, coded_Val) };
 
-    ghost view = { λ f. record (plain f.context) { locals = f.locals } };
+    ghost view = { λ f. record (plain f.context) { locals = f.locals; mark = f.mark } };
 }
 
 impl Frame {
@@ -49,21 +73,52 @@ impl Frame {
         Frame {
             locals: NameMap::new(alloc),
             context,
+            mark: None,
         }
     }
 
-    /// The value of a name: its own, or what the context value has there. InvalidOperation where it isn't its own and the context value is a namespace whose record isn't there.
+    /// A loop's scope, without names of its own.
+    pub fn of_loop(alloc: Global, mark: LoopMark) -> Frame
+        ensures { result ≡ loop_scope mark }
+    {
+        Frame {
+            locals: NameMap::new(alloc),
+            context: Value::undefined(),
+            mark: Some(mark),
+        }
+    }
+
+    /// Whether its loop has a name here, and then the loop's number.
+    fn named_loop(&self, name: &str) -> Option<usize>
+        ensures { (id : ℕ) → option_map (λ n. loop id n) result ≡ marked_loop id self.now.mark name.now }
+    {
+        let mark = self.mark?;
+        if mark.variable && name == "loop" {
+            Some(mark.number)
+        } else {
+            None
+        }
+    }
+
+    /// What a name stands for: its own, its loop, or what the context value has there. InvalidOperation where it is neither of the first and the context value is a namespace whose record isn't there.
     pub fn get<'a, R: Records>(
         &'a self,
         name: &str,
         records: &'a R,
-    ) -> Result<Option<&'a Value>, Error>
+    ) -> Result<Option<Found<'a>>, Error>
         ensures { IsFoundIn (R.records records.now) name.now (self.now ∷ []) result }
     {
         if let Some(own) = self.locals.get(name) {
-            return Ok(Some(own));
+            return Ok(Some(Found::Held(own)));
         }
-        self.context_member(name, records)
+        if let Some(number) = self.named_loop(name) {
+            return Ok(Some(Found::Loop(number)));
+        }
+        match self.context_member(name, records) {
+            Ok(Some(member)) => Ok(Some(Found::Held(member))),
+            Ok(None) => Ok(None),
+            Err(error) => Err(error),
+        }
     }
 
     /// What the context value has at a name. InvalidOperation where it is a namespace whose record isn't there.
@@ -72,7 +127,7 @@ impl Frame {
         name: &str,
         records: &'a R,
     ) -> Result<Option<&'a Value>, Error>
-        ensures { IsFound result (context_member (R.records records.now) name.now self.now.context) }
+        ensures { IsHeld result (context_member (R.records records.now) name.now self.now.context) }
     {
         match &self.context.node {
             Node::Namespace(state, index) => match find_namespace(records, *state, *index) {
@@ -92,6 +147,13 @@ impl Frame {
     {
         self.locals.insert(name, value)?;
         Ok(())
+    }
+
+    /// Loses its names.
+    fn clear(&mut self, alloc: Global)
+        ensures { self.new ≡ record self.old { locals = [] } }
+    {
+        self.locals = NameMap::new(alloc);
     }
 
     /// The names that it exports, in their order: its own that don't begin with `_`. OutOfMemory.
@@ -166,12 +228,12 @@ impl Context {
         self.outer = outer;
     }
 
-    /// The value of a name: an inner scope's before an outer one's. InvalidOperation where a context value on the way is a namespace whose record isn't there.
+    /// What a name stands for: in an inner scope before an outer one. InvalidOperation where a context value on the way is a namespace whose record isn't there.
     pub fn find<'a, R: Records>(
         &'a self,
         name: &str,
         records: &'a R,
-    ) -> Result<Option<&'a Value>, Error>
+    ) -> Result<Option<Found<'a>>, Error>
         ensures { IsFoundIn (R.records records.now) name.now self.now.frames result }
     {
         let mut i = self.frames.len();
@@ -221,6 +283,36 @@ impl Context {
         match self.frames.len().checked_sub(1) {
             Some(innermost) => self.frames[innermost].store(name, value),
             None => Ok(()),
+        }
+    }
+
+    /// What marks the innermost scope, where that is a loop's.
+    pub fn top_mark(&self) -> Option<LoopMark>
+        ensures { result ≡ top_mark self.now.frames }
+    {
+        self.frames.last()?.mark
+    }
+
+    /// The number of the innermost loop's record, where a scope is a loop's.
+    pub fn innermost_loop(&self) -> Option<usize>
+        ensures { result ≡ innermost self.now.frames }
+    {
+        let mut i = self.frames.len();
+        while i > 0 {
+            i -= 1;
+            if let Some(mark) = self.frames[i].mark {
+                return Some(mark.number);
+            }
+        }
+        None
+    }
+
+    /// The innermost scope, where there is one, loses its names.
+    pub fn clear_locals(&mut self, alloc: Global)
+        ensures { self.new ≡ record self.old { frames = without_locals self.old.frames } }
+    {
+        if let Some(innermost) = self.frames.len().checked_sub(1) {
+            self.frames[innermost].clear(alloc);
         }
     }
 

@@ -4,9 +4,9 @@ ghost use Rattle.tm_syntax.specs.declared.instruction.Instruction.{Instruction a
 ghost use Rattle.tm_meaning.specs.World.{Host as Meaning, template_at, card_at};
 ghost use Rattle.tm_meaning.specs.declared.stream.StreamId.{StreamId as Stream};
 ghost use Rattle.tm_meaning.specs.Calls.{is_required};
-ghost use Rattle.tm_tables.specs.Stated.{IsStated, stated_by};
+ghost use Rattle.tm_tables.specs.Stated.{IsCalled};
 
-use crate::callable::Answer;
+use crate::callable::Called;
 use crate::view::View;
 use std::alloc::Global;
 use tm_meaning::{StreamId, TemplateId};
@@ -43,16 +43,16 @@ pub trait Host {
     fn instructions(&self, stream: &StreamId) -> &[Instruction]
         ensures { result.now ≡ code self.now stream.now };
 
-    /// What the function of a number answers; none where there is no such function.
+    /// What the function of a number answers, or which one of the language it is; none where there is no such function.
     fn call_function(
         &self,
         alloc: Global,
         number: usize,
         args: &[Value],
         view: &View<'_>,
-    ) -> Option<Answer>
+    ) -> Option<Called>
         ensures { MatchOption (slice_get (meaning self.now).functions number) (result ≡ None)
-            (λ f. IsSomeAnd result (λ a. IsStated a (stated_by f args.now view.now))) };
+            (λ f. IsSomeAnd result (λ called. IsCalled called f args.now view.now)) };
 
     ghost unformatted: { (host : Self) → (meaning host).formatter ≡ None };
 }

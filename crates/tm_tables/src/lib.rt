@@ -11,9 +11,9 @@ mod plain;
 mod templates;
 mod view;
 
-pub use callable::{Answer, Callable, Reply};
+pub use callable::{Answer, Callable, Called, Reply};
 pub use compiled::{CompiledTemplate, Source, TemplateConfig};
-pub use context::{Context, Frame};
+pub use context::{Context, Found, Frame};
 pub use defaults::{EscapeSetting, default_auto_escape_callback};
 pub use host::Host;
 pub use objects::{Objects, Parties};

@@ -1,88 +1,118 @@
-//! The objects of the caller.
-ghost use Rattle.std.specs.Prelude.{◌≡◌, ◌++◌, [], ◌∷◌, List, None, OnOk, OnErr, IfErr, IsSomeAnd, MatchOption, length, slice_get};
+//! The functions that templates call.
+ghost use Rattle.std.specs.Prelude.{◌≡◌, ◌<◌, [], ◌∷◌, List, None, OnOk, OnErr, IfErr, IfSome, IsSomeAnd, MatchOption, slice_get};
 ghost use Rattle.tm_values.specs.Answer.{IsLent};
 ghost use Rattle.tm_meaning.specs.World.{Function};
-ghost use Rattle.tm_tables.specs.Stated.{IsStated, stated_by};
+ghost use Rattle.tm_tables.specs.Stated.{IsCalled, no_functions, language_functions, with_object, next_number, callables, language_at};
 
-use crate::callable::{Answer, Callable};
+use crate::callable::{Callable, Called};
 use crate::view::View;
 use std::alloc::Global;
 use std::marker::Model;
+use tm_meaning::GlobalFunction;
 use tm_values::{Error, ErrorKind, Value};
 
-/// All objects of a caller, as one.
+/// All functions of an environment, as one.
 pub trait Parties: Drop {
     ghost functions: { Self → List Function };
 
-    /// What the function of a number answers; none where there is no such function.
+    /// What the function of a number answers, or which one of the language it is; none where there is no such function.
     fn call_function(
         &self,
         alloc: Global,
         number: usize,
         args: &[Value],
         view: &View<'_>,
-    ) -> Option<Answer>
+    ) -> Option<Called>
         ensures { MatchOption (slice_get (functions self.now) number) (result ≡ None)
-            (λ f. IsSomeAnd result (λ a. IsStated a (stated_by f args.now view.now))) };
+            (λ f. IsSomeAnd result (λ called. IsCalled called f args.now view.now)) };
 }
 
-/// Functions by number. A contract sees them in the order of their numbers, from 0.
+/// How many functions the language has.
+const LANGUAGE: usize = 3;
+
+/// Functions by number, from 0: those of the language, where they are there, and then objects of the caller.
 #[derive(Drop)]
 pub struct Objects<C: Drop> {
+    language: bool,
     functions: Vec<C>,
 }
 
 impl<C: Drop> Model for Objects<C> {
-    ghost use Rattle.std.specs.Prelude.{List};
-    ghost use Rattle.std.specs.Coded.{coded_list};
+    ghost use Rattle.std.specs.Coded.{codes};
+    ghost use Rattle.tm_tables.specs.Stated.{Table};
 
-    ghost Value = { List C };
+    ghost Value = { Table C };
 
-    ghost coded = { coded_list C.code };
+    ghost coded = { Prim.hlevel (codes, C.code) };
 
-    ghost view = { λ o. o.functions.items };
+    ghost view = { λ o. record { language = o.language; objects = o.functions.items } };
 }
 
 impl<C: Drop> Objects<C> {
     /// No functions.
     pub fn new(alloc: Global) -> Objects<C>
-        ensures { result ≡ [] }
+        ensures { result ≡ no_functions }
     {
         Objects {
+            language: false,
             functions: Vec::new(alloc),
         }
     }
 
-    /// How many functions there are; the next one's number.
-    pub fn len(&self) -> usize
-        ensures { result ≡ length self.now }
+    /// The functions of the language: `range` is number 0, `dict` 1, `namespace` 2.
+    pub fn of_language(alloc: Global) -> Objects<C>
+        ensures { result ≡ language_functions }
     {
-        self.functions.len()
+        Objects {
+            language: true,
+            functions: Vec::new(alloc),
+        }
     }
 
-    /// Gives a function the next number. OutOfMemory where there is no memory, and all stays as it was.
-    pub fn add(&mut self, function: C) -> Result<(), Error>
-        ensures ok { OnOk result (self.new ≡ self.old ++ function ∷ []) }
+    /// The number of the object that is added next; none where numbers end.
+    pub fn next_number(&self) -> Option<usize>
+        ensures { IfSome result (λ number. number ≡ next_number self.now) }
+    {
+        let before = if self.language { LANGUAGE } else { 0 };
+        self.functions.len().checked_add(before)
+    }
+
+    /// Gives an object the next number. OutOfMemory where there is no memory, and all stays as it was.
+    pub fn add(&mut self, object: C) -> Result<(), Error>
+        ensures ok { OnOk result (self.new ≡ with_object object self.old) }
         ensures kind { IfErr result (λ e. e ≡ ErrorKind.OutOfMemory ∷ []) }
         ensures err { OnErr result (self.new ≡ self.old) }
     {
-        self.functions.push(function)?;
+        self.functions.push(object)?;
         Ok(())
     }
 
-    /// Takes the function that was added last.
+    /// Takes the object that was added last.
     pub fn pop(&mut self) -> Option<C>
-        ensures { MatchOption result ((self.old ≡ []) × (self.new ≡ []))
-            (λ f. self.old ≡ self.new ++ f ∷ []) }
+        ensures { MatchOption result ((self.old.objects ≡ []) × (self.new ≡ self.old))
+            (λ object. self.old ≡ with_object object self.new) }
     {
         self.functions.pop()
     }
 
-    /// The function of a number, where there is one.
-    pub fn get(&self, number: usize) -> Option<&C>
-        ensures { IsLent result (slice_get self.now number) }
+    /// The object of a place among the caller's, from 0, where there is one.
+    fn object(&self, number: usize) -> Option<&C>
+        ensures { IsLent result (slice_get self.now.objects number) }
     {
         self.functions.get(number)
+    }
+}
+
+impl<C: Callable> Objects<C> {
+    /// What the object of a place among the caller's answers; none where there is none.
+    fn answer(&self, alloc: Global, place: usize, args: &[Value], view: &View<'_>) -> Option<Called>
+        ensures { MatchOption (slice_get (callables C.answers self.now.objects) place) (result ≡ None)
+            (λ f. IsSomeAnd result (λ called. IsCalled called f args.now view.now)) }
+    {
+        match self.object(place) {
+            Some(object) => Some(Called::Answered(object.call(alloc, args, view))),
+            None => None,
+        }
     }
 }
 
@@ -91,16 +121,32 @@ impl<C: Callable> Parties for Objects<C> {
 
     ghost functions = { functions_of C.answers };
 
+    #[tactic(auto, using(crate::proofs::Numbers::behind, crate::proofs::Numbers::before))]
     fn call_function(
         &self,
         alloc: Global,
         number: usize,
         args: &[Value],
         view: &View<'_>,
-    ) -> Option<Answer> {
-        match self.get(number) {
-            Some(function) => Some(function.call(alloc, args, view)),
-            None => None,
+    ) -> Option<Called> {
+        if !self.language {
+            return self.answer(alloc, number, args, view);
         }
+        match number.checked_sub(LANGUAGE) {
+            Some(place) => self.answer(alloc, place, args, view),
+            None => Some(Called::Language(language_function(number))),
+        }
+    }
+}
+
+/// The function of the language that has this number.
+fn language_function(number: usize) -> GlobalFunction
+    requires { number < 3 }
+    ensures { result ≡ language_at number }
+{
+    match number {
+        0 => GlobalFunction::Range,
+        1 => GlobalFunction::Dict,
+        _ => GlobalFunction::Namespace,
     }
 }

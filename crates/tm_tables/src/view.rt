@@ -1,22 +1,23 @@
 //! What an object of the caller sees of a state.
 ghost use Rattle.std.specs.Prelude.{◌≡◌, [], ◌∷◌};
 ghost use Rattle.tm_syntax.specs.Named.{find};
-ghost use Rattle.tm_values.specs.Answer.{IsLent};
+ghost use Rattle.tm_values.specs.Answer.{IsAnswer, IsLent};
 ghost use Rattle.tm_meaning.specs.World.{find_name};
-ghost use Rattle.tm_tables.specs.Found.{IsFound};
-ghost use Rattle.tm_tables.specs.Views.{without_loops};
+ghost use Rattle.tm_tables.specs.Views.{records_with};
 
 use crate::context::Context;
 use std::marker::Model;
+use tm_parts::{LoopState, following_at, position_at, previous_at};
 use tm_syntax::NameMap;
 use tm_values::{AutoEscape, Error, LoopPosition, Records, UndefinedBehavior, Value, ValueMap};
 
-/// What an object of the caller sees of a state: its scopes, what was kept, the environment's globals, and what is running.
+/// What an object of the caller sees of a state: its scopes and loops, what was kept, the environment's globals, and what is running.
 #[derive(Drop)]
 pub struct View<'a> {
     id: u64,
     context: &'a Context,
     namespaces: &'a [ValueMap],
+    loops: &'a [LoopState],
     globals: &'a NameMap<Value>,
     temps: &'a NameMap<Value>,
     name: &'a str,
@@ -29,7 +30,7 @@ impl<'a> Model for View<'a> {
     ghost use Rattle.std.specs.Coded.{codes};
     ghost use Rattle.tm_meaning.specs.World.{View as Seen};
     ghost use Rattle.tm_values.specs.Code.{coded_Val};
-    ghost use Rattle.tm_tables.specs.Views.{without_loops};
+    ghost use Rattle.tm_tables.specs.Views.{records_with};
 
     ghost Value = { Seen };
 
@@ -39,7 +40,7 @@ impl<'a> Model for View<'a> {
       id = v.id;
       frames = v.context.now.frames;
       closures = [];
-      records = without_loops v.id v.namespaces.now;
+      records = records_with v.id v.namespaces.now v.loops.now;
       globals = v.globals.now;
       temps = v.temps.now;
       name = v.name.now;
@@ -49,11 +50,12 @@ impl<'a> Model for View<'a> {
 }
 
 impl<'a> View<'a> {
-    /// A view of a state's id, scopes and namespaces, the environment's globals, the kept values, the name of the template that runs, and how it is written.
+    /// A view of a state's id, scopes, namespaces and loops, the environment's globals, the kept values, the name of the template that runs, and how it is written.
     pub fn new(
         id: u64,
         context: &'a Context,
         namespaces: &'a [ValueMap],
+        loops: &'a [LoopState],
         globals: &'a NameMap<Value>,
         temps: &'a NameMap<Value>,
         name: &'a str,
@@ -64,7 +66,7 @@ impl<'a> View<'a> {
           id = id;
           frames = context.entry.now.frames;
           closures = [];
-          records = without_loops id namespaces.entry.now;
+          records = records_with id namespaces.entry.now loops.entry.now;
           globals = globals.entry.now;
           temps = temps.entry.now;
           name = name.entry.now;
@@ -76,6 +78,7 @@ impl<'a> View<'a> {
             id,
             context,
             namespaces,
+            loops,
             globals,
             temps,
             name,
@@ -85,12 +88,16 @@ impl<'a> View<'a> {
     }
 
     /// The value of a name: of the scopes, an inner one's first, else of the globals. InvalidOperation where a scope on the way is over a namespace whose record isn't there.
-    pub fn lookup(&self, name: &str) -> Result<Option<&Value>, Error>
-        ensures { IsFound result (find_name self.now name.now) }
+    pub fn lookup(&self, name: &str) -> Result<Option<Value>, Error>
+        ensures { IsAnswer result (find_name self.now name.now) }
     {
         match self.context.find(name, self) {
-            Ok(None) => Ok(self.globals.get(name)),
-            found => found,
+            Ok(Some(found)) => Ok(Some(found.value(self.id)?)),
+            Ok(None) => match self.globals.get(name) {
+                Some(global) => Ok(Some(global.share()?)),
+                None => Ok(None),
+            },
+            Err(error) => Err(error),
         }
     }
 
@@ -123,7 +130,6 @@ impl<'a> View<'a> {
     }
 }
 
-/// There are no loops yet. Each call reads a field, since a proof knows nothing of a view that isn't read.
 impl Records for View<'_> {
     ghost records = { λ v. v.records };
 
@@ -139,18 +145,15 @@ impl Records for View<'_> {
         self.namespaces.get(index)
     }
 
-    fn loop_position(&self, _index: usize) -> Option<LoopPosition> {
-        let _state = self.id;
-        None
+    fn loop_position(&self, index: usize) -> Option<LoopPosition> {
+        position_at(self.loops, index)
     }
 
-    fn previous_item(&self, _index: usize) -> Option<&Value> {
-        let _state = self.id;
-        None
+    fn previous_item(&self, index: usize) -> Option<&Value> {
+        previous_at(self.loops, index)
     }
 
-    fn following_item(&self, _index: usize) -> Option<&Value> {
-        let _state = self.id;
-        None
+    fn following_item(&self, index: usize) -> Option<&Value> {
+        following_at(self.loops, index)
     }
 }

@@ -2,3 +2,4 @@ pub mod Shift
 pub mod Loop
 pub mod Performed
 pub mod Weight
+pub mod Counted

@@ -1,13 +1,13 @@
 -- Less is left of a run behind each step.
-use Rattle.std.proofs.Common.{◌≡◌, ℕ, zero, suc, ◌+◌, ◌-◌, ◌*◌, ◌<◌, ◌≤◌, List, [], ◌∷◌, length, Option, Some, Result, Ok, Err, Bool, true, false, nat_lt, refl, sym, ap, ◌∙◌, subst, arith}
+use Rattle.std.proofs.Common.{◌≡◌, ℕ, zero, suc, ◌+◌, ◌-◌, ◌*◌, ◌<◌, ◌≤◌, List, [], ◌∷◌, length, Option, None, Some, Result, Ok, Err, Bool, true, false, ◌&&◌, nat_lt, refl, sym, ap, ◌∙◌, subst, arith}
 use Rattle.std.proofs.Math.Nat.{mul-le-mul_right, suc-mul}
 use Rattle.tm_values.specs.Val.{Val, undefined}
 use Rattle.tm_values.specs.declared.escape.AutoEscape.{AutoEscape}
 use Rattle.tm_syntax.specs.declared.instruction.Instruction.{Instruction}
 use Rattle.tm_syntax.specs.declared.instruction.Instruction.TheVariants as i
-use Rattle.tm_meaning.specs.World.{choose, World, Host, Res, Good, Bad, answered, escape_for, push, pop, plain}
-use Rattle.tm_meaning.specs.Instructions.{pop_auto_escape_with}
-use Rattle.tm_meaning.specs.Machine.{Config, Next, More, Over, Nest, Back, after, on_top, stuck}
+use Rattle.tm_meaning.specs.World.{choose, World, Loop, Host, Res, Good, Bad, answered, escape_for, items_over, open_loop, top_mark, top_loop, push, pop, plain}
+use Rattle.tm_meaning.specs.Instructions.{pop_auto_escape_with, is_no_loop, on_loop, pop_loop_with}
+use Rattle.tm_meaning.specs.Machine.{Return, Config, Next, More, Over, Nest, Back, after, on_top, stuck}
 use Rattle.tm_meaning.specs.Steps.{charge_of, effect}
 use Rattle.tm_meaning.specs.declared.base.Base.{Base}
 use Rattle.tm_parts.specs.declared.halt.Halt.{Halt}
@@ -46,14 +46,30 @@ choose_onward : (c : Config) (b : Bool) (n : Next) (w : World) → Onward c n �
 choose_onward c true n w k = k
 choose_onward c false n w k = tt
 
+loop_onward : (c : Config) (rs : List (Option Return)) (l : Option Loop) (w : World) (next : Loop → Next) → ((l : Loop) → Onward c (next l)) → Onward c (on_loop rs l w next)
+loop_onward c [] l w next k = tt
+loop_onward c (r ∷ rs) None w next k = tt
+loop_onward c (r ∷ rs) (Some l) w next k = k l
+
+left_onward : (c : Config) (rs : List (Option Return)) → Onward c (pop_loop_with rs c)
+left_onward c [] = tt
+left_onward c (None ∷ rs) = refl
+left_onward c (Some r ∷ rs) = tt
+
 escape_onward : (c : Config) (es : List AutoEscape) → Onward c (pop_auto_escape_with es c)
 escape_onward c [] = tt
 escape_onward c (e ∷ es) = refl
 
 free_onward : (host : Host) (f : Base) (x : Instruction) (c : Config) → charge_of x ≡ 0 → Onward c (effect host f x c)
+free_onward host f i.DupTop c free = on_top_onward c c.run.operands c.world _ (λ v rest. refl)
 free_onward host f i.DiscardTop c free = on_top_onward c c.run.operands c.world _ (λ v rest. refl)
 free_onward host f i.PushWith c free = after_onward c (push host (plain (undefined false)) c.world) _ (λ _ w. refl)
-free_onward host f i.PopFrame c free = choose_onward c (nat_lt f.scopes (length c.world.scopes.frames)) _ c.world refl
+free_onward host f i.PopFrame c free = choose_onward c (nat_lt f.scopes (length c.world.scopes.frames) && is_no_loop (top_mark c.world.scopes.frames)) _ c.world refl
+free_onward host f (i.PushLoop flags) c free =
+    on_top_onward c c.run.operands c.world _ (λ v rest. after_onward c (items_over host v c.world) _ (λ items w. after_onward c (open_loop host items flags w) _ (λ _ world1. refl)))
+free_onward host f i.PushDidNotIterate c free = loop_onward c c.run.loops (top_loop c.world) c.world _ (λ l. refl)
+free_onward host f i.PopLoopFrame c free =
+    choose_onward c (nat_lt f.scopes (length c.world.scopes.frames)) _ c.world (loop_onward c c.run.loops (top_loop c.world) c.world _ (λ l. left_onward c c.run.loops))
 free_onward host f (i.BeginCapture mode) c free = refl
 free_onward host f i.PushAutoEscape c free = on_top_onward c c.run.operands c.world _ (λ v rest. after_onward c (answered (escape_for f.first v) c.world) _ (λ e w. refl))
 free_onward host f i.PopAutoEscape c free = escape_onward c c.run.escapes

@@ -1,14 +1,14 @@
 //! The calls.
 ghost use Rattle.tm_meaning.specs.Instructions.{call_function_of, call_block_of};
-ghost use Rattle.tm_vm.specs.Answers.{CanGoOn, Silently, Needs};
+ghost use Rattle.tm_vm.specs.Answers.{CanGoOn, Silently, Needs, answer_of, language_call_of};
 
 use crate::flow::{Entry, Flow};
 use crate::machine::Machine;
 use std::alloc::Global;
-use tm_meaning::Base;
+use tm_meaning::{Base, GlobalFunction};
 use tm_parts::Halt;
 use tm_syntax::Name;
-use tm_tables::{Answer, Host, Reply};
+use tm_tables::{Answer, Called, Host, Reply};
 use tm_values::Value;
 
 impl Machine<'_> {
@@ -27,10 +27,21 @@ impl Machine<'_> {
         let Some(args) = self.run.operands.args(count) else {
             return Err(Halt::Stuck);
         };
-        let answer = match self.state.call(alloc, host, name, args) {
-            Ok(answer) => answer,
+        let called = match self.state.call(alloc, host, name, args) {
+            Ok(called) => called,
             Err(error) => return Err(Halt::Fault(error)),
         };
+        match called {
+            Called::Answered(answer) => self.take_answer(answer, count),
+            Called::Language(function) => self.call_language(alloc, function, count),
+        }
+    }
+
+    /// Keeps what an answer to so many values asks for, and replaces these by its value.
+    fn take_answer(&mut self, answer: Answer, count: usize) -> Result<Flow, Halt>
+        requires { CanGoOn self.old.run }
+        ensures { Silently (answer_of answer count self.old) self.old self.new result }
+    {
         let Answer { temps, result } = answer;
         if let Err(error) = self.state.keep(temps) {
             return Err(Halt::Fault(error));
@@ -41,6 +52,25 @@ impl Machine<'_> {
                 self.push_next(value)
             }
             Reply::Fault(error) => Err(Halt::Fault(error)),
+        }
+    }
+
+    /// Replaces so many values by what a function of the language gives for them.
+    fn call_language(
+        &mut self,
+        alloc: Global,
+        function: GlobalFunction,
+        count: usize,
+    ) -> Result<Flow, Halt>
+        requires { CanGoOn self.old.run }
+        ensures { Silently (language_call_of function count self.old) self.old self.new result }
+    {
+        let Some(args) = self.run.take(count)? else {
+            return Err(Halt::Stuck);
+        };
+        match self.state.call_language(alloc, function, &args) {
+            Ok(value) => self.push_next(value),
+            Err(error) => Err(Halt::Fault(error)),
         }
     }
 

@@ -5,6 +5,7 @@ mod calls;
 mod captures;
 mod flow;
 mod jumps;
+mod loops;
 mod machine;
 mod operands;
 mod output;

@@ -1,7 +1,7 @@
 //! The instructions of operands, operators, lists and maps.
-ghost use Rattle.std.specs.Prelude.{◌∷◌};
+ghost use Rattle.std.specs.Prelude.{◌≡◌, ◌<◌, ◌∷◌, ℕ, pos, Some, IfSome, IfNone};
 ghost use Rattle.tm_meaning.specs.Machine.{goes};
-ghost use Rattle.tm_meaning.specs.Instructions.{lookup_of, load_const_of, get_attr_of, unary_of, binary_of, compare_and_preserve_of, swap_of, discard_top_of, get_item_of, slice_instruction_of, build_list_of, build_map_of};
+ghost use Rattle.tm_meaning.specs.Instructions.{lookup_of, load_const_of, get_attr_of, unary_of, binary_of, compare_and_preserve_of, swap_of, dup_top_of, discard_top_of, get_item_of, slice_instruction_of, build_list_of, list_on, count_in, build_map_of, build_kwargs_of};
 ghost use Rattle.tm_vm.specs.Answers.{CanGoOn, Silently};
 
 use crate::flow::Flow;
@@ -11,7 +11,7 @@ use tm_operations::{attribute, item, slice};
 use tm_parts::{Halt, binary, paired, unary};
 use tm_syntax::{BinaryOperator, Name, UnaryOperator};
 use tm_tables::Host;
-use tm_values::{Value, ValueMap};
+use tm_values::{Node, Value, ValueMap};
 
 impl Machine<'_> {
     /// Pushes an operand and goes on.
@@ -32,7 +32,7 @@ impl Machine<'_> {
             self.old self.new result }
     {
         let value = match self.state.lookup(host, name.as_str()) {
-            Ok(Some(value)) => value.share()?,
+            Ok(Some(value)) => value,
             Ok(None) => Value::undefined(),
             Err(error) => return Err(Halt::Fault(error)),
         };
@@ -154,6 +154,18 @@ impl Machine<'_> {
         self.push_next(below)
     }
 
+    /// Pushes the topmost value once more.
+    pub(crate) fn do_dup_top(&mut self) -> Result<Flow, Halt>
+        requires { CanGoOn self.old.run }
+        ensures { Silently (dup_top_of self.old) self.old self.new result }
+    {
+        let value = match self.run.operands.peek() {
+            Some(top) => top.share()?,
+            None => return Err(Halt::Stuck),
+        };
+        self.push_next(value)
+    }
+
     /// Drops the topmost value.
     pub(crate) fn do_discard_top(&mut self) -> Result<Flow, Halt>
         requires { CanGoOn self.old.run }
@@ -209,10 +221,33 @@ impl Machine<'_> {
         }
     }
 
-    /// Replaces so many values by the list of them.
-    pub(crate) fn do_build_list(&mut self, alloc: Global, count: usize) -> Result<Flow, Halt>
+    /// Replaces so many values by the list of them, or as many as the number on top of them counts.
+    #[tactic(auto, using(crate::proofs::Counted::no_count))]
+    pub(crate) fn do_build_list(
+        &mut self,
+        alloc: Global,
+        count: Option<usize>,
+    ) -> Result<Flow, Halt>
         requires { CanGoOn self.old.run }
         ensures { Silently (build_list_of count self.old) self.old self.new result }
+    {
+        if let Some(count) = count {
+            return self.build_list(alloc, count);
+        }
+        let Some(counter) = self.run.pop() else {
+            return Err(Halt::Stuck);
+        };
+        match counted(&counter, self.run.operands.len()) {
+            Some(count) => self.build_list(alloc, count),
+            None => Err(Halt::Stuck),
+        }
+    }
+
+    /// Replaces so many values by the list of them.
+    fn build_list(&mut self, alloc: Global, count: usize) -> Result<Flow, Halt>
+        requires { CanGoOn self.old.run }
+        ensures { Silently (list_on count self.old.run.operands self.old)
+            self.old self.new result }
     {
         let Some(values) = self.run.take(count)? else {
             return Err(Halt::Stuck);
@@ -230,5 +265,39 @@ impl Machine<'_> {
         };
         let pairs = ValueMap::from_pairs(paired(alloc, values)?)?;
         self.push_next(Value::from_map(alloc, pairs)?)
+    }
+
+    /// Replaces so many names, each with its value behind it, by the keyword map of them.
+    pub(crate) fn do_build_kwargs(&mut self, alloc: Global, count: usize) -> Result<Flow, Halt>
+        requires { CanGoOn self.old.run }
+        ensures { Silently (build_kwargs_of count self.old) self.old self.new result }
+    {
+        let Some(values) = self.run.take_pairs(count)? else {
+            return Err(Halt::Stuck);
+        };
+        let pairs = ValueMap::from_pairs(paired(alloc, values)?)?;
+        self.push_next(Value::keywords(alloc, pairs)?)
+    }
+}
+
+/// How many a number counts, where there are at most so many.
+fn counted(value: &Value, most: usize) -> Option<usize>
+    ensures some { IfSome result (λ n. count_in value.now ≡ Some n) }
+    ensures none { IfNone result ((n : ℕ) → count_in value.now ≡ Some n → most < n) }
+{
+    match &value.node {
+        Node::Number(whole) => counted_whole(*whole, most),
+        _ => None,
+    }
+}
+
+/// How many a whole number counts, where there are at most so many.
+fn counted_whole(whole: i128, most: usize) -> Option<usize>
+    ensures some { IfSome result (λ n. whole ≡ pos n) }
+    ensures none { IfNone result ((n : ℕ) → whole ≡ pos n → most < n) }
+{
+    match usize::try_from(whole) {
+        Ok(count) if count <= most => Some(count),
+        _ => None,
     }
 }

@@ -1,9 +1,10 @@
 //! What is a run's own.
-ghost use Rattle.std.specs.Prelude.{◌≡◌, ◌+◌, List, [], ◌∷◌, Some, None, OnOk, IfErr, MatchOption, MatchResult, drop};
+ghost use Rattle.std.specs.Prelude.{◌≡◌, ◌+◌, List, [], ◌∷◌, Some, None, OnOk, IfErr, MatchBool, MatchOption, not, MatchResult, drop};
 ghost use Rattle.tm_values.specs.Val.{Val};
 ghost use Rattle.tm_meaning.specs.Meaning.{none_waits};
 ghost use Rattle.tm_meaning.specs.Steps.{is_empty};
-ghost use Rattle.tm_meaning.specs.Machine.{run_from, taken};
+ghost use Rattle.tm_meaning.specs.Machine.{Config, run_from, stuck, taken};
+ghost use Rattle.tm_meaning.specs.Instructions.{pop_loop_with};
 ghost use Rattle.tm_operations.specs.Truth.{truth_of};
 ghost use Rattle.tm_vm.specs.Answers.{CanGoOn};
 
@@ -14,13 +15,43 @@ use tm_operations::truth;
 use tm_parts::Stack;
 use tm_values::{AutoEscape, Error, ErrorKind, UndefinedBehavior, Value};
 
-/// What is a run's own: its stream and the place in it, its operands, the escapes that its open `autoescape`s replaced, and how many captures stood when it began.
+/// Where a loop goes on that was called: the run as it was at the call, and whether the text is a value. Nothing calls a loop yet.
+#[derive(Drop)]
+pub(crate) struct Return {
+    place: usize,
+    operands: Stack,
+    escapes: Vec<AutoEscape>,
+    floor: usize,
+    value: bool,
+}
+
+impl Model for Return {
+    ghost use Rattle.std.specs.Prelude.{reverse};
+    ghost use Rattle.std.specs.Coded.{codes};
+    ghost use Rattle.tm_values.specs.Code.{coded_Val};
+    ghost use Rattle.tm_meaning.specs.Machine.{Return as Pending};
+
+    ghost Value = { Pending };
+
+    ghost coded = { Prim.hlevel (codes, coded_Val) };
+
+    ghost view = { λ r. record {
+      place = r.place;
+      operands = r.operands;
+      escapes = reverse r.escapes.items;
+      floor = r.floor;
+      value = r.value;
+    } };
+}
+
+/// What is a run's own: its stream and the place in it, its operands, the escapes that its open `autoescape`s replaced, for each loop that it has open where that goes on if it was called, and how many captures stood when it began.
 #[derive(Drop)]
 pub(crate) struct Run {
     pub(crate) stream: StreamId,
     pub(crate) place: usize,
     pub(crate) operands: Stack,
     escapes: Vec<AutoEscape>,
+    loops: Vec<Option<Return>>,
     floor: usize,
 }
 
@@ -39,7 +70,7 @@ impl Model for Run {
       place = run.place;
       operands = run.operands;
       escapes = reverse run.escapes.items;
-      loops = [];
+      loops = reverse run.loops.items;
       floor = run.floor;
       parent = None;
     } };
@@ -55,6 +86,7 @@ impl Run {
             place: 0,
             operands: Stack::new(alloc),
             escapes: Vec::new(alloc),
+            loops: Vec::new(alloc),
             floor,
         }
     }
@@ -79,6 +111,32 @@ impl Run {
         ensures { result ≡ is_empty self.now.escapes }
     {
         self.escapes.is_empty()
+    }
+
+    /// Whether it has a loop open.
+    pub(crate) fn has_loop(&self) -> bool
+        ensures { result ≡ not (is_empty self.now.loops) }
+    {
+        !self.loops.is_empty()
+    }
+
+    /// Has a loop more open, which wasn't called. Fails by OutOfMemory alone.
+    pub(crate) fn begin_loop(&mut self) -> Result<(), Error>
+        ensures ok { OnOk result (self.new ≡ record self.old { loops = None ∷ self.old.loops }) }
+        ensures kind { IfErr result (λ e. e ≡ ErrorKind.OutOfMemory ∷ []) }
+        ensures rest { self.new ≡ record self.old { loops = self.new.loops } }
+    {
+        self.loops.push(None)?;
+        Ok(())
+    }
+
+    /// Has its innermost loop open no longer, where it has one that wasn't called; says whether it had.
+    pub(crate) fn end_loop(&mut self) -> bool
+        ensures ended { MatchBool result (self.old ≡ record self.new { loops = None ∷ self.new.loops })
+            ((c : Config) → pop_loop_with self.old.loops c ≡ stuck c.world) }
+        ensures rest { self.new ≡ record self.old { loops = self.new.loops } }
+    {
+        matches!(self.loops.pop(), Some(None))
     }
 
     /// Keeps the escape that an `autoescape` replaces. Fails by OutOfMemory alone.

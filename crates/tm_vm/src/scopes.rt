@@ -89,7 +89,7 @@ impl Machine<'_> {
         requires { CanGoOn self.old.run }
         ensures { Shifts base.now (pop_frame_of base.now self.old) self.old self.new result }
     {
-        if self.state.height() <= base.scopes {
+        if self.state.height() <= base.scopes || self.state.is_in_loop() {
             return Err(Halt::Stuck);
         }
         self.state.pop_scope();

@@ -40,10 +40,10 @@ impl Machine<'_> {
             Instruction::GetAttr(name) => self.do_get_attr(alloc, host, name),
             Instruction::GetItem => self.do_get_item(alloc, host),
             Instruction::Slice => self.do_slice(alloc, host),
-            Instruction::BuildList(count) | Instruction::BuildTuple(count) => {
-                self.do_build_list(alloc, *count)
-            }
+            Instruction::BuildList(count) => self.do_build_list(alloc, *count),
+            Instruction::BuildTuple(count) => self.do_build_list(alloc, Some(*count)),
             Instruction::BuildMap(count) => self.do_build_map(alloc, *count),
+            Instruction::BuildKwargs(count) => self.do_build_kwargs(alloc, *count),
             Instruction::Eq => self.do_binary(alloc, host, BinaryOperator::Equal),
             Instruction::Ne => self.do_binary(alloc, host, BinaryOperator::NotEqual),
             Instruction::Lt => self.do_binary(alloc, host, BinaryOperator::Less),
@@ -65,6 +65,7 @@ impl Machine<'_> {
             Instruction::Neg => self.do_unary(alloc, host, UnaryOperator::Negate),
             Instruction::Not => self.do_unary(alloc, host, UnaryOperator::Not),
             Instruction::Swap => self.do_swap(),
+            Instruction::DupTop => self.do_dup_top(),
             Instruction::DiscardTop => self.do_discard_top(),
             Instruction::Jump(place) => self.do_jump(*place),
             Instruction::JumpIfFalse(place) => self.do_jump_if_false(host, *place),
@@ -79,6 +80,10 @@ impl Machine<'_> {
             Instruction::SetAttr(name) => self.do_set_attr(alloc, name),
             Instruction::PushWith => self.do_push_with(alloc, host, base),
             Instruction::PopFrame => self.do_pop_frame(base),
+            Instruction::PushLoop(flags) => self.do_push_loop(alloc, host, base, *flags),
+            Instruction::Iterate(place) => self.do_iterate(alloc, *place),
+            Instruction::PushDidNotIterate => self.do_push_did_not_iterate(),
+            Instruction::PopLoopFrame => self.do_pop_loop_frame(base),
             Instruction::BeginCapture(mode) => self.do_begin_capture(alloc, *mode),
             Instruction::EndCapture => self.do_end_capture(alloc),
             Instruction::PushAutoEscape => self.do_push_auto_escape(base),
@@ -117,6 +122,7 @@ impl Machine<'_> {
             && base.captures == self.captures.depth()
             && base.scopes == self.state.height()
             && self.run.escapes_are_closed()
+            && !self.run.has_loop()
         {
             return Ok(Flow::Done);
         }

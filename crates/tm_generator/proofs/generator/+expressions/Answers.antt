@@ -1,9 +1,9 @@
-use Rattle.std.proofs.Common.{[], ◌∷◌, ◌++◌, length, rules, refl, ap, ◌∙◌, arith, length-append}
+use Rattle.std.proofs.Common.{[], ◌∷◌, ◌++◌, length, rules, refl, sym, ap, ◌∙◌, arith, length-append}
 use Rattle.std.proofs.lemmas.List.{drop_all}
 use Rattle.tm_syntax.specs.declared.tree.Argument.TheFolds as folds
 use Rattle.std.proofs.lemmas.Result.{on_ok_weaker}
-use Rattle.tm_generator.proofs.Rows.{more_exprs, no_more_exprs, more_pairs, no_more_pairs, more_arguments, no_more_arguments, more_steps, no_more_steps}
-use Rattle.tm_generator.proofs.Generated.{next, made_list, made_tuple, made_map, made_call, made_unary, made_chain, made_pair, made_plain, made_item, made_slice, made_binary, made_and, made_or}
+use Rattle.tm_generator.proofs.Rows.{more_exprs, no_more_exprs, more_pairs, no_more_pairs, more_arguments, no_more_arguments, more_keywords, no_more_keywords, no_named, made_named, more_steps, no_more_steps}
+use Rattle.tm_generator.proofs.Generated.{next, made_list, made_tuple, made_map, made_call, made_unary, made_chain, made_pair, made_keyword, made_plain, made_item, made_slice, made_binary, made_and, made_or}
 use Rattle.tm_generator.proofs.Links.{whole_comparison, more_links, no_more_links, more_places, row-within, made_row, made_compare}
 use Rattle.tm_generator.proofs.Conditions.{more_asked, more_asked_places, answers-within, made_conditional, more_answered, still_within}
 use Rattle.tm_generator.specs.Jumps.{link_places, asked_places}
@@ -37,8 +37,27 @@ push_expr-returns-in_ok-push_pairs-in-Map-clause-ok t c =
 
 pub push_expr-returns-in_ok-share-in-Call-clause-ok : goal.push_expr-returns-in_ok-share-in-Call-clause-ok
 push_expr-returns-in_ok-share-in-Call-clause-ok t c =
-    rw c.in-Call.is (on_ok_weaker c.put-in-Call.result (made_call c.args.code.now c.push_arguments.new.code c.put-in-Call.new.code _ c.in-Call.name _ c.in-Call.given
-    (rw (← c.as_slice-in-Call.ensures) c.in_ok-push_arguments-in-Call.ensures.ok) c.len-in-Call.ensures c.in_ok-share-in-Call.ensures) c.put-in-Call.ensures.ok)
+    rw c.in-Call.is (on_ok_weaker c.put-in-Call.result (made_call c.args.code.now c.push_arguments.new.code c.push_named.new.code c.put-in-Call.new.code _ c.in-Call.name _ c.in-Call.given c.in-Call.named
+    (rw (← c.as_slice-in-Call.ensures) c.in_ok-push_arguments-in-Call.ensures.ok) (rw (← c.as_slice-in-Call-2.ensures) c.in_ok-push_named-in-Call.ensures.ok) _ _ c.len-in-Call.ensures c.len-in-Call-2.ensures
+    c.in_ok-count-in-Call.ensures.ok c.in_ok-share-in-Call.ensures) c.put-in-Call.ensures.ok)
+
+pub push_keyword-returns-clause-ok : goal.push_keyword-returns-clause-ok
+push_keyword-returns-clause-ok t c =
+    made_keyword c.args.code.now c.put.new.code c.push_expr.new.code c.args.keyword.now _ _ _ c.get.result.now _ c.as_str.ensures c.get.ensures c.in_ok-text.ensures c.in_ok-put.ensures.ok c.in_ok-push_expr.ensures.ok
+
+pub push_named-returns-then-is_empty-clause-ok : goal.push_named-returns-then-is_empty-clause-ok
+push_named-returns-then-is_empty-clause-ok t c = no_named c.args.code.now c.args.named.now (sym c.is_empty.ensures ∙ c.if-is_empty.true)
+
+pub push_named-returns-clause-ok : goal.push_named-returns-clause-ok
+push_named-returns-clause-ok t c =
+    on_ok_weaker c.put.result (made_named c.args.code.now c.push_keywords.new.code c.put.new.code _ c.args.named.now (sym c.is_empty.ensures ∙ c.if-is_empty.false) c.in_ok-push_keywords.ensures.ok refl) c.put.ensures.ok
+
+pub push_keywords-loop-keyword-preserved : goal.push_keywords-loop-keyword-preserved
+push_keywords-loop-keyword-preserved t c =
+    more_keywords _ _ _ _ _ c.keyword-item.result (next c.args.named.now c.loop-keyword.keyword-index c.keyword-item.result c.loop-keyword-test.true c.keyword-item.is) c.in_ok-push_keyword.ensures.ok c.loop-keyword.invariant
+
+pub push_keywords-returns-clause-ok : goal.push_keywords-returns-clause-ok
+push_keywords-returns-clause-ok t c = no_more_keywords _ _ _ (drop_all c.loop-keyword.keyword-index c.args.named.now c.loop-keyword-test.false) c.loop-keyword.invariant
 
 pub push_expr-returns-in_ok-push_expr-in-Unary-clause-ok : goal.push_expr-returns-in_ok-push_expr-in-Unary-clause-ok
 push_expr-returns-in_ok-push_expr-in-Unary-clause-ok t c =

@@ -1,6 +1,6 @@
 use Rattle.std.proofs.Common.{◌≡◌, ◌++◌, ◌+◌, ◌<◌, ◌≤◌, All, length, drop, reverse}
-use Rattle.tm_syntax.specs.Code.{exprs_code, pairs_code, arguments_code, links_code, steps_code}
-use Rattle.tm_syntax.specs.declared.tree.Argument.TheBlock.{hidden-the_row-Expr-1 as exprs, hidden-the_row-Pair-2 as pairs, hidden-the_row-Argument-3 as arguments, hidden-the_row-Step-4 as steps, hidden-the_row-Comparison-6 as comparisons}
+use Rattle.tm_syntax.specs.Code.{exprs_code, pairs_code, arguments_code, keywords_code, links_code, steps_code}
+use Rattle.tm_syntax.specs.declared.tree.Argument.TheBlock.{hidden-the_row-Expr-1 as exprs, hidden-the_row-Pair-2 as pairs, hidden-the_row-Argument-3 as arguments, hidden-the_row-Keyword-4 as keywords, hidden-the_row-Step-5 as steps, hidden-the_row-Comparison-7 as comparisons}
 use Rattle.tm_generator.specs.Jumps.{link_places, asked, asked_places, all_answered}
 use Rattle.tm_generator.proofs.generator.+expressions.Given as goal
 
@@ -15,6 +15,10 @@ invariant-push_pairs-loop-entry l =
 abbrev pub invariant-push_arguments-loop-argument : goal.invariant-push_arguments-loop-argument
 invariant-push_arguments-loop-argument l =
     l.code ++ arguments_code (length l.code) (arguments (drop l.argument-index l.given)) ≡ l.fn.code ++ arguments_code (length l.fn.code) (arguments l.given)
+
+abbrev pub invariant-push_keywords-loop-keyword : goal.invariant-push_keywords-loop-keyword
+invariant-push_keywords-loop-keyword l =
+    l.code ++ keywords_code (length l.code) (keywords (drop l.keyword-index l.named)) ≡ l.fn.code ++ keywords_code (length l.fn.code) (keywords l.named)
 
 abbrev pub invariant-push_steps-loop-step : goal.invariant-push_steps-loop-step
 invariant-push_steps-loop-step l =

@@ -3,33 +3,49 @@ use Rattle.tm_syntax.specs.Blocks.{blocks_in, compiled_blocks}
 use Rattle.tm_syntax.specs.Code.{statements_code}
 use Rattle.tm_syntax.specs.Named.{put_each}
 use Rattle.tm_syntax.specs.declared.tree.Stmt.TheBlock.{hidden-the_row-Stmt-0 as statements}
-use Rattle.tm_syntax.specs.declared.tree.Stmt.TheVariants.{AutoEscape, If, SetBlock}
+use Rattle.tm_syntax.specs.declared.tree.Stmt.TheVariants.{AutoEscape, For, If, SetBlock}
 use Rattle.tm_syntax.proofs.tree.Stmt.TheLaws.{the_size}
+use Rattle.tm_generator.specs.Exits.{unset, with_exits, exits_in}
 use Rattle.tm_generator.proofs.generator.+statements.Given as goal
 
 abbrev pub invariant-push_statements-loop-statement : goal.invariant-push_statements-loop-statement
 invariant-push_statements-loop-statement l =
-    (l.code ++ statements_code (length l.code) (statements (drop l.statement-index l.body)) ≡ l.fn.code ++ statements_code (length l.fn.code) (statements l.body))
-    × (put_each (compiled_blocks (blocks_in (statements (drop l.statement-index l.body)))) l.blocks ≡ put_each (compiled_blocks (blocks_in (statements l.body))) l.fn.blocks)
+    let left = drop l.statement-index l.body in
+    (l.around.opened ≡ l.fn.around.opened)
+    × (l.code ++ statements_code (unset l.fn.around.opened) (length l.code) (statements left) ≡ l.fn.code ++ statements_code (unset l.fn.around.opened) (length l.fn.code) (statements l.body))
+    × (with_exits l.around (exits_in l.fn.around.opened (length l.code) (statements left)) ≡ with_exits l.fn.around (exits_in l.fn.around.opened (length l.fn.code) (statements l.body)))
+    × (put_each (compiled_blocks (blocks_in (statements left))) l.blocks ≡ put_each (compiled_blocks (blocks_in (statements l.body))) l.fn.blocks)
 
 -- a list of statements is as deep as the deepest of them
 abbrev pub decreases-push_statements : goal.decreases-push_statements
-decreases-push_statements l = 3 * goal.size-push_statements l + 2
+decreases-push_statements l = 5 * goal.size-push_statements l + 3
 
 abbrev pub decreases-push_statement : goal.decreases-push_statement
-decreases-push_statement l = 3 * goal.size-push_statement l + 1
+decreases-push_statement l = 5 * goal.size-push_statement l + 2
 
 abbrev pub decreases-push_if : goal.decreases-push_if
-decreases-push_if l = 3 * the_size (If l.condition.now l.body.now l.other.now)
+decreases-push_if l = 5 * the_size (If l.condition.now l.body.now l.other.now)
+
+abbrev pub decreases-push_for : goal.decreases-push_for
+decreases-push_for l = 5 * the_size (For l.target.now l.iterable.now l.condition.now l.body.now l.other.now) + 1
+
+abbrev pub decreases-push_rounds : goal.decreases-push_rounds
+decreases-push_rounds l = 5 * the_size (SetBlock l.target.now l.body.now)
+
+abbrev pub decreases-push_no_round : goal.decreases-push_no_round
+decreases-push_no_round l = 5 * goal.size-push_no_round l + 4
 
 abbrev pub decreases-push_block : goal.decreases-push_block
-decreases-push_block l = 3 * goal.size-push_block l + 3
+decreases-push_block l = 5 * goal.size-push_block l + 5
+
+abbrev pub decreases-stream : goal.decreases-stream
+decreases-stream l = 5 * goal.size-stream l + 4
 
 abbrev pub decreases-push_with : goal.decreases-push_with
-decreases-push_with l = 3 * goal.size-push_with l + 3
+decreases-push_with l = 5 * goal.size-push_with l + 4
 
 abbrev pub decreases-push_set_block : goal.decreases-push_set_block
-decreases-push_set_block l = 3 * the_size (SetBlock l.target.now l.body.now)
+decreases-push_set_block l = 5 * the_size (SetBlock l.target.now l.body.now)
 
 abbrev pub decreases-push_autoescape : goal.decreases-push_autoescape
-decreases-push_autoescape l = 3 * the_size (AutoEscape l.value.now l.body.now)
+decreases-push_autoescape l = 5 * the_size (AutoEscape l.value.now l.body.now)

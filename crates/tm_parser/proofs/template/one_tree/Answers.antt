@@ -1,4 +1,4 @@
-use Rattle.std.proofs.Common.{List, [], sym, ◌∙◌, ap}
+use Rattle.std.proofs.Common.{false, List, [], sym, ◌∙◌, ap}
 use Rattle.tm_syntax.specs.declared.tree.Stmt.{Stmt}
 use Rattle.tm_syntax.specs.declared.tree.Tree.{Tree}
 use Rattle.tm_rules.specs.Laws.{same_got}
@@ -11,6 +11,6 @@ tree_of ss = record { statements = ss }
 
 pub returns : goal.returns
 returns c = λ ts a b x y.
-    let whole = body (inside 150) (inner 150) in
+    let whole = body (inside 150) (inner 150) false in
     let same = same_got a.statements b.statements [] [] (sym (whole.only ts a.statements [] x.spelled) ∙ whole.only ts b.statements [] y.spelled) in
     ap (λ ss. tree_of ss) same.0

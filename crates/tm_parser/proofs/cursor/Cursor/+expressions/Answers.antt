@@ -2,8 +2,8 @@ use Rattle.std.proofs.Common.{ap}
 use Rattle.std.proofs.lemmas.Result.{err_from_is_err_and}
 use Rattle.tm_syntax.specs.declared.token.Sign.TheVariants as sign
 use Rattle.tm_rules.specs.Combinators.{first}
-use Rattle.tm_parser.specs.Grammar.{inside, is, steps_from, comparisons_from, conditions_from, link, step, behind_comparison, condition, operand, argument, pair}
-use Rattle.tm_parser.proofs.Loops.{goes_on, comes_nearer, refuses, ends, comma_comes_nearer, comma_refuses}
+use Rattle.tm_parser.specs.Grammar.{inside, is, steps_from, comparisons_from, conditions_from, link, step, behind_comparison, condition, operand, pair}
+use Rattle.tm_parser.proofs.Loops.{goes_on, comes_nearer, refuses, ends, comma_comes_nearer, comma_refuses, passed_comes_nearer, passed_refuses}
 use Rattle.tm_parser.proofs.cursor.Cursor.+expressions.Goals as goal
 
 pub steps-loop-link-init : goal.steps-loop-link-init
@@ -25,13 +25,13 @@ steps-returns-in_err-steps t c =
 pub steps-returns : goal.steps-returns
 steps-returns t c = ends (link c.args.level) (step (inside c.args.depth) (operand (inside c.args.depth) c.args.level) c.args.level) _ _ _ _ c.loop-link.invariant c.in_default.ensures
 
-pub more_arguments-loop-alloc-smaller : goal.more_arguments-loop-alloc-smaller
-more_arguments-loop-alloc-smaller t c = comma_comes_nearer sign.CloseRound (argument (inside c.args.depth)) _ _ _ _ _ c.loop-alloc-test.ensures c.in_ok-arguments.ensures
+pub more_passed-loop-alloc-smaller : goal.more_passed-loop-alloc-smaller
+more_passed-loop-alloc-smaller t c = passed_comes_nearer (inside c.args.depth) _ _ _ _ _ c.loop-alloc-test.ensures c.in_ok-given.ensures
 
-pub more_arguments-returns-in_err-arguments : goal.more_arguments-returns-in_err-arguments
-more_arguments-returns-in_err-arguments t c =
+pub more_passed-returns-in_err-given : goal.more_passed-returns-in_err-given
+more_passed-returns-in_err-given t c =
     let p = err_from_is_err_and c.from_residual.result c.from_residual.ensures.1 in
-    rw (p.1, p.2) (comma_refuses sign.CloseRound (argument (inside c.args.depth)) _ _ _ _ _ c.loop-alloc.invariant c.loop-alloc-test.ensures c.in_err-arguments.ensures)
+    rw (p.1, p.2) (passed_refuses (inside c.args.depth) _ _ _ _ _ c.loop-alloc.invariant c.loop-alloc-test.ensures c.in_err-given.ensures)
 
 pub more_exprs-loop-alloc-smaller : goal.more_exprs-loop-alloc-smaller
 more_exprs-loop-alloc-smaller t c = comma_comes_nearer c.args.close (inside c.args.depth).expr _ _ _ _ _ c.loop-alloc-test.ensures c.in_ok-exprs.ensures

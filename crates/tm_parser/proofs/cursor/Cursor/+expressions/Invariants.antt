@@ -1,6 +1,6 @@
 use Rattle.std.proofs.Common.{◌≡◌, ◌+◌, ◌*◌, length, []}
 use Rattle.tm_syntax.specs.declared.token.Sign.TheVariants as sign
-use Rattle.tm_parser.specs.Grammar.{inside, operand, steps_from, comparisons_from, conditions_from, more_items, argument, pair}
+use Rattle.tm_parser.specs.Grammar.{inside, operand, steps_from, comparisons_from, conditions_from, more_items, more_passed, pair}
 use Rattle.tm_parser.proofs.cursor.Cursor.+expressions.Given as goal
 
 -- each nesting has room for one call of each method, the higher above the lower
@@ -10,14 +10,20 @@ decreases-inner_expr l = 4096 * l.depth
 abbrev pub decreases-inner_operand : goal.decreases-inner_operand
 decreases-inner_operand l = 4096 * l.depth
 
-abbrev pub decreases-one_argument : goal.decreases-one_argument
-decreases-one_argument l = 4096 * l.depth + 1
+abbrev pub decreases-keyword : goal.decreases-keyword
+decreases-keyword l = 4096 * l.depth + 1
 
-abbrev pub decreases-more_arguments : goal.decreases-more_arguments
-decreases-more_arguments l = 4096 * l.depth + 2
+abbrev pub decreases-argument : goal.decreases-argument
+decreases-argument l = 4096 * l.depth + 1
 
-abbrev pub decreases-arguments : goal.decreases-arguments
-decreases-arguments l = 4096 * l.depth + 3
+abbrev pub decreases-one_passed : goal.decreases-one_passed
+decreases-one_passed l = 4096 * l.depth + 2
+
+abbrev pub decreases-more_passed : goal.decreases-more_passed
+decreases-more_passed l = 4096 * l.depth + 3
+
+abbrev pub decreases-all_passed : goal.decreases-all_passed
+decreases-all_passed l = 4096 * l.depth + 4
 
 abbrev pub decreases-one_expr : goal.decreases-one_expr
 decreases-one_expr l = 4096 * l.depth + 1
@@ -62,7 +68,7 @@ abbrev pub decreases-bracketed : goal.decreases-bracketed
 decreases-bracketed l = 4096 * l.depth + 5
 
 abbrev pub decreases-named : goal.decreases-named
-decreases-named l = 4096 * l.depth + 4
+decreases-named l = 4096 * l.depth + 5
 
 abbrev pub decreases-primary : goal.decreases-primary
 decreases-primary l = 4096 * l.depth + 6
@@ -134,12 +140,12 @@ invariant-steps-loop-link l =
 abbrev pub decreases-steps-loop-link : goal.decreases-steps-loop-link
 decreases-steps-loop-link l = length l.self
 
-abbrev pub invariant-more_arguments-loop-alloc : goal.invariant-more_arguments-loop-alloc
-invariant-more_arguments-loop-alloc l =
-    (more_items sign.CloseRound (argument (inside l.depth)) l.arguments).reads l.self ≡ (more_items sign.CloseRound (argument (inside l.depth)) l.fn.first).reads l.fn.self
+abbrev pub invariant-more_passed-loop-alloc : goal.invariant-more_passed-loop-alloc
+invariant-more_passed-loop-alloc l =
+    (more_passed (inside l.depth) l.given).reads l.self ≡ (more_passed (inside l.depth) l.fn.first).reads l.fn.self
 
-abbrev pub decreases-more_arguments-loop-alloc : goal.decreases-more_arguments-loop-alloc
-decreases-more_arguments-loop-alloc l = length l.self
+abbrev pub decreases-more_passed-loop-alloc : goal.decreases-more_passed-loop-alloc
+decreases-more_passed-loop-alloc l = length l.self
 
 abbrev pub invariant-more_exprs-loop-alloc : goal.invariant-more_exprs-loop-alloc
 invariant-more_exprs-loop-alloc l =

@@ -10,6 +10,9 @@ decreases-inner_body l = 16 * l.depth
 abbrev pub decreases-inner_rest : goal.decreases-inner_rest
 decreases-inner_rest l = 16 * l.depth
 
+abbrev pub decreases-inner_else_or_end : goal.decreases-inner_else_or_end
+decreases-inner_else_or_end l = 16 * l.depth
+
 abbrev pub decreases-elif_tag : goal.decreases-elif_tag
 decreases-elif_tag l = 16 * l.depth + 1
 
@@ -18,6 +21,9 @@ decreases-else_tag l = 16 * l.depth + 1
 
 abbrev pub decreases-if_tag : goal.decreases-if_tag
 decreases-if_tag l = 16 * l.depth + 1
+
+abbrev pub decreases-for_tag : goal.decreases-for_tag
+decreases-for_tag l = 16 * l.depth + 1
 
 abbrev pub decreases-block_tag : goal.decreases-block_tag
 decreases-block_tag l = 16 * l.depth + 1
@@ -34,8 +40,11 @@ decreases-autoescape_tag l = 16 * l.depth + 1
 abbrev pub decreases-set_tag : goal.decreases-set_tag
 decreases-set_tag l = 16 * l.depth + 2
 
+abbrev pub decreases-else_or_end : goal.decreases-else_or_end
+decreases-else_or_end l = 16 * l.depth + 2
+
 abbrev pub decreases-rest : goal.decreases-rest
-decreases-rest l = 16 * l.depth + 2
+decreases-rest l = 16 * l.depth + 3
 
 abbrev pub decreases-statement : goal.decreases-statement
 decreases-statement l = 16 * l.depth + 3
@@ -47,7 +56,7 @@ abbrev pub decreases-body : goal.decreases-body
 decreases-body l = 16 * l.depth + 5
 
 abbrev pub invariant-body-loop-body : goal.invariant-body-loop-body
-invariant-body-loop-body l = (more_statements (inside l.depth) (inner l.depth) l.body).reads l.self ≡ (body (inside l.depth) (inner l.depth)).reads l.fn.self
+invariant-body-loop-body l = (more_statements (inside l.depth) (inner l.depth) l.looping l.body).reads l.self ≡ (body (inside l.depth) (inner l.depth) l.looping).reads l.fn.self
 
 abbrev pub decreases-body-loop-body : goal.decreases-body-loop-body
 decreases-body-loop-body l = length l.self

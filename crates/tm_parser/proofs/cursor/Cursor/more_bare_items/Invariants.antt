@@ -1,6 +1,6 @@
 use Rattle.std.proofs.Common.{◌≡◌, length}
 use Rattle.tm_syntax.specs.declared.token.Sign.TheVariants as sign
-use Rattle.tm_parser.specs.Grammar.{inside, more_items, expr}
+use Rattle.tm_parser.specs.Grammar.{inside, expr, more_items}
 use Rattle.tm_parser.proofs.cursor.Cursor.more_bare_items.Given as goal
 
 abbrev pub invariant-loop-alloc : goal.invariant-loop-alloc

@@ -1,0 +1,155 @@
+//! What the environment's globals give, and what a state keeps behind a render.
+ghost use Rattle.std.specs.Prelude.{pos};
+ghost use Rattle.tm_values.specs.Val.{number};
+ghost use Rattle.tm_meaning.specs.World.{gives};
+ghost use Rattle.tm_tables.specs.Stated.{just};
+ghost use Rattle.render_tests.specs.declared.globals.Gives.TheVariants.{One, Two};
+
+use std::alloc::Global;
+use std::process::Abort;
+use std::test::Fail;
+use template_machine::*;
+
+/// A function that answers its number.
+#[derive(Clone, Copy)]
+enum Gives {
+    /// Answers 1.
+    One,
+    /// Answers 2.
+    Two,
+}
+
+impl Callable for Gives {
+    ghost answers = { elim [
+      | One ↦ λ args view. just (gives (number (pos 1)))
+      | Two ↦ λ args view. just (gives (number (pos 2)))
+    ] };
+
+    fn call(&self, alloc: Global, _args: &[Value], _view: &View<'_>) -> Answer {
+        match self {
+            Gives::One => Answer::value(alloc, Value::number(1)),
+            Gives::Two => Answer::value(alloc, Value::number(2)),
+        }
+    }
+}
+
+/// An environment of such functions.
+type Globals = EnvironmentOf<'static, Objects<Gives>>;
+
+/// Two functions, and one global more, which stands before them in the order of names.
+fn with_globals(alloc: Global) -> Result<Globals, Error> {
+    let mut environment = Globals::new(alloc)?;
+    environment.add_function("one", Gives::One)?;
+    environment.add_function("two", Gives::Two)?;
+    environment.add_global("g", Value::number(1))?;
+    Ok(environment)
+}
+
+/// Whether a source writes this over a context value.
+fn writes(environment: &Globals, source: &'static str, context: Value, text: &str) -> bool {
+    match environment.render_str(&mut StateIds::new(), source, context) {
+        Ok(written) => written.as_str() == text,
+        Err(_) => false,
+    }
+}
+
+/// Whether the function of a name isn't found.
+fn is_unknown(environment: &Globals, source: &'static str) -> bool {
+    match environment.render_str(&mut StateIds::new(), source, Value::undefined()) {
+        Ok(_) => false,
+        Err(error) => error.kind() == ErrorKind::UnknownFunction,
+    }
+}
+
+/// Whether the globals have these names, in this order.
+fn names_are(environment: &Globals, wanted: &[&str]) -> Result<bool, Error> {
+    let globals = environment.globals()?;
+    let mut rest = globals.iter();
+    for &name in wanted {
+        match rest.next() {
+            Some(&(found, _)) if found == name => {}
+            _ => return Ok(false),
+        }
+    }
+    Ok(rest.next().is_none())
+}
+
+/// A context value with 7 at `g`.
+fn seven(alloc: Global) -> Result<Value, Error> {
+    let mut map = ValueMap::new(alloc);
+    map.insert(Value::text(alloc, "g")?, Value::number(7))?;
+    Value::from_map(alloc, map)
+}
+
+/// Whether a global is found, behind the context, and stands among the functions.
+fn hears_globals(environment: &Globals, alloc: Global) -> Result<bool, Error> {
+    Ok(
+        writes(environment, "{{ g }}", Value::undefined(), "1")
+            && writes(environment, "{{ g }}", seven(alloc)?, "7")
+            && names_are(
+                environment,
+                &["dict", "g", "namespace", "one", "range", "two"],
+            )?,
+    )
+}
+
+/// Whether the replaced global is found.
+fn hears_replaced(environment: &Globals) -> bool {
+    writes(environment, "{{ g }}", Value::undefined(), "2")
+}
+
+/// Whether neither what was removed is found, and the other function still is.
+fn hears_removed(environment: &Globals) -> Result<bool, Error> {
+    Ok(
+        writes(environment, "[{{ g }}]", Value::undefined(), "[]")
+            && is_unknown(environment, "{{ one() }}")
+            && writes(environment, "{{ two() }}", Value::undefined(), "2")
+            && names_are(environment, &["dict", "namespace", "range", "two"])?,
+    )
+}
+
+#[test]
+fn globals_are_heard(rt: HostRuntime) -> Result<(), Fail> {
+    let mut environment = with_globals(rt.alloc())?;
+    assert!(rt; hears_globals(&environment, rt.alloc())?);
+    environment.add_global("g", Value::number(2))?;
+    assert!(rt; hears_replaced(&environment));
+    environment.remove_global("g");
+    environment.remove_global("one");
+    environment.remove_global("nope");
+    assert!(rt; hears_removed(&environment)?);
+    Ok(())
+}
+
+/// Whether no global is there, nor a function of the language.
+fn has_no_globals(environment: &Globals) -> Result<bool, Error> {
+    Ok(is_unknown(environment, "{{ range(1) }}") && names_are(environment, &[])?)
+}
+
+#[test]
+fn empty_has_no_functions(rt: HostRuntime) -> Result<(), Fail> {
+    let environment = Globals::empty(rt.alloc());
+    assert!(rt; has_no_globals(&environment)?);
+    Ok(())
+}
+
+/// Whether a state gives what it kept before, and has what was kept last.
+fn keeps_the_last(environment: &Globals) -> Result<bool, Error> {
+    let template = environment.template_from_str("x")?;
+    let mut ids = StateIds::new();
+    let captured = template.render_captured_to(&mut ids, Value::undefined(), &mut NullWriter)?;
+    let (output, mut state) = captured.into_parts();
+    let first = state.set_temp("k", Value::number(1))?;
+    let second = state.set_temp("k", Value::number(2))?;
+    let (None, Some(second), Some(kept)) = (first, second, state.get_temp("k")) else {
+        return Ok(false);
+    };
+    Ok(second == Value::number(1) && *kept == Value::number(2) && output.is_empty())
+}
+
+#[test]
+fn a_state_keeps(rt: HostRuntime) -> Result<(), Fail> {
+    let environment = Globals::new(rt.alloc())?;
+    assert!(rt; keeps_the_last(&environment)?);
+    Ok(())
+}

@@ -1,0 +1,175 @@
+-- Numbers by steps: that those before the stop are counted, and that what is asked for decides.
+use Rattle.std.proofs.Common.{◌≡◌, ◌≢◌, ◌<◌, ◌≤◌, ◌+◌, ◌*◌, ◌<ℤ◌, ◌≤ℤ◌, ◌+ℤ◌, ◌-ℤ◌, ◌*ℤ◌, ◌^◌, ◌&&◌, not, nat_lt, slice_get, ℕ, ℤ, pos, negsuc, neg_ℤ, Bool, true, false, cond, Option, Some, None, Ok, Err, List, length, inl, inr, refl, sym, ap, ◌∙◌, arith, zero, suc, unsigned_abs}
+use Rattle.std.proofs.lemmas.Bool.Decides.{nat_tests}
+use Rattle.std.proofs.lemmas.Int.{ints}
+use Rattle.std.proofs.lemmas.Grind.{div_ceil_times}
+use Rattle.std.proofs.lemmas.List.FromFn.{length-map-range_with_len, get_or-map-range_with_len}
+use Rattle.std.proofs.lemmas.Nat.{mul-le}
+use Rattle.std.proofs.lemmas.Option.{slice_get_past, slice_get_read}
+use Rattle.std.proofs.Math.Nat.{suc-mul}
+use Rattle.std.proofs.Math.IntN.{pos-*ℤ-pos, pos-*ℤ-negsuc}
+use Rattle.std.specs.Int.{w64, w128, div_ceil}
+use Rattle.std.specs.Int.RustNames.{FitsSigned}
+use Rattle.std.specs.Option.{option_copied, unwrap_or}
+use Rattle.std.specs.Ordering.{int_eq}
+use Rattle.std.specs.Slice.{IsItemAt}
+use Rattle.std.specs.Borrow.{Bor}
+use Rattle.tm_operations.specs.Ranges.{Span, count_of, numbers_of, is_served, served, ranged, required_in, later_in, span_of, range_of, AreStepped, StandBefore, LeaveNoneOut}
+use Rattle.tm_primitives.proofs.Steps.{distance_is, count_up, not_negative}
+use Rattle.tm_primitives.specs.Places.{distance, count_before, IsBefore, step_to}
+use Rattle.tm_values.specs.Answer.{Answer, invalid}
+use Rattle.tm_values.specs.Val.{Val}
+
+-- k steps up, or down
+up_to : (x : ℤ) (a k : ℕ) → step_to x (pos a) k ≡ x +ℤ pos (k * a)
+up_to x a k = ap (λ (d : ℤ). x +ℤ d) (pos-*ℤ-pos k a)
+
+down_to : (x : ℤ) (a k : ℕ) → step_to x (negsuc a) k ≡ x -ℤ pos (k * suc a)
+down_to x a k =
+    let e : pos k *ℤ negsuc a ≡ neg_ℤ (pos (k * suc a)) = pos-*ℤ-negsuc k a in
+    omega (arith, ints, e)
+
+-- before the stop, up or down
+before_up : (a m k : ℕ) (x y : ℤ) → m ≡ div_ceil (distance x y) (suc a) → k < m → (x +ℤ pos (k * suc a)) <ℤ y
+before_up a m k x y e h =
+    let short : m * suc a < distance x y + suc a = rw e ((div_ceil_times (distance x y) (suc a) (omega arith)).1) in
+    let next : suc k * suc a ≤ m * suc a = mul-le (suc k) (suc a) m (suc a) h (omega arith) in
+    let same : suc k * suc a ≡ k * suc a + suc a = suc-mul k (suc a) in
+    elim (distance_is x y) [
+      | inl d ↦ omega (arith, ints, short, next, same, d.0, d.1)
+      | inr d ↦ absurd (omega (arith, ints, short, next, same, d.1))
+    ]
+
+before_down : (a m k : ℕ) (x y : ℤ) → m ≡ div_ceil (distance y x) (suc a) → k < m → y <ℤ (x -ℤ pos (k * suc a))
+before_down a m k x y e h =
+    let short : m * suc a < distance y x + suc a = rw e ((div_ceil_times (distance y x) (suc a) (omega arith)).1) in
+    let next : suc k * suc a ≤ m * suc a = mul-le (suc k) (suc a) m (suc a) h (omega arith) in
+    let same : suc k * suc a ≡ k * suc a + suc a = suc-mul k (suc a) in
+    elim (distance_is y x) [
+      | inl d ↦ omega (arith, ints, short, next, same, d.0, d.1)
+      | inr d ↦ absurd (omega (arith, ints, short, next, same, d.1))
+    ]
+
+-- and the step after the last one is past it
+past_up : (a m : ℕ) (x y : ℤ) → m ≡ div_ceil (distance x y) (suc a) → y ≤ℤ (x +ℤ pos (m * suc a))
+past_up a m x y e =
+    let long : distance x y ≤ m * suc a = rw e ((div_ceil_times (distance x y) (suc a) (omega arith)).0) in
+    elim (distance_is x y) [
+      | inl d ↦ omega (arith, ints, long, d.1)
+      | inr d ↦ omega (arith, ints, d.0)
+    ]
+
+past_down : (a m : ℕ) (x y : ℤ) → m ≡ div_ceil (distance y x) (suc a) → (x -ℤ pos (m * suc a)) ≤ℤ y
+past_down a m x y e =
+    let long : distance y x ≤ m * suc a = rw e ((div_ceil_times (distance y x) (suc a) (omega arith)).0) in
+    elim (distance_is y x) [
+      | inl d ↦ omega (arith, ints, long, d.1)
+      | inr d ↦ omega (arith, ints, d.0)
+    ]
+
+before_at : (z x y : ℤ) (k : ℕ) → z ≢ pos 0 → k < count_before z x y → IsBefore z (step_to x z k) y
+before_at (pos zero) x y k h l = absurd (h refl)
+before_at (pos (suc a)) x y k h l =
+    let b = before_up a (count_before (pos (suc a)) x y) k x y (count_up (pos (suc a)) x y (not_negative (suc a))) l in
+    omega (arith, ints, b, up_to x (suc a) k)
+before_at (negsuc a) x y k h l =
+    let b = before_down a (count_before (negsuc a) x y) k x y refl l in
+    omega (arith, ints, b, down_to x a k)
+
+past_at : (z x y : ℤ) (m : ℕ) → z ≢ pos 0 → m ≡ count_before z x y → IsBefore z (step_to x z m) y → ⊥
+past_at (pos zero) x y m h e l = h refl
+past_at (pos (suc a)) x y m h e l =
+    let b = past_up a m x y (e ∙ count_up (pos (suc a)) x y (not_negative (suc a))) in
+    omega (arith, ints, b, l, up_to x (suc a) m)
+past_at (negsuc a) x y m h e l =
+    let b = past_down a m x y e in
+    omega (arith, ints, b, l, down_to x a m)
+
+-- ---- the laws
+
+count_is : (s : Span) → length (numbers_of s) ≡ count_of s
+count_is s = length-map-range_with_len (step_to s.start s.step) 0 (count_of s)
+
+pub stepped : AreStepped
+stepped s k d h =
+    let e = count_is s in
+    get_or-map-range_with_len (step_to s.start s.step) 0 (count_of s) k k d (omega arith) (omega arith)
+
+pub before : StandBefore
+before s z k d h =
+    let e = count_is s in
+    rw (stepped s k d h) (before_at s.step s.start s.stop k z (omega arith))
+
+pub whole : LeaveNoneOut
+whole s z h = past_at s.step s.start s.stop (length (numbers_of s)) z (count_is s) h
+
+-- ---- the code
+
+-- a number after that many steps is one of 128 bits
+fits_between : (y : ℤ) → negsuc (2 ^ 100) ≤ℤ y → y ≤ℤ pos (2 ^ 100) → FitsSigned w128 y
+fits_between (pos n) low high = record { sfits = omega (arith, ints, high) }
+fits_between (negsuc n) low high = record { sfits = omega (arith, ints, low) }
+
+near : (x : ℤ) → FitsSigned w64 x → (negsuc (2 ^ 63) ≤ℤ x) × (x ≤ℤ pos (2 ^ 63))
+near (pos n) h = let l : n < 2 ^ 63 = h.sfits in (omega (arith, ints), omega (arith, ints))
+near (negsuc n) h = let l : n < 2 ^ 63 = h.sfits in (omega (arith, ints), omega (arith, ints))
+
+steps_near : (z : ℤ) (k : ℕ) → FitsSigned w64 z → k ≤ 100000 → (negsuc (2 ^ 90) ≤ℤ (pos k *ℤ z)) × ((pos k *ℤ z) ≤ℤ pos (2 ^ 90))
+steps_near (pos a) k h l =
+    let b : a < 2 ^ 63 = h.sfits in
+    let most : k * a ≤ 100000 * 2 ^ 63 = mul-le k a 100000 (2 ^ 63) l (omega arith) in
+    let e = pos-*ℤ-pos k a in
+    (omega (arith, ints, e, most), omega (arith, ints, e, most))
+steps_near (negsuc a) k h l =
+    let b : a < 2 ^ 63 = h.sfits in
+    let most : k * suc a ≤ 100000 * 2 ^ 63 = mul-le k (suc a) 100000 (2 ^ 63) l (omega arith) in
+    let e = pos-*ℤ-negsuc k a in
+    (omega (arith, ints, e, most), omega (arith, ints, e, most))
+
+pub wide : (x : ℤ) → FitsSigned w64 x → FitsSigned w128 x
+wide x h = fits_between x (omega (arith, ints, (near x h).0)) (omega (arith, ints, (near x h).1))
+
+pub steps_fit : (z : ℤ) (k : ℕ) → FitsSigned w64 z → k ≤ 100000 → FitsSigned w128 (pos k *ℤ z)
+steps_fit z k h l = fits_between (pos k *ℤ z) (omega (arith, ints, (steps_near z k h l).0)) (omega (arith, ints, (steps_near z k h l).1))
+
+pub step_fits : (x z : ℤ) (k : ℕ) → FitsSigned w64 x → FitsSigned w64 z → k ≤ 100000 → FitsSigned w128 (step_to x z k)
+step_fits x z k f g l =
+    let start = near x f in
+    let steps = steps_near z k g l in
+    fits_between (step_to x z k) (omega (arith, ints, start.0, start.1, steps.0, steps.1)) (omega (arith, ints, start.0, start.1, steps.0, steps.1))
+
+-- too many numbers
+too_long : (e : Bool) (s : Span) → 100000 < count_of s → e && not (nat_lt 100000 (count_of s)) ≡ false
+too_long true s h = grind (arith, nat_tests)
+too_long false s h = refl
+
+pub refused_count : (s : Span) → 100000 < count_of s → ranged s ≡ invalid
+refused_count s h = ap (λ (b : Bool). served b s) (too_long (not (int_eq s.step (pos 0))) s h)
+
+-- and what is served
+pub served_count : (s : Span) → s.step ≢ pos 0 → count_of s ≤ 100000 → ranged s ≡ served true s
+served_count s z h =
+    let long : nat_lt 100000 (count_of s) ≡ false = grind (arith, nat_tests) in
+    let step : int_eq s.step (pos 0) ≡ false = grind (arith, ints) in
+    let is : is_served s ≡ true = rw (long, step) in
+    ap (λ (b : Bool). served b s) is
+
+-- what is lent is the item
+pub copied : (vs : List Val) (i : ℕ) (r : Option (Bor Val)) → IsItemAt vs i r → option_copied r ≡ slice_get vs i
+copied vs i None h = sym (slice_get_past vs i h.3)
+copied vs i (Some x) h = sym (slice_get_read vs (length vs) i x.now refl h.3.0 h.1)
+
+-- at most three arguments, each as it has to be
+asked : (vs : List Val) (a : ℤ) (b z : Option ℤ) → required_in (slice_get vs 0) ≡ Ok a → later_in (slice_get vs 1) ≡ Ok b → later_in (slice_get vs 2) ≡ Ok z
+    → length vs ≤ 3 → range_of vs ≡ ranged (span_of a b z)
+asked vs a b z e f g h =
+    let long : nat_lt 3 (length vs) ≡ false = grind (arith, nat_tests) in
+    rw (e, f, g, long)
+
+pub asked_both : (vs : List Val) (a y step : ℤ) (b z : Option ℤ) → required_in (slice_get vs 0) ≡ Ok a → later_in (slice_get vs 1) ≡ Ok b → later_in (slice_get vs 2) ≡ Ok z
+    → length vs ≤ 3 → b ≡ Some y → step ≡ unwrap_or z (pos 1) → range_of vs ≡ ranged (record { start = a; stop = y; step = step })
+asked_both vs a y step b z e f g h i s = asked vs a b z e f g h ∙ rw (i, s)
+
+pub asked_one : (vs : List Val) (a step : ℤ) (b z : Option ℤ) → required_in (slice_get vs 0) ≡ Ok a → later_in (slice_get vs 1) ≡ Ok b → later_in (slice_get vs 2) ≡ Ok z
+    → length vs ≤ 3 → b ≡ None → step ≡ unwrap_or z (pos 1) → range_of vs ≡ ranged (record { start = pos 0; stop = a; step = step })
+asked_one vs a step b z e f g h i s = asked vs a b z e f g h ∙ rw (i, s)

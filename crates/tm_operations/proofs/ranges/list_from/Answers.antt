@@ -1,0 +1,25 @@
+use Rattle.std.proofs.Common.{◌≡◌, ◌++◌, ◌∷◌, ◌+◌, [], ap, ◌∙◌, arith, rules, map as each}
+use Rattle.std.proofs.lemmas.Int.{to_z-of_z}
+use Rattle.std.proofs.lemmas.List.{map-append}
+use Rattle.std.proofs.lemmas.List.FromFn.{map-range_with_len_more}
+use Rattle.std.specs.Int.{w64}
+use Rattle.std.specs.Int.RustNames.{FitsSigned}
+use Rattle.tm_operations.specs.Ranges.{numbers_from}
+use Rattle.tm_primitives.specs.Places.{step_to}
+use Rattle.tm_values.specs.Val.{number}
+use Rattle.tm_operations.proofs.ranges.list_from.Goals as goal
+
+-- the next number stands behind those that are there
+pub loop-place-preserved : goal.loop-place-preserved
+loop-place-preserved c =
+    let x = c.args.start in
+    let z = c.args.step in
+    let k = c.loop-place.place in
+    let start : FitsSigned w64 x = c.ranges.start in
+    let step : FitsSigned w64 z = c.ranges.step in
+    let more : numbers_from x z (k + 1) ≡ numbers_from x z k ++ step_to x z k ∷ [] = map-range_with_len_more (step_to x z) 0 k k (omega arith) in
+    let listed : each number (numbers_from x z (k + 1)) ≡ each number (numbers_from x z k) ++ number (step_to x z k) ∷ [] = ap (each number) more ∙ map-append number (numbers_from x z k) (step_to x z k ∷ []) in
+    let made : c.number.result ≡ number (step_to x z k) = search (arith, to_z-of_z, c.number.ensures, c.number_at.ensures) in
+    let done = simp to_z-of_z at c.loop-place.invariant in
+    let items = c.in_ok-push.ensures.items in
+    simp to_z-of_z (cc)

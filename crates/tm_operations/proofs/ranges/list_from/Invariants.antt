@@ -1,0 +1,8 @@
+use Rattle.std.proofs.Common.{◌≡◌, map as each}
+use Rattle.tm_operations.specs.Ranges.{numbers_from}
+use Rattle.tm_values.specs.Val.{number}
+use Rattle.tm_operations.proofs.ranges.list_from.Given as goal
+
+-- the numbers before the place are there
+abbrev pub invariant-loop-place : goal.invariant-loop-place
+invariant-loop-place l = l.items.items ≡ each number (numbers_from l.start l.step l.place)

@@ -1,0 +1,43 @@
+-- Worked calls of `range`, `dict` and `namespace`.
+use Rattle.std.specs.Prelude.{◌≡◌, ℕ, ℤ, pos, false, List, [], ◌∷◌, map as each, Ok, codes}
+use Rattle.tm_operations.specs.Maps.{dict_of, namespace_of}
+use Rattle.tm_operations.specs.Ranges.{number_list, range_of}
+use Rattle.tm_values.specs.Answer.{refused}
+use Rattle.tm_values.specs.Records.{no_records}
+use Rattle.tm_values.specs.Val.{Val, number, text, map, keywords, pairs_of}
+use Rattle.tm_values.specs.declared.error.ErrorKind.{ErrorKind}
+
+abbrev pub RangeIs : List Val → List ℤ → Type 0
+RangeIs arguments zs = range_of arguments ≡ Ok (number_list zs)
+
+abbrev pub RangeFails : List Val → ErrorKind → Type 0
+RangeFails arguments kind = range_of arguments ≡ refused kind
+
+abbrev pub DictIs : List Val → List (Val × Val) → Type 0
+DictIs arguments ps = dict_of no_records arguments ≡ Ok ps
+
+abbrev pub DictFails : List Val → ErrorKind → Type 0
+DictFails arguments kind = dict_of no_records arguments ≡ refused kind
+
+abbrev pub NamespaceIs : List Val → List (Val × Val) → Type 0
+NamespaceIs arguments ps = namespace_of no_records arguments ≡ Ok ps
+
+abbrev pub numbers : List ℕ → List Val
+numbers ns = each (λ n. number (pos n)) ns
+
+-- the text a
+abbrev pub letter : Val
+letter = text (codes "a") false
+
+-- the pair of the text a, or of b, and the number
+abbrev pub a_is : ℕ → Val × Val
+a_is n = (letter, number (pos n))
+
+abbrev pub b_is : ℕ → Val × Val
+b_is n = (text (codes "b") false, number (pos n))
+
+abbrev pub map_of : List (Val × Val) → Val
+map_of ps = map (pairs_of ps)
+
+abbrev pub keywords_given : List (Val × Val) → Val
+keywords_given ps = keywords (pairs_of ps)

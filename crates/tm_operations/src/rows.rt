@@ -1,0 +1,56 @@
+//! Worked calls: each clause says what a call of `range`, `dict` or `namespace` answers.
+ghost use Rattle.std.specs.Prelude.{[], ◌∷◌, pos, negsuc, true};
+ghost use Rattle.tm_operations.specs.Rows.{RangeIs, RangeFails, DictIs, DictFails, NamespaceIs, numbers, letter, a_is, b_is, map_of, keywords_given};
+ghost use Rattle.tm_values.specs.Val.{none, boolean, number};
+ghost use Rattle.tm_values.specs.declared.error.ErrorKind.TheVariants.{InvalidOperation, MissingArgument, TooManyArguments};
+
+/// `range(4)`, `range(0, 4, 1)`, `range(5, 0, -2)`, `range(2, none)`, `range(2, 0)`, and ranges at
+/// the ends of the numbers of 64 bits.
+pub fn range_rows()
+    ensures one { RangeIs (numbers (4 ∷ [])) (pos 0 ∷ pos 1 ∷ pos 2 ∷ pos 3 ∷ []) }
+    ensures three { RangeIs (numbers (0 ∷ 4 ∷ 1 ∷ [])) (pos 0 ∷ pos 1 ∷ pos 2 ∷ pos 3 ∷ []) }
+    ensures down { RangeIs (number (pos 5) ∷ number (pos 0) ∷ number (negsuc 1) ∷ [])
+        (pos 5 ∷ pos 3 ∷ pos 1 ∷ []) }
+    ensures absent { RangeIs (number (pos 2) ∷ none ∷ []) (pos 0 ∷ pos 1 ∷ []) }
+    ensures none { RangeIs (numbers (2 ∷ 0 ∷ [])) [] }
+    ensures highest { RangeIs (numbers (9223372036854775806 ∷ 9223372036854775807 ∷ []))
+        (pos 9223372036854775806 ∷ []) }
+    ensures far { RangeIs (number (pos 0) ∷ number (negsuc 9223372036854775806)
+        ∷ number (negsuc 9223372036854775806) ∷ []) (pos 0 ∷ []) }
+{}
+
+/// `range()`, `range("a")`, `range(true)`, a number of more than 64 bits, `range(1, 2, 0)`,
+/// `range(100001)`, and four arguments of which the last or the first one is a text.
+pub fn range_faults()
+    ensures missing { RangeFails [] MissingArgument }
+    ensures text { RangeFails (letter ∷ []) InvalidOperation }
+    ensures truth { RangeFails (boolean true ∷ []) InvalidOperation }
+    ensures wide { RangeFails (numbers (9223372036854775808 ∷ [])) InvalidOperation }
+    ensures no_step { RangeFails (numbers (1 ∷ 2 ∷ 0 ∷ [])) InvalidOperation }
+    ensures long { RangeFails (numbers (100001 ∷ [])) InvalidOperation }
+    ensures four { RangeFails (numbers (1 ∷ 2 ∷ 3 ∷ 4 ∷ [])) TooManyArguments }
+    ensures last_text { RangeFails (number (pos 1) ∷ number (pos 2) ∷ number (pos 3) ∷ letter ∷ [])
+        TooManyArguments }
+    ensures first_text { RangeFails (letter ∷ numbers (1 ∷ 1 ∷ 1 ∷ [])) InvalidOperation }
+{}
+
+/// `dict()`, `dict({"a": 1}, a=2, b=3)`, and what isn't taken: `dict(1)`, `dict({}, {})`,
+/// `dict(1, {})`, and a keyword map before another argument.
+pub fn dict_rows()
+    ensures nothing { DictIs [] [] }
+    ensures both { DictIs (map_of (a_is 1 ∷ []) ∷ keywords_given (a_is 2 ∷ b_is 3 ∷ []) ∷ [])
+        (a_is 2 ∷ b_is 3 ∷ []) }
+    ensures keywords { DictIs (keywords_given (a_is 2 ∷ []) ∷ []) (a_is 2 ∷ []) }
+    ensures number { DictFails (numbers (1 ∷ [])) InvalidOperation }
+    ensures two { DictFails (map_of [] ∷ map_of [] ∷ []) TooManyArguments }
+    ensures first { DictFails (number (pos 1) ∷ map_of [] ∷ []) InvalidOperation }
+    ensures early { DictFails (keywords_given [] ∷ number (pos 1) ∷ []) InvalidOperation }
+{}
+
+/// `namespace()`, `namespace({"a": 1}, b=2)` and `namespace({1: 2})`.
+pub fn namespace_rows()
+    ensures nothing { NamespaceIs [] [] }
+    ensures both { NamespaceIs (map_of (a_is 1 ∷ []) ∷ keywords_given (b_is 2 ∷ []) ∷ [])
+        (a_is 1 ∷ b_is 2 ∷ []) }
+    ensures no_text { NamespaceIs (map_of ((number (pos 1), number (pos 2)) ∷ []) ∷ []) [] }
+{}

@@ -1,0 +1,160 @@
+//! The records of loops.
+ghost use Rattle.std.specs.Prelude.{◌≡◌, None, Some, length, map, nat_eq, option_and_then, option_map, slice_get};
+ghost use Rattle.tm_values.specs.Answer.{IsLent};
+ghost use Rattle.tm_values.specs.Position.{position_of};
+ghost use Rattle.tm_meaning.specs.World.{turned, loop_data, depth_inside};
+
+use std::marker::Model;
+use std::rc::Rc;
+use tm_meaning::StreamId;
+use tm_values::{LoopPosition, Value};
+
+/// A loop: its items, how often the next one was asked for, how many loops that can be called lie around it, whether it can be called, and its stream.
+#[derive(Drop)]
+pub struct LoopState {
+    items: Rc<Vec<Value>>,
+    turns: usize,
+    depth: usize,
+    recursive: bool,
+    stream: StreamId,
+}
+
+impl Model for LoopState {
+    ghost use Rattle.std.specs.Prelude.{None, ◌≤◌, ◌+◌, length};
+    ghost use Rattle.std.specs.Coded.{codes};
+    ghost use Rattle.tm_values.specs.Code.{coded_Val};
+    ghost use Rattle.tm_meaning.specs.World.{Loop};
+
+    ghost Value = { Loop };
+
+    ghost coded = { Prim.hlevel (codes, coded_Val) };
+
+    ghost view = { λ l. record {
+      items = l.items.value.items;
+      turns = l.turns;
+      depth = l.depth;
+      number = 0;
+      recursive = l.recursive;
+      stream = l.stream;
+      kept = None;
+    } };
+
+    ghost invariant = { λ l. l.turns ≤ length l.items.value.items + 1 };
+}
+
+impl LoopState {
+    /// A loop over items, none of which was asked for yet.
+    pub fn new(items: Rc<Vec<Value>>, depth: usize, recursive: bool, stream: StreamId) -> LoopState
+        ensures { result ≡ record {
+          items = items.value.items;
+          turns = 0;
+          depth = depth;
+          number = 0;
+          recursive = recursive;
+          stream = stream;
+          kept = None;
+        } }
+    {
+        LoopState {
+            items,
+            turns: 0,
+            depth,
+            recursive,
+            stream,
+        }
+    }
+
+    /// The item that is asked for next, where one is left.
+    pub fn next_item(&self) -> Option<&Value>
+        ensures { IsLent result (slice_get self.now.items self.now.turns) }
+    {
+        self.items.get(self.turns)
+    }
+
+    /// Asks for the next item, or for none behind the last one.
+    pub fn turn(&mut self)
+        ensures { self.new ≡ turned self.old }
+    {
+        if self.turns <= self.items.len() {
+            self.turns += 1;
+        }
+    }
+
+    /// Whether it has no items.
+    pub fn did_not_iterate(&self) -> bool
+        ensures { result ≡ nat_eq (length self.now.items) 0 }
+    {
+        self.items.is_empty()
+    }
+
+    /// How deep a loop in it stands: one deeper where it can be called, and else outermost.
+    pub fn depth_inside(&self) -> usize
+        ensures { result ≡ depth_inside (Some self.now) }
+    {
+        if self.recursive {
+            self.depth.saturating_add(1)
+        } else {
+            0
+        }
+    }
+
+    /// Where it stands.
+    pub fn position(&self) -> LoopPosition
+        ensures { result ≡ position_of (loop_data self.now) }
+    {
+        LoopPosition {
+            place: self.turns.checked_sub(1),
+            count: self.items.len(),
+            depth: self.depth,
+        }
+    }
+
+    /// The item before its own, where there is one.
+    pub fn previous_item(&self) -> Option<&Value>
+        ensures { IsLent result (loop_data self.now).previous }
+    {
+        self.items.get(self.turns.checked_sub(2)?)
+    }
+
+    /// The item behind its own, where there is one.
+    pub fn following_item(&self) -> Option<&Value>
+        ensures { IsLent result (loop_data self.now).following }
+    {
+        if self.turns == 0 {
+            return None;
+        }
+        self.items.get(self.turns)
+    }
+}
+
+/// Where the loop of a number stands.
+pub fn position_at(loops: &[LoopState], index: usize) -> Option<LoopPosition>
+    ensures { result ≡ option_map position_of (slice_get (map loop_data loops.now) index) }
+{
+    match loops.get(index) {
+        Some(state) => Some(state.position()),
+        None => None,
+    }
+}
+
+/// The item before that of the loop of a number, where there is one.
+pub fn previous_at(loops: &[LoopState], index: usize) -> Option<&Value>
+    ensures { IsLent result
+        (option_and_then (λ l. l.previous) (slice_get (map loop_data loops.now) index)) }
+{
+    match loops.get(index) {
+        Some(state) => state.previous_item(),
+        None => None,
+    }
+}
+
+/// The item behind that of the loop of a number, where there is one.
+pub fn following_at(loops: &[LoopState], index: usize) -> Option<&Value>
+    ensures { IsLent result
+        (option_and_then (λ l. l.following) (slice_get (map loop_data loops.now) index)) }
+{
+    match loops.get(index) {
+        Some(state) => state.following_item(),
+        None => None,
+    }
+}

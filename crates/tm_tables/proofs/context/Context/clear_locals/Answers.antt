@@ -1,0 +1,14 @@
+use Rattle.std.proofs.Common.{◌≡◌, ℕ, suc, ◌∙◌, ap, sym, arith, length, reverse, slice_set, get_or}
+use Rattle.tm_meaning.specs.World.{Scope, Scopes, without_locals}
+use Rattle.tm_tables.proofs.Scopes.{cleared-last}
+use Rattle.tm_tables.proofs.context.Context.clear_locals.Goals as goal
+
+pub returns-in-Some : goal.returns-in-Some
+returns-in-Some c =
+    let frames = c.self.inside.frames.items in
+    let n = c.in-Some.innermost in
+    let old = c.index_mut.result.now in
+    let long : length frames ≡ suc n = omega (arith, c.in-Some.ensures, c.len.ensures) in
+    let there : old ≡ get_or frames n old = c.index_mut.ensures.value in
+    ap (λ ss. record { frames = ss; outer = c.self.inside.outer }) (ap (λ (s : Scope). reverse (slice_set frames n s)) c.clear.ensures ∙ cleared-last frames n old long there)
+    ∙ ap (λ (scopes : Scopes). record scopes { frames = without_locals scopes.frames }) c.self.view_is

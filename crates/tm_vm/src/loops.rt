@@ -1,0 +1,108 @@
+//! The instructions of loops.
+ghost use Rattle.tm_meaning.specs.Instructions.{push_loop_of, iterate_of, push_did_not_iterate_of, pop_loop_frame_of};
+ghost use Rattle.tm_vm.specs.Answers.{CanGoOn, Silently, Shifts};
+
+use crate::flow::Flow;
+use crate::machine::Machine;
+use std::alloc::Global;
+use tm_meaning::Base;
+use tm_operations::iterate;
+use tm_parts::Halt;
+use tm_syntax::LoopFlags;
+use tm_tables::Host;
+use tm_values::Value;
+
+impl Machine<'_> {
+    /// Pops a value, and begins a loop over its items in a scope of its own. Its error where it can't be iterated, InvalidOperation where the scope would lie deeper than the limit.
+    pub(crate) fn do_push_loop<H: Host>(
+        &mut self,
+        alloc: Global,
+        host: &H,
+        base: &Base,
+        flags: LoopFlags,
+    ) -> Result<Flow, Halt>
+        requires { CanGoOn self.old.run }
+        ensures { Shifts base.now (push_loop_of (H.meaning host.now) flags self.old)
+            self.old self.new result }
+    {
+        let _scopes = base.scopes;
+        let Some(value) = self.run.pop() else {
+            return Err(Halt::Stuck);
+        };
+        match iterate(alloc, &value, &self.state, host.undefined_behavior()) {
+            Ok(items) => {
+                self.run.begin_loop()?;
+                match self
+                    .state
+                    .open_loop(alloc, items, flags, host.recursion_limit())
+                {
+                    Ok(()) => {
+                        self.run.advance();
+                        Ok(Flow::GoOn)
+                    }
+                    Err(error) => Err(Halt::Fault(error)),
+                }
+            }
+            Err(error) => Err(Halt::Fault(error)),
+        }
+    }
+
+    /// Pushes the next item of the innermost loop, or goes to a place where none is left; stuck where the run has no loop open, or its scope isn't on top.
+    pub(crate) fn do_iterate(&mut self, alloc: Global, place: usize) -> Result<Flow, Halt>
+        requires { CanGoOn self.old.run }
+        ensures { Silently (iterate_of place self.old) self.old self.new result }
+    {
+        if !self.run.has_loop() {
+            return Err(Halt::Stuck);
+        }
+        let item = match self.state.top_loop() {
+            Some(state) => match state.next_item() {
+                Some(item) => Some(item.share()?),
+                None => None,
+            },
+            None => return Err(Halt::Stuck),
+        };
+        self.state.next_turn();
+        match item {
+            Some(item) => {
+                self.state.clear_locals(alloc);
+                self.push_next(item)
+            }
+            None => {
+                self.run.jump(place);
+                Ok(Flow::GoOn)
+            }
+        }
+    }
+
+    /// Pushes whether the innermost loop has no items; stuck as `Iterate` is.
+    pub(crate) fn do_push_did_not_iterate(&mut self) -> Result<Flow, Halt>
+        requires { CanGoOn self.old.run }
+        ensures { Silently (push_did_not_iterate_of self.old) self.old self.new result }
+    {
+        if !self.run.has_loop() {
+            return Err(Halt::Stuck);
+        }
+        let none = match self.state.top_loop() {
+            Some(state) => state.did_not_iterate(),
+            None => return Err(Halt::Stuck),
+        };
+        self.push_next(Value::boolean(none))
+    }
+
+    /// Leaves the innermost loop; stuck as `Iterate` is.
+    pub(crate) fn do_pop_loop_frame(&mut self, base: &Base) -> Result<Flow, Halt>
+        requires { CanGoOn self.old.run }
+        ensures { Shifts base.now (pop_loop_frame_of base.now self.old) self.old self.new result }
+    {
+        if self.state.height() <= base.scopes || self.state.top_loop().is_none() {
+            return Err(Halt::Stuck);
+        }
+        if !self.run.end_loop() {
+            return Err(Halt::Stuck);
+        }
+        self.state.pop_scope();
+        self.run.advance();
+        Ok(Flow::GoOn)
+    }
+}
