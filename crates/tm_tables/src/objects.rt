@@ -1,5 +1,5 @@
 //! The functions that templates call.
-ghost use Rattle.std.specs.Prelude.{◌≡◌, ◌<◌, [], ◌∷◌, List, None, OnOk, OnErr, IfErr, IfSome, IsSomeAnd, MatchOption, slice_get};
+ghost use Rattle.std.specs.Prelude.{◌≡◌, ◌<◌, ◌≤◌, ◌^◌, [], ◌∷◌, List, None, OnOk, OnErr, IfErr, IfNone, IfSome, IsSomeAnd, MatchOption, slice_get};
 ghost use Rattle.tm_values.specs.Answer.{IsLent};
 ghost use Rattle.tm_meaning.specs.World.{Function};
 ghost use Rattle.tm_tables.specs.Stated.{IsCalled, no_functions, language_functions, with_object, next_number, callables, language_at};
@@ -71,7 +71,8 @@ impl<C: Drop> Objects<C> {
 
     /// The number of the object that is added next; none where numbers end.
     pub fn next_number(&self) -> Option<usize>
-        ensures { IfSome result (λ number. number ≡ next_number self.now) }
+        ensures some { IfSome result (λ number. number ≡ next_number self.now) }
+        ensures none { IfNone result (2 ^ 64 ≤ next_number self.now) }
     {
         let before = if self.language { LANGUAGE } else { 0 };
         self.functions.len().checked_add(before)
