@@ -1,13 +1,18 @@
 -- What a call comes to, up to the run that it needs: the meaning and the machine share it. Neither trees nor instructions stand here.
-use Rattle.std.specs.Prelude.{ℕ, List, [], ◌∷◌, length, map as each, Option, Some, None, Bool, true, false, not, nat_eq, ◌&&◌, slice_get}
+use Rattle.std.specs.Prelude.{ℕ, zero, suc, ◌%◌, List, [], ◌∷◌, length, map as each, Option, Some, None, Ok, Bool, true, false, not, nat_eq, ◌&&◌, ◌||◌, slice_get, codes, if◌then◌else◌}
+use Rattle.std.specs.Ordering.{is_eq}
 use Rattle.tm_operations.specs.Maps.{dict_of, namespace_of}
 use Rattle.tm_operations.specs.Ranges.{range_of}
-use Rattle.tm_values.specs.Val.{Val, undefined, map, function, pairs_of}
+use Rattle.tm_operations.specs.Members.{macro_member}
+use Rattle.tm_values.specs.Answer.{Answer}
+use Rattle.tm_values.specs.Order.{val_cmp}
+use Rattle.tm_values.specs.Records.{RecordData}
+use Rattle.tm_values.specs.Val.{Val, undefined, boolean, list, map, function, macro, loop, pairs_of, vals_of}
 use Rattle.tm_values.specs.declared.error.ErrorKind.{ErrorKind}
-use Rattle.tm_values.specs.declared.error.ErrorKind.TheVariants.{InvalidOperation, UnknownFunction, UnknownBlock}
+use Rattle.tm_values.specs.declared.error.ErrorKind.TheVariants.{InvalidOperation, UnknownFunction, UnknownMethod, UnknownBlock}
 use Rattle.tm_meaning.specs.declared.function.GlobalFunction.{GlobalFunction}
 use Rattle.tm_meaning.specs.declared.function.GlobalFunction.TheVariants as own
-use Rattle.tm_meaning.specs.World.{TemplateId, StreamId, block_of, Named, find, put_each, Card, Layers, World, Host, View, Reply, gives, faults, Stated, Function, callers, languages, Res, Good, Bad, bind, answered, records_of, make_namespace, need, check, card_at, view_of, lookup, plain, push, pop}
+use Rattle.tm_meaning.specs.World.{TemplateId, StreamId, block_of, Named, find, put_each, same_name, Card, Layers, Loop, World, Host, View, Reply, gives, faults, Stated, Function, callers, languages, Res, Good, Bad, bind, answered, records_of, make_namespace, need, check, card_at, view_of, lookup, context_member, or_undefined, place_of, plain, push, pop}
 
 -- What is run: a whole stream.
 pub data Callee : Type 0 where
@@ -95,3 +100,57 @@ call_value host v args w = refused (InvalidOperation ∷ []) w
 abbrev pub call_named : Host → List ℕ → List Val → World → Asked
 call_named host x args w =
     ask (lookup host x w) (λ found world1. ask (need found UnknownFunction world1) (λ f world2. call_value host f args world2))
+
+-- ---------------------------------------------------------------- methods
+-- whether these arguments differ from those that were kept last
+abbrev pub is_changed : Option (List Val) → List Val → Bool
+is_changed None args = true
+is_changed (Some before) args = not (is_eq (val_cmp (list (vals_of before)) (list (vals_of args))))
+
+abbrev pub keeping : List Val → Loop → Loop
+keeping args l = if is_changed l.kept args then record l { kept = Some args } else l
+
+abbrev pub keeping_at : ℕ → List Val → List Loop → List Loop
+keeping_at n args [] = []
+keeping_at zero args (l ∷ ls) = keeping args l ∷ ls
+keeping_at (suc n) args (l ∷ ls) = l ∷ keeping_at n args ls
+
+-- the argument whose turn it is at an item, one after the other and then from the first again; undefined where there is none
+abbrev pub cycled : Option ℕ → List Val → Val
+cycled None args = undefined false
+cycled (Some place) args = or_undefined (slice_get args (place % length args))
+
+-- whether the record of a loop stands there, and what is done with it
+abbrev pub of_loop : Option Loop → World → (Loop → Asked) → Asked
+of_loop None w f = refused (InvalidOperation ∷ []) w
+of_loop (Some l) w f = f l
+
+-- the record of the loop of a number, where the state is this one
+abbrev pub record_at : World → ℕ → ℕ → Option Loop
+record_at w state n = if nat_eq w.id state then slice_get w.loops n else None
+
+-- A loop has two methods: whether what it is called with changed, and the argument whose turn it is.
+abbrev pub loop_method : List ℕ → ℕ → ℕ → List Val → World → Asked
+loop_method x state n args w =
+    if same_name x (codes "changed") then
+      of_loop (record_at w state n) w (λ l. has (boolean (is_changed l.kept args)) (record w { loops = keeping_at n args w.loops }))
+    else if same_name x (codes "cycle") then of_loop (record_at w state n) w (λ l. has (cycled (place_of l.turns) args) w)
+    else refused (UnknownMethod ∷ []) w
+
+abbrev pub is_macro_attribute : List ℕ → Bool
+is_macro_attribute x = same_name x (codes "name") || same_name x (codes "arguments") || same_name x (codes "caller")
+
+-- what is called as a value's method: what a map, keyword map, module or namespace has there, or an attribute of a macro
+abbrev pub method_in : RecordData → List ℕ → Val → Answer (Option Val)
+method_in r x (macro m) = Ok (if is_macro_attribute x then Some (macro_member m x) else None)
+method_in r x v = context_member r x v
+
+abbrev pub call_method : Host → List ℕ → Val → List Val → World → Asked
+call_method host x (loop state n) args w = loop_method x state n args w
+call_method host x v args w =
+    ask (answered (method_in (records_of w) x v) w) (λ found world1. ask (need found UnknownMethod world1) (λ f world2. call_value host f args world2))
+
+-- the first of the values is called by its method
+abbrev pub call_first : Host → List ℕ → List Val → World → Asked
+call_first host x [] w = refused (InvalidOperation ∷ []) w
+call_first host x (v ∷ args) w = call_method host x v args w

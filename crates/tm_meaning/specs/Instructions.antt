@@ -9,7 +9,7 @@ use Rattle.tm_syntax.specs.declared.tree.UnaryOperator.{UnaryOperator}
 use Rattle.tm_meaning.specs.declared.mark.LoopMark.{LoopMark}
 use Rattle.tm_syntax.specs.declared.tree.BinaryOperator.{BinaryOperator}
 use Rattle.tm_meaning.specs.World.{choose, World, Host, Loop, top_mark, top_loop, open_loop, next_turn, cleared, items_over, Res, Good, answered, looked_up, emitted, escape_for, with_escape, store, items_of, set_member, push, pop, plain}
-use Rattle.tm_meaning.specs.Calls.{enter_block, call_named}
+use Rattle.tm_meaning.specs.Calls.{enter_block, call_named, call_first}
 use Rattle.tm_meaning.specs.Meaning.{none_waits, truth, applied_unary, operated, attribute, item_at, slice_of, list_of_values, map_of_pairs, keyword_map}
 use Rattle.tm_meaning.specs.Machine.{Capture, Return, Activation, Config, Base, Next, More, after, on_top, take_n, on, goes, jumps, stuck, with_world, audible, writes, new_capture, captured_value, asked, asked_in_place}
 
@@ -213,6 +213,10 @@ pop_auto_escape_of c = pop_auto_escape_with c.run.escapes c
 -- ---------------------------------------------------------------- calls
 abbrev pub call_function_of : Host → List ℕ → ℕ → Config → Next
 call_function_of host x n c = take_n n c.run.operands c.world (λ vs rest. asked c rest (call_named host x vs c.world))
+
+-- the first of the values is called by its method
+abbrev pub call_method_of : Host → List ℕ → ℕ → Config → Next
+call_method_of host x n c = take_n n c.run.operands c.world (λ vs rest. asked c rest (call_first host x vs c.world))
 
 abbrev pub call_block_of : Host → Base → List ℕ → Config → Next
 call_block_of host f b c =

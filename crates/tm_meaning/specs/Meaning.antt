@@ -26,7 +26,7 @@ use Rattle.tm_syntax.specs.declared.tree.Argument.{Argument}
 use Rattle.tm_syntax.specs.declared.tree.Keyword.{Keyword}
 use Rattle.tm_syntax.specs.declared.tree.Pair.{Pair}
 use Rattle.tm_syntax.specs.declared.tree.Condition.{Condition}
-use Rattle.tm_syntax.specs.declared.tree.Step.{Step, Attribute, Row_of-Comparison, end_of-Comparison as no_comparison, more_of-Comparison as with_comparison}
+use Rattle.tm_syntax.specs.declared.tree.Step.{Step, Attribute, Method', Row_of-Comparison, end_of-Comparison as no_comparison, more_of-Comparison as with_comparison}
 use Rattle.tm_syntax.specs.declared.tree.Target.{Target, Name as To, Unpack' as Items, Attribute as Member, Row_of-Target, end_of-Target as no_target, more_of-Target as target}
 use Rattle.tm_syntax.specs.declared.tree.Assignment.{Assignment}
 use Rattle.tm_syntax.specs.declared.tree.Assignment.TheVariants.{Assignment as Given}
@@ -34,7 +34,7 @@ use Rattle.tm_syntax.specs.declared.tree.Stmt.{Stmt, EmitRaw, EmitExpr, If', For
 use Rattle.tm_syntax.specs.Forms.{unary, chained, conditional, condition, comparison, pair, plain, keyword, item, slice, binary, compare, and_then, or_else}
 use Rattle.tm_syntax.specs.Code.{count_targets, for_flags, filter_flags}
 use Rattle.tm_meaning.specs.World.{choose, TemplateId, root_of, StreamId, World, Host, Res, Good, Bad, bind, answered, tick, ticked, looked_up, records_of, template_at, emitted, escape_for, with_escape, captured_text, open_loop, next_turn, cleared, items_over, store, set_member, items_of, push, pop, plain as plain_scope}
-use Rattle.tm_meaning.specs.Calls.{Callee, whole, Call, Asked, has, refused, runs, undone, wrapped, enter_block, call_named, own_blocks}
+use Rattle.tm_meaning.specs.Calls.{Callee, whole, Call, Asked, has, refused, runs, undone, wrapped, enter_block, call_named, call_method, own_blocks}
 use Rattle.tm_meaning.specs.Tree.{Body, Trees}
 
 -- ---------------------------------------------------------------- runs and outcomes
@@ -256,6 +256,9 @@ abbrev mutual
   -- a value goes on; `and` and `or` charge their test, and give the operand that ran last
   pub eval_step : Under → Run → Step → Val → World → Res Val
   eval_step u run (Attribute x) v w = ticked w (λ world1. attribute u.host v x world1)
+  eval_step u run (Method' x _ given _ named) v w =
+      bind (eval_arguments u run given w) (λ vs world1. bind (eval_named u run named world1) (λ ks world2.
+      ticked world2 (λ world3. value_of u (call_method u.host x v (vs ++ ks) world3))))
   eval_step u run (item a) v w = bind (eval u run a w) (λ k world1. ticked world1 (λ world2. item_at u.host v k world2))
   eval_step u run (slice a b c) v w =
       bind (eval u run a w) (λ x world1. bind (eval u run b world1) (λ y world2. bind (eval u run c world2) (λ z world3. ticked world3 (λ world4. slice_of u.host v x y z world4))))

@@ -7,7 +7,7 @@ use Rattle.tm_syntax.specs.declared.tree.UnaryOperator.TheVariants as unaries
 use Rattle.tm_syntax.specs.declared.tree.BinaryOperator.TheVariants as binaries
 use Rattle.tm_meaning.specs.World.{choose, World, Host, Res, pays}
 use Rattle.tm_meaning.specs.Machine.{Config, Return, Base, End, Finished, Back, back_to, Next, More, Over, Nest, Program, after, stuck, with_world}
-use Rattle.tm_meaning.specs.Instructions.{emit_raw_of, emit_of, lookup_of, load_const_of, get_attr_of, unary_of, binary_of, compare_and_preserve_of, swap_of, dup_top_of, discard_top_of, get_item_of, slice_instruction_of, build_list_of, build_map_of, build_kwargs_of, jump_of, jump_if_false_of, jump_if_false_or_pop_of, jump_if_true_or_pop_of, call_function_of, call_block_of, store_local_of, unpack_list_of, set_attr_of, push_with_of, pop_frame_of, push_loop_of, iterate_of, push_did_not_iterate_of, pop_loop_frame_of, begin_capture_of, end_capture_of, push_auto_escape_of, pop_auto_escape_of}
+use Rattle.tm_meaning.specs.Instructions.{emit_raw_of, emit_of, lookup_of, load_const_of, get_attr_of, unary_of, binary_of, compare_and_preserve_of, swap_of, dup_top_of, discard_top_of, get_item_of, slice_instruction_of, build_list_of, build_map_of, build_kwargs_of, jump_of, jump_if_false_of, jump_if_false_or_pop_of, jump_if_true_or_pop_of, call_function_of, call_method_of, call_block_of, store_local_of, unpack_list_of, set_attr_of, push_with_of, pop_frame_of, push_loop_of, iterate_of, push_did_not_iterate_of, pop_loop_frame_of, begin_capture_of, end_capture_of, push_auto_escape_of, pop_auto_escape_of}
 
 -- what an instruction is charged: 0 where it is free
 abbrev pub charge_of : Instruction → ℕ
@@ -65,6 +65,7 @@ effect host f (i.JumpIfFalse n) c = jump_if_false_of host n c
 effect host f (i.JumpIfFalseOrPop n) c = jump_if_false_or_pop_of host n c
 effect host f (i.JumpIfTrueOrPop n) c = jump_if_true_or_pop_of host n c
 effect host f (i.CallFunction x n) c = call_function_of host x n c
+effect host f (i.CallMethod x n) c = call_method_of host x n c
 effect host f (i.CallBlock b) c = call_block_of host f b c
 effect host f (i.StoreLocal x) c = store_local_of x c
 effect host f (i.UnpackList n) c = unpack_list_of n c

@@ -1,12 +1,12 @@
 -- What statements keep, whatever they do: the scopes' loops, how deep the outermost scope lies, and the records of loops that were there. A fault leaves them as they are then.
 use Rattle.std.proofs.Common.{◌≡◌, ℕ, zero, suc, ◌+◌, ◌<◌, List, [], ◌∷◌, length, Option, Some, None, Bool, true, false, Ok, Err, nat_lt, ◌++◌, refl, sym, subst, ap, ◌∙◌, arith, ltb-true, append_assoc, length-append, ◌≤◌}
-use Rattle.std.specs.Prelude.{slice_get, get_or, not, ◌&&◌}
+use Rattle.std.specs.Prelude.{slice_get, get_or, not, ◌&&◌, codes, if◌then◌else◌}
 use Rattle.std.proofs.lemmas.List.{append-nil}
 use Rattle.tm_values.specs.Answer.{Answer}
 use Rattle.tm_values.specs.Val.{Val, undefined, function, none, boolean, number, text, list, map, keywords, exports, macro, loop, namespace}
 use Rattle.tm_values.specs.declared.error.ErrorKind.{ErrorKind}
 use Rattle.tm_values.specs.declared.escape.AutoEscape.{AutoEscape}
-use Rattle.tm_values.specs.declared.error.ErrorKind.TheVariants.{InvalidOperation, UnknownBlock, UnknownFunction}
+use Rattle.tm_values.specs.declared.error.ErrorKind.TheVariants.{InvalidOperation, UnknownBlock, UnknownFunction, UnknownMethod}
 use Rattle.tm_syntax.specs.declared.tree.UnaryOperator.{UnaryOperator}
 use Rattle.tm_syntax.specs.declared.tree.UnaryOperator.TheVariants as unaries
 use Rattle.tm_syntax.specs.declared.tree.BinaryOperator.{BinaryOperator}
@@ -16,7 +16,7 @@ use Rattle.tm_syntax.specs.declared.tree.Argument.{Argument}
 use Rattle.tm_syntax.specs.declared.tree.Keyword.{Keyword}
 use Rattle.tm_syntax.specs.declared.tree.Pair.{Pair}
 use Rattle.tm_syntax.specs.declared.tree.Condition.{Condition}
-use Rattle.tm_syntax.specs.declared.tree.Step.{Step, Attribute, Row_of-Comparison, end_of-Comparison as no_comparison, more_of-Comparison as with_comparison}
+use Rattle.tm_syntax.specs.declared.tree.Step.{Step, Attribute, Method', Row_of-Comparison, end_of-Comparison as no_comparison, more_of-Comparison as with_comparison}
 use Rattle.tm_syntax.specs.declared.tree.Target.{Target, Name as To, Unpack' as Items, Attribute as Member, Row_of-Target, end_of-Target as no_target, more_of-Target as target}
 use Rattle.tm_syntax.specs.declared.tree.Assignment.{Assignment}
 use Rattle.tm_syntax.specs.declared.tree.Assignment.TheVariants.{Assignment as Given}
@@ -26,8 +26,8 @@ use Rattle.tm_syntax.specs.Code.{for_flags, filter_flags}
 use Rattle.tm_syntax.specs.Forms.{unary, chained, conditional, condition, comparison, pair, plain, keyword, item, slice, binary, compare, and_then, or_else}
 use Rattle.tm_operations.specs.Maps.{dict_of, namespace_of}
 use Rattle.tm_operations.specs.Members.{settable}
-use Rattle.tm_meaning.specs.World.{choose, find, block_of, with_frames, World, Host, Scopes, Scope, Loop, loop_scope, new_loop, open_loop, turned, turned_at, turned_of, top_mark, next_turn, without_locals, cleared, top_loop, items_over, Res, Good, Bad, bind, need, check, answered, charged, with_fuel, tick, push, pop, depth, without_first, emitted, looked_up, lookup, Function, callers, languages, Reply, gives, faults, stored_in, store, records_of, with_member, set_member, escape_for, with_escape, captured_text, plain as plain_scope}
-use Rattle.tm_meaning.specs.Calls.{Callee, whole, Call, Undo, of_block, undone, wrapped, Asked, has, refused, runs, ask, enter_block, call_named, call_value, call_by, given_by, replied, required_alone}
+use Rattle.tm_meaning.specs.World.{choose, find, same_name, block_of, with_frames, World, Host, Scopes, Scope, Loop, loop_scope, new_loop, open_loop, turned, turned_at, turned_of, top_mark, next_turn, without_locals, cleared, top_loop, items_over, Res, Good, Bad, bind, need, check, answered, charged, with_fuel, tick, push, pop, depth, without_first, emitted, looked_up, lookup, Function, callers, languages, Reply, gives, faults, stored_in, store, records_of, with_member, set_member, escape_for, with_escape, captured_text, plain as plain_scope}
+use Rattle.tm_meaning.specs.Calls.{Callee, whole, Call, Undo, of_block, undone, wrapped, Asked, has, refused, runs, ask, enter_block, call_named, call_value, call_method, loop_method, method_in, of_loop, record_at, keeping_at, is_changed, call_by, given_by, replied, required_alone}
 use Rattle.tm_meaning.specs.declared.function.GlobalFunction.{GlobalFunction}
 use Rattle.tm_meaning.specs.declared.function.GlobalFunction.TheVariants as own
 use Rattle.tm_meaning.specs.declared.mark.LoopMark.{LoopMark}
@@ -44,15 +44,31 @@ marks_long : (ss : List Scope) → length (marks ss) ≡ length ss
 marks_long [] = refl
 marks_long (s ∷ ss) = ap suc (marks_long ss)
 
--- records are there still, and perhaps more behind them
+-- a record without the arguments that it keeps, which any expression may change
+abbrev pub shape : Loop → Loop
+shape l = record l { kept = None }
+
+abbrev pub shapes : List Loop → List Loop
+shapes [] = []
+shapes (l ∷ ls) = shape l ∷ shapes ls
+
+pub shapes_long : (ls : List Loop) → length (shapes ls) ≡ length ls
+shapes_long [] = refl
+shapes_long (l ∷ ls) = ap suc (shapes_long ls)
+
+pub shapes_behind : (a b : List Loop) → shapes (a ++ b) ≡ shapes a ++ shapes b
+shapes_behind [] b = refl
+shapes_behind (l ∷ ls) b = ap (λ m. shape l ∷ m) (shapes_behind ls b)
+
+-- records are there still, but for the arguments that they keep, and perhaps more behind them
 abbrev pub GoesOn : List Loop → List Loop → Type 0
-GoesOn old new = (more : List Loop) × (new ≡ old ++ more)
+GoesOn old new = (more : List Loop) × (shapes new ≡ shapes old ++ more)
 
 goes_on_same : (ls : List Loop) → GoesOn ls ls
-goes_on_same ls = ([], sym (append-nil ls))
+goes_on_same ls = ([], sym (append-nil (shapes ls)))
 
 goes_on_then : (a b c : List Loop) → GoesOn a b → GoesOn b c → GoesOn a c
-goes_on_then a b c (more, e) (most, d) = (more ++ most, d ∙ ap (λ l. l ++ most) e ∙ append_assoc a more most)
+goes_on_then a b c (more, e) (most, d) = (more ++ most, d ∙ ap (λ l. l ++ most) e ∙ append_assoc (shapes a) more most)
 
 front_record : (a b : List Loop) (n : ℕ) (l : Loop) → slice_get a n ≡ Some l → slice_get (a ++ b) n ≡ Some l
 front_record [] b n l e = absurd (cc e)
@@ -78,8 +94,8 @@ pub kept_depth : {a b : World} → Kept a b → depth b.scopes ≡ depth a.scope
 kept_depth h = omega (arith, kept_frames h, h.outer)
 
 -- the record of a number
-pub kept_record : {a b : World} → Kept a b → (n : ℕ) (l : Loop) → slice_get a.loops n ≡ Some l → slice_get b.loops n ≡ Some l
-kept_record {a = a} {b = b} h n l e = ap (λ ls. slice_get ls n) h.loops.1 ∙ front_record a.loops h.loops.0 n l e
+pub kept_record : {a b : World} → Kept a b → (n : ℕ) (l : Loop) → slice_get (shapes a.loops) n ≡ Some l → slice_get (shapes b.loops) n ≡ Some l
+kept_record {a = a} {b = b} h n l e = ap (λ ls. slice_get ls n) h.loops.1 ∙ front_record (shapes a.loops) h.loops.0 n l e
 
 abbrev pub Gives : {A : Type 0} → World → Res A → Type 0
 Gives w (Good a world1) = Kept w world1
@@ -228,6 +244,15 @@ pub turned_behind : (a b : List Loop) → turned_at (length a) (a ++ b) ≡ a ++
 turned_behind [] b = refl
 turned_behind (l ∷ ls) b = ap (λ m. l ∷ m) (turned_behind ls b)
 
+shape_if : (b : Bool) (l : Loop) → shape (if b then l else record l { turns = l.turns + 1 }) ≡ (if b then shape l else record (shape l) { turns = l.turns + 1 })
+shape_if true l = refl
+shape_if false l = refl
+
+pub turned_shapes : (n : ℕ) (ls : List Loop) → shapes (turned_at n ls) ≡ turned_at n (shapes ls)
+turned_shapes n [] = refl
+turned_shapes zero (l ∷ ls) = ap (λ m. m ∷ shapes ls) (shape_if (nat_lt (length l.items) l.turns) l)
+turned_shapes (suc n) (l ∷ ls) = ap (λ m. shape l ∷ m) (turned_shapes n ls)
+
 -- the mark of a loop whose record stands behind those of a world
 abbrev pub mark_behind : LoopFlags → World → LoopMark
 mark_behind g w = record { number = length w.loops; variable = g.variable }
@@ -244,7 +269,9 @@ pub kept_turned : (g : LoopFlags) (w world1 : World) → Kept (in_loop_of g w) w
 kept_turned g w world1 k =
     let top : top_mark world1.scopes.frames ≡ Some (mark_behind g w) = top_of_marks (Some (mark_behind g w)) (marks w.scopes.frames) world1.scopes.frames k.same_marks in
     let is : next_turn world1 ≡ record world1 { loops = turned_at (length w.loops) world1.loops } = ap (λ m. turned_of m world1) top in
-    let loops : turned_at (length w.loops) world1.loops ≡ w.loops ++ turned_at 0 k.loops.0 = ap (turned_at (length w.loops)) k.loops.1 ∙ turned_behind w.loops k.loops.0 in
+    let loops : shapes (turned_at (length w.loops) world1.loops) ≡ shapes w.loops ++ turned_at 0 k.loops.0 =
+        turned_shapes (length w.loops) world1.loops ∙ ap (turned_at (length w.loops)) k.loops.1 ∙ ap (λ n. turned_at n (shapes w.loops ++ k.loops.0)) (sym (shapes_long w.loops))
+        ∙ turned_behind (shapes w.loops) k.loops.0 in
     subst (λ x. Kept (in_loop_of g w) x) (sym is) (record { same_marks = k.same_marks; outer = k.outer; loops = (turned_at 0 k.loops.0, loops) })
 
 -- a world with a loop of these items more
@@ -252,7 +279,7 @@ abbrev pub opened : LoopFlags → World → List Val → World
 opened g w vs = record (in_loop_of g w) { loops = w.loops ++ new_loop vs g w ∷ [] }
 
 pub opened_kept : (g : LoopFlags) (w : World) (vs : List Val) → Kept (in_loop_of g w) (opened g w vs)
-opened_kept g w vs = record { same_marks = refl; outer = refl; loops = (new_loop vs g w ∷ [], refl) }
+opened_kept g w vs = record { same_marks = refl; outer = refl; loops = (new_loop vs g w ∷ [], shapes_behind w.loops (new_loop vs g w ∷ [])) }
 
 -- a round's end
 round_end_ends : (w x : World) (run : Run) (f : Run → List ℕ → World → Outcome) → ((run1 : Run) (out1 : List ℕ) (world1 : World) → Kept (in_loop_of for_flags w) world1 → Ends w (f run1 out1 world1)) →
@@ -398,6 +425,52 @@ pub named_asks : (host : Host) (x : List ℕ) (args : List Val) (w : World) → 
 named_asks host x args w =
     ask_then host.limit w (lookup host x w) _ (answered_gives _ w) (λ found world1. ask_need host.limit world1 found UnknownFunction (λ f world2. call_value host f args world2) (λ f. value_asks host f args world1))
 
+-- ---------------------------------------------------------------- methods
+if_asks : (limit : ℕ) (w : World) (b : Bool) (p q : Asked) → Asks limit w p → Asks limit w q → Asks limit w (if b then p else q)
+if_asks limit w true p q h k = h
+if_asks limit w false p q h k = k
+
+of_loop_asks : (limit : ℕ) (w : World) (found : Option Loop) (f : Loop → Asked) → ((l : Loop) → Asks limit w (f l)) → Asks limit w (of_loop found w f)
+of_loop_asks limit w None f k = tt
+of_loop_asks limit w (Some l) f k = k l
+
+keeping_shape : (b : Bool) (args : List Val) (l : Loop) → shape (if b then record l { kept = Some args } else l) ≡ shape l
+keeping_shape true args l = refl
+keeping_shape false args l = refl
+
+keeping_shapes : (n : ℕ) (args : List Val) (ls : List Loop) → shapes (keeping_at n args ls) ≡ shapes ls
+keeping_shapes n args [] = refl
+keeping_shapes zero args (l ∷ ls) = ap (λ m. m ∷ shapes ls) (keeping_shape (is_changed l.kept args) args l)
+keeping_shapes (suc n) args (l ∷ ls) = ap (λ m. shape l ∷ m) (keeping_shapes n args ls)
+
+keeping_kept : (n : ℕ) (args : List Val) (w : World) → Kept w (record w { loops = keeping_at n args w.loops })
+keeping_kept n args w = record { same_marks = refl; outer = refl; loops = ([], keeping_shapes n args w.loops ∙ sym (append-nil (shapes w.loops))) }
+
+loop_asks : (limit : ℕ) (x : List ℕ) (state n : ℕ) (args : List Val) (w : World) → Asks limit w (loop_method x state n args w)
+loop_asks limit x state n args w =
+    if_asks limit w (same_name x (codes "changed")) _ _ (of_loop_asks limit w (record_at w state n) _ (λ l. keeping_kept n args w))
+    (if_asks limit w (same_name x (codes "cycle")) _ _ (of_loop_asks limit w (record_at w state n) _ (λ l. kept_same w)) tt)
+
+found_asks : (host : Host) (x : List ℕ) (v : Val) (args : List Val) (w : World) →
+    Asks host.limit w (ask (answered (method_in (records_of w) x v) w) (λ found world1. ask (need found UnknownMethod world1) (λ f world2. call_value host f args world2)))
+found_asks host x v args w =
+    ask_then host.limit w (answered (method_in (records_of w) x v) w) _ (answered_gives _ w) (λ found world1. ask_need host.limit world1 found UnknownMethod (λ f world2. call_value host f args world2) (λ f. value_asks host f args world1))
+
+pub method_asks : (host : Host) (x : List ℕ) (v : Val) (args : List Val) (w : World) → Asks host.limit w (call_method host x v args w)
+method_asks host x (loop state n) args w = loop_asks host.limit x state n args w
+method_asks host x (undefined s) args w = found_asks host x (undefined s) args w
+method_asks host x none args w = found_asks host x none args w
+method_asks host x (boolean b) args w = found_asks host x (boolean b) args w
+method_asks host x (number z) args w = found_asks host x (number z) args w
+method_asks host x (text t s) args w = found_asks host x (text t s) args w
+method_asks host x (list vs) args w = found_asks host x (list vs) args w
+method_asks host x (map ps) args w = found_asks host x (map ps) args w
+method_asks host x (keywords ps) args w = found_asks host x (keywords ps) args w
+method_asks host x (exports ps t) args w = found_asks host x (exports ps t) args w
+method_asks host x (function n) args w = found_asks host x (function n) args w
+method_asks host x (macro m) args w = found_asks host x (macro m) args w
+method_asks host x (namespace state n) args w = found_asks host x (namespace state n) args w
+
 -- ---------------------------------------------------------------- trees
 module _ (u : Under) (nest_ends : (k : Callee) (heard : Bool) (out : List ℕ) (w : World) → Ends w (u.nests k heard out w)) where
   value_by : (w world1 : World) (c : Call) (e : Ending) (o : Outcome) → EndsBy world1 e o.world → ((world2 : World) → Kept world1 world2 → Kept w (undone c.undo world2)) → Gives w (value_behind e c o)
@@ -533,6 +606,10 @@ module _ (u : Under) (nest_ends : (k : Callee) (heard : Bool) (out : List ℕ) (
 
     pub step_gives : (run : Run) (s : Step) (v : Val) (w : World) → Gives w (eval_step u run s v w)
     step_gives run (Attribute x) v w = gives_bind w (tick w) _ (tick_gives w) (λ _ world1. answered_gives _ world1)
+    step_gives run (Method' x _ given _ named) v w =
+        gives_bind w (eval_arguments u run given w) _ (arguments_give run given w) (λ vs world1.
+        gives_bind world1 (eval_named u run named world1) _ (named_give run named world1) (λ ks world2.
+        gives_bind world2 (tick world2) _ (tick_gives world2) (λ _ world3. value_gives world3 _ (method_asks u.host x v (vs ++ ks) world3))))
     step_gives run (item a) v w =
         gives_bind w (eval u run a w) _ (eval_gives run a w) (λ k world1. gives_bind world1 (tick world1) _ (tick_gives world1) (λ _ world2. answered_gives _ world2))
     step_gives run (slice a b c) v w =

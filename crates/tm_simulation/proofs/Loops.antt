@@ -2,11 +2,13 @@
 use Rattle.std.proofs.Common.{◌≡◌, ℕ, zero, suc, ◌+◌, ◌<◌, List, [], ◌∷◌, ◌++◌, length, Option, Some, None, Bool, true, false, nat_lt, refl, sym, ap, ◌∙◌, subst, arith, length-append, append_assoc, le-ltb, ne_eqb}
 use Rattle.std.specs.Prelude.{slice_get, nat_eq, option_and_then}
 use Rattle.tm_values.specs.Val.{Val}
-use Rattle.tm_meaning.specs.World.{World, Loop, turned, turned_at, turned_of, top_mark, next_turn, cleared, top_loop}
+use Rattle.tm_meaning.specs.World.{World, Loop, new_loop, turned, turned_at, turned_of, top_mark, next_turn, top_loop}
+use Rattle.tm_meaning.specs.Machine.{Return, Next}
+use Rattle.tm_meaning.specs.Instructions.{on_loop}
 use Rattle.tm_syntax.specs.declared.instruction.LoopFlags.{LoopFlags}
 use Rattle.tm_meaning.specs.declared.mark.LoopMark.{LoopMark}
 use Rattle.tm_meaning.specs.Meaning.{has_none}
-use Rattle.tm_simulation.proofs.Keeps.{Kept, marks, mark_behind, in_loop_of, top_of_marks}
+use Rattle.tm_simulation.proofs.Keeps.{Kept, shape, shapes, shapes_long, shapes_behind, turned_shapes, opened, marks, mark_behind, in_loop_of, top_of_marks}
 
 pub seam_some : {A : Type 0} (a b : List A) (v : A) → slice_get (a ++ v ∷ b) (length a) ≡ Some v
 seam_some [] b v = refl
@@ -59,11 +61,31 @@ turned_record (suc n) (x ∷ ls) l e = turned_record n ls l e
 top_is : (g : LoopFlags) (w0 w : World) → Kept (in_loop_of g w0) w → top_mark w.scopes.frames ≡ Some (mark_behind g w0)
 top_is g w0 w k = top_of_marks (Some (mark_behind g w0)) (marks w0.scopes.frames) w.scopes.frames k.same_marks
 
-pub top_loop_is : (g : LoopFlags) (w0 w : World) (l : Loop) → Kept (in_loop_of g w0) w → slice_get w.loops (length w0.loops) ≡ Some l → top_loop w ≡ Some l
-top_loop_is g w0 w l k e = ap (option_and_then (λ (m : LoopMark). slice_get w.loops m.number)) (top_is g w0 w k) ∙ e
+-- what is asked of a record of its items and turns
+of_record : (n : ℕ) (ls : List Loop) (l : Loop) → slice_get (shapes ls) n ≡ Some l → (rs : List (Option Return)) (w : World) (f : List Val → ℕ → Next) →
+    on_loop (None ∷ rs) (slice_get ls n) w (λ m. f m.items m.turns) ≡ f l.items l.turns
+of_record n [] l e rs w f = absurd (cc e)
+of_record zero (x ∷ ls) l e rs w f = let same : shape x ≡ l = cc e in ap (λ (m : Loop). f m.items m.turns) same
+of_record (suc n) (x ∷ ls) l e rs w f = of_record n ls l e rs w f
 
-pub next_record : (g : LoopFlags) (w0 w : World) (l : Loop) → Kept (in_loop_of g w0) w → slice_get w.loops (length w0.loops) ≡ Some l → slice_get (next_turn w).loops (length w0.loops) ≡ Some (turned l)
-next_record g w0 w l k e = ap (λ m. slice_get (turned_of m w).loops (length w0.loops)) (top_is g w0 w k) ∙ turned_record (length w0.loops) w.loops l e
+pub on_top_loop : (g : LoopFlags) (w0 w : World) (l : Loop) → Kept (in_loop_of g w0) w → slice_get (shapes w.loops) (length w0.loops) ≡ Some l → (rs : List (Option Return)) (f : List Val → ℕ → Next) →
+    on_loop (None ∷ rs) (top_loop w) w (λ m. f m.items m.turns) ≡ f l.items l.turns
+on_top_loop g w0 w l k e rs f =
+    ap (λ (o : Option LoopMark). on_loop (None ∷ rs) (option_and_then (λ (m : LoopMark). slice_get w.loops m.number) o) w (λ m. f m.items m.turns)) (top_is g w0 w k)
+    ∙ of_record (length w0.loops) w.loops l e rs w f
+
+pub next_record : (g : LoopFlags) (w0 w : World) (l : Loop) → Kept (in_loop_of g w0) w → slice_get (shapes w.loops) (length w0.loops) ≡ Some l → slice_get (shapes (next_turn w).loops) (length w0.loops) ≡ Some (turned l)
+next_record g w0 w l k e =
+    ap (λ m. slice_get (shapes (turned_of m w).loops) (length w0.loops)) (top_is g w0 w k)
+    ∙ ap (λ ls. slice_get ls (length w0.loops)) (turned_shapes (length w0.loops) w.loops)
+    ∙ turned_record (length w0.loops) (shapes w.loops) l e
+
+-- the record of a loop that was opened
+pub new_record : (g : LoopFlags) (w : World) (vs : List Val) → slice_get (shapes (opened g w vs).loops) (length w.loops) ≡ Some (new_loop vs g w)
+new_record g w vs =
+    ap (λ ls. slice_get ls (length w.loops)) (shapes_behind w.loops (new_loop vs g w ∷ []))
+    ∙ ap (slice_get (shapes w.loops ++ new_loop vs g w ∷ [])) (sym (shapes_long w.loops))
+    ∙ seam_some (shapes w.loops) [] (new_loop vs g w)
 
 pub none_is : (vs : List Val) → nat_eq (length vs) 0 ≡ has_none vs
 none_is [] = refl

@@ -18,7 +18,7 @@ use Rattle.tm_syntax.specs.declared.tree.Argument.{Argument}
 use Rattle.tm_syntax.specs.declared.tree.Keyword.{Keyword}
 use Rattle.tm_syntax.specs.declared.tree.Pair.{Pair}
 use Rattle.tm_syntax.specs.declared.tree.Condition.{Condition}
-use Rattle.tm_syntax.specs.declared.tree.Step.{Step, Attribute, Row_of-Comparison, end_of-Comparison as no_comparison, more_of-Comparison as with_comparison}
+use Rattle.tm_syntax.specs.declared.tree.Step.{Step, Attribute, Method', Row_of-Comparison, end_of-Comparison as no_comparison, more_of-Comparison as with_comparison}
 use Rattle.tm_syntax.specs.declared.tree.Target.{Target, Name as To, Unpack' as Items, Attribute as Member, Row_of-Target, end_of-Target as no_target, more_of-Target as target}
 use Rattle.tm_syntax.specs.declared.tree.Assignment.{Assignment}
 use Rattle.tm_syntax.specs.declared.tree.Assignment.TheVariants.{Assignment as Given}
@@ -31,7 +31,7 @@ use Rattle.tm_syntax.specs.Forms.{unary, chained, conditional, condition, compar
 use Rattle.tm_syntax.specs.Code.{expr_code, condition_code, conditions_code, exprs_code, pair_code, pairs_code, argument_code, arguments_code, keyword_code, keywords_code, named_code, count_keywords, together, filter_code, iterable_code, filter_flags, step_code, links_code, steps_code, count, count_exprs, count_pairs, unary_code, binary_code, count_targets, target_code, targets_code, set_code, assignments_code, Opened, a_scope, an_escape, a_capture, Inside, outside, opening, close_all, for_flags, statement_code, statements_code, otherwise_code, behind_loop_code, jump_over}
 use Rattle.tm_syntax.proofs.Long.{statements_long}
 use Rattle.tm_meaning.specs.World.{choose, World, Scope, Loop, Host, loop_scope, new_loop, open_loop, turned, next_turn, cleared, top_mark, top_loop, items_over, Res, Good, Bad, bind, tick, depth, push, pop, plain as plain_scope, items_of, set_member, answered, emitted, looked_up, escape_for, with_escape, captured_text}
-use Rattle.tm_meaning.specs.Calls.{Callee, whole, Call, Asked, has, refused, runs, enter_block, call_named}
+use Rattle.tm_meaning.specs.Calls.{Callee, whole, Call, Asked, has, refused, runs, enter_block, call_named, call_first, call_method}
 use Rattle.tm_meaning.specs.Tree.{Trees, Body}
 use Rattle.tm_meaning.specs.Meaning.{Run, Outcome, Ending, done, leave, next, fault, Nests, Under, so_far, say, use_it, then_do, value_of, in_place_of, block_tag, truth, applied_unary, operated, applied, attribute, item_at, slice_of, list_of_values, map_of_pairs, audible as heard_here, none_waits, eval, eval_all, eval_pair, eval_pairs, eval_argument, eval_arguments, eval_keyword, eval_keywords, eval_named, keyword_map, one_counted, kept, loop_items, eval_condition, eval_conditions, eval_step, eval_links, eval_steps, assign, assign_all, set_to, set_each, closing, capturing, captured, rounds, loop_over, has_none, exec_behind_loop, done_by, emit, behind_first, exec, execs, exec_else, new_run, at_end, stream_run, nests_of, rendered}
 use Rattle.tm_meaning.specs.Machine.{Activation, Config, Finished, Failed, Stuck, Next, More, Over, Program, after, goes, taken, on_taken, asked, asked_in_place, base_of, start, run_from, stuck, audible, with_world}
@@ -41,8 +41,8 @@ use Rattle.tm_meaning.specs.Compiled.{IsCompiled, code_of}
 use Rattle.tm_meaning.proofs.Ends.{one_end}
 use Rattle.tm_simulation.specs.Reached.{final_by, final_of, Renders}
 use Rattle.tm_simulation.proofs.Place.{HasAt, has_front, has_behind, has_both, has_whole}
-use Rattle.tm_simulation.proofs.Loops.{LeftOf, seam_some, next_item, no_item, left_then, turned_items, top_loop_is, next_record, none_is}
-use Rattle.tm_simulation.proofs.Keeps.{Kept, marks, kept_frames, kept_depth, kept_same, kept_then, kept_record, kept_popped, kept_cleared, kept_turned, top_of_marks, mark_behind, in_loop_of, opened, opened_kept, loop_ends, ends_use, Gives, EndsBy as EndsKept, Ends as KeptEnds, ends_as, tick_gives, answered_gives, Asks, block_asks, named_asks, eval_gives, condition_gives, all_give, pair_gives, pairs_give, argument_gives, arguments_give, keyword_gives, keywords_give, named_give, one_counted_gives, kept_gives, test_gives, loop_items_give, recorded, step_gives, steps_give, unary_gives, binary_gives, looked_up_gives, within, kept_escaped, assign_gives, set_gives, set_each_gives, exec_ends, execs_end, nests_end}
+use Rattle.tm_simulation.proofs.Loops.{LeftOf, next_item, no_item, left_then, turned_items, on_top_loop, next_record, new_record, none_is}
+use Rattle.tm_simulation.proofs.Keeps.{Kept, shapes, marks, kept_frames, kept_depth, kept_same, kept_then, kept_record, kept_popped, kept_cleared, kept_turned, top_of_marks, mark_behind, in_loop_of, opened, opened_kept, loop_ends, ends_use, Gives, EndsBy as EndsKept, Ends as KeptEnds, ends_as, tick_gives, answered_gives, Asks, block_asks, named_asks, method_asks, eval_gives, condition_gives, all_give, pair_gives, pairs_give, argument_gives, arguments_give, keyword_gives, keywords_give, named_give, one_counted_gives, kept_gives, test_gives, loop_items_give, recorded, step_gives, steps_give, unary_gives, binary_gives, looked_up_gives, within, kept_escaped, assign_gives, set_gives, set_each_gives, exec_ends, execs_end, nests_end}
 use Rattle.tm_simulation.proofs.Follow.{follows_map_kept, bound_follows, ends_map_kept, leave_then, next_then, Goes, round_then, opened_then, opened_follows, Bed, air, inside, captures_of, told_by, Spot, told, cfg, later, Follows, Then, Ends, whole_of, follows_map, follows_bind, bind_then, use_then, so_far_then, fault_then, do_then, within_then, Closed, closed_then, captured_in, Dropped, captured_then, ends_map, Go, silent, at, after_then, move, pushes, choose_then, choose_ends}
 use Rattle.tm_simulation.proofs.Forms.{Fits, Stands, fits_captured, audible_is, writes_then, end_by, end_of, Entered, call_in_place, call_as_value}
 use Rattle.tm_meaning.specs.declared.stream.TemplateId.{TemplateId}
@@ -498,6 +498,28 @@ module _ (p : Program) (f : Base) (r : Final) (trees : Trees) (n : ℕ)
     step_runs (Attribute x) run s pc v stack w d is h =
         at p f r (i.GetAttr x) s pc (v ∷ stack) w is.0 (after_then p f r (told s) (tick w) _ (bind_then r (told s) w (tick w) _ _ _ (tick_gives w) h (λ _ world1 k h1.
         pushes p f r s pc stack (v ∷ stack) world1 (attribute p.host v x world1) h1)))
+    step_runs (Method' x _ given _ named) run s pc v stack w d is h =
+        let all = p.code s.run.stream in
+        let c = arguments_code pc given in
+        let kc = named_code (pc + length c) named in
+        let n = count given + together named + 1 in
+        let last = i.CallMethod x n in
+        let front = has_front all pc (c ++ kc) (last ∷ []) is in
+        let behind = has_behind all pc (c ++ kc) (last ∷ []) is in
+        let there : pc + length c + length kc ≡ pc + length (c ++ kc) = omega (arith, length-append c kc) in
+        let place : pc + length (c ++ kc) + 1 ≡ pc + length ((c ++ kc) ++ last ∷ []) = omega (arith, length-append (c ++ kc) (last ∷ [])) in
+        arguments_run given run s pc (v ∷ stack) w d (has_front all pc c kc front)
+        (bind_long r (told s) w (count given) (eval_arguments u run given w) _ _ _ (arguments_give u nest_ends run given w) (arguments_long u run given w) h (λ vs world1 k l h1.
+        named_runs named run s (pc + length c) (onto vs (v ∷ stack)) world1 (deep_kept k d) (has_behind all pc c kc front)
+        (bind_long r (told s) world1 (together named) (eval_named u run named world1) _ _ _ (named_give u nest_ends run named world1) (named_long u run named world1) h1 (λ ks world2 k2 l2 h2.
+        let long : length (v ∷ (vs ++ ks)) ≡ n = omega (arith, length-append vs ks, l, l2) in
+        move p f r s _ _ (onto ks (onto vs (v ∷ stack))) world2 there
+        (subst (λ us. Go p f r s (pc + length (c ++ kc)) us world2) (onto_both vs ks (v ∷ stack))
+        (at p f r last s (pc + length (c ++ kc)) (onto (v ∷ (vs ++ ks)) stack) world2 behind.0
+        (after_then p f r (told s) (tick world2) _ (bind_then r (told s) world2 (tick world2) _ _ _ (tick_gives world2) h2 (λ _ world3 k3 h3.
+        subst (λ t. Leads p f (told s) (on_taken t world3 (λ xs rest. asked (cfg s (pc + length (c ++ kc)) (onto (v ∷ (vs ++ ks)) stack) world3) rest (call_first p.host x xs world3))) r) (sym (taken_all (v ∷ (vs ++ ks)) n stack long))
+        (asked_then s (pc + length (c ++ kc)) stack (onto (v ∷ (vs ++ ks)) stack) world3 world3 (call_method p.host x v (vs ++ ks) world3) (method_asks p.host x v (vs ++ ks) world3) (deep_kept k3 (deep_kept k2 (deep_kept k d)))
+        (follows_map r (told s) (value_of u (call_method p.host x v (vs ++ ks) world3)) _ _ h3 (λ v1 world4 g3. move p f r s _ _ (v1 ∷ stack) world4 place g3))))))))))))
     step_runs (item a) run s pc v stack w d is h =
         let c = expr_code pc a in
         let behind = has_behind (p.code s.run.stream) pc c (i.GetItem ∷ []) is in
@@ -789,7 +811,7 @@ module _ (p : Program) (f : Base) (r : Final) (trees : Trees) (n : ℕ)
   looped s = record s { run = record s.run { loops = None ∷ s.run.loops } }
 
   -- a loop that wasn't called is left, which is free
-  left_loop_then : (g : LoopFlags) (s : Spot) (q : Option TemplateId) (out : List ℕ) (pc : ℕ) (stack : List Val) (w x : World) (l : Loop) → Deep w → Kept (in_loop_of g w) x → slice_get x.loops (length w.loops) ≡ Some l →
+  left_loop_then : (g : LoopFlags) (s : Spot) (q : Option TemplateId) (out : List ℕ) (pc : ℕ) (stack : List Val) (w x : World) (l : Loop) → Deep w → Kept (in_loop_of g w) x → slice_get (shapes x.loops) (length w.loops) ≡ Some l →
       slice_get (p.code s.run.stream) pc ≡ Some i.PopLoopFrame → Go p f r (later s q out) (pc + 1) stack (pop x) → Go p f r (later (looped s) q out) pc stack x
   left_loop_then g s q out pc stack w x l d k e is z =
       let stands : f.scopes < length x.scopes.frames = omega (arith, kept_frames k, d.1) in
@@ -797,23 +819,23 @@ module _ (p : Program) (f : Base) (r : Final) (trees : Trees) (n : ℕ)
       at p f r i.PopLoopFrame (later (looped s) q out) pc stack x is
       (subst (λ b. Leads p f (told_by s.bed out) (choose b (λ _. on_loop (None ∷ s.run.loops) (top_loop x) x (λ m. pop_loop_with (None ∷ s.run.loops) c)) (λ _. stuck x)) r)
       (sym (lt-ltb f.scopes (length x.scopes.frames) stands))
-      (subst (λ (o : Option Loop). Leads p f (told_by s.bed out) (on_loop (None ∷ s.run.loops) o x (λ m. pop_loop_with (None ∷ s.run.loops) (cfg (later (looped s) q out) pc stack x))) r)
-      (sym (top_loop_is g w x l k e)) (silent p f r (told_by s.bed out) _ z)))
+      (subst (λ n. Leads p f (told_by s.bed out) n r)
+      (sym (on_top_loop g w x l k e s.run.loops (λ items turns. pop_loop_with (None ∷ s.run.loops) c))) (silent p f r (told_by s.bed out) _ z)))
 
-  did_not_is : (g : LoopFlags) (s : Spot) (q : Option TemplateId) (out : List ℕ) (pc : ℕ) (stack : List Val) (w x : World) (l : Loop) (vs : List Val) → Kept (in_loop_of g w) x → slice_get x.loops (length w.loops) ≡ Some l → l.items ≡ vs →
+  did_not_is : (g : LoopFlags) (s : Spot) (q : Option TemplateId) (out : List ℕ) (pc : ℕ) (stack : List Val) (w x : World) (l : Loop) (vs : List Val) → Kept (in_loop_of g w) x → slice_get (shapes x.loops) (length w.loops) ≡ Some l → l.items ≡ vs →
       push_did_not_iterate_of (cfg (later (looped s) q out) pc stack x) ≡ goes (boolean (has_none vs) ∷ stack) x (cfg (later (looped s) q out) pc stack x)
   did_not_is g s q out pc stack w x l vs k e same =
       let c = cfg (later (looped s) q out) pc stack x in
-      ap (λ (o : Option Loop). on_loop (None ∷ s.run.loops) o x (λ m. goes (boolean (nat_eq (length m.items) 0) ∷ stack) x c)) (top_loop_is g w x l k e)
+      on_top_loop g w x l k e s.run.loops (λ items turns. goes (boolean (nat_eq (length items) 0) ∷ stack) x c)
       ∙ ap (λ (items : List Val). goes (boolean (nat_eq (length items) 0) ∷ stack) x c) same
       ∙ ap (λ b. goes (boolean b ∷ stack) x c) (none_is vs)
 
   -- a loop is asked for its next item
-  iterate_is : (g : LoopFlags) (s : Spot) (q : Option TemplateId) (out : List ℕ) (pc end : ℕ) (stack : List Val) (w x : World) (l : Loop) (next_one : Option Val) → Kept (in_loop_of g w) x → slice_get x.loops (length w.loops) ≡ Some l →
+  iterate_is : (g : LoopFlags) (s : Spot) (q : Option TemplateId) (out : List ℕ) (pc end : ℕ) (stack : List Val) (w x : World) (l : Loop) (next_one : Option Val) → Kept (in_loop_of g w) x → slice_get (shapes x.loops) (length w.loops) ≡ Some l →
       slice_get l.items l.turns ≡ next_one → iterate_of end (cfg (later (looped s) q out) pc stack x) ≡ iterate_with next_one end (cfg (later (looped s) q out) pc stack x)
   iterate_is g s q out pc end stack w x l next_one k e is =
       let c = cfg (later (looped s) q out) pc stack x in
-      ap (λ (o : Option Loop). on_loop (None ∷ s.run.loops) o x (λ m. iterate_with (slice_get m.items m.turns) end c)) (top_loop_is g w x l k e) ∙ ap (λ o. iterate_with o end c) is
+      on_top_loop g w x l k e s.run.loops (λ items turns. iterate_with (slice_get items turns) end c) ∙ ap (λ o. iterate_with o end c) is
 
   -- what a round does with its item
   abbrev turn_of : {m : _} → Target → Row_of-Stmt m → Val → Run → List ℕ → World → Outcome
@@ -835,11 +857,11 @@ module _ (p : Program) (f : Base) (r : Final) (trees : Trees) (n : ℕ)
   -- what follows once all rounds are over, at the place behind the jump back
   abbrev Rounded : Spot → List Val → List Val → World → Then → ℕ → Type 0
   Rounded s stack items w D end =
-      (q : Option TemplateId) (out : List ℕ) (x : World) (l : Loop) → Kept (in_loop_of for_flags w) x → slice_get x.loops (length w.loops) ≡ Some l → l.items ≡ items → D q out (pop x) → Go p f r (later (looped s) q out) end stack x
+      (q : Option TemplateId) (out : List ℕ) (x : World) (l : Loop) → Kept (in_loop_of for_flags w) x → slice_get (shapes x.loops) (length w.loops) ≡ Some l → l.items ≡ items → D q out (pop x) → Go p f r (later (looped s) q out) end stack x
 
   -- A loop's rounds, from where the next item is asked for.
   rounds_run : {m : _} → (t : Target) (body : Row_of-Stmt m) (again end : ℕ) → StmtsRun (record { again = again; behind = end; opened = [] }) body → (items vs : List Val) (run : Run) (s : Spot) (stack : List Val) (w x : World) (l : Loop) (D L N : Then) →
-      Stands f run s → Deep (in_loop_of for_flags w) → Kept (in_loop_of for_flags w) x → slice_get x.loops (length w.loops) ≡ Some l → LeftOf l items vs →
+      Stands f run s → Deep (in_loop_of for_flags w) → Kept (in_loop_of for_flags w) x → slice_get (shapes x.loops) (length w.loops) ≡ Some l → LeftOf l items vs →
       HasAt (p.code s.run.stream) again (i.Iterate end ∷ (target_code (again + 1) t ++ (statements_code (record { again = again; behind = end; opened = [] }) (again + 1 + length (target_code (again + 1) t)) body ++ i.Jump again ∷ []))) →
       Rounded s stack items w D end → Ends r s.bed (rounds (turn_of t body) vs (as_at run s) s.out x) D L N → Go p f r (looped s) again stack x
   rounds_run t body again end part items [] run s stack w x l D L N fits d k e left is over_it h =
@@ -897,7 +919,7 @@ module _ (p : Program) (f : Base) (r : Final) (trees : Trees) (n : ℕ)
 
   -- From where the next item is asked for the pass comes behind its loop, with what it takes below the count.
   filter_runs : (t : Target) (c : Expr) (again : ℕ) (items vs : List Val) (n : ℕ) (run : Run) (s : Spot) (below : List Val) (w x : World) (l : Loop) →
-      Deep w → Kept (in_loop_of filter_flags w) x → slice_get x.loops (length w.loops) ≡ Some l → LeftOf l items vs →
+      Deep w → Kept (in_loop_of filter_flags w) x → slice_get (shapes x.loops) (length w.loops) ≡ Some l → LeftOf l items vs →
       (tc qc : List Instruction) → tc ≡ target_code (again + 1 + 1) t → qc ≡ expr_code (again + 1 + 1 + length tc) c → (end : ℕ) → end ≡ again + 1 + 1 + length tc + length qc →
       HasAt (p.code s.run.stream) again (i.Iterate (end + 7) ∷ i.DupTop ∷ (tc ++ (qc
       ++ i.JumpIfFalse (end + 5) ∷ i.Swap ∷ i.LoadConst (number (pos 1)) ∷ i.Add ∷ i.Jump again ∷ i.DiscardTop ∷ i.Jump again ∷ i.PopLoopFrame ∷ i.BuildList None ∷ []))) →
@@ -947,7 +969,7 @@ module _ (p : Program) (f : Base) (r : Final) (trees : Trees) (n : ℕ)
       (at p f r (i.JumpIfFalse (end + 5)) q end (b ∷ v ∷ count ∷ below) world3 tail.0 (after_then p f r (told s) (tick world3) _ (bind_then r (told s) world3 (tick world3) _ _ _ (tick_gives world3) h3 (λ _ world4 k4 h4.
       after_then p f r (told s) (truth p.host b world4) _ (bind_then r (told s) world4 (truth p.host b world4) _ _ _ (answered_gives _ world4) h4 (λ yes world5 k5 h5.
       let kept5 = kept_then kept_y (kept_then k2 (kept_then k3 (kept_then k4 k5))) in
-      let record5 : (z : World) → Kept world5 z → slice_get z.loops (length w.loops) ≡ Some (turned l) = λ z kz. kept_record (kept_then k2 (kept_then k3 (kept_then k4 (kept_then k5 kz)))) (length w.loops) (turned l) record_y in
+      let record5 : (z : World) → Kept world5 z → slice_get (shapes z.loops) (length w.loops) ≡ Some (turned l) = λ z kz. kept_record (kept_then k2 (kept_then k3 (kept_then k4 (kept_then k5 kz)))) (length w.loops) (turned l) record_y in
       choose_then p f r yes _ _ _ _ (told s) _ h5
       (λ h6. silent p f r (told s) _
       (at p f r i.Swap q (end + 1) (v ∷ count ∷ below) world5 tail.1.0 (after_then p f r (told s) (tick world5) _ (bind_then r (told s) world5 (tick world5) _ _ _ (tick_gives world5)
@@ -1005,7 +1027,7 @@ module _ (p : Program) (f : Base) (r : Final) (trees : Trees) (n : ℕ)
       (opened_follows r (told s) filter_flags world3 vs (nat_lt (depth world3.scopes) p.host.limit) _ _ (λ y. Leads p f (told s) (goes (number (pos 0) ∷ stack) y (looping (None ∷ s.run.loops) (cfg s pc1 (v ∷ number (pos 0) ∷ stack) world3))) r) h3 (λ h4.
       silent p f r (told s) _
       (filter_runs t c again vs vs 0 run s stack world3 (opened filter_flags world3 vs) (new_loop vs filter_flags world3) d3
-      (opened_kept filter_flags world3 vs) (seam_some world3.loops [] (new_loop vs filter_flags world3)) (record { before = []; same = refl; all = refl; turns = refl }) tc qc refl refl end refl behind.1
+      (opened_kept filter_flags world3 vs) (new_record filter_flags world3 vs) (record { before = []; same = refl; all = refl; turns = refl }) tc qc refl refl end refl behind.1
       (follows_map r (told s) (kept p.host (test_of run t c) 0 vs (opened filter_flags world3 vs)) _ _ (bound_follows r (told s) (kept p.host (test_of run t c) 0 vs (opened filter_flags world3 vs)) _ _ h4) (λ us y h5 m em.
       at p f r (i.BuildList None) s build (number (pos m) ∷ onto us stack) y tail.1.1.1.1.1.1.1.1.0 (after_then p f r (told s) (tick y) _ (bind_then r (told s) y (tick y) _ _ _ (tick_gives y) h5 (λ _ y1 k6 h6.
       built_then list_of_values s build m us stack y1 (omega (arith, em))
@@ -1104,7 +1126,7 @@ module _ (p : Program) (f : Base) (r : Final) (trees : Trees) (n : ℕ)
         (λ x. Leads p f (told s) (goes stack x (looping (None ∷ s.run.loops) (cfg s pc1 old world1))) r) over_it (λ h4.
         silent p f r (told s) _
         (rounds_run t body (pc1 + 1) end (stmts_run inner body) vs vs run s stack world1 (opened for_flags world1 vs) (new_loop vs for_flags world1) D1 L N fits (deep_within (loop_scope (mark_behind for_flags world1)) world1 d1)
-        (opened_kept for_flags world1 vs) (seam_some world1.loops [] (new_loop vs for_flags world1)) (record { before = []; same = refl; all = refl; turns = refl })
+        (opened_kept for_flags world1 vs) (new_record for_flags world1 vs) (record { before = []; same = refl; all = refl; turns = refl })
         (has_loop all pc1 end tc bc oc behind.1) (λ q out1 x l k3 e3 same d3.
         behind_loop_runs k other vs run s pc1 end (pc + length (ec ++ i.PushLoop for_flags ∷ i.Iterate end ∷ rest)) stack world1 x l L N fits d1 j1 k3 e3 same place at_end_of q out1 d3) h4)))))
     stmt_runs k Break run s pc stack w L N fits d j is h = j.0 s.parent s.out w pc (kept_same w) is (leave_then r s.bed (as_at run s) s.out w _ L N h)
@@ -1214,7 +1236,7 @@ module _ (p : Program) (f : Base) (r : Final) (trees : Trees) (n : ℕ)
 
     -- behind a loop's last round
     behind_loop_runs : (k : Inside) (other : Otherwise) (vs : List Val) (run : Run) (s : Spot) (pc end to : ℕ) (stack : List Val) (w x : World) (l : Loop) (L N : Then) → Stands f run s → Deep w → Around k s stack w L N →
-        Kept (in_loop_of for_flags w) x → slice_get x.loops (length w.loops) ≡ Some l → l.items ≡ vs → end + length (behind_loop_code k end other) ≡ to → HasAt (p.code s.run.stream) end (behind_loop_code k end other) → (q : Option TemplateId) (out : List ℕ) →
+        Kept (in_loop_of for_flags w) x → slice_get (shapes x.loops) (length w.loops) ≡ Some l → l.items ≡ vs → end + length (behind_loop_code k end other) ≡ to → HasAt (p.code s.run.stream) end (behind_loop_code k end other) → (q : Option TemplateId) (out : List ℕ) →
         Ends r s.bed (exec_behind_loop u other (has_none vs) (record run { parent = q }) out (pop x)) (λ q1 out1 v. Go p f r (later s q1 out1) to stack v) L N → Go p f r (later (looped s) q out) end stack x
     behind_loop_runs k no_else vs run s pc end to stack w x l L N fits d j kept e same place is q out h =
         left_loop_then for_flags s q out end stack w x l d kept e is.0 (move p f r (later s q out) _ _ stack (pop x) place (so_far_then r s.bed (record run { parent = q }) out (pop x) _ L N h))

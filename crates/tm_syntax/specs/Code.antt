@@ -10,7 +10,7 @@ use Rattle.tm_syntax.specs.declared.tree.Argument.{Argument}
 use Rattle.tm_syntax.specs.declared.tree.Keyword.{Keyword}
 use Rattle.tm_syntax.specs.declared.tree.Pair.{Pair}
 use Rattle.tm_syntax.specs.declared.tree.Condition.{Condition}
-use Rattle.tm_syntax.specs.declared.tree.Step.{Step, Attribute, Row_of-Comparison, end_of-Comparison as no_comparison, more_of-Comparison as with_comparison}
+use Rattle.tm_syntax.specs.declared.tree.Step.{Step, Attribute, Method', Row_of-Comparison, end_of-Comparison as no_comparison, more_of-Comparison as with_comparison}
 use Rattle.tm_syntax.specs.declared.tree.Target.{Target, Name as To, Unpack' as Items, Attribute as Member, Row_of-Target, end_of-Target as no_target, more_of-Target as target}
 use Rattle.tm_syntax.specs.declared.tree.Assignment.{Assignment}
 use Rattle.tm_syntax.specs.declared.tree.Assignment.TheVariants.{Assignment as Given}
@@ -130,6 +130,8 @@ abbrev mutual
   pub step_code : ℕ → Step → List Instruction
   step_code pc (Attribute x) = i.GetAttr x ∷ []
   step_code pc (item a) = expr_code pc a ++ i.GetItem ∷ []
+  step_code pc (Method' x _ given _ named) =
+      before pc (arguments_code pc given) (λ pc1. named_code pc1 named) ++ i.CallMethod x (count given + together named + 1) ∷ []
   step_code pc (slice a b c) =
       before pc (expr_code pc a) (λ pc1. before pc1 (expr_code pc1 b) (λ pc2. expr_code pc2 c ++ i.Slice ∷ []))
   step_code pc (binary op a) = expr_code pc a ++ binary_code op

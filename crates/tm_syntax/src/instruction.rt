@@ -99,6 +99,8 @@ pub enum Instruction {
     JumpIfTrueOrPop(usize),
     /// Replaces so many values by what the function of a name answers to them.
     CallFunction(Name, usize),
+    /// Replaces so many values by what the first one's method of a name answers to the others.
+    CallMethod(Name, usize),
     /// Runs the block of a name.
     CallBlock(Name),
     /// Pops a value, and gives it to a name of the innermost scope.

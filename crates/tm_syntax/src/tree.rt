@@ -122,6 +122,8 @@ pub enum Step {
     Attribute(Name),
     /// Its item at a key.
     Item(Boxed<Expr>),
+    /// What its method of a name answers, called with arguments by their places and by their names.
+    Method(Name, Items<Argument>, Items<Keyword>),
     /// Its slice from a start to a stop by a step, each the literal none where it is missing.
     Slice(Boxed<Expr>, Boxed<Expr>, Boxed<Expr>),
     /// The operator with this right side.
