@@ -100,6 +100,15 @@ made_call base c1 c2 c3 n f g xs ks d d2 given named m m2 k same put2 =
     counted (i.CallFunction f) base c2 c3 (before (length base) (arguments_code (length base) (arguments xs)) (λ pc. named_code pc (keywords ks))) n (count (arguments xs) + together (keywords ks)) all count_is
     (put2 ∙ ap (λ h. c2 ++ i.CallFunction h n ∷ []) same)
 
+pub made_method : (base c1 c2 c3 : List Instruction) (n : ℕ) (f g : List ℕ) (xs : List Argument) (ks : List Keyword) → c1 ≡ base ++ arguments_code (length base) (arguments xs) → c2 ≡ c1 ++ named_code (length c1) (keywords ks) →
+    (given named : ℕ) → given ≡ length xs → named ≡ length ks → n ≡ given + min named 1 + 1 → g ≡ f → c3 ≡ c2 ++ i.CallMethod g n ∷ [] → c3 ≡ base ++ step_code (length base) (s.Method f xs ks)
+made_method base c1 c2 c3 n f g xs ks d d2 given named m m2 k same put2 =
+    let all = placed base c1 c2 (arguments_code (length base) (arguments xs)) (λ pc. named_code pc (keywords ks)) d d2 in
+    let count_is : n ≡ count (arguments xs) + together (keywords ks) + 1 =
+    k ∙ ap (λ j. j + min named 1 + 1) (m ∙ sym (count-arguments xs)) ∙ ap (λ j. count (arguments xs) + j + 1) (ap (λ j. min j 1) m2 ∙ sym (together-is ks)) in
+    counted (i.CallMethod f) base c2 c3 (before (length base) (arguments_code (length base) (arguments xs)) (λ pc. named_code pc (keywords ks))) n (count (arguments xs) + together (keywords ks) + 1) all count_is
+    (put2 ∙ ap (λ h. c2 ++ i.CallMethod h n ∷ []) same)
+
 pub made_unary : (base c1 c2 : List Instruction) (o : Instruction) (op : UnaryOperator) (x : Expr) → c1 ≡ base ++ expr_code (length base) x → o ≡ unary_code op → c2 ≡ c1 ++ o ∷ [] → c2 ≡ base ++ expr_code (length base) (e.Unary op x)
 made_unary base c1 c2 o op x d k put2 =
     behind base c1 c2 (expr_code (length base) x) (unary_code op ∷ []) d (put2 ∙ ap (λ j. c1 ++ j ∷ []) k) ∙ ap (λ l. base ++ l) (sym (code-unary (length base) op x))

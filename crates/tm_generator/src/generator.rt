@@ -82,6 +82,17 @@ fn call_count(given: usize, named: usize) -> Result<usize, Error>
     }
 }
 
+/// How many values a call of a method has: these arguments and the value that is called by; OutOfMemory.
+fn method_count(given: usize, named: usize) -> Result<usize, Error>
+    ensures ok { IfOk result (λ n. n ≡ given + min named 1 + 1) }
+    ensures err { IfErr result (λ e. e ≡ OutOfMemory ∷ []) }
+{
+    match call_count(given, named)?.checked_add(1) {
+        Some(count) => Ok(count),
+        None => Err(Error::from(ErrorKind::OutOfMemory)),
+    }
+}
+
 /// Adds the code of an expression; OutOfMemory.
 #[cycle(expressions)]
 pub(crate) fn push_expr(
@@ -315,6 +326,12 @@ fn push_step(alloc: Global, code: &mut Items<Instruction>, step: &Step) -> Resul
 {
     match step {
         Step::Attribute(name) => put(code, Instruction::GetAttr(name.share()?)),
+        Step::Method(name, given, named) => {
+            push_arguments(alloc, code, given.as_slice())?;
+            push_named(alloc, code, named.as_slice())?;
+            let count = method_count(given.len(), named.len())?;
+            put(code, Instruction::CallMethod(name.share()?, count))
+        }
         Step::Item(key) => {
             push_expr(alloc, code, key.get())?;
             put(code, Instruction::GetItem)

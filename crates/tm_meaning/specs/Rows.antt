@@ -9,7 +9,7 @@ use Rattle.tm_values.specs.declared.undefined.UndefinedBehavior.TheVariants.{Len
 use Rattle.tm_syntax.specs.declared.tree.UnaryOperator.TheVariants as unaries
 use Rattle.tm_syntax.specs.declared.tree.BinaryOperator.TheVariants as binaries
 use Rattle.tm_syntax.specs.declared.tree.Expr.{Expr, Var, Const, List', Tuple', Call', end_of-Expr as no_expr, more_of-Expr as expr, end_of-Argument as no_argument, more_of-Argument as argument, end_of-Keyword as no_keyword, more_of-Keyword as with_keyword, end_of-Step as no_step, more_of-Step as step, end_of-Condition as no_condition, more_of-Condition as with_condition}
-use Rattle.tm_syntax.specs.declared.tree.Step.{Step, Attribute, end_of-Comparison as no_comparison, more_of-Comparison as with_comparison}
+use Rattle.tm_syntax.specs.declared.tree.Step.{Step, Attribute, Method', end_of-Comparison as no_comparison, more_of-Comparison as with_comparison}
 use Rattle.tm_syntax.specs.declared.tree.Target.{Target, Name as To, Unpack' as Items, Attribute as Member, end_of-Target as no_target, more_of-Target as target}
 use Rattle.tm_syntax.specs.declared.tree.Assignment.{Assignment}
 use Rattle.tm_syntax.specs.declared.tree.Assignment.TheVariants.{Assignment as Given}
@@ -447,3 +447,43 @@ do_call = with_functions last_function last_function (page (two (Do (call_none (
 -- a{{ nope(f()) }}
 abbrev pub unknown_behind : Function → Page
 unknown_behind f = with_functions f f (page (two (raw (codes "a")) (EmitExpr (Call' (codes "nope") (tt ∷ []) (argument (plain (call_none (codes "f"))) no_argument) [] no_keyword))) nothing)
+
+-- a method of no argument, and of these
+abbrev pub method_none : Expr → List ℕ → Expr
+method_none e m = and_one e (Method' m [] no_argument [] no_keyword)
+
+abbrev pub method_one : Expr → List ℕ → Expr → Expr
+method_one e m a = and_one e (Method' m (tt ∷ []) (argument (plain a) no_argument) [] no_keyword)
+
+abbrev pub method_two : Expr → List ℕ → Expr → Expr → Expr
+method_two e m a b = and_one e (Method' m (tt ∷ tt ∷ []) (argument (plain a) (argument (plain b) no_argument)) [] no_keyword)
+
+-- {% for x in [1,1,2] %}{{ loop.changed(x) }} {% endfor %}
+abbrev pub changed_or_not : Page
+changed_or_not =
+    page (one (For' (To (codes "x")) (List' (tt ∷ tt ∷ tt ∷ []) (expr (literal_number 1) (expr (literal_number 1) (expr (literal_number 2) no_expr)))) None (tt ∷ tt ∷ [])
+    (statement (EmitExpr (method_one (named (codes "loop")) (codes "changed") x)) (statement (raw (codes " ")) no_statement)) no_else)) nothing
+
+-- {% for x in [1,2] %}{{ loop.cycle("x", "y") }}{% endfor %}, over three numbers
+abbrev pub by_turns : Page
+by_turns =
+    page (one (For' (To (codes "x")) (List' (tt ∷ tt ∷ tt ∷ []) (expr (literal_number 1) (expr (literal_number 1) (expr (literal_number 2) no_expr)))) None (tt ∷ [])
+    (statement (EmitExpr (method_two (named (codes "loop")) (codes "cycle") (literal (codes "x")) (literal (codes "y")))) no_statement) no_else)) nothing
+
+-- {% for x in [1,2] %}{{ loop.cycle() }}{% endfor %}
+abbrev pub by_no_turns : Page
+by_no_turns = page (one (for_x (numbers 1 2) (EmitExpr (method_none (named (codes "loop")) (codes "cycle"))) no_else)) nothing
+
+-- {% for x in [1,2] %}{{ loop.index() }}{% endfor %}
+abbrev pub no_method_of_loops : Page
+no_method_of_loops = page (one (for_x (numbers 1 2) (EmitExpr (method_none (named (codes "loop")) (codes "index"))) no_else)) nothing
+
+-- {{ m.f("a") }}, where m has this at f
+abbrev pub method_of_map : Val → Page
+method_of_map f =
+    with_functions last_function last_function
+    (page (one (EmitExpr (method_one (named (codes "m")) (codes "f") (literal (codes "a"))))) (with_value (codes "m") (map (pairs_of ((text (codes "f") false, f) ∷ [])))))
+
+-- {{ nope.m() }}
+abbrev pub method_of_undefined : Page
+method_of_undefined = page (one (EmitExpr (method_none (named (codes "nope")) (codes "m")))) nothing

@@ -1,9 +1,9 @@
 //! Worked renders: each clause says what a page means, and what its code and the machine come to.
 ghost use Rattle.std.specs.Prelude.{[], ◌∷◌, ◌++◌, true, false, codes};
 ghost use Rattle.std.specs.Fmt.{decimal};
-ghost use Rattle.tm_values.specs.Val.{boolean, map, no_pairs};
-ghost use Rattle.tm_values.specs.declared.error.ErrorKind.TheVariants.{CannotUnpack, InvalidOperation, MissingArgument, UndefinedError, UnknownFunction, OutOfFuel, WriteFailure, BadStream, OutOfMemory};
-ghost use Rattle.tm_meaning.specs.Rows.{Says, Charges, Fails, nothing, with_value, hello, either_text, of_three, empty_condition, shown, a_and_b_c, a_or_x, not_equal, a_b, literal_number, three_in_a_row, false_before_fault, no_value, one_condition, two_conditions, in_block, block_not_reached, with_two, empty_with, set_two, set_two_of_one, set_attribute, literal, each_number, no_round, broken_round, break_in_capture, continue_in_scope, loop_members, set_in_round, chosen, chosen_alone, chosen_index, chosen_by_loop, range_of_three, range_by_name, dict_by_names, summed, over_a_number, set_block, set_under, escaped_by, fault_in_capture, set_block_of_two, literal_truth, do_call, last_function, faulty, calling, keep_and_read, unknown_behind};
+ghost use Rattle.tm_values.specs.Val.{boolean, function, map, no_pairs};
+ghost use Rattle.tm_values.specs.declared.error.ErrorKind.TheVariants.{CannotUnpack, InvalidOperation, MissingArgument, UndefinedError, UnknownFunction, UnknownMethod, OutOfFuel, WriteFailure, BadStream, OutOfMemory};
+ghost use Rattle.tm_meaning.specs.Rows.{Says, Charges, Fails, nothing, with_value, hello, either_text, of_three, empty_condition, shown, a_and_b_c, a_or_x, not_equal, a_b, literal_number, three_in_a_row, false_before_fault, no_value, one_condition, two_conditions, in_block, block_not_reached, with_two, empty_with, set_two, set_two_of_one, set_attribute, literal, each_number, no_round, broken_round, break_in_capture, continue_in_scope, loop_members, set_in_round, chosen, chosen_alone, chosen_index, chosen_by_loop, changed_or_not, by_turns, by_no_turns, no_method_of_loops, method_of_map, method_of_undefined, range_of_three, range_by_name, dict_by_names, summed, over_a_number, set_block, set_under, escaped_by, fault_in_capture, set_block_of_two, literal_truth, do_call, last_function, faulty, calling, keep_and_read, unknown_behind};
 
 /// `Hello {{ name }}!` with the name World takes 4 charges, so 5 units of fuel; with fewer it ends where the fuel does.
 pub fn hello_rows()
@@ -121,6 +121,17 @@ pub fn function_rows()
     ensures dict { Charges dict_by_names
         (codes "{\"a\": " ++ decimal 2 ++ codes ", \"b\": " ++ decimal 3 ++ codes "}") 8 }
     ensures summed { Charges summed (decimal 3) 30 }
+{}
+
+/// `{% for x in [1,1,2] %}{{ loop.changed(x) }} {% endfor %}`, `loop.cycle("x", "y")` and `loop.cycle()` in loops, `loop.index()`, `{{ m.f("a") }}` where m has a function at f and where it has a number, and `{{ nope.m() }}`.
+pub fn method_rows()
+    ensures changed { Charges changed_or_not (codes "true false true ") 29 }
+    ensures cycle { Charges by_turns (codes "xyx") 29 }
+    ensures no_turns { Charges by_no_turns [] 16 }
+    ensures index { Fails no_method_of_loops [] (UnknownMethod ∷ []) }
+    ensures function { Charges (method_of_map (function 0)) (codes "a") 4 }
+    ensures number { Fails (method_of_map (boolean true)) [] (InvalidOperation ∷ []) }
+    ensures undefined { Fails method_of_undefined [] (UnknownMethod ∷ []) }
 {}
 
 /// `{{ f("a", 1) }}`, `{{ f() }}{{ g() }}` and `a{{ nope(f()) }}`, by what f answers.

@@ -3,7 +3,7 @@ use Rattle.std.proofs.lemmas.List.{drop_all}
 use Rattle.tm_syntax.specs.declared.tree.Argument.TheFolds as folds
 use Rattle.std.proofs.lemmas.Result.{on_ok_weaker}
 use Rattle.tm_generator.proofs.Rows.{more_exprs, no_more_exprs, more_pairs, no_more_pairs, more_arguments, no_more_arguments, more_keywords, no_more_keywords, no_named, made_named, more_steps, no_more_steps}
-use Rattle.tm_generator.proofs.Generated.{next, made_list, made_tuple, made_map, made_call, made_unary, made_chain, made_pair, made_keyword, made_plain, made_item, made_slice, made_binary, made_and, made_or}
+use Rattle.tm_generator.proofs.Generated.{next, made_list, made_tuple, made_map, made_call, made_method, made_unary, made_chain, made_pair, made_keyword, made_plain, made_item, made_slice, made_binary, made_and, made_or}
 use Rattle.tm_generator.proofs.Links.{whole_comparison, more_links, no_more_links, more_places, row-within, made_row, made_compare}
 use Rattle.tm_generator.proofs.Conditions.{more_asked, more_asked_places, answers-within, made_conditional, more_answered, still_within}
 use Rattle.tm_generator.specs.Jumps.{link_places, asked_places}
@@ -88,6 +88,12 @@ push_pairs-loop-entry-preserved t c =
 pub push_pairs-returns-clause-ok : goal.push_pairs-returns-clause-ok
 push_pairs-returns-clause-ok t c = no_more_pairs _ _ _ (drop_all c.loop-entry.entry-index c.args.entries.now c.loop-entry-test.false) c.loop-entry.invariant
 
+pub push_step-returns-in_ok-share-in-Method-clause-ok : goal.push_step-returns-in_ok-share-in-Method-clause-ok
+push_step-returns-in_ok-share-in-Method-clause-ok t c =
+    rw c.in-Method.is (on_ok_weaker c.put-in-Method.result (made_method c.args.code.now c.push_arguments.new.code c.push_named.new.code c.put-in-Method.new.code _ c.in-Method.name _ c.in-Method.given c.in-Method.named
+    (rw (← c.as_slice.ensures) c.in_ok-push_arguments-in-Method.ensures.ok) (rw (← c.as_slice-in-Method.ensures) c.in_ok-push_named-in-Method.ensures.ok) _ _ c.len.ensures c.len-in-Method.ensures
+    c.in_ok-count-in-Method.ensures.ok c.in_ok-share-in-Method.ensures) c.put-in-Method.ensures.ok)
+
 pub push_step-returns-in_ok-push_expr-in-Item-clause-ok : goal.push_step-returns-in_ok-push_expr-in-Item-clause-ok
 push_step-returns-in_ok-push_expr-in-Item-clause-ok t c =
     rw c.in-Item.is (on_ok_weaker c.put-in-Item.result (made_item c.args.code.now c.push_expr.new.code c.put-in-Item.new.code c.in-Item.key
@@ -153,7 +159,7 @@ push_comparisons-returns-clause-ok t c =
 pub push_step-returns-in_ok-push_expr-in-Compare-clause-ok : goal.push_step-returns-in_ok-push_expr-in-Compare-clause-ok
 push_step-returns-in_ok-push_expr-in-Compare-clause-ok t c =
     rw c.in-Compare.is (on_ok_weaker c.push_comparisons.result (made_compare c.args.code.now c.push_expr-in-Compare.new.code c.push_comparisons.new.code c.in-Compare.operator c.in-Compare.right c.in-Compare.behind
-    (rw (← c.get-in-Compare.ensures) c.in_ok-push_expr-in-Compare.ensures.ok)) (rw (← c.as_slice.ensures) c.push_comparisons.ensures.ok))
+    (rw (← c.get-in-Compare.ensures) c.in_ok-push_expr-in-Compare.ensures.ok)) (rw (← c.as_slice-in-Compare.ensures) c.push_comparisons.ensures.ok))
 
 pub push_questions-loop-left-preserved : goal.push_questions-loop-left-preserved
 push_questions-loop-left-preserved t c = (
