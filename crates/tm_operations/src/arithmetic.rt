@@ -165,8 +165,8 @@ fn add_list(alloc: Global, items: &[Value], right: &Value) -> Result<Value, Erro
     Value::list(alloc, joined)
 }
 
-// Puts a second owner of each value behind those that are there.
-pub(crate) fn share_all(values: &[Value], out: &mut Vec<Value>) -> Result<(), Error>
+/// Puts a second owner of each value behind those that are there. Fails by OutOfMemory alone.
+pub fn share_all(values: &[Value], out: &mut Vec<Value>) -> Result<(), Error>
     ensures items { OnOk result (out.new.items ≡ out.old.items ++ values.now) }
     ensures memory { IfErr result (λ e. e ≡ ErrorKind.OutOfMemory ∷ []) }
 {

@@ -1,3 +1,4 @@
 pub mod Nesting
 pub mod Loops
 pub mod Names
+pub mod Calls

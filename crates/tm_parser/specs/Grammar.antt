@@ -63,7 +63,7 @@ a_constant _ = None
 -- The levels, from the tightest: 0 what stands behind a value, 1 powers, 2 products, 3 `~`, 4 sums, 5 comparisons, 6 `and`, 7 `or`.
 -- Each sign that goes on with a value: its level, and how.
 abbrev pub link_of : Sign → Option (ℕ × Link)
-link_of sign.Dot = Some (0, links.Attribute)
+link_of sign.Dot = Some (0, links.Member)
 link_of sign.OpenSquare = Some (0, links.Item)
 link_of sign.DoubleStar = Some (1, links.Operator binaries.Power)
 link_of sign.Star = Some (2, links.Operator binaries.Multiply)
@@ -227,10 +227,16 @@ primary i =
     branch (first (is sign.OpenCurly)) (λ _. map_literal i)
     nothing))))
 
-unfoldable pub attribute : Rule Step
-attribute = do
+-- an attribute, or the call of a method
+unfoldable pub named_step : Inside → Rule Step
+named_step i = do
   name ← token a_name
-  pure (steps.Attribute name)
+  branch (first (is sign.OpenRound))
+    (λ _. do
+      room ← i.room
+      given ← all_passed i
+      pure (steps.Method name given.by_place given.by_name))
+    (pure (steps.Attribute name))
 
 -- what stands behind a part of a slice
 abbrev pub ends_part : Token → Bool
@@ -310,7 +316,7 @@ disjunction right = do
 
 -- what stands behind a link
 abbrev pub step : Inside → Rule Expr → ℕ → Link → Rule Step
-step i right level links.Attribute = attribute
+step i right level links.Member = named_step i
 step i right level links.Item = subscript i
 step i right level (links.Operator op) = operation right op
 step i right level (links.Comparison op) = comparison right level op

@@ -8,7 +8,9 @@ use Rattle.tm_syntax.specs.declared.token.Tag.TheVariants as tags
 use Rattle.tm_syntax.specs.declared.token.Sign.TheVariants as sign
 use Rattle.tm_syntax.specs.declared.token.Token.{Token}
 use Rattle.tm_syntax.specs.declared.token.Token.TheVariants as tokens
-use Rattle.tm_syntax.specs.declared.tree.Expr.{Expr, Call'}
+use Rattle.tm_syntax.specs.declared.tree.Expr.{Expr, Call', Row_of-Step, end_of-Step as no_step, more_of-Step as more_steps}
+use Rattle.tm_syntax.specs.declared.tree.Step.{Step, Method'}
+use Rattle.tm_syntax.specs.Forms.{chained as chained_steps}
 use Rattle.tm_syntax.specs.declared.tree.Expr.TheVariants as exprs
 use Rattle.tm_syntax.specs.declared.tree.Target.{Target}
 use Rattle.tm_syntax.specs.declared.tree.Assignment.{Assignment}
@@ -233,8 +235,19 @@ autoescape_tag i t looping = do
   last ← lone tags.Endautoescape
   pure (stmts.AutoEscape x body)
 
+abbrev pub is_method : Step → Bool
+is_method (Method' name _ given _ named) = true
+is_method _ = false
+
+-- whether the last of these steps is the call of a method, or this where there is none
+abbrev pub last_is_method : {n : _} → Bool → Row_of-Step n → Bool
+last_is_method b no_step = b
+last_is_method b (more_steps s ss) = last_is_method (is_method s) ss
+
+-- the call of a name or of a method
 abbrev pub is_call : Expr → Bool
 is_call (Call' f _ given _ named) = true
+is_call (chained_steps x _ ss) = last_is_method false ss
 is_call _ = false
 
 unfoldable pub do_tag : Inside → Rule Stmt

@@ -2,7 +2,7 @@
 ghost use Rattle.std.specs.Prelude.{◌≡◌, ◌∷◌, [], MatchResult};
 ghost use Rattle.tm_parser.specs.Gives.{Gives};
 ghost use Rattle.tm_parser.specs.Grammar as grammar;
-ghost use Rattle.tm_parser.specs.Grammar.{inside, all_passed, argument, attribute, bracketed, behind_comparison, comparison, comparisons_from, condition, conditions_from, conjunction, disjunction, else_part, expr, expr_at, items, keyword, last_part, list_literal, map_literal, more_items, more_passed, named, one_passed, operand, operation, pair, part, primary, slice, step, steps_from, subscript, tuple, whole};
+ghost use Rattle.tm_parser.specs.Grammar.{inside, all_passed, argument, bracketed, behind_comparison, comparison, comparisons_from, condition, conditions_from, conjunction, disjunction, else_part, expr, expr_at, items, keyword, last_part, list_literal, named_step, map_literal, more_items, more_passed, named, one_passed, operand, operation, pair, part, primary, slice, step, steps_from, subscript, tuple, whole};
 ghost use Rattle.tm_rules.specs.Combinators.{one_more};
 ghost use Rattle.tm_syntax.specs.declared.token.Sign.TheVariants as sign;
 ghost use Rattle.tm_values.specs.declared.error.ErrorKind.TheVariants.{OutOfMemory};
@@ -193,7 +193,7 @@ impl Cursor<'_> {
             ((step (inside depth) (operand (inside depth) level) level link).reads self.old) }
     {
         match link {
-            Link::Attribute => self.attribute(),
+            Link::Member => self.named_step(alloc, depth),
             Link::Item => self.subscript(alloc, depth),
             Link::Operator(operator) => self.operation(alloc, depth, level, operator),
             Link::Comparison(operator) => self.comparison(alloc, depth, level, operator),
@@ -202,12 +202,19 @@ impl Cursor<'_> {
         }
     }
 
-    /// The name of an attribute.
-    #[tactic(auto, unfolding(crate::specs::Grammar::attribute))]
-    fn attribute(&mut self) -> Result<Step, Error>
-        ensures { Gives result self.new (attribute.reads self.old) }
+    /// An attribute, or the call of a method.
+    #[cycle(expressions)]
+    #[tactic(auto, unfolding(crate::specs::Grammar::named_step))]
+    fn named_step(&mut self, alloc: Global, depth: u8) -> Result<Step, Error>
+        ensures { Gives result self.new ((named_step (inside depth)).reads self.old) }
     {
-        Ok(Step::Attribute(self.expect_name()?))
+        let name = self.expect_name()?;
+        if !self.take(Sign::OpenRound) {
+            return Ok(Step::Attribute(name));
+        }
+        self.room(depth)?;
+        let given = self.all_passed(alloc, depth)?;
+        Ok(Step::Method(name, given.by_place, given.by_name))
     }
 
     /// The item or slice in square brackets, and their end.

@@ -1,16 +1,17 @@
 //! Statements.
-ghost use Rattle.std.specs.Prelude.{◌≡◌};
+ghost use Rattle.std.specs.Prelude.{◌≡◌, false};
 ghost use Rattle.tm_parser.specs.Gives.{Gives};
 ghost use Rattle.tm_parser.specs.Grammar.{inside};
 ghost use Rattle.tm_parser.specs.Statements as spec;
 ghost use Rattle.tm_parser.specs.Statements.{autoescape_tag, block_tag, body, do_tag, elif_tag, else_or_end, else_tag, emission, for_tag, if_tag, inner, jump, rest, set_block, set_tag, set_value, statement, with_tag};
 ghost use Rattle.tm_rules.specs.Combinators.{one_more};
+ghost use Rattle.tm_syntax.specs.declared.tree.Argument.TheBlock.{hidden-the_row-Step-5 as row_of_steps};
 
 use crate::cursor::{Cursor, refusal};
 use crate::tables::Start;
 use sqlite_items::Items;
 use std::alloc::Global;
-use tm_syntax::{Expr, Sign, Stmt, Tag, Target};
+use tm_syntax::{Expr, Sign, Step, Stmt, Tag, Target};
 use tm_values::Error;
 
 // Each method reads one rule, with `depth` nestings to go, and where `looping` with a loop around
@@ -348,12 +349,34 @@ impl Cursor<'_> {
     }
 }
 
-/// Whether an expression is a call.
+/// Whether an expression is the call of a name or of a method.
 fn is_call(expr: &Expr) -> bool
     ensures { result ≡ spec.is_call expr.now }
 {
     match expr {
         Expr::Call(_, _, _) => true,
+        Expr::Chain(_, steps) => ends_in_method(steps.as_slice()),
+        _ => false,
+    }
+}
+
+/// Whether the last of steps is the call of a method; false where there is none.
+fn ends_in_method(steps: &[Step]) -> bool
+    ensures { result ≡ spec.last_is_method false (row_of_steps steps.now) }
+{
+    let mut last = false;
+    for step in steps {
+        last = is_method(step);
+    }
+    last
+}
+
+/// Whether a step is the call of a method.
+fn is_method(step: &Step) -> bool
+    ensures { result ≡ spec.is_method step.now }
+{
+    match step {
+        Step::Method(_, _, _) => true,
         _ => false,
     }
 }

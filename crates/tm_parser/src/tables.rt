@@ -9,8 +9,8 @@ use tm_values::Value;
 /// How an expression goes on with a value.
 #[derive(Clone, Copy)]
 pub enum Link {
-    /// By a name, which is an attribute's.
-    Attribute,
+    /// By a name, which is an attribute's or a method's.
+    Member,
     /// By what stands in square brackets.
     Item,
     /// By the right side of an operator.
@@ -55,7 +55,7 @@ pub fn link_of(sign: Sign) -> Option<(u8, Link)>
     ensures { result ≡ grammar.link_of sign }
 {
     Some(match sign {
-        Sign::Dot => (0, Link::Attribute),
+        Sign::Dot => (0, Link::Member),
         Sign::OpenSquare => (0, Link::Item),
         Sign::DoubleStar => (1, Link::Operator(BinaryOperator::Power)),
         Sign::Star => (2, Link::Operator(BinaryOperator::Multiply)),

@@ -1,13 +1,16 @@
 //! The records of loops.
-ghost use Rattle.std.specs.Prelude.{◌≡◌, None, Some, length, map, nat_eq, option_and_then, option_map, slice_get};
-ghost use Rattle.tm_values.specs.Answer.{IsLent};
+ghost use Rattle.std.specs.Prelude.{◌≡◌, ◌∷◌, [], None, Some, IfErr, IfOk, OnErr, OnOk, length, map, nat_eq, option_and_then, option_map, slice_get};
+ghost use Rattle.tm_values.specs.Answer.{IsLent, OkOrOutOfMemory};
 ghost use Rattle.tm_values.specs.Position.{position_of};
-ghost use Rattle.tm_meaning.specs.World.{turned, loop_data, depth_inside};
+ghost use Rattle.tm_meaning.specs.World.{turned, loop_data, depth_inside, place_of};
+ghost use Rattle.tm_meaning.specs.Calls.{is_changed, keeping, cycled};
 
+use std::alloc::Global;
 use std::marker::Model;
 use std::rc::Rc;
 use tm_meaning::StreamId;
-use tm_values::{LoopPosition, Value};
+use tm_operations::share_all;
+use tm_values::{Error, ErrorKind, LoopPosition, Value, same_items};
 
 /// A loop: its items, how often the next one was asked for, how many loops that can be called lie around it, whether it can be called, and its stream.
 #[derive(Drop)]
@@ -17,10 +20,11 @@ pub struct LoopState {
     depth: usize,
     recursive: bool,
     stream: StreamId,
+    kept: Option<Vec<Value>>,
 }
 
 impl Model for LoopState {
-    ghost use Rattle.std.specs.Prelude.{None, ◌≤◌, ◌+◌, length};
+    ghost use Rattle.std.specs.Prelude.{option_map, ◌≤◌, ◌+◌, length};
     ghost use Rattle.std.specs.Coded.{codes};
     ghost use Rattle.tm_values.specs.Code.{coded_Val};
     ghost use Rattle.tm_meaning.specs.World.{Loop};
@@ -36,7 +40,7 @@ impl Model for LoopState {
       number = 0;
       recursive = l.recursive;
       stream = l.stream;
-      kept = None;
+      kept = option_map (λ v. v.items) l.kept;
     } };
 
     ghost invariant = { λ l. l.turns ≤ length l.items.value.items + 1 };
@@ -61,6 +65,7 @@ impl LoopState {
             depth,
             recursive,
             stream,
+            kept: None,
         }
     }
 
@@ -96,6 +101,37 @@ impl LoopState {
         } else {
             0
         }
+    }
+
+    /// Whether these arguments differ from those that it keeps, or it keeps none; then it keeps these. Fails by OutOfMemory alone, and then it stays as it was.
+    pub fn changed(&mut self, alloc: Global, args: &[Value]) -> Result<bool, Error>
+        ensures ok { IfOk result (λ changed. changed ≡ is_changed self.old.kept args.now) }
+        ensures now { OnOk result (self.new ≡ keeping args.now self.old) }
+        ensures kind { IfErr result (λ e. e ≡ ErrorKind.OutOfMemory ∷ []) }
+        ensures err { OnErr result (self.new ≡ self.old) }
+    {
+        if let Some(before) = &self.kept {
+            if same_items(before.as_slice(), args) {
+                return Ok(false);
+            }
+        }
+        let mut kept = Vec::new(alloc);
+        share_all(args, &mut kept)?;
+        self.kept = Some(kept);
+        Ok(true)
+    }
+
+    /// The argument whose turn it is at its item, from the first again behind the last; undefined before the first item, and where there is no argument. Fails by OutOfMemory alone.
+    pub fn cycle(&self, args: &[Value]) -> Result<Value, Error>
+        ensures { OkOrOutOfMemory result (λ v. v ≡ cycled (place_of self.now.turns) args.now) }
+    {
+        let Some(place) = self.turns.checked_sub(1) else {
+            return Ok(Value::undefined());
+        };
+        if args.is_empty() {
+            return Ok(Value::undefined());
+        }
+        args[place % args.len()].share()
     }
 
     /// Where it stands.

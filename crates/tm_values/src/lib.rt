@@ -15,7 +15,7 @@ pub use error::{Error, ErrorKind};
 pub use escape::AutoEscape;
 pub use macros::Macro;
 pub use map::{ValueMap, put_law};
-pub use order::order_law;
+pub use order::{order_law, same_items};
 pub use records::{LoopPosition, NoRecords, Records, find_loop, find_namespace};
 pub use undefined::{UndefinedBehavior, UndefinedUse};
 pub use value::{Node, Value};

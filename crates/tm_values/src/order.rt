@@ -3,7 +3,7 @@ ghost use Rattle.std.specs.Cmp.{IsTotalOrder};
 ghost use Rattle.std.specs.Prelude.{◌≡◌, Bool, false};
 ghost use Rattle.tm_values.specs.Order.{val_cmp, vals_cmp, pairs_cmp, macro_against, record_cmp, function_in, state_in, record_in};
 ghost use Rattle.std.specs.Ordering.{eq_by_cmp, is_eq};
-ghost use Rattle.tm_values.specs.Val.{Val, text, boolean, number, whole_of, vals_of, pairs_of};
+ghost use Rattle.tm_values.specs.Val.{Val, text, list, boolean, number, whole_of, vals_of, pairs_of};
 
 use crate::macros::Macro;
 use crate::value::{Node, Value};
@@ -87,6 +87,13 @@ fn compare_macro(left: &Macro, right: &Value) -> Ordering
         Node::Macro(declared) => left.compare(declared),
         _ => Ordering::Equal,
     }
+}
+
+/// Whether there are as many values on both sides, each equal to the other side's.
+pub fn same_items(left: &[Value], right: &[Value]) -> bool
+    ensures { result ≡ is_eq (val_cmp (list (vals_of left.now)) (list (vals_of right.now))) }
+{
+    compare_items(left, right) == Ordering::Equal
 }
 
 #[cycle(compare)]

@@ -1,0 +1,9 @@
+use Rattle.std.proofs.Common.{false, refl, sym, ap, ◌∙◌}
+use Rattle.tm_parser.specs.Statements as spec
+use Rattle.tm_syntax.specs.declared.tree.Argument.TheBlock.{hidden-the_row-Step-5 as row_of_steps}
+use Rattle.tm_parser.proofs.Calls.{is_call_of_chain}
+use Rattle.tm_parser.proofs.statements.is_call.Goals as goal
+
+pub returns-in-Chain : goal.returns-in-Chain
+returns-in-Chain c =
+    rw c.in-Chain.is (c.ends_in_method.ensures ∙ ap (λ ss. spec.last_is_method false (row_of_steps ss)) c.as_slice.ensures ∙ sym (is_call_of_chain _ _))
