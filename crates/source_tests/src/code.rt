@@ -55,6 +55,7 @@ fn word(instruction: &Instruction) -> &'static str {
         Instruction::JumpIfFalseOrPop(_) => "and:",
         Instruction::JumpIfTrueOrPop(_) => "or:",
         Instruction::CallFunction(_, _) => "call:",
+        Instruction::CallMethod(_, _) => "method:",
         Instruction::CallBlock(_) => "block:",
         Instruction::StoreLocal(_) => "store:",
         Instruction::UnpackList(_) => "unpack:",
@@ -118,6 +119,7 @@ fn detail(instruction: &Instruction) -> &str {
         Instruction::Lookup(name)
         | Instruction::GetAttr(name)
         | Instruction::CallFunction(name, _)
+        | Instruction::CallMethod(name, _)
         | Instruction::CallBlock(name)
         | Instruction::StoreLocal(name)
         | Instruction::SetAttr(name) => name.as_str(),
@@ -139,7 +141,7 @@ fn detail(instruction: &Instruction) -> &str {
 
 fn count(instruction: &Instruction) -> &'static str {
     match instruction {
-        Instruction::CallFunction(_, number) => numeral(*number),
+        Instruction::CallFunction(_, number) | Instruction::CallMethod(_, number) => numeral(*number),
         _ => "",
     }
 }

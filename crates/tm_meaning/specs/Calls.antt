@@ -129,12 +129,20 @@ of_loop (Some l) w f = f l
 abbrev pub record_at : World → ℕ → ℕ → Option Loop
 record_at w state n = if nat_eq w.id state then slice_get w.loops n else None
 
+-- whether the arguments of `changed` differ, which are kept then
+abbrev pub told_changed : ℕ → List Val → World → Loop → Asked
+told_changed n args w l = has (boolean (is_changed l.kept args)) (record w { loops = keeping_at n args w.loops })
+
+-- the argument of `cycle` whose turn it is
+abbrev pub told_turn : List Val → World → Loop → Asked
+told_turn args w l = has (cycled (place_of l.turns) args) w
+
 -- A loop has two methods: whether what it is called with changed, and the argument whose turn it is.
 abbrev pub loop_method : List ℕ → ℕ → ℕ → List Val → World → Asked
 loop_method x state n args w =
     if same_name x (codes "changed") then
-      of_loop (record_at w state n) w (λ l. has (boolean (is_changed l.kept args)) (record w { loops = keeping_at n args w.loops }))
-    else if same_name x (codes "cycle") then of_loop (record_at w state n) w (λ l. has (cycled (place_of l.turns) args) w)
+      of_loop (record_at w state n) w (told_changed n args w)
+    else if same_name x (codes "cycle") then of_loop (record_at w state n) w (told_turn args w)
     else refused (UnknownMethod ∷ []) w
 
 abbrev pub is_macro_attribute : List ℕ → Bool

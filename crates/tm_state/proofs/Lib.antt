@@ -1,3 +1,4 @@
 pub mod Blocks
 pub mod Members
 pub mod Turns
+mod Answered

@@ -1,5 +1,5 @@
 -- What a state's calls answer, beside what the definitions say.
-use Rattle.std.specs.Prelude.{◌≡◌, ◌≤◌, ℕ, List, Result, Ok, Err, false}
+use Rattle.std.specs.Prelude.{◌≡◌, ◌≤◌, ℕ, List, Option, Some, Bool, Result, Ok, Err, false}
 use Rattle.tm_values.specs.Chain.{ends_in_memory}
 use Rattle.tm_values.specs.declared.error.ErrorKind.{ErrorKind}
 use Rattle.tm_syntax.specs.Named.{put_each}
@@ -7,8 +7,8 @@ use Rattle.tm_values.specs.Val.{Val}
 use Rattle.tm_tables.specs.declared.callable.Called.{Called}
 use Rattle.tm_tables.specs.declared.callable.Called.TheVariants as called
 use Rattle.tm_tables.specs.Stated.{is_for_memory}
-use Rattle.tm_meaning.specs.World.{World, Res, Good, Bad}
-use Rattle.tm_meaning.specs.Calls.{Asked, has, refused, ask, replied, given_by}
+use Rattle.tm_meaning.specs.World.{World, Loop, Res, Good, Bad}
+use Rattle.tm_meaning.specs.Calls.{Asked, has, refused, ask, replied, given_by, is_changed}
 
 -- What every answer keeps, also where it is a halt.
 pub record Keeps (old new : World) : Type 0 where
@@ -26,3 +26,12 @@ abbrev pub Calls : Result Called (List ErrorKind) → Asked → List Val → Wor
 Calls (Ok (called.Answered answer)) asked args w = is_for_memory answer.reply ≡ false → asked ≡ replied answer.reply (record w { temps = put_each answer.temps w.temps })
 Calls (Ok (called.Language g)) asked args w = asked ≡ ask (given_by g args w) has
 Calls (Err chain) asked args w = ends_in_memory chain ≡ false → asked ≡ refused chain w
+
+-- What a call came to, but for want of memory: a value and the world behind it, or a fault.
+abbrev pub Comes : Result Val (List ErrorKind) → Asked → World → Type 0
+Comes (Ok v) asked w = asked ≡ has v w
+Comes (Err chain) asked w = ends_in_memory chain ≡ false → asked ≡ refused chain w
+
+-- A loop is there, and this tells whether these arguments differ from those that it keeps.
+abbrev pub IsChangedAt : Bool → List Val → Option Loop → Type 0
+IsChangedAt changed args found = (l : Loop) × (found ≡ Some l) × (changed ≡ is_changed l.kept args)

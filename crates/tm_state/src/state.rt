@@ -1,14 +1,14 @@
 //! The data of a state.
-ghost use Rattle.std.specs.Prelude.{◌≡◌, ◌+◌, ◌≤◌, ◌<◌, List, [], ◌∷◌, ◌++◌, Some, None, false, true, is_some, length, nat_lt, OnOk, OnErr, IfErr, IfOk, IfSome, MatchOption, MatchResult};
+ghost use Rattle.std.specs.Prelude.{◌≡◌, ◌+◌, ◌≤◌, ◌<◌, List, [], ◌∷◌, ◌++◌, Some, None, false, true, is_some, length, nat_lt, slice_get, OnOk, OnErr, IfErr, IfOk, IfSome, MatchOption, MatchResult};
 ghost use Rattle.tm_values.specs.Answer.{IsAnswer, OkOrOutOfMemory, IsLent};
 ghost use Rattle.tm_values.specs.Chain.{ends_in_memory};
 ghost use Rattle.tm_syntax.specs.Named.{find, put, put_each, texts_of};
 ghost use Rattle.tm_meaning.specs.World.{depth, with_escape, loop_depth, top_loop, top_mark, next_turn, turned_at, cleared, pop, store, set_member, with_member, make_namespace, emitted, records_of, fuel_levels, find_name, view_of, name_of, Good, Bad, block_of};
-ghost use Rattle.tm_meaning.specs.Calls.{enter_block, call_named, given_by, refused};
+ghost use Rattle.tm_meaning.specs.Calls.{enter_block, given_by, refused, of_loop, keeping_at, told_changed, told_turn};
 ghost use Rattle.tm_meaning.specs.Steps.{charge_of, pay};
 ghost use Rattle.tm_printing.specs.Emitted.{emitted_text};
 ghost use Rattle.tm_tables.specs.Scopes.{PushFails};
-ghost use Rattle.tm_state.specs.Answers.{Keeps, CanBeEmitted, Calls};
+ghost use Rattle.tm_state.specs.Answers.{Keeps, CanBeEmitted, Comes, IsChangedAt};
 ghost use Rattle.tm_state.specs.State.{looped, loop_record, exported, started, put_back, saved_of, runs_block, IsThere, scoped};
 
 use crate::saved::Saved;
@@ -186,6 +186,13 @@ impl<'env> StateData<'env> {
         self.context.exports(alloc)
     }
 
+    /// The state's id.
+    pub(crate) fn id(&self) -> u64
+        ensures { result ≡ self.now.id }
+    {
+        self.id
+    }
+
     /// Keeps values by name, one behind the other. Fails by OutOfMemory alone, and then only what is kept has changed.
     pub fn keep(&mut self, temps: Vec<(Name, Value)>) -> Result<(), Error>
         ensures ok { OnOk result (self.new.temps ≡ put_each temps.items self.old.temps) }
@@ -193,32 +200,6 @@ impl<'env> StateData<'env> {
         ensures rest { self.new ≡ record self.old { temps = self.new.temps } }
     {
         keep_each(&mut self.temps, temps)
-    }
-
-    /// What the function of a name answers to these arguments, or which one of the language it is. UnknownFunction where the name isn't found, InvalidOperation where its value can't be called or a context value on the way can't be known.
-    pub fn call<H: Host>(
-        &self,
-        alloc: Global,
-        host: &H,
-        name: &Name,
-        args: &[Value],
-    ) -> Result<Called, Error>
-        ensures { Calls result (call_named (H.meaning host.now) name.now args.now self.now)
-            args.now self.now }
-    {
-        let found = match self.lookup(host, name.as_str()) {
-            Ok(Some(value)) => value,
-            Ok(None) => return Err(Error::from(ErrorKind::UnknownFunction)),
-            Err(error) => return Err(error),
-        };
-        let Node::Function(number) = &found.node else {
-            return Err(Error::from(ErrorKind::InvalidOperation));
-        };
-        let view = self.view(host);
-        match host.call_function(alloc, *number, args, &view) {
-            Some(called) => Ok(called),
-            None => Err(Error::from(ErrorKind::InvalidOperation)),
-        }
     }
 
     /// What a function of the language gives for these arguments; a namespace's record then stands behind all others. Fails as `range`, `dict` and `namespace` do; then the state stays as it was.
@@ -404,6 +385,34 @@ impl<'env> StateData<'env> {
         }
     }
 
+    /// Whether these arguments differ from those that the loop of a number keeps, which they then replace. InvalidOperation where there is no such loop, OutOfMemory where there is no memory; then the state stays as it was.
+    pub(crate) fn loop_changed(
+        &mut self,
+        alloc: Global,
+        number: usize,
+        args: &[Value],
+    ) -> Result<Value, Error>
+        ensures called { Comes result (of_loop (slice_get self.old.loops number) self.old
+            (told_changed number args.now self.old)) self.new }
+        ensures rest { self.new ≡ record self.old { loops = self.new.loops } }
+    {
+        match changed_at(&mut self.loops, alloc, number, args) {
+            Ok(changed) => Ok(Value::boolean(changed)),
+            Err(error) => Err(error),
+        }
+    }
+
+    /// The argument whose turn it is at the item of the loop of a number. InvalidOperation where there is no such loop; OutOfMemory.
+    pub(crate) fn loop_cycle(&self, number: usize, args: &[Value]) -> Result<Value, Error>
+        ensures { Comes result (of_loop (slice_get self.now.loops number) self.now
+            (told_turn args.now self.now)) self.now }
+    {
+        match self.loops.get(number) {
+            Some(state) => state.cycle(args),
+            None => Err(Error::from(ErrorKind::InvalidOperation)),
+        }
+    }
+
     /// Asks the innermost scope's loop for its next item.
     pub fn next_turn(&mut self)
         ensures { self.new ≡ next_turn self.old }
@@ -541,6 +550,26 @@ fn turn_at(loops: &mut Vec<LoopState>, number: usize)
     if number < loops.len() {
         loops[number].turn();
     }
+}
+
+/// Whether these arguments differ from those that the loop of a number keeps, which they then replace. InvalidOperation where there is no such loop, OutOfMemory where there is no memory; then all stay as they were.
+fn changed_at(
+    loops: &mut Vec<LoopState>,
+    alloc: Global,
+    number: usize,
+    args: &[Value],
+) -> Result<bool, Error>
+    ensures ok { IfOk result (λ changed.
+        IsChangedAt changed args.now (slice_get loops.old.items number)) }
+    ensures now { OnOk result (loops.new.items ≡ keeping_at number args.now loops.old.items) }
+    ensures none { IfErr result (λ e. ends_in_memory e ≡ false →
+        (e ≡ ErrorKind.InvalidOperation ∷ []) × (slice_get loops.old.items number ≡ None)) }
+    ensures err { OnErr result (loops.new.items ≡ loops.old.items) }
+{
+    if number >= loops.len() {
+        return Err(Error::from(ErrorKind::InvalidOperation));
+    }
+    loops[number].changed(alloc, args)
 }
 
 /// Keeps values by name, one behind the other. Fails by OutOfMemory alone.

@@ -1,14 +1,12 @@
 -- What the machine's functions answer, beside what the definitions say.
-use Rattle.std.specs.Prelude.{◌≡◌, ◌+◌, ◌<◌, ◌≤◌, ◌^◌, ◌-◌, ◌*◌, ℕ, List, [], length, drop, Option, Result, Ok, Err, Bool, true, false}
+use Rattle.std.specs.Prelude.{◌≡◌, ◌+◌, ◌<◌, ◌≤◌, ◌^◌, ◌-◌, ◌*◌, ℕ, List, [], length, Option, Result, Ok, Err, Bool, true, false}
 use Rattle.std.specs.Io.KnownBytes.{Appends}
 use Rattle.tm_values.specs.Chain.{ends_in_memory}
 use Rattle.tm_values.specs.declared.error.ErrorKind.{ErrorKind}
 use Rattle.tm_syntax.specs.declared.instruction.Instruction.{Instruction}
-use Rattle.tm_meaning.specs.World.{World, Host, Res, Good, Bad, Stated, depth}
-use Rattle.tm_syntax.specs.Named.{put_each}
-use Rattle.tm_meaning.specs.declared.function.GlobalFunction.{GlobalFunction}
-use Rattle.tm_meaning.specs.Calls.{Asked, has, refused, ask, replied, given_by, whole, of_block}
-use Rattle.tm_meaning.specs.Machine.{Activation, Capture, Config, End, Finished, Failed, Stuck, Next, More, Over, Nest, Program, base_of, start, asked, take_n}
+use Rattle.tm_meaning.specs.World.{World, Host, Res, Good, Bad, depth}
+use Rattle.tm_meaning.specs.Calls.{whole, of_block}
+use Rattle.tm_meaning.specs.Machine.{Activation, Capture, Config, End, Finished, Failed, Stuck, Next, More, Over, Nest, Program, base_of, start}
 use Rattle.tm_meaning.specs.Instructions.{jump_if_true_or_pop_of, jump_if_false_or_pop_of}
 use Rattle.tm_meaning.specs.Steps.{Reaches, final}
 use Rattle.tm_meaning.specs.declared.base.Base.{Base}
@@ -171,11 +169,3 @@ CanGoOn run = run.place < 2 ^ 64 - 1
 abbrev pub jump_or_pop_of : Host → Bool → ℕ → Config → Next
 jump_or_pop_of host true = jump_if_true_or_pop_of host
 jump_or_pop_of host false = jump_if_false_or_pop_of host
-
--- An answer to so many operands: what it keeps is kept, and its value replaces them.
-abbrev pub answer_of : Stated → ℕ → Config → Next
-answer_of answer n c = asked c (drop n c.run.operands) (replied answer.reply (record c.world { temps = put_each answer.temps c.world.temps }))
-
--- so many operands are replaced by what a function of the language gives for them
-abbrev pub language_call_of : GlobalFunction → ℕ → Config → Next
-language_call_of g n c = take_n n c.run.operands c.world (λ args rest. asked c rest (ask (given_by g args c.world) has))

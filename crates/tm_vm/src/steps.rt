@@ -74,6 +74,9 @@ impl Machine<'_> {
             Instruction::CallFunction(name, count) => {
                 self.do_call_function(alloc, host, name, *count)
             }
+            Instruction::CallMethod(name, count) => {
+                self.do_call_method(alloc, host, name, *count)
+            }
             Instruction::CallBlock(name) => self.do_call_block(alloc, host, base, name),
             Instruction::StoreLocal(name) => self.do_store_local(name),
             Instruction::UnpackList(count) => self.do_unpack_list(alloc, *count),

@@ -61,6 +61,9 @@ decreases-last_part l = 4096 * l.depth + 2
 abbrev pub decreases-slice : goal.decreases-slice
 decreases-slice l = 4096 * l.depth + 3
 
+abbrev pub decreases-named_step : goal.decreases-named_step
+decreases-named_step l = 4096 * l.depth + 5
+
 abbrev pub decreases-subscript : goal.decreases-subscript
 decreases-subscript l = 4096 * l.depth + 4
 

@@ -1,0 +1,186 @@
+//! Calls of functions and methods.
+ghost use Rattle.std.specs.Prelude.{◌≡◌, [], ◌∷◌};
+ghost use Rattle.std.specs.Option.{option_copied};
+ghost use Rattle.tm_values.specs.Answer.{IsAnswer, OkOrOutOfMemory};
+ghost use Rattle.tm_syntax.specs.Named.{put_each};
+ghost use Rattle.tm_meaning.specs.World.{records_of};
+ghost use Rattle.tm_meaning.specs.Calls.{call_named, call_value, call_method, loop_method, method_in, is_macro_attribute, replied};
+ghost use Rattle.tm_state.specs.Answers.{Calls, Comes};
+
+use crate::state::StateData;
+use std::alloc::Global;
+use tm_operations::attribute;
+use tm_syntax::Name;
+use tm_tables::{Answer, Called, Host, Reply};
+use tm_values::{Error, ErrorKind, Node, UndefinedBehavior, Value, find_namespace};
+
+impl StateData<'_> {
+    /// What the function of a name gives for these arguments; what it keeps is kept, also where it answers a fault. UnknownFunction where the name isn't found, InvalidOperation where its value can't be called or a context value on the way can't be known, and what the function refuses.
+    pub fn call<H: Host>(
+        &mut self,
+        alloc: Global,
+        host: &H,
+        name: &Name,
+        args: &[Value],
+    ) -> Result<Value, Error>
+        ensures called { Comes result
+            (call_named (H.meaning host.now) name.now args.now self.old) self.new }
+        ensures rest { self.new ≡ record self.old
+            { temps = self.new.temps; namespaces = self.new.namespaces } }
+    {
+        let found = match self.lookup(host, name.as_str()) {
+            Ok(Some(value)) => value,
+            Ok(None) => return Err(Error::from(ErrorKind::UnknownFunction)),
+            Err(error) => return Err(error),
+        };
+        self.call_value(alloc, host, &found, args)
+    }
+
+    /// What a value's method of a name gives for these arguments: a loop's `changed` and `cycle`, else what a map, keyword map, module or namespace has at the name, called. UnknownMethod where there is none, InvalidOperation where it can't be called or the record of a loop or a namespace isn't there, and what the function refuses.
+    pub fn call_method<H: Host>(
+        &mut self,
+        alloc: Global,
+        host: &H,
+        receiver: &Value,
+        name: &str,
+        args: &[Value],
+    ) -> Result<Value, Error>
+        ensures called { Comes result
+            (call_method (H.meaning host.now) name.now receiver.now args.now self.old) self.new }
+        ensures rest { self.new ≡ record self.old
+            { temps = self.new.temps; namespaces = self.new.namespaces; loops = self.new.loops } }
+    {
+        if let Node::Loop(state, number) = &receiver.node {
+            return self.call_loop_method(alloc, *state, *number, name, args);
+        }
+        match self.method(alloc, receiver, name) {
+            Ok(Some(found)) => self.call_value(alloc, host, &found, args),
+            Ok(None) => Err(Error::from(ErrorKind::UnknownMethod)),
+            Err(error) => Err(error),
+        }
+    }
+
+    /// What a loop's method of a name gives for these arguments.
+    fn call_loop_method(
+        &mut self,
+        alloc: Global,
+        state: u64,
+        number: usize,
+        name: &str,
+        args: &[Value],
+    ) -> Result<Value, Error>
+        ensures called { Comes result
+            (loop_method name.now state number args.now self.old) self.new }
+        ensures rest { self.new ≡ record self.old { loops = self.new.loops } }
+    {
+        let changed = name == "changed";
+        if !changed && name != "cycle" {
+            return Err(Error::from(ErrorKind::UnknownMethod));
+        }
+        if self.id() != state {
+            return Err(Error::from(ErrorKind::InvalidOperation));
+        }
+        if changed {
+            self.loop_changed(alloc, number, args)
+        } else {
+            self.loop_cycle(number, args)
+        }
+    }
+
+    /// What is called as a value's method of a name, which is no loop; none where it has none. InvalidOperation for a namespace whose record isn't there; OutOfMemory.
+    fn method(&self, alloc: Global, value: &Value, name: &str) -> Result<Option<Value>, Error>
+        ensures { IsAnswer result (method_in (records_of self.now) name.now value.now) }
+    {
+        match &value.node {
+            Node::Macro(_) => {
+                if !is_macro_attribute(name) {
+                    return Ok(None);
+                }
+                match attribute(alloc, value, name, self, UndefinedBehavior::Lenient) {
+                    Ok(found) => Ok(Some(found)),
+                    Err(error) => Err(error),
+                }
+            }
+            Node::Namespace(state, index) => match find_namespace(self, *state, *index) {
+                Some(pairs) => shared(pairs.member(name)),
+                None => Err(Error::from(ErrorKind::InvalidOperation)),
+            },
+            _ => shared(value.member(name)),
+        }
+    }
+
+    /// What a value gives for these arguments; of values functions alone can be called.
+    #[tactic(auto, using(crate::proofs::Answered::taken))]
+    fn call_value<H: Host>(
+        &mut self,
+        alloc: Global,
+        host: &H,
+        value: &Value,
+        args: &[Value],
+    ) -> Result<Value, Error>
+        ensures called { Comes result
+            (call_value (H.meaning host.now) value.now args.now self.old) self.new }
+        ensures rest { self.new ≡ record self.old
+            { temps = self.new.temps; namespaces = self.new.namespaces } }
+    {
+        match self.ask(alloc, host, value, args) {
+            Ok(Called::Answered(answer)) => self.take_answer(answer),
+            Ok(Called::Language(function)) => self.call_language(alloc, function, args),
+            Err(error) => Err(error),
+        }
+    }
+
+    /// What an object of the caller answers to these arguments, or which function of the language a value is. InvalidOperation where it can't be called.
+    fn ask<H: Host>(
+        &self,
+        alloc: Global,
+        host: &H,
+        value: &Value,
+        args: &[Value],
+    ) -> Result<Called, Error>
+        ensures { Calls result (call_value (H.meaning host.now) value.now args.now self.now)
+            args.now self.now }
+    {
+        let Node::Function(number) = &value.node else {
+            return Err(Error::from(ErrorKind::InvalidOperation));
+        };
+        let view = self.view(host);
+        match host.call_function(alloc, *number, args, &view) {
+            Some(called) => Ok(called),
+            None => Err(Error::from(ErrorKind::InvalidOperation)),
+        }
+    }
+
+    /// Keeps what an answer asks for, and gives its value or its fault.
+    fn take_answer(&mut self, answer: Answer) -> Result<Value, Error>
+        ensures called { Comes result (replied answer.reply
+            (record self.old { temps = put_each answer.temps self.old.temps })) self.new }
+        ensures rest { self.new ≡ record self.old { temps = self.new.temps } }
+    {
+        let Answer { temps, result } = answer;
+        if let Err(error) = self.keep(temps) {
+            return Err(error);
+        }
+        match result {
+            Reply::Value(value) => Ok(value),
+            Reply::Fault(error) => Err(error),
+        }
+    }
+}
+
+/// Whether a macro has an attribute of a name.
+fn is_macro_attribute(name: &str) -> bool
+    ensures { result ≡ is_macro_attribute name.now }
+{
+    name == "name" || name == "arguments" || name == "caller"
+}
+
+/// A second owner of a value, where there is one. Fails by OutOfMemory alone.
+fn shared(value: Option<&Value>) -> Result<Option<Value>, Error>
+    ensures { OkOrOutOfMemory result (λ copy. copy ≡ option_copied value.entry) }
+{
+    match value {
+        Some(value) => Ok(Some(value.share()?)),
+        None => Ok(None),
+    }
+}
