@@ -281,6 +281,34 @@ static ROWS: &[Row] = &[
         Ok(55),
     ),
     Row(
+        "{% for x in [1,1,2] %}{{ loop.changed(x) }} {% endfor %}",
+        "true false true ",
+        Ok(29),
+    ),
+    Row(
+        "{% for x in [1,1,2] %}{{ loop.cycle(\"x\", \"y\") }}{{ loop.cycle() }}{% endfor %}",
+        "xyx",
+        Ok(38),
+    ),
+    Row(
+        "{% for x in [1,true] %}{% do loop.changed(x, a=x) %}{{ loop.changed(x, a=1) }}{% endfor %}",
+        "falsefalse",
+        Ok(36),
+    ),
+    Row(
+        "{% for x in [1] %}{{ loop.index() }}{% endfor %}",
+        "",
+        Err(ErrorKind::UnknownMethod),
+    ),
+    Row("{{ [].nope() }}", "", Err(ErrorKind::UnknownMethod)),
+    Row("{{ nope.m(1) }}", "", Err(ErrorKind::UnknownMethod)),
+    Row("{{ {\"f\": f}.f(0, 1) }}", "1", Ok(7)),
+    Row(
+        "{{ {\"f\": 1}.f() }}",
+        "",
+        Err(ErrorKind::InvalidOperation),
+    ),
+    Row(
         "{% for x in [1] if false %}a{% else %}E{% endfor %}",
         "E",
         Ok(13),

@@ -1,4 +1,6 @@
 //! The calls.
+ghost use Rattle.std.specs.Prelude.{◌∷◌, drop};
+ghost use Rattle.tm_meaning.specs.Machine.{goes};
 ghost use Rattle.tm_meaning.specs.Instructions.{call_function_of, call_method_of, call_block_of};
 ghost use Rattle.tm_vm.specs.Answers.{CanGoOn, Silently, Needs};
 
@@ -9,7 +11,7 @@ use tm_meaning::Base;
 use tm_parts::Halt;
 use tm_syntax::Name;
 use tm_tables::Host;
-use tm_values::{Error, ErrorKind};
+use tm_values::{Error, ErrorKind, Value};
 
 impl Machine<'_> {
     /// Replaces so many values by what the function of a name answers to them.
@@ -27,12 +29,10 @@ impl Machine<'_> {
         let Some(args) = self.run.operands.args(count) else {
             return Err(Halt::Stuck);
         };
-        let value = match self.state.call(alloc, host, name, args) {
-            Ok(value) => value,
-            Err(error) => return Err(Halt::Fault(error)),
-        };
-        self.run.operands.remove(count);
-        self.push_next(value)
+        match self.state.call(alloc, host, name, args) {
+            Ok(value) => self.replace(count, value),
+            Err(fault) => Err(Halt::Fault(fault)),
+        }
     }
 
     /// Replaces so many values by what the first one's method of a name answers to the others.
@@ -53,10 +53,18 @@ impl Machine<'_> {
         let Some((receiver, args)) = values.split_first() else {
             return Err(Halt::Fault(Error::from(ErrorKind::InvalidOperation)));
         };
-        let value = match self.state.call_method(alloc, host, receiver, name.as_str(), args) {
-            Ok(value) => value,
-            Err(error) => return Err(Halt::Fault(error)),
-        };
+        match self.state.call_method(alloc, host, receiver, name.as_str(), args) {
+            Ok(value) => self.replace(count, value),
+            Err(error) => Err(Halt::Fault(error)),
+        }
+    }
+
+    /// Replaces so many values by one.
+    fn replace(&mut self, count: usize, value: Value) -> Result<Flow, Halt>
+        requires { CanGoOn self.old.run }
+        ensures { Silently (goes (value ∷ drop count self.old.run.operands) self.old.world self.old)
+            self.old self.new result }
+    {
         self.run.operands.remove(count);
         self.push_next(value)
     }
