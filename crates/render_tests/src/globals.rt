@@ -37,12 +37,10 @@ impl Callable for Gives {
 type Globals = EnvironmentOf<'static, Objects<Gives>>;
 
 /// Two functions, and one global more, which stands before them in the order of names.
-fn with_globals(alloc: Global) -> Result<Globals, Error> {
-    let mut environment = Globals::new(alloc)?;
+fn add_globals(environment: &mut Globals) -> Result<(), Error> {
     environment.add_function("one", Gives::One)?;
     environment.add_function("two", Gives::Two)?;
-    environment.add_global("g", Value::number(1))?;
-    Ok(environment)
+    environment.add_global("g", Value::number(1))
 }
 
 /// Whether a source writes this over a context value.
@@ -108,17 +106,23 @@ fn hears_removed(environment: &Globals) -> Result<bool, Error> {
     )
 }
 
-#[test]
-fn globals_are_heard(rt: HostRuntime) -> Result<(), Fail> {
-    let mut environment = with_globals(rt.alloc())?;
-    assert!(rt; hears_globals(&environment, rt.alloc())?);
+/// Adds globals, hears them, replaces one and removes some.
+fn expect_globals(rt: &impl Abort, alloc: Global, environment: &mut Globals) -> Result<(), Fail> {
+    add_globals(environment)?;
+    assert!(rt; hears_globals(environment, alloc)?);
     environment.add_global("g", Value::number(2))?;
-    assert!(rt; hears_replaced(&environment));
+    assert!(rt; hears_replaced(environment));
     environment.remove_global("g");
     environment.remove_global("one");
     environment.remove_global("nope");
-    assert!(rt; hears_removed(&environment)?);
+    assert!(rt; hears_removed(environment)?);
     Ok(())
+}
+
+#[test]
+fn globals_are_heard(rt: HostRuntime) -> Result<(), Fail> {
+    let mut environment = Globals::new(rt.alloc())?;
+    expect_globals(&rt, rt.alloc(), &mut environment)
 }
 
 /// Whether no global is there, nor a function of the language.

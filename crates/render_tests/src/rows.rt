@@ -80,13 +80,11 @@ static FUNCTIONS: &[(&str, Party)] = &[
 ];
 
 /// The environment of the rows.
-fn row_environment(alloc: Global) -> Result<Rows, Error> {
-    let mut environment = Rows::new(alloc)?;
-    environment.set_fuel(Some(1000));
+fn add_functions(environment: &mut Rows) -> Result<(), Error> {
     for &(name, party) in FUNCTIONS {
         environment.add_function(name, party)?;
     }
-    Ok(environment)
+    Ok(())
 }
 
 /// A loop under a condition, whose render takes 29 charges.
@@ -423,16 +421,24 @@ fn expect_rows(rt: &impl Abort, alloc: Global, environment: &Rows) -> Result<(),
     Ok(())
 }
 
+/// Adds the functions of the rows to an environment, renders them, and sees what states keep and where fuel ends.
+fn expect_all(rt: &impl Abort, alloc: Global, environment: &mut Rows) -> Result<(), Fail> {
+    environment.set_fuel(Some(1000));
+    add_functions(environment)?;
+    expect_rows(rt, alloc, environment)?;
+    assert!(rt; keeps_apart(environment)?);
+    assert!(rt; exports(environment)?);
+    assert!(rt; numbers_behind_the_language(environment)?);
+    environment.set_fuel(Some(29));
+    assert!(rt; charges_of_chosen(alloc, environment) == Err(ErrorKind::OutOfFuel));
+    environment.set_fuel(Some(30));
+    assert!(rt; charges_of_chosen(alloc, environment) == Ok(29));
+    Ok(())
+}
+
+// The test lends its environment, which is dropped in one place: each way out that drops one is dear to prove.
 #[test]
 fn rows_render(rt: HostRuntime) -> Result<(), Fail> {
-    let mut environment = row_environment(rt.alloc())?;
-    expect_rows(&rt, rt.alloc(), &environment)?;
-    assert!(rt; keeps_apart(&environment)?);
-    assert!(rt; exports(&environment)?);
-    assert!(rt; numbers_behind_the_language(&environment)?);
-    environment.set_fuel(Some(29));
-    assert!(rt; charges_of_chosen(rt.alloc(), &environment) == Err(ErrorKind::OutOfFuel));
-    environment.set_fuel(Some(30));
-    assert!(rt; charges_of_chosen(rt.alloc(), &environment) == Ok(29));
-    Ok(())
+    let mut environment = Rows::new(rt.alloc())?;
+    expect_all(&rt, rt.alloc(), &mut environment)
 }

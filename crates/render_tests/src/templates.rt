@@ -35,21 +35,29 @@ fn expect_texts(
     Ok(())
 }
 
-#[test]
-fn sources_render(rt: HostRuntime) -> Result<(), Fail> {
-    let alloc = rt.alloc();
-    let mut environment = Environment::new(alloc)?;
-    let yes = Box::new(alloc, Yes)?;
-    environment.add_function("yes", yes)?;
+/// Adds a function in a box, and renders sources.
+fn expect_sources(
+    rt: &impl Abort,
+    alloc: Global,
+    environment: &mut Environment<'static>,
+) -> Result<(), Fail> {
+    environment.add_function("yes", Box::new(alloc, Yes)?)?;
     expect_texts(
-        &rt,
-        &environment,
+        rt,
+        environment,
         &[
             ("Hello {{ name }}!", "Hello !"),
             ("{% if yes() %}x{% else %}y{% endif %}", "x"),
             ("{% block b %}x{{ a }}{% endblock %}y", "xy"),
         ],
     )
+}
+
+#[test]
+fn sources_render(rt: HostRuntime) -> Result<(), Fail> {
+    let alloc = rt.alloc();
+    let mut environment = Environment::new(alloc)?;
+    expect_sources(&rt, alloc, &mut environment)
 }
 
 /// An environment without boxes.
@@ -85,12 +93,16 @@ fn text_at_once(environment: &Unboxed<'static>) -> Result<String, Error> {
 
 /// An environment with a template whose source is the caller's, and one with a source of its own.
 fn with_templates(alloc: Global) -> Result<Unboxed<'static>, Error> {
-    let own = String::from_str(alloc, "x")?;
     let mut environment = Unboxed::new(alloc)?;
+    add_templates(&mut environment, alloc)?;
+    Ok(environment)
+}
+
+/// Adds both to an environment with fuel.
+fn add_templates(environment: &mut Unboxed<'static>, alloc: Global) -> Result<(), Error> {
     environment.set_fuel(Some(100));
     environment.add_template("page", "Hello {{ name }}!")?;
-    environment.add_template_owned("own", own)?;
-    Ok(environment)
+    environment.add_template_owned("own", String::from_str(alloc, "x")?)
 }
 
 /// Whether the templates render, and one that isn't kept.
@@ -215,19 +227,27 @@ fn refuses(environment: &Unboxed<'static>, behavior: usize) -> bool {
     true
 }
 
+/// Hears undefined values under each behavior, and then other delimiters.
+fn expect_settings(
+    rt: &impl Abort,
+    alloc: Global,
+    environment: &mut Unboxed<'static>,
+) -> Result<(), Fail> {
+    assert!(rt; refuses(environment, 0));
+    environment.set_undefined_behavior(UndefinedBehavior::Chainable);
+    assert!(rt; refuses(environment, 1));
+    environment.set_undefined_behavior(UndefinedBehavior::SemiStrict);
+    assert!(rt; refuses(environment, 2));
+    environment.set_undefined_behavior(UndefinedBehavior::Strict);
+    assert!(rt; refuses(environment, 3));
+    environment.set_syntax(angles(alloc)?);
+    let source = "a\n  <% if 1 %>\n b<%# c %>\n<% endif %>\n${ 2 }";
+    assert!(rt; writes(environment, "p", source, "a\n b2"));
+    Ok(())
+}
+
 #[test]
 fn settings_are_heard(rt: HostRuntime) -> Result<(), Fail> {
-    let syntax = angles(rt.alloc())?;
     let mut environment = Unboxed::new(rt.alloc())?;
-    assert!(rt; refuses(&environment, 0));
-    environment.set_undefined_behavior(UndefinedBehavior::Chainable);
-    assert!(rt; refuses(&environment, 1));
-    environment.set_undefined_behavior(UndefinedBehavior::SemiStrict);
-    assert!(rt; refuses(&environment, 2));
-    environment.set_undefined_behavior(UndefinedBehavior::Strict);
-    assert!(rt; refuses(&environment, 3));
-    environment.set_syntax(syntax);
-    let source = "a\n  <% if 1 %>\n b<%# c %>\n<% endif %>\n${ 2 }";
-    assert!(rt; writes(&environment, "p", source, "a\n b2"));
-    Ok(())
+    expect_settings(&rt, rt.alloc(), &mut environment)
 }
