@@ -23,9 +23,9 @@ use Rattle.tm_values.specs.Order.{val_cmp}
 use Rattle.tm_values.specs.Records.{RecordData}
 use Rattle.tm_values.specs.Val.{Val, undefined, none, boolean, number, text, list, map as maps, keywords, exports, function, macro, loop, namespace, text_in}
 use Rattle.tm_values.specs.declared.error.ErrorKind.{ErrorKind}
-use Rattle.tm_meaning.specs.World.{Bindings, Scope, View, context_member, in_frames, in_scope, marked_loop, or_else, or_on, or_on_answer, read_closure}
+use Rattle.tm_meaning.specs.World.{Bindings, Scope, View, context_member, find_name, in_frames, in_scope, marked_loop, or_else, or_on, or_on_answer, read_closure}
 use Rattle.tm_meaning.specs.declared.mark.LoopMark.{LoopMark}
-use Rattle.tm_tables.specs.Known.{AddsFound, AreFoundIn, NamingFails, has_text, one_lacks_record, is_among, is_found, lacks_record, or_else_found}
+use Rattle.tm_tables.specs.Known.{AddsFound, AreFound, AreFoundIn, AreKnownIn, NamingFails, has_text, one_lacks_record, is_among, is_found, lacks_record, or_else_found}
 
 -- ---------------------------------------------------------------- names in order, each once
 abbrev pub order : Bor (List ℕ) → Bor (List ℕ) → Ordering
@@ -226,3 +226,9 @@ pub known-behind : (o : Answer (Option Val)) (x : List ℕ) (globals : Bindings)
 known-behind o x globals names h =
     globals-behind o (find_named x globals) ∙ ap (λ (a : Answer Bool). found_or a (is_some (find_named x globals))) h
     ∙ ap (λ b. Ok (is_among x names || b)) (is_some-lookup (is_at (name_cmp x)) globals)
+
+-- what is known in each view is known in this one
+pub known-in : (view : View) (frames : List Scope) (globals : Bindings) (names : List (List ℕ)) → view.frames ≡ frames → view.globals ≡ globals → AreKnownIn view.records frames globals names → AreFound (find_name view) names
+known-in view frames globals names here there known x =
+    ap (λ (scopes : List Scope). is_found (find_name (record view { frames = scopes }) x)) here
+    ∙ ap (λ (bindings : Bindings). is_found (find_name (record view { frames = frames; globals = bindings }) x)) there ∙ known view refl x
