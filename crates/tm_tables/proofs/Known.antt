@@ -1,5 +1,5 @@
 -- Names that stand among others, and what look-ups find of them.
-use Rattle.std.proofs.Common.{◌≡◌, ◌<◌, ◌+◌, ◌||◌, ◌&&◌, ℕ, List, [], ◌∷◌, ◌++◌, length, get_or, take, reverse, Bool, true, false, cond, Bor, Ordering, Option, Some, None, Ok, Err, is_ok, is_some, option_map, true≢false, inl, inr, Result, refl, sym, ap, subst, arith, ◌∙◌}
+use Rattle.std.proofs.Common.{◌≡◌, ◌<◌, ◌+◌, ◌||◌, ◌&&◌, ℕ, List, [], ◌∷◌, ◌++◌, length, get_or, take, reverse, Bool, true, false, cond, Bor, Ordering, Option, Some, None, Ok, Err, is_ok, is_some, option_map, true≢false, inl, inr, Result, refl, sym, ap, subst, ◌∙◌}
 use Rattle.std.proofs.lemmas.List.{reverse-append, take_more}
 use Rattle.std.proofs.lemmas.List.Folds.{list_any-append, list_any_at}
 use Rattle.std.proofs.lemmas.List.Sorted.{list_any-IsPermutation, IsPermutation-reverse}
@@ -220,12 +220,15 @@ globals-behind (Ok (Some v)) global = refl
 globals-behind (Ok None) global = refl
 globals-behind (Err chain) global = refl
 
--- what a look-up finds in the scopes or behind them
-pub known-behind : (o : Answer (Option Val)) (x : List ℕ) (globals : Bindings) (names : List (List ℕ)) → is_found o ≡ Ok (is_among x names) →
-    is_found (or_on_answer o (λ _. Ok (find_named x globals))) ≡ Ok (is_among x names || is_among x (keys_of globals))
-known-behind o x globals names h =
+-- What a look-up finds in the scopes, or behind them, are the names of both in their order.
+pub known-behind : (o : Answer (Option Val)) (x : List ℕ) (globals : Bindings) (scoped global joined ordered : List (Bor (List ℕ))) → is_found o ≡ Ok (is_among x (texts_of scoped)) →
+    texts_of global ≡ keys_of globals → joined ≡ scoped ++ global → is_among x (texts_of ordered) ≡ is_among x (texts_of joined) →
+    is_found (or_on_answer o (λ _. Ok (find_named x globals))) ≡ Ok (is_among x (texts_of ordered))
+known-behind o x globals scoped global joined ordered h of_globals both same =
+    let all : is_among x (texts_of ordered) ≡ (is_among x (texts_of scoped) || is_among x (keys_of globals)) =
+        same ∙ ap (λ names. is_among x (texts_of names)) both ∙ among-both x scoped global ∙ ap (λ names. is_among x (texts_of scoped) || is_among x names) of_globals in
     globals-behind o (find_named x globals) ∙ ap (λ (a : Answer Bool). found_or a (is_some (find_named x globals))) h
-    ∙ ap (λ b. Ok (is_among x names || b)) (is_some-lookup (is_at (name_cmp x)) globals)
+    ∙ ap (λ b. Ok (is_among x (texts_of scoped) || b)) (is_some-lookup (is_at (name_cmp x)) globals) ∙ ap (λ b. Ok b) (sym all)
 
 -- what is known in each view is known in this one
 pub known-in : (view : View) (frames : List Scope) (globals : Bindings) (names : List (List ℕ)) → view.frames ≡ frames → view.globals ≡ globals → AreKnownIn view.records frames globals names → AreFound (find_name view) names

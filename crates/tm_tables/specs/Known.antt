@@ -34,7 +34,7 @@ AreFoundIn records scopes names = (view : View) → view.records ≡ records →
 abbrev pub AreKnownIn : RecordData → List Scope → Bindings → List (List ℕ) → Type 0
 AreKnownIn records scopes globals names = (view : View) → view.records ≡ records → AreFound (find_name (record view { frames = scopes; globals = globals })) names
 
--- an answer, or true where other things give it
+-- whether a name was there before, or a look-up finds it
 abbrev pub or_else_found : Bool → Answer Bool → Answer Bool
 or_else_found before (Ok found) = Ok (before || found)
 or_else_found before (Err chain) = Err chain

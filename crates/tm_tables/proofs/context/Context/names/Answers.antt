@@ -1,6 +1,6 @@
-use Rattle.std.proofs.Common.{◌≡◌, List, ap, sym, ◌∙◌, subst, take, reverse}
+use Rattle.std.proofs.Common.{◌≡◌, ap, ◌∙◌, subst, take, reverse}
 use Rattle.std.proofs.lemmas.List.{take_all}
-use Rattle.tm_meaning.specs.World.{Scope, Scopes}
+use Rattle.tm_meaning.specs.World.{Scopes}
 use Rattle.tm_syntax.specs.Named.{texts_of}
 use Rattle.tm_tables.specs.Known.{AreFoundIn}
 use Rattle.tm_tables.proofs.Known.{entered-more, passed, fails-among}

@@ -1,9 +1,9 @@
-use Rattle.std.proofs.Common.{◌≡◌, ◌||◌, ◌&&◌, ℕ, List, Bool, true, false, is_some, Ok, refl, sym, ap, ◌∙◌}
+use Rattle.std.proofs.Common.{◌≡◌, ◌||◌, ◌&&◌, Bool, is_some, Ok, sym, ap, ◌∙◌}
 use Rattle.std.specs.Map.{keys_of}
 use Rattle.std.specs.Prelude.{codes}
 use Rattle.tm_syntax.specs.Named.{same_name, texts_of}
-use Rattle.tm_meaning.specs.World.{Scope, View, marked_loop}
-use Rattle.tm_tables.specs.Known.{has_text, is_among, or_else_found}
+use Rattle.tm_meaning.specs.World.{Scope, marked_loop}
+use Rattle.tm_tables.specs.Known.{has_text, is_among}
 use Rattle.tm_tables.proofs.Known.{among-both, among-one, loop-found, or-false, scope-adds}
 use Rattle.tm_tables.proofs.context.Frame.add_names.Goals as goal
 use Rattle.tm_tables.proofs.context.Frame.add_names.Goals.{then-is_some+in_ok-push, else-is_some}
