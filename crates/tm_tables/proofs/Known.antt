@@ -161,11 +161,11 @@ pub scope-adds : (view : View) (s : Scope) (x : List ℕ) (pairs : List (Val × 
 scope-adds view s x pairs before e member m =
     let closure : is_some (read_closure view.closures s.reads x) ≡ false = rw (sym e) refl in
     let own : is_some (in_scope view x s) ≡ (is_among x (keys_of s.locals) || (is_some (marked_loop view.records.state s.mark x) || false)) =
-        or-else (find_named x s.locals) (or_else (marked_loop view.records.state s.mark x) (read_closure view.closures s.reads x))
-        ∙ ap (λ b. b || is_some (or_else (marked_loop view.records.state s.mark x) (read_closure view.closures s.reads x))) (is_some-lookup (is_at (name_cmp x)) s.locals)
-        ∙ ap (λ b. is_among x (keys_of s.locals) || b) (or-else (marked_loop view.records.state s.mark x) (read_closure view.closures s.reads x) ∙ ap (λ b. is_some (marked_loop view.records.state s.mark x) || b) closure) in
+    or-else (find_named x s.locals) (or_else (marked_loop view.records.state s.mark x) (read_closure view.closures s.reads x))
+    ∙ ap (λ b. b || is_some (or_else (marked_loop view.records.state s.mark x) (read_closure view.closures s.reads x))) (is_some-lookup (is_at (name_cmp x)) s.locals)
+    ∙ ap (λ b. is_among x (keys_of s.locals) || b) (or-else (marked_loop view.records.state s.mark x) (read_closure view.closures s.reads x) ∙ ap (λ b. is_some (marked_loop view.records.state s.mark x) || b) closure) in
     let found : is_found (in_frames view x (s ∷ [])) ≡ Ok (is_some (in_scope view x s) || is_some (find (text x false) pairs)) =
-        ap (λ (a : Answer (Option Val)). is_found (or_on (in_scope view x s) (λ _. or_on_answer a (λ _. Ok None)))) member ∙ own-found (in_scope view x s) (find (text x false) pairs) in
+    ap (λ (a : Answer (Option Val)). is_found (or_on (in_scope view x s) (λ _. or_on_answer a (λ _. Ok None)))) member ∙ own-found (in_scope view x s) (find (text x false) pairs) in
     ap (or_else_found before) (found ∙ ap (λ b. Ok (b || is_some (find (text x false) pairs))) own ∙ ap (λ b. Ok ((is_among x (keys_of s.locals) || (is_some (marked_loop view.records.state s.mark x) || false)) || b)) (sym (texts-found x pairs m)))
     ∙ ap (λ b. Ok b) (regrouped before (is_among x (keys_of s.locals)) (is_some (marked_loop view.records.state s.mark x)) (has_text x pairs))
 
@@ -226,7 +226,7 @@ pub known-behind : (o : Answer (Option Val)) (x : List ℕ) (globals : Bindings)
     is_found (or_on_answer o (λ _. Ok (find_named x globals))) ≡ Ok (is_among x (texts_of ordered))
 known-behind o x globals scoped global joined ordered h of_globals both same =
     let all : is_among x (texts_of ordered) ≡ (is_among x (texts_of scoped) || is_among x (keys_of globals)) =
-        same ∙ ap (λ names. is_among x (texts_of names)) both ∙ among-both x scoped global ∙ ap (λ names. is_among x (texts_of scoped) || is_among x names) of_globals in
+    same ∙ ap (λ names. is_among x (texts_of names)) both ∙ among-both x scoped global ∙ ap (λ names. is_among x (texts_of scoped) || is_among x names) of_globals in
     globals-behind o (find_named x globals) ∙ ap (λ (a : Answer Bool). found_or a (is_some (find_named x globals))) h
     ∙ ap (λ b. Ok (is_among x (texts_of scoped) || b)) (is_some-lookup (is_at (name_cmp x)) globals) ∙ ap (λ b. Ok b) (sym all)
 

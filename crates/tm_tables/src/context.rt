@@ -333,11 +333,7 @@ impl Context {
     }
 
     /// The names that stand for something in the scopes. InvalidOperation where a context value is a namespace whose record isn't there; OutOfMemory.
-    fn names<'a, R: Records>(
-        &'a self,
-        alloc: Global,
-        records: &'a R,
-    ) -> Result<Vec<&'a str>, Error>
+    fn names<'a, R: Records>(&'a self, alloc: Global, records: &'a R) -> Result<Vec<&'a str>, Error>
         ensures found { IfOk result (λ names. AreFoundIn (R.records records.now)
             self.now.frames (texts_of names.items)) }
         ensures err { IfErr result (NamingFails (R.records records.now) self.now.frames) }

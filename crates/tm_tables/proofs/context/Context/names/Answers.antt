@@ -14,7 +14,7 @@ loop-frame-preserved g c =
 pub returns : goal.returns
 returns g c =
     let all : reverse (take c.loop-frame.frame-index c.deref-frame-items.result.now) ≡ c.args.self.now.frames =
-        ap reverse (take_all c.loop-frame.frame-index c.deref-frame-items.result.now c.loop-frame-test.false ∙ c.deref-frame-items.ensures.value) ∙ ap (λ (scopes : Scopes). scopes.frames) c.self.view_is in
+    ap reverse (take_all c.loop-frame.frame-index c.deref-frame-items.result.now c.loop-frame-test.false ∙ c.deref-frame-items.ensures.value) ∙ ap (λ (scopes : Scopes). scopes.frames) c.self.view_is in
     record { found = subst (λ scopes. AreFoundIn (g.R.Records.records c.args.records.now) scopes (texts_of c.loop-frame.names.items)) all c.loop-frame.invariant; err = tt }
 
 pub returns-in_err-add_names-clause-err : goal.returns-in_err-add_names-clause-err
