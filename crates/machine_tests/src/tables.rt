@@ -7,11 +7,13 @@ ghost use Rattle.tm_tables.specs.Stated.{just, keeping};
 use std::alloc::Global;
 use std::test::Fail;
 use tm_compiler::NameMap;
+use tm_meaning::LoopMark;
+use tm_syntax::Name;
 use tm_tables::{
     Answer, Callable, Called, CompiledTemplate, Context, Frame, Objects, Parties, Source,
     TemplateConfig, View,
 };
-use tm_values::{AutoEscape, Error, UndefinedBehavior, Value};
+use tm_values::{AutoEscape, Error, NoRecords, UndefinedBehavior, Value};
 
 /// Keeps that it was called, and gives none.
 #[derive(Drop)]
@@ -70,5 +72,27 @@ fn sources_are_compiled(rt: HostRuntime) -> Result<(), Fail> {
     assert_eq!(rt; template.instructions().len(), 2);
     assert!(rt; template.block("b").is_some());
     assert!(rt; template.block("c").is_none());
+    Ok(())
+}
+
+/// Whether these names are known in a loop's scope over one that has `m`.
+fn knows_in_loop(alloc: Global, variable: bool, wanted: &[&str]) -> Result<bool, Error> {
+    let mut context = Context::new_with_frame(alloc, Frame::new(alloc, Value::undefined()))?;
+    context.store(Name::new(alloc, "m")?, Value::none())?;
+    let mark = LoopMark {
+        number: 0,
+        variable,
+    };
+    context.push_frame(Frame::of_loop(alloc, mark), 500)?;
+    let globals = NameMap::new(alloc);
+    let names = context.known_names(alloc, &NoRecords, &globals)?;
+    Ok(names.as_slice() == wanted)
+}
+
+#[test]
+fn a_loop_is_known(rt: HostRuntime) -> Result<(), Fail> {
+    let alloc = rt.alloc();
+    assert!(rt; knows_in_loop(alloc, true, &["loop", "m"])?);
+    assert!(rt; knows_in_loop(alloc, false, &["m"])?);
     Ok(())
 }

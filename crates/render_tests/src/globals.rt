@@ -157,3 +157,60 @@ fn a_state_keeps(rt: HostRuntime) -> Result<(), Fail> {
     assert!(rt; keeps_the_last(&environment)?);
     Ok(())
 }
+
+/// Whether a look-up finds these names behind a render, in this order.
+fn knows(
+    environment: &Globals,
+    source: &'static str,
+    context: Value,
+    wanted: &[&str],
+) -> Result<bool, Error> {
+    let template = environment.template_from_str(source)?;
+    let mut ids = StateIds::new();
+    let captured = template.render_captured_to(&mut ids, context, &mut NullWriter)?;
+    let names = captured.state().known_variables()?;
+    Ok(names.as_slice() == wanted)
+}
+
+/// A context value with 7 at `a`, at `c` and at a number.
+fn sevens(alloc: Global) -> Result<Value, Error> {
+    let mut map = ValueMap::new(alloc);
+    map.insert(Value::text(alloc, "c")?, Value::number(7))?;
+    map.insert(Value::number(3), Value::number(7))?;
+    map.insert(Value::text(alloc, "a")?, Value::number(7))?;
+    Value::from_map(alloc, map)
+}
+
+/// Whether the names of locals, of the context and of globals are known, each once.
+fn knows_all(environment: &Globals, alloc: Global) -> Result<bool, Error> {
+    let source = "{% set b = 1 %}{% set a = 1 %}{% set _b = 2 %}";
+    Ok(
+        knows(
+            environment,
+            source,
+            Value::undefined(),
+            &["_b", "a", "b", "dict", "namespace", "range"],
+        )? && knows(
+            environment,
+            source,
+            sevens(alloc)?,
+            &["_b", "a", "b", "c", "dict", "namespace", "range"],
+        )?,
+    )
+}
+
+/// Whether no names are told where the context is a namespace of another state.
+fn knows_no_other_state(environment: &Globals) -> bool {
+    match knows(environment, "", Value::namespace(9, 0), &[]) {
+        Ok(_) => false,
+        Err(error) => error.kind() == ErrorKind::InvalidOperation,
+    }
+}
+
+#[test]
+fn a_state_knows_its_names(rt: HostRuntime) -> Result<(), Fail> {
+    let environment = Globals::new(rt.alloc())?;
+    assert!(rt; knows_all(&environment, rt.alloc())?);
+    assert!(rt; knows_no_other_state(&environment));
+    Ok(())
+}

@@ -1,9 +1,10 @@
 //! States, and what a render leaves.
+ghost use Rattle.std.specs.List.Sorted.{IsStrictlySortedBy};
 ghost use Rattle.std.specs.Prelude.{◌≡◌, ◌+◌, [], ◌∷◌, Some, IfErr, IfOk, IfSome, OnErr, OnOk, string_bytes};
-ghost use Rattle.tm_syntax.specs.Named.{find};
+ghost use Rattle.tm_syntax.specs.Named.{find, name_cmp, texts_of};
 ghost use Rattle.tm_values.specs.Answer.{IsAnswer, IsLent, OkOrOutOfMemory};
-ghost use Rattle.tm_meaning.specs.World.{find_name, fuel_levels, name_of, view_of};
-ghost use Rattle.tm_syntax.specs.Named.{texts_of};
+ghost use Rattle.tm_meaning.specs.World.{find_name, fuel_levels, name_of, records_of, view_of};
+ghost use Rattle.tm_tables.specs.Known.{AreFound, NamingFails};
 ghost use Rattle.tm_state.specs.State.{exported};
 ghost use Rattle.template_machine.specs.Environment.{host_of};
 ghost use Rattle.template_machine.specs.Renders.{with_temp};
@@ -102,6 +103,20 @@ impl<'env, O: Parties> StateOf<'env, O> {
             (view_of (host_of O.functions self.now.template) self.now.world) name.now) }
     {
         self.kept.lookup(&self.rendering, name)
+    }
+
+    /// The names that a look-up finds, of the scopes and of the globals, each once, in their order. InvalidOperation where a scope is over a namespace whose record isn't there; OutOfMemory.
+    pub fn known_variables(&self) -> Result<Vec<&str>, Error>
+        ensures order { IfOk result
+            (λ names. IsStrictlySortedBy name_cmp (texts_of names.items)) }
+        ensures found { IfOk result (λ names. AreFound
+            (find_name (view_of (host_of O.functions self.now.template) self.now.world))
+            (texts_of names.items)) }
+        ensures err { IfErr result
+            (NamingFails (records_of self.now.world) self.now.world.scopes.frames) }
+    {
+        self.kept
+            .known_variables(self.rendering.allocator(), &self.rendering)
     }
 }
 

@@ -1,12 +1,14 @@
 //! The data of a state.
+ghost use Rattle.std.specs.List.Sorted.{IsStrictlySortedBy};
 ghost use Rattle.std.specs.Prelude.{◌≡◌, ◌+◌, ◌≤◌, ◌<◌, List, [], ◌∷◌, ◌++◌, Some, None, false, true, is_some, length, nat_lt, slice_get, OnOk, OnErr, IfErr, IfOk, IfSome, MatchOption, MatchResult};
 ghost use Rattle.tm_values.specs.Answer.{IsAnswer, OkOrOutOfMemory, IsLent};
 ghost use Rattle.tm_values.specs.Chain.{ends_in_memory};
-ghost use Rattle.tm_syntax.specs.Named.{find, put, put_each, texts_of};
+ghost use Rattle.tm_syntax.specs.Named.{find, name_cmp, put, put_each, texts_of};
 ghost use Rattle.tm_meaning.specs.World.{depth, with_escape, loop_depth, top_loop, top_mark, next_turn, turned_at, cleared, pop, store, set_member, with_member, make_namespace, emitted, records_of, fuel_levels, find_name, view_of, name_of, Good, Bad, block_of};
 ghost use Rattle.tm_meaning.specs.Calls.{enter_block, given_by, refused, of_loop, keeping_at, told_changed, told_turn};
 ghost use Rattle.tm_meaning.specs.Steps.{charge_of, pay};
 ghost use Rattle.tm_printing.specs.Emitted.{emitted_text};
+ghost use Rattle.tm_tables.specs.Known.{AreFound, NamingFails};
 ghost use Rattle.tm_tables.specs.Scopes.{PushFails};
 ghost use Rattle.tm_state.specs.Answers.{Keeps, CanBeEmitted, Comes, IsChangedAt};
 ghost use Rattle.tm_state.specs.State.{looped, loop_record, exported, started, put_back, saved_of, runs_block, IsThere, scoped};
@@ -158,6 +160,21 @@ impl<'env> StateData<'env> {
             },
             Err(error) => Err(error),
         }
+    }
+
+    /// The names that a look-up finds, in the scopes or among the globals, each once, in their order. InvalidOperation where a context value is a namespace whose record isn't there; OutOfMemory.
+    pub fn known_variables<'a, H: Host>(
+        &'a self,
+        alloc: Global,
+        host: &'a H,
+    ) -> Result<Vec<&'a str>, Error>
+        ensures order { IfOk result
+            (λ names. IsStrictlySortedBy name_cmp (texts_of names.items)) }
+        ensures found { IfOk result (λ names. AreFound
+            (find_name (view_of (H.meaning host.now) self.now)) (texts_of names.items)) }
+        ensures err { IfErr result (NamingFails (records_of self.now) self.now.scopes.frames) }
+    {
+        self.context.known_names(alloc, self, host.globals())
     }
 
     /// The value that was kept at a name, where there is one.

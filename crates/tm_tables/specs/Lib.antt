@@ -1,4 +1,5 @@
 pub mod Found
+pub mod Known
 pub mod Places
 pub mod Scopes
 pub mod Sources

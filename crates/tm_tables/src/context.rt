@@ -1,14 +1,16 @@
 //! Scopes.
-ghost use Rattle.std.specs.Prelude.{ℕ, option_map, ◌≡◌, ◌<◌, ◌^◌, ◌-◌, [], ◌∷◌, true, false, length, min, nat_lt, OnErr, OnOk, IfErr, MatchOption};
-ghost use Rattle.tm_syntax.specs.Named.{put, texts_of};
+ghost use Rattle.std.specs.List.Sorted.{IsStrictlySortedBy};
+ghost use Rattle.std.specs.Prelude.{ℕ, option_map, ◌≡◌, ◌<◌, ◌^◌, ◌-◌, ◌||◌, [], ◌∷◌, true, false, length, min, nat_lt, OnErr, OnOk, IfErr, IfOk, MatchOption};
+ghost use Rattle.tm_syntax.specs.Named.{name_cmp, put, texts_of};
 ghost use Rattle.tm_values.specs.Answer.{OkOrOutOfMemory};
 ghost use Rattle.tm_values.specs.Val.{loop};
 ghost use Rattle.tm_values.specs.declared.error.ErrorKind.TheVariants.{OutOfMemory};
 ghost use Rattle.tm_meaning.specs.World.{plain, loop_scope, marked_loop, depth, context_member, innermost, stored_in, top_mark, without_first, without_locals};
 ghost use Rattle.tm_tables.specs.Found.{IsHeld, IsFoundIn, meant_by};
+ghost use Rattle.tm_tables.specs.Known.{AddsFound, AreFoundIn, AreKnownIn, AreMembers, NamingFails, has_text, is_among};
 ghost use Rattle.tm_tables.specs.Scopes.{one_scope, PushFails, is_exported, exported_by, exported_of};
 
-use std::alloc::Global;
+use std::alloc::{AllocError, Global};
 use std::marker::Model;
 use tm_meaning::LoopMark;
 use tm_syntax::{Name, NameMap};
@@ -168,6 +170,69 @@ impl Frame {
         }
         Ok(exported)
     }
+
+    /// Adds the names that stand for something here: its own, its loop's, and the texts among the keys of its context value. InvalidOperation where that is a namespace whose record isn't there; OutOfMemory.
+    fn add_names<'a, R: Records>(
+        &'a self,
+        alloc: Global,
+        records: &'a R,
+        names: &mut Vec<&'a str>,
+    ) -> Result<(), Error>
+        ensures ok { OnOk result (AddsFound (R.records records.now) (self.now ∷ [])
+            (texts_of names.old.items) (texts_of names.new.items)) }
+        ensures err { IfErr result (NamingFails (R.records records.now) (self.now ∷ [])) }
+    {
+        let pairs = self.context_pairs(records)?;
+        let mut own = self.locals.names(alloc)?;
+        names.append(&mut own)?;
+        if self.named_loop("loop").is_some() {
+            names.push("loop")?;
+        }
+        add_texts(pairs, names)?;
+        Ok(())
+    }
+
+    /// The pairs of the context value, where it has such. InvalidOperation where it is a namespace whose record isn't there.
+    fn context_pairs<'a, R: Records>(
+        &'a self,
+        records: &'a R,
+    ) -> Result<&'a [(Value, Value)], Error>
+        ensures members { IfOk result (AreMembers (R.records records.now) self.now.context) }
+        ensures err { IfErr result (NamingFails (R.records records.now) (self.now ∷ [])) }
+    {
+        match &self.context.node {
+            Node::Namespace(state, index) => {
+                let Some(map) = find_namespace(records, *state, *index) else {
+                    return Err(Error::from(ErrorKind::InvalidOperation));
+                };
+                Ok(map.pairs())
+            }
+            _ => Ok(self.context.pairs()),
+        }
+    }
+}
+
+/// Adds the texts among the keys of a map. AllocError for want of memory.
+fn add_texts<'a>(pairs: &'a [(Value, Value)], names: &mut Vec<&'a str>) -> Result<(), AllocError>
+    ensures { OnOk result ((x : _) → is_among x (texts_of names.new.items)
+        ≡ (is_among x (texts_of names.old.items) || has_text x pairs.now)) }
+{
+    for pair in pairs {
+        if let Some(name) = pair.0.as_str() {
+            names.push(name)?;
+        }
+    }
+    Ok(())
+}
+
+/// The names in their order, each once.
+fn in_order(mut names: Vec<&str>) -> Vec<&str>
+    ensures order { IsStrictlySortedBy name_cmp (texts_of result.items) }
+    ensures same { (x : _) → is_among x (texts_of result.items) ≡ is_among x (texts_of names.entry.items) }
+{
+    names.sort_unstable();
+    names.dedup();
+    names
 }
 
 /// The scopes of a state. A contract sees them innermost first.
@@ -246,6 +311,38 @@ impl Context {
             }
         }
         Ok(None)
+    }
+
+    /// The names that stand for something in the scopes or among the globals, each once, in their order. InvalidOperation where a context value is a namespace whose record isn't there; OutOfMemory.
+    pub fn known_names<'a, R: Records>(
+        &'a self,
+        alloc: Global,
+        records: &'a R,
+        globals: &'a NameMap<Value>,
+    ) -> Result<Vec<&'a str>, Error>
+        ensures order { IfOk result
+            (λ names. IsStrictlySortedBy name_cmp (texts_of names.items)) }
+        ensures known { IfOk result (λ names. AreKnownIn (R.records records.now)
+            self.now.frames globals.now (texts_of names.items)) }
+        ensures err { IfErr result (NamingFails (R.records records.now) self.now.frames) }
+    {
+        let mut names = self.names(alloc, records)?;
+        let mut global = globals.names(alloc)?;
+        names.append(&mut global)?;
+        Ok(in_order(names))
+    }
+
+    /// The names that stand for something in the scopes. InvalidOperation where a context value is a namespace whose record isn't there; OutOfMemory.
+    fn names<'a, R: Records>(&'a self, alloc: Global, records: &'a R) -> Result<Vec<&'a str>, Error>
+        ensures found { IfOk result (λ names. AreFoundIn (R.records records.now)
+            self.now.frames (texts_of names.items)) }
+        ensures err { IfErr result (NamingFails (R.records records.now) self.now.frames) }
+    {
+        let mut names = Vec::new(alloc);
+        for frame in &self.frames {
+            frame.add_names(alloc, records, &mut names)?;
+        }
+        Ok(names)
     }
 
     /// The names that the outermost scope exports, in their order: those of its own that don't begin with `_`. Fails by OutOfMemory alone.

@@ -82,7 +82,8 @@ impl ValueMap {
 
     /// The pairs, in the order of their keys.
     pub fn pairs(&self) -> &[(Value, Value)]
-        ensures { result.now ≡ self.now }
+        ensures pairs { result.now ≡ self.now }
+        ensures ordered { IsMap result.now }
     {
         self.pairs.as_slice()
     }

@@ -76,7 +76,7 @@ pub check_namespace-check_pairs-requires : goal.check_namespace-check_pairs-requ
 check_namespace-check_pairs-requires g t c =
     let r = g.R.Records.records c.args.records.now in
     let below = c.in-Some.inside in
-    let is = c.in-Some-find_namespace.ensures ∙ ap Some (sym c.pairs.ensures) in
+    let is = c.in-Some-find_namespace.ensures ∙ ap Some (sym c.pairs.ensures.pairs) in
     let lighter = level-heavier r c.args.state c.args.index below c.pairs.result.now is in
     let levels : below + 1 ≡ c.args.levels = omega (arith, c.in-Some.ensures) in
     let same : (below + 1) * weight r ≡ c.args.levels * weight r = ap (λ (k : ℕ). k * weight r) levels in
@@ -89,7 +89,7 @@ check_namespace-returns-in_err-check_pairs-clause-answer g t c =
     let below = c.in-Some.inside in
     let old = contains nat_eq c.args.way.now in
     let e = c.in_err-check_pairs.field-0.0 in
-    let is = c.in-Some-find_namespace.ensures ∙ ap Some (sym c.pairs.ensures) in
+    let is = c.in-Some-find_namespace.ensures ∙ ap Some (sym c.pairs.ensures.pairs) in
     let more : c.args.levels ≡ suc below = omega (arith, c.in-Some.ensures) in
     let added : contains nat_eq c.insert.new.self ≡ through c.args.index old = fun_ext (λ q. c.in_ok-insert.ensures.updates.0 q) in
     let fresh : old c.args.index ≡ false = not_there _ _ c.in_ok-insert.ensures.added c.if-not-branch.false in

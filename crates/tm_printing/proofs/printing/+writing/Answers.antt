@@ -77,7 +77,7 @@ pub write_namespace-write_map-requires : goal.write_namespace-write_map-requires
 write_namespace-write_map-requires g t c =
     let r = g.R.Records.records c.args.records.now in
     let below = c.in-Some.inside in
-    let is = c.in-Some-find_namespace.ensures ∙ ap Some (sym c.pairs.ensures) in
+    let is = c.in-Some-find_namespace.ensures ∙ ap Some (sym c.pairs.ensures.pairs) in
     let lighter = level-heavier r c.args.state c.args.index below c.pairs.result.now is in
     let levels : below + 1 ≡ c.args.levels = omega (arith, c.in-Some.ensures) in
     let same : (below + 1) * weight r ≡ c.args.levels * weight r = ap (λ (k : ℕ). k * weight r) levels in
@@ -86,6 +86,6 @@ write_namespace-write_map-requires g t c =
 pub write_namespace-returns-in-Some-find_namespace : goal.write_namespace-returns-in-Some-find_namespace
 write_namespace-returns-in-Some-find_namespace g t c =
     let r = g.R.Records.records c.args.records.now in
-    let is = c.in-Some-find_namespace.ensures ∙ ap Some (sym c.pairs.ensures) in
+    let is = c.in-Some-find_namespace.ensures ∙ ap Some (sym c.pairs.ensures.pairs) in
     let more : c.args.levels ≡ suc c.in-Some.inside = omega (arith, c.in-Some.ensures) in
     rw (namespace-there r c.args.levels c.in-Some.inside c.args.state c.args.index c.pairs.result.now more is) c.write_map.ensures
