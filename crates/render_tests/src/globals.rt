@@ -34,17 +34,17 @@ impl Callable for Gives {
 }
 
 /// An environment of such functions.
-type Globals = EnvironmentOf<'static, Objects<Gives>>;
+type Globals<'source> = EnvironmentOf<'source, Objects<Gives>>;
 
 /// Two functions, and one global more, which stands before them in the order of names.
-fn add_globals(environment: &mut Globals) -> Result<(), Error> {
+fn add_globals(environment: &mut Globals<'_>) -> Result<(), Error> {
     environment.add_function("one", Gives::One)?;
     environment.add_function("two", Gives::Two)?;
     environment.add_global("g", Value::number(1))
 }
 
 /// Whether a source writes this over a context value.
-fn writes(environment: &Globals, source: &'static str, context: Value, text: &str) -> bool {
+fn writes(environment: &Globals<'_>, source: &'static str, context: Value, text: &str) -> bool {
     match environment.render_str(&mut StateIds::new(), source, context) {
         Ok(written) => written.as_str() == text,
         Err(_) => false,
@@ -52,7 +52,7 @@ fn writes(environment: &Globals, source: &'static str, context: Value, text: &st
 }
 
 /// Whether the function of a name isn't found.
-fn is_unknown(environment: &Globals, source: &'static str) -> bool {
+fn is_unknown(environment: &Globals<'_>, source: &'static str) -> bool {
     match environment.render_str(&mut StateIds::new(), source, Value::undefined()) {
         Ok(_) => false,
         Err(error) => error.kind() == ErrorKind::UnknownFunction,
@@ -60,7 +60,7 @@ fn is_unknown(environment: &Globals, source: &'static str) -> bool {
 }
 
 /// Whether the globals have these names, in this order.
-fn names_are(environment: &Globals, wanted: &[&str]) -> Result<bool, Error> {
+fn names_are(environment: &Globals<'_>, wanted: &[&str]) -> Result<bool, Error> {
     let globals = environment.globals()?;
     let mut rest = globals.iter();
     for &name in wanted {
@@ -80,7 +80,7 @@ fn seven(alloc: Global) -> Result<Value, Error> {
 }
 
 /// Whether a global is found, behind the context, and stands among the functions.
-fn hears_globals(environment: &Globals, alloc: Global) -> Result<bool, Error> {
+fn hears_globals(environment: &Globals<'_>, alloc: Global) -> Result<bool, Error> {
     Ok(
         writes(environment, "{{ g }}", Value::undefined(), "1")
             && writes(environment, "{{ g }}", seven(alloc)?, "7")
@@ -92,12 +92,12 @@ fn hears_globals(environment: &Globals, alloc: Global) -> Result<bool, Error> {
 }
 
 /// Whether the replaced global is found.
-fn hears_replaced(environment: &Globals) -> bool {
+fn hears_replaced(environment: &Globals<'_>) -> bool {
     writes(environment, "{{ g }}", Value::undefined(), "2")
 }
 
 /// Whether neither what was removed is found, and the other function still is.
-fn hears_removed(environment: &Globals) -> Result<bool, Error> {
+fn hears_removed(environment: &Globals<'_>) -> Result<bool, Error> {
     Ok(
         writes(environment, "[{{ g }}]", Value::undefined(), "[]")
             && is_unknown(environment, "{{ one() }}")
@@ -107,7 +107,11 @@ fn hears_removed(environment: &Globals) -> Result<bool, Error> {
 }
 
 /// Adds globals, hears them, replaces one and removes some.
-fn expect_globals(rt: &impl Abort, alloc: Global, environment: &mut Globals) -> Result<(), Fail> {
+fn expect_globals(
+    rt: &impl Abort,
+    alloc: Global,
+    environment: &mut Globals<'_>,
+) -> Result<(), Fail> {
     add_globals(environment)?;
     assert!(rt; hears_globals(environment, alloc)?);
     environment.add_global("g", Value::number(2))?;
@@ -126,7 +130,7 @@ fn globals_are_heard(rt: HostRuntime) -> Result<(), Fail> {
 }
 
 /// Whether no global is there, nor a function of the language.
-fn has_no_globals(environment: &Globals) -> Result<bool, Error> {
+fn has_no_globals(environment: &Globals<'_>) -> Result<bool, Error> {
     Ok(is_unknown(environment, "{{ range(1) }}") && names_are(environment, &[])?)
 }
 
@@ -138,7 +142,7 @@ fn empty_has_no_functions(rt: HostRuntime) -> Result<(), Fail> {
 }
 
 /// Whether a state gives what it kept before, and has what was kept last.
-fn keeps_the_last(environment: &Globals) -> Result<bool, Error> {
+fn keeps_the_last(environment: &Globals<'_>) -> Result<bool, Error> {
     let template = environment.template_from_str("x")?;
     let mut ids = StateIds::new();
     let captured = template.render_captured_to(&mut ids, Value::undefined(), &mut NullWriter)?;
@@ -160,7 +164,7 @@ fn a_state_keeps(rt: HostRuntime) -> Result<(), Fail> {
 
 /// Whether a look-up finds these names behind a render, in this order.
 fn knows(
-    environment: &Globals,
+    environment: &Globals<'_>,
     source: &'static str,
     context: Value,
     wanted: &[&str],
@@ -182,7 +186,7 @@ fn sevens(alloc: Global) -> Result<Value, Error> {
 }
 
 /// Whether the names of locals, of the context and of globals are known, each once.
-fn knows_all(environment: &Globals, alloc: Global) -> Result<bool, Error> {
+fn knows_all(environment: &Globals<'_>, alloc: Global) -> Result<bool, Error> {
     let source = "{% set b = 1 %}{% set a = 1 %}{% set _b = 2 %}";
     Ok(
         knows(
@@ -200,7 +204,7 @@ fn knows_all(environment: &Globals, alloc: Global) -> Result<bool, Error> {
 }
 
 /// Whether no names are told where the context is a namespace of another state.
-fn knows_no_other_state(environment: &Globals) -> bool {
+fn knows_no_other_state(environment: &Globals<'_>) -> bool {
     match knows(environment, "", Value::namespace(9, 0), &[]) {
         Ok(_) => false,
         Err(error) => error.kind() == ErrorKind::InvalidOperation,

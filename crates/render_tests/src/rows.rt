@@ -65,7 +65,7 @@ fn shared(alloc: Global, found: Option<&Value>) -> Answer
 }
 
 /// An environment of such functions.
-type Rows = EnvironmentOf<'static, Objects<Party>>;
+type Rows<'source> = EnvironmentOf<'source, Objects<Party>>;
 
 // The first one gets the number behind those of the language.
 static FUNCTIONS: &[(&str, Party)] = &[
@@ -80,7 +80,7 @@ static FUNCTIONS: &[(&str, Party)] = &[
 ];
 
 /// The environment of the rows.
-fn add_functions(environment: &mut Rows) -> Result<(), Error> {
+fn add_functions(environment: &mut Rows<'_>) -> Result<(), Error> {
     for &(name, party) in FUNCTIONS {
         environment.add_function(name, party)?;
     }
@@ -301,11 +301,7 @@ static ROWS: &[Row] = &[
     Row("{{ [].nope() }}", "", Err(ErrorKind::UnknownMethod)),
     Row("{{ nope.m(1) }}", "", Err(ErrorKind::UnknownMethod)),
     Row("{{ {\"f\": f}.f(0, 1) }}", "1", Ok(7)),
-    Row(
-        "{{ {\"f\": 1}.f() }}",
-        "",
-        Err(ErrorKind::InvalidOperation),
-    ),
+    Row("{{ {\"f\": 1}.f() }}", "", Err(ErrorKind::InvalidOperation)),
     Row(
         "{% for x in [1] if false %}a{% else %}E{% endfor %}",
         "E",
@@ -353,7 +349,7 @@ fn context(alloc: Global) -> Result<Value, Error> {
 
 /// How many charges a render of the source takes, or the kind of its error.
 fn charges(
-    environment: &Rows,
+    environment: &Rows<'_>,
     source: &'static str,
     context: Value,
     writer: &mut Counted<Vec<u8>>,
@@ -372,7 +368,7 @@ fn charges(
 }
 
 /// Whether a value that was kept is there for `get_temp` alone, and no name is exported.
-fn keeps_apart(environment: &Rows) -> Result<bool, Error> {
+fn keeps_apart(environment: &Rows<'_>) -> Result<bool, Error> {
     let template = environment.template_from_str("{{ keep() }}{{ read() }}")?;
     let mut ids = StateIds::new();
     let captured = template.render_captured_to(&mut ids, Value::undefined(), &mut NullWriter)?;
@@ -384,7 +380,7 @@ fn keeps_apart(environment: &Rows) -> Result<bool, Error> {
 }
 
 /// Whether a name of the outermost scope is exported, and one that begins with `_` isn't.
-fn exports(environment: &Rows) -> Result<bool, Error> {
+fn exports(environment: &Rows<'_>) -> Result<bool, Error> {
     let source = "{% set _x = 1 %}{% set y = 2 %}{% with z = 3 %}{% endwith %}";
     let template = environment.template_from_str(source)?;
     let mut ids = StateIds::new();
@@ -394,7 +390,7 @@ fn exports(environment: &Rows) -> Result<bool, Error> {
 }
 
 /// Whether the first function of the caller stands behind the three of the language.
-fn numbers_behind_the_language(environment: &Rows) -> Result<bool, Error> {
+fn numbers_behind_the_language(environment: &Rows<'_>) -> Result<bool, Error> {
     let template = environment.template_from_str("")?;
     let mut ids = StateIds::new();
     let captured = template.render_captured_to(&mut ids, Value::undefined(), &mut NullWriter)?;
@@ -405,13 +401,13 @@ fn numbers_behind_the_language(environment: &Rows) -> Result<bool, Error> {
 }
 
 /// How a render of the loop under a condition ends.
-fn charges_of_chosen(alloc: Global, environment: &Rows) -> Result<u64, ErrorKind> {
+fn charges_of_chosen(alloc: Global, environment: &Rows<'_>) -> Result<u64, ErrorKind> {
     let mut writer = Counted::new(Vec::<u8>::new(alloc));
     charges(environment, CHOSEN, Value::undefined(), &mut writer)
 }
 
 /// Renders the rows, and compares what they write and how they end.
-fn expect_rows(rt: &impl Abort, alloc: Global, environment: &Rows) -> Result<(), Fail> {
+fn expect_rows(rt: &impl Abort, alloc: Global, environment: &Rows<'_>) -> Result<(), Fail> {
     for Row(source, text, end) in ROWS {
         let mut writer = Counted::new(Vec::<u8>::new(alloc));
         let answer = charges(environment, source, context(alloc)?, &mut writer);
@@ -422,7 +418,7 @@ fn expect_rows(rt: &impl Abort, alloc: Global, environment: &Rows) -> Result<(),
 }
 
 /// Adds the functions of the rows to an environment, renders them, and sees what states keep and where fuel ends.
-fn expect_all(rt: &impl Abort, alloc: Global, environment: &mut Rows) -> Result<(), Fail> {
+fn expect_all(rt: &impl Abort, alloc: Global, environment: &mut Rows<'_>) -> Result<(), Fail> {
     environment.set_fuel(Some(1000));
     add_functions(environment)?;
     expect_rows(rt, alloc, environment)?;

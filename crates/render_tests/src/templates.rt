@@ -24,7 +24,7 @@ impl Callable for Yes {
 /// Renders sources over nothing, and compares the texts.
 fn expect_texts(
     rt: &impl Abort,
-    environment: &Environment<'static>,
+    environment: &Environment<'_>,
     rows: &[(&'static str, &'static str)],
 ) -> Result<(), Fail> {
     let mut ids = StateIds::new();
@@ -39,7 +39,7 @@ fn expect_texts(
 fn expect_sources(
     rt: &impl Abort,
     alloc: Global,
-    environment: &mut Environment<'static>,
+    environment: &mut Environment<'_>,
 ) -> Result<(), Fail> {
     environment.add_function("yes", Box::new(alloc, Yes)?)?;
     expect_texts(
@@ -81,13 +81,13 @@ fn text_of(environment: &Unboxed<'_>, name: &str) -> Result<String, Error> {
 }
 
 /// The text of `x` as a template that isn't kept.
-fn text_of_x(environment: &Unboxed<'static>) -> Result<String, Error> {
+fn text_of_x(environment: &Unboxed<'_>) -> Result<String, Error> {
     let template = environment.template_from_named_str("named", "x")?;
     template.render(&mut StateIds::new(), Value::undefined())
 }
 
 /// The text of `x`, rendered at once.
-fn text_at_once(environment: &Unboxed<'static>) -> Result<String, Error> {
+fn text_at_once(environment: &Unboxed<'_>) -> Result<String, Error> {
     environment.render_named_str(&mut StateIds::new(), "named", "x", Value::undefined())
 }
 
@@ -99,14 +99,14 @@ fn with_templates(alloc: Global) -> Result<Unboxed<'static>, Error> {
 }
 
 /// Adds both to an environment with fuel.
-fn add_templates(environment: &mut Unboxed<'static>, alloc: Global) -> Result<(), Error> {
+fn add_templates(environment: &mut Unboxed<'_>, alloc: Global) -> Result<(), Error> {
     environment.set_fuel(Some(100));
     environment.add_template("page", "Hello {{ name }}!")?;
     environment.add_template_owned("own", String::from_str(alloc, "x")?)
 }
 
 /// Whether the templates render, and one that isn't kept.
-fn templates_render(environment: &Unboxed<'static>) -> Result<bool, Error> {
+fn templates_render(environment: &Unboxed<'_>) -> Result<bool, Error> {
     if consumed(environment, "page")? != 4 {
         return Ok(false);
     }
@@ -124,7 +124,7 @@ fn templates_render_by_name(rt: HostRuntime) -> Result<(), Fail> {
 }
 
 /// Whether the text of a source under a name is this.
-fn writes(environment: &Unboxed<'static>, name: &str, source: &'static str, text: &str) -> bool {
+fn writes(environment: &Unboxed<'_>, name: &str, source: &'static str, text: &str) -> bool {
     match environment.render_named_str(&mut StateIds::new(), name, source, Value::undefined()) {
         Ok(written) => written.as_str() == text,
         Err(_) => false,
@@ -149,7 +149,7 @@ static NAMED: &[Named] = &[
 ];
 
 /// Whether all that is named is escaped as its name asks.
-fn hears_names(environment: &Unboxed<'static>) -> bool {
+fn hears_names(environment: &Unboxed<'_>) -> bool {
     for Named(name, source, text) in NAMED {
         if !writes(environment, name, source, text) {
             return false;
@@ -205,7 +205,7 @@ static REFUSED: &[Refused] = &[
 ];
 
 /// Whether a source writes this, or is refused for an undefined value.
-fn hears(environment: &Unboxed<'static>, source: &'static str, wanted: Option<&str>) -> bool {
+fn hears(environment: &Unboxed<'_>, source: &'static str, wanted: Option<&str>) -> bool {
     let rendered = environment.render_str(&mut StateIds::new(), source, Value::undefined());
     match (rendered, wanted) {
         (Ok(text), Some(wanted)) => text.as_str() == wanted,
@@ -215,7 +215,7 @@ fn hears(environment: &Unboxed<'static>, source: &'static str, wanted: Option<&s
 }
 
 /// Whether all sources write what they write under the behavior of this number.
-fn refuses(environment: &Unboxed<'static>, behavior: usize) -> bool {
+fn refuses(environment: &Unboxed<'_>, behavior: usize) -> bool {
     for Refused(source, texts) in REFUSED {
         let Some(wanted) = texts.get(behavior) else {
             return false;
@@ -231,7 +231,7 @@ fn refuses(environment: &Unboxed<'static>, behavior: usize) -> bool {
 fn expect_settings(
     rt: &impl Abort,
     alloc: Global,
-    environment: &mut Unboxed<'static>,
+    environment: &mut Unboxed<'_>,
 ) -> Result<(), Fail> {
     assert!(rt; refuses(environment, 0));
     environment.set_undefined_behavior(UndefinedBehavior::Chainable);
