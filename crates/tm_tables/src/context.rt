@@ -228,7 +228,8 @@ fn add_texts<'a>(pairs: &'a [(Value, Value)], names: &mut Vec<&'a str>) -> Resul
 /// The names in their order, each once.
 fn in_order(mut names: Vec<&str>) -> Vec<&str>
     ensures order { IsStrictlySortedBy name_cmp (texts_of result.items) }
-    ensures same { (x : _) → is_among x (texts_of result.items) ≡ is_among x (texts_of names.entry.items) }
+    ensures same { (x : _) → is_among x (texts_of result.items)
+        ≡ is_among x (texts_of names.entry.items) }
 {
     names.sort_unstable();
     names.dedup();
