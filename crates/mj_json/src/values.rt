@@ -1,5 +1,5 @@
 //! JSON as values.
-ghost use Rattle.std.specs.Prelude.{◌≡◌, ◌⊎◌, None, Some, Ok, option_map, MatchResult};
+ghost use Rattle.std.specs.Prelude.{◌≡◌, Some, Ok, MatchResult};
 ghost use Rattle.serde_json.specs.View.{view, items_view, members_view};
 ghost use Rattle.mj_json.specs.Json as spec;
 
@@ -18,7 +18,7 @@ fn value_of(alloc: Global, json: &Json) -> Result<Value, Refusal>
         Json::Bool(truth) => Ok(Value::boolean(*truth)),
         Json::Number(number) => Ok(Value::number(number.as_i128().ok_or(Refusal::Usage)?)),
         Json::String(content) => made(Value::text(alloc, content.as_str())),
-        Json::Array(items) => made(Value::list(alloc, values_of(alloc, items)?)),
+        Json::Array(items) => made(Value::list(alloc, values_of(alloc, items.as_slice())?)),
         Json::Object(members) => {
             let members = made(ValueMap::from_pairs(members_of(alloc, members)?))?;
             made(Value::from_map(alloc, members))
@@ -28,10 +28,10 @@ fn value_of(alloc: Global, json: &Json) -> Result<Value, Refusal>
 
 /// The values of the items of an array, with the same refusals.
 #[cycle(values)]
-fn values_of(alloc: Global, items: &Vec<Json>) -> Result<Vec<Value>, Refusal>
+fn values_of(alloc: Global, items: &[Json]) -> Result<Vec<Value>, Refusal>
     ensures { MatchResult result
-        (λ values. spec.values_of (items_view items.now.items) ≡ Some values.items)
-        (λ e. spec.IsRefused e (spec.values_of (items_view items.now.items))) }
+        (λ values. spec.values_of (items_view items.now) ≡ Some values.items)
+        (λ e. spec.IsRefused e (spec.values_of (items_view items.now))) }
 {
     let mut values = Vec::with_capacity(alloc, items.len())?;
     for item in items {

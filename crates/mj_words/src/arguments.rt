@@ -68,7 +68,8 @@ impl<T: Drop> From<AllocFailed<T>> for Refusal {
 
 /// Reads the words after the program's name: options, and then one file.
 pub fn parse(alloc: Global, words: &[String]) -> Result<Arguments<'_>, Refusal>
-    ensures { let asked = spec.asked [] None None None (map string_bytes words.now) in MatchResult result
+    ensures { let asked = spec.asked [] None None None (map string_bytes words.now) in
+        MatchResult result
         (λ a. asked ≡ Some (spec.asked_of a))
         (λ e. (e ≡ Refusal.OutOfMemory) ⊎ ((e ≡ Refusal.Usage) × (asked ≡ None))) }
 {

@@ -6,7 +6,7 @@ use Rattle.mj_json.proofs.values.+values.Given as goal
 
 -- the items from the next one on are left
 abbrev pub invariant-values_of-loop-item : goal.invariant-values_of-loop-item
-invariant-values_of-loop-item l = Leaves l.values.items (values_of (items_view (drop l.item-index l.item-items))) (values_of (items_view l.items.items))
+invariant-values_of-loop-item l = Leaves l.values.items (values_of (items_view (drop l.item-index l.items))) (values_of (items_view l.items))
 
 -- the members that the iterator still has are left
 abbrev pub invariant-members_of-loop-key : goal.invariant-members_of-loop-key
