@@ -1,15 +1,20 @@
 #!/usr/bin/env bash
-# Renders each example by ./mj, with the names that its .names file gives, and compares the output with its .expected file.
+# Renders each example by ./mj, with the JSON file and the names that it has (.json, .names), and compares the output with its .expected file.
 set -euo pipefail
 cd "$(dirname "${BASH_SOURCE[0]}")"
 
 failed=0
-for input in hello.txt mail.txt server.conf page.html notice.txt table.html; do
+for input in hello.txt mail.txt server.conf page.html notice.txt table.html menu.html; do
     base=${input%.*}
     words=()
-    while IFS= read -r line; do
-        words+=(-D "$line")
-    done <"$base.names"
+    if [[ -f $base.json ]]; then
+        words+=(--json "$base.json")
+    fi
+    if [[ -f $base.names ]]; then
+        while IFS= read -r line; do
+            words+=(-D "$line")
+        done <"$base.names"
+    fi
     if ../mj "${words[@]}" "$input" | cmp - "$base.expected"; then
         echo "$input: as expected"
     else

@@ -199,8 +199,71 @@ const TABLE_EXPECTED: &str = "<!DOCTYPE html>
   </body>
 </html>";
 
+const MENU: &str = "<nav>
+  <h2>{{ title }}</h2>
+  <ul>
+    {%- for chapter in chapters %}
+    <li><a href=\"{{ chapter.file }}\">{{ chapter.name }}</a>
+      {%- if chapter.pages %}
+      <ul>
+        {%- for page in chapter.pages %}
+        <li>
+          {%- if page.file == none %}{{ page.name }}, soon{% else %}<a href=\"{{ page.file }}\">{{ page.name }}</a> ({{ page.length }}){% endif -%}
+        </li>
+        {%- endfor %}
+      </ul>
+      {%- endif %}</li>
+    {%- endfor %}
+  </ul>
+</nav>
+";
+
+const MENU_JSON: &str = "{
+  \"title\": \"Contents\",
+  \"chapters\": [
+    {\"name\": \"Start\", \"file\": \"start.html\", \"pages\": []},
+    {\"name\": \"Guide\", \"file\": \"guide.html\", \"pages\": [
+      {\"name\": \"Install & run\", \"file\": \"guide.html?a=1&b=2\", \"length\": 3},
+      {\"name\": \"Prices < 10 €\", \"file\": \"prices.html\", \"length\": 12},
+      {\"name\": \"Reports\", \"file\": null, \"length\": 0}
+    ]},
+    {\"name\": \"Reference\", \"file\": \"reference.html\", \"pages\": [
+      {\"name\": \"Words\", \"file\": \"words.html\", \"length\": 1}
+    ]}
+  ]
+}
+";
+
+const MENU_EXPECTED: &str = "<nav>
+  <h2>Contents</h2>
+  <ul>
+    <li><a href=\"start.html\">Start</a></li>
+    <li><a href=\"guide.html\">Guide</a>
+      <ul>
+        <li><a href=\"guide.html?a=1&amp;b=2\">Install &amp; run</a> (3)</li>
+        <li><a href=\"prices.html\">Prices &lt; 10 €</a> (12)</li>
+        <li>Reports, soon</li>
+      </ul></li>
+    <li><a href=\"reference.html\">Reference</a>
+      <ul>
+        <li><a href=\"words.html\">Words</a> (1)</li>
+      </ul></li>
+  </ul>
+</nav>";
+
+const ITEMS: &str =
+    "{% for item in who %}[{% for inner in item.list %}{{ inner }},{% endfor %}]{% endfor %}";
+
+const ITEMS_JSON: &str = "{
+  \"who\": [
+    {\"list\": [18446744073709551615, -9223372036854775808, true, null]},
+    {\"list\": []},
+    {\"list\": [\"twice\"], \"list\": [\"l\\u00e4st\", \"<\"]}
+  ]
+}";
+
 /// The files that hold text.
-static FILES: [(&str, &str); 10] = [
+static FILES: [(&str, &str); 24] = [
     ("hello.txt", "Hello {{ name }}!\n"),
     ("tag.txt", "a{% x %}"),
     ("call.txt", "a{{ nope() }}b"),
@@ -211,6 +274,20 @@ static FILES: [(&str, &str); 10] = [
     ("page.html", PAGE),
     ("notice.txt", NOTICE),
     ("table.html", TABLE),
+    ("menu.html", MENU),
+    ("menu.json", MENU_JSON),
+    ("main.txt", "Hi {{ who }}!"),
+    ("c.json", "{\"who\":\"A\"}"),
+    ("-", "{\"who\":\"C\"}"),
+    ("other.json", " { \"other\" : \"A\" } "),
+    ("float.json", "{\"who\":1.5}"),
+    ("inner_float.json", "{\"who\":\"A\",\"b\":[{\"c\":1e0}]}"),
+    ("minus_zero.json", "{\"who\":-0}"),
+    ("large.json", "{\"who\":18446744073709551616}"),
+    ("list.json", "[]"),
+    ("cut.json", "{\"who\":"),
+    ("items.txt", ITEMS),
+    ("items.json", ITEMS_JSON),
 ];
 
 /// The text of a file.
@@ -397,9 +474,11 @@ fn words_that_serve(rt: HostRuntime) -> Result<(), Fail> {
     Ok(())
 }
 
-static ASK_NOTHING: [Words; 20] = [
+static ASK_NOTHING: [Words; 22] = [
     &[],
-    &["--json", "a.json", "hello.txt"],
+    &["--json"],
+    &["--json", "c.json"],
+    &["main.txt", "--json", "c.json"],
     &["--limit", "hello.txt"],
     &["--limit", "-1", "hello.txt"],
     &["--other", "hello.txt"],
@@ -431,7 +510,66 @@ fn words_that_do_not_serve(rt: HostRuntime) -> Result<(), Fail> {
     Ok(())
 }
 
-static FAULTS: [(Words, Answer); 5] = [
+static JSON_SERVES: [(Words, &str); 8] = [
+    (&["--json", "c.json", "main.txt"], "Hi A!"),
+    (&["--json", "c.json", "-D", "who=B", "main.txt"], "Hi B!"),
+    (&["-Dwho=B", "--json", "c.json", "main.txt"], "Hi B!"),
+    (
+        &["--json", "missing.json", "--json", "c.json", "main.txt"],
+        "Hi A!",
+    ),
+    (&["--json", "-", "main.txt"], "Hi C!"),
+    (&["--json", "c.json", "-Dname=B", "-"], "Hello B!"),
+    (&["--json", "other.json", "main.txt"], "Hi !"),
+    (
+        &["--json", "items.json", "items.txt"],
+        "[18446744073709551615,-9223372036854775808,true,none,][][läst,<,]",
+    ),
+];
+
+#[test]
+fn json_that_serves(rt: HostRuntime) -> Result<(), Fail> {
+    for (words, written) in &JSON_SERVES {
+        let wanted = Answer {
+            status: 0,
+            written: *written,
+            told: "",
+            reads: 2,
+            flushes: 1,
+        };
+        expect(&rt, Page::new(rt.alloc()), words, &wanted)?;
+    }
+    Ok(())
+}
+
+/// JSON files that don't serve: they come behind the template's file, and before what it holds.
+static JSON_FAILS: [Words; 9] = [
+    &["--json", "float.json", "main.txt"],
+    &["--json", "inner_float.json", "main.txt"],
+    &["--json", "minus_zero.json", "main.txt"],
+    &["--json", "large.json", "main.txt"],
+    &["--json", "list.json", "main.txt"],
+    &["--json", "cut.json", "main.txt"],
+    &["--json", "bytes.bin", "main.txt"],
+    &["--json", "missing.json", "main.txt"],
+    &["--json", "missing.json", "tag.txt"],
+];
+
+#[test]
+fn json_that_does_not_serve(rt: HostRuntime) -> Result<(), Fail> {
+    let wanted = Answer {
+        reads: 2,
+        ..NO_TEXT
+    };
+    for words in &JSON_FAILS {
+        expect(&rt, Page::new(rt.alloc()), words, &wanted)?;
+    }
+    let file = &["--json", "c.json", "missing.txt"];
+    expect(&rt, Page::new(rt.alloc()), file, &NO_TEXT)?;
+    Ok(())
+}
+
+static FAULTS: [(Words, Answer); 7] = [
     (
         &["--fuel", "4", "-Dname=World", "hello.txt"],
         Answer {
@@ -480,6 +618,26 @@ static FAULTS: [(Words, Answer); 5] = [
             told: "error: OutOfMemory\n",
             reads: 1,
             flushes: 0,
+        },
+    ),
+    (
+        &["--json", "vast.txt", "main.txt"],
+        Answer {
+            status: 1,
+            written: "",
+            told: "error: OutOfMemory\n",
+            reads: 2,
+            flushes: 0,
+        },
+    ),
+    (
+        &["--json", "c.json", "tag.txt"],
+        Answer {
+            status: 1,
+            written: "",
+            told: "error: SyntaxError\n",
+            reads: 2,
+            flushes: 1,
         },
     ),
 ];
@@ -531,9 +689,18 @@ fn faults_of_the_writer(rt: HostRuntime) -> Result<(), Fail> {
     Ok(())
 }
 
-/// The words that give an example its names, and the example itself.
-fn words_of<'a>(alloc: Global, names: &'a str, path: &'a str) -> Result<Vec<&'a str>, Fail> {
+/// The words that give an example its JSON and its names, and the example itself.
+fn words_of<'a>(
+    alloc: Global,
+    json: Option<&'a str>,
+    names: &'a str,
+    path: &'a str,
+) -> Result<Vec<&'a str>, Fail> {
     let mut words = Vec::new(alloc);
+    if let Some(json) = json {
+        words.push("--json")?;
+        words.push(json)?;
+    }
     for line in names.lines() {
         words.push("-D")?;
         words.push(line)?;
@@ -542,26 +709,27 @@ fn words_of<'a>(alloc: Global, names: &'a str, path: &'a str) -> Result<Vec<&'a 
     Ok(words)
 }
 
-static EXAMPLES: [(&str, &str, &str); 5] = [
-    ("mail.txt", MAIL_NAMES, MAIL_EXPECTED),
-    ("server.conf", SERVER_NAMES, SERVER_EXPECTED),
-    ("page.html", PAGE_NAMES, PAGE_EXPECTED),
-    ("notice.txt", NOTICE_NAMES, NOTICE_EXPECTED),
-    ("table.html", TABLE_NAMES, TABLE_EXPECTED),
+static EXAMPLES: [(&str, Option<&str>, &str, &str); 6] = [
+    ("mail.txt", None, MAIL_NAMES, MAIL_EXPECTED),
+    ("server.conf", None, SERVER_NAMES, SERVER_EXPECTED),
+    ("page.html", None, PAGE_NAMES, PAGE_EXPECTED),
+    ("notice.txt", None, NOTICE_NAMES, NOTICE_EXPECTED),
+    ("table.html", None, TABLE_NAMES, TABLE_EXPECTED),
+    ("menu.html", Some("menu.json"), "", MENU_EXPECTED),
 ];
 
 #[test]
 fn the_examples(rt: HostRuntime) -> Result<(), Fail> {
     let alloc = rt.alloc();
-    for (file, names, written) in &EXAMPLES {
+    for (file, json, names, written) in &EXAMPLES {
         let wanted = Answer {
             status: 0,
             written: *written,
             told: "",
-            reads: 1,
+            reads: if json.is_some() { 2 } else { 1 },
             flushes: 1,
         };
-        let words = words_of(alloc, names, file)?;
+        let words = words_of(alloc, *json, names, file)?;
         expect(&rt, Page::new(alloc), words.as_slice(), &wanted)?;
     }
     Ok(())

@@ -1,5 +1,5 @@
 -- What the program renders is what the words and the source mean.
-use Rattle.std.proofs.Common.{◌≡◌, ℕ, inl, inr, List, [], ◌∷◌, Option, None, Some, Result, Ok, Err, map, min, IsErrAnd, MatchResult, is_eq, ◌<◌, arith, refl, sym, ap, subst, ◌∙◌}
+use Rattle.std.proofs.Common.{◌≡◌, ℕ, inl, inr, List, [], ◌∷◌, Option, None, Some, Result, Ok, Err, min, IsErrAnd, MatchResult, is_eq, ◌<◌, arith, refl, sym, ap, subst, ◌∙◌}
 use Rattle.std.specs.Prelude.{cond, true}
 use Rattle.std.specs.Io.KnownBytes.{Keeps, Appends}
 use Rattle.std.proofs.lemmas.Cmp.{nat_list_cmp_total, tied_itself}
@@ -21,7 +21,7 @@ use Rattle.tm_tables.specs.Templates.{Compiled, IsRefused}
 use Rattle.template_machine.specs.Environment.{EnvironmentValue, TemplateValue, IsTemplateOf, expected_environment, new_environment, greatest_limit}
 use Rattle.template_machine.specs.Renders.{CapturedValue, answer_by, greatest, meaning, Rendered, as_meant, by_writer, by_memory}
 use Rattle.mj_words.specs.CommandLine.{Text, Asked}
-use Rattle.mj_run.specs.Program.{context_of, limit_of, template_in, meaning_of, IsMeant, IsRendered, IsBegun, IsFault, no_memory, write_failed, flush_failed, no_tree, meant}
+use Rattle.mj_run.specs.Program.{Input, context_of, limit_of, template_in, meaning_of, IsMeant, IsRendered, IsBegun, IsFault, no_memory, write_failed, flush_failed, no_tree, meant}
 
 found_there : (name : Text) (t : Compiled) → find name (put name t []) ≡ Some t
 found_there name t = ap (λ o. cond (is_eq o) (Some t) None) (tied_itself nat_list_cmp_total name)
@@ -76,11 +76,13 @@ module _ {C : Type 0} where
   put_alone a t = put_there_as a t t
 
   -- The template that is found means what the words and a tree of the source mean.
-  pub is_meant : (fs : List Function) (a : Asked) (source : Text) (set added : EnvironmentValue (Table C)) (t : Compiled) (found : TemplateValue (Table C)) (context : Val) →
-      (found.environment.objects ≡ language_functions → fs ≡ behind_language true []) → set ≡ settled a → IsTemplateOf set a.file source t → added ≡ record set { templates = put a.file t set.templates } →
-      (found.environment ≡ added) × (find a.file added.templates ≡ Some found.template) → context ≡ context_of a.texts →
-      IsMeant (λ _. fs) found context a source
-  is_meant fs a source set added t found context none start is put_there (same, there) given =
+  pub is_meant : (fs : List Function) (i : Input) (set added : EnvironmentValue (Table C)) (t : Compiled) (found : TemplateValue (Table C)) (context : Val) →
+      (found.environment.objects ≡ language_functions → fs ≡ behind_language true []) → set ≡ settled i.asked → IsTemplateOf set i.asked.file i.source t → added ≡ record set { templates = put i.asked.file t set.templates } →
+      (found.environment ≡ added) × (find i.asked.file added.templates ≡ Some found.template) → context ≡ context_of i.members i.asked.texts →
+      IsMeant (λ _. fs) found context i
+  is_meant fs i set added t found context none start is put_there (same, there) given =
+      let a = i.asked in
+      let source = i.source in
       let whole : added ≡ record (settled a) { templates = put a.file t [] } =
       put_there ∙ ap (λ (e : EnvironmentValue (Table C)). record e { templates = put a.file t e.templates }) start in
       let template : t ≡ found.template = found_is_put a.file t found.template (subst (λ (e : EnvironmentValue (Table C)). find a.file e.templates ≡ Some found.template) whole there) in
@@ -95,8 +97,8 @@ module _ {C : Type 0} where
         subst (λ (e : EnvironmentValue (Table C)). Spells e.syntax source t.tree) start is.spelled,
         ap (λ (v : TemplateValue (Table C)). meaning (λ _. fs) v 0 context) alone
             ∙ (ap (λ v. meaning (λ _. fs) (put_alone a t) 0 v) given
-            ∙ (means_same {O = Table C} {P = List Function} fs (behind_language true []) language_functions (behind_language true []) (put a.file t []) a.fuel (limit_of a.limit) t 0 (context_of a.texts) (none objects)
-            ∙ ap (λ (u : Compiled). meaning (λ fs. fs) (template_in a u) 0 (context_of a.texts)) named)),
+            ∙ (means_same {O = Table C} {P = List Function} fs (behind_language true []) language_functions (behind_language true []) (put a.file t []) a.fuel (limit_of a.limit) t 0 (context_of i.members a.texts) (none objects)
+            ∙ ap (λ (u : Compiled). meaning (λ fs. fs) (template_in a u) 0 (context_of i.members a.texts)) named)),
       )
 
   -- The template is found: it was put.
@@ -137,33 +139,33 @@ fault_chain (fault chain) w answer is = cc
 
 module _ {W : Type 0} (contents : W → Option Text) where
   -- want of memory, before anything was written
-  pub is_memory : (a : Asked) (source : Text) (chain : List ErrorKind) (old : Tally W) → chain ≡ OutOfMemory ∷ [] → IsFault contents a source chain old old
-  is_memory a source chain old e = no_memory (ap ends_in_memory e) refl (inl (keeps_same (contents old.writer)))
+  pub is_memory : (i : Input) (chain : List ErrorKind) (old : Tally W) → chain ≡ OutOfMemory ∷ [] → IsFault contents i chain old old
+  is_memory i chain old e = no_memory (ap ends_in_memory e) refl (inl (keeps_same (contents old.writer)))
 
   -- a source that was refused
-  pub is_refused : (a : Asked) (source : Text) (syntax : Syntax) (chain : List ErrorKind) (old : Tally W) → syntax ≡ default_syntax → IsRefused syntax source chain →
-      IsFault contents a source chain old old
-  is_refused a source syntax chain old e (inl memory) = is_memory a source chain old memory
-  is_refused a source syntax chain old e (inr (kind, none)) =
-      no_tree kind refl (keeps_same (contents old.writer)) (subst (λ s. SpellsNone s source) e none)
+  pub is_refused : (i : Input) (syntax : Syntax) (chain : List ErrorKind) (old : Tally W) → syntax ≡ default_syntax → IsRefused syntax i.source chain →
+      IsFault contents i chain old old
+  is_refused i syntax chain old e (inl memory) = is_memory i chain old memory
+  is_refused i syntax chain old e (inr (kind, none)) =
+      no_tree kind refl (keeps_same (contents old.writer)) (subst (λ s. SpellsNone s i.source) e none)
 
   -- What was answered of a template is what was answered of the words and the source.
-  module _ {O : Type 0} (t : TemplateValue O) (a : Asked) (source : Text) (m : Outcome) (old new : Tally W) (means : (tree : Tree) × Spells default_syntax source tree × (m ≡ meaning_of a source tree)) where
+  module _ {O : Type 0} (t : TemplateValue O) (i : Input) (m : Outcome) (old new : Tally W) (means : (tree : Tree) × Spells default_syntax i.source tree × (m ≡ meaning_of i tree)) where
     abbrev Ended : Result (CapturedValue O) (List ErrorKind) → Type 0
     Ended r = Rendered t m r (contents old.writer) (contents new.writer) old.failures new.failures
 
-    whole : Appends (contents old.writer) (contents new.writer) m.text → Appends (contents old.writer) (contents new.writer) (meaning_of a source means.0).text
+    whole : Appends (contents old.writer) (contents new.writer) m.text → Appends (contents old.writer) (contents new.writer) (meaning_of i means.0).text
     whole appended = subst (λ (o : Outcome). Appends (contents old.writer) (contents new.writer) o.text) means.2 appended
 
-    part : AppendsBeginning (contents old.writer) (contents new.writer) m.text → IsBegun a source (contents old.writer) (contents new.writer)
+    part : AppendsBeginning (contents old.writer) (contents new.writer) m.text → IsBegun i (contents old.writer) (contents new.writer)
     part begun = (means.0, means.1, subst (λ (o : Outcome). AppendsBeginning (contents old.writer) (contents new.writer) o.text) means.2 begun)
 
-    pub is_done : (c : CapturedValue O) → Ended (Ok c) → IsRendered contents a source old new
+    pub is_done : (c : CapturedValue O) → Ended (Ok c) → IsRendered contents i old new
     is_done c (as_meant is appended same) = (means.0, means.1, sym (ap chain_of means.2) ∙ done_chain m.ending m.world c.state.world is.2, whole appended, same)
     is_done c (by_writer e begun more) = absurd (cc)
     is_done c (by_memory memory begun same) = absurd memory
 
-    pub is_fault : (chain : List ErrorKind) → Ended (Err chain) → IsFault contents a source chain old new
+    pub is_fault : (chain : List ErrorKind) → Ended (Err chain) → IsFault contents i chain old new
     is_fault chain (as_meant is appended same) = meant means.0 means.1 (sym (ap chain_of means.2) ∙ fault_chain m.ending m.world chain is) same (whole appended)
     is_fault chain (by_writer e begun more) = write_failed (let same : chain ≡ WriteFailure ∷ [] = cc in same) more (part begun)
     is_fault chain (by_memory memory begun same) = no_memory memory same (inr (part begun))
@@ -180,24 +182,24 @@ keeps_then (Some xs) None new h k = absurd h
 keeps_then (Some xs) (Some ys) None h k = absurd k
 keeps_then (Some xs) (Some ys) (Some zs) h k = k ∙ h
 
-begun_flushed : (a : Asked) (source : Text) (old mid new : Option Text) → IsBegun a source old mid → Keeps mid new → IsBegun a source old new
-begun_flushed a source old mid new (tree, spelled, (n, appended)) k = (tree, spelled, (n, flushed old mid new _ appended k))
+begun_flushed : (i : Input) (old mid new : Option Text) → IsBegun i old mid → Keeps mid new → IsBegun i old new
+begun_flushed i old mid new (tree, spelled, (n, appended)) k = (tree, spelled, (n, flushed old mid new _ appended k))
 
 -- a flush adds nothing, and is no write that failed
-module _ {W : Type 0} (contents : W → Option Text) (a : Asked) (source : Text) (old mid new : Tally W) where
-  pub rendered_flushed : IsRendered contents a source old mid → Keeps (contents mid.writer) (contents new.writer) → new.failures ≡ mid.failures → IsRendered contents a source old new
+module _ {W : Type 0} (contents : W → Option Text) (i : Input) (old mid new : Tally W) where
+  pub rendered_flushed : IsRendered contents i old mid → Keeps (contents mid.writer) (contents new.writer) → new.failures ≡ mid.failures → IsRendered contents i old new
   rendered_flushed (tree, spelled, none, appended, same) k count = (tree, spelled, none, flushed _ _ _ _ appended k, count ∙ same)
 
-  pub fault_flushed : (chain : List ErrorKind) → IsFault contents a source chain old mid → Keeps (contents mid.writer) (contents new.writer) → new.failures ≡ mid.failures →
-      IsFault contents a source chain old new
+  pub fault_flushed : (chain : List ErrorKind) → IsFault contents i chain old mid → Keeps (contents mid.writer) (contents new.writer) → new.failures ≡ mid.failures →
+      IsFault contents i chain old new
   fault_flushed chain (no_memory e same (inl kept)) k count = no_memory e (count ∙ same) (inl (keeps_then _ _ _ kept k))
-  fault_flushed chain (no_memory e same (inr begun)) k count = no_memory e (count ∙ same) (inr (begun_flushed a source _ _ _ begun k))
-  fault_flushed chain (write_failed e rose begun) k count = write_failed e (count ∙ rose) (begun_flushed a source _ _ _ begun k)
+  fault_flushed chain (no_memory e same (inr begun)) k count = no_memory e (count ∙ same) (inr (begun_flushed i _ _ _ begun k))
+  fault_flushed chain (write_failed e rose begun) k count = write_failed e (count ∙ rose) (begun_flushed i _ _ _ begun k)
   fault_flushed chain (flush_failed e rendered) k count = flush_failed e (rendered_flushed rendered k count)
   fault_flushed chain (no_tree e same kept none) k count = no_tree e (count ∙ same) (keeps_then _ _ _ kept k) none
   fault_flushed chain (meant tree spelled e same appended) k count = meant tree spelled e (count ∙ same) (flushed _ _ _ _ appended k)
 
   -- the flush failed, and the render had not
-  pub unflushed : (chain : List ErrorKind) → chain ≡ WriteFailure ∷ [] → IsRendered contents a source old mid → Keeps (contents mid.writer) (contents new.writer) → new.failures ≡ mid.failures →
-      IsFault contents a source chain old new
+  pub unflushed : (chain : List ErrorKind) → chain ≡ WriteFailure ∷ [] → IsRendered contents i old mid → Keeps (contents mid.writer) (contents new.writer) → new.failures ≡ mid.failures →
+      IsFault contents i chain old new
   unflushed chain e rendered k count = flush_failed e (rendered_flushed rendered k count)

@@ -1,5 +1,5 @@
 -- What the program gives to a template, what its render means, and how the program ends.
-use Rattle.std.specs.Prelude.{◌≡◌, ◌⊎◌, ℕ, List, [], ◌∷◌, map as each, codes, min, Option, None, Some, Bool, true, false}
+use Rattle.std.specs.Prelude.{◌≡◌, ◌⊎◌, ℕ, List, [], ◌∷◌, ◌++◌, map as each, codes, min, Option, None, Some, Bool, true, false}
 use Rattle.std.specs.Io.KnownBytes.{Keeps, Appends}
 use Rattle.std.specs.Str.{bytes_eq, IsUtf8}
 use Rattle.tm_values.specs.Val.{Val, text, map, pairs_of}
@@ -19,15 +19,26 @@ use Rattle.tm_tables.specs.Templates.{Compiled}
 use Rattle.template_machine.specs.Environment.{TemplateValue, expected_environment, greatest_limit}
 use Rattle.tm_tables.specs.Stated.{behind_language}
 use Rattle.template_machine.specs.Renders.{meaning}
-use Rattle.mj_words.specs.CommandLine.{Text, Asked, asked}
+use Rattle.mj_words.specs.CommandLine.{Text, Asked, asked, asked_of}
+use Rattle.mj_words.specs.declared.arguments.Arguments.{Arguments}
+use Rattle.mj_json.specs.Json.{members_read}
 
 -- a name and a text as a key and a value
 abbrev pub pair_of : Text × Text → Val × Val
 pair_of t = (text t.0 false, text t.1 false)
 
--- the context of these names and texts: of a name the last text counts
-abbrev pub context_of : List (Text × Text) → Val
-context_of ts = map (pairs_of (put_all (each pair_of ts)))
+-- the context of these members of a JSON object and these names and texts over them: of a name the last one counts
+abbrev pub context_of : List (Val × Val) → List (Text × Text) → Val
+context_of members ts = map (pairs_of (put_all (members ++ each pair_of ts)))
+
+-- what a render is made of: what the words ask for, the members of the JSON object, and the template's source
+pub record Input : Type 0 where
+  pub asked : Asked
+  pub members : List (Val × Val)
+  pub source : Text
+
+abbrev pub input_of : Arguments → List (Val × Val) → Text → Input
+input_of arguments members source = record { asked = asked_of arguments; members = members; source = source }
 
 -- how deep scopes may lie, where the words say so
 abbrev pub limit_of : Option ℕ → ℕ
@@ -45,13 +56,17 @@ template_in a t = record {
 abbrev pub template_of : Asked → Text → Tree → TemplateValue (List Function)
 template_of a source tree = template_in a (record { name = a.file; source = source; escape = escape_by_name a.file; tree = tree })
 
--- what a render of this tree means, as the first state: over the texts that the words give, with their fuel
-abbrev pub meaning_of : Asked → Text → Tree → Outcome
-meaning_of a source tree = meaning (λ functions. functions) (template_of a source tree) 0 (context_of a.texts)
+-- what a render of this tree means, as the first state: over the context, with the fuel of the words
+abbrev pub meaning_of : Input → Tree → Outcome
+meaning_of input tree = meaning (λ functions. functions) (template_of input.asked input.source tree) 0 (context_of input.members input.asked.texts)
 
--- A template over a context means, as the first state, what the words and a tree of the source mean.
-abbrev pub IsMeant : {P : Type 0} → (P → List Function) → TemplateValue P → Val → Asked → Text → Type 0
-IsMeant functions t context a source = (tree : Tree) × Spells default_syntax source tree × (meaning functions t 0 context ≡ meaning_of a source tree)
+-- A template over a context means, as the first state, what a tree of the source means over the context that is given.
+abbrev pub IsMeant : {P : Type 0} → (P → List Function) → TemplateValue P → Val → Input → Type 0
+IsMeant functions t context input = (tree : Tree) × Spells default_syntax input.source tree × (meaning functions t 0 context ≡ meaning_of input tree)
+
+-- What may be read of a file later may be read of it before.
+abbrev pub FilesStay : {T : Type 0} → (T → Text → Option Text → Type 0) → T → T → Type 0
+FilesStay of_file old new = (file : Text) → (read : Option Text) → of_file new file read → of_file old file read
 
 abbrev either : Bool → Type 0 → Type 0 → Type 0
 either true A B = A
@@ -61,43 +76,61 @@ either false A B = B
 abbrev pub IsRead : {T : Type 0} → (T → Text → Option Text → Type 0) → (T → Option Text → Type 0) → T → Text → Option Text → Type 0
 IsRead of_file of_input texts file read = either (bytes_eq file (codes "-")) (of_input texts read) (of_file texts file read)
 
--- The words ask for these, and the source is what is read of their file.
-abbrev pub IsInput : {T : Type 0} → (T → Text → Option Text → Type 0) → (T → Option Text → Type 0) → T → List Text → Asked → Text → Type 0
-IsInput of_file of_input texts words a source = (asked [] None None words ≡ Some a) × IsRead of_file of_input texts a.file (Some source)
+-- The members are those of the object that the JSON file holds; without a JSON file there are none.
+abbrev pub IsMembers : {T : Type 0} → (T → Text → Option Text → Type 0) → T → Option Text → List (Val × Val) → Type 0
+IsMembers of_file texts None members = members ≡ []
+IsMembers of_file texts (Some file) members = (bytes : Text) × of_file texts file (Some bytes) × IsUtf8 bytes × (members_read bytes ≡ Some members)
+
+-- The words ask for this, the source is what is read of their file, and the members are those of their JSON file.
+abbrev pub IsInput : {T : Type 0} → (T → Text → Option Text → Type 0) → (T → Option Text → Type 0) → T → List Text → Input → Type 0
+IsInput of_file of_input texts words input =
+    (asked [] None None None words ≡ Some input.asked)
+    × IsRead of_file of_input texts input.asked.file (Some input.source)
+    × IsMembers of_file texts input.asked.json input.members
 
 -- Nothing is read of the file, or no text.
 abbrev pub IsUnread : {T : Type 0} → (T → Text → Option Text → Type 0) → (T → Option Text → Type 0) → T → Text → Type 0
 IsUnread {T = T} of_file of_input texts file =
     IsRead of_file of_input texts file None ⊎ ((bytes : Text) × IsRead of_file of_input texts file (Some bytes) × (IsUtf8 bytes → ⊥))
 
--- The words ask for nothing, or for a file that gives no text.
+-- Nothing is read of the JSON file, or no object without floats.
+abbrev pub IsNoObject : {T : Type 0} → (T → Text → Option Text → Type 0) → T → Option Text → Type 0
+IsNoObject of_file texts None = ⊥
+IsNoObject of_file texts (Some file) = of_file texts file None ⊎ ((bytes : Text) × of_file texts file (Some bytes) × (IsUtf8 bytes → members_read bytes ≡ None))
+
+-- The files of the words don't serve: the template's gives no text, or it gives one and the JSON file gives no object.
+abbrev pub IsUseless : {T : Type 0} → (T → Text → Option Text → Type 0) → (T → Option Text → Type 0) → T → Asked → Type 0
+IsUseless of_file of_input texts a =
+    IsUnread of_file of_input texts a.file ⊎ ((source : Text) × IsRead of_file of_input texts a.file (Some source) × IsNoObject of_file texts a.json)
+
+-- The words ask for nothing, or for files that don't serve.
 abbrev pub IsWrongUse : {T : Type 0} → (T → Text → Option Text → Type 0) → (T → Option Text → Type 0) → T → List Text → Type 0
 IsWrongUse of_file of_input texts words =
-    (asked [] None None words ≡ None) ⊎ ((a : Asked) × (asked [] None None words ≡ Some a) × IsUnread of_file of_input texts a.file)
+    (asked [] None None None words ≡ None) ⊎ ((a : Asked) × (asked [] None None None words ≡ Some a) × IsUseless of_file of_input texts a)
 
 -- The source spells a tree whose render is done, and the writer got its text without a fault.
-abbrev pub IsRendered : {W : Type 0} → (W → Option Text) → Asked → Text → Tally W → Tally W → Type 0
-IsRendered contents a source old new =
-    (tree : Tree) × Spells default_syntax source tree × (chain_of (meaning_of a source tree) ≡ [])
-    × Appends (contents old.writer) (contents new.writer) (meaning_of a source tree).text × (new.failures ≡ old.failures)
+abbrev pub IsRendered : {W : Type 0} → (W → Option Text) → Input → Tally W → Tally W → Type 0
+IsRendered contents input old new =
+    (tree : Tree) × Spells default_syntax input.source tree × (chain_of (meaning_of input tree) ≡ [])
+    × Appends (contents old.writer) (contents new.writer) (meaning_of input tree).text × (new.failures ≡ old.failures)
 
 -- The source spells a tree, and the writer got a beginning of the text that it means.
-abbrev pub IsBegun : Asked → Text → Option Text → Option Text → Type 0
-IsBegun a source old new = (tree : Tree) × Spells default_syntax source tree × AppendsBeginning old new (meaning_of a source tree).text
+abbrev pub IsBegun : Input → Option Text → Option Text → Type 0
+IsBegun input old new = (tree : Tree) × Spells default_syntax input.source tree × AppendsBeginning old new (meaning_of input tree).text
 
 -- A render ends with this error, and the writer holds what that error leaves. Its count of faults rose where a write failed, and only there.
-pub data IsFault {W : Type 0} (contents : W → Option Text) (a : Asked) (source : Text) (chain : List ErrorKind) (old new : Tally W) : Type 0 where
+pub data IsFault {W : Type 0} (contents : W → Option Text) (input : Input) (chain : List ErrorKind) (old new : Tally W) : Type 0 where
   -- want of memory: nothing was written, or a beginning of the text
-  no_memory : ends_in_memory chain ≡ true → new.failures ≡ old.failures → Keeps (contents old.writer) (contents new.writer) ⊎ IsBegun a source (contents old.writer) (contents new.writer) →
-      IsFault contents a source chain old new
+  no_memory : ends_in_memory chain ≡ true → new.failures ≡ old.failures → Keeps (contents old.writer) (contents new.writer) ⊎ IsBegun input (contents old.writer) (contents new.writer) →
+      IsFault contents input chain old new
   -- a write failed, behind a beginning of the text
-  write_failed : chain ≡ WriteFailure ∷ [] → new.failures ≡ one_more old.failures → IsBegun a source (contents old.writer) (contents new.writer) →
-      IsFault contents a source chain old new
+  write_failed : chain ≡ WriteFailure ∷ [] → new.failures ≡ one_more old.failures → IsBegun input (contents old.writer) (contents new.writer) →
+      IsFault contents input chain old new
   -- the flush failed, behind the whole text
-  flush_failed : chain ≡ WriteFailure ∷ [] → IsRendered contents a source old new → IsFault contents a source chain old new
+  flush_failed : chain ≡ WriteFailure ∷ [] → IsRendered contents input old new → IsFault contents input chain old new
   -- the source spells no tree
-  no_tree : chain ≡ SyntaxError ∷ [] → new.failures ≡ old.failures → Keeps (contents old.writer) (contents new.writer) → SpellsNone default_syntax source →
-      IsFault contents a source chain old new
+  no_tree : chain ≡ SyntaxError ∷ [] → new.failures ≡ old.failures → Keeps (contents old.writer) (contents new.writer) → SpellsNone default_syntax input.source →
+      IsFault contents input chain old new
   -- the fault is the one that was meant, behind all text that was heard before it
-  meant : (tree : Tree) → Spells default_syntax source tree → chain_of (meaning_of a source tree) ≡ chain → new.failures ≡ old.failures →
-      Appends (contents old.writer) (contents new.writer) (meaning_of a source tree).text → IsFault contents a source chain old new
+  meant : (tree : Tree) → Spells default_syntax input.source tree → chain_of (meaning_of input tree) ≡ chain → new.failures ≡ old.failures →
+      Appends (contents old.writer) (contents new.writer) (meaning_of input tree).text → IsFault contents input chain old new

@@ -1,21 +1,23 @@
 //! The program over words, files and streams that it is given.
-ghost use Rattle.std.specs.Prelude.{◌≡◌, ◌≢◌, ◌≤◌, ◌⊎◌, List, [], ◌∷◌, ⊤, true, Option, None, Some, map, string_bytes, MatchResult};
+ghost use Rattle.std.specs.Prelude.{◌≡◌, ◌≢◌, ◌≤◌, ◌⊎◌, List, [], ◌∷◌, ⊤, true, Option, None, Some, map, option_map, string_bytes, MatchResult};
 ghost use Rattle.tm_values.specs.declared.error.ErrorKind.{ErrorKind as Kind};
 ghost use Rattle.tm_values.specs.Chain.{ends_in_memory};
-ghost use Rattle.mj_words.specs.CommandLine.{Text, Asked, asked};
-ghost use Rattle.mj_run.specs.Program.{IsRead, IsInput, IsUnread, IsWrongUse, IsRendered, IsFault};
+ghost use Rattle.mj_words.specs.CommandLine.{Text, asked};
+ghost use Rattle.mj_run.specs.Program.{Input, IsRead, IsInput, IsUnread, IsMembers, IsNoObject, IsWrongUse, IsRendered, IsFault, FilesStay};
 ghost use Rattle.mj_words.specs.Told.{IsTold, message, usage};
 
 use crate::render::render;
+use mj_json::members;
 use mj_words::{Refusal, parse, tell_error, tell_refusal};
 use std::alloc::Global;
 use std::io::{self, Write};
 use tm_parts::Counted;
+use tm_values::Value;
 
 /// The status of a run without a fault.
 const SUCCESS: u8 = 0;
 
-/// Where templates are read from.
+/// Where templates and JSON are read from.
 pub trait Texts {
     // What may be read of a path: bytes, or none. The default says nothing.
     ghost of_file: { Self → Text → Option Text → Type 0 } = { λ _ _ _. ⊤ };
@@ -25,17 +27,19 @@ pub trait Texts {
 
     /// The bytes of a file.
     fn file(&mut self, path: &str) -> io::Result<Vec<u8>>
-        ensures { MatchResult result (λ bytes. of_file self.old path.now (Some bytes.items))
-            (λ _. of_file self.old path.now None) };
+        ensures read { MatchResult result (λ bytes. of_file self.old path.now (Some bytes.items))
+            (λ _. of_file self.old path.now None) }
+        ensures stay { FilesStay of_file self.old self.new };
 
     /// The bytes of standard input.
     fn standard_input(&mut self) -> io::Result<Vec<u8>>
-        ensures { MatchResult result (λ bytes. of_input self.old (Some bytes.items))
-            (λ _. of_input self.old None) };
+        ensures read { MatchResult result (λ bytes. of_input self.old (Some bytes.items))
+            (λ _. of_input self.old None) }
+        ensures stay { FilesStay of_file self.old self.new };
 }
 
 /// Renders what the words ask for to `out` as it goes, tells faults to `err`, and gives the exit
-/// status: 0 where all was written, 1 behind a fault, 2 where the words or the file do not serve.
+/// status: 0 where all was written, 1 behind a fault, 2 where the words or the files do not serve.
 pub fn run<T: Texts, O: Write + Drop, E: Write + Drop>(
     alloc: Global,
     words: &[String],
@@ -44,19 +48,19 @@ pub fn run<T: Texts, O: Write + Drop, E: Write + Drop>(
     err: &mut Counted<E>,
 ) -> u8
     ensures status { result ≤ 2 }
-    ensures rendered { result ≡ 0 → (err.new ≡ err.old) × (a : Asked) × (source : Text)
-        × IsInput T.of_file T.of_input texts.old (map string_bytes words.now) a source
-        × IsRendered O.contents a source out.old out.new }
+    ensures rendered { result ≡ 0 → (err.new ≡ err.old) × (input : Input)
+        × IsInput T.of_file T.of_input texts.old (map string_bytes words.now) input
+        × IsRendered O.contents input out.old out.new }
     ensures fault { result ≡ 1 → (kind : Kind) × (kinds : List Kind)
         × IsTold E.contents err.old err.new (message kind kinds)
         × (((ends_in_memory (kind ∷ kinds) ≡ true) × (out.new ≡ out.old))
-        ⊎ ((a : Asked) × (source : Text)
-        × IsInput T.of_file T.of_input texts.old (map string_bytes words.now) a source
-        × IsFault O.contents a source (kind ∷ kinds) out.old out.new)) }
+        ⊎ ((input : Input)
+        × IsInput T.of_file T.of_input texts.old (map string_bytes words.now) input
+        × IsFault O.contents input (kind ∷ kinds) out.old out.new)) }
     ensures wrong_use { result ≡ 2 → (out.new ≡ out.old)
         × IsTold E.contents err.old err.new usage
         × IsWrongUse T.of_file T.of_input texts.old (map string_bytes words.now) }
-    ensures refused { asked [] None None (map string_bytes words.now) ≡ None →
+    ensures refused { asked [] None None None (map string_bytes words.now) ≡ None →
         (result ≢ 0) × (out.new ≡ out.old) }
 {
     let arguments = match parse(alloc, words) {
@@ -67,18 +71,43 @@ pub fn run<T: Texts, O: Write + Drop, E: Write + Drop>(
         Ok(source) => source,
         Err(refusal) => return tell_refusal(err, refusal),
     };
-    match render(alloc, &arguments, source.as_str(), out) {
+    let members = match read_members(alloc, texts, arguments.json) {
+        Ok(members) => members,
+        Err(refusal) => return tell_refusal(err, refusal),
+    };
+    match render(alloc, &arguments, members, source.as_str(), out) {
         Ok(()) => SUCCESS,
         Err(error) => tell_error(err, &error),
+    }
+}
+
+/// The members of the object in the JSON file, or none without a file. OutOfMemory where no memory
+/// is found, and else Usage where nothing is read, or no object without floats.
+fn read_members<T: Texts>(
+    alloc: Global,
+    texts: &mut T,
+    json: Option<&str>,
+) -> Result<Vec<(Value, Value)>, Refusal>
+    ensures { let file = option_map (λ path. path.now) json.entry in MatchResult result
+        (λ members. IsMembers T.of_file texts.old file members.items)
+        (λ e. (e ≡ Refusal.OutOfMemory) ⊎ IsNoObject T.of_file texts.old file) }
+{
+    match json {
+        Some(path) => match texts.file(path) {
+            Ok(bytes) => members(alloc, bytes.as_slice()),
+            Err(error) => Err(Refusal::of_read(&error)),
+        },
+        None => Ok(Vec::new(alloc)),
     }
 }
 
 /// The source of a template. OutOfMemory where a read finds no memory, and else Usage where nothing
 /// is read, or no UTF-8.
 fn read_source<T: Texts>(texts: &mut T, file: &str) -> Result<String, Refusal>
-    ensures { MatchResult result
+    ensures read { MatchResult result
         (λ source. IsRead T.of_file T.of_input texts.old file.now (Some (string_bytes source)))
         (λ _. IsUnread T.of_file T.of_input texts.old file.now) }
+    ensures stay { FilesStay T.of_file texts.old texts.new }
 {
     match read_bytes(texts, file) {
         Ok(bytes) => match String::from_utf8(bytes) {
@@ -91,9 +120,10 @@ fn read_source<T: Texts>(texts: &mut T, file: &str) -> Result<String, Refusal>
 
 /// The bytes of a file; `-` is standard input.
 fn read_bytes<T: Texts>(texts: &mut T, file: &str) -> io::Result<Vec<u8>>
-    ensures { MatchResult result
+    ensures read { MatchResult result
         (λ bytes. IsRead T.of_file T.of_input texts.old file.now (Some bytes.items))
         (λ _. IsRead T.of_file T.of_input texts.old file.now None) }
+    ensures stay { FilesStay T.of_file texts.old texts.new }
 {
     if file == "-" {
         texts.standard_input()

@@ -1,8 +1,9 @@
 //! The render that the words ask for.
-ghost use Rattle.std.specs.Prelude.{◌≡◌, [], ◌∷◌, map, min, MatchResult};
-ghost use Rattle.mj_words.specs.CommandLine.{Asked, Text, asked_of, plain};
+ghost use Rattle.std.specs.Prelude.{◌≡◌, List, [], ◌∷◌, map, min, MatchResult};
+ghost use Rattle.tm_values.specs.Val.{Val};
+ghost use Rattle.mj_words.specs.CommandLine.{plain};
 ghost use Rattle.template_machine.specs.Environment.{greatest_limit, new_environment};
-ghost use Rattle.mj_run.specs.Program.{context_of, limit_of, IsMeant, IsRendered, IsFault};
+ghost use Rattle.mj_run.specs.Program.{Input, input_of, context_of, limit_of, IsMeant, IsRendered, IsFault};
 
 use mj_words::Arguments;
 use std::alloc::Global;
@@ -18,14 +19,15 @@ use tm_values::{Error, ErrorKind, Value, ValueMap};
 pub fn render<O: Write + Drop>(
     alloc: Global,
     arguments: &Arguments<'_>,
+    members: Vec<(Value, Value)>,
     source: &str,
     out: &mut Counted<O>,
 ) -> Result<(), Error>
-    ensures { MatchResult result
-        (λ _. IsRendered O.contents (asked_of arguments.now) source.now out.old out.new)
-        (λ e. IsFault O.contents (asked_of arguments.now) source.now e out.old out.new) }
+    ensures { let input = input_of arguments.now members.items source.now in MatchResult result
+        (λ _. IsRendered O.contents input out.old out.new)
+        (λ e. IsFault O.contents input e out.old out.new) }
 {
-    let rendered = render_unflushed(alloc, arguments, source, out);
+    let rendered = render_unflushed(alloc, arguments, members, source, out);
     let flushed = out.flush();
     rendered?;
     match flushed {
@@ -38,19 +40,20 @@ pub fn render<O: Write + Drop>(
 fn render_unflushed<O: Write + Drop>(
     alloc: Global,
     arguments: &Arguments<'_>,
+    members: Vec<(Value, Value)>,
     source: &str,
     out: &mut Counted<O>,
 ) -> Result<(), Error>
-    ensures { MatchResult result
-        (λ _. IsRendered O.contents (asked_of arguments.now) source.now out.old out.new)
-        (λ e. IsFault O.contents (asked_of arguments.now) source.now e out.old out.new) }
+    ensures { let input = input_of arguments.now members.items source.now in MatchResult result
+        (λ _. IsRendered O.contents input out.old out.new)
+        (λ e. IsFault O.contents input e out.old out.new) }
 {
-    let context = context(alloc, arguments.texts.as_slice())?;
+    let context = context(alloc, members, arguments.texts.as_slice())?;
     let mut environment = Environment::new(alloc)?;
     render_in(&mut environment, arguments, source, context, out)
 }
 
-/// Renders the source in a new environment, over the context of the words.
+/// Renders the source in a new environment, over the context of the words and any members.
 fn render_in<'a, O: Write + Drop>(
     environment: &mut Environment<'a>,
     arguments: &Arguments<'_>,
@@ -59,10 +62,11 @@ fn render_in<'a, O: Write + Drop>(
     out: &mut Counted<O>,
 ) -> Result<(), Error>
     requires new { environment.now ≡ new_environment }
-    requires given { context ≡ context_of (map plain arguments.now.texts.items) }
-    ensures { MatchResult result
-        (λ _. IsRendered O.contents (asked_of arguments.now) source.entry.now out.old out.new)
-        (λ e. IsFault O.contents (asked_of arguments.now) source.entry.now e out.old out.new) }
+    ensures { (members : List (Val × Val)) →
+        context ≡ context_of members (map plain arguments.now.texts.items) →
+        let input = input_of arguments.now members source.entry.now in MatchResult result
+        (λ _. IsRendered O.contents input out.old out.new)
+        (λ e. IsFault O.contents input e out.old out.new) }
 {
     environment.set_fuel(arguments.fuel);
     environment.set_recursion_limit(limit(arguments.limit));
@@ -71,15 +75,15 @@ fn render_in<'a, O: Write + Drop>(
     render_template(&template, context, out)
 }
 
-/// Renders the template as the first state: as any words and source that it means.
+/// Renders the template as the first state: as any input that it means.
 fn render_template<P: Parties, O: Write + Drop>(
     template: &TemplateOf<'_, '_, P>,
     context: Value,
     out: &mut Counted<O>,
 ) -> Result<(), Error>
-    ensures { (a : Asked) → (source : Text) → IsMeant P.functions template.now context a source →
-        MatchResult result (λ _. IsRendered O.contents a source out.old out.new)
-        (λ e. IsFault O.contents a source e out.old out.new) }
+    ensures { (input : Input) → IsMeant P.functions template.now context input →
+        MatchResult result (λ _. IsRendered O.contents input out.old out.new)
+        (λ e. IsFault O.contents input e out.old out.new) }
 {
     template.render_captured_to(&mut StateIds::new(), context, out)?;
     Ok(())
@@ -95,14 +99,17 @@ fn limit(given: Option<u64>) -> usize
     }
 }
 
-/// The map of the names to their texts. Fails by OutOfMemory alone.
-fn context(alloc: Global, texts: &[(&str, &str)]) -> Result<Value, Error>
-    ensures { MatchResult result (λ v. v ≡ context_of (map plain texts.now))
+/// The map of the members, with the names and their texts over them. Fails by OutOfMemory alone.
+fn context(
+    alloc: Global,
+    mut members: Vec<(Value, Value)>,
+    texts: &[(&str, &str)],
+) -> Result<Value, Error>
+    ensures { MatchResult result (λ v. v ≡ context_of members.items (map plain texts.now))
         (λ e. e ≡ ErrorKind.OutOfMemory ∷ []) }
 {
-    let mut pairs = Vec::with_capacity(alloc, texts.len())?;
     for (name, text) in texts {
-        pairs.push((Value::text(alloc, name)?, Value::text(alloc, text)?))?;
+        members.push((Value::text(alloc, name)?, Value::text(alloc, text)?))?;
     }
-    Value::from_map(alloc, ValueMap::from_pairs(pairs)?)
+    Value::from_map(alloc, ValueMap::from_pairs(members)?)
 }

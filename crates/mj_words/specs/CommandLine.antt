@@ -1,5 +1,5 @@
 -- What the words of a command line ask for.
-use Rattle.std.specs.Prelude.{ℕ, ◌^◌, List, codes, [], ◌∷◌, ◌++◌, length, map, drop, slice_index, Option, None, Some, Bool, ◌&&◌, ◌==◌, nat_lt, if◌then◌else◌}
+use Rattle.std.specs.Prelude.{ℕ, ◌^◌, List, codes, [], ◌∷◌, ◌++◌, length, map, drop, slice_index, Option, None, Some, option_map, Bool, ◌&&◌, ◌==◌, nat_lt, if◌then◌else◌}
 use Rattle.std.specs.Borrow.{Bor}
 use Rattle.std.specs.List.{before_first, after_first, position_or_len}
 use Rattle.std.specs.Str.{all_ascii_digits, bytes_eq}
@@ -9,9 +9,10 @@ use Rattle.mj_words.specs.declared.arguments.Arguments.{Arguments}
 abbrev pub Text : Type 0
 Text = List ℕ
 
--- the texts by name in their order, the fuel, how deep scopes may lie, and the file
+-- the texts by name in their order, the JSON file of the context, the fuel, how deep scopes may lie, and the template's file
 pub record Asked : Type 0 where
   pub texts : List (Text × Text)
+  pub json : Option Text
   pub fuel : Option ℕ
   pub limit : Option ℕ
   pub file : Text
@@ -44,34 +45,40 @@ abbrev pub with_text : Option (Text × Text) → (Text × Text → Option Asked)
 with_text None go_on = None
 with_text (Some p) go_on = go_on p
 
--- what words ask for, behind others that gave these texts, this fuel and this limit: options, and then one file
+-- what words ask for, behind others that gave these texts, this JSON file, this fuel and this limit: options, and then one file
 abbrev mutual
-  pub asked : List (Text × Text) → Option ℕ → Option ℕ → List Text → Option Asked
-  asked texts fuel limit [] = None
-  asked texts fuel limit (word ∷ words) =
+  pub asked : List (Text × Text) → Option Text → Option ℕ → Option ℕ → List Text → Option Asked
+  asked texts json fuel limit [] = None
+  asked texts json fuel limit (word ∷ words) =
       if is_option word then
-      (if bytes_eq word (codes "--fuel") then asked_fuel texts limit words
-      else if bytes_eq word (codes "--limit") then asked_limit texts fuel words
-      else if bytes_eq word (codes "-D") then asked_text texts fuel limit words
-      else if begins_definition word then with_text (definition (drop 2 word)) (λ p. asked (texts ++ (p ∷ [])) fuel limit words)
+      (if bytes_eq word (codes "--json") then asked_json texts fuel limit words
+      else if bytes_eq word (codes "--fuel") then asked_fuel texts json limit words
+      else if bytes_eq word (codes "--limit") then asked_limit texts json fuel words
+      else if bytes_eq word (codes "-D") then asked_text texts json fuel limit words
+      else if begins_definition word then with_text (definition (drop 2 word)) (λ p. asked (texts ++ (p ∷ [])) json fuel limit words)
       else None)
-      else if length words == 0 then Some (record { texts = texts; fuel = fuel; limit = limit; file = word })
+      else if length words == 0 then Some (record { texts = texts; json = json; fuel = fuel; limit = limit; file = word })
       else None
 
+  -- the same behind `--json`, whose file stands in place of an earlier one, whatever its name is
+  pub asked_json : List (Text × Text) → Option ℕ → Option ℕ → List Text → Option Asked
+  asked_json texts fuel limit [] = None
+  asked_json texts fuel limit (word ∷ words) = asked texts (Some word) fuel limit words
+
   -- the same behind `--fuel`, whose number stands in place of an earlier one
-  pub asked_fuel : List (Text × Text) → Option ℕ → List Text → Option Asked
-  asked_fuel texts limit [] = None
-  asked_fuel texts limit (word ∷ words) = with_number (number word) (λ n. asked texts (Some n) limit words)
+  pub asked_fuel : List (Text × Text) → Option Text → Option ℕ → List Text → Option Asked
+  asked_fuel texts json limit [] = None
+  asked_fuel texts json limit (word ∷ words) = with_number (number word) (λ n. asked texts json (Some n) limit words)
 
   -- the same behind `--limit`
-  pub asked_limit : List (Text × Text) → Option ℕ → List Text → Option Asked
-  asked_limit texts fuel [] = None
-  asked_limit texts fuel (word ∷ words) = with_number (number word) (λ n. asked texts fuel (Some n) words)
+  pub asked_limit : List (Text × Text) → Option Text → Option ℕ → List Text → Option Asked
+  asked_limit texts json fuel [] = None
+  asked_limit texts json fuel (word ∷ words) = with_number (number word) (λ n. asked texts json fuel (Some n) words)
 
   -- the same behind `-D`
-  pub asked_text : List (Text × Text) → Option ℕ → Option ℕ → List Text → Option Asked
-  asked_text texts fuel limit [] = None
-  asked_text texts fuel limit (word ∷ words) = with_text (definition word) (λ p. asked (texts ++ (p ∷ [])) fuel limit words)
+  pub asked_text : List (Text × Text) → Option Text → Option ℕ → Option ℕ → List Text → Option Asked
+  asked_text texts json fuel limit [] = None
+  asked_text texts json fuel limit (word ∷ words) = with_text (definition word) (λ p. asked (texts ++ (p ∷ [])) json fuel limit words)
 
 -- the texts as plain data
 abbrev pub plain : Bor Text × Bor Text → Text × Text
@@ -79,4 +86,8 @@ plain p = (p.0.now, p.1.now)
 
 -- what arguments ask for
 abbrev pub asked_of : Arguments → Asked
-asked_of a = record { texts = map plain a.texts.items; fuel = a.fuel; limit = a.limit; file = a.file.now }
+asked_of a = record { texts = map plain a.texts.items; json = option_map (λ p. p.now) a.json; fuel = a.fuel; limit = a.limit; file = a.file.now }
+
+-- what the words behind these arguments ask for
+abbrev pub asked_behind : Arguments → List Text → Option Asked
+asked_behind a words = asked (map plain a.texts.items) (option_map (λ p. p.now) a.json) a.fuel a.limit words

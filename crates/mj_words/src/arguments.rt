@@ -1,5 +1,5 @@
 //! The words of a command line.
-ghost use Rattle.std.specs.Prelude.{◌≡◌, ◌<◌, ◌⊎◌, ◌↔◌, [], ◌∷◌, None, Some, false, true, drop, length, map, string_bytes, MatchOption, MatchResult};
+ghost use Rattle.std.specs.Prelude.{◌≡◌, ◌<◌, ◌≤◌, ◌⊎◌, ◌↔◌, [], ◌∷◌, None, Some, false, true, drop, length, map, string_bytes, MatchOption, MatchResult};
 ghost use Rattle.std.specs.IoError.{error_kind};
 ghost use Rattle.mj_words.specs.CommandLine as spec;
 
@@ -11,6 +11,8 @@ use std::io::{self, ErrorKind};
 pub struct Arguments<'a> {
     /// The names of the context and their texts, of which the last of a name counts.
     pub texts: Vec<(&'a str, &'a str)>,
+    /// The JSON file whose object the context begins with, where one is named; always a path.
+    pub json: Option<&'a str>,
     /// The fuel of the render, where it is limited.
     pub fuel: Option<u64>,
     /// How deep scopes may lie, where that is said.
@@ -66,46 +68,68 @@ impl<T: Drop> From<AllocFailed<T>> for Refusal {
 
 /// Reads the words after the program's name: options, and then one file.
 pub fn parse(alloc: Global, words: &[String]) -> Result<Arguments<'_>, Refusal>
-    ensures { let asked = spec.asked [] None None (map string_bytes words.now) in MatchResult result
+    ensures { let asked = spec.asked [] None None None (map string_bytes words.now) in
+        MatchResult result
         (λ a. asked ≡ Some (spec.asked_of a))
         (λ e. (e ≡ Refusal.OutOfMemory) ⊎ ((e ≡ Refusal.Usage) × (asked ≡ None))) }
 {
-    let mut texts = Vec::new(alloc);
-    let mut fuel = None;
-    let mut limit = None;
+    let mut arguments = Arguments {
+        texts: Vec::new(alloc),
+        json: None,
+        fuel: None,
+        limit: None,
+        file: "",
+    };
     let mut rest = words;
     while let Some((word, after)) = first(rest) {
-        if !is_option(word) {
-            if !after.is_empty() {
-                return Err(Refusal::Usage);
-            }
-            return Ok(Arguments {
-                texts,
-                fuel,
-                limit,
-                file: word,
-            });
-        }
-        rest = after;
-        if word == "--fuel" {
-            let (word, after) = first(rest).ok_or(Refusal::Usage)?;
-            fuel = Some(number(word).ok_or(Refusal::Usage)?);
-            rest = after;
-        } else if word == "--limit" {
-            let (word, after) = first(rest).ok_or(Refusal::Usage)?;
-            limit = Some(number(word).ok_or(Refusal::Usage)?);
-            rest = after;
-        } else if word == "-D" {
-            let (word, after) = first(rest).ok_or(Refusal::Usage)?;
-            texts.push(definition(word).ok_or(Refusal::Usage)?)?;
-            rest = after;
-        } else if let Some(word) = joined(word) {
-            texts.push(definition(word).ok_or(Refusal::Usage)?)?;
+        if is_option(word) {
+            rest = take_option(&mut arguments, word, after)?;
+        } else if after.is_empty() {
+            arguments.file = word;
+            return Ok(arguments);
         } else {
             return Err(Refusal::Usage);
         }
     }
     Err(Refusal::Usage)
+}
+
+/// Takes an option, with its word where it has one, into the arguments; gives the words after it.
+fn take_option<'a>(
+    arguments: &mut Arguments<'a>,
+    option: &'a str,
+    words: &'a [String],
+) -> Result<&'a [String], Refusal>
+    requires { spec.is_option option.now ≡ true }
+    ensures { let all = spec.asked_behind arguments.old (option.now ∷ map string_bytes words.now) in
+        MatchResult result
+        (λ rest. (all ≡ spec.asked_behind arguments.new (map string_bytes rest.now))
+        × (length rest.now ≤ length words.now))
+        (λ e. (e ≡ Refusal.OutOfMemory) ⊎ ((e ≡ Refusal.Usage) × (all ≡ None))) }
+{
+    if option != "-D" {
+        if let Some(word) = joined(option) {
+            arguments
+                .texts
+                .push(definition(word).ok_or(Refusal::Usage)?)?;
+            return Ok(words);
+        }
+    }
+    let (word, rest) = first(words).ok_or(Refusal::Usage)?;
+    if option == "--json" {
+        arguments.json = Some(word);
+    } else if option == "--fuel" {
+        arguments.fuel = Some(number(word).ok_or(Refusal::Usage)?);
+    } else if option == "--limit" {
+        arguments.limit = Some(number(word).ok_or(Refusal::Usage)?);
+    } else if option == "-D" {
+        arguments
+            .texts
+            .push(definition(word).ok_or(Refusal::Usage)?)?;
+    } else {
+        return Err(Refusal::Usage);
+    }
+    Ok(rest)
 }
 
 /// The first word, and the words after it.

@@ -1,29 +1,31 @@
 use Rattle.std.proofs.Common.{ap}
 use Rattle.template_machine.specs.Environment.{EnvironmentValue}
 use Rattle.mj_words.specs.CommandLine.{asked_of}
+use Rattle.mj_run.specs.Program.{input_of}
 use Rattle.mj_run.proofs.Rendered.{started, none_of, is_meant, is_found, is_refused, passed}
 use Rattle.mj_run.proofs.render.render_in.Goals as goal
 
 pub returns : goal.returns
-returns g c =
+returns g c = λ members given.
+    let input = input_of c.args.arguments.now members c.args.source.now in
     let a = asked_of c.args.arguments.now in
     let put = c.in_ok-add_template.ensures.ok in
     let start = started a c.limit.result _ _ _ c.requires.new c.set_fuel.ensures c.set_recursion_limit.ensures c.limit.ensures in
-    let means = is_meant _ a c.args.source.now _ _ put.0 c.in_ok-template.template c.args.context (λ e. none_of _ _ e) start put.1 put.2 c.in_ok-template.ensures c.requires.given in
-    c.render_template.ensures a c.args.source.now means
+    let means = is_meant _ input _ _ put.0 c.in_ok-template.template c.args.context (λ e. none_of _ _ e) start put.1 put.2 c.in_ok-template.ensures given in
+    c.render_template.ensures input means
 
 -- the source was refused
 pub returns-in_err-add_template : goal.returns-in_err-add_template
-returns-in_err-add_template g c =
+returns-in_err-add_template g c = λ members given.
     let a = asked_of c.args.arguments.now in
     let start = started a c.limit.result _ _ _ c.requires.new c.set_fuel.ensures c.set_recursion_limit.ensures c.limit.ensures in
     let r = c.in_err-add_template in
     passed c.from_residual.result _ _ r.field-0.0 c.from_residual.ensures.1
-    (is_refused g.O.Write.contents a c.args.source.now _ r.field-0.0 c.args.out.now (ap (λ (e : EnvironmentValue _). e.syntax) start) r.ensures.refused)
+    (is_refused g.O.Write.contents (input_of c.args.arguments.now members c.args.source.now) _ r.field-0.0 c.args.out.now (ap (λ (e : EnvironmentValue _). e.syntax) start) r.ensures.refused)
 
 -- the template is found, since it was put
 pub returns-in_err-template : goal.returns-in_err-template
-returns-in_err-template g c =
+returns-in_err-template g c = λ members given.
     let a = asked_of c.args.arguments.now in
     let put = c.in_ok-add_template.ensures.ok in
     let start = started a c.limit.result _ _ _ c.requires.new c.set_fuel.ensures c.set_recursion_limit.ensures c.limit.ensures in

@@ -1,0 +1,41 @@
+-- The values that JSON gives to a template.
+use Rattle.std.specs.Prelude.{◌≡◌, ◌⊎◌, ℕ, List, [], ◌∷◌, false, Option, None, Some, option_map, option_and_then, Result, MatchResult}
+use Rattle.serde_json.specs.Data as json
+use Rattle.serde_json.specs.Find.{as_integer, as_object}
+use Rattle.serde_json.specs.Read.{read}
+use Rattle.tm_values.specs.Val.{Val, none, boolean, number, text, list, map, vals_of, pairs_of}
+use Rattle.tm_values.specs.Map.{put_all}
+use Rattle.mj_words.specs.declared.arguments.Refusal.{Refusal}
+use Rattle.mj_words.specs.declared.arguments.Refusal.TheVariants.{Usage, OutOfMemory}
+
+-- The value that JSON gives: none where a float is in it. Texts aren't safe; what JSON calls null is the value none.
+abbrev mutual
+  pub value_of : json.Data → Option Val
+  value_of json.null = Some none
+  value_of (json.boolean b) = Some (boolean b)
+  value_of (json.number n) = option_map number (as_integer n)
+  value_of (json.string s) = Some (text s false)
+  value_of (json.array ds) = option_map (λ vs. list (vals_of vs)) (values_of ds)
+  value_of (json.object ms) = option_map (λ ps. map (pairs_of (put_all ps))) (members_of ms)
+
+  -- the values of the items of an array
+  pub values_of : json.Items → Option (List Val)
+  values_of json.no_items = Some []
+  values_of (json.item d ds) = option_and_then (λ v. option_map (λ vs. v ∷ vs) (values_of ds)) (value_of d)
+
+  -- the members of an object, each a text and a value
+  pub members_of : json.Members → Option (List (Val × Val))
+  members_of json.no_members = Some []
+  members_of (json.member k d ms) = option_and_then (λ v. option_map (λ ps. (text k false, v) ∷ ps) (members_of ms)) (value_of d)
+
+-- the members of the JSON object that a text spells: none where it spells no object, or a float is in it
+abbrev pub members_read : List ℕ → Option (List (Val × Val))
+members_read bytes = option_and_then members_of (option_and_then as_object (read bytes))
+
+-- There was no memory, or what was asked for isn't there.
+abbrev pub IsRefused : {A : Type 0} → Refusal → Option A → Type 0
+IsRefused refusal stated = (refusal ≡ OutOfMemory) ⊎ ((refusal ≡ Usage) × (stated ≡ None))
+
+-- What was converted is what was stated, or it was refused.
+abbrev pub IsConverted : {A : Type 0} → Result A Refusal → Option A → Type 0
+IsConverted result stated = MatchResult result (λ v. stated ≡ Some v) (λ e. IsRefused e stated)

@@ -1,0 +1,7 @@
+//! The values that JSON gives to a template.
+#![tactic(auto)]
+
+mod object;
+mod values;
+
+pub use object::members;

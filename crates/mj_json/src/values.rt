@@ -1,0 +1,69 @@
+//! JSON as values.
+ghost use Rattle.std.specs.Prelude.{◌≡◌, Some, Ok, MatchResult};
+ghost use Rattle.serde_json.specs.View.{view, items_view, members_view};
+ghost use Rattle.mj_json.specs.Json as spec;
+
+use mj_words::Refusal;
+use serde_json::{Map, Value as Json};
+use std::alloc::Global;
+use tm_values::{Error, Value, ValueMap};
+
+/// The value that JSON gives. OutOfMemory where no memory was found, Usage where a float is in it.
+#[cycle(values)]
+fn value_of(alloc: Global, json: &Json) -> Result<Value, Refusal>
+    ensures { spec.IsConverted result (spec.value_of (view json.now)) }
+{
+    match json {
+        Json::Null => Ok(Value::none()),
+        Json::Bool(truth) => Ok(Value::boolean(*truth)),
+        Json::Number(number) => Ok(Value::number(number.as_i128().ok_or(Refusal::Usage)?)),
+        Json::String(content) => made(Value::text(alloc, content.as_str())),
+        Json::Array(items) => made(Value::list(alloc, values_of(alloc, items.as_slice())?)),
+        Json::Object(members) => {
+            let members = made(ValueMap::from_pairs(members_of(alloc, members)?))?;
+            made(Value::from_map(alloc, members))
+        }
+    }
+}
+
+/// The values of the items of an array, with the same refusals.
+#[cycle(values)]
+fn values_of(alloc: Global, items: &[Json]) -> Result<Vec<Value>, Refusal>
+    ensures { MatchResult result
+        (λ values. spec.values_of (items_view items.now) ≡ Some values.items)
+        (λ e. spec.IsRefused e (spec.values_of (items_view items.now))) }
+{
+    let mut values = Vec::with_capacity(alloc, items.len())?;
+    for item in items {
+        values.push(value_of(alloc, item)?)?;
+    }
+    Ok(values)
+}
+
+/// The keys and values of the members of an object, with the same refusals.
+#[cycle(values)]
+pub(crate) fn members_of(
+    alloc: Global,
+    members: &Map<String, Json>,
+) -> Result<Vec<(Value, Value)>, Refusal>
+    ensures { MatchResult result
+        (λ pairs. spec.members_of (members_view members.now.entries) ≡ Some pairs.items)
+        (λ e. spec.IsRefused e (spec.members_of (members_view members.now.entries))) }
+{
+    let mut pairs = Vec::with_capacity(alloc, members.len())?;
+    for (key, member) in members.iter() {
+        let key = made(Value::text(alloc, key.as_str()))?;
+        pairs.push((key, value_of(alloc, member)?))?;
+    }
+    Ok(pairs)
+}
+
+/// What was made of values, whose making fails for want of memory alone.
+fn made<T: Drop>(answer: Result<T, Error>) -> Result<T, Refusal>
+    ensures { MatchResult result (λ value. answer ≡ Ok value) (λ e. e ≡ Refusal.OutOfMemory) }
+{
+    match answer {
+        Ok(value) => Ok(value),
+        Err(_error) => Err(Refusal::OutOfMemory),
+    }
+}
