@@ -7,7 +7,7 @@ use std::test::Fail;
 use tm_compiler::{SyntaxConfig, parse};
 use tm_values::{Error, ErrorKind};
 
-static CODES: [(&str, &str); 30] = [
+static CODES: [(&str, &str); 33] = [
     ("{# c #}", ""),
     ("{{ \"}}\" }}\n", " #}} emit"),
     ("{{ a == none }}", " $a #none == emit"),
