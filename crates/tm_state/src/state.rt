@@ -374,7 +374,7 @@ impl<'env> StateData<'env> {
         self.context.push_frame(Frame::of_loop(alloc, mark), limit)?;
         let added = add_loop(&mut self.loops, &self.stream, items, depth, flags.recursive);
         if added.is_err() {
-            self.context.pop_frame();
+            self.pop_scope();
         }
         added
     }
@@ -518,7 +518,7 @@ impl<'env> StateData<'env> {
         self.context.set_outer(outer);
         self.stream = stream;
         self.block = block;
-        self.escape = escape;
+        self.set_escape(escape);
     }
 }
 
