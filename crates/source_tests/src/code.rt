@@ -141,7 +141,9 @@ fn detail(instruction: &Instruction) -> &str {
 
 fn count(instruction: &Instruction) -> &'static str {
     match instruction {
-        Instruction::CallFunction(_, number) | Instruction::CallMethod(_, number) => numeral(*number),
+        Instruction::CallFunction(_, number) | Instruction::CallMethod(_, number) => numeral(
+            *number,
+        ),
         _ => "",
     }
 }

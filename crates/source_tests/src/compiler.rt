@@ -20,7 +20,10 @@ static CODES: [(&str, &str); 33] = [
     ("{{ f() == true }}", " call:f0 #true == emit"),
     ("{{ f(a, b=1) }}", " $a #b #1 named:1 call:f2 emit"),
     ("{{ a.m() }}", " $a method:m1 emit"),
-    ("{{ a.b.m(1, k=c)[0] }}", " $a .b #1 #k $c named:1 method:m3 #0 item emit"),
+    (
+        "{{ a.b.m(1, k=c)[0] }}",
+        " $a .b #1 #k $c named:1 method:m3 #0 item emit",
+    ),
     ("{% do a.m(1) %}", " $a #1 method:m2 drop"),
     ("{{ f(b=1,) }}", " #b #1 named:1 call:f1 emit"),
     ("{{ f(b=1, c=2) }}", " #b #1 #c #2 named:2 call:f1 emit"),

@@ -141,7 +141,7 @@ told_turn args w l = has (cycled (place_of l.turns) args) w
 abbrev pub loop_method : List ℕ → ℕ → ℕ → List Val → World → Asked
 loop_method x state n args w =
     if same_name x (codes "changed") then
-      of_loop (record_at w state n) w (told_changed n args w)
+    of_loop (record_at w state n) w (told_changed n args w)
     else if same_name x (codes "cycle") then of_loop (record_at w state n) w (told_turn args w)
     else refused (UnknownMethod ∷ []) w
 

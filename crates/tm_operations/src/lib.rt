@@ -15,7 +15,9 @@ mod rows;
 mod slices;
 mod undefined;
 
-pub use arithmetic::{add, divide, floor_divide, multiply, negate, power, remainder, share_all, subtract};
+pub use arithmetic::{
+    add, divide, floor_divide, multiply, negate, power, remainder, share_all, subtract,
+};
 pub use comparisons::{Comparison, compare};
 pub use concatenation::concatenate;
 pub use condition::{is_true, truth};

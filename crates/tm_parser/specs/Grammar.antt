@@ -232,11 +232,11 @@ unfoldable pub named_step : Inside → Rule Step
 named_step i = do
   name ← token a_name
   branch (first (is sign.OpenRound))
-    (λ _. do
-      room ← i.room
-      given ← all_passed i
-      pure (steps.Method name given.by_place given.by_name))
-    (pure (steps.Attribute name))
+      (λ _. do
+        room ← i.room
+        given ← all_passed i
+        pure (steps.Method name given.by_place given.by_name))
+      (pure (steps.Attribute name))
 
 -- what stands behind a part of a slice
 abbrev pub ends_part : Token → Bool

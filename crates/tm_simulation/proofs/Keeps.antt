@@ -270,8 +270,8 @@ kept_turned g w world1 k =
     let top : top_mark world1.scopes.frames ≡ Some (mark_behind g w) = top_of_marks (Some (mark_behind g w)) (marks w.scopes.frames) world1.scopes.frames k.same_marks in
     let is : next_turn world1 ≡ record world1 { loops = turned_at (length w.loops) world1.loops } = ap (λ m. turned_of m world1) top in
     let loops : shapes (turned_at (length w.loops) world1.loops) ≡ shapes w.loops ++ turned_at 0 k.loops.0 =
-        turned_shapes (length w.loops) world1.loops ∙ ap (turned_at (length w.loops)) k.loops.1 ∙ ap (λ n. turned_at n (shapes w.loops ++ k.loops.0)) (sym (shapes_long w.loops))
-        ∙ turned_behind (shapes w.loops) k.loops.0 in
+    turned_shapes (length w.loops) world1.loops ∙ ap (turned_at (length w.loops)) k.loops.1 ∙ ap (λ n. turned_at n (shapes w.loops ++ k.loops.0)) (sym (shapes_long w.loops))
+    ∙ turned_behind (shapes w.loops) k.loops.0 in
     subst (λ x. Kept (in_loop_of g w) x) (sym is) (record { same_marks = k.same_marks; outer = k.outer; loops = (turned_at 0 k.loops.0, loops) })
 
 -- a world with a loop of these items more

@@ -53,7 +53,10 @@ impl Machine<'_> {
         let Some((receiver, args)) = values.split_first() else {
             return Err(Halt::Fault(Error::from(ErrorKind::InvalidOperation)));
         };
-        match self.state.call_method(alloc, host, receiver, name.as_str(), args) {
+        match self
+            .state
+            .call_method(alloc, host, receiver, name.as_str(), args)
+        {
             Ok(value) => self.replace(count, value),
             Err(error) => Err(Halt::Fault(error)),
         }
