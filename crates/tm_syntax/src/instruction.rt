@@ -121,6 +121,8 @@ pub enum Instruction {
     PushDidNotIterate,
     /// Leaves the innermost loop.
     PopLoopFrame,
+    /// Pops a value, and calls the innermost loop with it, which writes in place.
+    FastRecurse,
     /// Begins a capture, which takes what is written from here on.
     BeginCapture(CaptureMode),
     /// Ends the innermost capture, and pushes its text, or undefined where that is dropped.
