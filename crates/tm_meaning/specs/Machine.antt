@@ -2,6 +2,7 @@
 use Rattle.std.specs.Prelude.{ℕ, zero, suc, ◌+◌, List, [], ◌∷◌, ◌++◌, length, Option, Some, None, Bool, true, false, ◌&&◌, nat_lt, nat_eq, slice_get}
 use Rattle.tm_values.specs.Val.{Val, undefined}
 use Rattle.tm_values.specs.declared.error.ErrorKind.{ErrorKind}
+use Rattle.tm_values.specs.declared.error.ErrorKind.TheVariants.{InvalidOperation}
 use Rattle.tm_values.specs.declared.escape.AutoEscape.{AutoEscape}
 use Rattle.tm_syntax.specs.declared.instruction.Instruction.{Instruction}
 pub use Rattle.tm_meaning.specs.declared.base.Base.{Base}
@@ -175,11 +176,12 @@ back_to back (Finished ks w) = back_with back.value back.run ks (undone back.cal
 back_to back (Failed chain w) = Over (Failed (wrapped back.call.wrap chain) w)
 back_to back (Stuck w) = stuck w
 
--- a loop is called over items: it begins at its place, over no operands, and goes on here behind it
+-- A loop is called over items: it begins at its place, over no operands, and goes on here behind it. One that can't be called there isn't.
 abbrev pub recursion : Program → Config → Bool → List Val → List Capture → ℕ → Option LoopPlace → List Val → World → Next
-recursion p c value vs ks n None items w = stuck w
+recursion p c value vs ks n None items w = Over (Failed (InvalidOperation ∷ []) w)
 recursion p c value vs ks n (Some l) items w =
-    after (open_loop p.host items l.flags n w) (λ _ world1.
+    choose l.flags.recursive
+    (λ _. after (open_loop p.host items l.flags n w) (λ _ world1.
     More [] (record {
       run = record c.run {
         place = l.place + 1;
@@ -190,7 +192,8 @@ recursion p c value vs ks n (Some l) items w =
       };
       captures = ks;
       world = world1;
-    }))
+    })))
+    (λ _. Over (Failed (InvalidOperation ∷ []) w))
 
 -- where the loop of a number begins in the stream that runs
 abbrev pub place_of_loop : Program → Config → ℕ → Option LoopPlace

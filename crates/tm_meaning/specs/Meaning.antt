@@ -467,7 +467,7 @@ turn_of u l v run out w = use_it (assign u run l.target v w) run out (λ _ world
 
 abbrev pub again_in : Under → Option FoundLoop → Again
 again_in u None n items run out w = failed InvalidOperation run out w
-again_in u (Some l) n items run out w = loop_over u.host n true (turn_of u l) items run out w
+again_in u (Some l) n items run out w = choose l.recursive (λ _. loop_over u.host n true (turn_of u l) items run out w) (λ _. failed InvalidOperation run out w)
 
 -- the loops of a stream, over as many levels: level zero isn't reached, since each call opens a scope
 abbrev pub again_of : Host → Nests → Body → ℕ → Again

@@ -830,8 +830,10 @@ module _ (u : Under) (nest_ends : (k : Callee) (heard : Bool) (out : List ℕ) (
   pub called_end : (l : Option FoundLoop) (n : ℕ) (items : List Val) (run : Run) (out : List ℕ) (w : World) → Ends w (again_in u l n items run out w)
   called_end None n items run out w = ends_fault w w run out (InvalidOperation ∷ [])
   called_end (Some l) n items run out w =
-      loop_ends u.host n true w (turn_of u l)
-      (λ v run1 out1 world1. ends_use world1 (assign u run1 l.target v world1) run1 out1 _ (assign_gives run1 l.target v world1) (λ _ world2. execs_end l.at l.body.row run1 out1 world2)) items run out
+      choose_ends w l.recursive _ _
+      (loop_ends u.host n true w (turn_of u l)
+      (λ v run1 out1 world1. ends_use world1 (assign u run1 l.target v world1) run1 out1 _ (assign_gives run1 l.target v world1) (λ _ world2. execs_end l.at l.body.row run1 out1 world2)) items run out)
+      (ends_fault w w run out (InvalidOperation ∷ []))
 
 done_by_ends : (w world1 : World) (m : Res (Unit {0})) (o : Outcome) → Kept w world1 → Gives world1 m → Ends w (done_by m o)
 unfolding Ends

@@ -81,11 +81,11 @@ next_record g w0 w l k e =
     ∙ turned_record (length w0.loops) (shapes w.loops) l e
 
 -- the record of a loop that was opened
-pub new_record : (g : LoopFlags) (w : World) (vs : List Val) → slice_get (shapes (opened g w vs).loops) (length w.loops) ≡ Some (new_loop vs g w)
-new_record g w vs =
-    ap (λ ls. slice_get ls (length w.loops)) (shapes_behind w.loops (new_loop vs g w ∷ []))
-    ∙ ap (slice_get (shapes w.loops ++ new_loop vs g w ∷ [])) (sym (shapes_long w.loops))
-    ∙ seam_some (shapes w.loops) [] (new_loop vs g w)
+pub new_record : (g : LoopFlags) (n : ℕ) (w : World) (vs : List Val) → slice_get (shapes (opened g n w vs).loops) (length w.loops) ≡ Some (new_loop vs g n w)
+new_record g n w vs =
+    ap (λ ls. slice_get ls (length w.loops)) (shapes_behind w.loops (new_loop vs g n w ∷ []))
+    ∙ ap (slice_get (shapes w.loops ++ new_loop vs g n w ∷ [])) (sym (shapes_long w.loops))
+    ∙ seam_some (shapes w.loops) [] (new_loop vs g n w)
 
 pub none_is : (vs : List Val) → nat_eq (length vs) 0 ≡ has_none vs
 none_is [] = refl

@@ -1,5 +1,5 @@
 -- Loops by their numbers: in the order of the source, in their own stream, where the pass that takes the items of a condition counts as a loop before its own.
-use Rattle.std.specs.Prelude.{ℕ, zero, suc, ◌+◌, List, [], ◌∷◌, ◌++◌, Option, Some, None}
+use Rattle.std.specs.Prelude.{ℕ, zero, suc, ◌+◌, List, [], ◌∷◌, ◌++◌, Option, Some, None, Bool, false}
 use Rattle.tm_syntax.specs.declared.instruction.Instruction.{Instruction}
 use Rattle.tm_syntax.specs.declared.instruction.Instruction.TheVariants as i
 use Rattle.tm_syntax.specs.declared.instruction.LoopFlags.{LoopFlags}
@@ -35,22 +35,24 @@ abbrev mutual
   past_else at no_else = at
   past_else at (otherwise _ body) = pasts at body
 
--- A loop of a tree: its target, its body, and how many loops stand before that.
+-- A loop of a tree: whether it can be called, its target, its body, and how many loops stand before that.
 pub record FoundLoop : Type 0 where
+  pub recursive : Bool
   pub target : Target
   pub body : Body
   pub at : ℕ
 
+-- a pass can't be called
 abbrev pub with_pass : Option Expr → FoundLoop → List FoundLoop → List FoundLoop
 with_pass None l ls = l ∷ ls
-with_pass (Some c) l ls = l ∷ l ∷ ls
+with_pass (Some c) l ls = record l { recursive = false } ∷ l ∷ ls
 
--- the loops, each at its number; a pass stands for its loop, and is never called
+-- the loops, each at its number
 abbrev mutual
   pub loops_of : ℕ → Stmt → List FoundLoop
   loops_of at (If' c _ body other) = loops_in at body ++ loops_else (pasts at body) other
   loops_of at (For' t e c r _ body other) =
-      with_pass c (record { target = t; body = body_of body; at = within_loop c at }) (loops_in (within_loop c at) body ++ loops_else (pasts (within_loop c at) body) other)
+      with_pass c (record { recursive = r; target = t; body = body_of body; at = within_loop c at }) (loops_in (within_loop c at) body ++ loops_else (pasts (within_loop c at) body) other)
   loops_of at (SetBlock' t _ body) = loops_in at body
   loops_of at (With' given _ body) = loops_in at body
   loops_of at (AutoEscape' e _ body) = loops_in at body
