@@ -4,3 +4,4 @@ pub mod Loops
 pub mod Follow
 pub mod Forms
 pub mod Simulation
+mod Numbers

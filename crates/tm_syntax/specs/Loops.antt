@@ -72,15 +72,26 @@ pub record LoopPlace : Type 0 where
   pub place : ℕ
   pub flags : LoopFlags
 
+-- the loop that an instruction begins
+abbrev pub begins : Instruction → Option LoopFlags
+begins (i.PushLoop flags) = Some flags
+begins _ = None
+
+abbrev pub with_place : Option LoopFlags → ℕ → List LoopPlace → List LoopPlace
+with_place None pc ls = ls
+with_place (Some flags) pc ls = record { place = pc; flags = flags } ∷ ls
+
 -- the loops that begin in code that stands at a place, each at its number
 abbrev pub loop_places : ℕ → List Instruction → List LoopPlace
 loop_places pc [] = []
-loop_places pc (i.PushLoop flags ∷ is) = record { place = pc; flags = flags } ∷ loop_places (pc + 1) is
-loop_places pc (_ ∷ is) = loop_places (pc + 1) is
+loop_places pc (x ∷ is) = with_place (begins x) pc (loop_places (pc + 1) is)
 
--- how many begin before a place
+abbrev pub one_more_loop : Option LoopFlags → ℕ → ℕ
+one_more_loop None n = n
+one_more_loop (Some flags) n = n + 1
+
+-- how many loops begin before a place
 abbrev pub loops_before : ℕ → List Instruction → ℕ
 loops_before zero is = 0
 loops_before (suc n) [] = 0
-loops_before (suc n) (i.PushLoop flags ∷ is) = loops_before n is + 1
-loops_before (suc n) (_ ∷ is) = loops_before n is
+loops_before (suc n) (x ∷ is) = one_more_loop (begins x) (loops_before n is)
