@@ -5,3 +5,4 @@ pub mod Follow
 pub mod Forms
 pub mod Simulation
 mod Numbers
+mod Matches
