@@ -8,7 +8,7 @@ use Rattle.tm_syntax.specs.declared.instruction.CaptureMode.TheVariants as modes
 use Rattle.tm_syntax.specs.declared.tree.UnaryOperator.{UnaryOperator}
 use Rattle.tm_meaning.specs.declared.mark.LoopMark.{LoopMark}
 use Rattle.tm_syntax.specs.declared.tree.BinaryOperator.{BinaryOperator}
-use Rattle.tm_meaning.specs.World.{choose, World, Host, Loop, top_mark, top_loop, open_loop, next_turn, cleared, items_over, Res, Good, answered, looked_up, emitted, escape_for, with_escape, store, items_of, set_member, push, pop, plain, captured_text}
+use Rattle.tm_meaning.specs.World.{choose, TemplateId, World, Host, Loop, top_mark, top_loop, open_loop, next_turn, cleared, items_over, Res, Good, answered, looked_up, emitted, escape_for, with_escape, store, items_of, set_member, push, pop, plain, captured_text}
 use Rattle.tm_syntax.specs.Loops.{loops_before}
 use Rattle.tm_meaning.specs.Calls.{enter_block, call_named, call_first, call_innermost}
 use Rattle.tm_meaning.specs.Meaning.{none_waits, truth, applied_unary, operated, attribute, item_at, slice_of, list_of_values, map_of_pairs, keyword_map}
@@ -175,20 +175,20 @@ abbrev pub returned : Return → List (Option Return) → Config → Config
 returned r rs c =
     record c { run = record c.run { place = r.place; operands = r.operands; escapes = r.escapes; floor = r.floor; loops = rs }; world = pop c.world }
 
--- the innermost capture's text is the value
-abbrev pub with_text : List Capture → Config → Next
-with_text [] c = stuck c.world
-with_text (k ∷ ks) c = More [] (record c { run = pushed (captured_text k.text c.world) c.run; captures = ks })
+-- the innermost capture's text is the value, and the parent that waits is this one
+abbrev pub with_text : Option TemplateId → List Capture → Config → Next
+with_text parent [] c = stuck c.world
+with_text parent (k ∷ ks) c = More [] (record c { run = record (pushed (captured_text k.text c.world) c.run) { parent = parent }; captures = ks })
 
-abbrev pub returns : Bool → Config → Next
-returns false c = More [] c
-returns true c = with_text c.captures c
+abbrev pub returns : Return → Bool → Config → Next
+returns r false c = More [] c
+returns r true c = with_text r.parent c.captures c
 
 -- A loop that wasn't called is left, and one that was goes on where that was; its captures and escapes are closed.
 abbrev pub pop_loop_with : List (Option Return) → Config → Next
 pop_loop_with [] c = stuck c.world
 pop_loop_with (None ∷ rs) c = goes c.run.operands (pop c.world) (looping rs c)
-pop_loop_with (Some r ∷ rs) c = returns r.value (returned r rs c)
+pop_loop_with (Some r ∷ rs) c = returns r r.value (returned r rs c)
 
 -- One that stood before the run isn't left.
 abbrev pub pop_loop_frame_of : Base → Config → Next

@@ -16,12 +16,13 @@ pub record Capture : Type 0 where
   pub heard : Bool
   pub text : List ℕ
 
--- Where a loop goes on that was called: the run as it was, and whether the text is a value.
+-- Where a loop goes on that was called: the run as it was, and whether the text is a value, behind which the parent is as it was too.
 pub record Return : Type 0 where
   pub place : ℕ
   pub operands : List Val
   pub escapes : List AutoEscape
   pub floor : ℕ
+  pub parent : Option TemplateId
   pub value : Bool
 
 -- What is a run's own: its stream and the place in it, its operands, the topmost first, the escapes that its open `autoescape`s replaced,
@@ -188,7 +189,7 @@ recursion p c value vs ks n (Some l) items w =
         operands = [];
         escapes = [];
         floor = length ks;
-        loops = Some (record { place = c.run.place + 1; operands = vs; escapes = c.run.escapes; floor = c.run.floor; value = value }) ∷ c.run.loops;
+        loops = Some (record { place = c.run.place + 1; operands = vs; escapes = c.run.escapes; floor = c.run.floor; parent = c.run.parent; value = value }) ∷ c.run.loops;
       };
       captures = ks;
       world = world1;
