@@ -180,6 +180,11 @@ abbrev DeepIn : Program → Base → ℕ → StreamId → ℕ → Run → Spot �
 DeepIn p f n id level run s w =
     (p.host.limit + 1 ≤ suc n + depth w.scopes) × (f.scopes ≤ length w.scopes.frames) × Stands f run s × (s.run.stream ≡ id) × (p.host.limit + 1 ≤ level + depth w.scopes)
 
+-- And the same parent waits for both.
+abbrev HereIn : Program → Base → ℕ → StreamId → ℕ → Run → Spot → World → Type 0
+HereIn p f n id level run s w =
+    (p.host.limit + 1 ≤ suc n + depth w.scopes) × (f.scopes ≤ length w.scopes.frames) × Stands f run s × (s.run.stream ≡ id) × (p.host.limit + 1 ≤ level + depth w.scopes) × (run.parent ≡ s.parent)
+
 -- A loop that is called, in place and as a value, comes behind its call with what its rounds mean.
 abbrev CalledInPlace : Program → Base → Final → ℕ → StreamId → ℕ → Again → Type 1
 CalledInPlace p f r n id level again =
@@ -189,7 +194,7 @@ CalledInPlace p f r n id level again =
 
 abbrev CalledAsValue : Program → Base → Final → ℕ → StreamId → ℕ → Again → Type 1
 CalledAsValue p f r n id level again =
-    (m : ℕ) (items : List Val) (run : Run) (s : Spot) (pc : ℕ) (stack old : List Val) (w0 w : World) (K : Val → World → Type 0) → DeepIn p f n id level run s w →
+    (m : ℕ) (items : List Val) (run : Run) (s : Spot) (pc : ℕ) (stack old : List Val) (w0 w : World) (K : Val → World → Type 0) → HereIn p f n id level run s w →
     (let o = again m items (capturing true run) [] w in Follows r (told s) (text_behind o.ending o) K) → ((v : Val) (x : World) → K v x → Go p f r s (pc + 1) (v ∷ stack) x) →
     Leads p f (told s) (recursion p (cfg s pc old w0) true stack (new_capture true ∷ captures_of s.bed s.out) m (place_of_loop p (cfg s pc old w0) m) items w) r
 
@@ -213,17 +218,30 @@ module _ (p : Program) (f : Base) (r : Final) (trees : Trees) (n : ℕ)
   deep_within : (run : Run) (s : Spot) (a : Scope) (w : World) → Deep run s w → Deep run s (within a w)
   deep_within run s a w d = (omega (arith, d.0), omega (arith, d.1), d.2, d.3, omega (arith, d.4))
 
+  abbrev Here : Run → Spot → World → Type 0
+  Here run s w = HereIn p f n id level run s w
+
+  here_kept : (run : Run) (s : Spot) {w world1 : World} → Kept w world1 → Here run s w → Here run s world1
+  here_kept run s k d = (omega (arith, kept_depth k, d.0), omega (arith, kept_frames k, d.1), d.2, d.3, omega (arith, kept_depth k, d.4), d.5)
+
+  here_within : (run : Run) (s : Spot) (a : Scope) (w : World) → Here run s w → Here run s (within a w)
+  here_within run s a w d = (omega (arith, d.0), omega (arith, d.1), d.2, d.3, omega (arith, d.4), d.5)
+
+  -- at the spot's own parent
+  here : (run : Run) (s : Spot) (w : World) → Deep run s w → Here (as_at run s) s w
+  here run s w d = (d.0, d.1, d.2, d.3, d.4, refl)
+
   -- the same at another text
   deep_later : (run : Run) (s : Spot) (w : World) (q : Option TemplateId) (out : List ℕ) → Deep run s w → Deep run (later s q out) w
   deep_later run s w q out d = (d.0, d.1, stands_later f run s d.2 q out, d.3, d.4)
 
   -- what a call comes to, as a value
-  asked_then : (run : Run) (s : Spot) (pc : ℕ) (stack old : List Val) (w world1 : World) (q : Asked) → Asks p.host.limit world1 q → Deep run s world1 →
+  asked_then : (run : Run) (s : Spot) (pc : ℕ) (stack old : List Val) (w world1 : World) (q : Asked) → Asks p.host.limit world1 q → Here run s world1 →
       Follows r (told s) (value_of u run q) (λ v world2. Go p f r s (pc + 1) (v ∷ stack) world2) → Leads p f (told s) (asked p (cfg s pc old w) stack q) r
   asked_then run s pc stack old w world1 (has v world2) e d h = silent p f r (told s) _ h
   asked_then run s pc stack old w world1 (refused chain world2) e d h = is_over refl h
   asked_then run s pc stack old w world1 (recurs m items world2) e d h =
-      called_as_value m items run s pc stack old w world2 _ (deep_kept run s e d) h (λ v x g. g)
+      called_as_value m items run s pc stack old w world2 _ (here_kept run s e d) h (λ v x g. g)
   asked_then run s pc stack old w world1 (runs c world2) e d h =
       call_as_value p f r u run c s pc old stack w world2 _ (entered c.callee true (inside true (told s) (captures_of s.bed s.out)) [] world2 (omega (arith, e.0, d.0)) e.1) h (λ x world3 g. g)
 
@@ -296,12 +314,12 @@ module _ (p : Program) (f : Base) (r : Final) (trees : Trees) (n : ℕ)
   -- Wherever this code stands it pushes this value.
   abbrev Runs : Run → (ℕ → List Instruction) → (World → Res Val) → Type 0
   Runs run code value =
-      (s : Spot) (pc : ℕ) (stack : List Val) (w : World) → Deep run s w → HasAt (p.code s.run.stream) pc (code pc) →
+      (s : Spot) (pc : ℕ) (stack : List Val) (w : World) → Here run s w → HasAt (p.code s.run.stream) pc (code pc) →
       Follows r (told s) (value w) (λ v world1. Go p f r s (pc + length (code pc)) (v ∷ stack) world1) → Go p f r s pc stack w
 
   mutual
     -- An expression's code pushes what it means, over any operands.
-    pub expr_runs : (e : Expr) (run : Run) (s : Spot) (pc : ℕ) (stack : List Val) (w : World) → Deep run s w → HasAt (p.code s.run.stream) pc (expr_code pc e) →
+    pub expr_runs : (e : Expr) (run : Run) (s : Spot) (pc : ℕ) (stack : List Val) (w : World) → Here run s w → HasAt (p.code s.run.stream) pc (expr_code pc e) →
         Follows r (told s) (eval u run e w) (λ v world1. Go p f r s (pc + length (expr_code pc e)) (v ∷ stack) world1) → Go p f r s pc stack w
     expr_runs (Var x) run s pc stack w d is h =
         at p f r (i.Lookup x) s pc stack w is.0 (after_then p f r (told s) (tick w) _ (bind_then r (told s) w (tick w) _ _ _ (tick_gives w) h (λ _ world1 k h1.
@@ -353,7 +371,7 @@ module _ (p : Program) (f : Base) (r : Final) (trees : Trees) (n : ℕ)
         let place : pc + length (c ++ kc) + 1 ≡ pc + length ((c ++ kc) ++ last ∷ []) = omega (arith, length-append (c ++ kc) (last ∷ [])) in
         arguments_run given run s pc stack w d (has_front all pc c kc front)
         (bind_long r (told s) w (count given) (eval_arguments u run given w) _ _ _ (arguments_give u nest_ends again_kept run given w) (arguments_long u run given w) h (λ vs world1 k l h1.
-        named_runs named run s (pc + length c) (onto vs stack) world1 (deep_kept run s k d) (has_behind all pc c kc front)
+        named_runs named run s (pc + length c) (onto vs stack) world1 (here_kept run s k d) (has_behind all pc c kc front)
         (bind_long r (told s) world1 (together named) (eval_named u run named world1) _ _ _ (named_give u nest_ends again_kept run named world1) (named_long u run named world1) h1 (λ ks world2 k2 l2 h2.
         let long : length (vs ++ ks) ≡ n = omega (arith, length-append vs ks, l, l2) in
         move p f r s _ _ (onto ks (onto vs stack)) world2 there
@@ -361,7 +379,7 @@ module _ (p : Program) (f : Base) (r : Final) (trees : Trees) (n : ℕ)
         (at p f r last s (pc + length (c ++ kc)) (onto (vs ++ ks) stack) world2 behind.0
         (after_then p f r (told s) (tick world2) _ (bind_then r (told s) world2 (tick world2) _ _ _ (tick_gives world2) h2 (λ _ world3 k3 h3.
         subst (λ t. Leads p f (told s) (on_taken t world3 (λ xs rest. asked p (cfg s (pc + length (c ++ kc)) (onto (vs ++ ks) stack) world3) rest (call_named p.host g xs world3))) r) (sym (taken_all (vs ++ ks) n stack long))
-        (asked_then run s (pc + length (c ++ kc)) stack (onto (vs ++ ks) stack) world3 world3 (call_named p.host g (vs ++ ks) world3) (named_asks p.host g (vs ++ ks) world3) (deep_kept run s k3 (deep_kept run s k2 (deep_kept run s k d)))
+        (asked_then run s (pc + length (c ++ kc)) stack (onto (vs ++ ks) stack) world3 world3 (call_named p.host g (vs ++ ks) world3) (named_asks p.host g (vs ++ ks) world3) (here_kept run s k3 (here_kept run s k2 (here_kept run s k d)))
         (follows_map r (told s) (value_of u run (call_named p.host g (vs ++ ks) world3)) _ _ h3 (λ v world4 g3. move p f r s _ _ (v ∷ stack) world4 place g3))))))))))))
     expr_runs (unary op a) run s pc stack w d is h =
         let c = expr_code pc a in
@@ -377,7 +395,7 @@ module _ (p : Program) (f : Base) (r : Final) (trees : Trees) (n : ℕ)
         let place : pc + length c + length rest ≡ pc + length (c ++ rest) = omega (arith, length-append c rest) in
         expr_runs a run s pc stack w d (has_front (p.code s.run.stream) pc c rest is)
         (bind_then r (told s) w (eval u run a w) _ _ _ (eval_gives u nest_ends again_kept run a w) h (λ v world1 k h1.
-        steps_run ss run s (pc + length c) v stack world1 (deep_kept run s k d) (has_behind (p.code s.run.stream) pc c rest is)
+        steps_run ss run s (pc + length c) v stack world1 (here_kept run s k d) (has_behind (p.code s.run.stream) pc c rest is)
         (follows_map r (told s) (eval_steps u run ss v world1) _ _ h1 (λ x world2 g. move p f r s _ _ (x ∷ stack) world2 place g))))
     expr_runs (conditional a _ cs) run s pc stack w d is h =
         conditions_run cs run (λ pc1. expr_code pc1 a) (λ world1. eval u run a world1) (λ world1. eval_gives u nest_ends again_kept run a world1)
@@ -403,7 +421,7 @@ module _ (p : Program) (f : Base) (r : Final) (trees : Trees) (n : ℕ)
         (bind_then r (told s) w (eval u run c w) _ _ _ (eval_gives u nest_ends again_kept run c w) h (λ v world1 k1 h1.
         at p f r over_body s pc1 (v ∷ stack) world1 behind.0 (after_then p f r (told s) (tick world1) _ (bind_then r (told s) world1 (tick world1) _ _ _ (tick_gives world1) h1 (λ _ world2 k2 h2.
         after_then p f r (told s) (truth p.host v world2) _ (bind_then r (told s) world2 (truth p.host v world2) _ _ _ (answered_gives _ world2) h2 (λ b world3 k3 h3.
-        let deep3 = deep_kept run s k3 (deep_kept run s k2 (deep_kept run s k1 d)) in
+        let deep3 = here_kept run s k3 (here_kept run s k2 (here_kept run s k1 d)) in
         choose_then p f r b (bind (guarded world3) (λ x world4. bind (tick world4) (λ _ world5. Good x world5))) (eval u run e world3) _ _ (told s) _ h3
         (λ h4. silent p f r (told s) _ (part s (pc1 + 1) stack world3 deep3 (has_front all (pc1 + 1) body (over_other ∷ other) behind.1)
         (bind_then r (told s) world3 (guarded world3) _ _ _ (given world3) h4 (λ x world4 k4 h5.
@@ -419,7 +437,7 @@ module _ (p : Program) (f : Base) (r : Final) (trees : Trees) (n : ℕ)
         conditions_run more run (λ pc1. condition_code c code pc1) (λ world1. eval_condition u run c guarded world1) (λ world1. condition_gives u nest_ends again_kept run c guarded given world1)
         (λ s1 pc1 stack1 world1 deep1 is1 h1. condition_runs c run code guarded given part s1 pc1 stack1 world1 deep1 is1 h1) s pc stack w d is h
 
-    exprs_run : {m : _} → (es : Row_of-Expr m) (run : Run) (s : Spot) (pc : ℕ) (stack : List Val) (w : World) → Deep run s w → HasAt (p.code s.run.stream) pc (exprs_code pc es) →
+    exprs_run : {m : _} → (es : Row_of-Expr m) (run : Run) (s : Spot) (pc : ℕ) (stack : List Val) (w : World) → Here run s w → HasAt (p.code s.run.stream) pc (exprs_code pc es) →
         Follows r (told s) (eval_all u run es w) (λ vs world1. Go p f r s (pc + length (exprs_code pc es)) (onto vs stack) world1) → Go p f r s pc stack w
     exprs_run no_expr run s pc stack w d is h = move p f r s pc (pc + 0) stack w (omega arith) h
     exprs_run (expr e more) run s pc stack w d is h =
@@ -428,12 +446,12 @@ module _ (p : Program) (f : Base) (r : Final) (trees : Trees) (n : ℕ)
         let place : pc + length c + length rest ≡ pc + length (c ++ rest) = omega (arith, length-append c rest) in
         expr_runs e run s pc stack w d (has_front (p.code s.run.stream) pc c rest is)
         (bind_then r (told s) w (eval u run e w) _ _ _ (eval_gives u nest_ends again_kept run e w) h (λ v world1 k h1.
-        exprs_run more run s (pc + length c) (v ∷ stack) world1 (deep_kept run s k d) (has_behind (p.code s.run.stream) pc c rest is)
+        exprs_run more run s (pc + length c) (v ∷ stack) world1 (here_kept run s k d) (has_behind (p.code s.run.stream) pc c rest is)
         (bind_then r (told s) world1 (eval_all u run more world1) _ _ _ (all_give u nest_ends again_kept run more world1) h1 (λ vs world2 k2 g.
         move p f r s _ _ (onto vs (v ∷ stack)) world2 place g))))
 
     -- A pair's code pushes its key and then its value.
-    pair_runs : (x : Pair) (run : Run) (s : Spot) (pc : ℕ) (stack : List Val) (w : World) → Deep run s w → HasAt (p.code s.run.stream) pc (pair_code pc x) →
+    pair_runs : (x : Pair) (run : Run) (s : Spot) (pc : ℕ) (stack : List Val) (w : World) → Here run s w → HasAt (p.code s.run.stream) pc (pair_code pc x) →
         Follows r (told s) (eval_pair u run x w) (λ y world1. Go p f r s (pc + length (pair_code pc x)) (y.1 ∷ y.0 ∷ stack) world1) → Go p f r s pc stack w
     pair_runs (pair k v) run s pc stack w d is h =
         let c = expr_code pc k in
@@ -441,11 +459,11 @@ module _ (p : Program) (f : Base) (r : Final) (trees : Trees) (n : ℕ)
         let place : pc + length c + length rest ≡ pc + length (c ++ rest) = omega (arith, length-append c rest) in
         expr_runs k run s pc stack w d (has_front (p.code s.run.stream) pc c rest is)
         (bind_then r (told s) w (eval u run k w) _ _ _ (eval_gives u nest_ends again_kept run k w) h (λ x world1 e h1.
-        expr_runs v run s (pc + length c) (x ∷ stack) world1 (deep_kept run s e d) (has_behind (p.code s.run.stream) pc c rest is)
+        expr_runs v run s (pc + length c) (x ∷ stack) world1 (here_kept run s e d) (has_behind (p.code s.run.stream) pc c rest is)
         (bind_then r (told s) world1 (eval u run v world1) _ _ _ (eval_gives u nest_ends again_kept run v world1) h1 (λ y world2 e2 g.
         move p f r s _ _ (y ∷ x ∷ stack) world2 place g))))
 
-    pairs_run : {m : _} → (ps : Row_of-Pair m) (run : Run) (s : Spot) (pc : ℕ) (stack : List Val) (w : World) → Deep run s w → HasAt (p.code s.run.stream) pc (pairs_code pc ps) →
+    pairs_run : {m : _} → (ps : Row_of-Pair m) (run : Run) (s : Spot) (pc : ℕ) (stack : List Val) (w : World) → Here run s w → HasAt (p.code s.run.stream) pc (pairs_code pc ps) →
         Follows r (told s) (eval_pairs u run ps w) (λ xs world1. Go p f r s (pc + length (pairs_code pc ps)) (onto (flat xs) stack) world1) → Go p f r s pc stack w
     pairs_run no_pair run s pc stack w d is h = move p f r s pc (pc + 0) stack w (omega arith) h
     pairs_run (with_pair x more) run s pc stack w d is h =
@@ -454,15 +472,15 @@ module _ (p : Program) (f : Base) (r : Final) (trees : Trees) (n : ℕ)
         let place : pc + length c + length rest ≡ pc + length (c ++ rest) = omega (arith, length-append c rest) in
         pair_runs x run s pc stack w d (has_front (p.code s.run.stream) pc c rest is)
         (bind_then r (told s) w (eval_pair u run x w) _ _ _ (pair_gives u nest_ends again_kept run x w) h (λ y world1 k h1.
-        pairs_run more run s (pc + length c) (y.1 ∷ y.0 ∷ stack) world1 (deep_kept run s k d) (has_behind (p.code s.run.stream) pc c rest is)
+        pairs_run more run s (pc + length c) (y.1 ∷ y.0 ∷ stack) world1 (here_kept run s k d) (has_behind (p.code s.run.stream) pc c rest is)
         (bind_then r (told s) world1 (eval_pairs u run more world1) _ _ _ (pairs_give u nest_ends again_kept run more world1) h1 (λ ys world2 k2 g.
         move p f r s _ _ (onto (flat ys) (y.1 ∷ y.0 ∷ stack)) world2 place g))))
 
-    argument_runs : (a : Argument) (run : Run) (s : Spot) (pc : ℕ) (stack : List Val) (w : World) → Deep run s w → HasAt (p.code s.run.stream) pc (argument_code pc a) →
+    argument_runs : (a : Argument) (run : Run) (s : Spot) (pc : ℕ) (stack : List Val) (w : World) → Here run s w → HasAt (p.code s.run.stream) pc (argument_code pc a) →
         Follows r (told s) (eval_argument u run a w) (λ v world1. Go p f r s (pc + length (argument_code pc a)) (v ∷ stack) world1) → Go p f r s pc stack w
     argument_runs (plain a) run s pc stack w d is h = expr_runs a run s pc stack w d is h
 
-    arguments_run : {m : _} → (given : Row_of-Argument m) (run : Run) (s : Spot) (pc : ℕ) (stack : List Val) (w : World) → Deep run s w → HasAt (p.code s.run.stream) pc (arguments_code pc given) →
+    arguments_run : {m : _} → (given : Row_of-Argument m) (run : Run) (s : Spot) (pc : ℕ) (stack : List Val) (w : World) → Here run s w → HasAt (p.code s.run.stream) pc (arguments_code pc given) →
         Follows r (told s) (eval_arguments u run given w) (λ vs world1. Go p f r s (pc + length (arguments_code pc given)) (onto vs stack) world1) → Go p f r s pc stack w
     arguments_run no_argument run s pc stack w d is h = move p f r s pc (pc + 0) stack w (omega arith) h
     arguments_run (argument a more) run s pc stack w d is h =
@@ -471,22 +489,22 @@ module _ (p : Program) (f : Base) (r : Final) (trees : Trees) (n : ℕ)
         let place : pc + length c + length rest ≡ pc + length (c ++ rest) = omega (arith, length-append c rest) in
         argument_runs a run s pc stack w d (has_front (p.code s.run.stream) pc c rest is)
         (bind_then r (told s) w (eval_argument u run a w) _ _ _ (argument_gives u nest_ends again_kept run a w) h (λ v world1 k h1.
-        arguments_run more run s (pc + length c) (v ∷ stack) world1 (deep_kept run s k d) (has_behind (p.code s.run.stream) pc c rest is)
+        arguments_run more run s (pc + length c) (v ∷ stack) world1 (here_kept run s k d) (has_behind (p.code s.run.stream) pc c rest is)
         (bind_then r (told s) world1 (eval_arguments u run more world1) _ _ _ (arguments_give u nest_ends again_kept run more world1) h1 (λ vs world2 k2 g.
         move p f r s _ _ (onto vs (v ∷ stack)) world2 place g))))
 
     -- A keyword's code pushes its name and then its value.
-    keyword_runs : (x : Keyword) (run : Run) (s : Spot) (pc : ℕ) (stack : List Val) (w : World) → Deep run s w → HasAt (p.code s.run.stream) pc (keyword_code pc x) →
+    keyword_runs : (x : Keyword) (run : Run) (s : Spot) (pc : ℕ) (stack : List Val) (w : World) → Here run s w → HasAt (p.code s.run.stream) pc (keyword_code pc x) →
         Follows r (told s) (eval_keyword u run x w) (λ y world1. Go p f r s (pc + length (keyword_code pc x)) (y.1 ∷ y.0 ∷ stack) world1) → Go p f r s pc stack w
     keyword_runs (keyword x a) run s pc stack w d is h =
         let place : pc + 1 + length (expr_code (pc + 1) a) ≡ pc + suc (length (expr_code (pc + 1) a)) = omega arith in
         at p f r (i.LoadConst (text x false)) s pc stack w is.0 (after_then p f r (told s) (tick w) _ (bind_then r (told s) w (tick w) _ _ _ (tick_gives w) h (λ _ world1 k h1.
         silent p f r (told s) _
-        (expr_runs a run s (pc + 1) (text x false ∷ stack) world1 (deep_kept run s k d) is.1
+        (expr_runs a run s (pc + 1) (text x false ∷ stack) world1 (here_kept run s k d) is.1
         (bind_then r (told s) world1 (eval u run a world1) _ _ _ (eval_gives u nest_ends again_kept run a world1) h1 (λ v world2 k2 g.
         move p f r s _ _ (v ∷ text x false ∷ stack) world2 place g))))))
 
-    keywords_run : {m : _} → (ks : Row_of-Keyword m) (run : Run) (s : Spot) (pc : ℕ) (stack : List Val) (w : World) → Deep run s w → HasAt (p.code s.run.stream) pc (keywords_code pc ks) →
+    keywords_run : {m : _} → (ks : Row_of-Keyword m) (run : Run) (s : Spot) (pc : ℕ) (stack : List Val) (w : World) → Here run s w → HasAt (p.code s.run.stream) pc (keywords_code pc ks) →
         Follows r (told s) (eval_keywords u run ks w) (λ xs world1. Go p f r s (pc + length (keywords_code pc ks)) (onto (flat xs) stack) world1) → Go p f r s pc stack w
     keywords_run no_keyword run s pc stack w d is h = move p f r s pc (pc + 0) stack w (omega arith) h
     keywords_run (with_keyword x more) run s pc stack w d is h =
@@ -495,12 +513,12 @@ module _ (p : Program) (f : Base) (r : Final) (trees : Trees) (n : ℕ)
         let place : pc + length c + length rest ≡ pc + length (c ++ rest) = omega (arith, length-append c rest) in
         keyword_runs x run s pc stack w d (has_front (p.code s.run.stream) pc c rest is)
         (bind_then r (told s) w (eval_keyword u run x w) _ _ _ (keyword_gives u nest_ends again_kept run x w) h (λ y world1 k h1.
-        keywords_run more run s (pc + length c) (y.1 ∷ y.0 ∷ stack) world1 (deep_kept run s k d) (has_behind (p.code s.run.stream) pc c rest is)
+        keywords_run more run s (pc + length c) (y.1 ∷ y.0 ∷ stack) world1 (here_kept run s k d) (has_behind (p.code s.run.stream) pc c rest is)
         (bind_then r (told s) world1 (eval_keywords u run more world1) _ _ _ (keywords_give u nest_ends again_kept run more world1) h1 (λ ys world2 k2 g.
         move p f r s _ _ (onto (flat ys) (y.1 ∷ y.0 ∷ stack)) world2 place g))))
 
     -- keywords become one argument
-    named_runs : {m : _} → (ks : Row_of-Keyword m) (run : Run) (s : Spot) (pc : ℕ) (stack : List Val) (w : World) → Deep run s w → HasAt (p.code s.run.stream) pc (named_code pc ks) →
+    named_runs : {m : _} → (ks : Row_of-Keyword m) (run : Run) (s : Spot) (pc : ℕ) (stack : List Val) (w : World) → Here run s w → HasAt (p.code s.run.stream) pc (named_code pc ks) →
         Follows r (told s) (eval_named u run ks w) (λ vs world1. Go p f r s (pc + length (named_code pc ks)) (onto vs stack) world1) → Go p f r s pc stack w
     named_runs no_keyword run s pc stack w d is h = move p f r s pc (pc + 0) stack w (omega arith) h
     named_runs (with_keyword x more) run s pc stack w d is h =
@@ -515,7 +533,7 @@ module _ (p : Program) (f : Base) (r : Final) (trees : Trees) (n : ℕ)
         let place : pc1 + length rest + 1 ≡ pc + length (c ++ (rest ++ last ∷ [])) = omega (arith, length-append c (rest ++ last ∷ []), length-append rest (last ∷ [])) in
         keyword_runs x run s pc stack w d (has_front all pc c (rest ++ last ∷ []) is)
         (bind_then r (told s) w (eval_keyword u run x w) _ _ _ (keyword_gives u nest_ends again_kept run x w) h (λ y world1 k h1.
-        keywords_run more run s pc1 (y.1 ∷ y.0 ∷ stack) world1 (deep_kept run s k d) (has_front all pc1 rest (last ∷ []) from_rest)
+        keywords_run more run s pc1 (y.1 ∷ y.0 ∷ stack) world1 (here_kept run s k d) (has_front all pc1 rest (last ∷ []) from_rest)
         (bind_long r (told s) world1 (count_keywords more) (eval_keywords u run more world1) _ _ _ (keywords_give u nest_ends again_kept run more world1) (keywords_long u run more world1) h1 (λ ys world2 k2 l h2.
         let xs = y ∷ ys in
         let long : length xs ≡ n = omega (arith, l) in
@@ -525,7 +543,7 @@ module _ (p : Program) (f : Base) (r : Final) (trees : Trees) (n : ℕ)
         (subst (λ zs. Go p f r s (pc1 + length rest + 1) (keyword_map zs ∷ stack) world3) (sym (paired_flat xs)) (move p f r s _ _ (keyword_map xs ∷ stack) world3 place h3)))))))))
 
     -- A step's code replaces the value on top.
-    step_runs : (x : Step) (run : Run) (s : Spot) (pc : ℕ) (v : Val) (stack : List Val) (w : World) → Deep run s w → HasAt (p.code s.run.stream) pc (step_code pc x) →
+    step_runs : (x : Step) (run : Run) (s : Spot) (pc : ℕ) (v : Val) (stack : List Val) (w : World) → Here run s w → HasAt (p.code s.run.stream) pc (step_code pc x) →
         Follows r (told s) (eval_step u run x v w) (λ y world1. Go p f r s (pc + length (step_code pc x)) (y ∷ stack) world1) → Go p f r s pc (v ∷ stack) w
     step_runs (Attribute x) run s pc v stack w d is h =
         at p f r (i.GetAttr x) s pc (v ∷ stack) w is.0 (after_then p f r (told s) (tick w) _ (bind_then r (told s) w (tick w) _ _ _ (tick_gives w) h (λ _ world1 k h1.
@@ -542,7 +560,7 @@ module _ (p : Program) (f : Base) (r : Final) (trees : Trees) (n : ℕ)
         let place : pc + length (c ++ kc) + 1 ≡ pc + length ((c ++ kc) ++ last ∷ []) = omega (arith, length-append (c ++ kc) (last ∷ [])) in
         arguments_run given run s pc (v ∷ stack) w d (has_front all pc c kc front)
         (bind_long r (told s) w (count given) (eval_arguments u run given w) _ _ _ (arguments_give u nest_ends again_kept run given w) (arguments_long u run given w) h (λ vs world1 k l h1.
-        named_runs named run s (pc + length c) (onto vs (v ∷ stack)) world1 (deep_kept run s k d) (has_behind all pc c kc front)
+        named_runs named run s (pc + length c) (onto vs (v ∷ stack)) world1 (here_kept run s k d) (has_behind all pc c kc front)
         (bind_long r (told s) world1 (together named) (eval_named u run named world1) _ _ _ (named_give u nest_ends again_kept run named world1) (named_long u run named world1) h1 (λ ks world2 k2 l2 h2.
         let long : length (v ∷ (vs ++ ks)) ≡ n = omega (arith, length-append vs ks, l, l2) in
         move p f r s _ _ (onto ks (onto vs (v ∷ stack))) world2 there
@@ -550,7 +568,7 @@ module _ (p : Program) (f : Base) (r : Final) (trees : Trees) (n : ℕ)
         (at p f r last s (pc + length (c ++ kc)) (onto (v ∷ (vs ++ ks)) stack) world2 behind.0
         (after_then p f r (told s) (tick world2) _ (bind_then r (told s) world2 (tick world2) _ _ _ (tick_gives world2) h2 (λ _ world3 k3 h3.
         subst (λ t. Leads p f (told s) (on_taken t world3 (λ xs rest. asked p (cfg s (pc + length (c ++ kc)) (onto (v ∷ (vs ++ ks)) stack) world3) rest (call_first p.host x xs world3))) r) (sym (taken_all (v ∷ (vs ++ ks)) n stack long))
-        (asked_then run s (pc + length (c ++ kc)) stack (onto (v ∷ (vs ++ ks)) stack) world3 world3 (call_method p.host x v (vs ++ ks) world3) (method_asks p.host x v (vs ++ ks) world3) (deep_kept run s k3 (deep_kept run s k2 (deep_kept run s k d)))
+        (asked_then run s (pc + length (c ++ kc)) stack (onto (v ∷ (vs ++ ks)) stack) world3 world3 (call_method p.host x v (vs ++ ks) world3) (method_asks p.host x v (vs ++ ks) world3) (here_kept run s k3 (here_kept run s k2 (here_kept run s k d)))
         (follows_map r (told s) (value_of u run (call_method p.host x v (vs ++ ks) world3)) _ _ h3 (λ v1 world4 g3. move p f r s _ _ (v1 ∷ stack) world4 place g3))))))))))))
     step_runs (item a) run s pc v stack w d is h =
         let c = expr_code pc a in
@@ -575,9 +593,9 @@ module _ (p : Program) (f : Base) (r : Final) (trees : Trees) (n : ℕ)
         omega (arith, length-append ac (bc ++ (cc ++ i.Slice ∷ [])), length-append bc (cc ++ i.Slice ∷ []), length-append cc (i.Slice ∷ [])) in
         expr_runs a run s pc (v ∷ stack) w d (has_front all pc ac (bc ++ (cc ++ i.Slice ∷ [])) is)
         (bind_then r (told s) w (eval u run a w) _ _ _ (eval_gives u nest_ends again_kept run a w) h (λ x world1 k1 h1.
-        expr_runs b run s pc1 (x ∷ v ∷ stack) world1 (deep_kept run s k1 d) (has_front all pc1 bc (cc ++ i.Slice ∷ []) from_b)
+        expr_runs b run s pc1 (x ∷ v ∷ stack) world1 (here_kept run s k1 d) (has_front all pc1 bc (cc ++ i.Slice ∷ []) from_b)
         (bind_then r (told s) world1 (eval u run b world1) _ _ _ (eval_gives u nest_ends again_kept run b world1) h1 (λ y world2 k2 h2.
-        expr_runs c run s pc2 (y ∷ x ∷ v ∷ stack) world2 (deep_kept run s k2 (deep_kept run s k1 d)) (has_front all pc2 cc (i.Slice ∷ []) from_c)
+        expr_runs c run s pc2 (y ∷ x ∷ v ∷ stack) world2 (here_kept run s k2 (here_kept run s k1 d)) (has_front all pc2 cc (i.Slice ∷ []) from_c)
         (bind_then r (told s) world2 (eval u run c world2) _ _ _ (eval_gives u nest_ends again_kept run c world2) h2 (λ z world3 k3 h3.
         at p f r i.Slice s (pc2 + length cc) (z ∷ y ∷ x ∷ v ∷ stack) world3 last.0 (after_then p f r (told s) (tick world3) _ (bind_then r (told s) world3 (tick world3) _ _ _ (tick_gives world3) h3 (λ _ world4 k4 h4.
         pushes p f r s (pc2 + length cc) stack (z ∷ y ∷ x ∷ v ∷ stack) world4 (slice_of p.host v x y z world4)
@@ -606,7 +624,7 @@ module _ (p : Program) (f : Base) (r : Final) (trees : Trees) (n : ℕ)
         let place : to ≡ pc + length (c ++ (links ++ last)) = omega (arith, length-append c (links ++ last), length-append links last, long) in
         expr_runs a run s pc (v ∷ stack) w d (has_front all pc c (links ++ last) is)
         (bind_then r (told s) w (eval u run a w) _ _ _ (eval_gives u nest_ends again_kept run a w) h (λ y world1 k h1.
-        links_run op cs run s end to (pc1 + length links) pc1 v y stack world1 (deep_kept run s k d) (has_front all pc1 links last row) refl behind.0
+        links_run op cs run s end to (pc1 + length links) pc1 v y stack world1 (here_kept run s k d) (has_front all pc1 links last row) refl behind.0
         (subst (λ n. HasAt all n (i.Swap ∷ i.DiscardTop ∷ [])) swap behind.1) over_swap
         (follows_map r (told s) (eval_links u run op cs v y world1) _ _ h1 (λ x world2 g. move p f r s _ _ (x ∷ stack) world2 place g))))
     step_runs (and_then a) run s pc v stack w d is h =
@@ -616,7 +634,7 @@ module _ (p : Program) (f : Base) (r : Final) (trees : Trees) (n : ℕ)
         (after_then p f r (told s) (tick w) _ (bind_then r (told s) w (tick w) _ _ _ (tick_gives w) h (λ _ world1 k h1.
         after_then p f r (told s) (truth p.host v world1) _ (bind_then r (told s) world1 (truth p.host v world1) _ _ _ (answered_gives _ world1) h1 (λ b world2 k2 h2.
         choose_then p f r b (eval u run a world2) (Good v world2) _ _ (told s) _ h2
-        (λ h3. silent p f r (told s) _ (expr_runs a run s (pc + 1) stack world2 (deep_kept run s k2 (deep_kept run s k d)) is.1
+        (λ h3. silent p f r (told s) _ (expr_runs a run s (pc + 1) stack world2 (here_kept run s k2 (here_kept run s k d)) is.1
         (follows_map r (told s) (eval u run a world2) _ _ h3 (λ y world3 g. move p f r s _ _ (y ∷ stack) world3 place g))))
         (λ g. silent p f r (told s) _ (move p f r s _ _ (v ∷ stack) world2 place g)))))))
     step_runs (or_else a) run s pc v stack w d is h =
@@ -627,11 +645,11 @@ module _ (p : Program) (f : Base) (r : Final) (trees : Trees) (n : ℕ)
         after_then p f r (told s) (truth p.host v world1) _ (bind_then r (told s) world1 (truth p.host v world1) _ _ _ (answered_gives _ world1) h1 (λ b world2 k2 h2.
         choose_then p f r b (Good v world2) (eval u run a world2) _ _ (told s) _ h2
         (λ g. silent p f r (told s) _ (move p f r s _ _ (v ∷ stack) world2 place g))
-        (λ h3. silent p f r (told s) _ (expr_runs a run s (pc + 1) stack world2 (deep_kept run s k2 (deep_kept run s k d)) is.1
+        (λ h3. silent p f r (told s) _ (expr_runs a run s (pc + 1) stack world2 (here_kept run s k2 (here_kept run s k d)) is.1
         (follows_map r (told s) (eval u run a world2) _ _ h3 (λ y world3 g. move p f r s _ _ (y ∷ stack) world3 place g)))))))))
 
     -- Comparisons in a row replace both sides of the first. Behind them stands a jump over the dropping of the right side of a false one.
-    links_run : {m : _} → (op : BinaryOperator) (cs : Row_of-Comparison m) (run : Run) (s : Spot) (end to jump pc : ℕ) (x y : Val) (stack : List Val) (w : World) → Deep run s w →
+    links_run : {m : _} → (op : BinaryOperator) (cs : Row_of-Comparison m) (run : Run) (s : Spot) (end to jump pc : ℕ) (x y : Val) (stack : List Val) (w : World) → Here run s w →
         HasAt (p.code s.run.stream) pc (links_code end pc op cs) → pc + length (links_code end pc op cs) ≡ jump → slice_get (p.code s.run.stream) jump ≡ Some (i.Jump to) →
         HasAt (p.code s.run.stream) end (i.Swap ∷ i.DiscardTop ∷ []) → end + 1 + 1 ≡ to →
         Follows r (told s) (eval_links u run op cs x y w) (λ v world1. Go p f r s to (v ∷ stack) world1) → Go p f r s pc (y ∷ x ∷ stack) w
@@ -654,14 +672,14 @@ module _ (p : Program) (f : Base) (r : Final) (trees : Trees) (n : ℕ)
         silent p f r (told s) _ (at p f r (i.JumpIfFalseOrPop end) s (pc + 1) (v ∷ y ∷ stack) world2 is.1.0
         (after_then p f r (told s) (tick world2) _ (bind_then r (told s) world2 (tick world2) _ _ _ (tick_gives world2) h2 (λ _ world3 k3 h3.
         after_then p f r (told s) (truth p.host v world3) _ (bind_then r (told s) world3 (truth p.host v world3) _ _ _ (answered_gives _ world3) h3 (λ b world4 k4 h4.
-        let deep4 = deep_kept run s k4 (deep_kept run s k3 (deep_kept run s k2 (deep_kept run s k1 d))) in
+        let deep4 = here_kept run s k4 (here_kept run s k3 (here_kept run s k2 (here_kept run s k1 d))) in
         choose_then p f r b (bind (eval u run a world4) (λ z world5. eval_links u run op1 more y z world5)) (bind (tick world4) (λ _ world5. Good v world5)) _ _ (told s) _ h4
         (λ h5. silent p f r (told s) _ (move p f r s _ _ (y ∷ stack) world4 here (expr_runs a run s (pc + 2) (y ∷ stack) world4 deep4 (has_front all (pc + 2) c rest right)
         (bind_then r (told s) world4 (eval u run a world4) _ _ _ (eval_gives u nest_ends again_kept run a world4) h5 (λ z world5 k5 h6.
-        links_run op1 more run s end to jump (pc + 2 + length c) y z stack world5 (deep_kept run s k5 deep4) (has_behind all (pc + 2) c rest right) last over_drop drop over_end h6)))))
+        links_run op1 more run s end to jump (pc + 2 + length c) y z stack world5 (here_kept run s k5 deep4) (has_behind all (pc + 2) c rest right) last over_drop drop over_end h6)))))
         (λ h5. silent p f r (told s) _ (dropped_then s end to v y stack world4 drop over_end h5)))))))))))))
 
-    steps_run : {m : _} → (ss : Row_of-Step m) (run : Run) (s : Spot) (pc : ℕ) (v : Val) (stack : List Val) (w : World) → Deep run s w → HasAt (p.code s.run.stream) pc (steps_code pc ss) →
+    steps_run : {m : _} → (ss : Row_of-Step m) (run : Run) (s : Spot) (pc : ℕ) (v : Val) (stack : List Val) (w : World) → Here run s w → HasAt (p.code s.run.stream) pc (steps_code pc ss) →
         Follows r (told s) (eval_steps u run ss v w) (λ y world1. Go p f r s (pc + length (steps_code pc ss)) (y ∷ stack) world1) → Go p f r s pc (v ∷ stack) w
     steps_run no_step run s pc v stack w d is h = move p f r s pc (pc + 0) (v ∷ stack) w (omega arith) h
     steps_run (step_and x ss) run s pc v stack w d is h =
@@ -670,12 +688,12 @@ module _ (p : Program) (f : Base) (r : Final) (trees : Trees) (n : ℕ)
         let place : pc + length c + length rest ≡ pc + length (c ++ rest) = omega (arith, length-append c rest) in
         step_runs x run s pc v stack w d (has_front (p.code s.run.stream) pc c rest is)
         (bind_then r (told s) w (eval_step u run x v w) _ _ _ (step_gives u nest_ends again_kept run x v w) h (λ y world1 k h1.
-        steps_run ss run s (pc + length c) y stack world1 (deep_kept run s k d) (has_behind (p.code s.run.stream) pc c rest is)
+        steps_run ss run s (pc + length c) y stack world1 (here_kept run s k d) (has_behind (p.code s.run.stream) pc c rest is)
         (follows_map r (told s) (eval_steps u run ss y world1) _ _ h1 (λ z world2 g. move p f r s _ _ (z ∷ stack) world2 place g))))
 
   mutual
     -- A target's code takes the value on top.
-    target_runs : (t : Target) (run : Run) (s : Spot) (pc : ℕ) (v : Val) (stack : List Val) (w : World) → Deep run s w → HasAt (p.code s.run.stream) pc (target_code pc t) →
+    target_runs : (t : Target) (run : Run) (s : Spot) (pc : ℕ) (v : Val) (stack : List Val) (w : World) → Here run s w → HasAt (p.code s.run.stream) pc (target_code pc t) →
         Follows r (told s) (assign u run t v w) (λ _ world1. Go p f r s (pc + length (target_code pc t)) stack world1) → Go p f r s pc (v ∷ stack) w
     target_runs (To x) run s pc v stack w d is h =
         at p f r (i.StoreLocal x) s pc (v ∷ stack) w is.0 (after_then p f r (told s) (tick w) _ (bind_then r (told s) w (tick w) _ _ _ (tick_gives w) h (λ _ world1 k h1.
@@ -686,7 +704,7 @@ module _ (p : Program) (f : Base) (r : Final) (trees : Trees) (n : ℕ)
         let place : pc + 1 + length c ≡ pc + suc (length c) = omega arith in
         at p f r (i.UnpackList n) s pc (v ∷ stack) w is.0 (after_then p f r (told s) (tick w) _ (bind_then r (told s) w (tick w) _ _ _ (tick_gives w) h (λ _ world1 k h1.
         after_then p f r (told s) (items_of n v world1) _ (bind_long r (told s) world1 n (items_of n v world1) _ _ _ (answered_gives _ world1) (items_long n v world1) h1 (λ vs world2 k2 l h2.
-        silent p f r (told s) _ (targets_run ts run s (pc + 1) vs stack world2 l (deep_kept run s k2 (deep_kept run s k d)) is.1
+        silent p f r (told s) _ (targets_run ts run s (pc + 1) vs stack world2 l (here_kept run s k2 (here_kept run s k d)) is.1
         (follows_map r (told s) (assign_all u run ts vs world2) _ _ h2 (λ _ world3 g. move p f r s _ _ stack world3 place g))))))))
     target_runs (Member e x) run s pc v stack w d is h =
         let c = expr_code pc e in
@@ -700,7 +718,7 @@ module _ (p : Program) (f : Base) (r : Final) (trees : Trees) (n : ℕ)
         silent p f r (told s) _ (move p f r s _ _ stack world3 place g))))))))
 
     -- Targets take as many values, the first on top.
-    targets_run : {m : _} → (ts : Row_of-Target m) (run : Run) (s : Spot) (pc : ℕ) (vs stack : List Val) (w : World) → length vs ≡ count_targets ts → Deep run s w →
+    targets_run : {m : _} → (ts : Row_of-Target m) (run : Run) (s : Spot) (pc : ℕ) (vs stack : List Val) (w : World) → length vs ≡ count_targets ts → Here run s w →
         HasAt (p.code s.run.stream) pc (targets_code pc ts) →
         Follows r (told s) (assign_all u run ts vs w) (λ _ world1. Go p f r s (pc + length (targets_code pc ts)) stack world1) → Go p f r s pc (vs ++ stack) w
     targets_run no_target run s pc [] stack w l d is h = move p f r s pc (pc + 0) stack w (omega arith) h
@@ -712,11 +730,11 @@ module _ (p : Program) (f : Base) (r : Final) (trees : Trees) (n : ℕ)
         let place : pc + length c + length rest ≡ pc + length (c ++ rest) = omega (arith, length-append c rest) in
         target_runs t run s pc v (vs ++ stack) w d (has_front (p.code s.run.stream) pc c rest is)
         (bind_then r (told s) w (assign u run t v w) _ _ _ (assign_gives u nest_ends again_kept run t v w) h (λ _ world1 k h1.
-        targets_run ts run s (pc + length c) vs stack world1 (omega (arith, l)) (deep_kept run s k d) (has_behind (p.code s.run.stream) pc c rest is)
+        targets_run ts run s (pc + length c) vs stack world1 (omega (arith, l)) (here_kept run s k d) (has_behind (p.code s.run.stream) pc c rest is)
         (follows_map r (told s) (assign_all u run ts vs world1) _ _ h1 (λ _ world2 g. move p f r s _ _ stack world2 place g))))
 
   -- A value's code, and then its target's, leave the operands as they were.
-  set_runs : (t : Target) (e : Expr) (run : Run) (s : Spot) (pc : ℕ) (stack : List Val) (w : World) → Deep run s w → HasAt (p.code s.run.stream) pc (set_code pc t e) →
+  set_runs : (t : Target) (e : Expr) (run : Run) (s : Spot) (pc : ℕ) (stack : List Val) (w : World) → Here run s w → HasAt (p.code s.run.stream) pc (set_code pc t e) →
       Follows r (told s) (set_to u run t e w) (λ _ world1. Go p f r s (pc + length (set_code pc t e)) stack world1) → Go p f r s pc stack w
   set_runs t e run s pc stack w d is h =
       let c = expr_code pc e in
@@ -724,10 +742,10 @@ module _ (p : Program) (f : Base) (r : Final) (trees : Trees) (n : ℕ)
       let place : pc + length c + length rest ≡ pc + length (c ++ rest) = omega (arith, length-append c rest) in
       expr_runs e run s pc stack w d (has_front (p.code s.run.stream) pc c rest is)
       (bind_then r (told s) w (eval u run e w) _ _ _ (eval_gives u nest_ends again_kept run e w) h (λ v world1 k h1.
-      target_runs t run s (pc + length c) v stack world1 (deep_kept run s k d) (has_behind (p.code s.run.stream) pc c rest is)
+      target_runs t run s (pc + length c) v stack world1 (here_kept run s k d) (has_behind (p.code s.run.stream) pc c rest is)
       (follows_map r (told s) (assign u run t v world1) _ _ h1 (λ _ world2 g. move p f r s _ _ stack world2 place g))))
 
-  sets_run : (given : List Assignment) (run : Run) (s : Spot) (pc : ℕ) (stack : List Val) (w : World) → Deep run s w → HasAt (p.code s.run.stream) pc (assignments_code pc given) →
+  sets_run : (given : List Assignment) (run : Run) (s : Spot) (pc : ℕ) (stack : List Val) (w : World) → Here run s w → HasAt (p.code s.run.stream) pc (assignments_code pc given) →
       Follows r (told s) (set_each u run given w) (λ _ world1. Go p f r s (pc + length (assignments_code pc given)) stack world1) → Go p f r s pc stack w
   sets_run [] run s pc stack w d is h = move p f r s pc (pc + 0) stack w (omega arith) h
   sets_run (Given t e ∷ more) run s pc stack w d is h =
@@ -736,7 +754,7 @@ module _ (p : Program) (f : Base) (r : Final) (trees : Trees) (n : ℕ)
       let place : pc + length c + length rest ≡ pc + length (c ++ rest) = omega (arith, length-append c rest) in
       set_runs t e run s pc stack w d (has_front (p.code s.run.stream) pc c rest is)
       (bind_then r (told s) w (set_to u run t e w) _ _ _ (set_gives u nest_ends again_kept run t e w) h (λ _ world1 k h1.
-      sets_run more run s (pc + length c) stack world1 (deep_kept run s k d) (has_behind (p.code s.run.stream) pc c rest is)
+      sets_run more run s (pc + length c) stack world1 (here_kept run s k d) (has_behind (p.code s.run.stream) pc c rest is)
       (follows_map r (told s) (set_each u run more world1) _ _ h1 (λ _ world2 g. move p f r s _ _ stack world2 place g))))
 
   -- A scope of the run's own, which is no loop's, is left, which is free.
@@ -934,7 +952,7 @@ module _ (p : Program) (f : Base) (r : Final) (trees : Trees) (n : ℕ)
       let nexts : Jumps again [] (looped s) stack y D1 = λ q out1 z pc kz is1 g. goes_on q out1 z pc kz is1.0 g in
       subst (λ n. Leads p f (told s) n r) (sym (iterate_is (for_flags false) s s.parent s.out again end stack w world1 l (Some v) kept record1 (next_item l items v vs left)))
       (silent p f r (told s) _
-      (target_runs t (as_at run s) (looped s) (again + 1) v stack y (deep_kept run s kept_y d) (has_front all (again + 1) tc (bc ++ i.Jump again ∷ []) is.1)
+      (target_runs t (as_at run s) (looped s) (again + 1) v stack y (here run s y (deep_kept run s kept_y d)) (has_front all (again + 1) tc (bc ++ i.Jump again ∷ []) is.1)
       (use_then r s.bed y (assign u (as_at run s) t v y) (as_at run s) s.out (λ _ z. execs u loops body (as_at run s) s.out z) D1 L1 D1 _ (assign_gives u nest_ends again_kept (as_at run s) t v y)
       (round_then r s.bed (as_at run s) o next_round D L N h1) (λ _ z k2 h2.
       part run (looped s) start stack z L1 D1 fits (deep_kept run s (kept_then kept_y k2) d) (around_kept inner (looped s) stack L1 D1 k2 (leaves, nexts)) (has_front all start bc (i.Jump again ∷ []) from_body) nth
@@ -948,7 +966,7 @@ module _ (p : Program) (f : Base) (r : Final) (trees : Trees) (n : ℕ)
 
   -- From where the next item is asked for the pass comes behind its loop, with what it takes below the count.
   filter_runs : (t : Target) (c : Expr) (again : ℕ) (items vs : List Val) (n : ℕ) (run : Run) (s : Spot) (below : List Val) (w x : World) (l : Loop) →
-      Deep run s w → Kept (in_loop_of filter_flags w) x → slice_get (shapes x.loops) (length w.loops) ≡ Some l → LeftOf l items vs →
+      Here run s w → Kept (in_loop_of filter_flags w) x → slice_get (shapes x.loops) (length w.loops) ≡ Some l → LeftOf l items vs →
       (tc qc : List Instruction) → tc ≡ target_code (again + 1 + 1) t → qc ≡ expr_code (again + 1 + 1 + length tc) c → (end : ℕ) → end ≡ again + 1 + 1 + length tc + length qc →
       HasAt (p.code s.run.stream) again (i.Iterate (end + 7) ∷ i.DupTop ∷ (tc ++ (qc
       ++ i.JumpIfFalse (end + 5) ∷ i.Swap ∷ i.LoadConst (number (pos 1)) ∷ i.Add ∷ i.Jump again ∷ i.DiscardTop ∷ i.Jump again ∷ i.PopLoopFrame ∷ i.BuildList None ∷ []))) →
@@ -976,7 +994,7 @@ module _ (p : Program) (f : Base) (r : Final) (trees : Trees) (n : ℕ)
       let tail = subst (λ m. HasAt all m (i.JumpIfFalse (end + 5) ∷ i.Swap ∷ i.LoadConst (number (pos 1)) ∷ i.Add ∷ i.Jump again ∷ i.DiscardTop ∷ i.Jump again ∷ i.PopLoopFrame ∷ i.BuildList None ∷ [])) here last in
       let no : end + 5 ≡ end + 1 + 1 + 1 + 1 + 1 = omega arith in
       let count = number (pos n) in
-      let deep = deep_within run s (loop_scope (mark_behind filter_flags w)) w d in
+      let deep = here_within run s (loop_scope (mark_behind filter_flags w)) w d in
       let q = looped s in
       at p f r (i.Iterate (end + 7)) q again (count ∷ below) x is.0 (after_then p f r (told s) (tick x) _ (bind_then r (told s) x (tick x) _ _ _ (tick_gives x) h (λ _ world1 k1 h1.
       let all_kept = kept_then k k1 in
@@ -988,11 +1006,11 @@ module _ (p : Program) (f : Base) (r : Final) (trees : Trees) (n : ℕ)
       subst (λ a. Leads p f (told s) a r) (sym (iterate_is filter_flags s s.parent s.out again (end + 7) (count ∷ below) w world1 l (Some v) all_kept record1 (next_item l items v vs left)))
       (silent p f r (told s) _
       (at p f r i.DupTop q (again + 1) (v ∷ count ∷ below) y is.1.0 (silent p f r (told s) _
-      (target_runs t run q (again + 1 + 1) v (v ∷ count ∷ below) y (deep_kept run s kept_y deep) (subst (λ a. HasAt all (again + 1 + 1) a) et (has_front all (again + 1 + 1) tc _ is.1.1))
+      (target_runs t run q (again + 1 + 1) v (v ∷ count ∷ below) y (here_kept run s kept_y deep) (subst (λ a. HasAt all (again + 1 + 1) a) et (has_front all (again + 1 + 1) tc _ is.1.1))
       (bind_then r (told s) y (assign u run t v y) (λ _ z. eval u run c z) _ _ (assign_gives u nest_ends again_kept run t v y)
       (bound_follows r (told s) (test_of run t c v y) _ _ h1) (λ _ world2 k2 h2.
       move p f r q _ _ (v ∷ count ∷ below) world2 (ap (λ a. again + 1 + 1 + length a) (sym et))
-      (expr_runs c run q (again + 1 + 1 + length tc) (v ∷ count ∷ below) world2 (deep_kept run s (kept_then kept_y k2) deep) (subst (λ a. HasAt all (again + 1 + 1 + length tc) a) ec (has_front all (again + 1 + 1 + length tc) qc _ from_test))
+      (expr_runs c run q (again + 1 + 1 + length tc) (v ∷ count ∷ below) world2 (here_kept run s (kept_then kept_y k2) deep) (subst (λ a. HasAt all (again + 1 + 1 + length tc) a) ec (has_front all (again + 1 + 1 + length tc) qc _ from_test))
       (follows_map_kept r (told s) world2 (eval u run c world2) _ _ (eval_gives u nest_ends again_kept run c world2) h2 (λ b world3 k3 h3.
       move p f r q _ _ (b ∷ v ∷ count ∷ below) world3 (ap (λ a. again + 1 + 1 + length tc + length a) (sym ec) ∙ here)
       (at p f r (i.JumpIfFalse (end + 5)) q end (b ∷ v ∷ count ∷ below) world3 tail.0 (after_then p f r (told s) (tick world3) _ (bind_then r (told s) world3 (tick world3) _ _ _ (tick_gives world3) h3 (λ _ world4 k4 h4.
@@ -1021,7 +1039,7 @@ module _ (p : Program) (f : Base) (r : Final) (trees : Trees) (n : ℕ)
       (filter_runs t c again items vs n run s below w world6 (turned l) d (kept_then kept5 k6) (record5 world6 k6) left_y tc qc et ec end ee is h7)))))))))))))))))))))))))))
 
   -- What is iterated, up to where its loop's scope is opened.
-  iterable_runs : (recursive : Bool) (loops : ℕ) (t : Target) (e : Expr) (c : Option Expr) (run : Run) (s : Spot) (pc : ℕ) (stack : List Val) (w : World) → Deep run s w → HasAt (p.code s.run.stream) pc (iterable_code pc t e c) →
+  iterable_runs : (recursive : Bool) (loops : ℕ) (t : Target) (e : Expr) (c : Option Expr) (run : Run) (s : Spot) (pc : ℕ) (stack : List Val) (w : World) → Here run s w → HasAt (p.code s.run.stream) pc (iterable_code pc t e c) →
       slice_get (p.code s.run.stream) (pc + length (iterable_code pc t e c)) ≡ Some (i.PushLoop (for_flags recursive)) → loops_before pc (p.code s.run.stream) ≡ loops →
       Follows r (told s) (loop_items u loops run t e c w) (λ vs world1. (old : List Val) →
       Leads p f (told s) (after (open_loop p.host vs (for_flags recursive) (loops_before (pc + length (iterable_code pc t e c)) (p.code s.run.stream)) world1) (λ _ y. goes stack y (looping (None ∷ s.run.loops) (cfg s (pc + length (iterable_code pc t e c)) old world1)))) r) → Go p f r s pc stack w
@@ -1050,11 +1068,11 @@ module _ (p : Program) (f : Base) (r : Final) (trees : Trees) (n : ℕ)
           ap (λ m. loops_before m all) (sym here) ∙ behind_code all pc (i.LoadConst (number (pos 0)) ∷ ec) (is.0, has_front all (pc + 1) ec fc is.1) ∙ omega (arith, nth, expr_none (pc + 1) e) in
       at p f r (i.LoadConst (number (pos 0))) s pc stack w is.0 (after_then p f r (told s) (tick w) _ (bind_then r (told s) w (tick w) _ _ _ (tick_gives w) h (λ _ world1 k1 h1.
       silent p f r (told s) _
-      (expr_runs e run s (pc + 1) (number (pos 0) ∷ stack) world1 (deep_kept run s k1 d) (has_front all (pc + 1) ec fc is.1)
+      (expr_runs e run s (pc + 1) (number (pos 0) ∷ stack) world1 (here_kept run s k1 d) (has_front all (pc + 1) ec fc is.1)
       (bind_then r (told s) world1 (eval u run e world1) _ _ _ (eval_gives u nest_ends again_kept run e world1) h1 (λ v world2 k2 h2.
       at p f r (i.PushLoop filter_flags) s pc1 (v ∷ number (pos 0) ∷ stack) world2 behind.0 (after_then p f r (told s) (items_over p.host v world2) _
       (bind_then r (told s) world2 (items_over p.host v world2) _ _ _ (answered_gives _ world2) h2 (λ vs world3 k3 h3.
-      let d3 = deep_kept run s k3 (deep_kept run s k2 (deep_kept run s k1 d)) in
+      let d3 = here_kept run s k3 (here_kept run s k2 (here_kept run s k1 d)) in
       subst (λ m. Leads p f (told s) (after (open_loop p.host vs filter_flags m world3) (λ _ y. goes (number (pos 0) ∷ stack) y (looping (None ∷ s.run.loops) (cfg s pc1 (v ∷ number (pos 0) ∷ stack) world3)))) r) (sym pass_number)
       (after_then p f r (told s) (open_loop p.host vs filter_flags loops world3) _
       (opened_follows r (told s) filter_flags loops world3 vs (nat_lt (depth world3.scopes) p.host.limit) _ _ (λ y. Leads p f (told s) (goes (number (pos 0) ∷ stack) y (looping (None ∷ s.run.loops) (cfg s pc1 (v ∷ number (pos 0) ∷ stack) world3))) r) h3 (λ h4.
@@ -1104,14 +1122,14 @@ module _ (p : Program) (f : Base) (r : Final) (trees : Trees) (n : ℕ)
         let c = expr_code pc e in
         let behind = has_behind (p.code s.run.stream) pc c (i.Emit ∷ []) is in
         let place : pc + length c + 1 ≡ pc + length (c ++ i.Emit ∷ []) = omega (arith, length-append c (i.Emit ∷ [])) in
-        expr_runs e (as_at run s) s pc stack w d (has_front (p.code s.run.stream) pc c _ is)
+        expr_runs e (as_at run s) s pc stack w (here run s w d) (has_front (p.code s.run.stream) pc c _ is)
         (use_then r s.bed w (eval u (as_at run s) e w) (as_at run s) s.out _ _ L N _ (eval_gives u nest_ends again_kept (as_at run s) e w) h (λ v world1 k1 h1.
         emit_then run s (pc + length c) v stack world1 _ L N fits behind.0 h1 (λ out1 world2 g. move p f r (later s s.parent out1) _ _ stack world2 place g)))
     stmt_runs k loops (EmitLoop e) run s pc stack w L N fits d j is nth h =
         let c = expr_code pc e in
         let behind = has_behind (p.code s.run.stream) pc c (i.FastRecurse ∷ []) is in
         let place : pc + length c + 1 ≡ pc + length (c ++ i.FastRecurse ∷ []) = omega (arith, length-append c (i.FastRecurse ∷ [])) in
-        expr_runs e (as_at run s) s pc stack w d (has_front (p.code s.run.stream) pc c _ is)
+        expr_runs e (as_at run s) s pc stack w (here run s w d) (has_front (p.code s.run.stream) pc c _ is)
         (use_then r s.bed w (eval u (as_at run s) e w) (as_at run s) s.out _ _ L N _ (eval_gives u nest_ends again_kept (as_at run s) e w) h (λ v world1 k1 h1.
         at p f r i.FastRecurse s (pc + length c) (v ∷ stack) world1 behind.0 (after_then p f r (told s) (tick world1) _
         (use_then r s.bed world1 (tick world1) (as_at run s) s.out _ _ L N _ (tick_gives world1) h1 (λ _ world2 k2 h2.
@@ -1128,7 +1146,7 @@ module _ (p : Program) (f : Base) (r : Final) (trees : Trees) (n : ℕ)
         let behind = has_behind (p.code s.run.stream) pc test (i.JumpIfFalse to ∷ (bc ++ oc)) is in
         let first = behind_code (p.code s.run.stream) pc test (has_front (p.code s.run.stream) pc test (i.JumpIfFalse to ∷ (bc ++ oc)) is) in
         let nth1 : loops_before (pc1 + 1) (p.code s.run.stream) ≡ loops = behind_code (p.code s.run.stream) pc1 (i.JumpIfFalse to ∷ []) (behind.0, tt) ∙ omega (arith, first, expr_none pc c, nth) in
-        expr_runs c (as_at run s) s pc stack w d (has_front (p.code s.run.stream) pc test (i.JumpIfFalse to ∷ (bc ++ oc)) is)
+        expr_runs c (as_at run s) s pc stack w (here run s w d) (has_front (p.code s.run.stream) pc test (i.JumpIfFalse to ∷ (bc ++ oc)) is)
         (use_then r s.bed w (eval u (as_at run s) c w) (as_at run s) s.out _ _ L N _ (eval_gives u nest_ends again_kept (as_at run s) c w) h (λ v world1 k1 h1.
         at p f r (i.JumpIfFalse to) s pc1 (v ∷ stack) world1 behind.0 (after_then p f r (told s) (tick world1) _
         (use_then r s.bed world1 (tick world1) (as_at run s) s.out _ _ L N _ (tick_gives world1) h1 (λ _ world2 k2 h2.
@@ -1166,7 +1184,7 @@ module _ (p : Program) (f : Base) (r : Final) (trees : Trees) (n : ℕ)
         let number3 : loops_before end all ≡ pasts (within_loop c loops) body =
             ap (λ m. loops_before m all) (sym ended_at) ∙ behind_code all (start + length bc) (i.Jump (pc1 + 1) ∷ []) (last.0, tt) ∙ omega (arith, body_number, number2, statements_count inner start (within_loop c loops) body) in
         let D0 : Then = λ q out1 v. Go p f r (later s q out1) (pc + length (ec ++ i.PushLoop (for_flags recursive) ∷ i.Iterate end ∷ rest)) stack v in
-        iterable_runs recursive loops t e c (as_at run s) s pc stack w d (has_front all pc ec (i.PushLoop (for_flags recursive) ∷ i.Iterate end ∷ rest) is) behind.0 nth
+        iterable_runs recursive loops t e c (as_at run s) s pc stack w (here run s w d) (has_front all pc ec (i.PushLoop (for_flags recursive) ∷ i.Iterate end ∷ rest) is) behind.0 nth
         (use_then r s.bed w (loop_items u loops (as_at run s) t e c w) (as_at run s) s.out _ D0 L N _ (loop_items_give u nest_ends again_kept loops (as_at run s) t e c w) h (λ vs world1 k1 h1 old.
         let turn = turn_of t (within_loop c loops) body in
         let d1 = deep_kept run s k1 d in
@@ -1187,7 +1205,7 @@ module _ (p : Program) (f : Base) (r : Final) (trees : Trees) (n : ℕ)
     stmt_runs k loops Continue run s pc stack w L N fits d j is nth h = j.1 s.parent s.out w pc (kept_same w) is (next_then r s.bed (as_at run s) s.out w _ L N h)
     stmt_runs k loops (Block' b _ body) run s pc stack w L N fits d j is nth h = tag_then run s pc b stack w _ L N fits d is.0 h (λ q1 out1 world1 g. g)
     stmt_runs k loops (Set t e) run s pc stack w L N fits d j is nth h =
-        set_runs t e (as_at run s) s pc stack w d is
+        set_runs t e (as_at run s) s pc stack w (here run s w d) is
         (use_then r s.bed w (set_to u (as_at run s) t e w) (as_at run s) s.out _ _ L N _ (set_gives u nest_ends again_kept (as_at run s) t e w) h (λ _ world1 k1 h1.
         so_far_then r s.bed (as_at run s) s.out world1 _ L N h1))
     stmt_runs k loops (With' given _ body) run s pc stack w L N fits d j is nth h =
@@ -1205,7 +1223,7 @@ module _ (p : Program) (f : Base) (r : Final) (trees : Trees) (n : ℕ)
         let deep1 = deep_within run s a w d in
         at p f r i.PushWith s pc stack w is.0 (after_then p f r (told s) (push p.host a w) _
         (within_then r s.bed w a (nat_lt (depth w.scopes) p.host.limit) (as_at run s) s.out _ _ L N (λ world1. Leads p f (told s) (goes stack world1 (cfg s pc stack w)) r) h (λ h1.
-        silent p f r (told s) _ (sets_run given (as_at run s) s (pc + 1) stack (within a w) deep1 (has_front all (pc + 1) gc (bc ++ i.PopFrame ∷ []) is.1)
+        silent p f r (told s) _ (sets_run given (as_at run s) s (pc + 1) stack (within a w) (here run s (within a w) deep1) (has_front all (pc + 1) gc (bc ++ i.PopFrame ∷ []) is.1)
         (use_then r s.bed (within a w) (set_each u (as_at run s) given (within a w)) (as_at run s) s.out _ _ L N _ (set_each_gives u nest_ends again_kept (as_at run s) given (within a w)) h1 (λ _ world2 k2 h2.
         stmts_run (opening a_scope k) loops body run s pc1 stack world2 (Closed pop L) (Closed pop N) fits (deep_kept run s k2 deep1) (around_scope k s stack w world2 L N d.1 k2 j) (has_front all pc1 bc (i.PopFrame ∷ []) from_body) nth2
         (closed_then r s.bed world2 pop (execs u loops body (as_at run s) s.out world2) _ L N _ (execs_end u nest_ends again_kept loops body (as_at run s) s.out world2) h2 (λ q out1 world3 k3 g.
@@ -1227,7 +1245,7 @@ module _ (p : Program) (f : Base) (r : Final) (trees : Trees) (n : ℕ)
         at p f r i.EndCapture (later inner q x) pc1 stack world1 behind.0 (after_then p f r (told s) (tick world1) _
         (use_then r s.bed world1 (tick world1) (record run { parent = q }) s.out _ _ L N _ (tick_gives world1) h1 (λ _ world2 k2 h2.
         ended_then s q x pc1 stack world2 (omega (arith, fits.1))
-        (target_runs t (record run { parent = q }) (later s q s.out) (pc1 + 1) (captured_text x world2) stack world2 (deep_later (record run { parent = q }) s world2 q s.out (deep_kept run s k2 (deep_kept run s k1 d))) behind.1
+        (target_runs t (record run { parent = q }) (later s q s.out) (pc1 + 1) (captured_text x world2) stack world2 (here run (later s q s.out) world2 (deep_later run s world2 q s.out (deep_kept run s k2 (deep_kept run s k1 d)))) behind.1
         (use_then r s.bed world2 (assign u (record run { parent = q }) t (captured_text x world2) world2) (record run { parent = q }) s.out _ _ L N _ (assign_gives u nest_ends again_kept (record run { parent = q }) t (captured_text x world2) world2) h2 (λ _ world3 k3 h3.
         move p f r (later s q s.out) _ _ stack world3 place (so_far_then r s.bed (record run { parent = q }) s.out world3 _ L N h3)))))))))))
     stmt_runs k loops (AutoEscape' e _ body) run s pc stack w L N fits d j is nth h =
@@ -1241,7 +1259,7 @@ module _ (p : Program) (f : Base) (r : Final) (trees : Trees) (n : ℕ)
         let nth2 : loops_before (pc1 + 1) all ≡ loops = behind_code all pc1 (i.PushAutoEscape ∷ []) (behind.0, tt) ∙ omega (arith, nth1) in
         let place : pc1 + 1 + length bc + 1 ≡ pc + length (ec ++ i.PushAutoEscape ∷ (bc ++ i.PopAutoEscape ∷ [])) =
         omega (arith, length-append ec (i.PushAutoEscape ∷ (bc ++ i.PopAutoEscape ∷ [])), length-append bc (i.PopAutoEscape ∷ [])) in
-        expr_runs e (as_at run s) s pc stack w d (has_front all pc ec (i.PushAutoEscape ∷ (bc ++ i.PopAutoEscape ∷ [])) is)
+        expr_runs e (as_at run s) s pc stack w (here run s w d) (has_front all pc ec (i.PushAutoEscape ∷ (bc ++ i.PopAutoEscape ∷ [])) is)
         (use_then r s.bed w (eval u (as_at run s) e w) (as_at run s) s.out _ _ L N _ (eval_gives u nest_ends again_kept (as_at run s) e w) h (λ v world1 k1 h1.
         at p f r i.PushAutoEscape s pc1 (v ∷ stack) world1 behind.0
         (subst (λ first. Leads p f (told s) (after (answered (escape_for first v) world1) (λ x world2. goes stack (with_escape x world2) (replacing (world2.escape ∷ s.run.escapes) (cfg s pc1 (v ∷ stack) world1)))) r) fits.0
@@ -1258,7 +1276,7 @@ module _ (p : Program) (f : Base) (r : Final) (trees : Trees) (n : ℕ)
         let c = expr_code pc e in
         let behind = has_behind (p.code s.run.stream) pc c (i.DiscardTop ∷ []) is in
         let place : pc + length c + 1 ≡ pc + length (c ++ i.DiscardTop ∷ []) = omega (arith, length-append c (i.DiscardTop ∷ [])) in
-        expr_runs e (as_at run s) s pc stack w d (has_front (p.code s.run.stream) pc c (i.DiscardTop ∷ []) is)
+        expr_runs e (as_at run s) s pc stack w (here run s w d) (has_front (p.code s.run.stream) pc c (i.DiscardTop ∷ []) is)
         (use_then r s.bed w (eval u (as_at run s) e w) (as_at run s) s.out _ _ L N _ (eval_gives u nest_ends again_kept (as_at run s) e w) h (λ v world1 k1 h1.
         at p f r i.DiscardTop s (pc + length c) (v ∷ stack) world1 behind.0
         (silent p f r (told s) _ (move p f r s _ _ stack world1 place (so_far_then r s.bed (as_at run s) s.out world1 _ L N h1)))))
