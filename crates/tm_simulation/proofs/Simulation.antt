@@ -854,35 +854,35 @@ module _ (p : Program) (f : Base) (r : Final) (trees : Trees) (n : ℕ)
 
   -- ---------------------------------------------------------------- loops
   -- a run with a loop more open
-  abbrev looped : Spot → Spot
-  looped s = record s { run = record s.run { loops = None ∷ s.run.loops } }
+  abbrev looped : Option Return → Spot → Spot
+  looped o s = record s { run = record s.run { loops = o ∷ s.run.loops } }
 
   -- a loop that wasn't called is left, which is free
   left_loop_then : (g : LoopFlags) (s : Spot) (q : Option TemplateId) (out : List ℕ) (pc : ℕ) (stack : List Val) (w x : World) (l : Loop) → f.scopes ≤ length w.scopes.frames → Kept (in_loop_of g w) x → slice_get (shapes x.loops) (length w.loops) ≡ Some l →
-      slice_get (p.code s.run.stream) pc ≡ Some i.PopLoopFrame → Go p f r (later s q out) (pc + 1) stack (pop x) → Go p f r (later (looped s) q out) pc stack x
+      slice_get (p.code s.run.stream) pc ≡ Some i.PopLoopFrame → Go p f r (later s q out) (pc + 1) stack (pop x) → Go p f r (later (looped None s) q out) pc stack x
   left_loop_then g s q out pc stack w x l d k e is z =
       let stands : f.scopes < length x.scopes.frames = omega (arith, kept_frames k, d) in
-      let c = cfg (later (looped s) q out) pc stack x in
-      at p f r i.PopLoopFrame (later (looped s) q out) pc stack x is
+      let c = cfg (later (looped None s) q out) pc stack x in
+      at p f r i.PopLoopFrame (later (looped None s) q out) pc stack x is
       (subst (λ b. Leads p f (told_by s.bed out) (choose b (λ _. on_loop (None ∷ s.run.loops) (top_loop x) x (λ m. pop_loop_with (None ∷ s.run.loops) c)) (λ _. stuck x)) r)
       (sym (lt-ltb f.scopes (length x.scopes.frames) stands))
       (subst (λ n. Leads p f (told_by s.bed out) n r)
-      (sym (on_top_loop g w x l k e s.run.loops (λ items turns. pop_loop_with (None ∷ s.run.loops) c))) (silent p f r (told_by s.bed out) _ z)))
+      (sym (on_top_loop g w x l k e None s.run.loops (λ items turns. pop_loop_with (None ∷ s.run.loops) c))) (silent p f r (told_by s.bed out) _ z)))
 
-  did_not_is : (g : LoopFlags) (s : Spot) (q : Option TemplateId) (out : List ℕ) (pc : ℕ) (stack : List Val) (w x : World) (l : Loop) (vs : List Val) → Kept (in_loop_of g w) x → slice_get (shapes x.loops) (length w.loops) ≡ Some l → l.items ≡ vs →
-      push_did_not_iterate_of (cfg (later (looped s) q out) pc stack x) ≡ goes (boolean (has_none vs) ∷ stack) x (cfg (later (looped s) q out) pc stack x)
-  did_not_is g s q out pc stack w x l vs k e same =
-      let c = cfg (later (looped s) q out) pc stack x in
-      on_top_loop g w x l k e s.run.loops (λ items turns. goes (boolean (nat_eq (length items) 0) ∷ stack) x c)
+  did_not_is : (o : Option Return) (g : LoopFlags) (s : Spot) (q : Option TemplateId) (out : List ℕ) (pc : ℕ) (stack : List Val) (w x : World) (l : Loop) (vs : List Val) → Kept (in_loop_of g w) x → slice_get (shapes x.loops) (length w.loops) ≡ Some l → l.items ≡ vs →
+      push_did_not_iterate_of (cfg (later (looped o s) q out) pc stack x) ≡ goes (boolean (has_none vs) ∷ stack) x (cfg (later (looped o s) q out) pc stack x)
+  did_not_is o g s q out pc stack w x l vs k e same =
+      let c = cfg (later (looped o s) q out) pc stack x in
+      on_top_loop g w x l k e o s.run.loops (λ items turns. goes (boolean (nat_eq (length items) 0) ∷ stack) x c)
       ∙ ap (λ (items : List Val). goes (boolean (nat_eq (length items) 0) ∷ stack) x c) same
       ∙ ap (λ b. goes (boolean b ∷ stack) x c) (none_is vs)
 
   -- a loop is asked for its next item
-  iterate_is : (g : LoopFlags) (s : Spot) (q : Option TemplateId) (out : List ℕ) (pc end : ℕ) (stack : List Val) (w x : World) (l : Loop) (next_one : Option Val) → Kept (in_loop_of g w) x → slice_get (shapes x.loops) (length w.loops) ≡ Some l →
-      slice_get l.items l.turns ≡ next_one → iterate_of end (cfg (later (looped s) q out) pc stack x) ≡ iterate_with next_one end (cfg (later (looped s) q out) pc stack x)
-  iterate_is g s q out pc end stack w x l next_one k e is =
-      let c = cfg (later (looped s) q out) pc stack x in
-      on_top_loop g w x l k e s.run.loops (λ items turns. iterate_with (slice_get items turns) end c) ∙ ap (λ o. iterate_with o end c) is
+  iterate_is : (o : Option Return) (g : LoopFlags) (s : Spot) (q : Option TemplateId) (out : List ℕ) (pc end : ℕ) (stack : List Val) (w x : World) (l : Loop) (next_one : Option Val) → Kept (in_loop_of g w) x → slice_get (shapes x.loops) (length w.loops) ≡ Some l →
+      slice_get l.items l.turns ≡ next_one → iterate_of end (cfg (later (looped o s) q out) pc stack x) ≡ iterate_with next_one end (cfg (later (looped o s) q out) pc stack x)
+  iterate_is o g s q out pc end stack w x l next_one k e is =
+      let c = cfg (later (looped o s) q out) pc stack x in
+      on_top_loop g w x l k e o s.run.loops (λ items turns. iterate_with (slice_get items turns) end c) ∙ ap (λ v. iterate_with v end c) is
 
   -- what a round does with its item
   abbrev turn_of : {m : _} → Target → ℕ → Row_of-Stmt m → Val → Run → List ℕ → World → Outcome
@@ -902,23 +902,23 @@ module _ (p : Program) (f : Base) (r : Final) (trees : Trees) (n : ℕ)
       )
 
   -- what follows once all rounds are over, at the place behind the jump back
-  abbrev Rounded : Spot → List Val → List Val → World → Then → ℕ → Type 0
-  Rounded s stack items w D end =
-      (q : Option TemplateId) (out : List ℕ) (x : World) (l : Loop) → Kept (in_loop_of (for_flags false) w) x → slice_get (shapes x.loops) (length w.loops) ≡ Some l → l.items ≡ items → D q out (pop x) → Go p f r (later (looped s) q out) end stack x
+  abbrev Rounded : Option Return → Spot → List Val → List Val → World → Then → ℕ → Type 0
+  Rounded o s stack items w D end =
+      (q : Option TemplateId) (out : List ℕ) (x : World) (l : Loop) → Kept (in_loop_of (for_flags false) w) x → slice_get (shapes x.loops) (length w.loops) ≡ Some l → l.items ≡ items → D q out (pop x) → Go p f r (later (looped o s) q out) end stack x
 
   -- A loop's rounds, from where the next item is asked for.
-  rounds_run : {m : _} → (t : Target) (loops : ℕ) (body : Row_of-Stmt m) (again end : ℕ) → StmtsRun loops (record { again = again; behind = end; opened = [] }) body → (items vs : List Val) (run : Run) (s : Spot) (stack : List Val) (w x : World) (l : Loop) (D L N : Then) →
+  rounds_run : {m : _} → (o : Option Return) (t : Target) (loops : ℕ) (body : Row_of-Stmt m) (again end : ℕ) → StmtsRun loops (record { again = again; behind = end; opened = [] }) body → (items vs : List Val) (run : Run) (s : Spot) (stack : List Val) (w x : World) (l : Loop) (D L N : Then) →
       Stands f run s → Deep run s (in_loop_of (for_flags false) w) → Kept (in_loop_of (for_flags false) w) x → slice_get (shapes x.loops) (length w.loops) ≡ Some l → LeftOf l items vs →
       HasAt (p.code s.run.stream) again (i.Iterate end ∷ (target_code (again + 1) t ++ (statements_code (record { again = again; behind = end; opened = [] }) (again + 1 + length (target_code (again + 1) t)) body ++ i.Jump again ∷ []))) →
-      loops_before (again + 1 + length (target_code (again + 1) t)) (p.code s.run.stream) ≡ loops → Rounded s stack items w D end → Ends r s.bed (rounds (turn_of t loops body) vs (as_at run s) s.out x) D L N → Go p f r (looped s) again stack x
-  rounds_run t loops body again end part items [] run s stack w x l D L N fits d k e left is nth over_it h =
-      at p f r (i.Iterate end) (looped s) again stack x is.0 (after_then p f r (told s) (tick x) _ (use_then r s.bed x (tick x) (as_at run s) s.out _ D L N _ (tick_gives x) h (λ _ world1 k1 h1.
+      loops_before (again + 1 + length (target_code (again + 1) t)) (p.code s.run.stream) ≡ loops → Rounded o s stack items w D end → Ends r s.bed (rounds (turn_of t loops body) vs (as_at run s) s.out x) D L N → Go p f r (looped o s) again stack x
+  rounds_run o t loops body again end part items [] run s stack w x l D L N fits d k e left is nth over_it h =
+      at p f r (i.Iterate end) (looped o s) again stack x is.0 (after_then p f r (told s) (tick x) _ (use_then r s.bed x (tick x) (as_at run s) s.out _ D L N _ (tick_gives x) h (λ _ world1 k1 h1.
       let kept = kept_then k k1 in
       let record1 = kept_record k1 (length w.loops) l e in
-      subst (λ n. Leads p f (told s) n r) (sym (iterate_is (for_flags false) s s.parent s.out again end stack w world1 l None kept record1 (no_item l items left)))
+      subst (λ n. Leads p f (told s) n r) (sym (iterate_is o (for_flags false) s s.parent s.out again end stack w world1 l None kept record1 (no_item l items left)))
       (silent p f r (told s) _ (over_it s.parent s.out (next_turn world1) (turned l) (kept_turned (for_flags false) w world1 kept) (next_record (for_flags false) w world1 l kept record1) (turned_items l items left)
       (so_far_then r s.bed (as_at run s) s.out (pop (next_turn world1)) D L N h1))))))
-  rounds_run t loops body again end part items (v ∷ vs) run s stack w x l D L N fits d k e left is nth over_it h =
+  rounds_run o t loops body again end part items (v ∷ vs) run s stack w x l D L N fits d k e left is nth over_it h =
       let all = p.code s.run.stream in
       let inner : Inside = record { again = again; behind = end; opened = [] } in
       let tc = target_code (again + 1) t in
@@ -926,36 +926,36 @@ module _ (p : Program) (f : Base) (r : Final) (trees : Trees) (n : ℕ)
       let bc = statements_code inner start body in
       let from_body = has_behind all (again + 1) tc (bc ++ i.Jump again ∷ []) is.1 in
       let last = has_behind all start bc (i.Jump again ∷ []) from_body in
-      at p f r (i.Iterate end) (looped s) again stack x is.0 (after_then p f r (told s) (tick x) _ (use_then r s.bed x (tick x) (as_at run s) s.out _ D L N _ (tick_gives x) h (λ _ world1 k1 h1.
+      at p f r (i.Iterate end) (looped o s) again stack x is.0 (after_then p f r (told s) (tick x) _ (use_then r s.bed x (tick x) (as_at run s) s.out _ D L N _ (tick_gives x) h (λ _ world1 k1 h1.
       let kept = kept_then k k1 in
       let record1 = kept_record k1 (length w.loops) l e in
       let y = cleared (next_turn world1) in
       let kept_y : Kept (in_loop_of (for_flags false) w) y = kept_cleared (kept_turned (for_flags false) w world1 kept) in
       let record_y = next_record (for_flags false) w world1 l kept record1 in
       let left_y = left_then l items v vs left in
-      let o = turn_of t loops body v (as_at run s) s.out y in
+      let turned_by = turn_of t loops body v (as_at run s) s.out y in
       let next_round : Run → List ℕ → World → Outcome = λ run1 out1 z. rounds (turn_of t loops body) vs run1 out1 z in
       let D1 = Goes r s.bed (as_at run s) next_round D L N in
       let L1 = Goes r s.bed (as_at run s) (λ run1 out1 z. so_far run1 out1 (pop z)) D L N in
-      let goes_on : (q : Option TemplateId) (out1 : List ℕ) (z : World) (pc : ℕ) → Kept y z → slice_get all pc ≡ Some (i.Jump again) → D1 q out1 z → Go p f r (later (looped s) q out1) pc stack z =
+      let goes_on : (q : Option TemplateId) (out1 : List ℕ) (z : World) (pc : ℕ) → Kept y z → slice_get all pc ≡ Some (i.Jump again) → D1 q out1 z → Go p f r (later (looped o s) q out1) pc stack z =
       λ q out1 z pc kz is1 g.
-      at p f r (i.Jump again) (later (looped s) q out1) pc stack z is1 (after_then p f r (told_by s.bed out1) (tick z) _
+      at p f r (i.Jump again) (later (looped o s) q out1) pc stack z is1 (after_then p f r (told_by s.bed out1) (tick z) _
       (use_then r s.bed z (tick z) (record run { parent = q }) out1 _ D L N _ (tick_gives z) g (λ _ z1 kz1 g1.
       silent p f r (told_by s.bed out1) _
-      (rounds_run t loops body again end part items vs run (later s q out1) stack w z1 (turned l) D L N (stands_later f run s fits q out1) (deep_later run s (in_loop_of (for_flags false) w) q out1 d) (kept_then kept_y (kept_then kz kz1)) (kept_record (kept_then kz kz1) (length w.loops) (turned l) record_y) left_y is nth over_it g1)))) in
-      let leaves : Jumps end [] (looped s) stack y L1 =
+      (rounds_run o t loops body again end part items vs run (later s q out1) stack w z1 (turned l) D L N (stands_later f run s fits q out1) (deep_later run s (in_loop_of (for_flags false) w) q out1 d) (kept_then kept_y (kept_then kz kz1)) (kept_record (kept_then kz kz1) (length w.loops) (turned l) record_y) left_y is nth over_it g1)))) in
+      let leaves : Jumps end [] (looped o s) stack y L1 =
       λ q out1 z pc kz is1 g.
-      at p f r (i.Jump end) (later (looped s) q out1) pc stack z is1.0 (after_then p f r (told_by s.bed out1) (tick z) _
+      at p f r (i.Jump end) (later (looped o s) q out1) pc stack z is1.0 (after_then p f r (told_by s.bed out1) (tick z) _
       (use_then r s.bed z (tick z) (record run { parent = q }) out1 _ D L N _ (tick_gives z) g (λ _ z1 kz1 g1.
       silent p f r (told_by s.bed out1) _
       (over_it q out1 z1 (turned l) (kept_then kept_y (kept_then kz kz1)) (kept_record (kept_then kz kz1) (length w.loops) (turned l) record_y) left_y.same (so_far_then r s.bed (record run { parent = q }) out1 (pop z1) D L N g1))))) in
-      let nexts : Jumps again [] (looped s) stack y D1 = λ q out1 z pc kz is1 g. goes_on q out1 z pc kz is1.0 g in
-      subst (λ n. Leads p f (told s) n r) (sym (iterate_is (for_flags false) s s.parent s.out again end stack w world1 l (Some v) kept record1 (next_item l items v vs left)))
+      let nexts : Jumps again [] (looped o s) stack y D1 = λ q out1 z pc kz is1 g. goes_on q out1 z pc kz is1.0 g in
+      subst (λ n. Leads p f (told s) n r) (sym (iterate_is o (for_flags false) s s.parent s.out again end stack w world1 l (Some v) kept record1 (next_item l items v vs left)))
       (silent p f r (told s) _
-      (target_runs t (as_at run s) (looped s) (again + 1) v stack y (here run s y (deep_kept run s kept_y d)) (has_front all (again + 1) tc (bc ++ i.Jump again ∷ []) is.1)
+      (target_runs t (as_at run s) (looped o s) (again + 1) v stack y (here run s y (deep_kept run s kept_y d)) (has_front all (again + 1) tc (bc ++ i.Jump again ∷ []) is.1)
       (use_then r s.bed y (assign u (as_at run s) t v y) (as_at run s) s.out (λ _ z. execs u loops body (as_at run s) s.out z) D1 L1 D1 _ (assign_gives u nest_ends again_kept (as_at run s) t v y)
-      (round_then r s.bed (as_at run s) o next_round D L N h1) (λ _ z k2 h2.
-      part run (looped s) start stack z L1 D1 fits (deep_kept run s (kept_then kept_y k2) d) (around_kept inner (looped s) stack L1 D1 k2 (leaves, nexts)) (has_front all start bc (i.Jump again ∷ []) from_body) nth
+      (round_then r s.bed (as_at run s) turned_by next_round D L N h1) (λ _ z k2 h2.
+      part run (looped o s) start stack z L1 D1 fits (deep_kept run s (kept_then kept_y k2) d) (around_kept inner (looped o s) stack L1 D1 k2 (leaves, nexts)) (has_front all start bc (i.Jump again ∷ []) from_body) nth
       (ends_map_kept r s.bed z (execs u loops body (as_at run s) s.out z) D1 _ L1 D1 (execs_end u nest_ends again_kept loops body (as_at run s) s.out z) h2 (λ q out1 z1 k3 g.
       goes_on q out1 z1 (start + length bc) (kept_then k2 k3) last.0 g)))))))))
 
@@ -971,7 +971,7 @@ module _ (p : Program) (f : Base) (r : Final) (trees : Trees) (n : ℕ)
       HasAt (p.code s.run.stream) again (i.Iterate (end + 7) ∷ i.DupTop ∷ (tc ++ (qc
       ++ i.JumpIfFalse (end + 5) ∷ i.Swap ∷ i.LoadConst (number (pos 1)) ∷ i.Add ∷ i.Jump again ∷ i.DiscardTop ∷ i.Jump again ∷ i.PopLoopFrame ∷ i.BuildList None ∷ []))) →
       Follows r (told s) (kept p.host (test_of run t c) n vs x) (λ us y. (m : ℕ) → m ≡ n + length us → Go p f r s (end + 1 + 1 + 1 + 1 + 1 + 1 + 1 + 1) (number (pos m) ∷ onto us below) y) →
-      Go p f r (looped s) again (number (pos n) ∷ below) x
+      Go p f r (looped None s) again (number (pos n) ∷ below) x
   filter_runs t c again items [] n run s below w x l d k e left tc qc et ec end ee is h =
       let all = p.code s.run.stream in
       let from_test = has_behind all (again + 1 + 1) tc _ is.1.1 in
@@ -979,11 +979,11 @@ module _ (p : Program) (f : Base) (r : Final) (trees : Trees) (n : ℕ)
       let here : again + 1 + 1 + length tc + length qc ≡ end = sym ee in
       let tail = subst (λ m. HasAt all m (i.JumpIfFalse (end + 5) ∷ i.Swap ∷ i.LoadConst (number (pos 1)) ∷ i.Add ∷ i.Jump again ∷ i.DiscardTop ∷ i.Jump again ∷ i.PopLoopFrame ∷ i.BuildList None ∷ [])) here last in
       let there : end + 7 ≡ end + 1 + 1 + 1 + 1 + 1 + 1 + 1 = omega arith in
-      at p f r (i.Iterate (end + 7)) (looped s) again (number (pos n) ∷ below) x is.0 (after_then p f r (told s) (tick x) _ (bind_then r (told s) x (tick x) _ _ _ (tick_gives x) h (λ _ world1 k1 h1.
+      at p f r (i.Iterate (end + 7)) (looped None s) again (number (pos n) ∷ below) x is.0 (after_then p f r (told s) (tick x) _ (bind_then r (told s) x (tick x) _ _ _ (tick_gives x) h (λ _ world1 k1 h1.
       let all_kept = kept_then k k1 in
       let record1 = kept_record k1 (length w.loops) l e in
-      subst (λ a. Leads p f (told s) a r) (sym (iterate_is filter_flags s s.parent s.out again (end + 7) (number (pos n) ∷ below) w world1 l None all_kept record1 (no_item l items left)))
-      (silent p f r (told s) _ (move p f r (looped s) _ _ (number (pos n) ∷ below) (next_turn world1) there
+      subst (λ a. Leads p f (told s) a r) (sym (iterate_is None filter_flags s s.parent s.out again (end + 7) (number (pos n) ∷ below) w world1 l None all_kept record1 (no_item l items left)))
+      (silent p f r (told s) _ (move p f r (looped None s) _ _ (number (pos n) ∷ below) (next_turn world1) there
       (left_loop_then filter_flags s s.parent s.out _ (number (pos n) ∷ below) w (next_turn world1) (turned l) d.1 (kept_turned filter_flags w world1 all_kept) (next_record filter_flags w world1 l all_kept record1) tail.1.1.1.1.1.1.1.0
       (h1 n (omega arith))))))))
   filter_runs t c again items (v ∷ vs) n run s below w x l d k e left tc qc et ec end ee is h =
@@ -995,7 +995,7 @@ module _ (p : Program) (f : Base) (r : Final) (trees : Trees) (n : ℕ)
       let no : end + 5 ≡ end + 1 + 1 + 1 + 1 + 1 = omega arith in
       let count = number (pos n) in
       let deep = here_within run s (loop_scope (mark_behind filter_flags w)) w d in
-      let q = looped s in
+      let q = looped None s in
       at p f r (i.Iterate (end + 7)) q again (count ∷ below) x is.0 (after_then p f r (told s) (tick x) _ (bind_then r (told s) x (tick x) _ _ _ (tick_gives x) h (λ _ world1 k1 h1.
       let all_kept = kept_then k k1 in
       let record1 = kept_record k1 (length w.loops) l e in
@@ -1003,7 +1003,7 @@ module _ (p : Program) (f : Base) (r : Final) (trees : Trees) (n : ℕ)
       let kept_y : Kept (in_loop_of filter_flags w) y = kept_cleared (kept_turned filter_flags w world1 all_kept) in
       let record_y = next_record filter_flags w world1 l all_kept record1 in
       let left_y = left_then l items v vs left in
-      subst (λ a. Leads p f (told s) a r) (sym (iterate_is filter_flags s s.parent s.out again (end + 7) (count ∷ below) w world1 l (Some v) all_kept record1 (next_item l items v vs left)))
+      subst (λ a. Leads p f (told s) a r) (sym (iterate_is None filter_flags s s.parent s.out again (end + 7) (count ∷ below) w world1 l (Some v) all_kept record1 (next_item l items v vs left)))
       (silent p f r (told s) _
       (at p f r i.DupTop q (again + 1) (v ∷ count ∷ below) y is.1.0 (silent p f r (told s) _
       (target_runs t run q (again + 1 + 1) v (v ∷ count ∷ below) y (here_kept run s kept_y deep) (subst (λ a. HasAt all (again + 1 + 1) a) et (has_front all (again + 1 + 1) tc _ is.1.1))
@@ -1197,7 +1197,7 @@ module _ (p : Program) (f : Base) (r : Final) (trees : Trees) (n : ℕ)
         (opened_then r s.bed (for_flags recursive) (loops + passes c) world1 vs (nat_lt (depth world1.scopes) p.host.limit) (as_at run s) s.out (λ _ x. rounds turn vs (as_at run s) s.out x) D1 L N
         (λ x. Leads p f (told s) (goes stack x (looping (None ∷ s.run.loops) (cfg s pc1 old world1))) r) over_it (λ h4.
         silent p f r (told s) _
-        (rounds_run t (within_loop c loops) body (pc1 + 1) end (stmts_run inner (within_loop c loops) body) vs vs run s stack world1 (opened (for_flags recursive) (loops + passes c) world1 vs) (new_loop vs (for_flags recursive) (loops + passes c) world1) D1 L N fits (deep_within run s (loop_scope (mark_behind (for_flags false) world1)) world1 d1)
+        (rounds_run None t (within_loop c loops) body (pc1 + 1) end (stmts_run inner (within_loop c loops) body) vs vs run s stack world1 (opened (for_flags recursive) (loops + passes c) world1 vs) (new_loop vs (for_flags recursive) (loops + passes c) world1) D1 L N fits (deep_within run s (loop_scope (mark_behind (for_flags false) world1)) world1 d1)
         (opened_kept (for_flags recursive) (loops + passes c) world1 vs) (new_record (for_flags recursive) (loops + passes c) world1 vs) (record { before = []; same = refl; all = refl; turns = refl })
         (has_loop all pc1 end tc bc oc behind.1) number2 (λ q out1 x l k3 e3 same d3.
         behind_loop_runs k (pasts (within_loop c loops) body) other vs run s pc1 end (pc + length (ec ++ i.PushLoop (for_flags recursive) ∷ i.Iterate end ∷ rest)) stack world1 x l L N fits d1 j1 k3 e3 same place at_end_of number3 q out1 d3) h4))))))
@@ -1318,7 +1318,7 @@ module _ (p : Program) (f : Base) (r : Final) (trees : Trees) (n : ℕ)
     -- behind a loop's last round
     behind_loop_runs : (k : Inside) (loops : ℕ) (other : Otherwise) (vs : List Val) (run : Run) (s : Spot) (pc end to : ℕ) (stack : List Val) (w x : World) (l : Loop) (L N : Then) → Stands f run s → Deep run s w → Around k s stack w L N →
         Kept (in_loop_of (for_flags false) w) x → slice_get (shapes x.loops) (length w.loops) ≡ Some l → l.items ≡ vs → end + length (behind_loop_code k end other) ≡ to → HasAt (p.code s.run.stream) end (behind_loop_code k end other) → loops_before end (p.code s.run.stream) ≡ loops → (q : Option TemplateId) (out : List ℕ) →
-        Ends r s.bed (exec_behind_loop u loops other (has_none vs) (record run { parent = q }) out (pop x)) (λ q1 out1 v. Go p f r (later s q1 out1) to stack v) L N → Go p f r (later (looped s) q out) end stack x
+        Ends r s.bed (exec_behind_loop u loops other (has_none vs) (record run { parent = q }) out (pop x)) (λ q1 out1 v. Go p f r (later s q1 out1) to stack v) L N → Go p f r (later (looped None s) q out) end stack x
     behind_loop_runs k loops no_else vs run s pc end to stack w x l L N fits d j kept e same place is nth q out h =
         left_loop_then (for_flags false) s q out end stack w x l d.1 kept e is.0 (move p f r (later s q out) _ _ stack (pop x) place (so_far_then r s.bed (record run { parent = q }) out (pop x) _ L N h))
     behind_loop_runs k loops (otherwise _ eb) vs run s pc end to stack w x l L N fits d j kept e same place is nth q out h =
@@ -1332,8 +1332,8 @@ module _ (p : Program) (f : Base) (r : Final) (trees : Trees) (n : ℕ)
         let three = i.PushDidNotIterate ∷ i.PopLoopFrame ∷ test ∷ [] in
         let nth1 : loops_before (end + 3) all ≡ loops = behind_code all end three (is.0, (is.1.0, (is.1.1.0, tt))) ∙ omega (arith, nth) in
         let popped = kept_popped (loop_scope (mark_behind (for_flags false) w)) w x kept in
-        at p f r i.PushDidNotIterate (later (looped s) q out) end stack x is.0
-        (subst (λ n. Leads p f (told_by s.bed out) n r) (sym (did_not_is (for_flags false) s q out end stack w x l vs kept e same))
+        at p f r i.PushDidNotIterate (later (looped None s) q out) end stack x is.0
+        (subst (λ n. Leads p f (told_by s.bed out) n r) (sym (did_not_is None (for_flags false) s q out end stack w x l vs kept e same))
         (silent p f r (told_by s.bed out) _
         (left_loop_then (for_flags false) s q out (end + 1) (boolean b ∷ stack) w x l d.1 kept e is.1.0
         (at p f r test (later s q out) (end + 1 + 1) (boolean b ∷ stack) (pop x) is.1.1.0 (after_then p f r (told_by s.bed out) (tick (pop x)) _
