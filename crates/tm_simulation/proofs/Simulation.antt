@@ -6,7 +6,7 @@ use Rattle.std.proofs.lemmas.Option.{slice_get_past}
 use Rattle.tm_values.specs.Answer.{Answer}
 use Rattle.tm_values.specs.Val.{Val, undefined, boolean, number, text, vals_of, list_of}
 use Rattle.tm_values.specs.declared.escape.AutoEscape.{AutoEscape}
-use Rattle.tm_values.specs.declared.error.ErrorKind.TheVariants.{CannotUnpack}
+use Rattle.tm_values.specs.declared.error.ErrorKind.TheVariants.{CannotUnpack, InvalidOperation}
 use Rattle.tm_operations.specs.Iteration.{exactly}
 use Rattle.tm_operations.specs.Arithmetic.{added, number_answer}
 use Rattle.tm_syntax.specs.declared.tree.UnaryOperator.{UnaryOperator}
@@ -33,15 +33,16 @@ use Rattle.tm_syntax.proofs.Long.{statements_long}
 use Rattle.tm_meaning.specs.World.{choose, World, Scope, Loop, Host, loop_scope, new_loop, open_loop, turned, next_turn, cleared, top_mark, top_loop, items_over, Res, Good, Bad, bind, tick, depth, push, pop, plain as plain_scope, items_of, set_member, answered, emitted, looked_up, escape_for, with_escape, captured_text}
 use Rattle.tm_meaning.specs.Calls.{Callee, whole, Call, Asked, has, refused, runs, recurs, enter_block, call_named, call_first, call_method, call_innermost}
 use Rattle.tm_meaning.specs.Tree.{Trees, Body}
-use Rattle.tm_meaning.specs.Meaning.{Again, over, under, again_in, again_of, text_behind, Run, Outcome, Ending, done, leave, next, fault, Nests, Under, so_far, say, use_it, then_do, value_of, in_place_of, block_tag, truth, applied_unary, operated, applied, attribute, item_at, slice_of, list_of_values, map_of_pairs, audible as heard_here, none_waits, eval, eval_all, eval_pair, eval_pairs, eval_argument, eval_arguments, eval_keyword, eval_keywords, eval_named, keyword_map, one_counted, kept, loop_items, eval_condition, eval_conditions, eval_step, eval_links, eval_steps, assign, assign_all, set_to, set_each, closing, capturing, captured, rounds, loop_over, has_none, exec_behind_loop, done_by, emit, behind_first, exec, execs, exec_else, new_run, at_end, stream_run, nests_of, rendered}
+use Rattle.tm_meaning.specs.Meaning.{Again, ended, over, under, again_in, again_of, text_behind, Run, Outcome, Ending, done, leave, next, fault, Nests, Under, so_far, say, use_it, then_do, value_of, in_place_of, block_tag, truth, applied_unary, operated, applied, attribute, item_at, slice_of, list_of_values, map_of_pairs, audible as heard_here, none_waits, eval, eval_all, eval_pair, eval_pairs, eval_argument, eval_arguments, eval_keyword, eval_keywords, eval_named, keyword_map, one_counted, kept, loop_items, eval_condition, eval_conditions, eval_step, eval_links, eval_steps, assign, assign_all, set_to, set_each, closing, capturing, captured, rounds, loop_over, has_none, exec_behind_loop, done_by, emit, behind_first, exec, execs, exec_else, new_run, at_end, stream_run, nests_of, rendered}
 use Rattle.tm_meaning.specs.Machine.{Return, new_capture, recursion, place_of_loop, Activation, Config, Finished, Failed, Stuck, Next, More, Over, Program, after, goes, taken, on_taken, asked, asked_in_place, base_of, start, run_from, stuck, audible, with_world}
-use Rattle.tm_meaning.specs.Instructions.{binary_of, paired, end_capture_of, replacing, is_no_loop, on_loop, iterate_of, iterate_with, push_did_not_iterate_of, pop_loop_with, looping}
+use Rattle.tm_meaning.specs.Instructions.{returned, returns, binary_of, paired, end_capture_of, replacing, is_no_loop, on_loop, iterate_of, iterate_with, push_did_not_iterate_of, pop_loop_with, looping}
 use Rattle.tm_meaning.specs.Steps.{act, step, closed, finish, Final, final, Leads, over as is_over}
 use Rattle.tm_meaning.specs.Compiled.{IsCompiled, code_of}
 use Rattle.tm_meaning.proofs.Ends.{one_end}
 use Rattle.tm_simulation.specs.Reached.{final_by, final_of, Renders}
 use Rattle.tm_simulation.proofs.Place.{HasAt, has_front, has_behind, has_both, has_whole}
 use Rattle.tm_syntax.specs.Loops.{loops_before, passes, within_loop, past, pasts, FoundLoop, LoopPlace, loops_in, loop_places}
+use Rattle.tm_simulation.proofs.Matches.{IsAt, Both, Looped, match_at, statements_match}
 use Rattle.tm_simulation.proofs.Numbers.{behind_code, expr_none, target_none, assignments_none, iterable_count, statement_count, statements_count}
 use Rattle.tm_simulation.proofs.Loops.{LeftOf, next_item, no_item, left_then, turned_items, on_top_loop, next_record, new_record, none_is}
 use Rattle.tm_simulation.proofs.Keeps.{Kept, shapes, marks, kept_frames, kept_depth, kept_same, kept_then, kept_record, kept_popped, kept_cleared, kept_turned, top_of_marks, mark_behind, in_loop_of, opened, opened_kept, loop_ends, ends_use, Gives, EndsBy as EndsKept, Ends as KeptEnds, ends_as, tick_gives, answered_gives, Asks, block_asks, named_asks, method_asks, innermost_asks, again_end, eval_gives, condition_gives, all_give, pair_gives, pairs_give, argument_gives, arguments_give, keyword_gives, keywords_give, named_give, one_counted_gives, kept_gives, test_gives, loop_items_give, recorded, step_gives, steps_give, unary_gives, binary_gives, looked_up_gives, within, kept_escaped, assign_gives, set_gives, set_each_gives, exec_ends, execs_end, nests_end}
@@ -1344,6 +1345,119 @@ module _ (p : Program) (f : Base) (r : Final) (trees : Trees) (n : ℕ)
         (subst (λ n. HasAt all n ec) first is.1.1.1) nth1
         (ends_map r s.bed (execs u loops eb (record run { parent = q }) out v) _ _ L N h2 (λ q1 out1 y g. move p f r (later s q1 out1) _ _ stack y here g)))))
         (λ h2. silent p f r (told_by s.bed out) _ (move p f r (later s q out) _ _ stack v here (so_far_then r s.bed (record run { parent = q }) out v D0 L N h2))))))))))
+
+  -- ---------------------------------------------------------------- loops that are called
+  -- where a called loop's rounds stand
+  abbrev in_call : Spot → Spot
+  in_call s = record s { run = record s.run { escapes = []; floor = length (captures_of s.bed s.out) } }
+
+  abbrev from_call : Bool → Spot → ℕ → List Val → Return
+  from_call value s pc stack = record { place = pc + 1; operands = stack; escapes = s.run.escapes; floor = s.run.floor; parent = s.parent; value = value }
+
+  -- a text that is a value
+  abbrev apart : Spot → Spot
+  apart s = record s { bed = captured_in s.bed s.out; out = [] }
+
+  -- a called loop is left, which is free: the run goes on where it was called
+  called_exit : (o : Return) (s1 : Spot) (q : Option TemplateId) (out : List ℕ) (end : ℕ) (below : List Val) (w x : World) (l : Loop) → f.scopes ≤ length w.scopes.frames → Kept (in_loop_of (for_flags false) w) x → slice_get (shapes x.loops) (length w.loops) ≡ Some l →
+      slice_get (p.code s1.run.stream) end ≡ Some i.PopLoopFrame →
+      Leads p f (told_by s1.bed out) (returns o o.value (returned o s1.run.loops (cfg (later (looped (Some o) (in_call s1)) q out) end below x))) r →
+      Go p f r (later (looped (Some o) (in_call s1)) q out) end below x
+  called_exit o s1 q out end below w x l d k e is z =
+      let stands : f.scopes < length x.scopes.frames = omega (arith, kept_frames k, d) in
+      let c = cfg (later (looped (Some o) (in_call s1)) q out) end below x in
+      at p f r i.PopLoopFrame (later (looped (Some o) (in_call s1)) q out) end below x is
+      (subst (λ b. Leads p f (told_by s1.bed out) (choose b (λ _. on_loop (Some o ∷ s1.run.loops) (top_loop x) x (λ m. pop_loop_with (Some o ∷ s1.run.loops) c)) (λ _. stuck x)) r)
+      (sym (lt-ltb f.scopes (length x.scopes.frames) stands))
+      (subst (λ a. Leads p f (told_by s1.bed out) a r)
+      (sym (on_top_loop (for_flags false) w x l k e (Some o) s1.run.loops (λ items turns. pop_loop_with (Some o ∷ s1.run.loops) c))) z))
+
+  called_over : (o : Return) (s1 : Spot) (q : Option TemplateId) (out : List ℕ) (end : ℕ) (w x : World) (l : Loop) (items : List Val) → f.scopes ≤ length w.scopes.frames → Kept (in_loop_of (for_flags false) w) x → slice_get (shapes x.loops) (length w.loops) ≡ Some l →
+      l.items ≡ items → HasAt (p.code s1.run.stream) end (i.PopLoopFrame ∷ []) ⊎ HasAt (p.code s1.run.stream) end (i.PushDidNotIterate ∷ i.PopLoopFrame ∷ []) →
+      ((place : ℕ) (below : List Val) → Leads p f (told_by s1.bed out) (returns o o.value (returned o s1.run.loops (cfg (later (looped (Some o) (in_call s1)) q out) place below x))) r) →
+      Go p f r (later (looped (Some o) (in_call s1)) q out) end [] x
+  called_over o s1 q out end w x l items d k e same (inl h) z = called_exit o s1 q out end [] w x l d k e h.0 (z end [])
+  called_over o s1 q out end w x l items d k e same (inr h) z =
+      at p f r i.PushDidNotIterate (later (looped (Some o) (in_call s1)) q out) end [] x h.0
+      (subst (λ a. Leads p f (told_by s1.bed out) a r) (sym (did_not_is (Some o) (for_flags false) (in_call s1) q out end [] w x l items k e same))
+      (silent p f r (told_by s1.bed out) _ (called_exit o s1 q out (end + 1) (boolean (has_none items) ∷ []) w x l d k e h.1.0 (z (end + 1) (boolean (has_none items) ∷ [])))))
+
+  -- a called loop's rounds, from its place, over nothing
+  called_rounds : (l : FoundLoop) (place : ℕ) → Looped (p.code id) l place → (o : Return) (m : ℕ) (items : List Val) (run : Run) (s1 : Spot) (w : World) (D : Then) (L N : Then) → DeepIn p f n id (suc level) run s1 w →
+      ((q : Option TemplateId) (out : List ℕ) (x : World) → D q out (pop x) → (at_place : ℕ) (below : List Val) →
+      Leads p f (told_by s1.bed out) (returns o o.value (returned o s1.run.loops (cfg (later (looped (Some o) (in_call s1)) q out) at_place below x))) r) →
+      Ends r s1.bed (rounds (turn_of l.target l.at l.body.row) items (as_at run s1) s1.out (opened (for_flags true) m w items)) D L N →
+      Go p f r (looped (Some o) (in_call s1)) (place + 1) [] (opened (for_flags true) m w items)
+  called_rounds l place lo o m items run s1 w D L N d goes_on h =
+      let inner : Inside = record { again = place + 1; behind = lo.end; opened = [] } in
+      let all_is : p.code id ≡ p.code s1.run.stream = ap p.code (sym d.3) in
+      let fits : Stands f run (in_call s1) = (d.2.0, omega arith, d.2.2) in
+      rounds_run (Some o) l.target l.at l.body.row (place + 1) lo.end (stmts_run inner l.at l.body.row) items items run (in_call s1) [] w (opened (for_flags true) m w items) (new_loop items (for_flags true) m w) D L N fits
+      (omega (arith, d.0), omega (arith, d.1), fits, d.3, omega (arith, d.4))
+      (opened_kept (for_flags true) m w items) (new_record (for_flags true) m w items) (record { before = []; same = refl; all = refl; turns = refl })
+      (subst (λ c. HasAt c (place + 1) (i.Iterate lo.end ∷ (target_code (place + 1 + 1) l.target ++ (statements_code inner (place + 1 + 1 + length (target_code (place + 1 + 1) l.target)) l.body.row ++ i.Jump (place + 1) ∷ [])))) all_is lo.rounds)
+      (subst (λ c. loops_before (place + 1 + 1 + length (target_code (place + 1 + 1) l.target)) c ≡ l.at) all_is lo.numbered)
+      (λ q out x l1 k e same g. called_over o s1 q out lo.end w x l1 items d.1 k e same
+      (subst (λ c. HasAt c lo.end (i.PopLoopFrame ∷ []) ⊎ HasAt c lo.end (i.PushDidNotIterate ∷ i.PopLoopFrame ∷ [])) all_is lo.exit) (goes_on q out x g)) h
+
+  -- a loop that can be called there, and one that can't
+  recursed_by : (b : Bool) (l : FoundLoop) (lp : LoopPlace) → (b ≡ true → (lp.flags ≡ for_flags true) × Looped (p.code id) l lp.place) → (value : Bool) (m : ℕ) (items : List Val) (run : Run) (s s1 : Spot) (pc : ℕ) (stack old : List Val) (w0 w : World) (D L N : Then) →
+      s1.run ≡ s.run → s1.parent ≡ s.parent → DeepIn p f n id (suc level) run s1 w →
+      ((q : Option TemplateId) (out : List ℕ) (x : World) → D q out (pop x) → (at_place : ℕ) (below : List Val) →
+      Leads p f (told_by s1.bed out) (returns (from_call value s pc stack) value (returned (from_call value s pc stack) s1.run.loops (cfg (later (looped (Some (from_call value s pc stack)) (in_call s1)) q out) at_place below x))) r) →
+      Ends r s1.bed (choose b (λ _. loop_over p.host m true (turn_of l.target l.at l.body.row) items (as_at run s1) s1.out w) (λ _. ended (fault (InvalidOperation ∷ [])) (as_at run s1) s1.out w)) D L N →
+      Leads p f (told s1) (choose b
+      (λ _. after (open_loop p.host items lp.flags m w) (λ _ x. More [] (cfg (looped (Some (from_call value s pc stack)) (in_call s1)) (lp.place + 1) [] x)))
+      (λ _. Over (Failed (InvalidOperation ∷ []) w))) r
+  recursed_by false l lp found value m items run s s1 pc stack old w0 w D L N same_run same_parent d goes_on h = is_over refl (fault_then r s1.bed (as_at run s1) s1.out w (InvalidOperation ∷ []) D L N h)
+  recursed_by true l lp found value m items run s s1 pc stack old w0 w D L N same_run same_parent d goes_on h =
+      let o = from_call value s pc stack in
+      let there = found refl in
+      subst (λ g. Leads p f (told s1) (after (open_loop p.host items g m w) (λ _ x. More [] (cfg (looped (Some o) (in_call s1)) (lp.place + 1) [] x))) r) (sym there.0)
+      (after_then p f r (told s1) (open_loop p.host items (for_flags true) m w) _
+      (opened_then r s1.bed (for_flags true) m w items (nat_lt (depth w.scopes) p.host.limit) (as_at run s1) s1.out (λ _ x. rounds (turn_of l.target l.at l.body.row) items (as_at run s1) s1.out x) D L N
+      (λ x. Leads p f (told s1) (More [] (cfg (looped (Some o) (in_call s1)) (lp.place + 1) [] x)) r) h (λ h1.
+      silent p f r (told s1) _ (called_rounds l lp.place there.1 o m items run s1 w D L N d goes_on h1))))
+
+  -- in place: it is heard where it is called
+  recursed_in_place : (ol : Option FoundLoop) (op : Option LoopPlace) → Both (p.code id) ol op → (m : ℕ) (items : List Val) (run : Run) (s : Spot) (pc : ℕ) (stack old : List Val) (w0 w : World) (D L N : Then) → DeepIn p f n id (suc level) run s w →
+      Ends r s.bed (again_in u ol m items (as_at run s) s.out w) D L N → ((q : Option TemplateId) (out1 : List ℕ) (x : World) → D q out1 x → Go p f r (later s q out1) (pc + 1) stack x) →
+      Leads p f (told s) (recursion p (cfg s pc old w0) false stack (captures_of s.bed s.out) m op items w) r
+  recursed_in_place None None both m items run s pc stack old w0 w D L N d h g = is_over refl (fault_then r s.bed (as_at run s) s.out w (InvalidOperation ∷ []) D L N h)
+  recursed_in_place None (Some lp) both m items run s pc stack old w0 w D L N d h g = absurd both
+  recursed_in_place (Some l) None both m items run s pc stack old w0 w D L N d h g = absurd both
+  recursed_in_place (Some l) (Some lp) both m items run s pc stack old w0 w D L N d h g =
+      subst (λ b. Leads p f (told s) (choose b
+      (λ _. after (open_loop p.host items lp.flags m w) (λ _ x. More [] (cfg (looped (Some (from_call false s pc stack)) (in_call s)) (lp.place + 1) [] x)))
+      (λ _. Over (Failed (InvalidOperation ∷ []) w))) r) (sym both.0)
+      (recursed_by l.recursive l lp both.1 false m items run s s pc stack old w0 w D L N refl refl d
+      (λ q out x e at_place below. silent p f r (told_by s.bed out) _ (g q out (pop x) e)) h)
+
+  -- as a value: its text goes into a capture of its own
+  text_ends : (s : Spot) (e : Ending) (parent : Option TemplateId) (out : List ℕ) (w : World) (K : Val → World → Type 0) → Follows r (told s) (text_behind e (whole_of e parent out w)) K →
+      Ends r (captured_in s.bed s.out) (whole_of e parent out w) (λ q out1 x. K (captured_text out1 x) x) (λ q out1 x. K (captured_text out1 x) x) (λ q out1 x. K (captured_text out1 x) x)
+  unfolding Ends
+  text_ends s done parent out w K h = h
+  text_ends s leave parent out w K h = h
+  text_ends s next parent out w K h = h
+  text_ends s (fault chain) parent out w K h = h
+
+  recursed_as_value : (ol : Option FoundLoop) (op : Option LoopPlace) → Both (p.code id) ol op → (m : ℕ) (items : List Val) (run : Run) (s : Spot) (pc : ℕ) (stack old : List Val) (w0 w : World) (D : Then) → HereIn p f n id (suc level) run s w →
+      Ends r (captured_in s.bed s.out) (again_in u ol m items (capturing true run) [] w) D D D →
+      ((q : Option TemplateId) (out1 : List ℕ) (x : World) → D q out1 x → Go p f r s (pc + 1) (captured_text out1 x ∷ stack) x) →
+      Leads p f (told s) (recursion p (cfg s pc old w0) true stack (new_capture true ∷ captures_of s.bed s.out) m op items w) r
+  recursed_as_value None None both m items run s pc stack old w0 w D d h g = is_over refl (fault_then r (captured_in s.bed s.out) (capturing true run) [] w (InvalidOperation ∷ []) D D D h)
+  recursed_as_value None (Some lp) both m items run s pc stack old w0 w D d h g = absurd both
+  recursed_as_value (Some l) None both m items run s pc stack old w0 w D d h g = absurd both
+  recursed_as_value (Some l) (Some lp) both m items run s pc stack old w0 w D d h g =
+      let s1 = apart s in
+      let fits : Stands f (capturing true run) s1 = stands_captured run s d.2 in
+      let placed = subst (λ q. Ends r s1.bed (again_in u (Some l) m items (record (capturing true run) { parent = q }) [] w) D D D) d.5 h in
+      subst (λ b. Leads p f (told s) (choose b
+      (λ _. after (open_loop p.host items lp.flags m w) (λ _ x. More [] (cfg (looped (Some (from_call true s pc stack)) (in_call s1)) (lp.place + 1) [] x)))
+      (λ _. Over (Failed (InvalidOperation ∷ []) w))) r) (sym both.0)
+      (recursed_by l.recursive l lp both.1 true m items (capturing true run) s s1 pc stack old w0 w D D D refl refl (d.0, d.1, fits, d.3, d.4)
+      (λ q out x e at_place below. silent p f r (told s) _ (g q out (pop x) e)) placed)
 
 -- ---------------------------------------------------------------- streams
 -- where a stream's run stands
