@@ -1,5 +1,5 @@
 -- The code of trees comes to what the trees mean.
-use Rattle.std.proofs.Common.{◌≡◌, ℕ, zero, suc, ◌+◌, ◌<◌, ◌≤◌, ◌⊎◌, inl, inr, List, [], ◌∷◌, ◌++◌, length, Option, Some, None, Bool, true, false, refl, sym, ap, ◌∙◌, subst, arith, length-append, eq-eqb, lt-ltb, eqb-true}
+use Rattle.std.proofs.Common.{le-ltb, ◌≡◌, ℕ, zero, suc, ◌+◌, ◌<◌, ◌≤◌, ◌⊎◌, inl, inr, List, [], ◌∷◌, ◌++◌, length, Option, Some, None, Bool, true, false, refl, sym, ap, ◌∙◌, subst, arith, length-append, eq-eqb, lt-ltb, eqb-true}
 use Rattle.std.specs.Prelude.{ℤ, pos, slice_get, ◌&&◌, nat_eq, nat_lt, ◌==◌, cond, Ok, Err}
 use Rattle.std.proofs.lemmas.List.{append-nil}
 use Rattle.std.proofs.lemmas.Option.{slice_get_past}
@@ -34,7 +34,7 @@ use Rattle.tm_meaning.specs.World.{choose, World, Scope, Loop, Host, loop_scope,
 use Rattle.tm_meaning.specs.Calls.{Callee, whole, Call, Asked, has, refused, runs, recurs, enter_block, call_named, call_first, call_method, call_innermost}
 use Rattle.tm_meaning.specs.Tree.{Trees, Body}
 use Rattle.tm_meaning.specs.Meaning.{Again, ended, over, under, again_in, again_of, text_behind, Run, Outcome, Ending, done, leave, next, fault, Nests, Under, so_far, say, use_it, then_do, value_of, in_place_of, block_tag, truth, applied_unary, operated, applied, attribute, item_at, slice_of, list_of_values, map_of_pairs, audible as heard_here, none_waits, eval, eval_all, eval_pair, eval_pairs, eval_argument, eval_arguments, eval_keyword, eval_keywords, eval_named, keyword_map, one_counted, kept, loop_items, eval_condition, eval_conditions, eval_step, eval_links, eval_steps, assign, assign_all, set_to, set_each, closing, capturing, captured, rounds, loop_over, has_none, exec_behind_loop, done_by, emit, behind_first, exec, execs, exec_else, new_run, at_end, stream_run, nests_of, rendered}
-use Rattle.tm_meaning.specs.Machine.{Return, new_capture, recursion, place_of_loop, Activation, Config, Finished, Failed, Stuck, Next, More, Over, Program, after, goes, taken, on_taken, asked, asked_in_place, base_of, start, run_from, stuck, audible, with_world}
+use Rattle.tm_meaning.specs.Machine.{Return, Capture as OpenCapture, new_capture, recursion, place_of_loop, Activation, Config, Finished, Failed, Stuck, Next, More, Over, Program, after, goes, taken, on_taken, asked, asked_in_place, base_of, start, run_from, stuck, audible, with_world}
 use Rattle.tm_meaning.specs.Instructions.{returned, returns, binary_of, paired, end_capture_of, replacing, is_no_loop, on_loop, iterate_of, iterate_with, push_did_not_iterate_of, pop_loop_with, looping}
 use Rattle.tm_meaning.specs.Steps.{act, step, closed, finish, Final, final, Leads, over as is_over}
 use Rattle.tm_meaning.specs.Compiled.{IsCompiled, code_of}
@@ -42,10 +42,10 @@ use Rattle.tm_meaning.proofs.Ends.{one_end}
 use Rattle.tm_simulation.specs.Reached.{final_by, final_of, Renders}
 use Rattle.tm_simulation.proofs.Place.{HasAt, has_front, has_behind, has_both, has_whole}
 use Rattle.tm_syntax.specs.Loops.{loops_before, passes, within_loop, past, pasts, FoundLoop, LoopPlace, loops_in, loop_places}
-use Rattle.tm_simulation.proofs.Matches.{IsAt, Both, Looped, match_at, statements_match}
+use Rattle.tm_simulation.proofs.Matches.{IsAt, Both, Looped, Match, match_at, statements_match}
 use Rattle.tm_simulation.proofs.Numbers.{behind_code, expr_none, target_none, assignments_none, iterable_count, statement_count, statements_count}
 use Rattle.tm_simulation.proofs.Loops.{LeftOf, next_item, no_item, left_then, turned_items, on_top_loop, next_record, new_record, none_is}
-use Rattle.tm_simulation.proofs.Keeps.{Kept, shapes, marks, kept_frames, kept_depth, kept_same, kept_then, kept_record, kept_popped, kept_cleared, kept_turned, top_of_marks, mark_behind, in_loop_of, opened, opened_kept, loop_ends, ends_use, Gives, EndsBy as EndsKept, Ends as KeptEnds, ends_as, tick_gives, answered_gives, Asks, block_asks, named_asks, method_asks, innermost_asks, again_end, eval_gives, condition_gives, all_give, pair_gives, pairs_give, argument_gives, arguments_give, keyword_gives, keywords_give, named_give, one_counted_gives, kept_gives, test_gives, loop_items_give, recorded, step_gives, steps_give, unary_gives, binary_gives, looked_up_gives, within, kept_escaped, assign_gives, set_gives, set_each_gives, exec_ends, execs_end, nests_end}
+use Rattle.tm_simulation.proofs.Keeps.{Kept, one_more, shapes, marks, kept_frames, kept_depth, kept_same, kept_then, kept_record, kept_popped, kept_cleared, kept_turned, top_of_marks, mark_behind, in_loop_of, opened, opened_kept, loop_ends, ends_use, Gives, EndsBy as EndsKept, Ends as KeptEnds, ends_as, tick_gives, answered_gives, Asks, block_asks, named_asks, method_asks, innermost_asks, again_end, eval_gives, condition_gives, all_give, pair_gives, pairs_give, argument_gives, arguments_give, keyword_gives, keywords_give, named_give, one_counted_gives, kept_gives, test_gives, loop_items_give, recorded, step_gives, steps_give, unary_gives, binary_gives, looked_up_gives, within, kept_escaped, assign_gives, set_gives, set_each_gives, exec_ends, execs_end, nests_end}
 use Rattle.tm_simulation.proofs.Follow.{follows_map_kept, bound_follows, ends_map_kept, leave_then, next_then, Goes, round_then, opened_then, opened_follows, Bed, air, inside, captures_of, told_by, Spot, told, cfg, later, Follows, Then, Ends, whole_of, follows_map, follows_bind, bind_then, use_then, so_far_then, fault_then, do_then, within_then, Closed, closed_then, captured_in, Dropped, captured_then, ends_map, Go, silent, at, after_then, move, pushes, choose_then, choose_ends}
 use Rattle.tm_simulation.proofs.Forms.{Fits, Stands, fits_captured, audible_is, writes_then, end_by, end_of, Entered, call_in_place, call_as_value}
 use Rattle.tm_meaning.specs.declared.stream.TemplateId.{TemplateId}
@@ -1506,13 +1506,67 @@ module _ (p : Program) (trees : Trees) (compiled : IsCompiled trees p) where
   end_then id heard b out w next q x v k = stopped_by b q x v next (tick v)
   end_then id heard b out w (fault chain) q x v k = refl
 
+  -- Where no scope has room no loop is called.
+  no_room : (f : Base) (r : Final) (t : List ℕ) (g : LoopFlags) (m : ℕ) (items : List Val) (w : World) (room : Bool) (next_one : Unit {0} → World → Next) → room ≡ false → r ≡ final t (Failed (InvalidOperation ∷ []) w) →
+      Leads p f t (after (bind (one_more room (loop_scope (mark_behind g w)) w) (λ _ world1. recorded g m items w world1)) next_one) r
+  no_room f r t g m items w true next_one e is = absurd (cc e)
+  no_room f r t g m items w false next_one e is = is_over refl is
+
+  refused_by : (f : Base) (r : Final) (t : List ℕ) (b : Bool) (g : LoopFlags) (m : ℕ) (items : List Val) (w : World) (next_one : Unit {0} → World → Next) → nat_lt (depth w.scopes) p.host.limit ≡ false → r ≡ final t (Failed (InvalidOperation ∷ []) w) →
+      Leads p f t (choose b (λ _. after (open_loop p.host items g m w) next_one) (λ _. Over (Failed (InvalidOperation ∷ []) w))) r
+  refused_by f r t true g m items w next_one e is = no_room f r t g m items w (nat_lt (depth w.scopes) p.host.limit) next_one e is
+  refused_by f r t false g m items w next_one e is = is_over refl is
+
+  refused_call : (f : Base) (r : Final) (t : List ℕ) (c : Config) (value : Bool) (vs : List Val) (ks : List OpenCapture) (m : ℕ) (op : Option LoopPlace) (items : List Val) (w : World) → nat_lt (depth w.scopes) p.host.limit ≡ false →
+      r ≡ final t (Failed (InvalidOperation ∷ []) w) → Leads p f t (recursion p c value vs ks m op items w) r
+  refused_call f r t c value vs ks m None items w e is = is_over refl is
+  refused_call f r t c value vs ks m (Some lp) items w e is = refused_by f r t lp.flags.recursive lp.flags m items w _ e is
+
+  -- the loops of a stream stand in its code
+  all_match : (id : StreamId) (m : ℕ) → Both (p.code id) (slice_get (loops_in 0 (trees id).row) m) (slice_get (loop_places 0 (p.code id)) m)
+  all_match id m =
+      let row = (trees id).row in
+      let stop = length (statements_code outside 0 row) in
+      let k : Inside = record { again = stop; behind = stop; opened = [] } in
+      let code = statements_code k 0 row in
+      let stands : HasAt (p.code id) 0 code = subst (λ c. HasAt c 0 code) (sym (compiled id)) (has_whole code) in
+      match_at (p.code id) _ _ m (subst (λ c. Match (p.code id) (loops_in 0 row) (loop_places 0 c)) (sym (compiled id)) (statements_match (p.code id) k 0 0 row stands refl))
+
+  -- Loops that are called come behind their calls, over as many levels as there are.
+  again_runs : (f : Base) (r : Final) (n : ℕ) →
+      ((k : Callee) (heard : Bool) (b : Bed) (out : List ℕ) (w : World) → p.host.limit + 1 ≤ n + depth w.scopes → depth w.scopes ≤ p.host.limit → Entered p k heard b out w (nests_of p.host trees n k heard out w)) →
+      (id : StreamId) (level : ℕ) → CalledInPlace p f r n id level (again_of p.host (nests_of p.host trees n) (trees id) level) × CalledAsValue p f r n id level (again_of p.host (nests_of p.host trees n) (trees id) level)
+  again_runs f r n below id zero = (
+    λ m items run s pc stack old w0 w D L N d h g.
+    refused_call f r (told s) (cfg s pc old w0) false stack (captures_of s.bed s.out) m (place_of_loop p (cfg s pc old w0) m) items w (le-ltb _ _ (omega (arith, d.4))) (fault_then r s.bed (as_at run s) s.out w (InvalidOperation ∷ []) D L N h),
+    λ m items run s pc stack old w0 w K d h g.
+    refused_call f r (told s) (cfg s pc old w0) true stack (new_capture true ∷ captures_of s.bed s.out) m (place_of_loop p (cfg s pc old w0) m) items w (le-ltb _ _ (omega (arith, d.4))) h,
+  )
+  again_runs f r n below id (suc level) =
+      let lower = again_runs f r n below id level in
+      let nests = nests_of p.host trees n in
+      let inner = again_of p.host nests (trees id) level in
+      let kept = again_end p.host nests (nests_end p.host trees n) (trees id) level in (
+        λ m items run s pc stack old w0 w D L N d h g.
+        subst (λ q. Leads p f (told s) (recursion p (cfg s pc old w0) false stack (captures_of s.bed s.out) m (slice_get (loop_places 0 (p.code q)) m) items w) r) (sym d.3)
+        (recursed_in_place p f r trees n below id level inner kept lower.0 lower.1 (slice_get (loops_in 0 (trees id).row) m) (slice_get (loop_places 0 (p.code id)) m) (all_match id m) m items run s pc stack old w0 w D L N d h g),
+        λ m items run s pc stack old w0 w K d h g.
+        let o = again_of p.host nests (trees id) (suc level) m items (capturing true run) [] w in
+        subst (λ q. Leads p f (told s) (recursion p (cfg s pc old w0) true stack (new_capture true ∷ captures_of s.bed s.out) m (slice_get (loop_places 0 (p.code q)) m) items w) r) (sym d.3)
+        (recursed_as_value p f r trees n below id level inner kept lower.0 lower.1 (slice_get (loops_in 0 (trees id).row) m) (slice_get (loop_places 0 (p.code id)) m) (all_match id m) m items run s pc stack old w0 w
+        (λ q out1 x. K (captured_text out1 x) x) d (text_ends p f r trees n below id level inner kept lower.0 lower.1 s o.ending o.parent o.text o.world K h) (λ q out1 x e. g (captured_text out1 x) x e)),
+      )
+
   -- A stream's run comes to what its tree means, where what nests does so a level below.
   stream_runs : (n : ℕ) (id : StreamId) (heard : Bool) (b : Bed) (out : List ℕ) (w : World) → p.host.limit + 1 ≤ suc n + depth w.scopes →
       ((k : Callee) (heard : Bool) (b : Bed) (out : List ℕ) (w : World) → p.host.limit + 1 ≤ n + depth w.scopes → depth w.scopes ≤ p.host.limit → Entered p k heard b out w (nests_of p.host trees n k heard out w)) →
       Entered p (whole id) heard b out w (nests_of p.host trees (suc n) (whole id) heard out w)
   stream_runs n id heard b out w deep below =
-      let u : Under = record { host = p.host; nests = nests_of p.host trees n } in
-      let o = execs u (trees id).row (new_run heard w) out w in
+      let nests = nests_of p.host trees n in
+      let again = again_of p.host nests (trees id) (p.host.limit + 1) in
+      let kept_again = again_end p.host nests (nests_end p.host trees n) (trees id) (p.host.limit + 1) in
+      let u : Under = under p.host nests (trees id) in
+      let o = execs u 0 (trees id).row (new_run heard w) out w in
       let r = end_of b (at_end o.ending o) in
       let f = base_of heard (captures_of b out) w in
       let s = spot_of id b out in
@@ -1522,7 +1576,7 @@ module _ (p : Program) (trees : Trees) (compiled : IsCompiled trees p) where
       let code = statements_code k 0 row in
       let stands : HasAt (p.code id) 0 code = subst (λ c. HasAt c 0 code) (sym (compiled id)) (has_whole code) in
       let size : length (p.code id) ≡ 0 + length code = ap length (compiled id) ∙ omega arith in
-      let ends = end_then id heard b out w o.ending o.parent o.text o.world (ends_as w o (execs_end u (nests_end p.host trees n) (trees id).row (new_run heard w) out w)) in
+      let ends = end_then id heard b out w o.ending o.parent o.text o.world (ends_as w o (execs_end u (nests_end p.host trees n) kept_again 0 (trees id).row (new_run heard w) out w)) in
       let placed = ends_map r b o _ (λ q x v. Go p f r (later s q x) (0 + length code) [] v) (Stops r b) (Stops r b) ends (λ q x v g. move p f r (later s q x) _ _ [] v (sym size) g) in
       let end_of_code : stop ≡ length (p.code id) = statements_long 0 0 stop stop 0 [] row ∙ sym (size ∙ omega arith) in
       let stops : (q : Option TemplateId) (x : List ℕ) (v : World) (pc : ℕ) → Kept w v → HasAt (p.code id) pc (i.Jump stop ∷ []) → Stops r b q x v → Go p f r (later s q x) pc [] v =
@@ -1530,7 +1584,9 @@ module _ (p : Program) (trees : Trees) (compiled : IsCompiled trees p) where
       at p f r (i.Jump stop) (later s q x) pc [] v is.0 (after_then p f r (told_by b x) (tick v) _
       (follows_map_kept r (told_by b x) v (tick v) _ _ (tick_gives v) l (λ _ v1 k1 e.
       silent p f r (told_by b x) _ (move p f r (later s q x) _ _ [] v1 end_of_code (finishes id heard b out w q x v1 r (kept_then kept k1) e))))) in
-      stmts_run p f r trees n below k row (new_run heard w) s 0 [] w (Stops r b) (Stops r b) (stands_start id b out heard w) (deep, omega arith) (stops, stops) stands placed
+      let calls = again_runs f r n below id (p.host.limit + 1) in
+      stmts_run p f r trees n below id (p.host.limit + 1) again kept_again calls.0 calls.1 k 0 row (new_run heard w) s 0 [] w (Stops r b) (Stops r b) (stands_start id b out heard w)
+      (deep, omega arith, stands_start id b out heard w, refl, omega arith) (stops, stops) stands refl placed
 
   -- What nests comes to what it means. Level zero isn't reached, since a run stands one level deeper than the one that needs it, within the limit.
   pub nests_run : (n : ℕ) (k : Callee) (heard : Bool) (b : Bed) (out : List ℕ) (w : World) → p.host.limit + 1 ≤ n + depth w.scopes → depth w.scopes ≤ p.host.limit →
