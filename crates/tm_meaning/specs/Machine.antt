@@ -8,7 +8,8 @@ use Rattle.tm_syntax.specs.declared.instruction.Instruction.{Instruction}
 pub use Rattle.tm_meaning.specs.declared.base.Base.{Base}
 use Rattle.tm_meaning.specs.World.{choose, TemplateId, StreamId, World, Host, Res, Good, Bad, open_loop, captured_text}
 use Rattle.tm_meaning.specs.Calls.{Callee, whole, Call, Asked, has, refused, runs, recurs, undone, wrapped}
-use Rattle.tm_syntax.specs.Loops.{LoopPlace, loop_places}
+use Rattle.tm_syntax.specs.declared.instruction.LoopPlace.{LoopPlace}
+use Rattle.tm_syntax.specs.Loops.{loop_places}
 use Rattle.tm_meaning.specs.Meaning.{none_waits}
 
 -- A text that waits for its capture's end, and whether it takes what is written.

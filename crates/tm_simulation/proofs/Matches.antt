@@ -13,7 +13,8 @@ use Rattle.tm_syntax.specs.declared.tree.Stmt.{Stmt, EmitRaw, EmitExpr, EmitLoop
 use Rattle.tm_syntax.specs.Code.{Inside, Opened, a_scope, an_escape, a_capture, opening, outside, close_all, jump_over, for_flags, filter_flags, expr_code, target_code, set_code, assignments_code, iterable_code, filter_code, statement_code, statements_code, otherwise_code, behind_loop_code}
 use Rattle.tm_syntax.specs.Blocks.{body_of}
 use Rattle.tm_syntax.proofs.Long.{statements_long}
-use Rattle.tm_syntax.specs.Loops.{begins, with_place, one_more_loop, loops_before, loop_places, LoopPlace, FoundLoop, with_pass, passes, within_loop, past, pasts, past_else, loops_of, loops_in, loops_else}
+use Rattle.tm_syntax.specs.declared.instruction.LoopPlace.{LoopPlace}
+use Rattle.tm_syntax.specs.Loops.{begins, with_place, one_more_loop, loops_before, loop_places, FoundLoop, with_pass, passes, within_loop, past, pasts, past_else, loops_of, loops_in, loops_else}
 use Rattle.tm_simulation.proofs.Place.{HasAt, has_front, has_behind, has_both}
 use Rattle.tm_simulation.proofs.Numbers.{count, count_both, behind_code, expr_none, target_none, set_none, assignments_none, iterable_count, statement_count, statements_count, otherwise_count, behind_loop_count}
 

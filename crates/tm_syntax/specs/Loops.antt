@@ -3,6 +3,7 @@ use Rattle.std.specs.Prelude.{ℕ, zero, suc, ◌+◌, List, [], ◌∷◌, ◌+
 use Rattle.tm_syntax.specs.declared.instruction.Instruction.{Instruction}
 use Rattle.tm_syntax.specs.declared.instruction.Instruction.TheVariants as i
 use Rattle.tm_syntax.specs.declared.instruction.LoopFlags.{LoopFlags}
+pub use Rattle.tm_syntax.specs.declared.instruction.LoopPlace.{LoopPlace}
 use Rattle.tm_syntax.specs.declared.tree.Expr.{Expr}
 use Rattle.tm_syntax.specs.declared.tree.Target.{Target}
 use Rattle.tm_syntax.specs.declared.tree.Stmt.{Stmt, If', For', SetBlock', With', AutoEscape', Row_of-Stmt, end_of-Stmt as no_statement, more_of-Stmt as statement, Held-Stmt-If-2 as Otherwise, None' as no_else, Some' as otherwise}
@@ -67,11 +68,6 @@ abbrev mutual
   loops_else at (otherwise _ body) = loops_in at body
 
 -- ---------------------------------------------------------------- of code
--- Where a loop begins, and what kind it is.
-pub record LoopPlace : Type 0 where
-  pub place : ℕ
-  pub flags : LoopFlags
-
 -- the loop that an instruction begins
 abbrev pub begins : Instruction → Option LoopFlags
 begins (i.PushLoop flags) = Some flags

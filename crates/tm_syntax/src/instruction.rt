@@ -22,6 +22,15 @@ pub struct LoopFlags {
     pub recursive: bool,
 }
 
+/// Where a loop begins, and what kind it is.
+#[derive(Clone, Copy, PartialEq, Eq)]
+pub struct LoopPlace {
+    /// The place of its `PushLoop`.
+    pub place: usize,
+    /// Its kind.
+    pub flags: LoopFlags,
+}
+
 /// One instruction. docs/MACHINE.md says what each takes, leaves and is charged.
 #[derive(Drop)]
 pub enum Instruction {
