@@ -459,6 +459,10 @@ fn push_statement(
             push_expr(alloc, code, expr.get())?;
             put(code, Instruction::Emit)
         }
+        Stmt::EmitLoop(argument) => {
+            push_expr(alloc, code, argument.get())?;
+            put(code, Instruction::FastRecurse)
+        }
         Stmt::If(condition, body, other) => {
             push_if(
                 alloc,
@@ -470,7 +474,7 @@ fn push_statement(
                 other,
             )
         }
-        Stmt::For(target, iterable, condition, body, other) => {
+        Stmt::For(target, iterable, condition, recursive, body, other) => {
             push_for(
                 alloc,
                 code,
@@ -479,6 +483,7 @@ fn push_statement(
                 target,
                 iterable.get(),
                 condition,
+                *recursive,
                 body.as_slice(),
                 other,
             )
@@ -558,23 +563,24 @@ fn push_for(
     target: &Target,
     iterable: &Expr,
     condition: &Option<Boxed<Expr>>,
+    recursive: bool,
     body: &[Stmt],
     other: &Option<Items<Stmt>>,
 ) -> Result<(), Error>
     ensures code { OnOk result (code.new ≡ code.old
         ++ statement_code (unset around.old.opened) (length code.old)
-        (For target.now iterable.now condition.now body.now other.now)) }
+        (For target.now iterable.now condition.now recursive body.now other.now)) }
     ensures around { OnOk result (around.new ≡ with_exits around.old
         (exits_of around.old.opened (length code.old)
-        (For target.now iterable.now condition.now body.now other.now))) }
+        (For target.now iterable.now condition.now recursive body.now other.now))) }
     ensures blocks { OnOk result (blocks.new ≡ put_each
         (compiled_blocks
-        (blocks_of (For target.now iterable.now condition.now body.now other.now)))
+        (blocks_of (For target.now iterable.now condition.now recursive body.now other.now)))
         blocks.old) }
     ensures err { IfErr result (λ e. e ≡ OutOfMemory ∷ []) }
 {
     push_iterable(alloc, code, target, iterable, condition)?;
-    push_rounds(alloc, code, blocks, target, body)?;
+    push_rounds(alloc, code, blocks, target, recursive, body)?;
     let Some(other) = other else {
         return put(code, Instruction::PopLoopFrame);
     };
@@ -588,17 +594,18 @@ fn push_rounds(
     code: &mut Items<Instruction>,
     blocks: &mut NameMap<Items<Instruction>>,
     target: &Target,
+    recursive: bool,
     body: &[Stmt],
 ) -> Result<(), Error>
     ensures code { OnOk result (code.new ≡ code.old
-        ++ rounds_code (length code.old) target.now (statements body.now)) }
+        ++ rounds_code recursive (length code.old) target.now (statements body.now)) }
     ensures blocks { OnOk result
         (blocks.new ≡ put_each (compiled_blocks (blocks_in (statements body.now))) blocks.old) }
     ensures err { IfErr result (λ e. e ≡ OutOfMemory ∷ []) }
 {
     let flags = LoopFlags {
         variable: true,
-        recursive: false,
+        recursive,
     };
     put(code, Instruction::PushLoop(flags))?;
     let again = code.len();
