@@ -18,8 +18,8 @@ use crate::targets::{push_assignments, push_set, push_target};
 use sqlite_items::{Boxed, Items};
 use std::alloc::Global;
 use tm_syntax::{
-    Argument, Assignment, BinaryOperator, CaptureMode, Comparison, Condition, Expr, Instruction,
-    Keyword, LoopFlags, Name, NameMap, Pair, Step, Stmt, Target, Tree, UnaryOperator,
+    Argument, Assignment, BinaryOperator, CaptureMode, Code, Comparison, Condition, Expr,
+    Instruction, Keyword, LoopFlags, Name, NameMap, Pair, Step, Stmt, Target, Tree, UnaryOperator,
 };
 use tm_values::{Error, ErrorKind, Value};
 
@@ -27,9 +27,9 @@ use tm_values::{Error, ErrorKind, Value};
 #[derive(Drop)]
 pub struct Streams {
     /// What a render runs.
-    pub root: Items<Instruction>,
+    pub root: Code,
     /// What its blocks run, by name.
-    pub blocks: NameMap<Items<Instruction>>,
+    pub blocks: NameMap<Code>,
 }
 
 /// The instruction of a prefix operator.
@@ -441,7 +441,7 @@ fn push_steps(alloc: Global, code: &mut Items<Instruction>, behind: &[Step]) -> 
 fn push_statement(
     alloc: Global,
     code: &mut Items<Instruction>,
-    blocks: &mut NameMap<Items<Instruction>>,
+    blocks: &mut NameMap<Code>,
     around: &mut Enclosing,
     statement: &Stmt,
 ) -> Result<(), Error>
@@ -520,7 +520,7 @@ fn push_statement(
 fn push_if(
     alloc: Global,
     code: &mut Items<Instruction>,
-    blocks: &mut NameMap<Items<Instruction>>,
+    blocks: &mut NameMap<Code>,
     around: &mut Enclosing,
     condition: &Expr,
     body: &[Stmt],
@@ -558,7 +558,7 @@ fn push_if(
 fn push_for(
     alloc: Global,
     code: &mut Items<Instruction>,
-    blocks: &mut NameMap<Items<Instruction>>,
+    blocks: &mut NameMap<Code>,
     around: &mut Enclosing,
     target: &Target,
     iterable: &Expr,
@@ -592,7 +592,7 @@ fn push_for(
 fn push_rounds(
     alloc: Global,
     code: &mut Items<Instruction>,
-    blocks: &mut NameMap<Items<Instruction>>,
+    blocks: &mut NameMap<Code>,
     target: &Target,
     recursive: bool,
     body: &[Stmt],
@@ -625,7 +625,7 @@ fn push_rounds(
 fn push_no_round(
     alloc: Global,
     code: &mut Items<Instruction>,
-    blocks: &mut NameMap<Items<Instruction>>,
+    blocks: &mut NameMap<Code>,
     around: &mut Enclosing,
     other: &[Stmt],
 ) -> Result<(), Error>
@@ -652,7 +652,7 @@ fn push_no_round(
 fn push_block(
     alloc: Global,
     code: &mut Items<Instruction>,
-    blocks: &mut NameMap<Items<Instruction>>,
+    blocks: &mut NameMap<Code>,
     name: &Name,
     body: &[Stmt],
 ) -> Result<(), Error>
@@ -672,7 +672,7 @@ fn push_block(
 fn push_set_block(
     alloc: Global,
     code: &mut Items<Instruction>,
-    blocks: &mut NameMap<Items<Instruction>>,
+    blocks: &mut NameMap<Code>,
     around: &mut Enclosing,
     target: &Target,
     body: &[Stmt],
@@ -699,7 +699,7 @@ fn push_set_block(
 fn push_with(
     alloc: Global,
     code: &mut Items<Instruction>,
-    blocks: &mut NameMap<Items<Instruction>>,
+    blocks: &mut NameMap<Code>,
     around: &mut Enclosing,
     given: &[Assignment],
     body: &[Stmt],
@@ -726,7 +726,7 @@ fn push_with(
 fn push_autoescape(
     alloc: Global,
     code: &mut Items<Instruction>,
-    blocks: &mut NameMap<Items<Instruction>>,
+    blocks: &mut NameMap<Code>,
     around: &mut Enclosing,
     value: &Expr,
     body: &[Stmt],
@@ -753,7 +753,7 @@ fn push_autoescape(
 fn push_statements(
     alloc: Global,
     code: &mut Items<Instruction>,
-    blocks: &mut NameMap<Items<Instruction>>,
+    blocks: &mut NameMap<Code>,
     around: &mut Enclosing,
     body: &[Stmt],
 ) -> Result<(), Error>
@@ -775,9 +775,9 @@ fn push_statements(
 #[cycle(statements)]
 fn stream(
     alloc: Global,
-    blocks: &mut NameMap<Items<Instruction>>,
+    blocks: &mut NameMap<Code>,
     body: &[Stmt],
-) -> Result<Items<Instruction>, Error>
+) -> Result<Code, Error>
     ensures code { IfOk result (λ code. code ≡ stream_code (statements body.now)) }
     ensures blocks { OnOk result
         (blocks.new ≡ put_each (compiled_blocks (blocks_in (statements body.now))) blocks.old) }
@@ -788,7 +788,7 @@ fn stream(
     push_statements(alloc, &mut code, blocks, &mut around, body)?;
     let end = code.len();
     around.lead(&mut code, end, end);
-    Ok(code)
+    Ok(Code::new(alloc, code)?)
 }
 
 /// The streams of a tree, which share its texts and literals; OutOfMemory.

@@ -105,5 +105,6 @@ stream-lead-requires t c =
 
 pub stream-returns-clause-code : goal.stream-returns-clause-code
 stream-returns-clause-code t c =
-    made_stream c.new-code.result c.push_statements.new.code c.new-around.result c.push_statements.new.around c.args.body.now c.new-code.ensures c.new-around.ensures
+    c.in_ok-new.ensures
+    ∙ made_stream c.new-code.result c.push_statements.new.code c.new-around.result c.push_statements.new.around c.args.body.now c.new-code.ensures c.new-around.ensures
     c.in_ok-push_statements.ensures.code c.in_ok-push_statements.ensures.around c.lead.new.code c.len-end.result c.len-end.ensures c.lead.ensures
