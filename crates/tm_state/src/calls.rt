@@ -96,7 +96,7 @@ impl StateData<'_> {
         ensures { Recurs result
             (call_found (H.meaning host.now) (loop state number) args.now self.now) self.now }
     {
-        if self.id() != state {
+        if state != self.id() {
             return Err(Error::from(ErrorKind::InvalidOperation));
         }
         let Some(found) = self.loop_at(number) else {

@@ -38,7 +38,7 @@ impl Machine<'_> {
         match self.state.call(alloc, host, name, args) {
             Ok(Outcome::Value(value)) => self.replace(count, value),
             Ok(Outcome::Recursion(recursion)) => {
-                self.run.operands.remove(count);
+                self.run.drop_operands(count);
                 self.captures.begin(alloc, CaptureMode::Capture)?;
                 self.recurse(alloc, host, base, code, recursion, true)
             }
@@ -65,7 +65,7 @@ impl Machine<'_> {
         };
         match self.state.call_innermost(alloc, host, &value) {
             Ok(recursion) => self.recurse(alloc, host, base, code, recursion, false),
-            Err(fault) => Err(Halt::Fault(fault)),
+            Err(error) => Err(Halt::Fault(error)),
         }
     }
 

@@ -255,6 +255,13 @@ impl Run {
         self.operands.remove(1);
     }
 
+    /// Drops the topmost so many operands.
+    pub(crate) fn drop_operands(&mut self, count: usize)
+        ensures { self.new ≡ record self.old { operands = drop count self.old.operands } }
+    {
+        self.operands.remove(count);
+    }
+
     /// Takes the topmost so many operands, the lowest first, where there are so many. Fails by OutOfMemory alone.
     pub(crate) fn take(&mut self, count: usize) -> Result<Option<Vec<Value>>, Error>
         ensures taken { MatchResult result
