@@ -1,6 +1,7 @@
 -- Where a called loop ends whose text is a value.
 use Rattle.std.proofs.Common.{◌≡◌, List, [], ◌∷◌, Option, None, refl, sym, ap, ◌∙◌, true}
-use Rattle.tm_meaning.specs.World.{TemplateId, captured_text}
+use Rattle.tm_meaning.specs.World.{captured_text}
+use Rattle.tm_meaning.specs.declared.stream.TemplateId.{TemplateId}
 use Rattle.tm_meaning.specs.Machine.{Return, Capture, Config, Next, More, back_with, pushed}
 use Rattle.tm_meaning.specs.Instructions.{with_text, returns}
 

@@ -9,13 +9,14 @@ use Rattle.tm_syntax.specs.declared.instruction.Instruction.TheVariants as i
 use Rattle.tm_syntax.specs.declared.instruction.LoopPlace.{LoopPlace}
 use Rattle.tm_syntax.specs.declared.tree.BinaryOperator.TheVariants as binaries
 use Rattle.tm_syntax.specs.declared.tree.UnaryOperator.TheVariants as unaries
-use Rattle.tm_meaning.specs.World.{choose, TemplateId, World, Loop, Host, Res, Good, Bad, answered, emitted, looked_up, escape_for, items_over, items_of, set_member, open_loop, top_mark, top_loop, push, pop, plain}
+use Rattle.tm_meaning.specs.World.{choose, World, Loop, Host, Res, Good, Bad, answered, emitted, looked_up, escape_for, items_over, items_of, set_member, open_loop, top_mark, top_loop, push, pop, plain}
 use Rattle.tm_meaning.specs.Calls.{Asked, has, refused, runs, recurs, call_named, call_first, call_innermost, enter_block}
 use Rattle.tm_meaning.specs.Meaning.{none_waits, truth, applied_unary, operated, attribute, item_at, slice_of}
 use Rattle.tm_meaning.specs.Instructions.{replaces_one, replaces_two, list_on, on_count, count_in, on_truth, iterate_with, end_capture_with, pop_auto_escape_with, is_no_loop, on_loop, pop_loop_with, returned, returns, with_text}
 use Rattle.tm_meaning.specs.Machine.{Activation, Capture, Return, Config, Program, End, Failed, Stuck, Next, More, Over, Nest, Back, after, on_top, on_taken, taken, on, with_world, writes, audible, new_capture, recursion, place_of_loop, asked, asked_in_place}
 use Rattle.tm_meaning.specs.Steps.{charge_of, effect}
 use Rattle.tm_meaning.specs.declared.base.Base.{Base}
+use Rattle.tm_meaning.specs.declared.stream.TemplateId.{TemplateId}
 use Rattle.tm_parts.specs.declared.halt.Halt.{Halt}
 use Rattle.tm_vm.specs.Answers.{Performs, Paid, pending, returns_left, weight}
 use Rattle.tm_vm.specs.declared.flow.Flow.{Flow}
@@ -93,16 +94,16 @@ written_adds n c d f t same = choose_all (Adds n c) (ends_adds n c) (audible f d
 listed : (n k : ℕ) (us : List Val) (c : Config) → Adds n c (list_on k us c)
 listed n k us c = on_taken_all (Adds n c) (ends_adds n c) (taken k [] us) c.world _ (λ vs rest. none_more n c)
 
-on_truth_adds : (host : Host) (c : Config) (yes no : Val → List Val → World → Next) → ((v : Val) (vs : List Val) (w : World) → Adds 1 c (yes v vs w)) → ((v : Val) (vs : List Val) (w : World) → Adds 1 c (no v vs w)) →
-    Adds 1 c (on_truth host c (λ b v vs w. choose b (λ _. yes v vs w) (λ _. no v vs w)))
-on_truth_adds host c yes no h k =
+on_truth_adds : (host : Host) (c : Config) (first other : Val → List Val → World → Next) → ((v : Val) (vs : List Val) (w : World) → Adds 1 c (first v vs w)) → ((v : Val) (vs : List Val) (w : World) → Adds 1 c (other v vs w)) →
+    Adds 1 c (on_truth host c (λ b v vs w. choose b (λ _. first v vs w) (λ _. other v vs w)))
+on_truth_adds host c first other h k =
     on_top_all (Adds 1 c) (ends_adds 1 c) c.run.operands c.world _ (λ v vs. after_all (Adds 1 c) (ends_adds 1 c) (truth host v c.world) _ (λ b w.
-    choose_all (Adds 1 c) (ends_adds 1 c) b (yes v vs w) (no v vs w) (h v vs w) (k v vs w)))
+    choose_all (Adds 1 c) (ends_adds 1 c) b (first v vs w) (other v vs w) (h v vs w) (k v vs w)))
 
 recursion_adds : (p : Program) (c : Config) (value : Bool) (vs : List Val) (ks : List Capture) (n : ℕ) (l : Option LoopPlace) (items : List Val) (w : World) → Adds 1 c (recursion p c value vs ks n l items w)
 recursion_adds p c value vs ks n None items w = tt
 recursion_adds p c value vs ks n (Some l) items w =
-    choose_all (Adds 1 c) (ends_adds 1 c) l.flags.recursive _ _ (after_all (Adds 1 c) (ends_adds 1 c) (open_loop p.host items l.flags n w) _ (λ _ world1. none_more 1 c)) tt
+    choose_all (Adds 1 c) (ends_adds 1 c) l.flags.recursive _ _ (after_all (Adds 1 c) (ends_adds 1 c) (open_loop p.host items l.flags n w) _ (λ _ world1. omega arith)) tt
 
 asked_adds : (p : Program) (c : Config) (vs : List Val) (a : Asked) → Adds 1 c (asked p c vs a)
 asked_adds p c vs (has v w) = none_more 1 c

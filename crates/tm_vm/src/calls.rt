@@ -26,7 +26,7 @@ impl Machine<'_> {
         name: &Name,
         count: usize,
     ) -> Result<Flow, Halt>
-        requires { CanGoOn self.old.run }
+        requires in_place { CanGoOn self.old.run }
         requires its_code { code.now ≡ H.code host.now self.old.run.stream }
         ensures { Shifts base.now (call_function_of
             (program (H.meaning host.now) (H.code host.now)) name.now count self.old)
@@ -54,7 +54,7 @@ impl Machine<'_> {
         base: &Base,
         code: &Code,
     ) -> Result<Flow, Halt>
-        requires { CanGoOn self.old.run }
+        requires in_place { CanGoOn self.old.run }
         requires its_code { code.now ≡ H.code host.now self.old.run.stream }
         ensures { Shifts base.now (fast_recurse_of
             (program (H.meaning host.now) (H.code host.now)) base.now self.old)
@@ -79,7 +79,7 @@ impl Machine<'_> {
         called: Recursion,
         value: bool,
     ) -> Result<Flow, Halt>
-        requires { CanGoOn self.old.run }
+        requires in_place { CanGoOn self.old.run }
         requires its_code { code.now ≡ H.code host.now self.old.run.stream }
         ensures { Shifts base.now (recurses
             (program (H.meaning host.now) (H.code host.now)) called value self.old)

@@ -24,7 +24,7 @@ impl Machine<'_> {
         code: &Code,
         flags: LoopFlags,
     ) -> Result<Flow, Halt>
-        requires { CanGoOn self.old.run }
+        requires in_place { CanGoOn self.old.run }
         requires its_code { code.now ≡ H.code host.now self.old.run.stream }
         ensures { Shifts base.now
             (push_loop_of (program (H.meaning host.now) (H.code host.now)) flags self.old)

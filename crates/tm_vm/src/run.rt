@@ -157,7 +157,7 @@ impl Run {
         floor: usize,
         value: bool,
     ) -> Result<(), Error>
-        requires { CanGoOn self.old }
+        requires in_place { CanGoOn self.old }
         requires within { place < 2 ^ 64 - 1 }
         ensures ok { OnOk result (self.new ≡ called place floor value self.old) }
         ensures kind { IfErr result (λ e. e ≡ ErrorKind.OutOfMemory ∷ []) }

@@ -27,7 +27,7 @@ impl Machine<'_> {
         instruction: &Instruction,
         writer: &mut W,
     ) -> Result<Flow, Halt>
-        requires { CanGoOn self.old.run }
+        requires in_place { CanGoOn self.old.run }
         requires its_code { code.now ≡ H.code host.now self.old.run.stream }
         ensures { Performs (H.meaning host.now).limit base.now
             (effect (program (H.meaning host.now) (H.code host.now)) base.now instruction.now self.old)
