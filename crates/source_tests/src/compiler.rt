@@ -7,7 +7,7 @@ use std::test::Fail;
 use tm_compiler::{SyntaxConfig, parse};
 use tm_values::{Error, ErrorKind};
 
-static CODES: [(&str, &str); 33] = [
+static CODES: [(&str, &str); 35] = [
     ("{# c #}", ""),
     ("{{ \"}}\" }}\n", " #}} emit"),
     ("{{ a == none }}", " $a #none == emit"),
@@ -127,7 +127,7 @@ fn sources_have_their_code(rt: HostRuntime) {
     }
 }
 
-static REFUSED: [&str; 39] = [
+static REFUSED: [&str; 40] = [
     "a{#",
     "{{ \"a }}",
     "{{ 1.5 }}",

@@ -773,11 +773,7 @@ fn push_statements(
 
 /// The code of statements on their own, and that of their blocks; OutOfMemory.
 #[cycle(statements)]
-fn stream(
-    alloc: Global,
-    blocks: &mut NameMap<Code>,
-    body: &[Stmt],
-) -> Result<Code, Error>
+fn stream(alloc: Global, blocks: &mut NameMap<Code>, body: &[Stmt]) -> Result<Code, Error>
     ensures code { IfOk result (λ code. code ≡ stream_code (statements body.now)) }
     ensures blocks { OnOk result
         (blocks.new ≡ put_each (compiled_blocks (blocks_in (statements body.now))) blocks.old) }

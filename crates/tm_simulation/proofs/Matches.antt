@@ -110,8 +110,8 @@ pass_match all l rest pc t e (Some c) b m =
     let last = i.JumpIfFalse (end + 5) ∷ i.Swap ∷ i.LoadConst (number (pos 1)) ∷ i.Add ∷ i.Jump (pc1 + 1) ∷ i.DiscardTop ∷ i.Jump (pc1 + 1) ∷ i.PopLoopFrame ∷ i.BuildList None ∷ [] in
     let inner : count (tc ++ (qc ++ last)) ≡ 0 = omega (arith, count_both tc (qc ++ last), count_both qc last, target_none (pc1 + 1 + 1 + 1) t, expr_none test c) in
     let one : loop_places pc ic ≡ record { place = pc1; flags = filter_flags } ∷ [] =
-        places_both (pc + 1) ec (filter_code pc1 t c) ∙ ap (λ ps. ps ++ loop_places pc1 (filter_code pc1 t c)) (no_places (pc + 1) ec (expr_none (pc + 1) e))
-        ∙ ap (λ ps. record { place = pc1; flags = filter_flags } ∷ ps) (no_places (pc1 + 1 + 1 + 1) (tc ++ (qc ++ last)) inner) in
+    places_both (pc + 1) ec (filter_code pc1 t c) ∙ ap (λ ps. ps ++ loop_places pc1 (filter_code pc1 t c)) (no_places (pc + 1) ec (expr_none (pc + 1) e))
+    ∙ ap (λ ps. record { place = pc1; flags = filter_flags } ∷ ps) (no_places (pc1 + 1 + 1 + 1) (tc ++ (qc ++ last)) inner) in
     subst (λ ps. Match all (with_pass (Some c) l rest) ps) (sym (places_both pc ic b ∙ ap (λ ps. ps ++ loop_places (pc + length ic) b) one))
     ((refl, λ never. absurd (cc never)), m)
 
@@ -156,24 +156,34 @@ mutual
       let tail = behind_code all pc1 (push ∷ i.Iterate end ∷ tc) (behind.0, (behind.1.0, has_front all (again + 1) tc _ behind.1.1)) in
       let there : pc1 + length (push ∷ i.Iterate end ∷ tc) ≡ start = omega arith in
       let number2 : loops_before start all ≡ within_loop c at =
-          ap (λ n. loops_before n all) (sym there) ∙ tail ∙ omega (arith, number1, iterable_count pc t x c, target_none (again + 1) t, e) in
+      ap (λ n. loops_before n all) (sym there) ∙ tail ∙ omega (arith, number1, iterable_count pc t x c, target_none (again + 1) t, e) in
       let number3 : loops_before end all ≡ pasts (within_loop c at) body =
-          ap (λ n. loops_before n all) (sym at_end)
-          ∙ behind_code all (start + length bc) (i.Jump again ∷ []) (back.0, tt)
-          ∙ omega (arith, behind_code all start bc (has_front all start bc (i.Jump again ∷ oc) turn), number2, statements_count k1 start (within_loop c at) body) in
+      ap (λ n. loops_before n all) (sym at_end)
+      ∙ behind_code all (start + length bc) (i.Jump again ∷ []) (back.0, tt)
+      ∙ omega (arith, behind_code all start bc (has_front all start bc (i.Jump again ∷ oc) turn), number2, statements_count k1 start (within_loop c at) body) in
       let oh = subst (λ n. HasAt all n oc) at_end back.1 in
-      pass_match all l _ pc t x c rest
-      ((refl, λ yes. (ap for_flags yes, record {
-        end = end;
-        rounds = (behind.1.0, has_both all (again + 1) tc (bc ++ i.Jump again ∷ []) (has_front all (again + 1) tc _ behind.1.1)
-            (has_both all start bc (i.Jump again ∷ []) (has_front all start bc (i.Jump again ∷ oc) turn) (back.0, tt)));
-        is_end = sym at_end;
-        exit = behind_exit all k end other oh;
-        numbered = number2;
-      })),
-      behind_none all _ (again + 1) tc _ (target_none (again + 1) t)
-      (two_match all _ _ start bc (i.Jump again ∷ oc) (statements_match all k1 start (within_loop c at) body (has_front all start bc (i.Jump again ∷ oc) turn) number2)
-      (subst (λ n. Match all (loops_else (pasts (within_loop c at) body) other) (loop_places n oc)) (sym at_end) (behind_loop_match all k end (pasts (within_loop c at) body) other oh number3))))
+      pass_match all l _ pc t x c rest (
+        (
+          refl,
+          λ yes. (
+            ap for_flags yes,
+            record {
+              end = end;
+              rounds = (
+                behind.1.0,
+                has_both all (again + 1) tc (bc ++ i.Jump again ∷ []) (has_front all (again + 1) tc _ behind.1.1)
+                    (has_both all start bc (i.Jump again ∷ []) (has_front all start bc (i.Jump again ∷ oc) turn) (back.0, tt)),
+              );
+              is_end = sym at_end;
+              exit = behind_exit all k end other oh;
+              numbered = number2;
+            },
+          ),
+        ),
+        behind_none all _ (again + 1) tc _ (target_none (again + 1) t)
+            (two_match all _ _ start bc (i.Jump again ∷ oc) (statements_match all k1 start (within_loop c at) body (has_front all start bc (i.Jump again ∷ oc) turn) number2)
+            (subst (λ n. Match all (loops_else (pasts (within_loop c at) body) other) (loop_places n oc)) (sym at_end) (behind_loop_match all k end (pasts (within_loop c at) body) other oh number3))),
+      )
   statement_match all k pc at Break h e = leaf_match all k pc at Break refl
   statement_match all k pc at Continue h e = leaf_match all k pc at Continue refl
   statement_match all k pc at (Block' x _ body) h e = tt

@@ -1067,7 +1067,7 @@ module _ (p : Program) (f : Base) (r : Final) (trees : Trees) (n : ℕ)
       let place : build + 1 ≡ pc + suc (length (ec ++ fc)) = omega (arith, length-append ec fc, length-append tc (qc ++ tail_code), length-append qc tail_code) in
       let here : pc + length (i.LoadConst (number (pos 0)) ∷ ec) ≡ pc1 = omega arith in
       let pass_number : loops_before pc1 all ≡ loops =
-          ap (λ m. loops_before m all) (sym here) ∙ behind_code all pc (i.LoadConst (number (pos 0)) ∷ ec) (is.0, has_front all (pc + 1) ec fc is.1) ∙ omega (arith, nth, expr_none (pc + 1) e) in
+      ap (λ m. loops_before m all) (sym here) ∙ behind_code all pc (i.LoadConst (number (pos 0)) ∷ ec) (is.0, has_front all (pc + 1) ec fc is.1) ∙ omega (arith, nth, expr_none (pc + 1) e) in
       at p f r (i.LoadConst (number (pos 0))) s pc stack w is.0 (after_then p f r (told s) (tick w) _ (bind_then r (told s) w (tick w) _ _ _ (tick_gives w) h (λ _ world1 k1 h1.
       silent p f r (told s) _
       (expr_runs e run s (pc + 1) (number (pos 0) ∷ stack) world1 (here_kept run s k1 d) (has_front all (pc + 1) ec fc is.1)
@@ -1181,10 +1181,10 @@ module _ (p : Program) (f : Base) (r : Final) (trees : Trees) (n : ℕ)
         let number1 : loops_before pc1 all ≡ loops + passes c = behind_code all pc ec (has_front all pc ec (push ∷ i.Iterate end ∷ rest) is) ∙ omega (arith, nth, iterable_count pc t e c) in
         let there : pc1 + length (push ∷ i.Iterate end ∷ tc) ≡ start = omega arith in
         let number2 : loops_before start all ≡ within_loop c loops =
-            ap (λ m. loops_before m all) (sym there) ∙ behind_code all pc1 (push ∷ i.Iterate end ∷ tc) (behind.0, (behind.1.0, has_front all (pc1 + 1 + 1) tc _ behind.1.1)) ∙ omega (arith, number1, target_none (pc1 + 1 + 1) t) in
+        ap (λ m. loops_before m all) (sym there) ∙ behind_code all pc1 (push ∷ i.Iterate end ∷ tc) (behind.0, (behind.1.0, has_front all (pc1 + 1 + 1) tc _ behind.1.1)) ∙ omega (arith, number1, target_none (pc1 + 1 + 1) t) in
         let body_number = behind_code all start bc (has_front all start bc (i.Jump (pc1 + 1) ∷ oc) from_body) in
         let number3 : loops_before end all ≡ pasts (within_loop c loops) body =
-            ap (λ m. loops_before m all) (sym ended_at) ∙ behind_code all (start + length bc) (i.Jump (pc1 + 1) ∷ []) (last.0, tt) ∙ omega (arith, body_number, number2, statements_count inner start (within_loop c loops) body) in
+        ap (λ m. loops_before m all) (sym ended_at) ∙ behind_code all (start + length bc) (i.Jump (pc1 + 1) ∷ []) (last.0, tt) ∙ omega (arith, body_number, number2, statements_count inner start (within_loop c loops) body) in
         let D0 : Then = λ q out1 v. Go p f r (later s q out1) (pc + length (ec ++ i.PushLoop (for_flags recursive) ∷ i.Iterate end ∷ rest)) stack v in
         iterable_runs recursive loops t e c (as_at run s) s pc stack w (here run s w d) (has_front all pc ec (i.PushLoop (for_flags recursive) ∷ i.Iterate end ∷ rest) is) behind.0 nth
         (use_then r s.bed w (loop_items u loops (as_at run s) t e c w) (as_at run s) s.out _ D0 L N _ (loop_items_give u nest_ends again_kept loops (as_at run s) t e c w) h (λ vs world1 k1 h1 old.
@@ -1539,9 +1539,9 @@ module _ (p : Program) (trees : Trees) (compiled : IsCompiled trees p) where
       (id : StreamId) (level : ℕ) → CalledInPlace p f r n id level (again_of p.host (nests_of p.host trees n) (trees id) level) × CalledAsValue p f r n id level (again_of p.host (nests_of p.host trees n) (trees id) level)
   again_runs f r n below id zero = (
     λ m items run s pc stack old w0 w D L N d h g.
-    refused_call f r (told s) (cfg s pc old w0) false stack (captures_of s.bed s.out) m (place_of_loop p (cfg s pc old w0) m) items w (le-ltb _ _ (omega (arith, d.4))) (fault_then r s.bed (as_at run s) s.out w (InvalidOperation ∷ []) D L N h),
+        refused_call f r (told s) (cfg s pc old w0) false stack (captures_of s.bed s.out) m (place_of_loop p (cfg s pc old w0) m) items w (le-ltb _ _ (omega (arith, d.4))) (fault_then r s.bed (as_at run s) s.out w (InvalidOperation ∷ []) D L N h),
     λ m items run s pc stack old w0 w K d h g.
-    refused_call f r (told s) (cfg s pc old w0) true stack (new_capture true ∷ captures_of s.bed s.out) m (place_of_loop p (cfg s pc old w0) m) items w (le-ltb _ _ (omega (arith, d.4))) h,
+        refused_call f r (told s) (cfg s pc old w0) true stack (new_capture true ∷ captures_of s.bed s.out) m (place_of_loop p (cfg s pc old w0) m) items w (le-ltb _ _ (omega (arith, d.4))) h,
   )
   again_runs f r n below id (suc level) =
       let lower = again_runs f r n below id level in
@@ -1549,13 +1549,13 @@ module _ (p : Program) (trees : Trees) (compiled : IsCompiled trees p) where
       let inner = again_of p.host nests (trees id) level in
       let kept = again_end p.host nests (nests_end p.host trees n) (trees id) level in (
         λ m items run s pc stack old w0 w D L N d h g.
-        subst (λ q. Leads p f (told s) (recursion p (cfg s pc old w0) false stack (captures_of s.bed s.out) m (slice_get (loop_places 0 (p.code q)) m) items w) r) (sym d.3)
-        (recursed_in_place p f r trees n below id level inner kept lower.0 lower.1 (slice_get (loops_in 0 (trees id).row) m) (slice_get (loop_places 0 (p.code id)) m) (all_match id m) m items run s pc stack old w0 w D L N d h g),
+            subst (λ q. Leads p f (told s) (recursion p (cfg s pc old w0) false stack (captures_of s.bed s.out) m (slice_get (loop_places 0 (p.code q)) m) items w) r) (sym d.3)
+            (recursed_in_place p f r trees n below id level inner kept lower.0 lower.1 (slice_get (loops_in 0 (trees id).row) m) (slice_get (loop_places 0 (p.code id)) m) (all_match id m) m items run s pc stack old w0 w D L N d h g),
         λ m items run s pc stack old w0 w K d h g.
-        let o = again_of p.host nests (trees id) (suc level) m items (capturing true run) [] w in
-        subst (λ q. Leads p f (told s) (recursion p (cfg s pc old w0) true stack (new_capture true ∷ captures_of s.bed s.out) m (slice_get (loop_places 0 (p.code q)) m) items w) r) (sym d.3)
-        (recursed_as_value p f r trees n below id level inner kept lower.0 lower.1 (slice_get (loops_in 0 (trees id).row) m) (slice_get (loop_places 0 (p.code id)) m) (all_match id m) m items run s pc stack old w0 w
-        (λ q out1 x. K (captured_text out1 x) x) d (text_ends p f r trees n below id level inner kept lower.0 lower.1 s o.ending o.parent o.text o.world K h) (λ q out1 x e. g (captured_text out1 x) x e)),
+            let o = again_of p.host nests (trees id) (suc level) m items (capturing true run) [] w in
+            subst (λ q. Leads p f (told s) (recursion p (cfg s pc old w0) true stack (new_capture true ∷ captures_of s.bed s.out) m (slice_get (loop_places 0 (p.code q)) m) items w) r) (sym d.3)
+            (recursed_as_value p f r trees n below id level inner kept lower.0 lower.1 (slice_get (loops_in 0 (trees id).row) m) (slice_get (loop_places 0 (p.code id)) m) (all_match id m) m items run s pc stack old w0 w
+            (λ q out1 x. K (captured_text out1 x) x) d (text_ends p f r trees n below id level inner kept lower.0 lower.1 s o.ending o.parent o.text o.world K h) (λ q out1 x e. g (captured_text out1 x) x e)),
       )
 
   -- A stream's run comes to what its tree means, where what nests does so a level below.
