@@ -69,7 +69,7 @@ fn sources_are_compiled(rt: HostRuntime) -> Result<(), Fail> {
     let alloc = rt.alloc();
     let source = Source::Lent("{% block b %}x{{ a }}{% endblock %}y");
     let template = CompiledTemplate::new(alloc, "page", source, &TemplateConfig::default())?;
-    assert_eq!(rt; template.instructions().len(), 2);
+    assert_eq!(rt; template.instructions().as_slice().len(), 2);
     assert!(rt; template.block("b").is_some());
     assert!(rt; template.block("c").is_none());
     Ok(())

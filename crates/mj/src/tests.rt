@@ -202,16 +202,12 @@ const TABLE_EXPECTED: &str = "<!DOCTYPE html>
 const MENU: &str = "<nav>
   <h2>{{ title }}</h2>
   <ul>
-    {%- for chapter in chapters %}
-    <li><a href=\"{{ chapter.file }}\">{{ chapter.name }}</a>
-      {%- if chapter.pages %}
-      <ul>
-        {%- for page in chapter.pages %}
-        <li>
-          {%- if page.file == none %}{{ page.name }}, soon{% else %}<a href=\"{{ page.file }}\">{{ page.name }}</a> ({{ page.length }}){% endif -%}
-        </li>
-        {%- endfor %}
-      </ul>
+    {%- for node in nodes recursive %}
+    <li class=\"level{{ loop.depth }}\">
+      {%- if node.file == none %}{{ node.name }}, soon{% else %}<a href=\"{{ node.file }}\">{{ node.name }}</a>{% endif %}
+      {%- if node.nodes %}
+    <ul>{{ loop(node.nodes) }}
+    </ul>
       {%- endif %}</li>
     {%- endfor %}
   </ul>
@@ -220,15 +216,20 @@ const MENU: &str = "<nav>
 
 const MENU_JSON: &str = "{
   \"title\": \"Contents\",
-  \"chapters\": [
-    {\"name\": \"Start\", \"file\": \"start.html\", \"pages\": []},
-    {\"name\": \"Guide\", \"file\": \"guide.html\", \"pages\": [
-      {\"name\": \"Install & run\", \"file\": \"guide.html?a=1&b=2\", \"length\": 3},
-      {\"name\": \"Prices < 10 €\", \"file\": \"prices.html\", \"length\": 12},
-      {\"name\": \"Reports\", \"file\": null, \"length\": 0}
+  \"nodes\": [
+    {\"name\": \"Start\", \"file\": \"start.html\", \"nodes\": []},
+    {\"name\": \"Guide\", \"file\": \"guide.html\", \"nodes\": [
+      {\"name\": \"Install & run\", \"file\": \"guide.html?a=1&b=2\", \"nodes\": [
+        {\"name\": \"From source\", \"file\": \"source.html\", \"nodes\": [
+          {\"name\": \"Tests\", \"file\": \"tests.html\", \"nodes\": []}
+        ]},
+        {\"name\": \"On a server\", \"file\": null, \"nodes\": []}
+      ]},
+      {\"name\": \"Prices < 10 €\", \"file\": \"prices.html\", \"nodes\": []},
+      {\"name\": \"Reports\", \"file\": null, \"nodes\": []}
     ]},
-    {\"name\": \"Reference\", \"file\": \"reference.html\", \"pages\": [
-      {\"name\": \"Words\", \"file\": \"words.html\", \"length\": 1}
+    {\"name\": \"Reference\", \"file\": \"reference.html\", \"nodes\": [
+      {\"name\": \"Words\", \"file\": \"words.html\", \"nodes\": []}
     ]}
   ]
 }
@@ -237,17 +238,24 @@ const MENU_JSON: &str = "{
 const MENU_EXPECTED: &str = "<nav>
   <h2>Contents</h2>
   <ul>
-    <li><a href=\"start.html\">Start</a></li>
-    <li><a href=\"guide.html\">Guide</a>
-      <ul>
-        <li><a href=\"guide.html?a=1&amp;b=2\">Install &amp; run</a> (3)</li>
-        <li><a href=\"prices.html\">Prices &lt; 10 €</a> (12)</li>
-        <li>Reports, soon</li>
-      </ul></li>
-    <li><a href=\"reference.html\">Reference</a>
-      <ul>
-        <li><a href=\"words.html\">Words</a> (1)</li>
-      </ul></li>
+    <li class=\"level1\"><a href=\"start.html\">Start</a></li>
+    <li class=\"level1\"><a href=\"guide.html\">Guide</a>
+    <ul>
+    <li class=\"level2\"><a href=\"guide.html?a=1&amp;b=2\">Install &amp; run</a>
+    <ul>
+    <li class=\"level3\"><a href=\"source.html\">From source</a>
+    <ul>
+    <li class=\"level4\"><a href=\"tests.html\">Tests</a></li>
+    </ul></li>
+    <li class=\"level3\">On a server, soon</li>
+    </ul></li>
+    <li class=\"level2\"><a href=\"prices.html\">Prices &lt; 10 €</a></li>
+    <li class=\"level2\">Reports, soon</li>
+    </ul></li>
+    <li class=\"level1\"><a href=\"reference.html\">Reference</a>
+    <ul>
+    <li class=\"level2\"><a href=\"words.html\">Words</a></li>
+    </ul></li>
   </ul>
 </nav>";
 

@@ -294,6 +294,62 @@ static ROWS: &[Row] = &[
         Ok(36),
     ),
     Row(
+        "{% for t in [{'v': 1, 'c': [{'v': 2, 'c': []}]}, {'v': 3, 'c': []}] recursive %}{{ t.v }}({{ loop(t.c) }}){% else %}E{% endfor %}",
+        "1(2())3()",
+        Ok(54),
+    ),
+    Row(
+        "{% for t in [{'v': 1, 'c': [{'v': 2, 'c': []}]}, {'v': 3, 'c': []}] recursive %}{{ t.v ~ '[' ~ loop(t.c) ~ ']' }}{% endfor %}",
+        "1[2[]]3[]",
+        Ok(62),
+    ),
+    Row(
+        "{% for x in [[]] recursive %}a{{ loop(x) }}{% endfor %}",
+        "a",
+        Ok(10),
+    ),
+    Row(
+        "{% for x in [[]] recursive %}{% set loop = 1 %}a{{ loop(x) }}{% endfor %}",
+        "a",
+        Ok(12),
+    ),
+    Row(
+        "{% for x in [[[]]] recursive %}{{ loop.depth }}{{ loop(x) }}{% endfor %}",
+        "12",
+        Ok(22),
+    ),
+    Row(
+        "{% set ns = namespace() %}{% for x in [1] recursive %}{{ x }}{% set ns.l = loop %}{% endfor %}{% set l = ns.l %}{{ l([2, 3]) }}",
+        "123",
+        Ok(38),
+    ),
+    Row(
+        "{% for x in [1] recursive %}{{ loop(x) }}{% endfor %}",
+        "",
+        Err(ErrorKind::InvalidOperation),
+    ),
+    Row(
+        "{% for x in [[]] %}{{ loop(x) }}{% endfor %}",
+        "",
+        Err(ErrorKind::InvalidOperation),
+    ),
+    Row(
+        "{% for x in [[]] recursive %}{{ loop(x, 1) }}{% endfor %}",
+        "",
+        Err(ErrorKind::InvalidOperation),
+    ),
+    Row("{{ loop(1) }}", "", Err(ErrorKind::UnknownFunction)),
+    Row(
+        "{% set ns = namespace(v=[]) %}{% for i in range(400) %}{% set ns.v = [ns.v] %}{% endfor %}{% for x in ns.v recursive %}{{ loop(x) }}{% endfor %}",
+        "",
+        Ok(5611),
+    ),
+    Row(
+        "{% set ns = namespace(v=[]) %}{% for i in range(600) %}{% set ns.v = [ns.v] %}{% endfor %}{% for x in ns.v recursive %}{{ loop(x) }}{% endfor %}",
+        "",
+        Err(ErrorKind::InvalidOperation),
+    ),
+    Row(
         "{% for x in [1] %}{{ loop.index() }}{% endfor %}",
         "",
         Err(ErrorKind::UnknownMethod),
@@ -419,7 +475,7 @@ fn expect_rows(rt: &impl Abort, alloc: Global, environment: &Rows<'_>) -> Result
 
 /// Adds the functions of the rows to an environment, renders them, and sees what states keep and where fuel ends.
 fn expect_all(rt: &impl Abort, alloc: Global, environment: &mut Rows<'_>) -> Result<(), Fail> {
-    environment.set_fuel(Some(1000));
+    environment.set_fuel(Some(10_000));
     add_functions(environment)?;
     expect_rows(rt, alloc, environment)?;
     assert!(rt; keeps_apart(environment)?);

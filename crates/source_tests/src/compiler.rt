@@ -7,7 +7,7 @@ use std::test::Fail;
 use tm_compiler::{SyntaxConfig, parse};
 use tm_values::{Error, ErrorKind};
 
-static CODES: [(&str, &str); 33] = [
+static CODES: [(&str, &str); 35] = [
     ("{# c #}", ""),
     ("{{ \"}}\" }}\n", " #}} emit"),
     ("{{ a == none }}", " $a #none == emit"),
@@ -101,6 +101,14 @@ static CODES: [(&str, &str); 33] = [
         "{% for x in y %}{% for x in y %}{% else %}{% break %}{% endfor %}{% endfor %}",
         " $y loop iterate:14 store:x $y loop iterate:9 store:x jump:6 empty looped if-false:13 jump:14 jump:2 looped",
     ),
+    (
+        "{% for x in y recursive %}{{ loop(x) }}{{ loop(x).a }}{{ loop(x, x) }}{% endfor %}",
+        " $y loop! iterate:15 store:x $x recurse $x call:loop1 .a emit $x $x call:loop2 emit jump:2 looped",
+    ),
+    (
+        "{% for x in a if x recursive %}{% endfor %}",
+        " #0 $a pass iterate:14 copy store:x $x if-false:12 swap #1 + jump:3 drop jump:3 looped list loop! iterate:20 store:x jump:17 looped",
+    ),
 ];
 
 fn code_of(alloc: Global, source: &str) -> Result<String, Error> {
@@ -119,7 +127,7 @@ fn sources_have_their_code(rt: HostRuntime) {
     }
 }
 
-static REFUSED: [&str; 39] = [
+static REFUSED: [&str; 40] = [
     "a{#",
     "{{ \"a }}",
     "{{ 1.5 }}",
@@ -151,7 +159,8 @@ static REFUSED: [&str; 39] = [
     "{% for x in y %}{% endfor x %}",
     "{% for x in y %}{% break 1 %}{% endfor %}",
     "{% for x in y %}{% else %}{% else %}{% endfor %}",
-    "{% for x in y recursive %}{% endfor %}",
+    "{% for x in y recursive recursive %}{% endfor %}",
+    "{% for x in y recursive if x %}{% endfor %}",
     "{{ f(b=1, a) }}",
     "{{ f(b=) }}",
     "{{ f(1=2) }}",

@@ -6,7 +6,7 @@ use crate::environment::EnvironmentOf;
 use std::alloc::Global;
 use std::marker::Model;
 use tm_meaning::{StreamId, TemplateId};
-use tm_syntax::{Instruction, NameMap};
+use tm_syntax::{Code, NameMap};
 use tm_tables::{Called, CompiledTemplate, Host, Parties, View};
 use tm_values::{UndefinedBehavior, Value};
 
@@ -90,7 +90,7 @@ impl<O: Parties> Host for Rendering<'_, O> {
         false
     }
 
-    fn instructions(&self, stream: &StreamId) -> &[Instruction] {
+    fn instructions(&self, stream: &StreamId) -> &Code {
         self.template(&stream.template).stream(&stream.block)
     }
 

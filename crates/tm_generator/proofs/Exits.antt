@@ -4,7 +4,7 @@ use Rattle.std.specs.Prelude.{slice_set}
 use Rattle.std.proofs.Math.Seq.{set-append_seam}
 use Rattle.std.proofs.lemmas.List.{append-nil}
 use Rattle.std.proofs.lemmas.List.Elements.{All-nil, All-cons, All-weaker, All-append}
-use Rattle.tm_syntax.specs.declared.tree.Stmt.{Stmt, EmitRaw, EmitExpr, If', For', Break, Continue, Block', Set, SetBlock', With', Do, AutoEscape', Row_of-Stmt, end_of-Stmt as no_statement, more_of-Stmt as statement, Held-Stmt-If-2 as Otherwise, None' as no_else, Some' as otherwise}
+use Rattle.tm_syntax.specs.declared.tree.Stmt.{Stmt, EmitRaw, EmitExpr, EmitLoop, If', For', Break, Continue, Block', Set, SetBlock', With', Do, AutoEscape', Row_of-Stmt, end_of-Stmt as no_statement, more_of-Stmt as statement, Held-Stmt-If-2 as Otherwise, None' as no_else, Some' as otherwise}
 use Rattle.tm_syntax.specs.declared.instruction.CaptureMode.TheVariants.{Capture}
 use Rattle.tm_syntax.specs.declared.instruction.Instruction.{Instruction}
 use Rattle.tm_syntax.specs.declared.instruction.Instruction.TheVariants as i
@@ -80,6 +80,7 @@ module _ (a b : ℕ) where
     statement_led : (pc : ℕ) (os : List Opened) (s : Stmt) → Becomes pc (statement_code (unset os) pc s) (exits_of os pc s) (statement_code (in_loop a b os) pc s)
     statement_led pc os (EmitRaw t) = as_is pc (i.EmitRaw t ∷ [])
     statement_led pc os (EmitExpr e) = as_is pc (expr_code pc e ++ i.Emit ∷ [])
+    statement_led pc os (EmitLoop e) = as_is pc (expr_code pc e ++ i.FastRecurse ∷ [])
     statement_led pc os (If' c _ body other) =
         let t = expr_code pc c in
         let pc1 = pc + length t + 1 in
@@ -91,7 +92,7 @@ module _ (a b : ℕ) where
         let ox = otherwise_code (unset os) (pc1 + length x) other in
         subst (λ n. Becomes pc (t ++ (test (length x) ∷ (x ++ ox))) (exits_of os pc (If' c _ body other)) (t ++ (test n ∷ (y ++ rest n)))) long
         (after pc t (after (pc + length t) (test (length x) ∷ []) (both pc1 x y ox (rest (length x)) long (statements_led pc1 os body) (otherwise_led (pc1 + length x) os other))))
-    statement_led pc os (For' t e c _ body other) =
+    statement_led pc os (For' t e c recursive _ body other) =
         let v = iterable_code pc t e c in
         let pc1 = pc + length v in
         let first = target_code (pc1 + 1 + 1) t in
@@ -102,7 +103,7 @@ module _ (a b : ℕ) where
         let ox = behind_loop_code (unset os) end other in
         let oy = behind_loop_code (in_loop a b os) end other in
         let at : end ≡ pc1 + 2 + length first + length inner + 1 = omega (arith, long) in
-        after pc v (after pc1 (i.PushLoop for_flags ∷ i.Iterate end ∷ []) (after (pc1 + 2) first (after (pc1 + 2 + length first) inner (after (pc1 + 2 + length first + length inner) (i.Jump (pc1 + 1) ∷ [])
+        after pc v (after pc1 (i.PushLoop (for_flags recursive) ∷ i.Iterate end ∷ []) (after (pc1 + 2) first (after (pc1 + 2 + length first) inner (after (pc1 + 2 + length first + length inner) (i.Jump (pc1 + 1) ∷ [])
         (subst (λ n. Becomes n ox (exits_behind os end other) oy) at (behind_loop_led end os other))))))
     statement_led pc os Break = after pc (close_all os) (leaves (pc + length (close_all os)))
     statement_led pc os Continue = after pc (close_all os) (goes_on (pc + length (close_all os)))

@@ -1,5 +1,5 @@
 -- The code of a loop that takes the items whose condition is true.
-use Rattle.std.proofs.Common.{◌≡◌, ℕ, ◌+◌, List, [], ◌∷◌, ◌++◌, length, Option, Some, None, refl, sym, ap, ◌∙◌, arith, append_assoc, length-append}
+use Rattle.std.proofs.Common.{◌≡◌, ℕ, ◌+◌, List, [], ◌∷◌, ◌++◌, length, Some, None, ap, ◌∙◌, arith, append_assoc, length-append}
 use Rattle.std.specs.Prelude.{slice_set, pos}
 use Rattle.std.proofs.Math.Seq.{set-append_seam}
 use Rattle.tm_values.specs.Val.{Val, number}

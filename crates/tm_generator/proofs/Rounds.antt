@@ -1,6 +1,6 @@
 -- The code of loops, and of statements on their own.
 use Rattle.std.proofs.Common.{◌≡◌, ℕ, ◌+◌, ◌<◌, List, [], ◌∷◌, ◌++◌, All, length, Option, Some, None, refl, sym, ap, subst, ◌∙◌, arith, append_assoc, length-append}
-use Rattle.std.specs.Prelude.{slice_set}
+use Rattle.std.specs.Prelude.{Bool, slice_set}
 use Rattle.std.proofs.lemmas.List.{append-nil, length-set}
 use Rattle.std.proofs.Math.Seq.{set-append_seam}
 use denote.Hole.Carrier.{hidden}
@@ -46,8 +46,8 @@ module _ (c0 c1 : List Instruction) (a a1 : Around) (body : List Stmt) (start : 
       ∙ ap (λ l. led l es n n) (sym (append-nil x)) ∙ (statements_led n n 0 [] (statements body)).set [] [] refl ∙ append-nil _
 
 -- ---------------------------------------------------------------- rounds
-module _ (base c1 c2 c3 c4 c5 c6 : List Instruction) (a a1 : Around) (y : Instruction) (again behind : ℕ) (t : Target) (body : List Stmt)
-    (put1 : c1 ≡ base ++ i.PushLoop for_flags ∷ []) (m1 : again ≡ length c1) (put2 : c2 ≡ c1 ++ y ∷ []) (put3 : c3 ≡ c2 ++ target_code (length c2) t) (new : a ≡ fresh)
+module _ (base c1 c2 c3 c4 c5 c6 : List Instruction) (a a1 : Around) (y : Instruction) (again behind : ℕ) (t : Target) (recursive : Bool) (body : List Stmt)
+    (put1 : c1 ≡ base ++ i.PushLoop (for_flags recursive) ∷ []) (m1 : again ≡ length c1) (put2 : c2 ≡ c1 ++ y ∷ []) (put3 : c3 ≡ c2 ++ target_code (length c2) t) (new : a ≡ fresh)
     (put4 : c4 ≡ c3 ++ statements_code (unset a.opened) (length c3) (statements body)) (e : a1 ≡ with_exits a (exits_in a.opened (length c3) (statements body)))
     (put5 : c5 ≡ c4 ++ i.Jump again ∷ []) (m5 : behind ≡ length c5) (put6 : c6 ≡ slice_set c5 again (i.Iterate behind)) where
   abbrev at0 : ℕ
@@ -63,10 +63,10 @@ module _ (base c1 c2 c3 c4 c5 c6 : List Instruction) (a a1 : Around) (y : Instru
   inner = statements_code (unset []) begin (statements body)
 
   abbrev head : List Instruction
-  head = base ++ i.PushLoop for_flags ∷ []
+  head = base ++ i.PushLoop (for_flags recursive) ∷ []
 
   at1 : again ≡ at0 + 1
-  at1 = omega (arith, m1, ap length put1, length-append base (i.PushLoop for_flags ∷ []))
+  at1 = omega (arith, m1, ap length put1, length-append base (i.PushLoop (for_flags recursive) ∷ []))
 
   long2 : length c2 ≡ at0 + 1 + 1
   long2 = omega (arith, ap length put2, length-append c1 (y ∷ []), m1, at1)
@@ -75,7 +75,7 @@ module _ (base c1 c2 c3 c4 c5 c6 : List Instruction) (a a1 : Around) (y : Instru
   all3 = put3 ∙ ap (λ n. c2 ++ target_code n t) long2 ∙ ap (λ l. l ++ first) (put2 ∙ ap (λ l. l ++ y ∷ []) put1) ∙ append_assoc head (y ∷ []) first
 
   long3 : length c3 ≡ begin
-  long3 = omega (arith, ap length all3, length-append head (y ∷ first), length-append base (i.PushLoop for_flags ∷ []))
+  long3 = omega (arith, ap length all3, length-append head (y ∷ first), length-append base (i.PushLoop (for_flags recursive) ∷ []))
 
   all5 : c5 ≡ head ++ y ∷ (first ++ (inner ++ i.Jump again ∷ []))
   all5 =
@@ -88,7 +88,7 @@ module _ (base c1 c2 c3 c4 c5 c6 : List Instruction) (a a1 : Around) (y : Instru
         arith,
         ap length all5,
         length-append head (y ∷ (first ++ (inner ++ i.Jump again ∷ []))),
-        length-append base (i.PushLoop for_flags ∷ []),
+        length-append base (i.PushLoop (for_flags recursive) ∷ []),
         length-append first (inner ++ i.Jump again ∷ []),
         length-append inner (i.Jump again ∷ []),
       )
@@ -101,30 +101,30 @@ module _ (base c1 c2 c3 c4 c5 c6 : List Instruction) (a a1 : Around) (y : Instru
       subst (All (λ x. place_of x < length c6)) (sym rounds_exits)
       (within-more (begin + length inner) (length c6) (exits_in [] begin (statements body)) (omega (arith, ap length put6, length-set c5 again (i.Iterate behind), long5)) (statements_led 0 0 begin [] (statements body)).inside)
 
-  pub made_rounds : (c7 : List Instruction) → c7 ≡ led c6 a1.exits again behind → c7 ≡ base ++ rounds_code at0 t (statements body)
+  pub made_rounds : (c7 : List Instruction) → c7 ≡ led c6 a1.exits again behind → c7 ≡ base ++ rounds_code recursive at0 t (statements body)
   made_rounds c7 put7 =
       let end = loop_end at0 t (statements body) in
       let at5 : behind ≡ end = m5 ∙ long5 in
       let es = exits_in [] begin (statements body) in
       let jump : List Instruction = i.Jump (at0 + 1) ∷ [] in
-      let front = base ++ (i.PushLoop for_flags ∷ i.Iterate end ∷ first) in
-      let long : length front ≡ begin = omega (arith, length-append base (i.PushLoop for_flags ∷ i.Iterate end ∷ first)) in
+      let front = base ++ (i.PushLoop (for_flags recursive) ∷ i.Iterate end ∷ first) in
+      let long : length front ≡ begin = omega (arith, length-append base (i.PushLoop (for_flags recursive) ∷ i.Iterate end ∷ first)) in
       let set6 : c6 ≡ front ++ (inner ++ jump) =
       put6 ∙ ap (λ l. slice_set l again (i.Iterate behind)) all5
       ∙ ap (λ n. slice_set (head ++ y ∷ (first ++ (inner ++ i.Jump again ∷ []))) n (i.Iterate behind)) (m1 ∙ ap length put1)
       ∙ set-append_seam head y (first ++ (inner ++ i.Jump again ∷ [])) (i.Iterate behind)
-      ∙ append_assoc base (i.PushLoop for_flags ∷ []) _
-      ∙ ap (λ n. base ++ (i.PushLoop for_flags ∷ i.Iterate behind ∷ (first ++ (inner ++ i.Jump n ∷ [])))) at1
-      ∙ ap (λ n. base ++ (i.PushLoop for_flags ∷ i.Iterate n ∷ (first ++ (inner ++ jump)))) at5
-      ∙ sym (append_assoc base (i.PushLoop for_flags ∷ i.Iterate end ∷ first) (inner ++ jump)) in
+      ∙ append_assoc base (i.PushLoop (for_flags recursive) ∷ []) _
+      ∙ ap (λ n. base ++ (i.PushLoop (for_flags recursive) ∷ i.Iterate behind ∷ (first ++ (inner ++ i.Jump n ∷ [])))) at1
+      ∙ ap (λ n. base ++ (i.PushLoop (for_flags recursive) ∷ i.Iterate n ∷ (first ++ (inner ++ jump)))) at5
+      ∙ sym (append_assoc base (i.PushLoop (for_flags recursive) ∷ i.Iterate end ∷ first) (inner ++ jump)) in
       put7 ∙ ap (λ l. led l a1.exits again behind) set6 ∙ ap (λ l. led (front ++ (inner ++ jump)) l again behind) rounds_exits
       ∙ ap (λ n. led (front ++ (inner ++ jump)) es n behind) at1 ∙ ap (λ n. led (front ++ (inner ++ jump)) es (at0 + 1) n) at5
       ∙ (statements_led (at0 + 1) end begin [] (statements body)).set front jump long
-      ∙ append_assoc base (i.PushLoop for_flags ∷ i.Iterate end ∷ first) _
+      ∙ append_assoc base (i.PushLoop (for_flags recursive) ∷ i.Iterate end ∷ first) _
 
 -- ---------------------------------------------------------------- behind them
-rounds-long : (pc : ℕ) (t : Target) (body : List Stmt) → pc + length (rounds_code pc t (statements body)) ≡ loop_end pc t (statements body)
-rounds-long pc t body =
+rounds-long : (pc : ℕ) (t : Target) (recursive : Bool) (body : List Stmt) → pc + length (rounds_code recursive pc t (statements body)) ≡ loop_end pc t (statements body)
+rounds-long pc t recursive body =
     let first = target_code (pc + 1 + 1) t in
     let begin = pc + 1 + 1 + length first in
     let end = loop_end pc t (statements body) in
@@ -137,74 +137,74 @@ rounds-long pc t body =
     )
 
 -- a loop's code up to its jump back, and what stands behind it
-abbrev rounds_then : {n : _} → ℕ → Target → Row_of-Stmt n → List Instruction → List Instruction
-rounds_then pc t body rest =
+abbrev rounds_then : {n : _} → Bool → ℕ → Target → Row_of-Stmt n → List Instruction → List Instruction
+rounds_then recursive pc t body rest =
     let again = pc + 1 in
     let first = target_code (again + 1) t in
-    i.PushLoop for_flags ∷ i.Iterate (loop_end pc t body) ∷ (first
+    i.PushLoop (for_flags recursive) ∷ i.Iterate (loop_end pc t body) ∷ (first
     ++ (statements_code (in_loop again (loop_end pc t body) []) (again + 1 + length first) body ++ i.Jump again ∷ rest))
 
-rounds-rest : (pc : ℕ) (t : Target) (body : List Stmt) (rest : List Instruction) → rounds_code pc t (statements body) ++ rest ≡ rounds_then pc t (statements body) rest
-rounds-rest pc t body rest =
+rounds-rest : (pc : ℕ) (t : Target) (recursive : Bool) (body : List Stmt) (rest : List Instruction) → rounds_code recursive pc t (statements body) ++ rest ≡ rounds_then recursive pc t (statements body) rest
+rounds-rest pc t recursive body rest =
     let first = target_code (pc + 1 + 1) t in
     let end = loop_end pc t (statements body) in
     let inner = statements_code (in_loop (pc + 1) end []) (pc + 1 + 1 + length first) (statements body) in
-    ap (λ l. i.PushLoop for_flags ∷ i.Iterate end ∷ l) (append_assoc first (inner ++ i.Jump (pc + 1) ∷ []) rest ∙ ap (λ l. first ++ l) (append_assoc inner (i.Jump (pc + 1) ∷ []) rest))
+    ap (λ l. i.PushLoop (for_flags recursive) ∷ i.Iterate end ∷ l) (append_assoc first (inner ++ i.Jump (pc + 1) ∷ []) rest ∙ ap (λ l. first ++ l) (append_assoc inner (i.Jump (pc + 1) ∷ []) rest))
 
-code-for : (k : Inside) (pc : ℕ) (t : Target) (x : Expr) (q : Option Expr) (body : List Stmt) → statement_code k pc (st.For t x q body None) ≡
-    iterable_code pc t x q ++ rounds_then (pc + length (iterable_code pc t x q)) t (statements body) (i.PopLoopFrame ∷ [])
+code-for : (k : Inside) (pc : ℕ) (t : Target) (x : Expr) (q : Option Expr) (recursive : Bool) (body : List Stmt) → statement_code k pc (st.For t x q recursive body None) ≡
+    iterable_code pc t x q ++ rounds_then recursive (pc + length (iterable_code pc t x q)) t (statements body) (i.PopLoopFrame ∷ [])
 unfolding hidden statements
-code-for k pc t x q body = refl
+code-for k pc t x q recursive body = refl
 
-code-for-else : (k : Inside) (pc : ℕ) (t : Target) (x : Expr) (q : Option Expr) (body other : List Stmt) → statement_code k pc (st.For t x q body (Some other)) ≡
-    (let pc1 = pc + length (iterable_code pc t x q) in iterable_code pc t x q ++ rounds_then pc1 t (statements body) (no_round_code k (loop_end pc1 t (statements body)) (statements other)))
+code-for-else : (k : Inside) (pc : ℕ) (t : Target) (x : Expr) (q : Option Expr) (recursive : Bool) (body other : List Stmt) → statement_code k pc (st.For t x q recursive body (Some other)) ≡
+    (let pc1 = pc + length (iterable_code pc t x q) in iterable_code pc t x q ++ rounds_then recursive pc1 t (statements body) (no_round_code k (loop_end pc1 t (statements body)) (statements other)))
 unfolding hidden statements
-code-for-else k pc t x q body other = refl
+code-for-else k pc t x q recursive body other = refl
 
-exits-for : (os : List Opened) (pc : ℕ) (t : Target) (x : Expr) (q : Option Expr) (body : List Stmt) → exits_of os pc (st.For t x q body None) ≡ []
+exits-for : (os : List Opened) (pc : ℕ) (t : Target) (x : Expr) (q : Option Expr) (recursive : Bool) (body : List Stmt) → exits_of os pc (st.For t x q recursive body None) ≡ []
 unfolding hidden statements
-exits-for os pc t x q body = refl
+exits-for os pc t x q recursive body = refl
 
-exits-for-else : (os : List Opened) (pc : ℕ) (t : Target) (x : Expr) (q : Option Expr) (body other : List Stmt) → exits_of os pc (st.For t x q body (Some other)) ≡
+exits-for-else : (os : List Opened) (pc : ℕ) (t : Target) (x : Expr) (q : Option Expr) (recursive : Bool) (body other : List Stmt) → exits_of os pc (st.For t x q recursive body (Some other)) ≡
     exits_in os (loop_end (pc + length (iterable_code pc t x q)) t (statements body) + 3) (statements other)
 unfolding hidden statements
-exits-for-else os pc t x q body other = refl
+exits-for-else os pc t x q recursive body other = refl
 
 -- what is iterated, the rounds, and what stands behind them
-looped : (base c1 c2 c3 : List Instruction) (t : Target) (x : Expr) (q : Option Expr) (body : List Stmt) (rest : ℕ → List Instruction) → c1 ≡ base ++ iterable_code (length base) t x q → c2 ≡ c1 ++ rounds_code (length c1) t (statements body) →
+looped : (base c1 c2 c3 : List Instruction) (t : Target) (x : Expr) (q : Option Expr) (recursive : Bool) (body : List Stmt) (rest : ℕ → List Instruction) → c1 ≡ base ++ iterable_code (length base) t x q → c2 ≡ c1 ++ rounds_code recursive (length c1) t (statements body) →
     c3 ≡ c2 ++ rest (length c2) →
     (let pc1 = length base + length (iterable_code (length base) t x q) in
-    (length c2 ≡ loop_end pc1 t (statements body)) × (c3 ≡ base ++ (iterable_code (length base) t x q ++ rounds_then pc1 t (statements body) (rest (loop_end pc1 t (statements body))))))
-looped base c1 c2 c3 t x q body rest put1 put2 put3 =
+    (length c2 ≡ loop_end pc1 t (statements body)) × (c3 ≡ base ++ (iterable_code (length base) t x q ++ rounds_then recursive pc1 t (statements body) (rest (loop_end pc1 t (statements body))))))
+looped base c1 c2 c3 t x q recursive body rest put1 put2 put3 =
     let v = iterable_code (length base) t x q in
     let pc1 = length base + length v in
     let long1 : length c1 ≡ pc1 = ap length put1 ∙ length-append base v in
-    let rounds = rounds_code pc1 t (statements body) in
-    let all2 : c2 ≡ base ++ (v ++ rounds) = put2 ∙ ap (λ n. c1 ++ rounds_code n t (statements body)) long1 ∙ ap (λ l. l ++ rounds) put1 ∙ append_assoc base v rounds in
+    let rounds = rounds_code recursive pc1 t (statements body) in
+    let all2 : c2 ≡ base ++ (v ++ rounds) = put2 ∙ ap (λ n. c1 ++ rounds_code recursive n t (statements body)) long1 ∙ ap (λ l. l ++ rounds) put1 ∙ append_assoc base v rounds in
     let end = loop_end pc1 t (statements body) in
-    let long2 : length c2 ≡ end = omega (arith, ap length all2, length-append base (v ++ rounds), length-append v rounds, rounds-long pc1 t body) in (
+    let long2 : length c2 ≡ end = omega (arith, ap length all2, length-append base (v ++ rounds), length-append v rounds, rounds-long pc1 t recursive body) in (
       long2,
-      put3 ∙ ap (λ n. c2 ++ rest n) long2 ∙ ap (λ l. l ++ rest end) all2 ∙ append_assoc base (v ++ rounds) (rest end) ∙ ap (λ l. base ++ l) (append_assoc v rounds (rest end) ∙ ap (λ l. v ++ l) (rounds-rest pc1 t body (rest end))),
+      put3 ∙ ap (λ n. c2 ++ rest n) long2 ∙ ap (λ l. l ++ rest end) all2 ∙ append_assoc base (v ++ rounds) (rest end) ∙ ap (λ l. base ++ l) (append_assoc v rounds (rest end) ∙ ap (λ l. v ++ l) (rounds-rest pc1 t recursive body (rest end))),
     )
 
-pub made_for : (k : Inside) (base c1 c2 c3 : List Instruction) (t : Target) (x : Expr) (q : Option Expr) (body : List Stmt) → c1 ≡ base ++ iterable_code (length base) t x q → c2 ≡ c1 ++ rounds_code (length c1) t (statements body) →
-    c3 ≡ c2 ++ i.PopLoopFrame ∷ [] → c3 ≡ base ++ statement_code k (length base) (st.For t x q body None)
-made_for k base c1 c2 c3 t x q body put1 put2 put3 =
-    (looped base c1 c2 c3 t x q body (λ n. i.PopLoopFrame ∷ []) put1 put2 put3).1 ∙ ap (λ l. base ++ l) (sym (code-for k (length base) t x q body))
+pub made_for : (k : Inside) (base c1 c2 c3 : List Instruction) (t : Target) (x : Expr) (q : Option Expr) (recursive : Bool) (body : List Stmt) → c1 ≡ base ++ iterable_code (length base) t x q → c2 ≡ c1 ++ rounds_code recursive (length c1) t (statements body) →
+    c3 ≡ c2 ++ i.PopLoopFrame ∷ [] → c3 ≡ base ++ statement_code k (length base) (st.For t x q recursive body None)
+made_for k base c1 c2 c3 t x q recursive body put1 put2 put3 =
+    (looped base c1 c2 c3 t x q recursive body (λ n. i.PopLoopFrame ∷ []) put1 put2 put3).1 ∙ ap (λ l. base ++ l) (sym (code-for k (length base) t x q recursive body))
 
-pub made_for_else : (k : Inside) (base c1 c2 c3 : List Instruction) (t : Target) (x : Expr) (q : Option Expr) (body other : List Stmt) → c1 ≡ base ++ iterable_code (length base) t x q → c2 ≡ c1 ++ rounds_code (length c1) t (statements body) →
-    c3 ≡ c2 ++ no_round_code k (length c2) (statements other) → c3 ≡ base ++ statement_code k (length base) (st.For t x q body (Some other))
-made_for_else k base c1 c2 c3 t x q body other put1 put2 put3 =
-    (looped base c1 c2 c3 t x q body (λ n. no_round_code k n (statements other)) put1 put2 put3).1 ∙ ap (λ l. base ++ l) (sym (code-for-else k (length base) t x q body other))
+pub made_for_else : (k : Inside) (base c1 c2 c3 : List Instruction) (t : Target) (x : Expr) (q : Option Expr) (recursive : Bool) (body other : List Stmt) → c1 ≡ base ++ iterable_code (length base) t x q → c2 ≡ c1 ++ rounds_code recursive (length c1) t (statements body) →
+    c3 ≡ c2 ++ no_round_code k (length c2) (statements other) → c3 ≡ base ++ statement_code k (length base) (st.For t x q recursive body (Some other))
+made_for_else k base c1 c2 c3 t x q recursive body other put1 put2 put3 =
+    (looped base c1 c2 c3 t x q recursive body (λ n. no_round_code k n (statements other)) put1 put2 put3).1 ∙ ap (λ l. base ++ l) (sym (code-for-else k (length base) t x q recursive body other))
 
-pub for_exits : (a : Around) (pc : ℕ) (t : Target) (x : Expr) (q : Option Expr) (body : List Stmt) → a ≡ with_exits a (exits_of a.opened pc (st.For t x q body None))
-for_exits a pc t x q body = no_exits a ∙ ap (λ es. with_exits a es) (sym (exits-for a.opened pc t x q body))
+pub for_exits : (a : Around) (pc : ℕ) (t : Target) (x : Expr) (q : Option Expr) (recursive : Bool) (body : List Stmt) → a ≡ with_exits a (exits_of a.opened pc (st.For t x q recursive body None))
+for_exits a pc t x q recursive body = no_exits a ∙ ap (λ es. with_exits a es) (sym (exits-for a.opened pc t x q recursive body))
 
-pub for_else_exits : (a a1 : Around) (base c1 c2 : List Instruction) (t : Target) (x : Expr) (q : Option Expr) (body other : List Stmt) → c1 ≡ base ++ iterable_code (length base) t x q → c2 ≡ c1 ++ rounds_code (length c1) t (statements body) →
-    a1 ≡ with_exits a (exits_in a.opened (length c2 + 3) (statements other)) → a1 ≡ with_exits a (exits_of a.opened (length base) (st.For t x q body (Some other)))
-for_else_exits a a1 base c1 c2 t x q body other put1 put2 e =
-    e ∙ ap (λ n. with_exits a (exits_in a.opened (n + 3) (statements other))) (looped base c1 c2 (c2 ++ []) t x q body (λ n. []) put1 put2 refl).0
-    ∙ ap (λ es. with_exits a es) (sym (exits-for-else a.opened (length base) t x q body other))
+pub for_else_exits : (a a1 : Around) (base c1 c2 : List Instruction) (t : Target) (x : Expr) (q : Option Expr) (recursive : Bool) (body other : List Stmt) → c1 ≡ base ++ iterable_code (length base) t x q → c2 ≡ c1 ++ rounds_code recursive (length c1) t (statements body) →
+    a1 ≡ with_exits a (exits_in a.opened (length c2 + 3) (statements other)) → a1 ≡ with_exits a (exits_of a.opened (length base) (st.For t x q recursive body (Some other)))
+for_else_exits a a1 base c1 c2 t x q recursive body other put1 put2 e =
+    e ∙ ap (λ n. with_exits a (exits_in a.opened (n + 3) (statements other))) (looped base c1 c2 (c2 ++ []) t x q recursive body (λ n. []) put1 put2 refl).0
+    ∙ ap (λ es. with_exits a es) (sym (exits-for-else a.opened (length base) t x q recursive body other))
 
 -- ---------------------------------------------------------------- an else part
 module _ (base c1 c2 c3 : List Instruction) (y : Instruction) (put1 : c1 ≡ base ++ i.PushDidNotIterate ∷ []) (put2 : c2 ≡ c1 ++ i.PopLoopFrame ∷ []) (put3 : c3 ≡ c2 ++ y ∷ []) where

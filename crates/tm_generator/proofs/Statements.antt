@@ -1,6 +1,6 @@
 -- The code and the blocks of statements that are put one part behind another.
 use Rattle.std.proofs.Common.{◌≡◌, ℕ, ◌+◌, List, [], ◌∷◌, ◌++◌, length, Option, Some, None, refl, sym, ap, ◌∙◌, arith, append_assoc, length-append}
-use Rattle.std.specs.Prelude.{slice_set}
+use Rattle.std.specs.Prelude.{Bool, slice_set}
 use Rattle.std.proofs.lemmas.List.{append-nil}
 use Rattle.std.proofs.Math.Seq.{set-append_seam}
 use denote.Hole.Carrier.{hidden}
@@ -43,9 +43,9 @@ blocks-else : (c : Expr) (body other : List Stmt) → blocks_of (st.If c body (S
 unfolding hidden statements
 blocks-else c body other = refl
 
-blocks-for-else : (t : Target) (x : Expr) (q : Option Expr) (body other : List Stmt) → blocks_of (st.For t x q body (Some other)) ≡ blocks_in (statements body) ++ blocks_in (statements other)
+blocks-for-else : (t : Target) (x : Expr) (q : Option Expr) (recursive : Bool) (body other : List Stmt) → blocks_of (st.For t x q recursive body (Some other)) ≡ blocks_in (statements body) ++ blocks_in (statements other)
 unfolding hidden statements
-blocks-for-else t x q body other = refl
+blocks-for-else t x q recursive body other = refl
 
 blocks-block : (x : List ℕ) (body : List Stmt) → blocks_of (st.Block x body) ≡ blocks_in (statements body) ++ (x, body_of (statements body)) ∷ []
 unfolding hidden statements
@@ -89,9 +89,9 @@ pub else_blocks : (c : Expr) (body other : List Stmt) (m m1 m2 : Blocks) → m1 
     m2 ≡ put_each (compiled_blocks (blocks_of (st.If c body (Some other)))) m
 else_blocks c body other m m1 m2 d put2 = two_parts body other m m1 m2 d put2 ∙ ap (λ l. put_each (compiled_blocks l) m) (sym (blocks-else c body other))
 
-pub for_else_blocks : (t : Target) (x : Expr) (q : Option Expr) (body other : List Stmt) (m m1 m2 : Blocks) → m1 ≡ put_each (compiled_blocks (blocks_in (statements body))) m → m2 ≡ put_each (compiled_blocks (blocks_in (statements other))) m1 →
-    m2 ≡ put_each (compiled_blocks (blocks_of (st.For t x q body (Some other)))) m
-for_else_blocks t x q body other m m1 m2 d put2 = two_parts body other m m1 m2 d put2 ∙ ap (λ l. put_each (compiled_blocks l) m) (sym (blocks-for-else t x q body other))
+pub for_else_blocks : (t : Target) (x : Expr) (q : Option Expr) (recursive : Bool) (body other : List Stmt) (m m1 m2 : Blocks) → m1 ≡ put_each (compiled_blocks (blocks_in (statements body))) m → m2 ≡ put_each (compiled_blocks (blocks_in (statements other))) m1 →
+    m2 ≡ put_each (compiled_blocks (blocks_of (st.For t x q recursive body (Some other)))) m
+for_else_blocks t x q recursive body other m m1 m2 d put2 = two_parts body other m m1 m2 d put2 ∙ ap (λ l. put_each (compiled_blocks l) m) (sym (blocks-for-else t x q recursive body other))
 
 pub block_blocks : (x : List ℕ) (body : List Stmt) (m m1 : Blocks) → m1 ≡ put x (stream_code (statements body)) (put_each (compiled_blocks (blocks_in (statements body))) m) →
     m1 ≡ put_each (compiled_blocks (blocks_of (st.Block x body))) m

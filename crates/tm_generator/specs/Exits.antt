@@ -1,5 +1,5 @@
 -- Jumps out of a loop's body, whose ends are known behind it.
-use Rattle.std.specs.Prelude.{ℕ, ◌+◌, List, [], ◌∷◌, ◌++◌, length, slice_set}
+use Rattle.std.specs.Prelude.{Bool, ℕ, ◌+◌, List, [], ◌∷◌, ◌++◌, length, slice_set}
 use Rattle.tm_syntax.specs.declared.tree.Stmt.{Stmt, If', For', Break, Continue, SetBlock', With', AutoEscape', Row_of-Stmt, end_of-Stmt as no_statement, more_of-Stmt as statement, Held-Stmt-If-2 as Otherwise, None' as no_else, Some' as otherwise}
 use Rattle.tm_syntax.specs.declared.tree.Target.{Target}
 use Rattle.tm_syntax.specs.declared.instruction.Instruction.{Instruction}
@@ -38,12 +38,12 @@ loop_end pc t body =
     start + length (statements_code outside start body) + 1
 
 -- a loop's code behind what is iterated, up to its jump back
-abbrev pub rounds_code : {n : _} → ℕ → Target → Row_of-Stmt n → List Instruction
-rounds_code pc t body =
+abbrev pub rounds_code : {n : _} → Bool → ℕ → Target → Row_of-Stmt n → List Instruction
+rounds_code recursive pc t body =
     let again = pc + 1 in
     let end = loop_end pc t body in
     let first = target_code (again + 1) t in
-    i.PushLoop for_flags ∷ i.Iterate end ∷ (first
+    i.PushLoop (for_flags recursive) ∷ i.Iterate end ∷ (first
     ++ (statements_code (record { again = again; behind = end; opened = [] }) (again + 1 + length first) body ++ i.Jump again ∷ []))
 
 -- what ends a loop with an else part, and this
@@ -57,7 +57,7 @@ abbrev mutual
   exits_of os pc (If' c _ body other) =
       let pc1 = pc + length (expr_code pc c) + 1 in
       exits_in os pc1 body ++ exits_else os (pc1 + length (statements_code (unset os) pc1 body)) other
-  exits_of os pc (For' t e c _ body other) = exits_behind os (loop_end (pc + length (iterable_code pc t e c)) t body) other
+  exits_of os pc (For' t e c recursive _ body other) = exits_behind os (loop_end (pc + length (iterable_code pc t e c)) t body) other
   exits_of os pc Break = Leave (pc + length (close_all os)) ∷ []
   exits_of os pc Continue = Next (pc + length (close_all os)) ∷ []
   exits_of os pc (SetBlock' t _ body) = exits_in (a_capture ∷ os) (pc + 1) body

@@ -18,8 +18,8 @@ use crate::targets::{push_assignments, push_set, push_target};
 use sqlite_items::{Boxed, Items};
 use std::alloc::Global;
 use tm_syntax::{
-    Argument, Assignment, BinaryOperator, CaptureMode, Comparison, Condition, Expr, Instruction,
-    Keyword, LoopFlags, Name, NameMap, Pair, Step, Stmt, Target, Tree, UnaryOperator,
+    Argument, Assignment, BinaryOperator, CaptureMode, Code, Comparison, Condition, Expr,
+    Instruction, Keyword, LoopFlags, Name, NameMap, Pair, Step, Stmt, Target, Tree, UnaryOperator,
 };
 use tm_values::{Error, ErrorKind, Value};
 
@@ -27,9 +27,9 @@ use tm_values::{Error, ErrorKind, Value};
 #[derive(Drop)]
 pub struct Streams {
     /// What a render runs.
-    pub root: Items<Instruction>,
+    pub root: Code,
     /// What its blocks run, by name.
-    pub blocks: NameMap<Items<Instruction>>,
+    pub blocks: NameMap<Code>,
 }
 
 /// The instruction of a prefix operator.
@@ -441,7 +441,7 @@ fn push_steps(alloc: Global, code: &mut Items<Instruction>, behind: &[Step]) -> 
 fn push_statement(
     alloc: Global,
     code: &mut Items<Instruction>,
-    blocks: &mut NameMap<Items<Instruction>>,
+    blocks: &mut NameMap<Code>,
     around: &mut Enclosing,
     statement: &Stmt,
 ) -> Result<(), Error>
@@ -459,6 +459,10 @@ fn push_statement(
             push_expr(alloc, code, expr.get())?;
             put(code, Instruction::Emit)
         }
+        Stmt::EmitLoop(argument) => {
+            push_expr(alloc, code, argument.get())?;
+            put(code, Instruction::FastRecurse)
+        }
         Stmt::If(condition, body, other) => {
             push_if(
                 alloc,
@@ -470,7 +474,7 @@ fn push_statement(
                 other,
             )
         }
-        Stmt::For(target, iterable, condition, body, other) => {
+        Stmt::For(target, iterable, condition, recursive, body, other) => {
             push_for(
                 alloc,
                 code,
@@ -479,6 +483,7 @@ fn push_statement(
                 target,
                 iterable.get(),
                 condition,
+                *recursive,
                 body.as_slice(),
                 other,
             )
@@ -515,7 +520,7 @@ fn push_statement(
 fn push_if(
     alloc: Global,
     code: &mut Items<Instruction>,
-    blocks: &mut NameMap<Items<Instruction>>,
+    blocks: &mut NameMap<Code>,
     around: &mut Enclosing,
     condition: &Expr,
     body: &[Stmt],
@@ -553,28 +558,29 @@ fn push_if(
 fn push_for(
     alloc: Global,
     code: &mut Items<Instruction>,
-    blocks: &mut NameMap<Items<Instruction>>,
+    blocks: &mut NameMap<Code>,
     around: &mut Enclosing,
     target: &Target,
     iterable: &Expr,
     condition: &Option<Boxed<Expr>>,
+    recursive: bool,
     body: &[Stmt],
     other: &Option<Items<Stmt>>,
 ) -> Result<(), Error>
     ensures code { OnOk result (code.new ≡ code.old
         ++ statement_code (unset around.old.opened) (length code.old)
-        (For target.now iterable.now condition.now body.now other.now)) }
+        (For target.now iterable.now condition.now recursive body.now other.now)) }
     ensures around { OnOk result (around.new ≡ with_exits around.old
         (exits_of around.old.opened (length code.old)
-        (For target.now iterable.now condition.now body.now other.now))) }
+        (For target.now iterable.now condition.now recursive body.now other.now))) }
     ensures blocks { OnOk result (blocks.new ≡ put_each
         (compiled_blocks
-        (blocks_of (For target.now iterable.now condition.now body.now other.now)))
+        (blocks_of (For target.now iterable.now condition.now recursive body.now other.now)))
         blocks.old) }
     ensures err { IfErr result (λ e. e ≡ OutOfMemory ∷ []) }
 {
     push_iterable(alloc, code, target, iterable, condition)?;
-    push_rounds(alloc, code, blocks, target, body)?;
+    push_rounds(alloc, code, blocks, target, recursive, body)?;
     let Some(other) = other else {
         return put(code, Instruction::PopLoopFrame);
     };
@@ -586,19 +592,20 @@ fn push_for(
 fn push_rounds(
     alloc: Global,
     code: &mut Items<Instruction>,
-    blocks: &mut NameMap<Items<Instruction>>,
+    blocks: &mut NameMap<Code>,
     target: &Target,
+    recursive: bool,
     body: &[Stmt],
 ) -> Result<(), Error>
     ensures code { OnOk result (code.new ≡ code.old
-        ++ rounds_code (length code.old) target.now (statements body.now)) }
+        ++ rounds_code recursive (length code.old) target.now (statements body.now)) }
     ensures blocks { OnOk result
         (blocks.new ≡ put_each (compiled_blocks (blocks_in (statements body.now))) blocks.old) }
     ensures err { IfErr result (λ e. e ≡ OutOfMemory ∷ []) }
 {
     let flags = LoopFlags {
         variable: true,
-        recursive: false,
+        recursive,
     };
     put(code, Instruction::PushLoop(flags))?;
     let again = code.len();
@@ -618,7 +625,7 @@ fn push_rounds(
 fn push_no_round(
     alloc: Global,
     code: &mut Items<Instruction>,
-    blocks: &mut NameMap<Items<Instruction>>,
+    blocks: &mut NameMap<Code>,
     around: &mut Enclosing,
     other: &[Stmt],
 ) -> Result<(), Error>
@@ -645,7 +652,7 @@ fn push_no_round(
 fn push_block(
     alloc: Global,
     code: &mut Items<Instruction>,
-    blocks: &mut NameMap<Items<Instruction>>,
+    blocks: &mut NameMap<Code>,
     name: &Name,
     body: &[Stmt],
 ) -> Result<(), Error>
@@ -665,7 +672,7 @@ fn push_block(
 fn push_set_block(
     alloc: Global,
     code: &mut Items<Instruction>,
-    blocks: &mut NameMap<Items<Instruction>>,
+    blocks: &mut NameMap<Code>,
     around: &mut Enclosing,
     target: &Target,
     body: &[Stmt],
@@ -692,7 +699,7 @@ fn push_set_block(
 fn push_with(
     alloc: Global,
     code: &mut Items<Instruction>,
-    blocks: &mut NameMap<Items<Instruction>>,
+    blocks: &mut NameMap<Code>,
     around: &mut Enclosing,
     given: &[Assignment],
     body: &[Stmt],
@@ -719,7 +726,7 @@ fn push_with(
 fn push_autoescape(
     alloc: Global,
     code: &mut Items<Instruction>,
-    blocks: &mut NameMap<Items<Instruction>>,
+    blocks: &mut NameMap<Code>,
     around: &mut Enclosing,
     value: &Expr,
     body: &[Stmt],
@@ -746,7 +753,7 @@ fn push_autoescape(
 fn push_statements(
     alloc: Global,
     code: &mut Items<Instruction>,
-    blocks: &mut NameMap<Items<Instruction>>,
+    blocks: &mut NameMap<Code>,
     around: &mut Enclosing,
     body: &[Stmt],
 ) -> Result<(), Error>
@@ -766,11 +773,7 @@ fn push_statements(
 
 /// The code of statements on their own, and that of their blocks; OutOfMemory.
 #[cycle(statements)]
-fn stream(
-    alloc: Global,
-    blocks: &mut NameMap<Items<Instruction>>,
-    body: &[Stmt],
-) -> Result<Items<Instruction>, Error>
+fn stream(alloc: Global, blocks: &mut NameMap<Code>, body: &[Stmt]) -> Result<Code, Error>
     ensures code { IfOk result (λ code. code ≡ stream_code (statements body.now)) }
     ensures blocks { OnOk result
         (blocks.new ≡ put_each (compiled_blocks (blocks_in (statements body.now))) blocks.old) }
@@ -781,7 +784,7 @@ fn stream(
     push_statements(alloc, &mut code, blocks, &mut around, body)?;
     let end = code.len();
     around.lead(&mut code, end, end);
-    Ok(code)
+    Ok(Code::new(alloc, code)?)
 }
 
 /// The streams of a tree, which share its texts and literals; OutOfMemory.

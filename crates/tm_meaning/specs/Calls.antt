@@ -12,7 +12,7 @@ use Rattle.tm_values.specs.declared.error.ErrorKind.{ErrorKind}
 use Rattle.tm_values.specs.declared.error.ErrorKind.TheVariants.{InvalidOperation, UnknownFunction, UnknownMethod, UnknownBlock}
 use Rattle.tm_meaning.specs.declared.function.GlobalFunction.{GlobalFunction}
 use Rattle.tm_meaning.specs.declared.function.GlobalFunction.TheVariants as own
-use Rattle.tm_meaning.specs.World.{TemplateId, StreamId, block_of, Named, find, put_each, same_name, Card, Layers, Loop, World, Host, View, Reply, gives, faults, Stated, Function, callers, languages, Res, Good, Bad, bind, answered, records_of, make_namespace, need, check, card_at, view_of, lookup, context_member, or_undefined, place_of, plain, push, pop}
+use Rattle.tm_meaning.specs.World.{TemplateId, own, entry, StreamId, block_of, Named, find, put_each, same_name, Card, Layers, Loop, World, Host, View, Reply, gives, faults, Stated, Function, callers, languages, Res, Good, Bad, bind, bad, answered, items_over, innermost, records_of, make_namespace, need, check, card_at, view_of, lookup, context_member, or_undefined, place_of, plain, push, pop}
 
 -- What is run: a whole stream.
 pub data Callee : Type 0 where
@@ -28,11 +28,12 @@ pub record Call : Type 0 where
   pub undo : Undo
   pub wrap : Option ErrorKind
 
--- A value, a fault, or a run that is needed and the world that it starts from.
+-- A value, a fault, a run that is needed and the world that it starts from, or the loop of a number of the stream that runs, which is called over these items.
 pub data Asked : Type 0 where
   has : Val → World → Asked
   refused : List ErrorKind → World → Asked
   runs : Call → World → Asked
+  recurs : ℕ → List Val → World → Asked
 
 abbrev pub ask : {A : Type 0} → Res A → (A → World → Asked) → Asked
 ask (Good a w) f = f a w
@@ -96,11 +97,6 @@ abbrev pub call_value : Host → Val → List Val → World → Asked
 call_value host (function n) args w = ask (need (slice_get host.functions n) InvalidOperation w) (λ f world1. call_by host f args world1)
 call_value host v args w = refused (InvalidOperation ∷ []) w
 
--- a name is called; it is looked up after its arguments
-abbrev pub call_named : Host → List ℕ → List Val → World → Asked
-call_named host x args w =
-    ask (lookup host x w) (λ found world1. ask (need found UnknownFunction world1) (λ f world2. call_value host f args world2))
-
 -- ---------------------------------------------------------------- methods
 -- whether these arguments differ from those that were kept last
 abbrev pub is_changed : Option (List Val) → List Val → Bool
@@ -162,3 +158,49 @@ call_method host x v args w =
 abbrev pub call_first : Host → List ℕ → List Val → World → Asked
 call_first host x [] w = refused (InvalidOperation ∷ []) w
 call_first host x (v ∷ args) w = call_method host x v args w
+
+-- ---------------------------------------------------------------- loops
+abbrev pub same_template : TemplateId → TemplateId → Bool
+same_template own own = true
+same_template (entry x) (entry y) = same_name x y
+same_template s t = false
+
+abbrev pub same_block : Option (List ℕ) → Option (List ℕ) → Bool
+same_block None None = true
+same_block (Some x) (Some y) = same_name x y
+same_block b c = false
+
+abbrev pub same_stream : StreamId → StreamId → Bool
+same_stream s t = same_template s.template t.template && same_block s.block t.block
+
+-- a kind before a fault
+abbrev pub wrapped_as : {A : Type 0} → ErrorKind → Res A → Res A
+wrapped_as kind (Good a w) = Good a w
+wrapped_as kind (Bad chain w) = Bad (kind ∷ chain) w
+
+-- A loop is called with a value: it has to be one that can be called, of the stream that runs, and the value has items.
+abbrev pub call_loop : Host → Loop → Val → World → Asked
+call_loop host l v w =
+    ask (check (l.recursive && same_stream l.stream w.stream) InvalidOperation w) (λ _ world1.
+    ask (wrapped_as InvalidOperation (items_over host v world1)) (λ items world2. recurs l.number items world2))
+
+-- the innermost loop is called
+abbrev pub call_innermost : Host → Val → World → Asked
+call_innermost host v w =
+    ask (need (innermost w.scopes.frames) UnknownFunction w) (λ n world1.
+    of_loop (slice_get world1.loops n) world1 (λ l. call_loop host l v world1))
+
+abbrev pub one_argument : List Val → World → Res Val
+one_argument (v ∷ []) w = Good v w
+one_argument vs w = bad InvalidOperation w
+
+-- what a name stands for is called: a loop of this state with one value, else as a value
+abbrev pub call_found : Host → Val → List Val → World → Asked
+call_found host (loop state n) args w =
+    of_loop (record_at w state n) w (λ l. ask (one_argument args w) (λ v world1. call_loop host l v world1))
+call_found host v args w = call_value host v args w
+
+-- a name is called; it is looked up after its arguments
+abbrev pub call_named : Host → List ℕ → List Val → World → Asked
+call_named host x args w =
+    ask (lookup host x w) (λ found world1. ask (need found UnknownFunction world1) (λ f world2. call_found host f args world2))

@@ -8,10 +8,11 @@ use Rattle.tm_syntax.specs.declared.instruction.CaptureMode.TheVariants as modes
 use Rattle.tm_syntax.specs.declared.tree.UnaryOperator.{UnaryOperator}
 use Rattle.tm_meaning.specs.declared.mark.LoopMark.{LoopMark}
 use Rattle.tm_syntax.specs.declared.tree.BinaryOperator.{BinaryOperator}
-use Rattle.tm_meaning.specs.World.{choose, World, Host, Loop, top_mark, top_loop, open_loop, next_turn, cleared, items_over, Res, Good, answered, looked_up, emitted, escape_for, with_escape, store, items_of, set_member, push, pop, plain}
-use Rattle.tm_meaning.specs.Calls.{enter_block, call_named, call_first}
+use Rattle.tm_meaning.specs.World.{choose, TemplateId, World, Host, Loop, top_mark, top_loop, open_loop, next_turn, cleared, items_over, Res, Good, answered, looked_up, emitted, escape_for, with_escape, store, items_of, set_member, push, pop, plain, captured_text}
+use Rattle.tm_syntax.specs.Loops.{loops_before}
+use Rattle.tm_meaning.specs.Calls.{enter_block, call_named, call_first, call_innermost}
 use Rattle.tm_meaning.specs.Meaning.{none_waits, truth, applied_unary, operated, attribute, item_at, slice_of, list_of_values, map_of_pairs, keyword_map}
-use Rattle.tm_meaning.specs.Machine.{Capture, Return, Activation, Config, Base, Next, More, after, on_top, take_n, on, goes, jumps, stuck, with_world, audible, writes, new_capture, captured_value, asked, asked_in_place}
+use Rattle.tm_meaning.specs.Machine.{Capture, Return, Activation, Config, Base, Next, More, after, on_top, take_n, on, goes, pushed, Program, jumps, stuck, with_world, audible, writes, new_capture, captured_value, asked, asked_in_place}
 
 -- ---------------------------------------------------------------- output
 abbrev pub emit_raw_of : Base → List ℕ → Config → Next
@@ -146,9 +147,10 @@ pop_frame_of f c =
 abbrev pub looping : List (Option Return) → Config → Config
 looping rs c = record c { run = record c.run { loops = rs } }
 
-abbrev pub push_loop_of : Host → LoopFlags → Config → Next
-push_loop_of host flags c =
-    on_top c.run.operands c.world (λ v vs. after (items_over host v c.world) (λ items w. after (open_loop host items flags w) (λ _ world1.
+abbrev pub push_loop_of : Program → LoopFlags → Config → Next
+push_loop_of p flags c =
+    on_top c.run.operands c.world (λ v vs. after (items_over p.host v c.world) (λ items w.
+    after (open_loop p.host items flags (loops_before c.run.place (p.code c.run.stream)) w) (λ _ world1.
     goes vs world1 (looping (None ∷ c.run.loops) c))))
 
 -- the innermost loop's record, where the run opened that and its scope is on top
@@ -168,11 +170,27 @@ abbrev pub push_did_not_iterate_of : Config → Next
 push_did_not_iterate_of c =
     on_loop c.run.loops (top_loop c.world) c.world (λ l. goes (boolean (nat_eq (length l.items) 0) ∷ c.run.operands) c.world c)
 
--- Where no call of it is open it is left; nothing calls one yet. One that stood before the run isn't left.
-abbrev pub pop_loop_with : List (Option Return) → Config → Next
-pop_loop_with (None ∷ rs) c = goes c.run.operands (pop c.world) (looping rs c)
-pop_loop_with _ c = stuck c.world
+-- the run as it was at the call of the loop that ends
+abbrev pub returned : Return → List (Option Return) → Config → Config
+returned r rs c =
+    record c { run = record c.run { place = r.place; operands = r.operands; escapes = r.escapes; floor = r.floor; loops = rs }; world = pop c.world }
 
+-- the innermost capture's text is the value, and the parent that waits is this one
+abbrev pub with_text : Option TemplateId → List Capture → Config → Next
+with_text parent [] c = stuck c.world
+with_text parent (k ∷ ks) c = More [] (record c { run = record (pushed (captured_text k.text c.world) c.run) { parent = parent }; captures = ks })
+
+abbrev pub returns : Return → Bool → Config → Next
+returns r false c = More [] c
+returns r true c = with_text r.parent c.captures c
+
+-- A loop that wasn't called is left, and one that was goes on where that was; its captures and escapes are closed.
+abbrev pub pop_loop_with : List (Option Return) → Config → Next
+pop_loop_with [] c = stuck c.world
+pop_loop_with (None ∷ rs) c = goes c.run.operands (pop c.world) (looping rs c)
+pop_loop_with (Some r ∷ rs) c = returns r r.value (returned r rs c)
+
+-- One that stood before the run isn't left.
 abbrev pub pop_loop_frame_of : Base → Config → Next
 pop_loop_frame_of f c =
     choose (nat_lt f.scopes (length c.world.scopes.frames))
@@ -211,15 +229,19 @@ abbrev pub pop_auto_escape_of : Config → Next
 pop_auto_escape_of c = pop_auto_escape_with c.run.escapes c
 
 -- ---------------------------------------------------------------- calls
-abbrev pub call_function_of : Host → List ℕ → ℕ → Config → Next
-call_function_of host x n c = take_n n c.run.operands c.world (λ vs rest. asked c rest (call_named host x vs c.world))
+abbrev pub call_function_of : Program → List ℕ → ℕ → Config → Next
+call_function_of p x n c = take_n n c.run.operands c.world (λ vs rest. asked p c rest (call_named p.host x vs c.world))
 
 -- the first of the values is called by its method
-abbrev pub call_method_of : Host → List ℕ → ℕ → Config → Next
-call_method_of host x n c = take_n n c.run.operands c.world (λ vs rest. asked c rest (call_first host x vs c.world))
+abbrev pub call_method_of : Program → List ℕ → ℕ → Config → Next
+call_method_of p x n c = take_n n c.run.operands c.world (λ vs rest. asked p c rest (call_first p.host x vs c.world))
 
-abbrev pub call_block_of : Host → Base → List ℕ → Config → Next
-call_block_of host f b c =
+abbrev pub call_block_of : Program → Base → List ℕ → Config → Next
+call_block_of p f b c =
     choose (none_waits c.run.parent && audible f c)
-    (λ _. asked_in_place f c c.run.operands (enter_block host b c.world))
+    (λ _. asked_in_place p f c c.run.operands (enter_block p.host b c.world))
     (λ _. goes c.run.operands c.world c)
+
+-- the innermost loop is called in place
+abbrev pub fast_recurse_of : Program → Base → Config → Next
+fast_recurse_of p f c = on_top c.run.operands c.world (λ v vs. asked_in_place p f c vs (call_innermost p.host v c.world))

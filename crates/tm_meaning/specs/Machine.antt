@@ -1,12 +1,15 @@
 -- The machine: where it stands, what a step gives, and how runs end.
-use Rattle.std.specs.Prelude.{ℕ, zero, suc, ◌+◌, List, [], ◌∷◌, ◌++◌, length, Option, Some, None, Bool, true, false, ◌&&◌, nat_lt, nat_eq}
+use Rattle.std.specs.Prelude.{ℕ, zero, suc, ◌+◌, List, [], ◌∷◌, ◌++◌, length, Option, Some, None, Bool, true, false, ◌&&◌, nat_lt, nat_eq, slice_get}
 use Rattle.tm_values.specs.Val.{Val, undefined}
 use Rattle.tm_values.specs.declared.error.ErrorKind.{ErrorKind}
+use Rattle.tm_values.specs.declared.error.ErrorKind.TheVariants.{InvalidOperation}
 use Rattle.tm_values.specs.declared.escape.AutoEscape.{AutoEscape}
 use Rattle.tm_syntax.specs.declared.instruction.Instruction.{Instruction}
 pub use Rattle.tm_meaning.specs.declared.base.Base.{Base}
-use Rattle.tm_meaning.specs.World.{choose, TemplateId, StreamId, World, Host, Res, Good, Bad, captured_text}
-use Rattle.tm_meaning.specs.Calls.{Callee, whole, Call, Asked, has, refused, runs, undone, wrapped}
+use Rattle.tm_meaning.specs.World.{choose, TemplateId, StreamId, World, Host, Res, Good, Bad, open_loop, captured_text}
+use Rattle.tm_meaning.specs.Calls.{Callee, whole, Call, Asked, has, refused, runs, recurs, undone, wrapped}
+use Rattle.tm_syntax.specs.declared.instruction.LoopPlace.{LoopPlace}
+use Rattle.tm_syntax.specs.Loops.{loop_places}
 use Rattle.tm_meaning.specs.Meaning.{none_waits}
 
 -- A text that waits for its capture's end, and whether it takes what is written.
@@ -14,12 +17,13 @@ pub record Capture : Type 0 where
   pub heard : Bool
   pub text : List ℕ
 
--- Where a loop goes on that was called: the run as it was, and whether the text is a value.
+-- Where a loop goes on that was called: the run as it was, and whether the text is a value, behind which the parent is as it was too.
 pub record Return : Type 0 where
   pub place : ℕ
   pub operands : List Val
   pub escapes : List AutoEscape
   pub floor : ℕ
+  pub parent : Option TemplateId
   pub value : Bool
 
 -- What is a run's own: its stream and the place in it, its operands, the topmost first, the escapes that its open `autoescape`s replaced,
@@ -174,14 +178,39 @@ back_to back (Finished ks w) = back_with back.value back.run ks (undone back.cal
 back_to back (Failed chain w) = Over (Failed (wrapped back.call.wrap chain) w)
 back_to back (Stuck w) = stuck w
 
+-- A loop is called over items: it begins at its place, over no operands, and goes on here behind it. One that can't be called there isn't.
+abbrev pub recursion : Program → Config → Bool → List Val → List Capture → ℕ → Option LoopPlace → List Val → World → Next
+recursion p c value vs ks n None items w = Over (Failed (InvalidOperation ∷ []) w)
+recursion p c value vs ks n (Some l) items w =
+    choose l.flags.recursive
+    (λ _. after (open_loop p.host items l.flags n w) (λ _ world1.
+    More [] (record {
+      run = record c.run {
+        place = l.place + 1;
+        operands = [];
+        escapes = [];
+        floor = length ks;
+        loops = Some (record { place = c.run.place + 1; operands = vs; escapes = c.run.escapes; floor = c.run.floor; parent = c.run.parent; value = value }) ∷ c.run.loops;
+      };
+      captures = ks;
+      world = world1;
+    })))
+    (λ _. Over (Failed (InvalidOperation ∷ []) w))
+
+-- where the loop of a number begins in the stream that runs
+abbrev pub place_of_loop : Program → Config → ℕ → Option LoopPlace
+place_of_loop p c n = slice_get (loop_places 0 (p.code c.run.stream)) n
+
 -- what a call comes to, over the operands below it: its value is pushed
-abbrev pub asked : Config → List Val → Asked → Next
-asked c vs (has v w) = goes (v ∷ vs) w c
-asked c vs (refused chain w) = Over (Failed chain w)
-asked c vs (runs k w) = nested_as_value vs c k w
+abbrev pub asked : Program → Config → List Val → Asked → Next
+asked p c vs (has v w) = goes (v ∷ vs) w c
+asked p c vs (refused chain w) = Over (Failed chain w)
+asked p c vs (runs k w) = nested_as_value vs c k w
+asked p c vs (recurs n items w) = recursion p c true vs (new_capture true ∷ c.captures) n (place_of_loop p c n) items w
 
 -- or it is made in place
-abbrev pub asked_in_place : Base → Config → List Val → Asked → Next
-asked_in_place f c vs (has v w) = goes vs w c
-asked_in_place f c vs (refused chain w) = Over (Failed chain w)
-asked_in_place f c vs (runs k w) = nested_in_place f vs c k w
+abbrev pub asked_in_place : Program → Base → Config → List Val → Asked → Next
+asked_in_place p f c vs (has v w) = goes vs w c
+asked_in_place p f c vs (refused chain w) = Over (Failed chain w)
+asked_in_place p f c vs (runs k w) = nested_in_place f vs c k w
+asked_in_place p f c vs (recurs n items w) = recursion p c false vs c.captures n (place_of_loop p c n) items w

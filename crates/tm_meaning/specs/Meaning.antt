@@ -1,5 +1,5 @@
 -- What trees mean. No stream's place and no operand stands here.
-use Rattle.std.specs.Prelude.{ℕ, zero, suc, ◌+◌, ◌^◌, ◌-◌, pos, List, [], ◌∷◌, ◌++◌, Option, Some, None, Bool, true, false, not, ◌&&◌, Ok, Err}
+use Rattle.std.specs.Prelude.{ℕ, zero, suc, ◌+◌, ◌^◌, ◌-◌, pos, List, [], ◌∷◌, ◌++◌, Option, Some, None, Bool, true, false, not, ◌&&◌, Ok, Err, slice_get}
 use Rattle.std.specs.Result.{result_map_both}
 use Rattle.tm_values.specs.Answer.{Answer}
 use Rattle.tm_values.specs.Map.{put_all}
@@ -30,11 +30,12 @@ use Rattle.tm_syntax.specs.declared.tree.Step.{Step, Attribute, Method', Row_of-
 use Rattle.tm_syntax.specs.declared.tree.Target.{Target, Name as To, Unpack' as Items, Attribute as Member, Row_of-Target, end_of-Target as no_target, more_of-Target as target}
 use Rattle.tm_syntax.specs.declared.tree.Assignment.{Assignment}
 use Rattle.tm_syntax.specs.declared.tree.Assignment.TheVariants.{Assignment as Given}
-use Rattle.tm_syntax.specs.declared.tree.Stmt.{Stmt, EmitRaw, EmitExpr, If', For', Break, Continue, Block', Set, SetBlock', With', Do, AutoEscape', Row_of-Stmt, end_of-Stmt as no_statement, more_of-Stmt as statement, Held-Stmt-If-2 as Otherwise, None' as no_else, Some' as otherwise}
+use Rattle.tm_syntax.specs.declared.tree.Stmt.{Stmt, EmitRaw, EmitExpr, EmitLoop, If', For', Break, Continue, Block', Set, SetBlock', With', Do, AutoEscape', Row_of-Stmt, end_of-Stmt as no_statement, more_of-Stmt as statement, Held-Stmt-If-2 as Otherwise, None' as no_else, Some' as otherwise}
 use Rattle.tm_syntax.specs.Forms.{unary, chained, conditional, condition, comparison, pair, plain, keyword, item, slice, binary, compare, and_then, or_else}
 use Rattle.tm_syntax.specs.Code.{count_targets, for_flags, filter_flags}
+use Rattle.tm_syntax.specs.Loops.{passes, within_loop, past, pasts, FoundLoop, loops_in}
 use Rattle.tm_meaning.specs.World.{choose, TemplateId, root_of, StreamId, World, Host, Res, Good, Bad, bind, answered, tick, ticked, looked_up, records_of, template_at, emitted, escape_for, with_escape, captured_text, open_loop, next_turn, cleared, items_over, store, set_member, items_of, push, pop, plain as plain_scope}
-use Rattle.tm_meaning.specs.Calls.{Callee, whole, Call, Asked, has, refused, runs, undone, wrapped, enter_block, call_named, call_method, own_blocks}
+use Rattle.tm_meaning.specs.Calls.{Callee, whole, Call, Asked, has, refused, runs, recurs, undone, wrapped, enter_block, call_named, call_method, call_innermost, own_blocks}
 use Rattle.tm_meaning.specs.Tree.{Body, Trees}
 
 -- ---------------------------------------------------------------- runs and outcomes
@@ -61,10 +62,15 @@ pub record Outcome : Type 0 where
 abbrev pub Nests : Type 0
 Nests = Callee → Bool → List ℕ → World → Outcome
 
--- What a statement stands under: the environment, and what nests.
+-- A loop of the stream that runs, by its number, called over these items: its rounds, in the scopes of the call.
+abbrev pub Again : Type 0
+Again = ℕ → List Val → Run → List ℕ → World → Outcome
+
+-- What a statement stands under: the environment, what nests, and the loops of its stream.
 pub record Under : Type 0 where
   pub host : Host
   pub nests : Nests
+  pub again : Again
 
 abbrev pub ended : Ending → Run → List ℕ → World → Outcome
 ended e run out w = record { ending = e; parent = run.parent; text = out; world = w }
@@ -104,10 +110,20 @@ abbrev pub value_behind : Ending → Call → Outcome → Res Val
 value_behind (fault chain) c o = Bad (wrapped c.wrap chain) o.world
 value_behind e c o = Good (captured_text o.text (undone c.undo o.world)) (undone c.undo o.world)
 
-abbrev pub value_of : Under → Asked → Res Val
-value_of u (has v w) = Good v w
-value_of u (refused chain w) = Bad chain w
-value_of u (runs c w) = let o = u.nests c.callee true [] w in value_behind o.ending c o
+-- a run inside a capture of its own, which takes what is written or not
+abbrev pub capturing : Bool → Run → Run
+capturing heard run = record run { heard = heard; inside = true }
+
+-- the text of a loop that was called, as a value
+abbrev pub text_behind : Ending → Outcome → Res Val
+text_behind (fault chain) o = Bad chain o.world
+text_behind e o = Good (captured_text o.text o.world) o.world
+
+abbrev pub value_of : Under → Run → Asked → Res Val
+value_of u run (has v w) = Good v w
+value_of u run (refused chain w) = Bad chain w
+value_of u run (runs c w) = let o = u.nests c.callee true [] w in value_behind o.ending c o
+value_of u run (recurs n items w) = let o = u.again n items (capturing true run) [] w in text_behind o.ending o
 
 -- a run that was needed, in place
 abbrev pub behind : Ending → Call → Run → Outcome → Outcome
@@ -118,6 +134,7 @@ abbrev pub in_place_of : Under → Run → List ℕ → Asked → Outcome
 in_place_of u run out (has v w) = so_far run out w
 in_place_of u run out (refused chain w) = ended (fault chain) run out w
 in_place_of u run out (runs c w) = let o = u.nests c.callee (audible run) out w in behind o.ending c run o
+in_place_of u run out (recurs n items w) = u.again n items run out w
 
 -- A block's tag does nothing unheard, nor where a parent waits.
 abbrev pub block_tag : Under → Run → List ℕ → List ℕ → World → Outcome
@@ -200,7 +217,7 @@ abbrev mutual
   eval u run (Map' _ ps) w = bind (eval_pairs u run ps w) (λ es world1. ticked world1 (λ world2. Good (map_of_pairs es) world2))
   eval u run (Call' f _ given _ named) w =
       bind (eval_arguments u run given w) (λ vs world1. bind (eval_named u run named world1) (λ ks world2.
-      ticked world2 (λ world3. value_of u (call_named u.host f (vs ++ ks) world3))))
+      ticked world2 (λ world3. value_of u run (call_named u.host f (vs ++ ks) world3))))
   eval u run (unary op a) w = bind (eval u run a w) (λ v world1. ticked world1 (λ world2. applied_unary u.host op v world2))
   eval u run (chained a _ ss) w = bind (eval u run a w) (λ v world1. eval_steps u run ss v world1)
   eval u run (conditional a _ cs) w = eval_conditions u run cs (λ world1. eval u run a world1) w
@@ -258,7 +275,7 @@ abbrev mutual
   eval_step u run (Attribute x) v w = ticked w (λ world1. attribute u.host v x world1)
   eval_step u run (Method' x _ given _ named) v w =
       bind (eval_arguments u run given w) (λ vs world1. bind (eval_named u run named world1) (λ ks world2.
-      ticked world2 (λ world3. value_of u (call_method u.host x v (vs ++ ks) world3))))
+      ticked world2 (λ world3. value_of u run (call_method u.host x v (vs ++ ks) world3))))
   eval_step u run (item a) v w = bind (eval u run a w) (λ k world1. ticked world1 (λ world2. item_at u.host v k world2))
   eval_step u run (slice a b c) v w =
       bind (eval u run a w) (λ x world1. bind (eval u run b world1) (λ y world2. bind (eval u run c world2) (λ z world3. ticked world3 (λ world4. slice_of u.host v x y z world4))))
@@ -310,10 +327,6 @@ closing_by e close o = record o { world = close o.world }
 abbrev pub closing : (World → World) → Outcome → Outcome
 closing close o = closing_by o.ending close o
 
--- a run inside a capture of its own, which takes what is written or not
-abbrev pub capturing : Bool → Run → Run
-capturing heard run = record run { heard = heard; inside = true }
-
 -- A capture: its text goes on; where its body left a loop or went on with the next item the text is dropped, behind the charge of the capture's end.
 abbrev pub captured_by : Ending → Outcome → Run → List ℕ → (Run → List ℕ → World → Outcome) → Outcome
 captured_by done o run out f = f run o.text o.world
@@ -348,8 +361,8 @@ rounds turn (v ∷ vs) run out w =
     let o = turn v run out (cleared (next_turn world1)) in
     round_end o.ending (record run { parent = o.parent }) o (λ run1 out1 world2. rounds turn vs run1 out1 world2))
 
-abbrev pub loop_over : Host → (Val → Run → List ℕ → World → Outcome) → List Val → Run → List ℕ → World → Outcome
-loop_over host turn vs run out w = use_it (open_loop host vs for_flags w) run out (λ _ world1. rounds turn vs run out world1)
+abbrev pub loop_over : Host → ℕ → Bool → (Val → Run → List ℕ → World → Outcome) → List Val → Run → List ℕ → World → Outcome
+loop_over host n recursive turn vs run out w = use_it (open_loop host vs (for_flags recursive) n w) run out (λ _ world1. rounds turn vs run out world1)
 
 -- The count of what is taken, one more as numbers are added, behind three charges.
 abbrev pub one_counted : ℕ → World → Res Val
@@ -367,11 +380,11 @@ kept host test n (v ∷ vs) w =
     (λ _. ticked world4 (λ world5. kept host test n vs world5))))))
 
 -- what a loop goes over: with a condition the items for which that is true, in a loop without the name `loop` before it
-abbrev pub loop_items : Under → Run → Target → Expr → Option Expr → World → Res (List Val)
-loop_items u run t e None w = bind (eval u run e w) (λ v world1. items_over u.host v world1)
-loop_items u run t e (Some c) w =
+abbrev pub loop_items : Under → ℕ → Run → Target → Expr → Option Expr → World → Res (List Val)
+loop_items u at run t e None w = bind (eval u run e w) (λ v world1. items_over u.host v world1)
+loop_items u at run t e (Some c) w =
     ticked w (λ world1. bind (eval u run e world1) (λ v world2. bind (items_over u.host v world2) (λ vs world3.
-    bind (open_loop u.host vs filter_flags world3) (λ _ world4.
+    bind (open_loop u.host vs filter_flags at world3) (λ _ world4.
     bind (kept u.host (λ x world5. bind (assign u run t x world5) (λ _ world6. eval u run c world6)) 0 vs world4) (λ us world5.
     ticked world5 (λ world6. Good us world6))))))
 
@@ -380,47 +393,49 @@ has_none [] = true
 has_none (v ∷ vs) = false
 
 abbrev mutual
-  pub exec : Under → Stmt → Run → List ℕ → World → Outcome
-  exec u (EmitRaw t) run out w = use_it (tick w) run out (λ _ world1. so_far run (say run t out) world1)
-  exec u (EmitExpr e) run out w = use_it (eval u run e w) run out (λ v world1. emit u run out v world1)
-  exec u (If' c _ body other) run out w =
+  pub exec : Under → ℕ → Stmt → Run → List ℕ → World → Outcome
+  exec u at (EmitRaw t) run out w = use_it (tick w) run out (λ _ world1. so_far run (say run t out) world1)
+  exec u at (EmitExpr e) run out w = use_it (eval u run e w) run out (λ v world1. emit u run out v world1)
+  exec u at (EmitLoop e) run out w =
+      use_it (eval u run e w) run out (λ v world1. use_it (tick world1) run out (λ _ world2. in_place_of u run out (call_innermost u.host v world2)))
+  exec u at (If' c _ body other) run out w =
       use_it (eval u run c w) run out (λ v world1. use_it (tick world1) run out (λ _ world2. use_it (truth u.host v world2) run out (λ b world3.
-      choose b (λ _. behind_first other run (execs u body run out world3)) (λ _. exec_else u other run out world3))))
-  exec u (For' t e c _ body other) run out w =
-      use_it (loop_items u run t e c w) run out (λ vs world1.
+      choose b (λ _. behind_first other run (execs u at body run out world3)) (λ _. exec_else u (pasts at body) other run out world3))))
+  exec u at (For' t e c recursive _ body other) run out w =
+      use_it (loop_items u at run t e c w) run out (λ vs world1.
       then_do run
-      (loop_over u.host (λ item run1 out1 world2. use_it (assign u run1 t item world2) run1 out1 (λ _ world3. execs u body run1 out1 world3)) vs run out world1)
-      (λ run1 out1 world2. exec_behind_loop u other (has_none vs) run1 out1 world2))
-  exec u Break run out w = ended leave run out w
-  exec u Continue run out w = ended next run out w
-  exec u (Block' b _ body) run out w = use_it (tick w) run out (λ _ world1. block_tag u run b out world1)
-  exec u (Set t e) run out w = use_it (set_to u run t e w) run out (λ _ world1. so_far run out world1)
-  exec u (SetBlock' t _ body) run out w =
-      captured (execs u body (capturing true run) [] w) run out (λ run1 x world1.
+      (loop_over u.host (at + passes c) recursive (λ item run1 out1 world2. use_it (assign u run1 t item world2) run1 out1 (λ _ world3. execs u (within_loop c at) body run1 out1 world3)) vs run out world1)
+      (λ run1 out1 world2. exec_behind_loop u (pasts (within_loop c at) body) other (has_none vs) run1 out1 world2))
+  exec u at Break run out w = ended leave run out w
+  exec u at Continue run out w = ended next run out w
+  exec u at (Block' b _ body) run out w = use_it (tick w) run out (λ _ world1. block_tag u run b out world1)
+  exec u at (Set t e) run out w = use_it (set_to u run t e w) run out (λ _ world1. so_far run out world1)
+  exec u at (SetBlock' t _ body) run out w =
+      captured (execs u at body (capturing true run) [] w) run out (λ run1 x world1.
       use_it (tick world1) run1 out (λ _ world2.
       use_it (assign u run1 t (captured_text x world2) world2) run1 out (λ _ world3. so_far run1 out world3)))
-  exec u (With' given _ body) run out w =
+  exec u at (With' given _ body) run out w =
       use_it (push u.host (plain_scope (undefined false)) w) run out (λ _ world1.
-      use_it (set_each u run given world1) run out (λ _ world2. closing pop (execs u body run out world2)))
-  exec u (Do e) run out w = use_it (eval u run e w) run out (λ _ world1. so_far run out world1)
-  exec u (AutoEscape' e _ body) run out w =
+      use_it (set_each u run given world1) run out (λ _ world2. closing pop (execs u at body run out world2)))
+  exec u at (Do e) run out w = use_it (eval u run e w) run out (λ _ world1. so_far run out world1)
+  exec u at (AutoEscape' e _ body) run out w =
       use_it (eval u run e w) run out (λ v world1.
       use_it (answered (escape_for run.first v) world1) run out (λ x world2.
-      closing (with_escape world2.escape) (execs u body run out (with_escape x world2))))
+      closing (with_escape world2.escape) (execs u at body run out (with_escape x world2))))
 
-  pub execs : {n : _} → Under → Row_of-Stmt n → Run → List ℕ → World → Outcome
-  execs u no_statement run out w = so_far run out w
-  execs u (statement s ss) run out w = then_do run (exec u s run out w) (λ run1 out1 world1. execs u ss run1 out1 world1)
+  pub execs : {n : _} → Under → ℕ → Row_of-Stmt n → Run → List ℕ → World → Outcome
+  execs u at no_statement run out w = so_far run out w
+  execs u at (statement s ss) run out w = then_do run (exec u at s run out w) (λ run1 out1 world1. execs u (past at s) ss run1 out1 world1)
 
-  pub exec_else : Under → Otherwise → Run → List ℕ → World → Outcome
-  exec_else u no_else run out w = so_far run out w
-  exec_else u (otherwise _ body) run out w = execs u body run out w
+  pub exec_else : Under → ℕ → Otherwise → Run → List ℕ → World → Outcome
+  exec_else u at no_else run out w = so_far run out w
+  exec_else u at (otherwise _ body) run out w = execs u at body run out w
 
   -- what runs where a loop had no items, behind its test, which is charged
-  pub exec_behind_loop : Under → Otherwise → Bool → Run → List ℕ → World → Outcome
-  exec_behind_loop u no_else none_taken run out w = so_far run out w
-  exec_behind_loop u (otherwise _ body) none_taken run out w =
-      use_it (tick w) run out (λ _ world1. choose none_taken (λ _. execs u body run out world1) (λ _. so_far run out world1))
+  pub exec_behind_loop : Under → ℕ → Otherwise → Bool → Run → List ℕ → World → Outcome
+  exec_behind_loop u at no_else none_taken run out w = so_far run out w
+  exec_behind_loop u at (otherwise _ body) none_taken run out w =
+      use_it (tick w) run out (λ _ world1. choose none_taken (λ _. execs u at body run out world1) (λ _. so_far run out world1))
 
 -- ---------------------------------------------------------------- runs
 abbrev pub failed : ErrorKind → Run → List ℕ → World → Outcome
@@ -441,13 +456,33 @@ at_end (fault chain) o = o
 at_end e o = done_by (tick o.world) o
 
 abbrev pub stream_run : Under → Body → Run → List ℕ → World → Outcome
-stream_run u body run out w = let o = execs u body.row run out w in at_end o.ending o
+stream_run u body run out w = let o = execs u 0 body.row run out w in at_end o.ending o
+
+abbrev pub over : Host → Nests → Again → Under
+over host nests again = record { host = host; nests = nests; again = again }
+
+-- what a round of a loop does with its item
+abbrev pub turn_of : Under → FoundLoop → Val → Run → List ℕ → World → Outcome
+turn_of u l v run out w = use_it (assign u run l.target v w) run out (λ _ world1. execs u l.at l.body.row run out world1)
+
+abbrev pub again_in : Under → Option FoundLoop → Again
+again_in u None n items run out w = failed InvalidOperation run out w
+again_in u (Some l) n items run out w = choose l.recursive (λ _. loop_over u.host n true (turn_of u l) items run out w) (λ _. failed InvalidOperation run out w)
+
+-- the loops of a stream, over as many levels: level zero isn't reached, since each call opens a scope
+abbrev pub again_of : Host → Nests → Body → ℕ → Again
+again_of host nests body zero n items run out w = failed InvalidOperation run out w
+again_of host nests body (suc k) n items run out w =
+    again_in (over host nests (again_of host nests body k)) (slice_get (loops_in 0 body.row) n) n items run out w
+
+abbrev pub under : Host → Nests → Body → Under
+under host nests body = over host nests (again_of host nests body (host.limit + 1))
 
 -- what nests, over as many levels of depth: level zero isn't reached, since each stands at least one deeper
 abbrev pub nests_of : Host → Trees → ℕ → Nests
 nests_of host trees zero callee heard out w = failed InvalidOperation (new_run heard w) out w
 nests_of host trees (suc n) (whole s) heard out w =
-    stream_run (record { host = host; nests = nests_of host trees n }) (trees s) (new_run heard w) out w
+    stream_run (under host (nests_of host trees n) (trees s)) (trees s) (new_run heard w) out w
 
 -- ---------------------------------------------------------------- renders
 abbrev pub first_fuel : Option ℕ → ℕ

@@ -1,6 +1,6 @@
 -- Worked renders, through the meaning, and through the code and the machine.
 use Rattle.std.specs.Prelude.{◌≡◌, ℕ, ◌-◌, List, [], ◌∷◌, map as each, Option, Some, None, Bool, true, false, codes, pos}
-use Rattle.tm_values.specs.Val.{Val, undefined, boolean, number, text, map, function, pairs_of}
+use Rattle.tm_values.specs.Val.{Val, undefined, boolean, number, text, list, map, function, vals_of, pairs_of}
 use Rattle.tm_values.specs.declared.error.ErrorKind.{ErrorKind}
 use Rattle.tm_values.specs.declared.error.ErrorKind.TheVariants as kind
 use Rattle.tm_values.specs.declared.escape.AutoEscape.TheVariants as escapes
@@ -13,7 +13,7 @@ use Rattle.tm_syntax.specs.declared.tree.Step.{Step, Attribute, Method', end_of-
 use Rattle.tm_syntax.specs.declared.tree.Target.{Target, Name as To, Unpack' as Items, Attribute as Member, end_of-Target as no_target, more_of-Target as target}
 use Rattle.tm_syntax.specs.declared.tree.Assignment.{Assignment}
 use Rattle.tm_syntax.specs.declared.tree.Assignment.TheVariants.{Assignment as Given}
-use Rattle.tm_syntax.specs.declared.tree.Stmt.{Stmt, EmitRaw, EmitExpr, If', For', Break, Continue, Block', Set, SetBlock', With', Do, AutoEscape', end_of-Stmt as no_statement, more_of-Stmt as statement, Held-Stmt-If-2 as Otherwise, None' as no_else, Some' as otherwise}
+use Rattle.tm_syntax.specs.declared.tree.Stmt.{Stmt, EmitRaw, EmitExpr, EmitLoop, If', For', Break, Continue, Block', Set, SetBlock', With', Do, AutoEscape', end_of-Stmt as no_statement, more_of-Stmt as statement, Held-Stmt-If-2 as Otherwise, None' as no_else, Some' as otherwise}
 use Rattle.tm_syntax.specs.Forms.{unary, chained, conditional, condition, comparison, plain, keyword, binary, compare, and_then, or_else}
 use Rattle.tm_meaning.specs.Compiled.{code_of}
 use Rattle.tm_meaning.specs.World.{Bindings, find, own, World, Host, View, Reply, gives, faults, Stated, Function, callers, languages}
@@ -86,7 +86,7 @@ abbrev pub ran : Page → Option ℕ → Said
 ran p fuel =
     let w = world_of p fuel in
     let f = base_of true [] w in
-    said_by (run_for 100 (program_of p) f [] (step_of (program_of p) f (start (whole w.stream) [] w)))
+    said_by (run_for 200 (program_of p) f [] (step_of (program_of p) f (start (whole w.stream) [] w)))
 
 -- What the page means under this fuel, and what its code comes to.
 abbrev pub Says : Page → ℕ → List ℕ → ℕ → List ErrorKind → Type 0
@@ -98,6 +98,10 @@ Charges p t charges = Says p 1000 t (1000 - charges) []
 
 abbrev pub Fails : Page → List ℕ → List ErrorKind → Type 0
 Fails p t chain = ((meant p None).text ≡ t) × ((meant p None).chain ≡ chain) × ((ran p None).text ≡ t) × ((ran p None).chain ≡ chain)
+
+-- and where all is done
+abbrev pub Shows : Page → List ℕ → Type 0
+Shows p t = Fails p t []
 
 -- ---------------------------------------------------------------- contexts
 abbrev pub nothing : Val
@@ -288,7 +292,7 @@ abbrev pub alone_in_list : Expr → Expr
 alone_in_list e = List' (tt ∷ []) (expr e no_expr)
 
 abbrev pub for_x : Expr → Stmt → Otherwise → Stmt
-for_x e s other = For' (To (codes "x")) e None (tt ∷ []) (statement s no_statement) other
+for_x e s other = For' (To (codes "x")) e None false (tt ∷ []) (statement s no_statement) other
 
 -- {% for x in [1,2] %}{{ x }}{% endfor %}
 abbrev pub each_number : Page
@@ -296,7 +300,7 @@ each_number = page (one (for_x (numbers 1 2) (EmitExpr x) no_else)) nothing
 
 -- {% for x in [] %}{% else %}E{% endfor %}
 abbrev pub no_round : Page
-no_round = page (one (For' (To (codes "x")) (List' [] no_expr) None [] no_statement (else_one (raw (codes "E"))))) nothing
+no_round = page (one (For' (To (codes "x")) (List' [] no_expr) None false [] no_statement (else_one (raw (codes "E"))))) nothing
 
 -- {% for x in [1] %}{% break %}{% else %}E{% endfor %}
 abbrev pub broken_round : Page
@@ -316,14 +320,14 @@ continue_in_scope = page (one (for_x (numbers 1 2) (With' [] (tt ∷ tt ∷ []) 
 -- {% for x in [1,2] %}{{ loop.revindex }}{{ loop.previtem }}{% endfor %}
 abbrev pub loop_members : Page
 loop_members =
-    page (one (For' (To (codes "x")) (numbers 1 2) None (tt ∷ tt ∷ [])
+    page (one (For' (To (codes "x")) (numbers 1 2) None false (tt ∷ tt ∷ [])
     (statement (EmitExpr (and_one (named (codes "loop")) (Attribute (codes "revindex"))))
     (statement (EmitExpr (and_one (named (codes "loop")) (Attribute (codes "previtem")))) no_statement)) no_else)) nothing
 
 -- {% for x in [1,2] %}{{ y }}{% set y = x %}{% endfor %}
 abbrev pub set_in_round : Page
 set_in_round =
-    page (one (For' (To (codes "x")) (numbers 1 2) None (tt ∷ tt ∷ [])
+    page (one (For' (To (codes "x")) (numbers 1 2) None false (tt ∷ tt ∷ [])
     (statement (EmitExpr (named (codes "y"))) (statement (Set (To (codes "y")) x) no_statement)) no_else)) nothing
 
 -- {% for x in [1,2] if x > n %}{{ x }}{% endfor %}
@@ -331,22 +335,22 @@ abbrev pub above : ℕ → Expr
 above n = and_one x (binary binaries.Greater (literal_number n))
 
 abbrev pub chosen : ℕ → Page
-chosen n = page (one (For' (To (codes "x")) (numbers 1 2) (Some (above n)) (tt ∷ []) (statement (EmitExpr x) no_statement) (else_one (raw (codes "E"))))) nothing
+chosen n = page (one (For' (To (codes "x")) (numbers 1 2) (Some (above n)) false (tt ∷ []) (statement (EmitExpr x) no_statement) (else_one (raw (codes "E"))))) nothing
 
 abbrev pub chosen_alone : Page
-chosen_alone = page (one (For' (To (codes "x")) (numbers 1 2) (Some (above 1)) (tt ∷ []) (statement (EmitExpr x) no_statement) no_else)) nothing
+chosen_alone = page (one (For' (To (codes "x")) (numbers 1 2) (Some (above 1)) false (tt ∷ []) (statement (EmitExpr x) no_statement) no_else)) nothing
 
 -- {% for x in [1,2] if x > 1 %}{{ loop.index }}{% endfor %}
 abbrev pub chosen_index : Page
-chosen_index = page (one (For' (To (codes "x")) (numbers 1 2) (Some (above 1)) (tt ∷ []) (statement (EmitExpr (and_one (named (codes "loop")) (Attribute (codes "index")))) no_statement) no_else)) nothing
+chosen_index = page (one (For' (To (codes "x")) (numbers 1 2) (Some (above 1)) false (tt ∷ []) (statement (EmitExpr (and_one (named (codes "loop")) (Attribute (codes "index")))) no_statement) no_else)) nothing
 
 -- {% for x in [1,2] if loop %}{{ x }}{% else %}E{% endfor %}
 abbrev pub chosen_by_loop : Page
-chosen_by_loop = page (one (For' (To (codes "x")) (numbers 1 2) (Some (named (codes "loop"))) (tt ∷ []) (statement (EmitExpr x) no_statement) (else_one (raw (codes "E"))))) nothing
+chosen_by_loop = page (one (For' (To (codes "x")) (numbers 1 2) (Some (named (codes "loop"))) false (tt ∷ []) (statement (EmitExpr x) no_statement) (else_one (raw (codes "E"))))) nothing
 
 -- {% for x in 1 %}{% endfor %}
 abbrev pub over_a_number : Page
-over_a_number = page (one (For' (To (codes "x")) (literal_number 1) None [] no_statement no_else)) nothing
+over_a_number = page (one (For' (To (codes "x")) (literal_number 1) None false [] no_statement no_else)) nothing
 
 -- ---------------------------------------------------------------- functions
 abbrev pub answers : Reply → Stated
@@ -461,13 +465,13 @@ method_two e m a b = and_one e (Method' m (tt ∷ tt ∷ []) (argument (plain a)
 -- {% for x in [1,1,2] %}{{ loop.changed(x) }} {% endfor %}
 abbrev pub changed_or_not : Page
 changed_or_not =
-    page (one (For' (To (codes "x")) (List' (tt ∷ tt ∷ tt ∷ []) (expr (literal_number 1) (expr (literal_number 1) (expr (literal_number 2) no_expr)))) None (tt ∷ tt ∷ [])
+    page (one (For' (To (codes "x")) (List' (tt ∷ tt ∷ tt ∷ []) (expr (literal_number 1) (expr (literal_number 1) (expr (literal_number 2) no_expr)))) None false (tt ∷ tt ∷ [])
     (statement (EmitExpr (method_one (named (codes "loop")) (codes "changed") x)) (statement (raw (codes " ")) no_statement)) no_else)) nothing
 
 -- {% for x in [1,2] %}{{ loop.cycle("x", "y") }}{% endfor %}, over three numbers
 abbrev pub by_turns : Page
 by_turns =
-    page (one (For' (To (codes "x")) (List' (tt ∷ tt ∷ tt ∷ []) (expr (literal_number 1) (expr (literal_number 1) (expr (literal_number 2) no_expr)))) None (tt ∷ [])
+    page (one (For' (To (codes "x")) (List' (tt ∷ tt ∷ tt ∷ []) (expr (literal_number 1) (expr (literal_number 1) (expr (literal_number 2) no_expr)))) None false (tt ∷ [])
     (statement (EmitExpr (method_two (named (codes "loop")) (codes "cycle") (literal (codes "x")) (literal (codes "y")))) no_statement) no_else)) nothing
 
 -- {% for x in [1,2] %}{{ loop.cycle() }}{% endfor %}
@@ -487,3 +491,75 @@ method_of_map f =
 -- {{ nope.m() }}
 abbrev pub method_of_undefined : Page
 method_of_undefined = page (one (EmitExpr (method_none (named (codes "nope")) (codes "m")))) nothing
+
+-- ---------------------------------------------------------------- loops that are called
+abbrev pub recursive_one : Expr → Stmt → Stmt
+recursive_one e s = For' (To (codes "x")) e None true (tt ∷ []) (statement s no_statement) no_else
+
+abbrev pub recursive_two : Expr → Stmt → Stmt → Stmt
+recursive_two e s t = For' (To (codes "x")) e None true (tt ∷ tt ∷ []) (statement s (statement t no_statement)) no_else
+
+abbrev pub nothing_in_list : Expr
+nothing_in_list = alone_in_list (List' [] no_expr)
+
+-- {% for x in [[]] recursive %}a{{ loop(x) }}{% endfor %}
+abbrev pub called_in_place : Page
+called_in_place = page (one (recursive_two nothing_in_list (raw (codes "a")) (EmitLoop x))) nothing
+
+-- {% for x in [1] recursive %}{{ loop(x) }}{% endfor %}
+abbrev pub called_over_a_number : Page
+called_over_a_number = page (one (recursive_one (alone_in_list (literal_number 1)) (EmitLoop x))) nothing
+
+-- {% for x in [[]] %}{{ loop(x) }}{% endfor %}
+abbrev pub not_recursive : Page
+not_recursive = page (one (for_x nothing_in_list (EmitLoop x) no_else)) nothing
+
+-- {{ loop([]) }}
+abbrev pub no_loop_to_call : Page
+no_loop_to_call = page (one (EmitLoop (List' [] no_expr))) nothing
+
+-- {% for x in [[]] recursive %}{{ loop(x, 1) }}{% endfor %}
+abbrev pub called_with_too_many : Page
+called_with_too_many =
+    page (one (recursive_one nothing_in_list (EmitExpr (Call' (codes "loop") (tt ∷ tt ∷ []) (argument (plain x) (argument (plain (literal_number 1)) no_argument)) [] no_keyword)))) nothing
+
+-- {% for x in [1] recursive %}{% for y in [2] %}{{ loop.depth }}{% endfor %}{% endfor %}
+abbrev pub depth_inside_recursive : Page
+depth_inside_recursive =
+    page (one (recursive_one (alone_in_list (literal_number 1))
+    (For' (To (codes "y")) (alone_in_list (literal_number 2)) None false (tt ∷ []) (statement (EmitExpr (and_one (named (codes "loop")) (Attribute (codes "depth")))) no_statement) no_else))) nothing
+
+-- a node: what it shows, and the nodes below it
+abbrev pub node : List ℕ → List Val → Val
+node v below = map (pairs_of ((text (codes "c") false, list (vals_of below)) ∷ (text (codes "v") false, text v false) ∷ []))
+
+abbrev pub tree : Val
+tree = list (vals_of (node (codes "1") (node (codes "2") [] ∷ []) ∷ node (codes "3") [] ∷ []))
+
+abbrev pub x_v : Expr
+x_v = and_one x (Attribute (codes "v"))
+
+abbrev pub x_c : Expr
+x_c = and_one x (Attribute (codes "c"))
+
+-- {% for x in tree recursive %}{{ x.v }}({{ loop(x.c) }}){% else %}E{% endfor %}
+abbrev pub tree_in_place : Page
+tree_in_place =
+    page (one (For' (To (codes "x")) (named (codes "tree")) None true (tt ∷ tt ∷ tt ∷ tt ∷ [])
+    (statement (EmitExpr x_v) (statement (raw (codes "(")) (statement (EmitLoop x_c) (statement (raw (codes ")")) no_statement)))) (else_one (raw (codes "E"))))) (with_value (codes "tree") tree)
+
+-- {% for x in tree recursive %}{{ x.v ~ "[" ~ loop(x.c) ~ "]" }}{% endfor %}
+abbrev pub tree_as_value : Page
+tree_as_value =
+    page (one (recursive_one (named (codes "tree")) (EmitExpr (chained x (tt ∷ tt ∷ tt ∷ tt ∷ [])
+    (step (Attribute (codes "v")) (step (binary binaries.Concatenate (literal (codes "["))) (step (binary binaries.Concatenate (called (codes "loop") x_c))
+    (step (binary binaries.Concatenate (literal (codes "]"))) no_step)))))))) (with_value (codes "tree") tree)
+
+-- {% set ns = namespace() %}{% for x in [1] recursive %}{{ x }}{% set ns.l = loop %}{% endfor %}{% set l = ns.l %}{{ l([2,3]) }}
+abbrev pub called_behind_its_end : Page
+called_behind_its_end =
+    with_languages (page (body_of
+    (statement (Set (To (codes "ns")) (call_none (codes "namespace")))
+    (statement (recursive_two (alone_in_list (literal (codes "1"))) (EmitExpr x) (Set (Member ns (codes "l")) (named (codes "loop"))))
+    (statement (Set (To (codes "l")) (and_one ns (Attribute (codes "l"))))
+    (statement (EmitExpr (called (codes "l") (List' (tt ∷ tt ∷ []) (expr (literal (codes "2")) (expr (literal (codes "3")) no_expr))))) no_statement))))) nothing)

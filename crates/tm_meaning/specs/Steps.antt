@@ -7,7 +7,7 @@ use Rattle.tm_syntax.specs.declared.tree.UnaryOperator.TheVariants as unaries
 use Rattle.tm_syntax.specs.declared.tree.BinaryOperator.TheVariants as binaries
 use Rattle.tm_meaning.specs.World.{choose, World, Host, Res, pays}
 use Rattle.tm_meaning.specs.Machine.{Config, Return, Base, End, Finished, Back, back_to, Next, More, Over, Nest, Program, after, stuck, with_world}
-use Rattle.tm_meaning.specs.Instructions.{emit_raw_of, emit_of, lookup_of, load_const_of, get_attr_of, unary_of, binary_of, compare_and_preserve_of, swap_of, dup_top_of, discard_top_of, get_item_of, slice_instruction_of, build_list_of, build_map_of, build_kwargs_of, jump_of, jump_if_false_of, jump_if_false_or_pop_of, jump_if_true_or_pop_of, call_function_of, call_method_of, call_block_of, store_local_of, unpack_list_of, set_attr_of, push_with_of, pop_frame_of, push_loop_of, iterate_of, push_did_not_iterate_of, pop_loop_frame_of, begin_capture_of, end_capture_of, push_auto_escape_of, pop_auto_escape_of}
+use Rattle.tm_meaning.specs.Instructions.{emit_raw_of, emit_of, lookup_of, load_const_of, get_attr_of, unary_of, binary_of, compare_and_preserve_of, swap_of, dup_top_of, discard_top_of, get_item_of, slice_instruction_of, build_list_of, build_map_of, build_kwargs_of, jump_of, jump_if_false_of, jump_if_false_or_pop_of, jump_if_true_or_pop_of, call_function_of, call_method_of, fast_recurse_of, call_block_of, store_local_of, unpack_list_of, set_attr_of, push_with_of, pop_frame_of, push_loop_of, iterate_of, push_did_not_iterate_of, pop_loop_frame_of, begin_capture_of, end_capture_of, push_auto_escape_of, pop_auto_escape_of}
 
 -- what an instruction is charged: 0 where it is free
 abbrev pub charge_of : Instruction → ℕ
@@ -27,59 +27,60 @@ charge_of _ = 1
 abbrev pub pay : Instruction → World → Res (Unit {0})
 pay x w = pays (charge_of x) w
 
-abbrev pub effect : Host → Base → Instruction → Config → Next
-effect host f (i.EmitRaw t) c = emit_raw_of f t c
-effect host f i.Emit c = emit_of host f c
-effect host f (i.Lookup x) c = lookup_of host x c
-effect host f (i.LoadConst v) c = load_const_of v c
-effect host f (i.GetAttr x) c = get_attr_of host x c
-effect host f i.GetItem c = get_item_of host c
-effect host f i.Slice c = slice_instruction_of host c
-effect host f (i.BuildList n) c = build_list_of n c
-effect host f (i.BuildTuple n) c = build_list_of (Some n) c
-effect host f (i.BuildMap n) c = build_map_of n c
-effect host f (i.BuildKwargs n) c = build_kwargs_of n c
-effect host f i.Eq c = binary_of host binaries.Equal c
-effect host f i.Ne c = binary_of host binaries.NotEqual c
-effect host f i.Lt c = binary_of host binaries.Less c
-effect host f i.Lte c = binary_of host binaries.LessOrEqual c
-effect host f i.Gt c = binary_of host binaries.Greater c
-effect host f i.Gte c = binary_of host binaries.GreaterOrEqual c
-effect host f i.In c = binary_of host binaries.In c
-effect host f (i.CompareAndPreserve op) c = compare_and_preserve_of host op c
-effect host f i.Add c = binary_of host binaries.Add c
-effect host f i.Sub c = binary_of host binaries.Subtract c
-effect host f i.StringConcat c = binary_of host binaries.Concatenate c
-effect host f i.Mul c = binary_of host binaries.Multiply c
-effect host f i.Div c = binary_of host binaries.Divide c
-effect host f i.IntDiv c = binary_of host binaries.FloorDivide c
-effect host f i.Rem c = binary_of host binaries.Remainder c
-effect host f i.Pow c = binary_of host binaries.Power c
-effect host f i.Neg c = unary_of host unaries.Negate c
-effect host f i.Not c = unary_of host unaries.Not c
-effect host f i.Swap c = swap_of c
-effect host f i.DupTop c = dup_top_of c
-effect host f i.DiscardTop c = discard_top_of c
-effect host f (i.Jump n) c = jump_of n c
-effect host f (i.JumpIfFalse n) c = jump_if_false_of host n c
-effect host f (i.JumpIfFalseOrPop n) c = jump_if_false_or_pop_of host n c
-effect host f (i.JumpIfTrueOrPop n) c = jump_if_true_or_pop_of host n c
-effect host f (i.CallFunction x n) c = call_function_of host x n c
-effect host f (i.CallMethod x n) c = call_method_of host x n c
-effect host f (i.CallBlock b) c = call_block_of host f b c
-effect host f (i.StoreLocal x) c = store_local_of x c
-effect host f (i.UnpackList n) c = unpack_list_of n c
-effect host f (i.SetAttr x) c = set_attr_of x c
-effect host f i.PushWith c = push_with_of host c
-effect host f i.PopFrame c = pop_frame_of f c
-effect host f (i.PushLoop flags) c = push_loop_of host flags c
-effect host f (i.Iterate n) c = iterate_of n c
-effect host f i.PushDidNotIterate c = push_did_not_iterate_of c
-effect host f i.PopLoopFrame c = pop_loop_frame_of f c
-effect host f (i.BeginCapture mode) c = begin_capture_of mode c
-effect host f i.EndCapture c = end_capture_of c
-effect host f i.PushAutoEscape c = push_auto_escape_of f c
-effect host f i.PopAutoEscape c = pop_auto_escape_of c
+abbrev pub effect : Program → Base → Instruction → Config → Next
+effect p f (i.EmitRaw t) c = emit_raw_of f t c
+effect p f i.Emit c = emit_of p.host f c
+effect p f (i.Lookup x) c = lookup_of p.host x c
+effect p f (i.LoadConst v) c = load_const_of v c
+effect p f (i.GetAttr x) c = get_attr_of p.host x c
+effect p f i.GetItem c = get_item_of p.host c
+effect p f i.Slice c = slice_instruction_of p.host c
+effect p f (i.BuildList n) c = build_list_of n c
+effect p f (i.BuildTuple n) c = build_list_of (Some n) c
+effect p f (i.BuildMap n) c = build_map_of n c
+effect p f (i.BuildKwargs n) c = build_kwargs_of n c
+effect p f i.Eq c = binary_of p.host binaries.Equal c
+effect p f i.Ne c = binary_of p.host binaries.NotEqual c
+effect p f i.Lt c = binary_of p.host binaries.Less c
+effect p f i.Lte c = binary_of p.host binaries.LessOrEqual c
+effect p f i.Gt c = binary_of p.host binaries.Greater c
+effect p f i.Gte c = binary_of p.host binaries.GreaterOrEqual c
+effect p f i.In c = binary_of p.host binaries.In c
+effect p f (i.CompareAndPreserve op) c = compare_and_preserve_of p.host op c
+effect p f i.Add c = binary_of p.host binaries.Add c
+effect p f i.Sub c = binary_of p.host binaries.Subtract c
+effect p f i.StringConcat c = binary_of p.host binaries.Concatenate c
+effect p f i.Mul c = binary_of p.host binaries.Multiply c
+effect p f i.Div c = binary_of p.host binaries.Divide c
+effect p f i.IntDiv c = binary_of p.host binaries.FloorDivide c
+effect p f i.Rem c = binary_of p.host binaries.Remainder c
+effect p f i.Pow c = binary_of p.host binaries.Power c
+effect p f i.Neg c = unary_of p.host unaries.Negate c
+effect p f i.Not c = unary_of p.host unaries.Not c
+effect p f i.Swap c = swap_of c
+effect p f i.DupTop c = dup_top_of c
+effect p f i.DiscardTop c = discard_top_of c
+effect p f (i.Jump n) c = jump_of n c
+effect p f (i.JumpIfFalse n) c = jump_if_false_of p.host n c
+effect p f (i.JumpIfFalseOrPop n) c = jump_if_false_or_pop_of p.host n c
+effect p f (i.JumpIfTrueOrPop n) c = jump_if_true_or_pop_of p.host n c
+effect p f (i.CallFunction x n) c = call_function_of p x n c
+effect p f (i.CallMethod x n) c = call_method_of p x n c
+effect p f i.FastRecurse c = fast_recurse_of p f c
+effect p f (i.CallBlock b) c = call_block_of p f b c
+effect p f (i.StoreLocal x) c = store_local_of x c
+effect p f (i.UnpackList n) c = unpack_list_of n c
+effect p f (i.SetAttr x) c = set_attr_of x c
+effect p f i.PushWith c = push_with_of p.host c
+effect p f i.PopFrame c = pop_frame_of f c
+effect p f (i.PushLoop flags) c = push_loop_of p flags c
+effect p f (i.Iterate n) c = iterate_of n c
+effect p f i.PushDidNotIterate c = push_did_not_iterate_of c
+effect p f i.PopLoopFrame c = pop_loop_frame_of f c
+effect p f (i.BeginCapture mode) c = begin_capture_of mode c
+effect p f i.EndCapture c = end_capture_of c
+effect p f i.PushAutoEscape c = push_auto_escape_of f c
+effect p f i.PopAutoEscape c = pop_auto_escape_of c
 
 abbrev pub is_empty : {A : Type 0} → List A → Bool
 is_empty [] = true
@@ -96,7 +97,7 @@ finish size f c = choose (nat_eq c.run.place size && closed f c) (λ _. Over (Fi
 
 abbrev pub act : Program → Base → Option Instruction → Config → Next
 act p f None c = finish (length (p.code c.run.stream)) f c
-act p f (Some x) c = after (pay x c.world) (λ _ w. effect p.host f x (with_world w c))
+act p f (Some x) c = after (pay x c.world) (λ _ w. effect p f x (with_world w c))
 
 -- one step: the instruction at the place is paid for and takes effect
 abbrev pub step : Program → Base → Config → Next

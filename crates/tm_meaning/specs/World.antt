@@ -350,22 +350,22 @@ loop_depth w = depth_inside (option_and_then (slice_get w.loops) (innermost w.sc
 abbrev pub loop_scope : LoopMark → Scope
 loop_scope m = record (plain (undefined false)) { mark = Some m }
 
-abbrev pub new_loop : List Val → LoopFlags → World → Loop
-new_loop items flags w = record {
+abbrev pub new_loop : List Val → LoopFlags → ℕ → World → Loop
+new_loop items flags number w = record {
   items = items;
   turns = 0;
   depth = loop_depth w;
-  number = 0;
+  number = number;
   recursive = flags.recursive;
   stream = w.stream;
   kept = None;
 }
 
--- A loop in a scope of its own, with a record behind all others; where there is no room for the scope there is no record.
-abbrev pub open_loop : Host → List Val → LoopFlags → World → Res (Unit {0})
-open_loop host items flags w =
+-- A loop of a number in a scope of its own, with a record behind all others; where there is no room for the scope there is no record.
+abbrev pub open_loop : Host → List Val → LoopFlags → ℕ → World → Res (Unit {0})
+open_loop host items flags number w =
     bind (push host (loop_scope (record { number = length w.loops; variable = flags.variable })) w) (λ _ world1.
-    Good tt (record world1 { loops = world1.loops ++ new_loop items flags w ∷ [] }))
+    Good tt (record world1 { loops = world1.loops ++ new_loop items flags number w ∷ [] }))
 
 abbrev pub turned : Loop → Loop
 turned l = if nat_lt (length l.items) l.turns then l else record l { turns = l.turns + 1 }

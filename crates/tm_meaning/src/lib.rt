@@ -17,7 +17,7 @@ pub use mark::LoopMark;
 pub use rows::{
     attribute_rows, block_rows, call_rows, capture_rows, chain_rows, condition_rows,
     conditional_rows, filter_rows, function_rows, hello_rows, loop_rows, method_rows,
-    operator_rows, scope_rows,
+    operator_rows, recursion_rows, scope_rows,
 };
 pub use stream::{StreamId, TemplateId};
 

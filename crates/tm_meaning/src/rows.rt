@@ -3,7 +3,7 @@ ghost use Rattle.std.specs.Prelude.{[], ◌∷◌, ◌++◌, true, false, codes}
 ghost use Rattle.std.specs.Fmt.{decimal};
 ghost use Rattle.tm_values.specs.Val.{boolean, function, map, no_pairs};
 ghost use Rattle.tm_values.specs.declared.error.ErrorKind.TheVariants.{CannotUnpack, InvalidOperation, MissingArgument, UndefinedError, UnknownFunction, UnknownMethod, OutOfFuel, WriteFailure, BadStream, OutOfMemory};
-ghost use Rattle.tm_meaning.specs.Rows.{Says, Charges, Fails, nothing, with_value, hello, either_text, of_three, empty_condition, shown, a_and_b_c, a_or_x, not_equal, a_b, literal_number, three_in_a_row, false_before_fault, no_value, one_condition, two_conditions, in_block, block_not_reached, with_two, empty_with, set_two, set_two_of_one, set_attribute, literal, each_number, no_round, broken_round, break_in_capture, continue_in_scope, loop_members, set_in_round, chosen, chosen_alone, chosen_index, chosen_by_loop, changed_or_not, by_turns, by_no_turns, no_method_of_loops, method_of_map, method_of_undefined, range_of_three, range_by_name, dict_by_names, summed, over_a_number, set_block, set_under, escaped_by, fault_in_capture, set_block_of_two, literal_truth, do_call, last_function, faulty, calling, keep_and_read, unknown_behind};
+ghost use Rattle.tm_meaning.specs.Rows.{Says, Charges, Shows, Fails, nothing, with_value, hello, either_text, of_three, empty_condition, shown, a_and_b_c, a_or_x, not_equal, a_b, literal_number, three_in_a_row, false_before_fault, no_value, one_condition, two_conditions, in_block, block_not_reached, with_two, empty_with, set_two, set_two_of_one, set_attribute, literal, each_number, no_round, broken_round, break_in_capture, continue_in_scope, loop_members, set_in_round, chosen, chosen_alone, chosen_index, chosen_by_loop, changed_or_not, by_turns, by_no_turns, no_method_of_loops, method_of_map, method_of_undefined, called_in_place, called_over_a_number, not_recursive, no_loop_to_call, called_with_too_many, depth_inside_recursive, tree_in_place, tree_as_value, called_behind_its_end, range_of_three, range_by_name, dict_by_names, summed, over_a_number, set_block, set_under, escaped_by, fault_in_capture, set_block_of_two, literal_truth, do_call, last_function, faulty, calling, keep_and_read, unknown_behind};
 
 /// `Hello {{ name }}!` with the name World takes 4 charges, so 5 units of fuel; with fewer it ends where the fuel does.
 pub fn hello_rows()
@@ -144,4 +144,17 @@ pub fn call_rows()
     ensures kept { Charges keep_and_read (decimal 2 ++ decimal 1) 4 }
     ensures arguments_first { Fails (unknown_behind (faulty (MissingArgument ∷ []))) (codes "a") (MissingArgument ∷ []) }
     ensures not_found { Fails (unknown_behind last_function) (codes "a") (UnknownFunction ∷ []) }
+{}
+
+/// Loops that are called: `{{ loop(x) }}` in place, over `[[]]`, a number, in a loop that can't be called and outside of loops; `loop(x, 1)`; `loop.depth`; a tree in place and as values; a loop called behind its end.
+pub fn recursion_rows()
+    ensures in_place { Charges called_in_place (codes "a") 10 }
+    ensures number { Fails called_over_a_number [] (InvalidOperation ∷ InvalidOperation ∷ []) }
+    ensures not_recursive { Fails not_recursive [] (InvalidOperation ∷ []) }
+    ensures no_loop { Fails no_loop_to_call [] (UnknownFunction ∷ []) }
+    ensures too_many { Fails called_with_too_many [] (InvalidOperation ∷ []) }
+    ensures depth { Shows depth_inside_recursive (decimal 2) }
+    ensures tree { Shows tree_in_place (codes "1(2())3()") }
+    ensures as_value { Shows tree_as_value (codes "1[2[]]3[]") }
+    ensures behind_its_end { Shows called_behind_its_end (codes "123") }
 {}

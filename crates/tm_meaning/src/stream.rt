@@ -1,5 +1,6 @@
 //! What runs: the streams of templates, by name.
 ghost use Rattle.std.specs.Prelude.{◌≡◌, None, Some, IfOk};
+ghost use Rattle.tm_meaning.specs.Calls.{same_template, same_stream};
 ghost use Rattle.tm_meaning.specs.World.{root_of, block_of};
 
 use std::alloc::AllocError;
@@ -15,6 +16,19 @@ pub enum TemplateId {
 }
 
 impl TemplateId {
+    /// Whether it is this template.
+    pub fn is(&self, other: &TemplateId) -> bool
+        ensures { result ≡ same_template self.now other.now }
+    {
+        match (self, other) {
+            (TemplateId::Own, TemplateId::Own) => true,
+            (TemplateId::Entry(name), TemplateId::Entry(of_other)) => {
+                name.as_str() == of_other.as_str()
+            }
+            _ => false,
+        }
+    }
+
     /// The same template. Fails only where the owners of a name can't be counted.
     pub fn share(&self) -> Result<TemplateId, AllocError>
         ensures { IfOk result (λ template. template ≡ self.now) }
@@ -43,6 +57,20 @@ impl StreamId {
         StreamId {
             template,
             block: None,
+        }
+    }
+
+    /// Whether it is this stream.
+    pub fn is(&self, other: &StreamId) -> bool
+        ensures { result ≡ same_stream self.now other.now }
+    {
+        if !self.template.is(&other.template) {
+            return false;
+        }
+        match (&self.block, &other.block) {
+            (None, None) => true,
+            (Some(name), Some(of_other)) => name.as_str() == of_other.as_str(),
+            _ => false,
         }
     }
 

@@ -35,13 +35,13 @@ pub names_of_if_else : (x : Expr) (body other : List Stmt) → names_of (stmts.I
 unfolding hidden row shape-the_row-Stmt-0
 names_of_if_else x body other = refl
 
-pub names_of_for : (to : Target) (over : Expr) (asked : Option Expr) (body : List Stmt) → names_of (stmts.For to over asked body None) ≡ block_names body
+pub names_of_for : (to : Target) (over : Expr) (asked : Option Expr) (recursive : Bool) (body : List Stmt) → names_of (stmts.For to over asked recursive body None) ≡ block_names body
 unfolding hidden row shape-the_row-Stmt-0
-names_of_for to over asked body = append-nil _
+names_of_for to over asked recursive body = append-nil _
 
-pub names_of_for_else : (to : Target) (over : Expr) (asked : Option Expr) (body other : List Stmt) → names_of (stmts.For to over asked body (Some other)) ≡ block_names body ++ block_names other
+pub names_of_for_else : (to : Target) (over : Expr) (asked : Option Expr) (recursive : Bool) (body other : List Stmt) → names_of (stmts.For to over asked recursive body (Some other)) ≡ block_names body ++ block_names other
 unfolding hidden row shape-the_row-Stmt-0
-names_of_for_else to over asked body other = refl
+names_of_for_else to over asked recursive body other = refl
 
 pub names_of_block : (name : List ℕ) (body : List Stmt) → names_of (stmts.Block name body) ≡ name ∷ block_names body
 unfolding hidden row shape-the_row-Stmt-0

@@ -1,5 +1,5 @@
 -- The grammar of statements.
-use Rattle.std.specs.Prelude.{ℕ, zero, suc, List, [], ◌∷◌, Bool, true, false, Option, Some, None, if◌then◌else◌, nat_eq}
+use Rattle.std.specs.Prelude.{ℕ, zero, suc, List, [], ◌∷◌, Bool, true, false, Option, Some, None, if◌then◌else◌, ◌&&◌, nat_eq, codes}
 use Rattle.std.specs.Cmp.Lexicographic.{pointwise}
 use denote.Enum.Bare.{sameb}
 use Rattle.tm_syntax.specs.contracts.token.Tag.{the_type}
@@ -8,9 +8,9 @@ use Rattle.tm_syntax.specs.declared.token.Tag.TheVariants as tags
 use Rattle.tm_syntax.specs.declared.token.Sign.TheVariants as sign
 use Rattle.tm_syntax.specs.declared.token.Token.{Token}
 use Rattle.tm_syntax.specs.declared.token.Token.TheVariants as tokens
-use Rattle.tm_syntax.specs.declared.tree.Expr.{Expr, Call', Row_of-Step, end_of-Step as no_step, more_of-Step as more_steps}
+use Rattle.tm_syntax.specs.declared.tree.Expr.{Expr, Call', Row_of-Argument, end_of-Argument as no_argument, more_of-Argument as argument, Row_of-Keyword, end_of-Keyword as no_keyword, more_of-Keyword as with_keyword, Row_of-Step, end_of-Step as no_step, more_of-Step as more_steps}
 use Rattle.tm_syntax.specs.declared.tree.Step.{Step, Method'}
-use Rattle.tm_syntax.specs.Forms.{chained as chained_steps}
+use Rattle.tm_syntax.specs.Forms.{plain, chained as chained_steps}
 use Rattle.tm_syntax.specs.declared.tree.Expr.TheVariants as exprs
 use Rattle.tm_syntax.specs.declared.tree.Target.{Target}
 use Rattle.tm_syntax.specs.declared.tree.Assignment.{Assignment}
@@ -19,6 +19,7 @@ use Rattle.tm_syntax.specs.declared.tree.Stmt.{Stmt}
 use Rattle.tm_syntax.specs.declared.tree.Stmt.TheVariants as stmts
 use Rattle.tm_parser.specs.declared.tables.Start.{Start}
 use Rattle.tm_parser.specs.declared.tables.Start.TheVariants as starts
+use Rattle.tm_parser.specs.declared.targets.Looped.{Looped}
 use Rattle.tm_rules.specs.Combinators.{provided, first, nothing, pure, ◌>>=◌, branch, token, not_before, many_from}
 use Rattle.tm_rules.specs.Rule.{Look}
 use Rattle.tm_parser.specs.Looks.{ahead}
@@ -29,6 +30,11 @@ abbrev pub is_tag : Tag → Token → Option (Unit {0})
 is_tag t (tokens.Tag u) = if sameb the_type u t then Some tt else None
 is_tag t _ = None
 
+-- the name that is this word
+abbrev pub is_word : List ℕ → Token → Option (Unit {0})
+is_word word (tokens.Name name) = if pointwise nat_eq name word then Some tt else None
+is_word word _ = None
+
 -- What may stand inside one more tag, or in one more part of it; of statements, whether a loop is around them.
 pub record Inner : Type 1 where
   pub body : Bool → Rule (List Stmt)
@@ -36,8 +42,8 @@ pub record Inner : Type 1 where
   pub rest : Bool → Rule (Option (List Stmt))
   -- an else part or none, up to this end tag
   pub else_or_end : Tag → Bool → Rule (Option (List Stmt))
-  -- what a loop goes over, the condition of an item, and the end of its tag
-  pub looped : Rule (Expr × Option Expr)
+  -- what a loop goes over, the condition of an item, whether it can be called, and the end of its tag
+  pub looped : Rule Looped
 
 -- Each tag that begins a statement.
 abbrev pub start_of : Tag → Option Start
@@ -72,11 +78,34 @@ lone t = do
 abbrev pub same_name : List ℕ → Rule (Unit {0})
 same_name name = branch (first a_name) (λ other. provided (pointwise nat_eq other name) (pure tt)) (pure tt)
 
+-- the value of the one argument by its place, where there is exactly one
+abbrev pub only_one : {n : _} → Row_of-Argument n → Option Expr
+only_one no_argument = None
+only_one (argument (plain x) no_argument) = Some x
+only_one (argument (plain x) (argument a given)) = None
+
+abbrev pub are_unnamed : {n : _} → Row_of-Keyword n → Bool
+are_unnamed no_keyword = true
+are_unnamed (with_keyword k named) = false
+
+-- what the innermost loop is called with: the one argument of a call of `loop`, which has no name
+unfoldable pub loop_argument : Expr → Option Expr
+loop_argument (Call' f _ given _ named) = if pointwise nat_eq f (codes "loop") && are_unnamed named then only_one given else None
+loop_argument _ = None
+
+abbrev pub call_or_emit : Option Expr → Expr → Stmt
+call_or_emit (Some called_with) x = stmts.EmitLoop called_with
+call_or_emit None x = stmts.EmitExpr x
+
+-- the statement that emits an expression
+abbrev pub emitted : Expr → Stmt
+emitted x = call_or_emit (loop_argument x) x
+
 unfoldable pub emission : Inside → Rule Stmt
 emission i = do
   x ← expr i
   close ← token (is sign.VariableEnd)
-  pure (stmts.EmitExpr x)
+  pure (emitted x)
 
 unfoldable pub if_tag : Inside → Inner → Bool → Rule Stmt
 if_tag i t looping = do
@@ -120,7 +149,7 @@ for_tag i t looping = do
   over ← t.looped
   body ← t.body true
   other ← t.else_or_end tags.Endfor looping
-  pure (stmts.For to over.0 over.1 body other)
+  pure (stmts.For to over.iterated over.condition over.recursive body other)
 
 -- a statement of one word that stands nowhere but inside a loop
 unfoldable pub jump : Bool → Stmt → Rule Stmt
@@ -186,13 +215,18 @@ filter i = branch (first (is sign.If))
       pure (Some asked))
     (pure None)
 
--- what a loop goes over, the condition of an item, and the end of the tag
-unfoldable pub looped : Inside → Rule (Expr × Option Expr)
+-- the word of a loop that can be called, or none
+abbrev pub recursion : Rule Bool
+recursion = branch (first (is_word (codes "recursive"))) (λ _. pure true) (pure false)
+
+-- what a loop goes over, the condition of an item, whether it can be called, and the end of the tag
+unfoldable pub looped : Inside → Rule Looped
 looped i = do
   over ← iterated i
   asked ← filter i
+  recursive ← recursion
   close ← block_end
-  pure (over, asked)
+  pure (record { iterated = over; condition = asked; recursive = recursive })
 
 -- what stands behind the `=` of a `set`
 unfoldable pub set_value : Inside → Target → Rule Stmt

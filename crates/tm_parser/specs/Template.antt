@@ -4,7 +4,7 @@ use Rattle.std.specs.Str.{bytes_eq}
 use Rattle.std.specs.Borrow.{Bor}
 use Rattle.std.specs.List.{IsDistinct}
 use Rattle.tm_syntax.specs.declared.token.Token.{Token}
-use Rattle.tm_syntax.specs.declared.tree.Stmt.{Stmt, EmitRaw, EmitExpr, If', For', Break, Continue, Block', Set, SetBlock', With', Do, AutoEscape', Row_of-Stmt, end_of-Stmt as no_statement, more_of-Stmt as statement, Held-Stmt-If-2 as Otherwise, None' as no_else, Some' as otherwise}
+use Rattle.tm_syntax.specs.declared.tree.Stmt.{Stmt, EmitRaw, EmitExpr, EmitLoop, If', For', Break, Continue, Block', Set, SetBlock', With', Do, AutoEscape', Row_of-Stmt, end_of-Stmt as no_statement, more_of-Stmt as statement, Held-Stmt-If-2 as Otherwise, None' as no_else, Some' as otherwise}
 use Rattle.tm_syntax.specs.declared.tree.Stmt.TheBlock.{hidden-the_row-Stmt-0 as row}
 use Rattle.tm_syntax.specs.declared.tree.Tree.{Tree}
 use Rattle.tm_parser.specs.Grammar.{inside}
@@ -15,8 +15,9 @@ abbrev mutual
   pub names_of : Stmt → List (List ℕ)
   names_of (EmitRaw text) = []
   names_of (EmitExpr x) = []
+  names_of (EmitLoop x) = []
   names_of (If' condition _ body other) = names_in body ++ names_in_otherwise other
-  names_of (For' to over asked _ body other) = names_in body ++ names_in_otherwise other
+  names_of (For' to over asked recursive _ body other) = names_in body ++ names_in_otherwise other
   names_of Break = []
   names_of Continue = []
   names_of (Block' name _ body) = name ∷ names_in body

@@ -37,14 +37,15 @@ fn add_names_of<'t>(names: &mut Vec<&'t str>, statement: &'t Stmt) -> Result<(),
     match statement {
         Stmt::EmitRaw(_)
         | Stmt::EmitExpr(_)
+        | Stmt::EmitLoop(_)
         | Stmt::Break
         | Stmt::Continue
         | Stmt::Set(_, _)
         | Stmt::Do(_) => Ok(()),
-        Stmt::If(_, body, None) | Stmt::For(_, _, _, body, None) => {
+        Stmt::If(_, body, None) | Stmt::For(_, _, _, _, body, None) => {
             add_names(names, body.as_slice())
         }
-        Stmt::If(_, body, Some(other)) | Stmt::For(_, _, _, body, Some(other)) => {
+        Stmt::If(_, body, Some(other)) | Stmt::For(_, _, _, _, body, Some(other)) => {
             add_names(names, body.as_slice())?;
             add_names(names, other.as_slice())
         }

@@ -3,7 +3,7 @@ ghost use Rattle.std.specs.Prelude.{◌≡◌, ◌∷◌, [], ◌↔◌, IsTrue,
 ghost use Rattle.tm_parser.specs.Gives.{Gives, Takes, TakesSign};
 ghost use Rattle.tm_parser.specs.Grammar.{is, a_name, a_constant, comma, ends_part, ends_target, is_comma, keyword_start, link, prefix, target_comma};
 ghost use Rattle.tm_parser.specs.Looks.{starts};
-ghost use Rattle.tm_parser.specs.Statements.{a_start, ends_iterated, is_tag, iterated_comma, lone, same_name};
+ghost use Rattle.tm_parser.specs.Statements.{a_start, ends_iterated, is_tag, is_word, iterated_comma, lone, same_name};
 ghost use Rattle.tm_rules.specs.Combinators.{token};
 ghost use Rattle.tm_rules.specs.Meanings.{first_sees};
 
@@ -93,6 +93,19 @@ impl<'t> Cursor<'t> {
     {
         match self.rest {
             [Token::Tag(found), rest @ ..] if *found == tag => {
+                self.rest = rest;
+                true
+            }
+            _ => false,
+        }
+    }
+
+    /// Takes the name that is this word.
+    pub fn take_word(&mut self, word: &str) -> bool
+        ensures { TakesSign result self.old self.new (first_sees (is_word word.now) self.old) }
+    {
+        match self.rest {
+            [Token::Name(name), rest @ ..] if name.is(word) => {
                 self.rest = rest;
                 true
             }

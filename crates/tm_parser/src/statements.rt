@@ -1,5 +1,5 @@
 //! Statements.
-ghost use Rattle.std.specs.Prelude.{◌≡◌, false};
+ghost use Rattle.std.specs.Prelude.{◌≡◌, false, is_some};
 ghost use Rattle.tm_parser.specs.Gives.{Gives};
 ghost use Rattle.tm_parser.specs.Grammar.{inside};
 ghost use Rattle.tm_parser.specs.Statements as spec;
@@ -9,9 +9,10 @@ ghost use Rattle.tm_syntax.specs.declared.tree.Argument.TheBlock.{hidden-the_row
 
 use crate::cursor::{Cursor, refusal};
 use crate::tables::Start;
-use sqlite_items::Items;
+use crate::targets::Looped;
+use sqlite_items::{Boxed, Items};
 use std::alloc::Global;
-use tm_syntax::{Expr, Sign, Step, Stmt, Tag, Target};
+use tm_syntax::{Argument, Expr, Sign, Step, Stmt, Tag, Target};
 use tm_values::Error;
 
 // Each method reads one rule, with `depth` nestings to go, and where `looping` with a loop around
@@ -130,7 +131,7 @@ impl Cursor<'_> {
     {
         let value = self.expr(alloc, depth)?;
         self.expect(Sign::VariableEnd)?;
-        Ok(Stmt::EmitExpr(value))
+        Ok(emitted(value))
     }
 
     /// The condition of an `if`, its body, and all up to its end tag.
@@ -223,8 +224,8 @@ impl Cursor<'_> {
         Ok(Some(body))
     }
 
-    /// The target of a `for`, what it goes over, its condition, its body, and all up to its end
-    /// tag. Around its else part is no other loop than around it.
+    /// The target of a `for`, what it goes over, its condition, whether it can be called, its body,
+    /// and all up to its end tag. Around its else part is no other loop than around it.
     #[cycle(statements)]
     #[tactic(auto, unfolding(crate::specs::Statements::for_tag))]
     fn for_tag(&mut self, alloc: Global, depth: u8, looping: bool) -> Result<Stmt, Error>
@@ -233,10 +234,14 @@ impl Cursor<'_> {
     {
         let target = self.inner_target(alloc, depth)?;
         self.expect(Sign::In)?;
-        let (iterated, condition) = self.inner_looped(alloc, depth)?;
+        let Looped {
+            iterated,
+            condition,
+            recursive,
+        } = self.inner_looped(alloc, depth)?;
         let body = self.inner_body(alloc, depth, true)?;
         let other = self.inner_else_or_end(alloc, depth, Tag::Endfor, looping)?;
-        Ok(Stmt::For(target, iterated, condition, body, other))
+        Ok(Stmt::For(target, iterated, condition, recursive, body, other))
     }
 
     /// The end of a tag of one word, whose statement stands nowhere but inside a loop.
@@ -346,6 +351,36 @@ impl Cursor<'_> {
         }
         self.expect(Sign::BlockEnd)?;
         Ok(Stmt::Do(call))
+    }
+}
+
+/// The statement that emits a value: a call of the innermost loop where it is one.
+#[tactic(auto, unfolding(crate::specs::Statements::loop_argument))]
+fn emitted(value: Boxed<Expr>) -> Stmt
+    ensures { result ≡ spec.emitted value }
+{
+    if !is_call_of_loop(value.get()) {
+        return Stmt::EmitExpr(value);
+    }
+    let Expr::Call(_, mut given, _) = value.into_inner() else {
+        unreachable!()
+    };
+    let Some(Argument::Plain(argument)) = given.pop() else {
+        unreachable!()
+    };
+    Stmt::EmitLoop(argument)
+}
+
+/// Whether an expression is the call of `loop` with one argument, by its place.
+#[tactic(auto, unfolding(crate::specs::Statements::loop_argument))]
+fn is_call_of_loop(expr: &Expr) -> bool
+    ensures { result ≡ is_some (spec.loop_argument expr.now) }
+{
+    match expr {
+        Expr::Call(name, given, named) => {
+            name.is("loop") && given.len() == 1 && named.is_empty()
+        }
+        _ => false,
     }
 }
 

@@ -15,6 +15,17 @@ use std::alloc::Global;
 use tm_syntax::{Assignment, Expr, Name, Sign, Step, Target};
 use tm_values::Error;
 
+/// What a loop goes over, and how.
+#[derive(Drop)]
+pub struct Looped {
+    /// What is iterated.
+    pub iterated: Boxed<Expr>,
+    /// The condition of an item that is taken.
+    pub condition: Option<Boxed<Expr>>,
+    /// Whether the loop can be called.
+    pub recursive: bool,
+}
+
 // Each method reads one rule, with `depth` nestings to go. SyntaxError where no tokens spell it.
 impl Cursor<'_> {
     /// A target inside one nesting more.
@@ -113,14 +124,10 @@ impl Cursor<'_> {
         target_of(alloc, value, steps)
     }
 
-    /// What a loop goes over, the condition of an item, and the end of its tag, inside one nesting
-    /// more.
+    /// What a loop goes over, the condition of an item, whether it can be called, and the end of
+    /// its tag, inside one nesting more.
     #[tactic(auto, using(crate::proofs::Nesting::loops))]
-    pub fn inner_looped(
-        &mut self,
-        alloc: Global,
-        depth: u8,
-    ) -> Result<(Boxed<Expr>, Option<Boxed<Expr>>), Error>
+    pub fn inner_looped(&mut self, alloc: Global, depth: u8) -> Result<Looped, Error>
         ensures { Gives result self.new ((inner depth).looped.reads self.old) }
     {
         if depth == 0 {
@@ -129,19 +136,21 @@ impl Cursor<'_> {
         self.looped(alloc, depth - 1)
     }
 
-    /// What a loop goes over, the condition of an item, and the end of its tag.
+    /// What a loop goes over, the condition of an item, whether it can be called, and the end of
+    /// its tag.
     #[tactic(auto, unfolding(crate::specs::Statements::looped))]
-    fn looped(
-        &mut self,
-        alloc: Global,
-        depth: u8,
-    ) -> Result<(Boxed<Expr>, Option<Boxed<Expr>>), Error>
+    fn looped(&mut self, alloc: Global, depth: u8) -> Result<Looped, Error>
         ensures { Gives result self.new ((looped (inside depth)).reads self.old) }
     {
         let iterated = self.iterated(alloc, depth)?;
         let condition = self.filter(alloc, depth)?;
+        let recursive = self.take_word("recursive");
         self.expect(Sign::BlockEnd)?;
-        Ok((iterated, condition))
+        Ok(Looped {
+            iterated,
+            condition,
+            recursive,
+        })
     }
 
     /// The condition of a loop's item, if it stands there.

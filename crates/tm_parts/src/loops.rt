@@ -1,9 +1,9 @@
 //! The records of loops.
-ghost use Rattle.std.specs.Prelude.{◌≡◌, ◌∷◌, [], None, Some, IfErr, IfOk, OnErr, OnOk, length, map, nat_eq, option_and_then, option_map, slice_get};
+ghost use Rattle.std.specs.Prelude.{◌≡◌, ◌∷◌, ◌&&◌, [], None, Some, IfErr, IfOk, OnErr, OnOk, length, map, nat_eq, option_and_then, option_map, slice_get};
 ghost use Rattle.tm_values.specs.Answer.{IsLent, OkOrOutOfMemory};
 ghost use Rattle.tm_values.specs.Position.{position_of};
 ghost use Rattle.tm_meaning.specs.World.{turned, loop_data, depth_inside, place_of};
-ghost use Rattle.tm_meaning.specs.Calls.{is_changed, keeping, cycled};
+ghost use Rattle.tm_meaning.specs.Calls.{is_changed, keeping, cycled, same_stream};
 
 use std::alloc::Global;
 use std::marker::Model;
@@ -12,12 +12,13 @@ use tm_meaning::StreamId;
 use tm_operations::share_all;
 use tm_values::{Error, ErrorKind, LoopPosition, Value, same_items};
 
-/// A loop: its items, how often the next one was asked for, how many loops that can be called lie around it, whether it can be called, and its stream.
+/// A loop: its items, how often the next one was asked for, how many loops that can be called lie around it, its number in its stream, whether it can be called, and that stream.
 #[derive(Drop)]
 pub struct LoopState {
     items: Rc<Vec<Value>>,
     turns: usize,
     depth: usize,
+    number: usize,
     recursive: bool,
     stream: StreamId,
     kept: Option<Vec<Value>>,
@@ -37,7 +38,7 @@ impl Model for LoopState {
       items = l.items.value.items;
       turns = l.turns;
       depth = l.depth;
-      number = 0;
+      number = l.number;
       recursive = l.recursive;
       stream = l.stream;
       kept = option_map (λ v. v.items) l.kept;
@@ -48,12 +49,18 @@ impl Model for LoopState {
 
 impl LoopState {
     /// A loop over items, none of which was asked for yet.
-    pub fn new(items: Rc<Vec<Value>>, depth: usize, recursive: bool, stream: StreamId) -> LoopState
+    pub fn new(
+        items: Rc<Vec<Value>>,
+        depth: usize,
+        number: usize,
+        recursive: bool,
+        stream: StreamId,
+    ) -> LoopState
         ensures { result ≡ record {
           items = items.value.items;
           turns = 0;
           depth = depth;
-          number = 0;
+          number = number;
           recursive = recursive;
           stream = stream;
           kept = None;
@@ -63,6 +70,7 @@ impl LoopState {
             items,
             turns: 0,
             depth,
+            number,
             recursive,
             stream,
             kept: None,
@@ -90,6 +98,20 @@ impl LoopState {
         ensures { result ≡ nat_eq (length self.now.items) 0 }
     {
         self.items.is_empty()
+    }
+
+    /// Its number in its stream.
+    pub fn number(&self) -> usize
+        ensures { result ≡ self.now.number }
+    {
+        self.number
+    }
+
+    /// Whether it can be called where a stream runs: it is one that can be, of that stream.
+    pub fn can_be_called_in(&self, stream: &StreamId) -> bool
+        ensures { result ≡ (self.now.recursive && same_stream self.now.stream stream.now) }
+    {
+        self.recursive && self.stream.is(stream)
     }
 
     /// How deep a loop in it stands: one deeper where it can be called, and else outermost.

@@ -249,19 +249,19 @@ pub round_then : (r : Final) (b : Bed) (run : Run) (o : Outcome) (g : Run → Li
 round_then r b run o g D L N h = round_by r b run o.ending o.parent o.text o.world g D L N h
 
 -- a loop opened, where there is room for its scope
-pub opened_then : (r : Final) (b : Bed) (w : World) (vs : List Val) (room : Bool) (run : Run) (out : List ℕ) (g : Unit {0} → World → Outcome) (D L N : Then) (K : World → Type 0) →
-    Ends r b (use_it (bind (one_more room (loop_scope (mark_behind for_flags w)) w) (λ _ world1. recorded for_flags vs w world1)) run out g) D L N → (Ends r b (g tt (opened for_flags w vs)) D L N → K (opened for_flags w vs)) →
-    Follows r (told_by b out) (bind (one_more room (loop_scope (mark_behind for_flags w)) w) (λ _ world1. recorded for_flags vs w world1)) (λ _ world1. K world1)
+pub opened_then : (r : Final) (b : Bed) (g0 : LoopFlags) (n : ℕ) (w : World) (vs : List Val) (room : Bool) (run : Run) (out : List ℕ) (g : Unit {0} → World → Outcome) (D L N : Then) (K : World → Type 0) →
+    Ends r b (use_it (bind (one_more room (loop_scope (mark_behind g0 w)) w) (λ _ world1. recorded g0 n vs w world1)) run out g) D L N → (Ends r b (g tt (opened g0 n w vs)) D L N → K (opened g0 n w vs)) →
+    Follows r (told_by b out) (bind (one_more room (loop_scope (mark_behind g0 w)) w) (λ _ world1. recorded g0 n vs w world1)) (λ _ world1. K world1)
 unfolding Ends
-opened_then r b w vs true run out g D L N K h k = k h
-opened_then r b w vs false run out g D L N K h k = h
+opened_then r b g0 n w vs true run out g D L N K h k = k h
+opened_then r b g0 n w vs false run out g D L N K h k = h
 
 -- the same before values
-pub opened_follows : {A : Type 0} (r : Final) (t : List ℕ) (g : LoopFlags) (w : World) (vs : List Val) (room : Bool) (rest : World → Res A) (K : A → World → Type 0) (L : World → Type 0) →
-    Follows r t (bind (bind (one_more room (loop_scope (mark_behind g w)) w) (λ _ world1. recorded g vs w world1)) (λ _ x. rest x)) K → (Follows r t (rest (opened g w vs)) K → L (opened g w vs)) →
-    Follows r t (bind (one_more room (loop_scope (mark_behind g w)) w) (λ _ world1. recorded g vs w world1)) (λ _ world1. L world1)
-opened_follows r t g w vs true rest K L h k = k h
-opened_follows r t g w vs false rest K L h k = h
+pub opened_follows : {A : Type 0} (r : Final) (t : List ℕ) (g : LoopFlags) (n : ℕ) (w : World) (vs : List Val) (room : Bool) (rest : World → Res A) (K : A → World → Type 0) (L : World → Type 0) →
+    Follows r t (bind (bind (one_more room (loop_scope (mark_behind g w)) w) (λ _ world1. recorded g n vs w world1)) (λ _ x. rest x)) K → (Follows r t (rest (opened g n w vs)) K → L (opened g n w vs)) →
+    Follows r t (bind (one_more room (loop_scope (mark_behind g w)) w) (λ _ world1. recorded g n vs w world1)) (λ _ world1. L world1)
+opened_follows r t g n w vs true rest K L h k = k h
+opened_follows r t g n w vs false rest K L h k = h
 
 module _ (p : Program) (f : Base) (r : Final) where
   -- the machine comes from here to the end

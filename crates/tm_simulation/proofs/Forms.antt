@@ -106,12 +106,12 @@ module _ (p : Program) (f : Base) (r : Final) where
   value_by k a b out0 (fault chain) o K h g = over refl h
 
   -- a call whose text is a value
-  pub call_as_value : (u : Under) (k : Call) (s : Spot) (pc : ℕ) (stack vs : List Val) (w v : World) (K : Val → World → Type 0) →
+  pub call_as_value : (u : Under) (run : Run) (k : Call) (s : Spot) (pc : ℕ) (stack vs : List Val) (w v : World) (K : Val → World → Type 0) →
       Entered p k.callee true (inside true (told s) (captures_of s.bed s.out)) [] v (u.nests k.callee true [] v) →
-      Follows r (told s) (value_of u (runs k v)) K →
+      Follows r (told s) (value_of u run (runs k v)) K →
       ((x : Val) (world1 : World) → K x world1 → Go p f r s (pc + 1) (x ∷ vs) world1) →
       Leads p f (told s) (nested_as_value vs (cfg s pc stack w) k v) r
-  call_as_value u k s pc stack vs w v K entered h g =
+  call_as_value u run k s pc stack vs w v K entered h g =
       let o = u.nests k.callee true [] v in
       let back : Back = record { run = waiting vs (cfg s pc stack w); call = k; value = true } in
       nest refl entered (value_by k back.run s.bed s.out o.ending o K h (λ d. silent p f r _ _ (g _ _ d)))

@@ -20,18 +20,20 @@ use Rattle.tm_syntax.specs.declared.tree.Step.{Step, Attribute, Method', Row_of-
 use Rattle.tm_syntax.specs.declared.tree.Target.{Target, Name as To, Unpack' as Items, Attribute as Member, Row_of-Target, end_of-Target as no_target, more_of-Target as target}
 use Rattle.tm_syntax.specs.declared.tree.Assignment.{Assignment}
 use Rattle.tm_syntax.specs.declared.tree.Assignment.TheVariants.{Assignment as Given}
-use Rattle.tm_syntax.specs.declared.tree.Stmt.{Stmt, EmitRaw, EmitExpr, If', For', Break, Continue, Block', Set, SetBlock', With', Do, AutoEscape', Row_of-Stmt, end_of-Stmt as no_statement, more_of-Stmt as statement, Held-Stmt-If-2 as Otherwise, None' as no_else, Some' as otherwise}
+use Rattle.tm_syntax.specs.declared.tree.Stmt.{Stmt, EmitRaw, EmitExpr, EmitLoop, If', For', Break, Continue, Block', Set, SetBlock', With', Do, AutoEscape', Row_of-Stmt, end_of-Stmt as no_statement, more_of-Stmt as statement, Held-Stmt-If-2 as Otherwise, None' as no_else, Some' as otherwise}
 use Rattle.tm_syntax.specs.declared.instruction.LoopFlags.{LoopFlags}
 use Rattle.tm_syntax.specs.Code.{for_flags, filter_flags}
+use Rattle.tm_syntax.specs.Loops.{passes, within_loop, past, pasts, FoundLoop, loops_in}
+use Rattle.tm_meaning.specs.Tree.{Body}
 use Rattle.tm_syntax.specs.Forms.{unary, chained, conditional, condition, comparison, pair, plain, keyword, item, slice, binary, compare, and_then, or_else}
 use Rattle.tm_operations.specs.Maps.{dict_of, namespace_of}
 use Rattle.tm_operations.specs.Members.{settable}
-use Rattle.tm_meaning.specs.World.{choose, find, same_name, block_of, with_frames, World, Host, Scopes, Scope, Loop, loop_scope, new_loop, open_loop, turned, turned_at, turned_of, top_mark, next_turn, without_locals, cleared, top_loop, items_over, Res, Good, Bad, bind, need, check, answered, charged, with_fuel, tick, push, pop, depth, without_first, emitted, looked_up, lookup, Function, callers, languages, Reply, gives, faults, stored_in, store, records_of, with_member, set_member, escape_for, with_escape, captured_text, plain as plain_scope}
-use Rattle.tm_meaning.specs.Calls.{Callee, whole, Call, Undo, of_block, undone, wrapped, Asked, has, refused, runs, ask, enter_block, call_named, call_value, call_method, loop_method, method_in, of_loop, record_at, keeping_at, is_changed, call_by, given_by, replied, required_alone}
+use Rattle.tm_meaning.specs.World.{choose, find, same_name, block_of, with_frames, World, Host, Scopes, Scope, Loop, loop_scope, new_loop, open_loop, innermost, turned, turned_at, turned_of, top_mark, next_turn, without_locals, cleared, top_loop, items_over, Res, Good, Bad, bind, need, check, answered, charged, with_fuel, tick, push, pop, depth, without_first, emitted, looked_up, lookup, Function, callers, languages, Reply, gives, faults, stored_in, store, records_of, with_member, set_member, escape_for, with_escape, captured_text, plain as plain_scope}
+use Rattle.tm_meaning.specs.Calls.{Callee, whole, Call, Undo, of_block, undone, wrapped, Asked, has, refused, runs, recurs, ask, same_stream, wrapped_as, call_loop, call_innermost, one_argument, call_found, enter_block, call_named, call_value, call_method, loop_method, method_in, of_loop, record_at, keeping_at, is_changed, call_by, given_by, replied, required_alone}
 use Rattle.tm_meaning.specs.declared.function.GlobalFunction.{GlobalFunction}
 use Rattle.tm_meaning.specs.declared.function.GlobalFunction.TheVariants as own
 use Rattle.tm_meaning.specs.declared.mark.LoopMark.{LoopMark}
-use Rattle.tm_meaning.specs.Meaning.{Run, Outcome, Ending, done, leave, next, fault, Nests, Under, use_it, then_do, on_done, so_far, ended, say, audible, none_waits, value_of, value_behind, in_place_of, behind, block_tag, truth, applied_unary, operated, applied, attribute, eval, eval_all, eval_pair, eval_pairs, eval_argument, eval_arguments, eval_keyword, eval_keywords, eval_named, one_counted, kept, loop_items, eval_condition, eval_conditions, eval_step, eval_links, eval_steps, assign, assign_all, set_to, set_each, closing_by, closing, capturing, captured_by, captured, round_end, rounds, loop_over, has_none, exec_behind_loop, done_by, emit, behind_first, exec, execs, exec_else, at_end, new_run, nests_of}
+use Rattle.tm_meaning.specs.Meaning.{Again, over, under, again_in, again_of, turn_of, text_behind, Run, Outcome, Ending, done, leave, next, fault, Nests, Under, use_it, then_do, on_done, so_far, ended, say, audible, none_waits, value_of, value_behind, in_place_of, behind, block_tag, truth, applied_unary, operated, applied, attribute, eval, eval_all, eval_pair, eval_pairs, eval_argument, eval_arguments, eval_keyword, eval_keywords, eval_named, one_counted, kept, loop_items, eval_condition, eval_conditions, eval_step, eval_links, eval_steps, assign, assign_all, set_to, set_each, closing_by, closing, capturing, captured_by, captured, round_end, rounds, loop_over, has_none, exec_behind_loop, done_by, emit, behind_first, exec, execs, exec_else, at_end, new_run, nests_of}
 use Rattle.tm_meaning.specs.Tree.{Trees}
 use Rattle.tm_meaning.specs.declared.stream.TemplateId.{TemplateId}
 
@@ -275,53 +277,53 @@ kept_turned g w world1 k =
     subst (λ x. Kept (in_loop_of g w) x) (sym is) (record { same_marks = k.same_marks; outer = k.outer; loops = (turned_at 0 k.loops.0, loops) })
 
 -- a world with a loop of these items more
-abbrev pub opened : LoopFlags → World → List Val → World
-opened g w vs = record (in_loop_of g w) { loops = w.loops ++ new_loop vs g w ∷ [] }
+abbrev pub opened : LoopFlags → ℕ → World → List Val → World
+opened g n w vs = record (in_loop_of g w) { loops = w.loops ++ new_loop vs g n w ∷ [] }
 
-pub opened_kept : (g : LoopFlags) (w : World) (vs : List Val) → Kept (in_loop_of g w) (opened g w vs)
-opened_kept g w vs = record { same_marks = refl; outer = refl; loops = (new_loop vs g w ∷ [], shapes_behind w.loops (new_loop vs g w ∷ [])) }
+pub opened_kept : (g : LoopFlags) (n : ℕ) (w : World) (vs : List Val) → Kept (in_loop_of g w) (opened g n w vs)
+opened_kept g n w vs = record { same_marks = refl; outer = refl; loops = (new_loop vs g n w ∷ [], shapes_behind w.loops (new_loop vs g n w ∷ [])) }
 
 -- a round's end
-round_end_ends : (w x : World) (run : Run) (f : Run → List ℕ → World → Outcome) → ((run1 : Run) (out1 : List ℕ) (world1 : World) → Kept (in_loop_of for_flags w) world1 → Ends w (f run1 out1 world1)) →
-    (e : Ending) (parent : Option TemplateId) (out : List ℕ) (world1 : World) → Kept (in_loop_of for_flags w) x → EndsBy x e world1 →
+round_end_ends : (w x : World) (run : Run) (f : Run → List ℕ → World → Outcome) → ((run1 : Run) (out1 : List ℕ) (world1 : World) → Kept (in_loop_of (for_flags false) w) world1 → Ends w (f run1 out1 world1)) →
+    (e : Ending) (parent : Option TemplateId) (out : List ℕ) (world1 : World) → Kept (in_loop_of (for_flags false) w) x → EndsBy x e world1 →
     Ends w (round_end e run (record { ending = e; parent = parent; text = out; world = world1 }) f)
 unfolding Ends
 round_end_ends w x run f k done parent out world1 i h = ends_kept w world1 (tick world1) run out _ (tick_gives world1) (λ _ world2 h2. k run out world2 (kept_then i (kept_then h h2)))
 round_end_ends w x run f k leave parent out world1 i h =
-    ends_kept w world1 (tick world1) run out _ (tick_gives world1) (λ _ world2 h2. kept_popped (loop_scope (mark_behind for_flags w)) w world2 (kept_then i (kept_then h h2)))
+    ends_kept w world1 (tick world1) run out _ (tick_gives world1) (λ _ world2 h2. kept_popped (loop_scope (mark_behind (for_flags false) w)) w world2 (kept_then i (kept_then h h2)))
 round_end_ends w x run f k next parent out world1 i h = ends_kept w world1 (tick world1) run out _ (tick_gives world1) (λ _ world2 h2. k run out world2 (kept_then i (kept_then h h2)))
 round_end_ends w x run f k (fault chain) parent out world1 i h = tt
 
-round_end_of : (w x : World) (run : Run) (f : Run → List ℕ → World → Outcome) → ((run1 : Run) (out1 : List ℕ) (world1 : World) → Kept (in_loop_of for_flags w) world1 → Ends w (f run1 out1 world1)) →
-    (o : Outcome) → Kept (in_loop_of for_flags w) x → Ends x o → Ends w (round_end o.ending run o f)
+round_end_of : (w x : World) (run : Run) (f : Run → List ℕ → World → Outcome) → ((run1 : Run) (out1 : List ℕ) (world1 : World) → Kept (in_loop_of (for_flags false) w) world1 → Ends w (f run1 out1 world1)) →
+    (o : Outcome) → Kept (in_loop_of (for_flags false) w) x → Ends x o → Ends w (round_end o.ending run o f)
 unfolding Ends
 round_end_of w x run f k o i h = round_end_ends w x run f k o.ending o.parent o.text o.world i h
 
 -- A loop's rounds leave what lies around it.
 rounds_end : (w : World) (turn : Val → Run → List ℕ → World → Outcome) → ((v : Val) (run : Run) (out : List ℕ) (x : World) → Ends x (turn v run out x)) →
-    (vs : List Val) (run : Run) (out : List ℕ) (world1 : World) → Kept (in_loop_of for_flags w) world1 → Ends w (rounds turn vs run out world1)
+    (vs : List Val) (run : Run) (out : List ℕ) (world1 : World) → Kept (in_loop_of (for_flags false) w) world1 → Ends w (rounds turn vs run out world1)
 rounds_end w turn k [] run out world1 i =
     ends_kept w world1 (tick world1) run out _ (tick_gives world1) (λ _ world2 h.
-    ends_here w (pop (next_turn world2)) run out (kept_popped (loop_scope (mark_behind for_flags w)) w (next_turn world2) (kept_turned for_flags w world2 (kept_then i h))))
+    ends_here w (pop (next_turn world2)) run out (kept_popped (loop_scope (mark_behind (for_flags false) w)) w (next_turn world2) (kept_turned (for_flags false) w world2 (kept_then i h))))
 rounds_end w turn k (v ∷ vs) run out world1 i =
     ends_kept w world1 (tick world1) run out _ (tick_gives world1) (λ _ world2 h.
     let x = cleared (next_turn world2) in
     let o = turn v run out x in
     round_end_of w x (record run { parent = o.parent }) _ (λ run1 out1 world3 j. rounds_end w turn k vs run1 out1 world3 j) o
-    (kept_cleared (kept_turned for_flags w world2 (kept_then i h))) (k v run out x))
+    (kept_cleared (kept_turned (for_flags false) w world2 (kept_then i h))) (k v run out x))
 
-abbrev pub recorded : LoopFlags → List Val → World → World → Res (Unit {0})
-recorded g vs w world1 = Good tt (record world1 { loops = world1.loops ++ new_loop vs g w ∷ [] })
+abbrev pub recorded : LoopFlags → ℕ → List Val → World → World → Res (Unit {0})
+recorded g n vs w world1 = Good tt (record world1 { loops = world1.loops ++ new_loop vs g n w ∷ [] })
 
-opened_ends : (w : World) (vs : List Val) (turn : Val → Run → List ℕ → World → Outcome) → ((v : Val) (run : Run) (out : List ℕ) (x : World) → Ends x (turn v run out x)) →
+opened_ends : (n : ℕ) (recursive : Bool) (w : World) (vs : List Val) (turn : Val → Run → List ℕ → World → Outcome) → ((v : Val) (run : Run) (out : List ℕ) (x : World) → Ends x (turn v run out x)) →
     (run : Run) (out : List ℕ) (room : Bool) →
-    Ends w (use_it (bind (one_more room (loop_scope (mark_behind for_flags w)) w) (λ _ world1. recorded for_flags vs w world1)) run out (λ _ world1. rounds turn vs run out world1))
-opened_ends w vs turn k run out true = rounds_end w turn k vs run out _ (opened_kept for_flags w vs)
-opened_ends w vs turn k run out false = ends_fault w w run out (InvalidOperation ∷ [])
+    Ends w (use_it (bind (one_more room (loop_scope (mark_behind (for_flags false) w)) w) (λ _ world1. recorded (for_flags recursive) n vs w world1)) run out (λ _ world1. rounds turn vs run out world1))
+opened_ends n recursive w vs turn k run out true = rounds_end w turn k vs run out _ (opened_kept (for_flags recursive) n w vs)
+opened_ends n recursive w vs turn k run out false = ends_fault w w run out (InvalidOperation ∷ [])
 
-pub loop_ends : (host : Host) (w : World) (turn : Val → Run → List ℕ → World → Outcome) → ((v : Val) (run : Run) (out : List ℕ) (x : World) → Ends x (turn v run out x)) →
-    (vs : List Val) (run : Run) (out : List ℕ) → Ends w (loop_over host turn vs run out w)
-loop_ends host w turn k vs run out = opened_ends w vs turn k run out (nat_lt (depth w.scopes) host.limit)
+pub loop_ends : (host : Host) (n : ℕ) (recursive : Bool) (w : World) (turn : Val → Run → List ℕ → World → Outcome) → ((v : Val) (run : Run) (out : List ℕ) (x : World) → Ends x (turn v run out x)) →
+    (vs : List Val) (run : Run) (out : List ℕ) → Ends w (loop_over host n recursive turn vs run out w)
+loop_ends host n recursive w turn k vs run out = opened_ends n recursive w vs turn k run out (nat_lt (depth w.scopes) host.limit)
 
 -- behind a capture
 captured_by_ends : (w : World) (run : Run) (out : List ℕ) (f : Run → List ℕ → World → Outcome) → ((run1 : Run) (x : List ℕ) (world1 : World) → Ends world1 (f run1 x world1)) →
@@ -342,11 +344,13 @@ captured_ends w run out o f h k = captured_by_ends w (record run { parent = o.pa
 abbrev pub Asks : ℕ → World → Asked → Type 0
 Asks limit w (has v world1) = Kept w world1
 Asks limit w (refused chain world1) = Unit {0}
+Asks limit w (recurs n items world1) = Kept w world1
 Asks limit w (runs c world1) = (depth world1.scopes ≡ depth w.scopes + 1) × (depth world1.scopes ≤ limit) × ((world2 : World) → Kept world1 world2 → Kept w (undone c.undo world2))
 
 asks_then : (limit : ℕ) (w world1 : World) (q : Asked) → Kept w world1 → Asks limit world1 q → Asks limit w q
 asks_then limit w world1 (has v world2) h k = kept_then h k
 asks_then limit w world1 (refused chain world2) h k = tt
+asks_then limit w world1 (recurs n items world2) h k = kept_then h k
 asks_then limit w world1 (runs c world2) h k = (k.0 ∙ ap (λ n. n + 1) (kept_depth h), k.1, λ world3 l. kept_then h (k.2 world3 l))
 
 ask_then : {A : Type 0} (limit : ℕ) (w : World) (m : Res A) (g : A → World → Asked) → Gives w m → ((a : A) (world1 : World) → Asks limit world1 (g a world1)) → Asks limit w (ask m g)
@@ -421,10 +425,6 @@ value_asks host (macro m) args w = tt
 value_asks host (loop i n) args w = tt
 value_asks host (namespace i n) args w = tt
 
-pub named_asks : (host : Host) (x : List ℕ) (args : List Val) (w : World) → Asks host.limit w (call_named host x args w)
-named_asks host x args w =
-    ask_then host.limit w (lookup host x w) _ (answered_gives _ w) (λ found world1. ask_need host.limit world1 found UnknownFunction (λ f world2. call_value host f args world2) (λ f. value_asks host f args world1))
-
 -- ---------------------------------------------------------------- methods
 if_asks : (limit : ℕ) (w : World) (b : Bool) (p q : Asked) → Asks limit w p → Asks limit w q → Asks limit w (if b then p else q)
 if_asks limit w true p q h k = h
@@ -471,8 +471,50 @@ method_asks host x (function n) args w = found_asks host x (function n) args w
 method_asks host x (macro m) args w = found_asks host x (macro m) args w
 method_asks host x (namespace state n) args w = found_asks host x (namespace state n) args w
 
+-- ---------------------------------------------------------------- loops that are called
+wrapped_gives : {A : Type 0} (w : World) (kind : ErrorKind) (m : Res A) → Gives w m → Gives w (wrapped_as kind m)
+wrapped_gives w kind (Good a world1) h = h
+wrapped_gives w kind (Bad chain world1) h = tt
+
+loop_call_asks : (host : Host) (l : Loop) (v : Val) (w : World) → Asks host.limit w (call_loop host l v w)
+loop_call_asks host l v w =
+    ask_check host.limit w (l.recursive && same_stream l.stream w.stream) InvalidOperation
+    (λ _ world1. ask (wrapped_as InvalidOperation (items_over host v world1)) (λ items world2. recurs l.number items world2))
+    (ask_then host.limit w (wrapped_as InvalidOperation (items_over host v w)) (λ items world2. recurs l.number items world2)
+    (wrapped_gives w InvalidOperation (items_over host v w) (answered_gives _ w)) (λ items world1. kept_same world1))
+
+pub innermost_asks : (host : Host) (v : Val) (w : World) → Asks host.limit w (call_innermost host v w)
+innermost_asks host v w =
+    ask_need host.limit w (innermost w.scopes.frames) UnknownFunction _ (λ n. of_loop_asks host.limit w (slice_get w.loops n) _ (λ l. loop_call_asks host l v w))
+
+one_argument_gives : (args : List Val) (w : World) → Gives w (one_argument args w)
+one_argument_gives [] w = tt
+one_argument_gives (v ∷ []) w = kept_same w
+one_argument_gives (v ∷ u ∷ vs) w = tt
+
+found_call_asks : (host : Host) (v : Val) (args : List Val) (w : World) → Asks host.limit w (call_found host v args w)
+found_call_asks host (loop state n) args w =
+    of_loop_asks host.limit w (record_at w state n) _ (λ l. ask_then host.limit w (one_argument args w) _ (one_argument_gives args w) (λ v world1. loop_call_asks host l v world1))
+found_call_asks host (undefined s) args w = value_asks host (undefined s) args w
+found_call_asks host none args w = value_asks host none args w
+found_call_asks host (boolean b) args w = value_asks host (boolean b) args w
+found_call_asks host (number z) args w = value_asks host (number z) args w
+found_call_asks host (text t s) args w = value_asks host (text t s) args w
+found_call_asks host (list vs) args w = value_asks host (list vs) args w
+found_call_asks host (map ps) args w = value_asks host (map ps) args w
+found_call_asks host (keywords ps) args w = value_asks host (keywords ps) args w
+found_call_asks host (exports ps t) args w = value_asks host (exports ps t) args w
+found_call_asks host (function n) args w = value_asks host (function n) args w
+found_call_asks host (macro m) args w = value_asks host (macro m) args w
+found_call_asks host (namespace i n) args w = value_asks host (namespace i n) args w
+
+pub named_asks : (host : Host) (x : List ℕ) (args : List Val) (w : World) → Asks host.limit w (call_named host x args w)
+named_asks host x args w =
+    ask_then host.limit w (lookup host x w) _ (answered_gives _ w) (λ found world1. ask_need host.limit world1 found UnknownFunction (λ f world2. call_found host f args world2) (λ f. found_call_asks host f args world1))
+
 -- ---------------------------------------------------------------- trees
-module _ (u : Under) (nest_ends : (k : Callee) (heard : Bool) (out : List ℕ) (w : World) → Ends w (u.nests k heard out w)) where
+module _ (u : Under) (nest_ends : (k : Callee) (heard : Bool) (out : List ℕ) (w : World) → Ends w (u.nests k heard out w))
+    (again_ends : (n : ℕ) (items : List Val) (run : Run) (out : List ℕ) (w : World) → Ends w (u.again n items run out w)) where
   value_by : (w world1 : World) (c : Call) (e : Ending) (o : Outcome) → EndsBy world1 e o.world → ((world2 : World) → Kept world1 world2 → Kept w (undone c.undo world2)) → Gives w (value_behind e c o)
   value_by w world1 c done o h k = k o.world h
   value_by w world1 c leave o h k = k o.world h
@@ -483,10 +525,21 @@ module _ (u : Under) (nest_ends : (k : Callee) (heard : Bool) (out : List ℕ) (
   unfolding Ends
   nest_by k heard out w = nest_ends k heard out w
 
-  value_gives : (w : World) (q : Asked) → Asks u.host.limit w q → Gives w (value_of u q)
-  value_gives w (has v world1) h = h
-  value_gives w (refused chain world1) h = tt
-  value_gives w (runs c world1) h = let o = u.nests c.callee true [] world1 in value_by w world1 c o.ending o (nest_by c.callee true [] world1) h.2
+  text_by : (w world1 : World) (e : Ending) (o : Outcome) → Kept w world1 → EndsBy world1 e o.world → Gives w (text_behind e o)
+  text_by w world1 done o h k = kept_then h k
+  text_by w world1 leave o h k = kept_then h k
+  text_by w world1 next o h k = kept_then h k
+  text_by w world1 (fault chain) o h k = tt
+
+  again_by : (n : ℕ) (items : List Val) (run : Run) (out : List ℕ) (w : World) → EndsBy w (u.again n items run out w).ending (u.again n items run out w).world
+  unfolding Ends
+  again_by n items run out w = again_ends n items run out w
+
+  value_gives : (w : World) (run : Run) (q : Asked) → Asks u.host.limit w q → Gives w (value_of u run q)
+  value_gives w run (has v world1) h = h
+  value_gives w run (refused chain world1) h = tt
+  value_gives w run (recurs n items world1) h = let o = u.again n items (capturing true run) [] world1 in text_by w world1 o.ending o h (again_by n items (capturing true run) [] world1)
+  value_gives w run (runs c world1) h = let o = u.nests c.callee true [] world1 in value_by w world1 c o.ending o (nest_by c.callee true [] world1) h.2
 
   place_by : (w world1 : World) (c : Call) (run : Run) (e : Ending) (o : Outcome) → EndsBy world1 e o.world → ((world2 : World) → Kept world1 world2 → Kept w (undone c.undo world2)) → Ends w (behind e c run o)
   place_by w world1 c run done o h k = ends_here w _ run o.text (k o.world h)
@@ -497,6 +550,7 @@ module _ (u : Under) (nest_ends : (k : Callee) (heard : Bool) (out : List ℕ) (
   place_ends : (w : World) (run : Run) (out : List ℕ) (q : Asked) → Asks u.host.limit w q → Ends w (in_place_of u run out q)
   place_ends w run out (has v world1) h = ends_here w world1 run out h
   place_ends w run out (refused chain world1) h = ends_fault w world1 run out chain
+  place_ends w run out (recurs n items world1) h = ends_then w world1 (u.again n items run out world1) h (again_ends n items run out world1)
   place_ends w run out (runs c world1) h =
       let o = u.nests c.callee (audible run) out world1 in place_by w world1 c run o.ending o (nest_by c.callee (audible run) out world1) h.2
 
@@ -547,7 +601,7 @@ module _ (u : Under) (nest_ends : (k : Callee) (heard : Bool) (out : List ℕ) (
     eval_gives run (Call' f _ given _ named) w =
         gives_bind w (eval_arguments u run given w) _ (arguments_give run given w) (λ vs world1.
         gives_bind world1 (eval_named u run named world1) _ (named_give run named world1) (λ ks world2.
-        gives_bind world2 (tick world2) _ (tick_gives world2) (λ _ world3. value_gives world3 _ (named_asks u.host f (vs ++ ks) world3))))
+        gives_bind world2 (tick world2) _ (tick_gives world2) (λ _ world3. value_gives world3 run _ (named_asks u.host f (vs ++ ks) world3))))
     eval_gives run (unary op a) w =
         gives_bind w (eval u run a w) _ (eval_gives run a w) (λ v world1. gives_bind world1 (tick world1) _ (tick_gives world1) (λ _ world2. unary_gives op v world2))
     eval_gives run (chained a _ ss) w = gives_bind w (eval u run a w) _ (eval_gives run a w) (λ v world1. steps_give run ss v world1)
@@ -609,7 +663,7 @@ module _ (u : Under) (nest_ends : (k : Callee) (heard : Bool) (out : List ℕ) (
     step_gives run (Method' x _ given _ named) v w =
         gives_bind w (eval_arguments u run given w) _ (arguments_give run given w) (λ vs world1.
         gives_bind world1 (eval_named u run named world1) _ (named_give run named world1) (λ ks world2.
-        gives_bind world2 (tick world2) _ (tick_gives world2) (λ _ world3. value_gives world3 _ (method_asks u.host x v (vs ++ ks) world3))))
+        gives_bind world2 (tick world2) _ (tick_gives world2) (λ _ world3. value_gives world3 run _ (method_asks u.host x v (vs ++ ks) world3))))
     step_gives run (item a) v w =
         gives_bind w (eval u run a w) _ (eval_gives run a w) (λ k world1. gives_bind world1 (tick world1) _ (tick_gives world1) (λ _ world2. answered_gives _ world2))
     step_gives run (slice a b c) v w =
@@ -692,23 +746,23 @@ module _ (u : Under) (nest_ends : (k : Callee) (heard : Bool) (out : List ℕ) (
       (gives_kept w world4 (tick world4) _ (tick_gives world4) (λ _ world5 h5. kept_gives w test given n vs world5 (kept_then kept4 h5)))))))
 
   -- what stands in a loop that was opened, where there is room for it
-  opened_gives : {A : Type 0} (g : LoopFlags) (w : World) (vs : List Val) (room : Bool) (rest : World → Res A) → Gives w (rest (opened g w vs)) →
-      Gives w (bind (bind (one_more room (loop_scope (mark_behind g w)) w) (λ _ world1. recorded g vs w world1)) (λ _ x. rest x))
-  opened_gives g w vs true rest k = k
-  opened_gives g w vs false rest k = tt
+  opened_gives : {A : Type 0} (g : LoopFlags) (n : ℕ) (w : World) (vs : List Val) (room : Bool) (rest : World → Res A) → Gives w (rest (opened g n w vs)) →
+      Gives w (bind (bind (one_more room (loop_scope (mark_behind g w)) w) (λ _ world1. recorded g n vs w world1)) (λ _ x. rest x))
+  opened_gives g n w vs true rest k = k
+  opened_gives g n w vs false rest k = tt
 
   pub test_gives : (run : Run) (t : Target) (c : Expr) (v : Val) (w : World) → Gives w (bind (assign u run t v w) (λ _ world1. eval u run c world1))
   test_gives run t c v w = gives_bind w (assign u run t v w) _ (assign_gives run t v w) (λ _ world1. eval_gives run c world1)
 
-  pub loop_items_give : (run : Run) (t : Target) (e : Expr) (c : Option Expr) (w : World) → Gives w (loop_items u run t e c w)
-  loop_items_give run t e None w = gives_bind w (eval u run e w) _ (eval_gives run e w) (λ v world1. answered_gives _ world1)
-  loop_items_give run t e (Some c) w =
+  pub loop_items_give : (at : ℕ) (run : Run) (t : Target) (e : Expr) (c : Option Expr) (w : World) → Gives w (loop_items u at run t e c w)
+  loop_items_give at run t e None w = gives_bind w (eval u run e w) _ (eval_gives run e w) (λ v world1. answered_gives _ world1)
+  loop_items_give at run t e (Some c) w =
       gives_bind w (tick w) _ (tick_gives w) (λ _ world1.
       gives_bind world1 (eval u run e world1) _ (eval_gives run e world1) (λ v world2.
       gives_bind world2 (items_over u.host v world2) _ (answered_gives _ world2) (λ vs world3.
-      opened_gives filter_flags world3 vs (nat_lt (depth world3.scopes) u.host.limit) _
-      (gives_bind world3 (kept u.host (λ x world5. bind (assign u run t x world5) (λ _ world6. eval u run c world6)) 0 vs (opened filter_flags world3 vs)) _
-      (kept_gives world3 _ (λ x world5. test_gives run t c x world5) 0 vs (opened filter_flags world3 vs) (opened_kept filter_flags world3 vs)) (λ us world5.
+      opened_gives filter_flags at world3 vs (nat_lt (depth world3.scopes) u.host.limit) _
+      (gives_bind world3 (kept u.host (λ x world5. bind (assign u run t x world5) (λ _ world6. eval u run c world6)) 0 vs (opened filter_flags at world3 vs)) _
+      (kept_gives world3 _ (λ x world5. test_gives run t c x world5) 0 vs (opened filter_flags at world3 vs) (opened_kept filter_flags at world3 vs)) (λ us world5.
       gives_bind world5 (tick world5) _ (tick_gives world5) (λ _ world6. kept_same world6))))))
 
   emit_ends : (run : Run) (out : List ℕ) (v : Val) (w : World) → Ends w (emit u run out v w)
@@ -724,51 +778,62 @@ module _ (u : Under) (nest_ends : (k : Callee) (heard : Bool) (out : List ℕ) (
   tag_ends run b out w = choose_ends w _ _ _ (place_ends w run out _ (block_asks u.host b w)) (ends_here w w run out (kept_same w))
 
   mutual
-    pub exec_ends : (s : Stmt) (run : Run) (out : List ℕ) (w : World) → Ends w (exec u s run out w)
-    exec_ends (EmitRaw t) run out w = ends_use w (tick w) run out _ (tick_gives w) (λ _ world1. ends_here world1 world1 run (say run t out) (kept_same world1))
-    exec_ends (EmitExpr e) run out w = ends_use w (eval u run e w) run out _ (eval_gives run e w) (λ v world1. emit_ends run out v world1)
-    exec_ends (If' c _ body other) run out w =
+    pub exec_ends : (at : ℕ) (s : Stmt) (run : Run) (out : List ℕ) (w : World) → Ends w (exec u at s run out w)
+    exec_ends at (EmitRaw t) run out w = ends_use w (tick w) run out _ (tick_gives w) (λ _ world1. ends_here world1 world1 run (say run t out) (kept_same world1))
+    exec_ends at (EmitExpr e) run out w = ends_use w (eval u run e w) run out _ (eval_gives run e w) (λ v world1. emit_ends run out v world1)
+    exec_ends at (EmitLoop e) run out w =
+        ends_use w (eval u run e w) run out _ (eval_gives run e w) (λ v world1. ends_use world1 (tick world1) run out _ (tick_gives world1) (λ _ world2. place_ends world2 run out _ (innermost_asks u.host v world2)))
+    exec_ends at (If' c _ body other) run out w =
         ends_use w (eval u run c w) run out _ (eval_gives run c w) (λ v world1.
         ends_use world1 (tick world1) run out _ (tick_gives world1) (λ _ world2.
         ends_use world2 (truth u.host v world2) run out _ (answered_gives _ world2) (λ b world3.
-        choose_ends world3 b _ _ (behind_first_ends other run world3 _ (execs_end body run out world3)) (else_ends other run out world3))))
-    exec_ends (Block' b _ body) run out w = ends_use w (tick w) run out _ (tick_gives w) (λ _ world1. tag_ends run b out world1)
-    exec_ends (Set t e) run out w = ends_use w (set_to u run t e w) run out _ (set_gives run t e w) (λ _ world1. ends_here world1 world1 run out (kept_same world1))
-    exec_ends (With' given _ body) run out w =
+        choose_ends world3 b _ _ (behind_first_ends other run world3 _ (execs_end at body run out world3)) (else_ends (pasts at body) other run out world3))))
+    exec_ends at (Block' b _ body) run out w = ends_use w (tick w) run out _ (tick_gives w) (λ _ world1. tag_ends run b out world1)
+    exec_ends at (Set t e) run out w = ends_use w (set_to u run t e w) run out _ (set_gives run t e w) (λ _ world1. ends_here world1 world1 run out (kept_same world1))
+    exec_ends at (With' given _ body) run out w =
         let s = plain_scope (undefined false) in
         ends_within w s (nat_lt (depth w.scopes) u.host.limit) run out _
         (ends_kept w (within s w) (set_each u run given (within s w)) run out _ (set_each_gives run given (within s w)) (λ _ world2 k.
-        closing_ends w (within s w) pop (kept_popped s w) (execs u body run out world2) (ends_then (within s w) world2 (execs u body run out world2) k (execs_end body run out world2))))
-    exec_ends (For' t e c _ body other) run out w =
-        ends_use w (loop_items u run t e c w) run out _ (loop_items_give run t e c w) (λ vs world1.
-        ends_do world1 run (loop_over u.host (λ item run1 out1 world2. use_it (assign u run1 t item world2) run1 out1 (λ _ world3. execs u body run1 out1 world3)) vs run out world1) _
-        (loop_ends u.host world1 _ (λ item run1 out1 world2. ends_use world2 (assign u run1 t item world2) run1 out1 _ (assign_gives run1 t item world2) (λ _ world3. execs_end body run1 out1 world3)) vs run out)
-        (λ run1 out1 world2. behind_loop_ends other (has_none vs) run1 out1 world2))
-    exec_ends Break run out w = ends_leave w run out
-    exec_ends Continue run out w = ends_next w run out
-    exec_ends (SetBlock' t _ body) run out w =
-        captured_ends w run out (execs u body (capturing true run) [] w) _ (execs_end body (capturing true run) [] w) (λ run1 x world1.
+        closing_ends w (within s w) pop (kept_popped s w) (execs u at body run out world2) (ends_then (within s w) world2 (execs u at body run out world2) k (execs_end at body run out world2))))
+    exec_ends at (For' t e c recursive _ body other) run out w =
+        ends_use w (loop_items u at run t e c w) run out _ (loop_items_give at run t e c w) (λ vs world1.
+        ends_do world1 run (loop_over u.host (at + passes c) recursive (λ item run1 out1 world2. use_it (assign u run1 t item world2) run1 out1 (λ _ world3. execs u (within_loop c at) body run1 out1 world3)) vs run out world1) _
+        (loop_ends u.host (at + passes c) recursive world1 _ (λ item run1 out1 world2. ends_use world2 (assign u run1 t item world2) run1 out1 _ (assign_gives run1 t item world2) (λ _ world3. execs_end (within_loop c at) body run1 out1 world3)) vs run out)
+        (λ run1 out1 world2. behind_loop_ends (pasts (within_loop c at) body) other (has_none vs) run1 out1 world2))
+    exec_ends at Break run out w = ends_leave w run out
+    exec_ends at Continue run out w = ends_next w run out
+    exec_ends at (SetBlock' t _ body) run out w =
+        captured_ends w run out (execs u at body (capturing true run) [] w) _ (execs_end at body (capturing true run) [] w) (λ run1 x world1.
         ends_use world1 (tick world1) run1 out _ (tick_gives world1) (λ _ world2.
         ends_use world2 (assign u run1 t (captured_text x world2) world2) run1 out _ (assign_gives run1 t (captured_text x world2) world2) (λ _ world3. ends_here world3 world3 run1 out (kept_same world3))))
-    exec_ends (AutoEscape' e _ body) run out w =
+    exec_ends at (AutoEscape' e _ body) run out w =
         ends_use w (eval u run e w) run out _ (eval_gives run e w) (λ v world1.
         ends_use world1 (answered (escape_for run.first v) world1) run out _ (answered_gives _ world1) (λ x world2.
         closing_ends world2 (with_escape x world2) (with_escape world2.escape) (λ y k. kept_then (kept_escaped x (kept_same world2)) (kept_escaped world2.escape k))
-        (execs u body run out (with_escape x world2)) (execs_end body run out (with_escape x world2))))
-    exec_ends (Do e) run out w = ends_use w (eval u run e w) run out _ (eval_gives run e w) (λ _ world1. ends_here world1 world1 run out (kept_same world1))
+        (execs u at body run out (with_escape x world2)) (execs_end at body run out (with_escape x world2))))
+    exec_ends at (Do e) run out w = ends_use w (eval u run e w) run out _ (eval_gives run e w) (λ _ world1. ends_here world1 world1 run out (kept_same world1))
 
-    pub execs_end : {n : _} → (ss : Row_of-Stmt n) (run : Run) (out : List ℕ) (w : World) → Ends w (execs u ss run out w)
-    execs_end no_statement run out w = ends_here w w run out (kept_same w)
-    execs_end (statement s ss) run out w = ends_do w run (exec u s run out w) _ (exec_ends s run out w) (λ run1 out1 world1. execs_end ss run1 out1 world1)
+    pub execs_end : {n : _} → (at : ℕ) (ss : Row_of-Stmt n) (run : Run) (out : List ℕ) (w : World) → Ends w (execs u at ss run out w)
+    execs_end at no_statement run out w = ends_here w w run out (kept_same w)
+    execs_end at (statement s ss) run out w = ends_do w run (exec u at s run out w) _ (exec_ends at s run out w) (λ run1 out1 world1. execs_end (past at s) ss run1 out1 world1)
 
-    else_ends : (other : Otherwise) (run : Run) (out : List ℕ) (w : World) → Ends w (exec_else u other run out w)
-    else_ends no_else run out w = ends_here w w run out (kept_same w)
-    else_ends (otherwise _ body) run out w = execs_end body run out w
+    else_ends : (at : ℕ) (other : Otherwise) (run : Run) (out : List ℕ) (w : World) → Ends w (exec_else u at other run out w)
+    else_ends at no_else run out w = ends_here w w run out (kept_same w)
+    else_ends at (otherwise _ body) run out w = execs_end at body run out w
 
-    pub behind_loop_ends : (other : Otherwise) (none_taken : Bool) (run : Run) (out : List ℕ) (w : World) → Ends w (exec_behind_loop u other none_taken run out w)
-    behind_loop_ends no_else none_taken run out w = ends_here w w run out (kept_same w)
-    behind_loop_ends (otherwise _ body) none_taken run out w =
-        ends_use w (tick w) run out _ (tick_gives w) (λ _ world1. choose_ends world1 none_taken _ _ (execs_end body run out world1) (ends_here world1 world1 run out (kept_same world1)))
+    pub behind_loop_ends : (at : ℕ) (other : Otherwise) (none_taken : Bool) (run : Run) (out : List ℕ) (w : World) → Ends w (exec_behind_loop u at other none_taken run out w)
+    behind_loop_ends at no_else none_taken run out w = ends_here w w run out (kept_same w)
+    behind_loop_ends at (otherwise _ body) none_taken run out w =
+        ends_use w (tick w) run out _ (tick_gives w) (λ _ world1. choose_ends world1 none_taken _ _ (execs_end at body run out world1) (ends_here world1 world1 run out (kept_same world1)))
+
+  -- a loop that is called
+  pub called_end : (l : Option FoundLoop) (n : ℕ) (items : List Val) (run : Run) (out : List ℕ) (w : World) → Ends w (again_in u l n items run out w)
+  called_end None n items run out w = ends_fault w w run out (InvalidOperation ∷ [])
+  called_end (Some l) n items run out w =
+      choose_ends w l.recursive _ _
+      (loop_ends u.host n true w (turn_of u l)
+      (λ v run1 out1 world1. ends_use world1 (assign u run1 l.target v world1) run1 out1 _ (assign_gives run1 l.target v world1) (λ _ world2. execs_end l.at l.body.row run1 out1 world2)) items run out)
+      (ends_fault w w run out (InvalidOperation ∷ []))
 
 done_by_ends : (w world1 : World) (m : Res (Unit {0})) (o : Outcome) → Kept w world1 → Gives world1 m → Ends w (done_by m o)
 unfolding Ends
@@ -786,10 +851,19 @@ pub ends_as : (w : World) (o : Outcome) → Ends w o → EndsBy w o.ending o.wor
 unfolding Ends
 ends_as w o h = h
 
+-- Loops that are called keep the scopes, where what nests does.
+pub again_end : (host : Host) (nests : Nests) (nest_ends : (k : Callee) (heard : Bool) (out : List ℕ) (w : World) → Ends w (nests k heard out w)) (body : Body) (level n : ℕ) (items : List Val) (run : Run) (out : List ℕ) (w : World) →
+    Ends w (again_of host nests body level n items run out w)
+again_end host nests nest_ends body zero n items run out w = ends_fault w w run out (InvalidOperation ∷ [])
+again_end host nests nest_ends body (suc k) n items run out w =
+    called_end (over host nests (again_of host nests body k)) nest_ends (again_end host nests nest_ends body k) (slice_get (loops_in 0 body.row) n) n items run out w
+
 -- What nests keeps the scopes too.
 pub nests_end : (host : Host) (trees : Trees) (n : ℕ) (k : Callee) (heard : Bool) (out : List ℕ) (w : World) → Ends w (nests_of host trees n k heard out w)
 nests_end host trees zero k heard out w = ends_fault w w (new_run heard w) out (InvalidOperation ∷ [])
 nests_end host trees (suc n) (whole s) heard out w =
-    let u : Under = record { host = host; nests = nests_of host trees n } in
-    let o = execs u (trees s).row (new_run heard w) out w in
-    at_end_ends w o.ending o.parent o.text o.world (ends_as w o (execs_end u (nests_end host trees n) (trees s).row (new_run heard w) out w))
+    let nests = nests_of host trees n in
+    let u : Under = under host nests (trees s) in
+    let o = execs u 0 (trees s).row (new_run heard w) out w in
+    at_end_ends w o.ending o.parent o.text o.world
+    (ends_as w o (execs_end u (nests_end host trees n) (again_end host nests (nests_end host trees n) (trees s) (host.limit + 1)) 0 (trees s).row (new_run heard w) out w))

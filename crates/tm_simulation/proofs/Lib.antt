@@ -4,3 +4,5 @@ pub mod Loops
 pub mod Follow
 pub mod Forms
 pub mod Simulation
+mod Numbers
+mod Matches

@@ -62,17 +62,17 @@ top_is : (g : LoopFlags) (w0 w : World) → Kept (in_loop_of g w0) w → top_mar
 top_is g w0 w k = top_of_marks (Some (mark_behind g w0)) (marks w0.scopes.frames) w.scopes.frames k.same_marks
 
 -- what is asked of a record of its items and turns
-of_record : (n : ℕ) (ls : List Loop) (l : Loop) → slice_get (shapes ls) n ≡ Some l → (rs : List (Option Return)) (w : World) (f : List Val → ℕ → Next) →
-    on_loop (None ∷ rs) (slice_get ls n) w (λ m. f m.items m.turns) ≡ f l.items l.turns
-of_record n [] l e rs w f = absurd (cc e)
-of_record zero (x ∷ ls) l e rs w f = let same : shape x ≡ l = cc e in ap (λ (m : Loop). f m.items m.turns) same
-of_record (suc n) (x ∷ ls) l e rs w f = of_record n ls l e rs w f
+of_record : (n : ℕ) (ls : List Loop) (l : Loop) → slice_get (shapes ls) n ≡ Some l → (o : Option Return) (rs : List (Option Return)) (w : World) (f : List Val → ℕ → Next) →
+    on_loop (o ∷ rs) (slice_get ls n) w (λ m. f m.items m.turns) ≡ f l.items l.turns
+of_record n [] l e o rs w f = absurd (cc e)
+of_record zero (x ∷ ls) l e o rs w f = let same : shape x ≡ l = cc e in ap (λ (m : Loop). f m.items m.turns) same
+of_record (suc n) (x ∷ ls) l e o rs w f = of_record n ls l e o rs w f
 
-pub on_top_loop : (g : LoopFlags) (w0 w : World) (l : Loop) → Kept (in_loop_of g w0) w → slice_get (shapes w.loops) (length w0.loops) ≡ Some l → (rs : List (Option Return)) (f : List Val → ℕ → Next) →
-    on_loop (None ∷ rs) (top_loop w) w (λ m. f m.items m.turns) ≡ f l.items l.turns
-on_top_loop g w0 w l k e rs f =
-    ap (λ (o : Option LoopMark). on_loop (None ∷ rs) (option_and_then (λ (m : LoopMark). slice_get w.loops m.number) o) w (λ m. f m.items m.turns)) (top_is g w0 w k)
-    ∙ of_record (length w0.loops) w.loops l e rs w f
+pub on_top_loop : (g : LoopFlags) (w0 w : World) (l : Loop) → Kept (in_loop_of g w0) w → slice_get (shapes w.loops) (length w0.loops) ≡ Some l → (o : Option Return) (rs : List (Option Return)) (f : List Val → ℕ → Next) →
+    on_loop (o ∷ rs) (top_loop w) w (λ m. f m.items m.turns) ≡ f l.items l.turns
+on_top_loop g w0 w l k e o rs f =
+    ap (λ (mark : Option LoopMark). on_loop (o ∷ rs) (option_and_then (λ (m : LoopMark). slice_get w.loops m.number) mark) w (λ m. f m.items m.turns)) (top_is g w0 w k)
+    ∙ of_record (length w0.loops) w.loops l e o rs w f
 
 pub next_record : (g : LoopFlags) (w0 w : World) (l : Loop) → Kept (in_loop_of g w0) w → slice_get (shapes w.loops) (length w0.loops) ≡ Some l → slice_get (shapes (next_turn w).loops) (length w0.loops) ≡ Some (turned l)
 next_record g w0 w l k e =
@@ -81,11 +81,11 @@ next_record g w0 w l k e =
     ∙ turned_record (length w0.loops) (shapes w.loops) l e
 
 -- the record of a loop that was opened
-pub new_record : (g : LoopFlags) (w : World) (vs : List Val) → slice_get (shapes (opened g w vs).loops) (length w.loops) ≡ Some (new_loop vs g w)
-new_record g w vs =
-    ap (λ ls. slice_get ls (length w.loops)) (shapes_behind w.loops (new_loop vs g w ∷ []))
-    ∙ ap (slice_get (shapes w.loops ++ new_loop vs g w ∷ [])) (sym (shapes_long w.loops))
-    ∙ seam_some (shapes w.loops) [] (new_loop vs g w)
+pub new_record : (g : LoopFlags) (n : ℕ) (w : World) (vs : List Val) → slice_get (shapes (opened g n w vs).loops) (length w.loops) ≡ Some (new_loop vs g n w)
+new_record g n w vs =
+    ap (λ ls. slice_get ls (length w.loops)) (shapes_behind w.loops (new_loop vs g n w ∷ []))
+    ∙ ap (slice_get (shapes w.loops ++ new_loop vs g n w ∷ [])) (sym (shapes_long w.loops))
+    ∙ seam_some (shapes w.loops) [] (new_loop vs g n w)
 
 pub none_is : (vs : List Val) → nat_eq (length vs) 0 ≡ has_none vs
 none_is [] = refl

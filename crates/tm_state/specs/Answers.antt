@@ -1,14 +1,18 @@
 -- What a state's calls answer, beside what the definitions say.
-use Rattle.std.specs.Prelude.{◌≡◌, ◌≤◌, ℕ, List, Option, Some, Bool, Result, Ok, Err, false}
+use Rattle.std.specs.Prelude.{◌≡◌, ◌≤◌, ℕ, List, ◌∷◌, Option, Some, Bool, Result, Ok, Err, false}
 use Rattle.tm_values.specs.Chain.{ends_in_memory}
 use Rattle.tm_values.specs.declared.error.ErrorKind.{ErrorKind}
+use Rattle.tm_values.specs.declared.error.ErrorKind.TheVariants.{InvalidOperation}
 use Rattle.tm_syntax.specs.Named.{put_each}
 use Rattle.tm_values.specs.Val.{Val}
 use Rattle.tm_tables.specs.declared.callable.Called.{Called}
 use Rattle.tm_tables.specs.declared.callable.Called.TheVariants as called
 use Rattle.tm_tables.specs.Stated.{is_for_memory}
 use Rattle.tm_meaning.specs.World.{World, Loop, Res, Good, Bad}
-use Rattle.tm_meaning.specs.Calls.{Asked, has, refused, ask, replied, given_by, is_changed}
+use Rattle.tm_meaning.specs.Calls.{Asked, has, refused, recurs, ask, replied, given_by, is_changed}
+use Rattle.tm_state.specs.declared.calls.Outcome.{Outcome}
+use Rattle.tm_state.specs.declared.calls.Outcome.TheVariants as outcome
+use Rattle.tm_state.specs.declared.calls.Recursion.{Recursion}
 
 -- What every answer keeps, also where it is a halt.
 pub record Keeps (old new : World) : Type 0 where
@@ -31,6 +35,21 @@ Calls (Err chain) asked args w = ends_in_memory chain ≡ false → asked ≡ re
 abbrev pub Comes : Result Val (List ErrorKind) → Asked → World → Type 0
 Comes (Ok v) asked w = asked ≡ has v w
 Comes (Err chain) asked w = ends_in_memory chain ≡ false → asked ≡ refused chain w
+
+-- Which loop a call begins, but for want of memory; or it is refused.
+abbrev pub Recurs : Result Recursion (List ErrorKind) → Asked → World → Type 0
+Recurs (Ok r) asked w = asked ≡ recurs r.number r.items.value.items w
+Recurs (Err chain) asked w = ends_in_memory chain ≡ false → asked ≡ refused chain w
+
+-- What a call came to, but for want of memory: a value, a loop that is called, or a fault, and the world behind it.
+abbrev pub Becomes : Result Outcome (List ErrorKind) → Asked → World → Type 0
+Becomes (Ok (outcome.Value v)) asked w = asked ≡ has v w
+Becomes (Ok (outcome.Recursion r)) asked w = asked ≡ recurs r.number r.items.value.items w
+Becomes (Err chain) asked w = ends_in_memory chain ≡ false → asked ≡ refused chain w
+
+-- InvalidOperation for this cause, unless it is for memory
+abbrev pub IsBecause : List ErrorKind → List ErrorKind → Type 0
+IsBecause cause chain = ends_in_memory chain ≡ false → chain ≡ InvalidOperation ∷ cause
 
 -- A loop is there, and this tells whether these arguments differ from those that it keeps.
 abbrev pub IsChangedAt : Bool → List Val → Option Loop → Type 0

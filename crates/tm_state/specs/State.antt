@@ -70,22 +70,22 @@ abbrev pub scoped : World → World
 scoped w = with_frames (plain (undefined false) ∷ w.scopes.frames) w
 
 -- a loop's record, none of whose items was asked for yet
-abbrev pub loop_record : List Val → ℕ → Bool → StreamId → Loop
-loop_record items depth recursive stream = record {
+abbrev pub loop_record : List Val → ℕ → ℕ → Bool → StreamId → Loop
+loop_record items depth number recursive stream = record {
   items = items;
   turns = 0;
   depth = depth;
-  number = 0;
+  number = number;
   recursive = recursive;
   stream = stream;
   kept = None;
 }
 
--- a loop more, in a scope of its own
-abbrev pub looped : List Val → LoopFlags → World → World
-looped items flags w =
+-- a loop of a number more, in a scope of its own
+abbrev pub looped : List Val → LoopFlags → ℕ → World → World
+looped items flags number w =
     record (with_frames (loop_scope (record { number = length w.loops; variable = flags.variable }) ∷ w.scopes.frames) w) {
-      loops = w.loops ++ new_loop items flags w ∷ [];
+      loops = w.loops ++ new_loop items flags number w ∷ [];
     }
 
 -- The names that a state exports: its outermost scope's own, in the order of the scope's locals, without those that begin with `_`.

@@ -4,26 +4,47 @@ ghost use Rattle.std.specs.Option.{option_copied};
 ghost use Rattle.tm_values.specs.Answer.{IsAnswer, OkOrOutOfMemory};
 ghost use Rattle.tm_syntax.specs.Named.{put_each};
 ghost use Rattle.tm_meaning.specs.World.{records_of};
-ghost use Rattle.tm_meaning.specs.Calls.{call_named, call_value, call_method, loop_method, method_in, is_macro_attribute, replied};
-ghost use Rattle.tm_state.specs.Answers.{Calls, Comes};
+ghost use Rattle.tm_values.specs.Val.{loop};
+ghost use Rattle.tm_meaning.specs.Calls.{call_found, call_innermost, call_loop, call_named, call_value, call_method, loop_method, method_in, is_macro_attribute, replied};
+ghost use Rattle.tm_state.specs.Answers.{Becomes, Calls, Comes, IsBecause, Recurs};
 
 use crate::state::StateData;
 use std::alloc::Global;
-use tm_operations::attribute;
+use std::rc::Rc;
+use tm_operations::{attribute, iterate};
+use tm_parts::LoopState;
 use tm_syntax::Name;
 use tm_tables::{Answer, Called, Host, Reply};
 use tm_values::{Error, ErrorKind, Node, UndefinedBehavior, Value, find_namespace};
 
+/// What a call came to.
+#[derive(Drop)]
+pub enum Outcome {
+    /// A value.
+    Value(Value),
+    /// A loop of the stream that runs is called, which the machine does.
+    Recursion(Recursion),
+}
+
+/// A loop that is called.
+#[derive(Drop)]
+pub struct Recursion {
+    /// Its number in the stream that runs.
+    pub number: usize,
+    /// What it is called over.
+    pub items: Rc<Vec<Value>>,
+}
+
 impl StateData<'_> {
-    /// What the function of a name gives for these arguments; what it keeps is kept, also where it answers a fault. UnknownFunction where the name isn't found, InvalidOperation where its value can't be called or a context value on the way can't be known, and what the function refuses.
+    /// What the function of a name gives for these arguments, or the loop that is called; what a function keeps is kept, also where it answers a fault. UnknownFunction where the name isn't found, InvalidOperation where its value can't be called, or not there or so, or a context value on the way can't be known, and what the function refuses.
     pub fn call<H: Host>(
         &mut self,
         alloc: Global,
         host: &H,
         name: &Name,
         args: &[Value],
-    ) -> Result<Value, Error>
-        ensures called { Comes result
+    ) -> Result<Outcome, Error>
+        ensures called { Becomes result
             (call_named (H.meaning host.now) name.now args.now self.old) self.new }
         ensures rest { self.new ≡ record self.old
             { temps = self.new.temps; namespaces = self.new.namespaces } }
@@ -33,7 +54,81 @@ impl StateData<'_> {
             Ok(None) => return Err(Error::from(ErrorKind::UnknownFunction)),
             Err(error) => return Err(error),
         };
-        self.call_value(alloc, host, &found, args)
+        if let Node::Loop(state, number) = &found.node {
+            return match self.call_found(alloc, host, *state, *number, args) {
+                Ok(recursion) => Ok(Outcome::Recursion(recursion)),
+                Err(error) => Err(error),
+            };
+        }
+        match self.call_value(alloc, host, &found, args) {
+            Ok(value) => Ok(Outcome::Value(value)),
+            Err(error) => Err(error),
+        }
+    }
+
+    /// The innermost loop, which is called with a value. UnknownFunction outside of loops, and what a loop refuses.
+    pub fn call_innermost<H: Host>(
+        &self,
+        alloc: Global,
+        host: &H,
+        value: &Value,
+    ) -> Result<Recursion, Error>
+        ensures { Recurs result (call_innermost (H.meaning host.now) value.now self.now) self.now }
+    {
+        let Some(number) = self.innermost_loop() else {
+            return Err(Error::from(ErrorKind::UnknownFunction));
+        };
+        match self.loop_at(number) {
+            Some(state) => self.call_loop(alloc, host, state, value),
+            None => Err(Error::from(ErrorKind::InvalidOperation)),
+        }
+    }
+
+    /// A loop of a state that is called by a name; it takes one value.
+    fn call_found<H: Host>(
+        &self,
+        alloc: Global,
+        host: &H,
+        state: u64,
+        number: usize,
+        args: &[Value],
+    ) -> Result<Recursion, Error>
+        ensures { Recurs result
+            (call_found (H.meaning host.now) (loop state number) args.now self.now) self.now }
+    {
+        if state != self.id() {
+            return Err(Error::from(ErrorKind::InvalidOperation));
+        }
+        let Some(found) = self.loop_at(number) else {
+            return Err(Error::from(ErrorKind::InvalidOperation));
+        };
+        let [value] = args else {
+            return Err(Error::from(ErrorKind::InvalidOperation));
+        };
+        self.call_loop(alloc, host, found, value)
+    }
+
+    /// A loop that is called with a value. InvalidOperation where it can't be called in the stream that runs, and with the cause where the value has no items; OutOfMemory.
+    fn call_loop<H: Host>(
+        &self,
+        alloc: Global,
+        host: &H,
+        found: &LoopState,
+        value: &Value,
+    ) -> Result<Recursion, Error>
+        ensures { Recurs result (call_loop (H.meaning host.now) found.now value.now self.now)
+            self.now }
+    {
+        if !found.can_be_called_in(self.stream()) {
+            return Err(Error::from(ErrorKind::InvalidOperation));
+        }
+        match iterate(alloc, value, self, host.undefined_behavior()) {
+            Ok(items) => Ok(Recursion {
+                number: found.number(),
+                items,
+            }),
+            Err(cause) => Err(because(alloc, cause)),
+        }
     }
 
     /// What a value's method of a name gives for these arguments: a loop's `changed` and `cycle`, else what a map, keyword map, module or namespace has at the name, called. UnknownMethod where there is none, InvalidOperation where it can't be called or the record of a loop or a namespace isn't there, and what the function refuses.
@@ -165,6 +260,17 @@ impl StateData<'_> {
             Reply::Value(value) => Ok(value),
             Reply::Fault(error) => Err(error),
         }
+    }
+}
+
+/// InvalidOperation with its cause; OutOfMemory where there is no memory for that.
+#[cold]
+fn because(alloc: Global, cause: Error) -> Error
+    ensures { IsBecause cause result }
+{
+    match Error::from(ErrorKind::InvalidOperation).with_source(alloc, cause) {
+        Ok(error) => error,
+        Err(error) => error,
     }
 }
 

@@ -6,6 +6,7 @@ mod ids;
 mod saved;
 mod state;
 
+pub use calls::{Outcome, Recursion};
 pub use ids::StateIds;
 pub use saved::Saved;
 pub use state::StateData;

@@ -4,7 +4,7 @@ ghost use Rattle.std.specs.Prelude.{◌≡◌, ◌+◌, ◌≤◌, ◌<◌, List
 ghost use Rattle.tm_values.specs.Answer.{IsAnswer, OkOrOutOfMemory, IsLent};
 ghost use Rattle.tm_values.specs.Chain.{ends_in_memory};
 ghost use Rattle.tm_syntax.specs.Named.{find, name_cmp, put, put_each, texts_of};
-ghost use Rattle.tm_meaning.specs.World.{depth, with_escape, loop_depth, top_loop, top_mark, next_turn, turned_at, cleared, pop, store, set_member, with_member, make_namespace, emitted, records_of, fuel_levels, find_name, view_of, name_of, Good, Bad, block_of};
+ghost use Rattle.tm_meaning.specs.World.{depth, with_escape, innermost, loop_depth, top_loop, top_mark, next_turn, turned_at, cleared, pop, store, set_member, with_member, make_namespace, emitted, records_of, fuel_levels, find_name, view_of, name_of, Good, Bad, block_of};
 ghost use Rattle.tm_meaning.specs.Calls.{enter_block, given_by, refused, of_loop, keeping_at, told_changed, told_turn};
 ghost use Rattle.tm_meaning.specs.Steps.{charge_of, pay};
 ghost use Rattle.tm_printing.specs.Emitted.{emitted_text};
@@ -14,7 +14,6 @@ ghost use Rattle.tm_state.specs.Answers.{Keeps, CanBeEmitted, Comes, IsChangedAt
 ghost use Rattle.tm_state.specs.State.{looped, loop_record, exported, started, put_back, saved_of, runs_block, IsThere, scoped};
 
 use crate::saved::Saved;
-use sqlite_items::Items;
 use std::alloc::Global;
 use std::marker::Model;
 use std::mem;
@@ -23,7 +22,7 @@ use tm_meaning::{GlobalFunction, LoopMark, StreamId, TemplateId};
 use tm_operations::{check_defined, check_settable, dict, namespace, range};
 use tm_parts::{FuelTracker, LoopState, following_at, position_at, previous_at};
 use tm_printing::check_emission;
-use tm_syntax::{Instruction, LoopFlags, Name, NameMap};
+use tm_syntax::{Code, Instruction, LoopFlags, Name, NameMap};
 use tm_tables::{Called, Context, Frame, Host, View};
 use tm_values::{
     AutoEscape, Error, ErrorKind, LoopPosition, Node, Records, UndefinedUse, Value, ValueMap,
@@ -37,7 +36,7 @@ pub struct StateData<'env> {
     namespaces: Vec<ValueMap>,
     loops: Vec<LoopState>,
     temps: NameMap<Value>,
-    blocks: &'env NameMap<Items<Instruction>>,
+    blocks: &'env NameMap<Code>,
     block: Option<Name>,
     escape: AutoEscape,
     stream: StreamId,
@@ -79,7 +78,7 @@ impl<'env> StateData<'env> {
     pub fn new(
         alloc: Global,
         id: u64,
-        blocks: &'env NameMap<Items<Instruction>>,
+        blocks: &'env NameMap<Code>,
         escape: AutoEscape,
         fuel: Option<u64>,
         context: Value,
@@ -353,15 +352,16 @@ impl<'env> StateData<'env> {
             .push_frame(Frame::new(alloc, Value::undefined()), limit)
     }
 
-    /// A loop over items in a scope of its own, with a record behind all others. InvalidOperation where the scope would lie deeper than the limit, OutOfMemory where there is no memory; then the state stays as it was.
+    /// A loop of a number over items in a scope of its own, with a record behind all others. InvalidOperation where the scope would lie deeper than the limit, OutOfMemory where there is no memory; then the state stays as it was.
     pub fn open_loop(
         &mut self,
         alloc: Global,
         items: Rc<Vec<Value>>,
         flags: LoopFlags,
+        number: usize,
         limit: usize,
     ) -> Result<(), Error>
-        ensures ok { OnOk result (self.new ≡ looped items.value.items flags self.old) }
+        ensures ok { OnOk result (self.new ≡ looped items.value.items flags number self.old) }
         ensures fits { OnOk result (nat_lt (depth self.old.scopes) limit ≡ true) }
         ensures kind { IfErr result (PushFails (nat_lt (depth self.old.scopes) limit)) }
         ensures err { OnErr result (self.new ≡ self.old) }
@@ -372,7 +372,14 @@ impl<'env> StateData<'env> {
             variable: flags.variable,
         };
         self.context.push_frame(Frame::of_loop(alloc, mark), limit)?;
-        let added = add_loop(&mut self.loops, &self.stream, items, depth, flags.recursive);
+        let added = add_loop(
+            &mut self.loops,
+            &self.stream,
+            items,
+            depth,
+            number,
+            flags.recursive,
+        );
         if added.is_err() {
             self.pop_scope();
         }
@@ -390,6 +397,20 @@ impl<'env> StateData<'env> {
             },
             None => 0,
         }
+    }
+
+    /// The number of the innermost loop's record, where a loop is open.
+    pub(crate) fn innermost_loop(&self) -> Option<usize>
+        ensures { result ≡ innermost self.now.scopes.frames }
+    {
+        self.context.innermost_loop()
+    }
+
+    /// The record of a number, where there is one.
+    pub(crate) fn loop_at(&self, number: usize) -> Option<&LoopState>
+        ensures { IsLent result (slice_get self.now.loops number) }
+    {
+        self.loops.get(number)
     }
 
     /// The record of the innermost scope, where that is a loop's.
@@ -549,14 +570,16 @@ fn add_loop(
     stream: &StreamId,
     items: Rc<Vec<Value>>,
     depth: usize,
+    number: usize,
     recursive: bool,
 ) -> Result<(), Error>
-    ensures ok { OnOk result (loops.new.items
-        ≡ loops.old.items ++ loop_record items.value.items depth recursive stream.now ∷ []) }
+    ensures ok { OnOk result (loops.new.items ≡ loops.old.items
+        ++ loop_record items.value.items depth number recursive stream.now ∷ []) }
     ensures kind { IfErr result (λ e. e ≡ ErrorKind.OutOfMemory ∷ []) }
     ensures err { OnErr result (loops.new.items ≡ loops.old.items) }
 {
-    loops.push(LoopState::new(items, depth, recursive, stream.share()?))?;
+    let stream = stream.share()?;
+    loops.push(LoopState::new(items, depth, number, recursive, stream))?;
     Ok(())
 }
 

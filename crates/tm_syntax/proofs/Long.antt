@@ -1,6 +1,6 @@
 -- Code is as long wherever the loop around it goes on.
 use Rattle.std.proofs.Common.{◌≡◌, ℕ, zero, suc, ◌+◌, List, [], ◌∷◌, ◌++◌, length, refl, sym, ap, ◌∙◌, arith, length-append, true, false}
-use Rattle.tm_syntax.specs.declared.tree.Stmt.{Stmt, EmitRaw, EmitExpr, If', For', Break, Continue, Block', Set, SetBlock', With', Do, AutoEscape', Row_of-Stmt, end_of-Stmt as no_statement, more_of-Stmt as statement, Held-Stmt-If-2 as Otherwise, None' as no_else, Some' as otherwise}
+use Rattle.tm_syntax.specs.declared.tree.Stmt.{Stmt, EmitRaw, EmitExpr, EmitLoop, If', For', Break, Continue, Block', Set, SetBlock', With', Do, AutoEscape', Row_of-Stmt, end_of-Stmt as no_statement, more_of-Stmt as statement, Held-Stmt-If-2 as Otherwise, None' as no_else, Some' as otherwise}
 use Rattle.tm_syntax.specs.declared.instruction.CaptureMode.TheVariants.{Capture}
 use Rattle.tm_syntax.specs.declared.instruction.Instruction.{Instruction}
 use Rattle.tm_syntax.specs.declared.instruction.Instruction.TheVariants as i
@@ -13,6 +13,7 @@ mutual
   pub statement_long : (a b c d pc : ℕ) (os : List Opened) (s : Stmt) → length (statement_code (in_loop a b os) pc s) ≡ length (statement_code (in_loop c d os) pc s)
   statement_long a b c d pc os (EmitRaw t) = refl
   statement_long a b c d pc os (EmitExpr e) = refl
+  statement_long a b c d pc os (EmitLoop e) = refl
   statement_long a b c d pc os (If' e _ body other) =
       let t = expr_code pc e in
       let pc1 = pc + length t + 1 in
@@ -26,7 +27,7 @@ mutual
       let jx = i.JumpIfFalse (pc1 + length x + jump_over other) in
       let jy = i.JumpIfFalse (pc1 + length y + jump_over other) in
       omega (arith, length-append t (jx ∷ (x ++ ox)), length-append t (jy ∷ (y ++ oy)), length-append x ox, length-append y oy, long, rest)
-  statement_long a b c d pc os (For' t e c1 _ body other) =
+  statement_long a b c d pc os (For' t e c1 recursive _ body other) =
       let v = iterable_code pc t e c1 in
       let pc1 = pc + length v in
       let tc = target_code (pc1 + 1 + 1) t in
@@ -38,7 +39,7 @@ mutual
       let rest : length ox ≡ length oy = behind_loop_long a b c d end os other in
       let x = tc ++ (inner ++ i.Jump (pc1 + 1) ∷ ox) in
       let y = tc ++ (inner ++ i.Jump (pc1 + 1) ∷ oy) in
-      let flags = i.PushLoop (record { variable = true; recursive = false }) in
+      let flags = i.PushLoop (record { variable = true; recursive = recursive }) in
       omega (
         arith,
         length-append v (flags ∷ i.Iterate end ∷ x),

@@ -20,7 +20,7 @@ empty = body_of no_statement
 abbrev mutual
   pub blocks_of : Stmt → Named Body
   blocks_of (If' c _ body other) = blocks_in body ++ blocks_else other
-  blocks_of (For' t e c _ body other) = blocks_in body ++ blocks_else other
+  blocks_of (For' t e c r _ body other) = blocks_in body ++ blocks_else other
   blocks_of (Block' x _ body) = blocks_in body ++ (x, body_of body) ∷ []
   blocks_of (SetBlock' t _ body) = blocks_in body
   blocks_of (With' given _ body) = blocks_in body

@@ -1,5 +1,5 @@
 -- The instructions of a tree, at a place.
-use Rattle.std.specs.Prelude.{ℕ, ◌+◌, pos, List, [], ◌∷◌, ◌++◌, length, Option, Some, None, true, false}
+use Rattle.std.specs.Prelude.{ℕ, ◌+◌, pos, List, [], ◌∷◌, ◌++◌, length, Option, Some, None, true, false, Bool}
 use Rattle.tm_values.specs.Val.{Val, number, text}
 use Rattle.tm_syntax.specs.declared.tree.UnaryOperator.{UnaryOperator}
 use Rattle.tm_syntax.specs.declared.tree.UnaryOperator.TheVariants as unaries
@@ -14,7 +14,7 @@ use Rattle.tm_syntax.specs.declared.tree.Step.{Step, Attribute, Method', Row_of-
 use Rattle.tm_syntax.specs.declared.tree.Target.{Target, Name as To, Unpack' as Items, Attribute as Member, Row_of-Target, end_of-Target as no_target, more_of-Target as target}
 use Rattle.tm_syntax.specs.declared.tree.Assignment.{Assignment}
 use Rattle.tm_syntax.specs.declared.tree.Assignment.TheVariants.{Assignment as Given}
-use Rattle.tm_syntax.specs.declared.tree.Stmt.{Stmt, EmitRaw, EmitExpr, If', For', Break, Continue, Block', Set, SetBlock', With', Do, AutoEscape', Row_of-Stmt, end_of-Stmt as no_statement, more_of-Stmt as statement, Held-Stmt-If-2 as Otherwise, None' as no_else, Some' as otherwise}
+use Rattle.tm_syntax.specs.declared.tree.Stmt.{Stmt, EmitRaw, EmitExpr, EmitLoop, If', For', Break, Continue, Block', Set, SetBlock', With', Do, AutoEscape', Row_of-Stmt, end_of-Stmt as no_statement, more_of-Stmt as statement, Held-Stmt-If-2 as Otherwise, None' as no_else, Some' as otherwise}
 use Rattle.tm_syntax.specs.declared.instruction.CaptureMode.TheVariants.{Capture}
 use Rattle.tm_syntax.specs.declared.instruction.LoopFlags.{LoopFlags}
 use Rattle.tm_syntax.specs.declared.instruction.Instruction.{Instruction}
@@ -201,8 +201,8 @@ abbrev pub close_all : List Opened → List Instruction
 close_all [] = []
 close_all (o ∷ os) = close o ++ close_all os
 
-abbrev pub for_flags : LoopFlags
-for_flags = record { variable = true; recursive = false }
+abbrev pub for_flags : Bool → LoopFlags
+for_flags recursive = record { variable = true; recursive = recursive }
 
 -- of the pass that takes the items whose condition is true
 abbrev pub filter_flags : LoopFlags
@@ -214,12 +214,12 @@ jump_over no_else = 0
 jump_over (otherwise _ body) = 1
 
 -- A loop's code behind what is iterated, given its body's code in a loop: the body is as long wherever that loop goes on.
-abbrev pub loop_code : (Inside → ℕ → List Instruction) → ℕ → Target → (ℕ → List Instruction) → List Instruction
-loop_code body pc t behind =
+abbrev pub loop_code : Bool → (Inside → ℕ → List Instruction) → ℕ → Target → (ℕ → List Instruction) → List Instruction
+loop_code recursive body pc t behind =
     let again = pc + 1 in
     let start = again + 1 + length (target_code (again + 1) t) in
     let end = start + length (body outside start) + 1 in
-    i.PushLoop for_flags ∷ i.Iterate end ∷ (target_code (again + 1) t
+    i.PushLoop (for_flags recursive) ∷ i.Iterate end ∷ (target_code (again + 1) t
     ++ (body (record { again = again; behind = end; opened = [] }) start ++ i.Jump again ∷ behind end))
 
 -- A loop that takes the items whose condition is true: each stays below their count, which is one more then, or is dropped. It leaves a list of them.
@@ -242,11 +242,12 @@ abbrev mutual
   pub statement_code : Inside → ℕ → Stmt → List Instruction
   statement_code k pc (EmitRaw t) = i.EmitRaw t ∷ []
   statement_code k pc (EmitExpr e) = expr_code pc e ++ i.Emit ∷ []
+  statement_code k pc (EmitLoop e) = expr_code pc e ++ i.FastRecurse ∷ []
   statement_code k pc (If' c _ body other) = before pc (expr_code pc c) (λ pc1.
       i.JumpIfFalse (pc1 + 1 + length (statements_code k (pc1 + 1) body) + jump_over other)
       ∷ before (pc1 + 1) (statements_code k (pc1 + 1) body) (λ pc2. otherwise_code k pc2 other))
-  statement_code k pc (For' t e c _ body other) = before pc (iterable_code pc t e c) (λ pc1.
-      loop_code (λ k1 pc2. statements_code k1 pc2 body) pc1 t (λ pc2. behind_loop_code k pc2 other))
+  statement_code k pc (For' t e c recursive _ body other) = before pc (iterable_code pc t e c) (λ pc1.
+      loop_code recursive (λ k1 pc2. statements_code k1 pc2 body) pc1 t (λ pc2. behind_loop_code k pc2 other))
   statement_code k pc Break = close_all k.opened ++ i.Jump k.behind ∷ []
   statement_code k pc Continue = close_all k.opened ++ i.Jump k.again ∷ []
   statement_code k pc (Block' x _ body) = i.CallBlock x ∷ []

@@ -2,4 +2,5 @@ pub mod Forms
 pub mod Code
 pub mod Named
 pub mod Blocks
+pub mod Loops
 pub mod RawText

@@ -22,6 +22,15 @@ pub struct LoopFlags {
     pub recursive: bool,
 }
 
+/// Where a loop begins, and what kind it is.
+#[derive(Clone, Copy, PartialEq, Eq)]
+pub struct LoopPlace {
+    /// The place of its `PushLoop`.
+    pub place: usize,
+    /// Its kind.
+    pub flags: LoopFlags,
+}
+
 /// One instruction. docs/MACHINE.md says what each takes, leaves and is charged.
 #[derive(Drop)]
 pub enum Instruction {
@@ -121,6 +130,8 @@ pub enum Instruction {
     PushDidNotIterate,
     /// Leaves the innermost loop.
     PopLoopFrame,
+    /// Pops a value, and calls the innermost loop with it, which writes in place.
+    FastRecurse,
     /// Begins a capture, which takes what is written from here on.
     BeginCapture(CaptureMode),
     /// Ends the innermost capture, and pushes its text, or undefined where that is dropped.

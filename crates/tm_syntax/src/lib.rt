@@ -1,6 +1,7 @@
 //! What a template is made of: names, raw texts, tokens, trees and instructions, each declared once.
 #![tactic(auto)]
 
+mod code;
 mod instruction;
 mod name;
 mod name_map;
@@ -8,7 +9,8 @@ mod raw_text;
 mod token;
 mod tree;
 
-pub use instruction::{CaptureMode, Instruction, LoopFlags};
+pub use code::Code;
+pub use instruction::{CaptureMode, Instruction, LoopFlags, LoopPlace};
 pub use name::Name;
 pub use name_map::NameMap;
 pub use raw_text::RawText;

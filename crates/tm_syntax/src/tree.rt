@@ -163,8 +163,10 @@ pub enum Stmt {
     EmitExpr(Boxed<Expr>),
     /// A condition, what runs where it is true, and the else part.
     If(Boxed<Expr>, Items<Stmt>, Option<Items<Stmt>>),
-    /// A target, what is iterated, the condition of an item that is taken, what runs for each of these, and what runs where there is none.
-    For(Target, Boxed<Expr>, Option<Boxed<Expr>>, Items<Stmt>, Option<Items<Stmt>>),
+    /// The innermost loop is called with this, and writes in place.
+    EmitLoop(Boxed<Expr>),
+    /// A target, what is iterated, the condition of an item that is taken, whether the loop can be called, what runs for each of these, and what runs where there is none.
+    For(Target, Boxed<Expr>, Option<Boxed<Expr>>, bool, Items<Stmt>, Option<Items<Stmt>>),
     /// The innermost loop is left.
     Break,
     /// The innermost loop goes on with its next item.

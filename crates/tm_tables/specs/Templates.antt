@@ -1,5 +1,5 @@
 -- Templates as plain data.
-use Rattle.std.specs.Prelude.{◌≡◌, ℕ, List}
+use Rattle.std.specs.Prelude.{◌≡◌, ℕ, List, []}
 use Rattle.tm_values.specs.declared.error.ErrorKind.{ErrorKind}
 use Rattle.tm_values.specs.declared.escape.AutoEscape.{AutoEscape}
 use Rattle.tm_syntax.specs.declared.tree.Tree.{Tree}
@@ -33,10 +33,11 @@ block_codes tree = by_name (compiled_blocks (blocks_in (body tree).row))
 abbrev pub tree_of : Compiled → TemplateTree
 tree_of t = record { name = t.name; escape = t.escape; root = body t.tree }
 
--- These are the streams of the tree.
-pub record AreStreams (tree : Tree) (root : List Instruction) (blocks : Named (List Instruction)) : Type 0 where
+-- These are the streams of the tree, and that of no block.
+pub record AreStreams (tree : Tree) (root : List Instruction) (blocks : Named (List Instruction)) (nothing : List Instruction) : Type 0 where
   pub root_is : root ≡ code_of (body tree)
   pub blocks_are : blocks ≡ block_codes tree
+  pub nothing_is : nothing ≡ []
 
 -- the template that a source is under a name: its tree is the one that the source spells, its escape the one that is set for the name
 pub record IsTemplate (syntax : Syntax) (setting : EscapeSetting) (name source : List ℕ) (t : Compiled) : Type 0 where

@@ -11,11 +11,10 @@ ghost use Rattle.tm_tables.specs.Templates.{IsTemplate, IsRefused, body, block_c
 ghost use Rattle.tm_tables.specs.Sources.{source_bytes};
 
 use crate::defaults::EscapeSetting;
-use sqlite_items::Items;
 use std::alloc::Global;
 use std::marker::Model;
 use std::rc::RcStr;
-use tm_compiler::{Instruction, Name, NameMap, Streams, SyntaxConfig, Tree, generate, parse};
+use tm_compiler::{Code, Name, NameMap, Streams, SyntaxConfig, Tree, generate, parse};
 use tm_values::{AutoEscape, Error};
 
 /// How templates are compiled.
@@ -88,6 +87,7 @@ pub struct CompiledTemplate<'source> {
     escape: AutoEscape,
     tree: Tree,
     streams: Streams,
+    nothing: Code,
 }
 
 impl<'source> Model for CompiledTemplate<'source> {
@@ -104,7 +104,7 @@ impl<'source> Model for CompiledTemplate<'source> {
 
     ghost view = { λ a. record { name = a.name; source = source_bytes a.source; escape = a.escape; tree = a.tree } };
 
-    ghost invariant = { λ a. AreStreams a.tree a.streams.root a.streams.blocks };
+    ghost invariant = { λ a. AreStreams a.tree a.streams.root a.streams.blocks a.nothing };
 }
 
 impl<'source> CompiledTemplate<'source> {
@@ -141,6 +141,7 @@ impl<'source> CompiledTemplate<'source> {
             escape,
             tree,
             streams,
+            nothing: Code::empty(alloc),
         })
     }
 
@@ -166,38 +167,35 @@ impl<'source> CompiledTemplate<'source> {
     }
 
     /// The code of its tree.
-    pub fn instructions(&self) -> &[Instruction]
+    pub fn instructions(&self) -> &Code
         ensures { result.now ≡ code_of (body self.now.tree) }
     {
-        self.streams.root.as_slice()
+        &self.streams.root
     }
 
     /// The code of its blocks, by name.
-    pub fn blocks(&self) -> &NameMap<Items<Instruction>>
+    pub fn blocks(&self) -> &NameMap<Code>
         ensures { result.now ≡ block_codes self.now.tree }
     {
         &self.streams.blocks
     }
 
     /// The code of its block of a name, where there is one.
-    pub fn block(&self, name: &str) -> Option<&[Instruction]>
+    pub fn block(&self, name: &str) -> Option<&Code>
         ensures { IsLent result (find name.now (block_codes self.now.tree)) }
     {
-        match self.streams.blocks.get(name) {
-            Some(code) => Some(code.as_slice()),
-            None => None,
-        }
+        self.streams.blocks.get(name)
     }
 
     /// The code of a part: of the block of a name, or of all its tree. Of a block that isn't there, none.
-    pub fn stream(&self, block: &Option<Name>) -> &[Instruction]
+    pub fn stream(&self, block: &Option<Name>) -> &Code
         ensures { result.now ≡ code_of (part_of (tree_of self.now) block.now) }
     {
         match block {
             None => self.instructions(),
             Some(name) => match self.block(name.as_str()) {
                 Some(code) => code,
-                None => &[],
+                None => &self.nothing,
             },
         }
     }

@@ -1,6 +1,6 @@
 //! What the machine asks of the environment and the objects of the caller.
 ghost use Rattle.std.specs.Prelude.{◌≡◌, List, Some, None, MatchOption, IsSomeAnd, slice_get};
-ghost use Rattle.tm_syntax.specs.declared.instruction.Instruction.{Instruction as Code};
+ghost use Rattle.tm_syntax.specs.declared.instruction.Instruction.{Instruction};
 ghost use Rattle.tm_meaning.specs.World.{Host as Meaning, template_at, card_at};
 ghost use Rattle.tm_meaning.specs.declared.stream.StreamId.{StreamId as Stream};
 ghost use Rattle.tm_meaning.specs.Calls.{is_required};
@@ -10,14 +10,14 @@ use crate::callable::Called;
 use crate::view::View;
 use std::alloc::Global;
 use tm_meaning::{StreamId, TemplateId};
-use tm_syntax::{Instruction, NameMap};
+use tm_syntax::{Code, NameMap};
 use tm_values::{UndefinedBehavior, Value};
 
 /// What a render runs under: the environment, the rendered template and all objects of the caller, as one. Its meaning is the host record of the definitions.
 pub trait Host {
     ghost meaning: { Self → Meaning };
 
-    ghost code: { Self → Stream → List Code };
+    ghost code: { Self → Stream → List Instruction };
 
     /// The globals.
     fn globals(&self) -> &NameMap<Value>
@@ -40,7 +40,7 @@ pub trait Host {
         ensures { result ≡ is_required (card_at (meaning self.now) stream.now) };
 
     /// The instructions of a stream.
-    fn instructions(&self, stream: &StreamId) -> &[Instruction]
+    fn instructions(&self, stream: &StreamId) -> &Code
         ensures { result.now ≡ code self.now stream.now };
 
     /// What the function of a number answers, or which one of the language it is; none where there is no such function.

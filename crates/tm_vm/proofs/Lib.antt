@@ -3,3 +3,4 @@ pub mod Loop
 pub mod Performed
 pub mod Weight
 pub mod Counted
+pub mod Returned

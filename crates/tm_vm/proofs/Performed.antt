@@ -40,6 +40,10 @@ silent {f = f} {n = n} {old = old} {new = new} {told = told} (Err (halt.Fault ch
   same_stream = s.same_stream;
 }
 
+-- one that may open or leave a scope, and does neither
+pub still : {n : Next} {old new : Config} (f : Base) (result : Result Flow Halt) → Silently n old new result → Shifts f n old new result
+still {old = old} {new = new} f result s = record { did = s.did; kept = s.kept; stays = stays f old.world new.world s.same_scopes; same_stream = s.same_stream }
+
 pub shifted : {limit : ℕ} {f : Base} {n : Next} {old new : Config} {told : Option (List ℕ)} {faults : ℕ} (result : Result Flow Halt) → Shifts f n old new result
     → Performs limit f n old new told told faults faults result
 shifted {n = n} {told = told} (Ok flow.GoOn) s =

@@ -1,12 +1,13 @@
 -- What the machine's functions answer, beside what the definitions say.
-use Rattle.std.specs.Prelude.{◌≡◌, ◌+◌, ◌<◌, ◌≤◌, ◌^◌, ◌-◌, ◌*◌, ℕ, List, [], length, Option, Result, Ok, Err, Bool, true, false}
+use Rattle.std.specs.Prelude.{◌≡◌, ◌+◌, ◌<◌, ◌≤◌, ◌^◌, ◌-◌, ◌*◌, ℕ, List, [], ◌∷◌, length, Option, None, Some, Result, Ok, Err, Bool, true, false}
 use Rattle.std.specs.Io.KnownBytes.{Appends}
 use Rattle.tm_values.specs.Chain.{ends_in_memory}
 use Rattle.tm_values.specs.declared.error.ErrorKind.{ErrorKind}
 use Rattle.tm_syntax.specs.declared.instruction.Instruction.{Instruction}
 use Rattle.tm_meaning.specs.World.{World, Host, Res, Good, Bad, depth}
 use Rattle.tm_meaning.specs.Calls.{whole, of_block}
-use Rattle.tm_meaning.specs.Machine.{Activation, Capture, Config, End, Finished, Failed, Stuck, Next, More, Over, Nest, Program, base_of, start}
+use Rattle.tm_meaning.specs.Machine.{Return, Activation, Capture, Config, End, Finished, Failed, Stuck, Next, More, Over, Nest, Program, base_of, start, recursion, place_of_loop}
+use Rattle.tm_state.specs.declared.calls.Recursion.{Recursion}
 use Rattle.tm_meaning.specs.Instructions.{jump_if_true_or_pop_of, jump_if_false_or_pop_of}
 use Rattle.tm_meaning.specs.Steps.{Reaches, final}
 use Rattle.tm_meaning.specs.declared.base.Base.{Base}
@@ -88,14 +89,24 @@ pub record Performs (limit : ℕ) (f : Base) (n : Next) (old new : Config) (told
   pub depths : Depths limit f result old.world new.world
   pub same_stream : new.run.stream ≡ old.run.stream
 
--- what is left of a run of a stream of this size: its fuel, and of each unit the places up to the stream's end
-abbrev pub weight : ℕ → Config → ℕ
-weight size c = c.world.fuel * (size + 1) + (size - c.run.place)
+-- how many loops that a run has open were called
+abbrev pub pending : List (Option Return) → ℕ
+pending [] = 0
+pending (None ∷ rs) = pending rs
+pending (Some r ∷ rs) = pending rs + 1
 
--- Less is left behind a step: it is paid for, or free and at the next place.
+-- what is left of a run: each unit of fuel twice, for a call of a loop and for its return, and each return that waits
+abbrev pub returns_left : Config → ℕ
+returns_left c = c.world.fuel + c.world.fuel + pending c.run.loops
+
+-- and for each of these the places up to the end of a stream of this size
+abbrev pub weight : ℕ → Config → ℕ
+weight size c = returns_left c * (size + 1) + (size - c.run.place)
+
+-- Less is left behind a step: it is paid for, or returns from a loop, or is free and at the next place.
 abbrev pub Paid : ℕ → Result Flow Halt → Config → Config → Type 0
 Paid size (Ok flow.GoOn) old new = weight size new < weight size old
-Paid size (Ok (flow.Enter e)) old new = new.world.fuel < old.world.fuel
+Paid size (Ok (flow.Enter e)) old new = returns_left new < returns_left old
 Paid size _ old new = Unit {0}
 
 -- The same of an instruction that needs no run.
@@ -160,6 +171,25 @@ abbrev pub Finishes : Result Flow Halt → Base → Config → Next → Type 0
 Finishes (Ok flow.Done) f c n = (n ≡ Over (Finished c.captures c.world)) × (f.scopes ≡ length c.world.scopes.frames)
 Finishes (Err halt.Stuck) f c n = n ≡ Over (Stuck c.world)
 Finishes _ f c n = ⊥
+
+-- a run with its loop at a place open, which is called, over so many captures
+abbrev pub called : ℕ → ℕ → Bool → Activation → Activation
+called place floor value r =
+    record r {
+      place = place + 1;
+      operands = [];
+      escapes = [];
+      floor = floor;
+      loops = Some (record { place = r.place + 1; operands = r.operands; escapes = r.escapes; floor = r.floor; parent = r.parent; value = value }) ∷ r.loops;
+    }
+
+-- a run that goes on where a loop was called
+abbrev pub resumed : Return → Activation → Activation
+resumed back r = record r { place = back.place; operands = back.operands; escapes = back.escapes; floor = back.floor }
+
+-- a loop is called over the operands and captures that there are
+abbrev pub recurses : Program → Recursion → Bool → Config → Next
+recurses p r value c = recursion p c value c.run.operands c.captures r.number (place_of_loop p c r.number) r.items.value.items c.world
 
 -- a place from which a run can go on
 abbrev pub CanGoOn : Activation → Type 0

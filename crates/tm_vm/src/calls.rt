@@ -1,37 +1,109 @@
 //! The calls.
-ghost use Rattle.std.specs.Prelude.{◌∷◌, drop};
+ghost use Rattle.std.specs.Prelude.{◌≡◌, ◌∷◌, drop};
 ghost use Rattle.tm_meaning.specs.Machine.{goes};
-ghost use Rattle.tm_meaning.specs.Instructions.{call_function_of, call_method_of, call_block_of};
-ghost use Rattle.tm_vm.specs.Answers.{CanGoOn, Silently, Needs};
+ghost use Rattle.tm_meaning.specs.Instructions.{call_function_of, call_method_of, call_block_of, fast_recurse_of};
+ghost use Rattle.tm_vm.specs.Answers.{program, recurses, CanGoOn, Silently, Shifts, Needs};
 
 use crate::flow::{Entry, Flow};
 use crate::machine::Machine;
 use std::alloc::Global;
 use tm_meaning::Base;
 use tm_parts::Halt;
-use tm_syntax::Name;
+use tm_state::{Outcome, Recursion};
+use tm_syntax::{CaptureMode, Code, Name};
 use tm_tables::Host;
 use tm_values::{Error, ErrorKind, Value};
 
 impl Machine<'_> {
-    /// Replaces so many values by what the function of a name answers to them.
+    /// Replaces so many values by what the function of a name answers to them, or by the text of the loop that it calls.
+    #[tactic(auto, using(crate::proofs::Performed::still))]
     pub(crate) fn do_call_function<H: Host>(
         &mut self,
         alloc: Global,
         host: &H,
+        base: &Base,
+        code: &Code,
         name: &Name,
         count: usize,
     ) -> Result<Flow, Halt>
-        requires { CanGoOn self.old.run }
-        ensures { Silently (call_function_of (H.meaning host.now) name.now count self.old)
+        requires in_place { CanGoOn self.old.run }
+        requires its_code { code.now ≡ H.code host.now self.old.run.stream }
+        ensures { Shifts base.now (call_function_of
+            (program (H.meaning host.now) (H.code host.now)) name.now count self.old)
             self.old self.new result }
     {
         let Some(args) = self.run.operands.args(count) else {
             return Err(Halt::Stuck);
         };
         match self.state.call(alloc, host, name, args) {
-            Ok(value) => self.replace(count, value),
+            Ok(Outcome::Value(value)) => self.replace(count, value),
+            Ok(Outcome::Recursion(recursion)) => {
+                self.run.drop_operands(count);
+                self.captures.begin(alloc, CaptureMode::Capture)?;
+                self.recurse(alloc, host, base, code, recursion, true)
+            }
             Err(fault) => Err(Halt::Fault(fault)),
+        }
+    }
+
+    /// Pops a value, and calls the innermost loop with it, which writes in place.
+    pub(crate) fn do_fast_recurse<H: Host>(
+        &mut self,
+        alloc: Global,
+        host: &H,
+        base: &Base,
+        code: &Code,
+    ) -> Result<Flow, Halt>
+        requires in_place { CanGoOn self.old.run }
+        requires its_code { code.now ≡ H.code host.now self.old.run.stream }
+        ensures { Shifts base.now (fast_recurse_of
+            (program (H.meaning host.now) (H.code host.now)) base.now self.old)
+            self.old self.new result }
+    {
+        let Some(value) = self.run.pop() else {
+            return Err(Halt::Stuck);
+        };
+        match self.state.call_innermost(alloc, host, &value) {
+            Ok(recursion) => self.recurse(alloc, host, base, code, recursion, false),
+            Err(error) => Err(Halt::Fault(error)),
+        }
+    }
+
+    /// Begins a loop of the run's code that is called; `value` says whether its text is one. InvalidOperation where there is none of the number that can be called, or its scope would lie deeper than the limit.
+    fn recurse<H: Host>(
+        &mut self,
+        alloc: Global,
+        host: &H,
+        base: &Base,
+        code: &Code,
+        called: Recursion,
+        value: bool,
+    ) -> Result<Flow, Halt>
+        requires in_place { CanGoOn self.old.run }
+        requires its_code { code.now ≡ H.code host.now self.old.run.stream }
+        ensures { Shifts base.now (recurses
+            (program (H.meaning host.now) (H.code host.now)) called value self.old)
+            self.old self.new result }
+    {
+        let _scopes = base.scopes;
+        let Recursion { number, items } = called;
+        let Some(found) = code.loop_place(number) else {
+            return Err(Halt::Fault(Error::from(ErrorKind::InvalidOperation)));
+        };
+        if !found.flags.recursive {
+            return Err(Halt::Fault(Error::from(ErrorKind::InvalidOperation)));
+        }
+        let limit = host.recursion_limit();
+        match self
+            .state
+            .open_loop(alloc, items, found.flags, number, limit)
+        {
+            Ok(()) => {
+                let floor = self.captures.depth();
+                self.run.call_loop(alloc, found.place, floor, value)?;
+                Ok(Flow::GoOn)
+            }
+            Err(error) => Err(Halt::Fault(error)),
         }
     }
 
@@ -44,7 +116,8 @@ impl Machine<'_> {
         count: usize,
     ) -> Result<Flow, Halt>
         requires { CanGoOn self.old.run }
-        ensures { Silently (call_method_of (H.meaning host.now) name.now count self.old)
+        ensures { Silently (call_method_of
+            (program (H.meaning host.now) (H.code host.now)) name.now count self.old)
             self.old self.new result }
     {
         let Some(values) = self.run.operands.args(count) else {
@@ -81,7 +154,8 @@ impl Machine<'_> {
         name: &Name,
     ) -> Result<Flow, Halt>
         requires { CanGoOn self.old.run }
-        ensures { Needs (H.meaning host.now).limit (call_block_of (H.meaning host.now) base.now name.now self.old)
+        ensures { Needs (H.meaning host.now).limit (call_block_of
+            (program (H.meaning host.now) (H.code host.now)) base.now name.now self.old)
             self.old self.new result }
     {
         let heard = self.is_audible(base);

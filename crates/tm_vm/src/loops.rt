@@ -1,31 +1,37 @@
 //! The instructions of loops.
-ghost use Rattle.tm_meaning.specs.Instructions.{push_loop_of, iterate_of, push_did_not_iterate_of, pop_loop_frame_of};
-ghost use Rattle.tm_vm.specs.Answers.{CanGoOn, Silently, Shifts};
+ghost use Rattle.std.specs.Prelude.{◌≡◌};
+ghost use Rattle.tm_meaning.specs.Instructions.{push_loop_of, iterate_of, push_did_not_iterate_of, pop_loop_frame_of, returns};
+ghost use Rattle.tm_vm.specs.Answers.{program, resumed, CanGoOn, Silently, Shifts};
 
 use crate::flow::Flow;
 use crate::machine::Machine;
+use crate::run::Return;
 use std::alloc::Global;
 use tm_meaning::Base;
 use tm_operations::iterate;
 use tm_parts::Halt;
-use tm_syntax::LoopFlags;
+use tm_syntax::{Code, LoopFlags};
 use tm_tables::Host;
 use tm_values::Value;
 
 impl Machine<'_> {
-    /// Pops a value, and begins a loop over its items in a scope of its own. Its error where it can't be iterated, InvalidOperation where the scope would lie deeper than the limit.
+    /// Pops a value, and begins a loop over its items in a scope of its own, whose number is that of its place in the run's code. Its error where it can't be iterated, InvalidOperation where the scope would lie deeper than the limit.
     pub(crate) fn do_push_loop<H: Host>(
         &mut self,
         alloc: Global,
         host: &H,
         base: &Base,
+        code: &Code,
         flags: LoopFlags,
     ) -> Result<Flow, Halt>
-        requires { CanGoOn self.old.run }
-        ensures { Shifts base.now (push_loop_of (H.meaning host.now) flags self.old)
+        requires in_place { CanGoOn self.old.run }
+        requires its_code { code.now ≡ H.code host.now self.old.run.stream }
+        ensures { Shifts base.now
+            (push_loop_of (program (H.meaning host.now) (H.code host.now)) flags self.old)
             self.old self.new result }
     {
         let _scopes = base.scopes;
+        let number = code.loop_number(self.run.place);
         let Some(value) = self.run.pop() else {
             return Err(Halt::Stuck);
         };
@@ -34,7 +40,7 @@ impl Machine<'_> {
                 self.run.begin_loop()?;
                 match self
                     .state
-                    .open_loop(alloc, items, flags, host.recursion_limit())
+                    .open_loop(alloc, items, flags, number, host.recursion_limit())
                 {
                     Ok(()) => {
                         self.run.advance();
@@ -90,19 +96,41 @@ impl Machine<'_> {
         self.push_next(Value::boolean(none))
     }
 
-    /// Leaves the innermost loop; stuck as `Iterate` is.
-    pub(crate) fn do_pop_loop_frame(&mut self, base: &Base) -> Result<Flow, Halt>
+    /// Leaves the innermost loop, and goes on where that was called if it was; stuck as `Iterate` is.
+    pub(crate) fn do_pop_loop_frame(&mut self, alloc: Global, base: &Base) -> Result<Flow, Halt>
         requires { CanGoOn self.old.run }
         ensures { Shifts base.now (pop_loop_frame_of base.now self.old) self.old self.new result }
     {
         if self.state.height() <= base.scopes || self.state.top_loop().is_none() {
             return Err(Halt::Stuck);
         }
-        if !self.run.end_loop() {
+        let Some(pending) = self.run.end_loop() else {
             return Err(Halt::Stuck);
-        }
+        };
         self.state.pop_scope();
-        self.run.advance();
-        Ok(Flow::GoOn)
+        match pending {
+            None => {
+                self.run.advance();
+                Ok(Flow::GoOn)
+            }
+            Some(pending) => self.return_to(alloc, pending),
+        }
+    }
+
+    /// Goes on where a loop was called; its text is put on top where that is a value.
+    #[tactic(auto, using(crate::proofs::Returned::with_its_text))]
+    fn return_to(&mut self, alloc: Global, pending: Return) -> Result<Flow, Halt>
+        ensures { Silently (returns pending pending.value
+            (record self.old { run = resumed pending self.old.run })) self.old self.new result }
+    {
+        let value = pending.is_value();
+        self.run.return_to(pending);
+        if !value {
+            return Ok(Flow::GoOn);
+        }
+        match self.push_captured(alloc) {
+            Ok(()) => Ok(Flow::GoOn),
+            Err(halt) => Err(halt),
+        }
     }
 }

@@ -17,7 +17,7 @@ use std::mem;
 use tm_meaning::{Base, StreamId};
 use tm_parts::{Captures, Halt, Sink};
 use tm_state::{Saved, StateData};
-use tm_syntax::Instruction;
+use tm_syntax::Code;
 use tm_tables::Host;
 use tm_values::{Error, ErrorKind};
 
@@ -134,6 +134,7 @@ impl<'env> Machine<'env> {
         ensures deep { OnErr result
             (depth self.old.world.scopes ≤ depth self.new.world.scopes + 1) }
         ensures same_stream { self.new.run.stream ≡ self.old.run.stream }
+        ensures same_loops { self.new.run.loops ≡ self.old.run.loops }
     {
         let Entry {
             stream,
@@ -156,10 +157,11 @@ impl<'env> Machine<'env> {
     }
 
     /// Puts the innermost capture's text on top, safe where the state escapes; stuck where no capture is open.
-    fn push_captured(&mut self, alloc: Global) -> Result<(), Halt>
+    pub(crate) fn push_captured(&mut self, alloc: Global) -> Result<(), Halt>
         ensures captured { IsCaptured result self.old self.new }
         ensures same_world { self.new.world ≡ self.old.world }
         ensures same_stream { self.new.run.stream ≡ self.old.run.stream }
+        ensures same_loops { self.new.run.loops ≡ self.old.run.loops }
     {
         let Some((_mode, text)) = self.captures.end() else {
             return Err(Halt::Stuck);
@@ -197,7 +199,7 @@ impl<'env> Machine<'env> {
     }
 
     /// The instructions of the run's stream.
-    fn code<'host, H: Host>(&self, host: &'host H) -> &'host [Instruction]
+    fn code<'host, H: Host>(&self, host: &'host H) -> &'host Code
         ensures { result.now ≡ H.code host.now self.now.run.stream }
     {
         host.instructions(&self.run.stream)

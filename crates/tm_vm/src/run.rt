@@ -1,21 +1,21 @@
 //! What is a run's own.
-ghost use Rattle.std.specs.Prelude.{◌≡◌, ◌+◌, List, [], ◌∷◌, Some, None, OnOk, IfErr, MatchBool, MatchOption, not, MatchResult, drop};
+ghost use Rattle.std.specs.Prelude.{◌≡◌, ◌+◌, ◌-◌, ◌^◌, ◌<◌, List, [], ◌∷◌, Some, None, OnOk, IfErr, MatchOption, not, MatchResult, drop};
 ghost use Rattle.tm_values.specs.Val.{Val};
 ghost use Rattle.tm_meaning.specs.Meaning.{none_waits};
 ghost use Rattle.tm_meaning.specs.Steps.{is_empty};
-ghost use Rattle.tm_meaning.specs.Machine.{Config, run_from, stuck, taken};
-ghost use Rattle.tm_meaning.specs.Instructions.{pop_loop_with};
+ghost use Rattle.tm_meaning.specs.Machine.{run_from, taken};
 ghost use Rattle.tm_operations.specs.Truth.{truth_of};
-ghost use Rattle.tm_vm.specs.Answers.{CanGoOn};
+ghost use Rattle.tm_vm.specs.Answers.{CanGoOn, called, resumed};
 
 use std::alloc::Global;
 use std::marker::Model;
+use std::mem;
 use tm_meaning::StreamId;
 use tm_operations::truth;
 use tm_parts::Stack;
 use tm_values::{AutoEscape, Error, ErrorKind, UndefinedBehavior, Value};
 
-/// Where a loop goes on that was called: the run as it was at the call, and whether the text is a value. Nothing calls a loop yet.
+/// Where a loop goes on that was called: the run as it was at the call, and whether the text is a value.
 #[derive(Drop)]
 pub(crate) struct Return {
     place: usize,
@@ -26,7 +26,7 @@ pub(crate) struct Return {
 }
 
 impl Model for Return {
-    ghost use Rattle.std.specs.Prelude.{reverse};
+    ghost use Rattle.std.specs.Prelude.{None, reverse};
     ghost use Rattle.std.specs.Coded.{codes};
     ghost use Rattle.tm_values.specs.Code.{coded_Val};
     ghost use Rattle.tm_meaning.specs.Machine.{Return as Pending};
@@ -40,8 +40,19 @@ impl Model for Return {
       operands = r.operands;
       escapes = reverse r.escapes.items;
       floor = r.floor;
+      parent = None;
       value = r.value;
     } };
+}
+
+impl Return {
+    /// Whether the text is a value. No parent waited at the call, since none can yet.
+    pub(crate) fn is_value(&self) -> bool
+        ensures value { result ≡ self.now.value }
+        ensures no_parent { self.now.parent ≡ None }
+    {
+        self.value
+    }
 }
 
 /// What is a run's own: its stream and the place in it, its operands, the escapes that its open `autoescape`s replaced, for each loop that it has open where that goes on if it was called, and how many captures stood when it began.
@@ -130,13 +141,57 @@ impl Run {
         Ok(())
     }
 
-    /// Has its innermost loop open no longer, where it has one that wasn't called; says whether it had.
-    pub(crate) fn end_loop(&mut self) -> bool
-        ensures ended { MatchBool result (self.old ≡ record self.new { loops = None ∷ self.new.loops })
-            ((c : Config) → pop_loop_with self.old.loops c ≡ stuck c.world) }
-        ensures rest { self.new ≡ record self.old { loops = self.new.loops } }
+    /// Has its innermost loop open no longer, where it has one, and gives where that goes on if it was called.
+    pub(crate) fn end_loop(&mut self) -> Option<Option<Return>>
+        ensures { MatchOption result ((self.old.loops ≡ []) × (self.new ≡ self.old))
+            (λ pending. self.old ≡ record self.new { loops = pending ∷ self.new.loops }) }
     {
-        matches!(self.loops.pop(), Some(None))
+        self.loops.pop()
+    }
+
+    /// Has the loop at a place open, which is called, and goes on behind that, over no operands and so many captures. Fails by OutOfMemory alone.
+    pub(crate) fn call_loop(
+        &mut self,
+        alloc: Global,
+        place: usize,
+        floor: usize,
+        value: bool,
+    ) -> Result<(), Error>
+        requires in_place { CanGoOn self.old }
+        requires within { place < 2 ^ 64 - 1 }
+        ensures ok { OnOk result (self.new ≡ called place floor value self.old) }
+        ensures kind { IfErr result (λ e. e ≡ ErrorKind.OutOfMemory ∷ []) }
+        ensures same_stream { self.new.stream ≡ self.old.stream }
+    {
+        let pending = Return {
+            place: self.place + 1,
+            operands: mem::replace(&mut self.operands, Stack::new(alloc)),
+            escapes: mem::replace(&mut self.escapes, Vec::new(alloc)),
+            floor: self.floor,
+            value,
+        };
+        self.loops.push(Some(pending))?;
+        self.place = place + 1;
+        self.floor = floor;
+        Ok(())
+    }
+
+    /// Goes on where a loop was called, as it was there.
+    pub(crate) fn return_to(&mut self, pending: Return)
+        ensures returned { self.new ≡ resumed pending self.old }
+        ensures no_parent { self.new.parent ≡ None }
+    {
+        let Return {
+            place,
+            operands,
+            escapes,
+            floor,
+            ..
+        } = pending;
+        self.place = place;
+        self.operands = operands;
+        self.escapes = escapes;
+        self.floor = floor;
     }
 
     /// Keeps the escape that an `autoescape` replaces. Fails by OutOfMemory alone.
@@ -198,6 +253,13 @@ impl Run {
         ensures { self.new ≡ record self.old { operands = drop 1 self.old.operands } }
     {
         self.operands.remove(1);
+    }
+
+    /// Drops the topmost so many operands.
+    pub(crate) fn drop_operands(&mut self, count: usize)
+        ensures { self.new ≡ record self.old { operands = drop count self.old.operands } }
+    {
+        self.operands.remove(count);
     }
 
     /// Takes the topmost so many operands, the lowest first, where there are so many. Fails by OutOfMemory alone.

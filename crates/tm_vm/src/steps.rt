@@ -10,7 +10,7 @@ use crate::machine::Machine;
 use std::alloc::Global;
 use tm_meaning::Base;
 use tm_parts::{Halt, Sink};
-use tm_syntax::{BinaryOperator, Instruction, UnaryOperator};
+use tm_syntax::{BinaryOperator, Code, Instruction, UnaryOperator};
 use tm_tables::Host;
 use tm_values::{Error, ErrorKind};
 
@@ -23,12 +23,15 @@ impl Machine<'_> {
         alloc: Global,
         host: &H,
         base: &Base,
+        code: &Code,
         instruction: &Instruction,
         writer: &mut W,
     ) -> Result<Flow, Halt>
-        requires { CanGoOn self.old.run }
+        requires in_place { CanGoOn self.old.run }
+        requires its_code { code.now ≡ H.code host.now self.old.run.stream }
         ensures { Performs (H.meaning host.now).limit base.now
-            (effect (H.meaning host.now) base.now instruction.now self.old) self.old self.new
+            (effect (program (H.meaning host.now) (H.code host.now)) base.now instruction.now self.old)
+            self.old self.new
             (W.told writer.old) (W.told writer.new)
             (W.faults writer.old) (W.faults writer.new) result }
     {
@@ -72,21 +75,22 @@ impl Machine<'_> {
             Instruction::JumpIfFalseOrPop(place) => self.jump_or_pop(host, *place, false),
             Instruction::JumpIfTrueOrPop(place) => self.jump_or_pop(host, *place, true),
             Instruction::CallFunction(name, count) => {
-                self.do_call_function(alloc, host, name, *count)
+                self.do_call_function(alloc, host, base, code, name, *count)
             }
             Instruction::CallMethod(name, count) => {
                 self.do_call_method(alloc, host, name, *count)
             }
+            Instruction::FastRecurse => self.do_fast_recurse(alloc, host, base, code),
             Instruction::CallBlock(name) => self.do_call_block(alloc, host, base, name),
             Instruction::StoreLocal(name) => self.do_store_local(name),
             Instruction::UnpackList(count) => self.do_unpack_list(alloc, *count),
             Instruction::SetAttr(name) => self.do_set_attr(alloc, name),
             Instruction::PushWith => self.do_push_with(alloc, host, base),
             Instruction::PopFrame => self.do_pop_frame(base),
-            Instruction::PushLoop(flags) => self.do_push_loop(alloc, host, base, *flags),
+            Instruction::PushLoop(flags) => self.do_push_loop(alloc, host, base, code, *flags),
             Instruction::Iterate(place) => self.do_iterate(alloc, *place),
             Instruction::PushDidNotIterate => self.do_push_did_not_iterate(),
-            Instruction::PopLoopFrame => self.do_pop_loop_frame(base),
+            Instruction::PopLoopFrame => self.do_pop_loop_frame(alloc, base),
             Instruction::BeginCapture(mode) => self.do_begin_capture(alloc, *mode),
             Instruction::EndCapture => self.do_end_capture(alloc),
             Instruction::PushAutoEscape => self.do_push_auto_escape(base),
@@ -139,7 +143,7 @@ impl Machine<'_> {
         alloc: Global,
         host: &H,
         base: &Base,
-        code: &[Instruction],
+        code: &Code,
         writer: &mut W,
     ) -> Result<Flow, Halt>
         requires { code.now ≡ H.code host.now self.old.run.stream }
@@ -149,12 +153,13 @@ impl Machine<'_> {
             (W.faults writer.old) (W.faults writer.new) result }
         ensures paid { Paid (length code.now) result self.old self.new }
     {
-        let Some(instruction) = code.get(self.place()) else {
-            return self.finish(base, code.len());
+        let instructions = code.as_slice();
+        let Some(instruction) = instructions.get(self.place()) else {
+            return self.finish(base, instructions.len());
         };
         if let Err(error) = self.charge(instruction) {
             return Err(Halt::Fault(error));
         }
-        self.perform(alloc, host, base, instruction, writer)
+        self.perform(alloc, host, base, code, instruction, writer)
     }
 }

@@ -67,16 +67,16 @@ push_statements-returns-clause-blocks t c = no_more_blocks _ _ _ (drop_all c.loo
 pub push_for-returns-clause-code : goal.push_for-returns-clause-code
 push_for-returns-clause-code t c =
     rw c.in-Some.is (on_ok_weaker c.push_no_round.result (made_for_else (unset c.args.around.now.opened) c.args.code.now c.push_iterable.new.code c.push_rounds.new.code c.push_no_round.new.code
-    c.args.target.now c.args.iterable.now c.args.condition.now c.args.body.now c.in-Some.other c.in_ok-push_iterable.ensures.ok c.in_ok-push_rounds.ensures.code) (rw (← c.as_slice.ensures) c.push_no_round.ensures.code))
+    c.args.target.now c.args.iterable.now c.args.condition.now c.args.recursive c.args.body.now c.in-Some.other c.in_ok-push_iterable.ensures.ok c.in_ok-push_rounds.ensures.code) (rw (← c.as_slice.ensures) c.push_no_round.ensures.code))
 
 pub push_for-returns-clause-around : goal.push_for-returns-clause-around
 push_for-returns-clause-around t c =
     rw c.in-Some.is (on_ok_weaker c.push_no_round.result (for_else_exits c.args.around.now c.push_no_round.new.around c.args.code.now c.push_iterable.new.code c.push_rounds.new.code
-    c.args.target.now c.args.iterable.now c.args.condition.now c.args.body.now c.in-Some.other c.in_ok-push_iterable.ensures.ok c.in_ok-push_rounds.ensures.code) (rw (← c.as_slice.ensures) c.push_no_round.ensures.around))
+    c.args.target.now c.args.iterable.now c.args.condition.now c.args.recursive c.args.body.now c.in-Some.other c.in_ok-push_iterable.ensures.ok c.in_ok-push_rounds.ensures.code) (rw (← c.as_slice.ensures) c.push_no_round.ensures.around))
 
 pub push_for-returns-clause-blocks : goal.push_for-returns-clause-blocks
 push_for-returns-clause-blocks t c =
-    rw c.in-Some.is (on_ok_weaker c.push_no_round.result (for_else_blocks c.args.target.now c.args.iterable.now c.args.condition.now c.args.body.now c.in-Some.other c.args.blocks.now c.push_rounds.new.blocks c.push_no_round.new.blocks
+    rw c.in-Some.is (on_ok_weaker c.push_no_round.result (for_else_blocks c.args.target.now c.args.iterable.now c.args.condition.now c.args.recursive c.args.body.now c.in-Some.other c.args.blocks.now c.push_rounds.new.blocks c.push_no_round.new.blocks
     c.in_ok-push_rounds.ensures.blocks) (rw (← c.as_slice.ensures) c.push_no_round.ensures.blocks))
 
 pub push_no_round-returns-clause-code : goal.push_no_round-returns-clause-code
@@ -87,14 +87,14 @@ push_no_round-returns-clause-code t c =
 pub push_rounds-lead-requires : goal.push_rounds-lead-requires
 push_rounds-lead-requires t c =
     rounds-within c.args.code.now c.put.new.code c.put-2.new.code c.push_target.new.code c.push_statements.new.code c.put-3.new.code c.set.new.self c.new-inner.result c.push_statements.new.around _
-    c.len-again.result c.len-behind.result c.args.target.now c.args.body.now
+    c.len-again.result c.len-behind.result c.args.target.now c.args.recursive c.args.body.now
     c.in_ok-put.ensures.ok c.len-again.ensures c.in_ok-put-2.ensures.ok c.in_ok-push_target.ensures.ok c.new-inner.ensures c.in_ok-push_statements.ensures.code c.in_ok-push_statements.ensures.around
     c.in_ok-put-3.ensures.ok c.len-behind.ensures c.set.ensures
 
 pub push_rounds-returns-clause-code : goal.push_rounds-returns-clause-code
 push_rounds-returns-clause-code t c =
     made_rounds c.args.code.now c.put.new.code c.put-2.new.code c.push_target.new.code c.push_statements.new.code c.put-3.new.code c.set.new.self c.new-inner.result c.push_statements.new.around _
-    c.len-again.result c.len-behind.result c.args.target.now c.args.body.now
+    c.len-again.result c.len-behind.result c.args.target.now c.args.recursive c.args.body.now
     c.in_ok-put.ensures.ok c.len-again.ensures c.in_ok-put-2.ensures.ok c.in_ok-push_target.ensures.ok c.new-inner.ensures c.in_ok-push_statements.ensures.code c.in_ok-push_statements.ensures.around
     c.in_ok-put-3.ensures.ok c.len-behind.ensures c.set.ensures c.lead.new.code c.lead.ensures
 
@@ -105,5 +105,6 @@ stream-lead-requires t c =
 
 pub stream-returns-clause-code : goal.stream-returns-clause-code
 stream-returns-clause-code t c =
-    made_stream c.new-code.result c.push_statements.new.code c.new-around.result c.push_statements.new.around c.args.body.now c.new-code.ensures c.new-around.ensures
+    c.in_ok-new.ensures
+    ∙ made_stream c.new-code.result c.push_statements.new.code c.new-around.result c.push_statements.new.around c.args.body.now c.new-code.ensures c.new-around.ensures
     c.in_ok-push_statements.ensures.code c.in_ok-push_statements.ensures.around c.lead.new.code c.len-end.result c.len-end.ensures c.lead.ensures

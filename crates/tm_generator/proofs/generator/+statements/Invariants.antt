@@ -27,7 +27,7 @@ abbrev pub decreases-push_if : goal.decreases-push_if
 decreases-push_if l = 5 * the_size (If l.condition.now l.body.now l.other.now)
 
 abbrev pub decreases-push_for : goal.decreases-push_for
-decreases-push_for l = 5 * the_size (For l.target.now l.iterable.now l.condition.now l.body.now l.other.now) + 1
+decreases-push_for l = 5 * the_size (For l.target.now l.iterable.now l.condition.now l.recursive l.body.now l.other.now) + 1
 
 abbrev pub decreases-push_rounds : goal.decreases-push_rounds
 decreases-push_rounds l = 5 * the_size (SetBlock l.target.now l.body.now)

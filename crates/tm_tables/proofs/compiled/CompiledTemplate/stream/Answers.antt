@@ -1,3 +1,4 @@
+use Rattle.std.proofs.Common.{◌∙◌}
 use Rattle.tm_tables.proofs.Streams.{part_there, part_missing}
 use Rattle.tm_tables.proofs.compiled.CompiledTemplate.stream.Goals as goal
 
@@ -7,4 +8,5 @@ returns-in-Some-block c =
 
 pub returns-in-None-block : goal.returns-in-None-block
 returns-in-None-block c =
-    part_missing c.args.self.now c.args.block.now c.in-Some.name c.as_str.result.now c.in-Some.is c.as_str.ensures c.in-None-block.ensures
+    c.self.invariant.nothing_is
+    ∙ part_missing c.args.self.now c.args.block.now c.in-Some.name c.as_str.result.now c.in-Some.is c.as_str.ensures c.in-None-block.ensures

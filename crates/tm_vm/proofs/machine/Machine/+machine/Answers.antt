@@ -4,6 +4,7 @@ use Rattle.tm_meaning.specs.World.{depth}
 use Rattle.tm_vm.specs.Answers.{program}
 use Rattle.tm_vm.specs.declared.flow.Flow.TheVariants as flow
 use Rattle.tm_vm.proofs.Loop.{at_base, kept_same, kept_then, stands_first, stands_next, stands_behind, beginning_at, beginning_in, ended_at, ended_in, done_at, whole_at, scopes_behind, above_base}
+use Rattle.tm_vm.proofs.Weight.{less_behind}
 use Rattle.tm_vm.proofs.machine.Machine.+machine.Goals as goal
 
 pub run-loop-entry-init : goal.run-loop-entry-init
@@ -58,6 +59,11 @@ run-loop-entry-preserved g t c =
       same_stream = c.in_default.ensures.same_stream ∙ step.same_stream ∙ c.loop-entry.invariant.same_stream;
       stands = stands_behind e c.step.new.self c.run_nested.new.self at new c.loop-entry.invariant.stands did went;
     }
+
+pub run-loop-entry-smaller : goal.run-loop-entry-smaller
+run-loop-entry-smaller g t c =
+    let paid = rw c.in-Ok-Enter.field-0-is at c.in-Ok-Enter.ensures.paid in
+    less_behind (length c.code-code.result.now) c.loop-entry.self c.step.new.self c.run_nested.new.self paid c.in_default.ensures.kept.no_more_fuel c.in_default.ensures.same_loops
 
 pub run-returns-in-Err-run_nested-clause-ended : goal.run-returns-in-Err-run_nested-clause-ended
 run-returns-in-Err-run_nested-clause-ended g t c =

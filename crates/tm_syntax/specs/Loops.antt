@@ -1,0 +1,93 @@
+-- Loops by their numbers: in the order of the source, in their own stream, where the pass that takes the items of a condition counts as a loop before its own.
+use Rattle.std.specs.Prelude.{ℕ, zero, suc, ◌+◌, List, [], ◌∷◌, ◌++◌, Option, Some, None, Bool, false}
+use Rattle.tm_syntax.specs.declared.instruction.Instruction.{Instruction}
+use Rattle.tm_syntax.specs.declared.instruction.Instruction.TheVariants as i
+use Rattle.tm_syntax.specs.declared.instruction.LoopFlags.{LoopFlags}
+pub use Rattle.tm_syntax.specs.declared.instruction.LoopPlace.{LoopPlace}
+use Rattle.tm_syntax.specs.declared.tree.Expr.{Expr}
+use Rattle.tm_syntax.specs.declared.tree.Target.{Target}
+use Rattle.tm_syntax.specs.declared.tree.Stmt.{Stmt, If', For', SetBlock', With', AutoEscape', Row_of-Stmt, end_of-Stmt as no_statement, more_of-Stmt as statement, Held-Stmt-If-2 as Otherwise, None' as no_else, Some' as otherwise}
+use Rattle.tm_syntax.specs.Blocks.{Body, body_of}
+
+-- ---------------------------------------------------------------- of trees
+abbrev pub passes : Option Expr → ℕ
+passes None = 0
+passes (Some c) = 1
+
+-- how many loops stand before a loop's body, given how many stand before the loop
+abbrev pub within_loop : Option Expr → ℕ → ℕ
+within_loop c at = at + passes c + 1
+
+-- how many stand before what follows
+abbrev mutual
+  pub past : ℕ → Stmt → ℕ
+  past at (If' c _ body other) = past_else (pasts at body) other
+  past at (For' t e c r _ body other) = past_else (pasts (within_loop c at) body) other
+  past at (SetBlock' t _ body) = pasts at body
+  past at (With' given _ body) = pasts at body
+  past at (AutoEscape' e _ body) = pasts at body
+  past at _ = at
+
+  pub pasts : {n : _} → ℕ → Row_of-Stmt n → ℕ
+  pasts at no_statement = at
+  pasts at (statement s ss) = pasts (past at s) ss
+
+  pub past_else : ℕ → Otherwise → ℕ
+  past_else at no_else = at
+  past_else at (otherwise _ body) = pasts at body
+
+-- A loop of a tree: whether it can be called, its target, its body, and how many loops stand before that.
+pub record FoundLoop : Type 0 where
+  pub recursive : Bool
+  pub target : Target
+  pub body : Body
+  pub at : ℕ
+
+-- a pass can't be called
+abbrev pub with_pass : Option Expr → FoundLoop → List FoundLoop → List FoundLoop
+with_pass None l ls = l ∷ ls
+with_pass (Some c) l ls = record l { recursive = false } ∷ l ∷ ls
+
+-- the loops, each at its number
+abbrev mutual
+  pub loops_of : ℕ → Stmt → List FoundLoop
+  loops_of at (If' c _ body other) = loops_in at body ++ loops_else (pasts at body) other
+  loops_of at (For' t e c r _ body other) =
+      with_pass c (record { recursive = r; target = t; body = body_of body; at = within_loop c at }) (loops_in (within_loop c at) body ++ loops_else (pasts (within_loop c at) body) other)
+  loops_of at (SetBlock' t _ body) = loops_in at body
+  loops_of at (With' given _ body) = loops_in at body
+  loops_of at (AutoEscape' e _ body) = loops_in at body
+  loops_of at _ = []
+
+  pub loops_in : {n : _} → ℕ → Row_of-Stmt n → List FoundLoop
+  loops_in at no_statement = []
+  loops_in at (statement s ss) = loops_of at s ++ loops_in (past at s) ss
+
+  pub loops_else : ℕ → Otherwise → List FoundLoop
+  loops_else at no_else = []
+  loops_else at (otherwise _ body) = loops_in at body
+
+-- ---------------------------------------------------------------- of code
+-- the loop that an instruction begins
+abbrev pub begins : Instruction → Option LoopFlags
+begins (i.PushLoop flags) = Some flags
+begins _ = None
+
+abbrev pub with_place : Option LoopFlags → ℕ → List LoopPlace → List LoopPlace
+with_place None pc ls = ls
+with_place (Some flags) pc ls = record { place = pc; flags = flags } ∷ ls
+
+-- the loops that begin in code that stands at a place, each at its number
+abbrev pub loop_places : ℕ → List Instruction → List LoopPlace
+loop_places pc [] = []
+loop_places pc (x ∷ is) = with_place (begins x) pc (loop_places (pc + 1) is)
+
+abbrev pub one_more_loop : Option LoopFlags → ℕ → ℕ
+one_more_loop None n = n
+one_more_loop (Some flags) n = n + 1
+
+-- how many loops begin before a place
+abbrev pub loops_before : ℕ → List Instruction → ℕ
+loops_before zero is = 0
+loops_before (suc n) [] = 0
+loops_before (suc n) (x ∷ is) = one_more_loop (begins x) (loops_before n is)
