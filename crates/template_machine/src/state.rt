@@ -102,7 +102,8 @@ impl<'env, O: Parties> StateOf<'env, O> {
         ensures { IsAnswer result (find_name
             (view_of (host_of O.functions self.now.template) self.now.world) name.now) }
     {
-        self.kept.lookup(&self.rendering, name)
+        let hashed = Name::new(self.rendering.allocator(), name)?;
+        self.kept.lookup(&self.rendering, &hashed)
     }
 
     /// The names that a look-up finds, of the scopes and of the globals, each once, in their order. InvalidOperation where a scope is over a namespace whose record isn't there; OutOfMemory.

@@ -49,7 +49,7 @@ impl StateData<'_> {
         ensures rest { self.new ≡ record self.old
             { temps = self.new.temps; namespaces = self.new.namespaces } }
     {
-        let found = match self.lookup(host, name.as_str()) {
+        let found = match self.lookup(host, name) {
             Ok(Some(value)) => value,
             Ok(None) => return Err(Error::from(ErrorKind::UnknownFunction)),
             Err(error) => return Err(error),

@@ -148,12 +148,12 @@ impl<'env> StateData<'env> {
     }
 
     /// The value of a name: of the scopes, an inner one's first, else of the globals. InvalidOperation where a context value on the way can't be known.
-    pub fn lookup<H: Host>(&self, host: &H, name: &str) -> Result<Option<Value>, Error>
+    pub fn lookup<H: Host>(&self, host: &H, name: &Name) -> Result<Option<Value>, Error>
         ensures { IsAnswer result (find_name (view_of (H.meaning host.now) self.now) name.now) }
     {
         match self.context.find(name, self) {
             Ok(Some(found)) => Ok(Some(found.value(self.id)?)),
-            Ok(None) => match host.globals().get(name) {
+            Ok(None) => match host.globals().get(name.as_str()) {
                 Some(global) => Ok(Some(global.share()?)),
                 None => Ok(None),
             },
@@ -461,10 +461,10 @@ impl<'env> StateData<'env> {
     }
 
     /// The innermost scope loses its names.
-    pub fn clear_locals(&mut self, alloc: Global)
+    pub fn clear_locals(&mut self)
         ensures { self.new ≡ cleared self.old }
     {
-        self.context.clear_locals(alloc);
+        self.context.clear_locals();
     }
 
     /// Whether the innermost scope is a loop's.

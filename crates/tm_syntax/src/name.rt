@@ -1,27 +1,44 @@
 //! Texts that owners share.
-ghost use Rattle.std.specs.Prelude.{◌≡◌, IfOk, nat_eq};
-ghost use Rattle.std.specs.Cmp.Lexicographic.{pointwise, slice_cmp};
+ghost use Rattle.std.specs.Prelude.{◌≡◌, IfOk, Some, nat_eq, refl};
+ghost use Rattle.std.specs.Cmp.{partial_equiv_from_equiv};
+ghost use Rattle.std.specs.Cmp.Lexicographic.{nat_list_eq_equiv, pointwise, slice_cmp};
 ghost use Rattle.std.specs.Ordering.{nat_cmp};
 ghost use Rattle.std.specs.Rc.{rc_str_bytes};
+ghost use Rattle.tm_syntax.specs.Hashed.{hash_of, hashed_cmp};
+ghost use Rattle.tm_syntax.specs.HashedLaws.{hashed_po, hashed_ties, hashed_total};
 
 use std::alloc::{AllocError, Global};
 use std::cmp::Ordering;
+use std::hash::{FoldHasher, Hasher};
 use std::marker::Model;
 use std::rc::RcStr;
 
-/// A name of a template. A contract sees its bytes; a second owner costs no memory.
+/// The hash of a text, the same for each owner of it.
+fn hash_of(text: &str) -> u64
+    ensures { result ≡ hash_of text.now }
+{
+    let mut hasher = FoldHasher::default();
+    hasher.write(text.as_bytes());
+    hasher.finish()
+}
+
+/// A name of a template, with its hash. A contract sees its bytes; a second owner costs no memory.
 #[derive(Drop)]
 pub struct Name {
     text: RcStr,
+    hash: u64,
 }
 
 impl Model for Name {
-    ghost use Rattle.std.specs.Prelude.{List, ℕ};
+    ghost use Rattle.std.specs.Prelude.{◌≡◌, List, ℕ};
     ghost use Rattle.std.specs.Rc.{rc_str_bytes};
+    ghost use Rattle.tm_syntax.specs.Hashed.{hash_of};
 
     ghost Value = { List ℕ };
 
     ghost view = { λ a. rc_str_bytes a.text };
+
+    ghost invariant = { λ a. a.hash ≡ hash_of (rc_str_bytes a.text) };
 }
 
 impl Name {
@@ -29,15 +46,17 @@ impl Name {
     pub fn new(alloc: Global, text: &str) -> Result<Name, AllocError>
         ensures { IfOk result (λ name. name ≡ text.now) }
     {
+        let hash = hash_of(text);
         let text = RcStr::from_str(alloc, text)?;
-        Ok(Name { text })
+        Ok(Name { text, hash })
     }
 
     /// The text that is shared here.
     pub fn from_text(text: RcStr) -> Name
         ensures { result ≡ rc_str_bytes text }
     {
-        Name { text }
+        let hash = hash_of(text.as_str());
+        Name { text, hash }
     }
 
     /// A second owner of the same text. Fails only where the owners can't be counted.
@@ -46,6 +65,7 @@ impl Name {
     {
         Ok(Name {
             text: self.text.clone()?,
+            hash: self.hash,
         })
     }
 
@@ -67,7 +87,7 @@ impl Name {
     pub fn into_text(self) -> RcStr
         ensures { rc_str_bytes result ≡ self }
     {
-        let Name { text } = self;
+        let Name { text, .. } = self;
         text
     }
 
@@ -83,5 +103,48 @@ impl Name {
         ensures { result ≡ slice_cmp nat_cmp self.now other.now }
     {
         self.text.as_str().cmp(other)
+    }
+}
+
+/// The same text; texts with other hashes aren't read.
+impl PartialEq for Name {
+    ghost eq = { pointwise nat_eq };
+
+    ghost laws = { partial_equiv_from_equiv nat_list_eq_equiv };
+
+    fn eq(&self, other: &Name) -> bool {
+        self.hash == other.hash && self.text.as_str() == other.text.as_str()
+    }
+}
+
+impl Eq for Name {
+    ghost laws = { nat_list_eq_equiv };
+}
+
+impl PartialOrd for Name {
+    ghost partial_cmp = { λ x y. Some (hashed_cmp x y) };
+
+    ghost laws = { hashed_po };
+
+    fn partial_cmp(&self, other: &Name) -> Option<Ordering> {
+        Some(self.cmp(other))
+    }
+}
+
+/// By the hashes, so that an index of names seldom reads a text; where those are the same, by the texts.
+impl Ord for Name {
+    ghost cmp = { hashed_cmp };
+
+    ghost total = { hashed_total };
+
+    ghost matches_partial_cmp = { λ x y. refl };
+
+    ghost matches_eq = { hashed_ties };
+
+    fn cmp(&self, other: &Name) -> Ordering {
+        match self.hash.cmp(&other.hash) {
+            Ordering::Equal => self.text.as_str().cmp(other.text.as_str()),
+            order => order,
+        }
     }
 }

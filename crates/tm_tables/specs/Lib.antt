@@ -1,5 +1,6 @@
 pub mod Found
 pub mod Known
+pub mod Locals
 pub mod Places
 pub mod Scopes
 pub mod Sources

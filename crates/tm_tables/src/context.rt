@@ -10,6 +10,7 @@ ghost use Rattle.tm_tables.specs.Found.{IsHeld, IsFoundIn, meant_by};
 ghost use Rattle.tm_tables.specs.Known.{AddsFound, AreFoundIn, AreKnownIn, AreMembers, NamingFails, has_text, is_among};
 ghost use Rattle.tm_tables.specs.Scopes.{one_scope, PushFails, is_exported, exported_by, exported_of};
 
+use crate::locals::{Locals, in_order};
 use std::alloc::{AllocError, Global};
 use std::marker::Model;
 use tm_meaning::LoopMark;
@@ -50,7 +51,7 @@ impl Found<'_> {
 /// A scope: its own names, the value whose keys are names too, and its loop.
 #[derive(Drop)]
 pub struct Frame {
-    locals: NameMap<Value>,
+    locals: Locals,
     context: Value,
     mark: Option<LoopMark>,
 }
@@ -73,7 +74,7 @@ impl Frame {
         ensures { result ≡ plain context }
     {
         Frame {
-            locals: NameMap::new(alloc),
+            locals: Locals::new(alloc),
             context,
             mark: None,
         }
@@ -84,7 +85,7 @@ impl Frame {
         ensures { result ≡ loop_scope mark }
     {
         Frame {
-            locals: NameMap::new(alloc),
+            locals: Locals::new(alloc),
             context: Value::undefined(),
             mark: Some(mark),
         }
@@ -105,7 +106,7 @@ impl Frame {
     /// What a name stands for: its own, its loop, or what the context value has there. InvalidOperation where it is neither of the first and the context value is a namespace whose record isn't there.
     pub fn get<'a, R: Records>(
         &'a self,
-        name: &str,
+        name: &Name,
         records: &'a R,
     ) -> Result<Option<Found<'a>>, Error>
         ensures { IsFoundIn (R.records records.now) name.now (self.now ∷ []) result }
@@ -113,10 +114,10 @@ impl Frame {
         if let Some(own) = self.locals.get(name) {
             return Ok(Some(Found::Held(own)));
         }
-        if let Some(number) = self.named_loop(name) {
+        if let Some(number) = self.named_loop(name.as_str()) {
             return Ok(Some(Found::Loop(number)));
         }
-        match self.context_member(name, records) {
+        match self.context_member(name.as_str(), records) {
             Ok(Some(member)) => Ok(Some(Found::Held(member))),
             Ok(None) => Ok(None),
             Err(error) => Err(error),
@@ -152,10 +153,10 @@ impl Frame {
     }
 
     /// Loses its names.
-    fn clear(&mut self, alloc: Global)
+    fn clear(&mut self)
         ensures { self.new ≡ record self.old { locals = [] } }
     {
-        self.locals = NameMap::new(alloc);
+        self.locals.clear();
     }
 
     /// The names that it exports, in their order: its own that don't begin with `_`. OutOfMemory.
@@ -225,17 +226,6 @@ fn add_texts<'a>(pairs: &'a [(Value, Value)], names: &mut Vec<&'a str>) -> Resul
     Ok(())
 }
 
-/// The names in their order, each once.
-fn in_order(mut names: Vec<&str>) -> Vec<&str>
-    ensures order { IsStrictlySortedBy name_cmp (texts_of result.items) }
-    ensures same { (x : _) → is_among x (texts_of result.items)
-        ≡ is_among x (texts_of names.entry.items) }
-{
-    names.sort_unstable();
-    names.dedup();
-    names
-}
-
 /// The scopes of a state. A contract sees them innermost first.
 #[derive(Drop)]
 pub struct Context {
@@ -264,6 +254,11 @@ impl Context {
         let mut frames = Vec::new(alloc);
         frames.push(frame)?;
         Ok(Context { frames, outer: 0 })
+    }
+
+    /// The allocator of the scopes.
+    pub(crate) fn allocator(&self) -> Global {
+        *self.frames.allocator()
     }
 
     /// How many scopes there are.
@@ -297,7 +292,7 @@ impl Context {
     /// What a name stands for: in an inner scope before an outer one. InvalidOperation where a context value on the way is a namespace whose record isn't there.
     pub fn find<'a, R: Records>(
         &'a self,
-        name: &str,
+        name: &Name,
         records: &'a R,
     ) -> Result<Option<Found<'a>>, Error>
         ensures { IsFoundIn (R.records records.now) name.now self.now.frames result }
@@ -406,11 +401,11 @@ impl Context {
     }
 
     /// The innermost scope, where there is one, loses its names.
-    pub fn clear_locals(&mut self, alloc: Global)
+    pub fn clear_locals(&mut self)
         ensures { self.new ≡ record self.old { frames = without_locals self.old.frames } }
     {
         if let Some(innermost) = self.frames.len().checked_sub(1) {
-            self.frames[innermost].clear(alloc);
+            self.frames[innermost].clear();
         }
     }
 

@@ -6,6 +6,7 @@ mod compiled;
 mod context;
 mod defaults;
 mod host;
+mod locals;
 mod objects;
 mod plain;
 mod templates;

@@ -8,7 +8,7 @@ ghost use Rattle.tm_tables.specs.Views.{records_with};
 use crate::context::Context;
 use std::marker::Model;
 use tm_parts::{LoopState, following_at, position_at, previous_at};
-use tm_syntax::NameMap;
+use tm_syntax::{Name, NameMap};
 use tm_values::{AutoEscape, Error, LoopPosition, Records, UndefinedBehavior, Value, ValueMap};
 
 /// What an object of the caller sees of a state: its scopes and loops, what was kept, the environment's globals, and what is running.
@@ -87,11 +87,12 @@ impl<'a> View<'a> {
         }
     }
 
-    /// The value of a name: of the scopes, an inner one's first, else of the globals. InvalidOperation where a scope on the way is over a namespace whose record isn't there.
+    /// The value of a name: of the scopes, an inner one's first, else of the globals. InvalidOperation where a scope on the way is over a namespace whose record isn't there; OutOfMemory.
     pub fn lookup(&self, name: &str) -> Result<Option<Value>, Error>
         ensures { IsAnswer result (find_name self.now name.now) }
     {
-        match self.context.find(name, self) {
+        let hashed = Name::new(self.context.allocator(), name)?;
+        match self.context.find(&hashed, self) {
             Ok(Some(found)) => Ok(Some(found.value(self.id)?)),
             Ok(None) => match self.globals.get(name) {
                 Some(global) => Ok(Some(global.share()?)),

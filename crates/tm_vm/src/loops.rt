@@ -54,7 +54,7 @@ impl Machine<'_> {
     }
 
     /// Pushes the next item of the innermost loop, or goes to a place where none is left; stuck where the run has no loop open, or its scope isn't on top.
-    pub(crate) fn do_iterate(&mut self, alloc: Global, place: usize) -> Result<Flow, Halt>
+    pub(crate) fn do_iterate(&mut self, place: usize) -> Result<Flow, Halt>
         requires { CanGoOn self.old.run }
         ensures { Silently (iterate_of place self.old) self.old self.new result }
     {
@@ -71,7 +71,7 @@ impl Machine<'_> {
         self.state.next_turn();
         match item {
             Some(item) => {
-                self.state.clear_locals(alloc);
+                self.state.clear_locals();
                 self.push_next(item)
             }
             None => {

@@ -31,7 +31,7 @@ impl Machine<'_> {
         ensures { Silently (lookup_of (H.meaning host.now) name.now self.old)
             self.old self.new result }
     {
-        let value = match self.state.lookup(host, name.as_str()) {
+        let value = match self.state.lookup(host, name) {
             Ok(Some(value)) => value,
             Ok(None) => Value::undefined(),
             Err(error) => return Err(Halt::Fault(error)),

@@ -88,7 +88,7 @@ impl Machine<'_> {
             Instruction::PushWith => self.do_push_with(alloc, host, base),
             Instruction::PopFrame => self.do_pop_frame(base),
             Instruction::PushLoop(flags) => self.do_push_loop(alloc, host, base, code, *flags),
-            Instruction::Iterate(place) => self.do_iterate(alloc, *place),
+            Instruction::Iterate(place) => self.do_iterate(*place),
             Instruction::PushDidNotIterate => self.do_push_did_not_iterate(),
             Instruction::PopLoopFrame => self.do_pop_loop_frame(alloc, base),
             Instruction::BeginCapture(mode) => self.do_begin_capture(alloc, *mode),

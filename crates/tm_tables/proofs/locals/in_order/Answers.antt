@@ -2,7 +2,7 @@ use Rattle.std.proofs.lemmas.List.Filters.{dedup_is}
 use Rattle.std.proofs.lemmas.List.Kept.{IsStrictlySortedBy-dedup}
 use Rattle.std.specs.Cmp.Lexicographic.{on_texts, texts_ties}
 use Rattle.tm_tables.proofs.Known.{among-sorted, sorted-texts}
-use Rattle.tm_tables.proofs.context.in_order.Goals as goal
+use Rattle.tm_tables.proofs.locals.in_order.Goals as goal
 
 pub returns : goal.returns
 returns c =

@@ -1,0 +1,10 @@
+use Rattle.std.proofs.Common.{◌≡◌, ◌++◌, take}
+use Rattle.std.specs.Map.{keys_of}
+use Rattle.tm_syntax.specs.Named.{texts_of}
+use Rattle.tm_tables.proofs.locals.Locals.names.Given as goal
+
+abbrev pub invariant-loop-pair : goal.invariant-loop-pair
+invariant-loop-pair l = texts_of l.names.items ≡ keys_of (take l.pair-index l.pair-items)
+
+abbrev pub invariant-loop-name : goal.invariant-loop-name
+invariant-loop-name l = texts_of l.names.items ++ l.name-iterator ≡ texts_of l.initial.names.items ++ l.initial.name-iterator

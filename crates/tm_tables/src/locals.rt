@@ -1,0 +1,122 @@
+//! A scope's own names.
+ghost use Rattle.std.specs.List.Sorted.{IsStrictlySortedBy};
+ghost use Rattle.std.specs.Map.{keys_of};
+ghost use Rattle.std.specs.Prelude.{◌≡◌, [], IfOk, OnErr, OnOk, MatchOption, None, Some};
+ghost use Rattle.tm_syntax.specs.Named.{find, name_cmp, put, texts_of};
+ghost use Rattle.tm_tables.specs.Known.{is_among};
+ghost use Rattle.tm_tables.specs.Locals.{IsPlace};
+
+use std::alloc::{AllocError, Global};
+use std::collections::BTreeMap;
+use std::marker::Model;
+use tm_syntax::Name;
+use tm_values::Value;
+
+/// How many names are told apart by their hashes, one after the other. An index has those behind them, so that no scope with many names is slow.
+const SCANNED: usize = 8;
+
+/// The names in their order, each once.
+pub(crate) fn in_order(mut names: Vec<&str>) -> Vec<&str>
+    ensures order { IsStrictlySortedBy name_cmp (texts_of result.items) }
+    ensures same { (x : _) → is_among x (texts_of result.items)
+        ≡ is_among x (texts_of names.entry.items) }
+{
+    names.sort_unstable();
+    names.dedup();
+    names
+}
+
+/// The place of the first pair with a name.
+fn place_of(pairs: &[(Name, Value)], name: &Name) -> Option<usize>
+    ensures { IsPlace name.now pairs.now result }
+{
+    let mut place = 0;
+    while place < pairs.len() {
+        if pairs[place].0 == *name {
+            return Some(place);
+        }
+        place += 1;
+    }
+    None
+}
+
+/// Names with what they stand for, found by the hashes of the names first. The room of the first ones stays when they are cleared. A contract sees the pairs, in the order of the names.
+#[derive(Drop)]
+pub(crate) struct Locals {
+    first: Vec<(Name, Value)>,
+    others: BTreeMap<Name, Value>,
+}
+
+impl Model for Locals {
+    ghost use Rattle.std.specs.Coded.{codes};
+    ghost use Rattle.std.specs.Prelude.{◌++◌};
+    ghost use Rattle.tm_syntax.specs.Named.{Named};
+    ghost use Rattle.tm_values.specs.Code.{coded_Val};
+    ghost use Rattle.tm_values.specs.Val.{Val};
+    ghost use Rattle.tm_tables.specs.Locals.{in_order};
+
+    ghost Value = { Named Val };
+
+    ghost coded = { Prim.hlevel (codes, coded_Val) };
+
+    ghost view = { λ a. in_order (a.first.items ++ a.others.entries) };
+}
+
+impl Locals {
+    /// No names; this takes no memory.
+    pub(crate) fn new(alloc: Global) -> Locals
+        ensures { result ≡ [] }
+    {
+        Locals {
+            first: Vec::new(alloc),
+            others: BTreeMap::new(alloc),
+        }
+    }
+
+    /// What a name stands for.
+    pub(crate) fn get(&self, name: &Name) -> Option<&Value>
+        ensures { MatchOption result (find name.now self.now ≡ None) (λ x. find name.now self.now ≡ Some x.now) }
+    {
+        match place_of(&self.first, name) {
+            Some(place) => Some(&self.first[place].1),
+            None => self.others.get(name),
+        }
+    }
+
+    /// Lets a name stand for this, in place of what it stood for. AllocError for want of memory, and all stays as it was.
+    pub(crate) fn insert(&mut self, name: Name, value: Value) -> Result<(), AllocError>
+        ensures ok { OnOk result (self.new ≡ put name value self.old) }
+        ensures err { OnErr result (self.new ≡ self.old) }
+    {
+        match place_of(&self.first, &name) {
+            Some(place) => self.first[place].1 = value,
+            None if self.first.len() < SCANNED => self.first.push((name, value))?,
+            None => {
+                self.others.insert(name, value)?;
+            }
+        }
+        Ok(())
+    }
+
+    /// The names, in their order. AllocError for want of memory.
+    pub(crate) fn names(&self, alloc: Global) -> Result<Vec<&str>, AllocError>
+        ensures { IfOk result (λ names. texts_of names.items ≡ keys_of self.now) }
+    {
+        let mut names = Vec::new(alloc);
+        for pair in &self.first {
+            names.push(pair.0.as_str())?;
+        }
+        for name in self.others.keys() {
+            names.push(name.as_str())?;
+        }
+        Ok(in_order(names))
+    }
+
+    /// No name stands for anything from here on.
+    pub(crate) fn clear(&mut self)
+        ensures { self.new ≡ [] }
+    {
+        self.first.clear();
+        self.others.clear();
+    }
+}
