@@ -19,7 +19,7 @@ use Rattle.tm_tables.specs.Defaults.{escape_by_name, escape_of}
 use Rattle.tm_tables.specs.Stated.{Table, language_functions, functions_of, behind_language}
 use Rattle.tm_tables.specs.Templates.{Compiled, IsRefused}
 use Rattle.template_machine.specs.Environment.{EnvironmentValue, TemplateValue, IsTemplateOf, expected_environment, new_environment, greatest_limit}
-use Rattle.template_machine.specs.Renders.{CapturedValue, answer_by, greatest, meaning, Rendered, as_meant, by_writer, by_memory}
+use Rattle.template_machine.specs.Renders.{CapturedValue, StateValue, answer_by, greatest, meaning, Rendered, as_meant, by_writer, by_memory}
 use Rattle.mj_words.specs.CommandLine.{Text, Asked}
 use Rattle.mj_run.specs.Program.{Input, context_of, limit_of, template_in, meaning_of, IsMeant, IsRendered, IsBegun, IsFault, no_memory, write_failed, flush_failed, no_tree, meant}
 
@@ -110,7 +110,7 @@ module _ {C : Type 0} where
       absurd (cc)
 
 -- a render as the first state of a counter
-pub at_first : {P : Type 0} (functions : P → List Function) (t : TemplateValue P) (context : Val) (id : ℕ) (r : Result (CapturedValue P) (List ErrorKind)) (told now : Option Text) (faults count : ℕ) → id ≡ 0 →
+pub at_first : {P : Type 0} (functions : P → List Function) (t : TemplateValue P) (context : Val) (id : ℕ) (r : Result (CapturedValue (StateValue P)) (List ErrorKind)) (told now : Option Text) (faults count : ℕ) → id ≡ 0 →
     (id < greatest → Rendered t (meaning functions t id context) r told now faults count) → Rendered t (meaning functions t 0 context) r told now faults count
 at_first functions t context id r told now faults count e rendered =
     subst (λ n. Rendered t (meaning functions t n context) r told now faults count) e (rendered (omega (arith, e)))
@@ -151,7 +151,7 @@ module _ {W : Type 0} (contents : W → Option Text) where
 
   -- What was answered of a template is what was answered of the words and the source.
   module _ {O : Type 0} (t : TemplateValue O) (i : Input) (m : Outcome) (old new : Tally W) (means : (tree : Tree) × Spells default_syntax i.source tree × (m ≡ meaning_of i tree)) where
-    abbrev Ended : Result (CapturedValue O) (List ErrorKind) → Type 0
+    abbrev Ended : Result (CapturedValue (StateValue O)) (List ErrorKind) → Type 0
     Ended r = Rendered t m r (contents old.writer) (contents new.writer) old.failures new.failures
 
     whole : Appends (contents old.writer) (contents new.writer) m.text → Appends (contents old.writer) (contents new.writer) (meaning_of i means.0).text
@@ -160,7 +160,7 @@ module _ {W : Type 0} (contents : W → Option Text) where
     part : AppendsBeginning (contents old.writer) (contents new.writer) m.text → IsBegun i (contents old.writer) (contents new.writer)
     part begun = (means.0, means.1, subst (λ (o : Outcome). AppendsBeginning (contents old.writer) (contents new.writer) o.text) means.2 begun)
 
-    pub is_done : (c : CapturedValue O) → Ended (Ok c) → IsRendered contents i old new
+    pub is_done : (c : CapturedValue (StateValue O)) → Ended (Ok c) → IsRendered contents i old new
     is_done c (as_meant is appended same) = (means.0, means.1, sym (ap chain_of means.2) ∙ done_chain m.ending m.world c.state.world is.2, whole appended, same)
     is_done c (by_writer e begun more) = absurd (cc)
     is_done c (by_memory memory begun same) = absurd memory

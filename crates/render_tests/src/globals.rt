@@ -162,6 +162,25 @@ fn a_state_keeps(rt: HostRuntime) -> Result<(), Fail> {
     Ok(())
 }
 
+/// Whether a closure's work on a state is there behind it, and its answer is given.
+fn is_worked_on(environment: &Globals<'_>) -> Result<bool, Error> {
+    let template = environment.template_from_str("x")?;
+    let mut ids = StateIds::new();
+    let mut captured = template.render_captured_to(&mut ids, Value::undefined(), &mut NullWriter)?;
+    let before = captured.with_state_mut(|state| state.set_temp("k", Value::number(3)))?;
+    let (None, Some(kept)) = (before, captured.state().get_temp("k")) else {
+        return Ok(false);
+    };
+    Ok(*kept == Value::number(3) && captured.output().is_empty())
+}
+
+#[test]
+fn a_closure_works_on_a_state(rt: HostRuntime) -> Result<(), Fail> {
+    let environment = Globals::new(rt.alloc())?;
+    assert!(rt; is_worked_on(&environment)?);
+    Ok(())
+}
+
 /// Whether a look-up finds these names behind a render, in this order.
 fn knows(
     environment: &Globals<'_>,

@@ -24,9 +24,9 @@ pub record StateValue (O : Type 0) : Type 0 where
   pub world : World
 
 -- a text that went to no writer, and the state that is left
-pub record CapturedValue (O : Type 0) : Type 0 where
+pub record CapturedValue (S : Type 0) : Type 0 where
   pub output : List ℕ
-  pub state : StateValue O
+  pub state : S
 
 -- the state, with a value that is kept at a name
 abbrev pub with_temp : {O : Type 0} → List ℕ → Val → StateValue O → StateValue O
@@ -64,7 +64,7 @@ IsMemory (Ok x) = ⊥
 IsMemory (Err chain) = ends_in_memory chain ≡ true
 
 -- The answer is the end that was meant: the template's state with its world and no text of its own, or an error of its chain.
-abbrev pub IsEnd : {O : Type 0} → TemplateValue O → Result (CapturedValue O) (List ErrorKind) → Outcome → Type 0
+abbrev pub IsEnd : {O : Type 0} → TemplateValue O → Result (CapturedValue (StateValue O)) (List ErrorKind) → Outcome → Type 0
 IsEnd t (Ok c) m = (c.output ≡ []) × (c.state.template ≡ t) × (answer_of m ≡ Ok c.state.world)
 IsEnd t (Err answer) m = answer_of m ≡ Err answer
 
@@ -74,7 +74,7 @@ IsText (Ok text) m = (string_bytes text ≡ m.text) × (w : World) × (answer_of
 IsText (Err answer) m = answer_of m ≡ Err answer
 
 -- How a render into a writer ended. The writer was given what stood in `told` before and `now` after, and its count of faults was `faults` and is `count`.
-pub data Rendered {O : Type 0} (t : TemplateValue O) (m : Outcome) (result : Result (CapturedValue O) (List ErrorKind)) (told now : Option (List ℕ)) (faults count : ℕ) : Type 0 where
+pub data Rendered {O : Type 0} (t : TemplateValue O) (m : Outcome) (result : Result (CapturedValue (StateValue O)) (List ErrorKind)) (told now : Option (List ℕ)) (faults count : ℕ) : Type 0 where
   -- as was meant: the answer is the end that was meant, and the writer got the whole text
   as_meant : IsEnd t result m → Appends told now m.text → count ≡ faults → Rendered t m result told now faults count
   -- the writer failed, behind a beginning of the text

@@ -1,4 +1,5 @@
 //! States, and what a render leaves.
+ghost use Rattle.std.specs.Fn.{FnOnceReturnsAtMut};
 ghost use Rattle.std.specs.List.Sorted.{IsStrictlySortedBy};
 ghost use Rattle.std.specs.Prelude.{◌≡◌, ◌+◌, [], ◌∷◌, Some, IfErr, IfOk, IfSome, OnErr, OnOk, string_bytes};
 ghost use Rattle.tm_syntax.specs.Named.{find, name_cmp, texts_of};
@@ -123,32 +124,30 @@ impl<'env, O: Parties> StateOf<'env, O> {
 
 /// What a render leaves: the text that went to no writer, and the state.
 #[derive(Drop)]
-pub struct CapturedOf<'env, O: Drop> {
+pub struct CapturedOf<S: Drop> {
     output: String,
-    state: StateOf<'env, O>,
+    state: S,
 }
 
 /// What a program's render leaves.
-pub type Captured<'env> = CapturedOf<'env, Objects<Box<dyn Callable>>>;
+pub type Captured<'env> = CapturedOf<State<'env>>;
 
-impl<'env, O: Drop> Model for CapturedOf<'env, O> {
+impl<S: Drop> Model for CapturedOf<S> {
     ghost use Rattle.std.specs.Prelude.{string_bytes};
     ghost use Rattle.std.specs.Coded.{codes};
-    ghost use Rattle.tm_syntax.specs.contracts.tree.Stmt as statement;
-    ghost use Rattle.tm_values.specs.Code.{coded_Val};
     ghost use Rattle.template_machine.specs.Renders.{CapturedValue};
 
-    ghost Value = { CapturedValue O };
+    ghost Value = { CapturedValue S };
 
-    ghost coded = { Prim.hlevel (codes, coded_Val, statement.the_row.coded, O.code) };
+    ghost coded = { Prim.hlevel (codes, S.code) };
 
     ghost view = { λ c. record { output = string_bytes c.output; state = c.state } };
 }
 
-impl<'env, O: Drop> CapturedOf<'env, O> {
+impl<S: Drop> CapturedOf<S> {
     /// A text and a state.
-    pub(crate) fn new(output: String, state: StateOf<'env, O>) -> CapturedOf<'env, O>
-        ensures { result ≡ record { output = string_bytes output; state = state.entry } }
+    pub(crate) fn new(output: String, state: S) -> CapturedOf<S>
+        ensures { result ≡ record { output = string_bytes output; state = state } }
     {
         CapturedOf { output, state }
     }
@@ -161,16 +160,25 @@ impl<'env, O: Drop> CapturedOf<'env, O> {
     }
 
     /// The state that the render left.
-    pub fn state(&self) -> &StateOf<'env, O>
+    pub fn state(&self) -> &S
         ensures { result.now ≡ self.now.state }
     {
         &self.state
     }
 
+    /// Lets a closure work on the state, and gives what it answers.
+    pub fn with_state_mut<R, F: FnOnce(&mut S) -> R>(&mut self, function: F) -> R
+        requires { F.IsAlwaysCallable function }
+        ensures ran { FnOnceReturnsAtMut F.FnOnce function self.old.state result self.new.state }
+        ensures text { self.new.output ≡ self.old.output }
+    {
+        function(&mut self.state)
+    }
+
     /// The text that went to no writer, and the state that the render left, which may be changed from then on.
-    pub fn into_parts(self) -> (String, StateOf<'env, O>)
-        ensures output { string_bytes result.0 ≡ self.entry.output }
-        ensures state { result.1 ≡ self.entry.state }
+    pub fn into_parts(self) -> (String, S)
+        ensures output { string_bytes result.0 ≡ self.output }
+        ensures state { result.1 ≡ self.state }
     {
         let CapturedOf { output, state } = self;
         (output, state)

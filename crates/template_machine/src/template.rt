@@ -122,7 +122,7 @@ impl<'env, 'source, O: Parties> TemplateOf<'env, 'source, O> {
         ids: &mut StateIds,
         context: Value,
         writer: &mut W,
-    ) -> Result<CapturedOf<'_, O>, Error>
+    ) -> Result<CapturedOf<StateOf<'_, O>>, Error>
         ensures full { ids.old ≡ greatest →
             (result ≡ Err (ErrorKind.InvalidOperation ∷ [])) × (ids.new ≡ ids.old)
             × (W.told writer.new ≡ W.told writer.old)
