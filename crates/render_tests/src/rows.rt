@@ -220,6 +220,12 @@ static ROWS: &[Row] = &[
         Ok(6),
     ),
     Row("{% set a, b = 1, 2 %}{{ a }}{{ b }}", "12", Ok(10)),
+    // More names than a scope has at hand.
+    Row(
+        "{% set a = 1 %}{% set b = 2 %}{% set c = 3 %}{% set d = 4 %}{% set e = 5 %}{% set f = 6 %}{% set g = 7 %}{% set h = 8 %}{% set i = 9 %}{% set j = 10 %}{% set a = 'A' %}{% set j = 'J' %}{{ a }}{{ b }}{{ h }}{{ i }}{{ j }}{{ k }}",
+        "A289J",
+        Ok(36),
+    ),
     Row(
         "{% set (a, (b, c)) = (1, (2, 3)) %}{{ c }}{{ b }}{{ a }}",
         "321",

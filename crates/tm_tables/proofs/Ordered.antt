@@ -244,7 +244,7 @@ module _ {A : Type 0} where
       let others = keys_of (in_order ps) in
       sym (keys-units ks)
       ∙ ap keys_of (same_entries name_cmp nat_list_cmp_total exact_bytes (units ks) (units others) (sorted-units ks h) (subst T (sym (sorted-keys (in_order ps))) (sorted-in_order ps))
-        (λ z. find-units z ks ∙ ap (λ b. cond b (Some zero) None) (same z ∙ sym (among-keys z ps)) ∙ sym (find-units z others)))
+      (λ z. find-units z ks ∙ ap (λ b. cond b (Some zero) None) (same z ∙ sym (among-keys z ps)) ∙ sym (find-units z others)))
       ∙ keys-units others
 
   keys-append : (ps qs : Named A) → keys_of (ps ++ qs) ≡ keys_of ps ++ keys_of qs

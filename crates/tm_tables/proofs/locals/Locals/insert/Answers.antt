@@ -22,9 +22,9 @@ pub returns-in_ok-insert-in-None-2-clause-ok : goal.returns-in_ok-insert-in-None
 returns-in_ok-insert-in-None-2-clause-ok c =
     let first = c.self.inside.first.items in
     let put_there =
-        ap (λ es. in_order (first ++ es)) c.in_ok-insert-in-None-2.ensures.entries
-        ∙ put_among c.args.name c.args.value first c.self.inside.others.entries (subst (λ ps. find c.args.name ps ≡ None) c.deref.ensures.value c.in-None-2.ensures)
-        ∙ ap (put c.args.name c.args.value) c.self.view_is in
+    ap (λ es. in_order (first ++ es)) c.in_ok-insert-in-None-2.ensures.entries
+    ∙ put_among c.args.name c.args.value first c.self.inside.others.entries (subst (λ ps. find c.args.name ps ≡ None) c.deref.ensures.value c.in-None-2.ensures)
+    ∙ ap (put c.args.name c.args.value) c.self.view_is in
     elim c.match-branch-3.branch [
       | in-Some-1 w ↦ w.self-is ∙ put_there
       | in-None-branch-3 w ↦ w.self-is ∙ put_there
