@@ -1,4 +1,4 @@
-use Rattle.std.proofs.Common.{◌+◌, arith}
+use Rattle.std.proofs.Common.{arith}
 use Rattle.tm_tables.proofs.Ordered.{is_place, no_place}
 use Rattle.tm_tables.proofs.locals.place_of.Goals as goal
 

@@ -1,4 +1,4 @@
-use Rattle.std.proofs.Common.{◌≡◌, ◌∙◌, refl, sym, ap, subst, None, Some, option_map}
+use Rattle.std.proofs.Common.{◌≡◌, ◌∙◌, sym, ap, subst, None, Some, option_map}
 use Rattle.tm_syntax.specs.Named.{find}
 use Rattle.tm_tables.specs.Locals.{IsPlace}
 use Rattle.tm_tables.proofs.Ordered.{found_at, found_behind, find-hashed, the_item}

@@ -1,4 +1,4 @@
-use Rattle.std.proofs.Common.{◌≡◌, ◌∙◌, ◌++◌, refl, sym, ap, subst, None, Some}
+use Rattle.std.proofs.Common.{◌≡◌, ◌∙◌, ◌++◌, ap, subst, None, Some}
 use Rattle.tm_syntax.specs.Named.{find, put}
 use Rattle.tm_tables.specs.Locals.{IsPlace, in_order}
 use Rattle.tm_tables.proofs.Ordered.{put_at, put_behind, put_among, the_name}

@@ -1,4 +1,4 @@
-use Rattle.std.proofs.Common.{◌≡◌, ◌∙◌, ◌++◌, refl, sym, ap, subst, arith, length, ◌≤◌}
+use Rattle.std.proofs.Common.{◌≡◌, ◌∙◌, ◌++◌, sym, ap, arith, length, ◌≤◌}
 use Rattle.std.specs.Map.{keys_of}
 use Rattle.tm_syntax.specs.Named.{texts_of}
 use Rattle.tm_tables.specs.Known.{is_among}
