@@ -264,6 +264,11 @@ static ROWS: &[Row] = &[
         Ok(26),
     ),
     Row(
+        "{% for x in [\"a\",\"b\",\"c\"] %}{{ loop.previtem }}{{ loop.revindex }}{{ loop.nextitem }}{{ loop.cycle(\"x\",\"y\") }} {% endfor %}",
+        "3bx a2cy b1x ",
+        Ok(59),
+    ),
+    Row(
         "{% for x in [1,2] %}{% for y in [3] %}{{ x }}{{ y }}{{ loop.length }}{% endfor %}{% endfor %}",
         "131231",
         Ok(36),

@@ -86,14 +86,25 @@ pub fn capture_rows()
     ensures no_such { Fails (escaped_by (literal (codes "xml"))) [] (InvalidOperation ∷ []) }
 {}
 
-/// `{% for x in [1,2] %}{{ x }}{% endfor %}`, loops without items, that are left or go on early, and `loop`.
+/// `{% for x in [1,2] %}{{ x }}{% endfor %}` with each fuel up to 15, loops without items, that are left or go on early, and `loop`.
 pub fn loop_rows()
     ensures charges { Charges each_number (decimal 1 ++ decimal 2) 14 }
     ensures enough { Says each_number 15 (decimal 1 ++ decimal 2) 1 [] }
     ensures last { Says each_number 14 (decimal 1 ++ decimal 2) 0 (OutOfFuel ∷ []) }
+    ensures thirteen { Says each_number 13 (decimal 1 ++ decimal 2) 0 (OutOfFuel ∷ []) }
+    ensures twelve { Says each_number 12 (decimal 1) 0 (OutOfFuel ∷ []) }
+    ensures eleven { Says each_number 11 (decimal 1) 0 (OutOfFuel ∷ []) }
     ensures ten { Says each_number 10 (decimal 1) 0 (OutOfFuel ∷ []) }
+    ensures nine { Says each_number 9 (decimal 1) 0 (OutOfFuel ∷ []) }
     ensures eight { Says each_number 8 (decimal 1) 0 (OutOfFuel ∷ []) }
     ensures seven { Says each_number 7 [] 0 (OutOfFuel ∷ []) }
+    ensures six { Says each_number 6 [] 0 (OutOfFuel ∷ []) }
+    ensures five { Says each_number 5 [] 0 (OutOfFuel ∷ []) }
+    ensures four { Says each_number 4 [] 0 (OutOfFuel ∷ []) }
+    ensures three { Says each_number 3 [] 0 (OutOfFuel ∷ []) }
+    ensures two { Says each_number 2 [] 0 (OutOfFuel ∷ []) }
+    ensures one { Says each_number 1 [] 0 (OutOfFuel ∷ []) }
+    ensures zero { Says each_number 0 [] 0 (OutOfFuel ∷ []) }
     ensures no_round { Charges no_round (codes "E") 4 }
     ensures broken { Charges broken_round [] 6 }
     ensures capture { Charges break_in_capture (codes "[]") 11 }
