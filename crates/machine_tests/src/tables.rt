@@ -5,6 +5,7 @@ ghost use Rattle.tm_meaning.specs.World.{gives};
 ghost use Rattle.tm_tables.specs.Stated.{just, keeping};
 
 use std::alloc::Global;
+use std::process::Abort;
 use std::test::Fail;
 use tm_compiler::NameMap;
 use tm_meaning::LoopMark;
@@ -64,14 +65,23 @@ fn objects_are_called_by_number(rt: HostRuntime) -> Result<(), Fail> {
     Ok(())
 }
 
-#[test]
-fn sources_are_compiled(rt: HostRuntime) -> Result<(), Fail> {
-    let alloc = rt.alloc();
+/// A template with a block.
+fn compiled(alloc: Global) -> Result<CompiledTemplate<'static>, Error> {
     let source = Source::Lent("{% block b %}x{{ a }}{% endblock %}y");
-    let template = CompiledTemplate::new(alloc, "page", source, &TemplateConfig::default())?;
+    CompiledTemplate::new(alloc, "page", source, &TemplateConfig::default())
+}
+
+/// Hears the template's code, and which blocks it has.
+fn expect_compiled(rt: &impl Abort, template: &CompiledTemplate<'_>) {
     assert_eq!(rt; template.instructions().as_slice().len(), 2);
     assert!(rt; template.block("b").is_some());
     assert!(rt; template.block("c").is_none());
+}
+
+#[test]
+fn sources_are_compiled(rt: HostRuntime) -> Result<(), Fail> {
+    let template = compiled(rt.alloc())?;
+    expect_compiled(&rt, &template);
     Ok(())
 }
 

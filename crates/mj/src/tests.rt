@@ -437,6 +437,11 @@ fn run_onto(page: Page, words: &[&str]) -> Result<Ran, Fail> {
 /// Runs the program over these words, onto this page, and compares what it answers.
 fn expect(rt: &impl Abort, page: Page, words: &[&str], wanted: &Answer) -> Result<(), Fail> {
     let ran = run_onto(page, words)?;
+    compare(rt, &ran, words, wanted)
+}
+
+/// Compares how a run ended with what is wanted.
+fn compare(rt: &impl Abort, ran: &Ran, words: &[&str], wanted: &Answer) -> Result<(), Fail> {
     let told = std::str::from_utf8(ran.told.as_slice())?;
     assert_eq!(rt; told, wanted.told, "told of {words:?}");
     assert_eq!(rt; ran.status, wanted.status, "status of {words:?}");

@@ -134,51 +134,90 @@ fn has_no_globals(environment: &Globals<'_>) -> Result<bool, Error> {
     Ok(is_unknown(environment, "{{ range(1) }}") && names_are(environment, &[])?)
 }
 
+/// Hears that nothing is there.
+fn expect_no_globals(rt: &impl Abort, environment: &Globals<'_>) -> Result<(), Fail> {
+    assert!(rt; has_no_globals(environment)?);
+    Ok(())
+}
+
 #[test]
 fn empty_has_no_functions(rt: HostRuntime) -> Result<(), Fail> {
     let environment = Globals::empty(rt.alloc());
-    assert!(rt; has_no_globals(&environment)?);
-    Ok(())
+    expect_no_globals(&rt, &environment)
+}
+
+/// A template of such an environment.
+type Page<'env, 'source> = TemplateOf<'env, 'source, Objects<Gives>>;
+
+/// The state that its render leaves.
+type Left<'env> = StateOf<'env, Objects<Gives>>;
+
+/// Keeps a number at `k`, and gives the one that was kept there.
+fn replaced(state: &mut Left<'_>, number: i128) -> Result<Option<i128>, Error> {
+    match state.set_temp("k", Value::number(number))? {
+        Some(before) => Ok(before.as_whole()),
+        None => Ok(None),
+    }
+}
+
+/// The number that is kept at `k`.
+fn kept(state: &Left<'_>) -> Option<i128> {
+    match state.get_temp("k") {
+        Some(value) => value.as_whole(),
+        None => None,
+    }
 }
 
 /// Whether a state gives what it kept before, and has what was kept last.
-fn keeps_the_last(environment: &Globals<'_>) -> Result<bool, Error> {
-    let template = environment.template_from_str("x")?;
+fn gives_what_was(state: &mut Left<'_>) -> Result<bool, Error> {
+    let first = replaced(state, 1)?;
+    let second = replaced(state, 2)?;
+    Ok(first.is_none() && second == Some(1) && kept(state) == Some(2))
+}
+
+/// Whether the state of a render keeps, and no text is left where a writer took it.
+fn keeps_the_last(template: &Page<'_, '_>) -> Result<bool, Error> {
     let mut ids = StateIds::new();
     let captured = template.render_captured_to(&mut ids, Value::undefined(), &mut NullWriter)?;
     let (output, mut state) = captured.into_parts();
-    let first = state.set_temp("k", Value::number(1))?;
-    let second = state.set_temp("k", Value::number(2))?;
-    let (None, Some(second), Some(kept)) = (first, second, state.get_temp("k")) else {
-        return Ok(false);
-    };
-    Ok(second == Value::number(1) && *kept == Value::number(2) && output.is_empty())
+    if output.is_empty() {
+        gives_what_was(&mut state)
+    } else {
+        Ok(false)
+    }
 }
 
-#[test]
-fn a_state_keeps(rt: HostRuntime) -> Result<(), Fail> {
-    let environment = Globals::new(rt.alloc())?;
-    assert!(rt; keeps_the_last(&environment)?);
-    Ok(())
+/// Whether a closure's work on the state is there behind it, and its answer is given.
+fn works_on(captured: &mut CapturedOf<Left<'_>>) -> Result<bool, Error> {
+    let before = captured.with_state_mut(|state| replaced(state, 3))?;
+    Ok(before.is_none() && kept(captured.state()) == Some(3) && captured.output().is_empty())
 }
 
-/// Whether a closure's work on a state is there behind it, and its answer is given.
-fn is_worked_on(environment: &Globals<'_>) -> Result<bool, Error> {
-    let template = environment.template_from_str("x")?;
+/// Whether a closure works on the state of a render.
+fn is_worked_on(template: &Page<'_, '_>) -> Result<bool, Error> {
     let mut ids = StateIds::new();
     let mut captured = template.render_captured_to(&mut ids, Value::undefined(), &mut NullWriter)?;
-    let before = captured.with_state_mut(|state| state.set_temp("k", Value::number(3)))?;
-    let (None, Some(kept)) = (before, captured.state().get_temp("k")) else {
-        return Ok(false);
-    };
-    Ok(*kept == Value::number(3) && captured.output().is_empty())
+    works_on(&mut captured)
 }
 
-#[test]
-fn a_closure_works_on_a_state(rt: HostRuntime) -> Result<(), Fail> {
-    let environment = Globals::new(rt.alloc())?;
-    assert!(rt; is_worked_on(&environment)?);
+/// Hears what states keep.
+fn expect_kept(rt: &impl Abort, template: &Page<'_, '_>) -> Result<(), Fail> {
+    assert!(rt; keeps_the_last(template)?);
+    assert!(rt; is_worked_on(template)?);
     Ok(())
+}
+
+/// Whether a state knows these names, in this order.
+fn has_names(state: &Left<'_>, wanted: &[&str]) -> Result<bool, Error> {
+    let names = state.known_variables()?;
+    Ok(names.as_slice() == wanted)
+}
+
+/// Whether the state of a render knows these names.
+fn leaves_names(template: &Page<'_, '_>, context: Value, wanted: &[&str]) -> Result<bool, Error> {
+    let mut ids = StateIds::new();
+    let captured = template.render_captured_to(&mut ids, context, &mut NullWriter)?;
+    has_names(captured.state(), wanted)
 }
 
 /// Whether a look-up finds these names behind a render, in this order.
@@ -189,10 +228,7 @@ fn knows(
     wanted: &[&str],
 ) -> Result<bool, Error> {
     let template = environment.template_from_str(source)?;
-    let mut ids = StateIds::new();
-    let captured = template.render_captured_to(&mut ids, context, &mut NullWriter)?;
-    let names = captured.state().known_variables()?;
-    Ok(names.as_slice() == wanted)
+    leaves_names(&template, context, wanted)
 }
 
 /// A context value with 7 at `a`, at `c` and at a number.
@@ -230,10 +266,16 @@ fn knows_no_other_state(environment: &Globals<'_>) -> bool {
     }
 }
 
+/// Hears what the states of an environment keep and know.
+fn expect_states(rt: &impl Abort, alloc: Global, environment: &Globals<'_>) -> Result<(), Fail> {
+    assert!(rt; knows_all(environment, alloc)?);
+    assert!(rt; knows_no_other_state(environment));
+    let template = environment.template_from_str("x")?;
+    expect_kept(rt, &template)
+}
+
 #[test]
-fn a_state_knows_its_names(rt: HostRuntime) -> Result<(), Fail> {
+fn states_keep_and_know(rt: HostRuntime) -> Result<(), Fail> {
     let environment = Globals::new(rt.alloc())?;
-    assert!(rt; knows_all(&environment, rt.alloc())?);
-    assert!(rt; knows_no_other_state(&environment));
-    Ok(())
+    expect_states(&rt, rt.alloc(), &environment)
 }

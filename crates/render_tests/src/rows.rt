@@ -414,17 +414,15 @@ fn context(alloc: Global) -> Result<Value, Error> {
     Value::from_map(alloc, map)
 }
 
-/// How many charges a render of the source takes, or the kind of its error.
-fn charges(
-    environment: &Rows<'_>,
-    source: &'static str,
+/// A template of such an environment.
+type Page<'env, 'source> = TemplateOf<'env, 'source, Objects<Party>>;
+
+/// How many charges a render takes; 0 where none is counted.
+fn charges_of(
+    template: &Page<'_, '_>,
     context: Value,
     writer: &mut Counted<Vec<u8>>,
 ) -> Result<u64, ErrorKind> {
-    let template = match environment.template_from_str(source) {
-        Ok(template) => template,
-        Err(error) => return Err(error.kind()),
-    };
     match template.render_captured_to(&mut StateIds::new(), context, writer) {
         Ok(captured) => match captured.state().fuel_levels() {
             Some((consumed, _left)) => Ok(consumed),
@@ -434,37 +432,79 @@ fn charges(
     }
 }
 
-/// Whether a value that was kept is there for `get_temp` alone, and no name is exported.
-fn keeps_apart(environment: &Rows<'_>) -> Result<bool, Error> {
-    let template = environment.template_from_str("{{ keep() }}{{ read() }}")?;
-    let mut ids = StateIds::new();
-    let captured = template.render_captured_to(&mut ids, Value::undefined(), &mut NullWriter)?;
-    let state = captured.state();
-    let Some(kept) = state.get_temp("k") else {
-        return Ok(false);
-    };
-    Ok(*kept == Value::number(1) && state.lookup("k")?.is_none() && state.exports()?.is_empty())
+/// How many charges a render of the source takes, or the kind of its error.
+fn charges(
+    environment: &Rows<'_>,
+    source: &'static str,
+    context: Value,
+    writer: &mut Counted<Vec<u8>>,
+) -> Result<u64, ErrorKind> {
+    match environment.template_from_str(source) {
+        Ok(template) => charges_of(&template, context, writer),
+        Err(error) => Err(error.kind()),
+    }
 }
 
-/// Whether a name of the outermost scope is exported, and one that begins with `_` isn't.
-fn exports(environment: &Rows<'_>) -> Result<bool, Error> {
-    let source = "{% set _x = 1 %}{% set y = 2 %}{% with z = 3 %}{% endwith %}";
+/// What is asked of the state that a render leaves.
+#[derive(Clone, Copy)]
+enum Left {
+    /// That a value which was kept is there for `get_temp` alone, and no name is exported.
+    Kept,
+    /// That `y` alone is exported.
+    Exported,
+    /// That the first function of the caller stands behind the three of the language.
+    Numbered,
+}
+
+static LEFT: &[(&str, Left)] = &[
+    ("{{ keep() }}{{ read() }}", Left::Kept),
+    (
+        "{% set _x = 1 %}{% set y = 2 %}{% with z = 3 %}{% endwith %}",
+        Left::Exported,
+    ),
+    ("", Left::Numbered),
+];
+
+/// Whether 1 is kept at `k`, where no name leads, and no name is exported.
+fn keeps_apart(state: &StateOf<'_, Objects<Party>>) -> Result<bool, Error> {
+    let is_kept = match state.get_temp("k") {
+        Some(kept) => *kept == Value::number(1),
+        None => false,
+    };
+    Ok(is_kept && state.lookup("k")?.is_none() && state.exports()?.is_empty())
+}
+
+/// Whether a state is left so.
+fn is_left(state: &StateOf<'_, Objects<Party>>, left: Left) -> Result<bool, Error> {
+    match left {
+        Left::Kept => keeps_apart(state),
+        Left::Exported => Ok(state.exports()?.as_slice() == ["y"].as_slice()),
+        Left::Numbered => Ok(state.lookup("f")? == Some(Value::function(3))),
+    }
+}
+
+/// Whether a render leaves its state so.
+fn leaves(template: &Page<'_, '_>, left: Left) -> Result<bool, Error> {
+    let mut ids = StateIds::new();
+    let captured = template.render_captured_to(&mut ids, Value::undefined(), &mut NullWriter)?;
+    is_left(captured.state(), left)
+}
+
+/// Whether a render of the source leaves its state so.
+fn source_leaves(environment: &Rows<'_>, source: &'static str, left: Left) -> Result<bool, Error> {
     let template = environment.template_from_str(source)?;
-    let mut ids = StateIds::new();
-    let captured = template.render_captured_to(&mut ids, Value::undefined(), &mut NullWriter)?;
-    let names = captured.state().exports()?;
-    Ok(names.len() == 1 && names[0] == "y")
+    leaves(&template, left)
 }
 
-/// Whether the first function of the caller stands behind the three of the language.
-fn numbers_behind_the_language(environment: &Rows<'_>) -> Result<bool, Error> {
-    let template = environment.template_from_str("")?;
-    let mut ids = StateIds::new();
-    let captured = template.render_captured_to(&mut ids, Value::undefined(), &mut NullWriter)?;
-    let Some(first) = captured.state().lookup("f")? else {
-        return Ok(false);
-    };
-    Ok(first == Value::function(3))
+/// Renders the sources, and looks at what they leave.
+fn expect_left(rt: &impl Abort, environment: &Rows<'_>) -> Result<(), Fail> {
+    for &(source, left) in LEFT {
+        assert!(rt;
+            source_leaves(environment, source, left)?,
+            "behind {source}"
+        );
+    }
+    Ok(())
 }
 
 /// How a render of the loop under a condition ends.
@@ -489,9 +529,7 @@ fn expect_all(rt: &impl Abort, alloc: Global, environment: &mut Rows<'_>) -> Res
     environment.set_fuel(Some(10_000));
     add_functions(environment)?;
     expect_rows(rt, alloc, environment)?;
-    assert!(rt; keeps_apart(environment)?);
-    assert!(rt; exports(environment)?);
-    assert!(rt; numbers_behind_the_language(environment)?);
+    expect_left(rt, environment)?;
     environment.set_fuel(Some(29));
     assert!(rt; charges_of_chosen(alloc, environment) == Err(ErrorKind::OutOfFuel));
     environment.set_fuel(Some(30));

@@ -66,6 +66,11 @@ type Unboxed<'source> = EnvironmentOf<'source, Objects<Yes>>;
 /// Renders the template of a name into no writer, and gives the fuel that it took.
 fn consumed(environment: &Unboxed<'_>, name: &str) -> Result<u64, Error> {
     let template = environment.get_template(name)?;
+    consumed_by(&template)
+}
+
+/// The fuel that a render took; 0 where none is counted.
+fn consumed_by(template: &TemplateOf<'_, '_, Objects<Yes>>) -> Result<u64, Error> {
     let mut ids = StateIds::new();
     let captured = template.render_captured_to(&mut ids, Value::undefined(), &mut NullWriter)?;
     match captured.state().fuel_levels() {
@@ -107,20 +112,24 @@ fn add_templates(environment: &mut Unboxed<'_>, alloc: Global) -> Result<(), Err
 
 /// Whether the templates render, and one that isn't kept.
 fn templates_render(environment: &Unboxed<'_>) -> Result<bool, Error> {
-    if consumed(environment, "page")? != 4 {
-        return Ok(false);
-    }
-    let own = text_of(environment, "own")?;
-    let named = text_of_x(environment)?;
-    let at_once = text_at_once(environment)?;
-    Ok(own.as_str() == "x" && named.as_str() == "x" && at_once.as_str() == "x")
+    Ok(
+        consumed(environment, "page")? == 4
+            && text_of(environment, "own")?.as_str() == "x"
+            && text_of_x(environment)?.as_str() == "x"
+            && text_at_once(environment)?.as_str() == "x",
+    )
+}
+
+/// Renders the templates of an environment.
+fn expect_templates(rt: &impl Abort, environment: &Unboxed<'_>) -> Result<(), Fail> {
+    assert!(rt; templates_render(environment)?);
+    Ok(())
 }
 
 #[test]
 fn templates_render_by_name(rt: HostRuntime) -> Result<(), Fail> {
     let environment = with_templates(rt.alloc())?;
-    assert!(rt; templates_render(&environment)?);
-    Ok(())
+    expect_templates(&rt, &environment)
 }
 
 /// Whether the text of a source under a name is this.
@@ -156,13 +165,6 @@ fn hears_names(environment: &Unboxed<'_>) -> bool {
         }
     }
     true
-}
-
-#[test]
-fn names_are_heard(rt: HostRuntime) -> Result<(), Fail> {
-    let environment = Unboxed::new(rt.alloc())?;
-    assert!(rt; hears_names(&environment));
-    Ok(())
 }
 
 /// Other delimiters, with both trims of blocks.
@@ -227,12 +229,13 @@ fn refuses(environment: &Unboxed<'_>, behavior: usize) -> bool {
     true
 }
 
-/// Hears undefined values under each behavior, and then other delimiters.
+/// Hears names, undefined values under each behavior, and then other delimiters.
 fn expect_settings(
     rt: &impl Abort,
     alloc: Global,
     environment: &mut Unboxed<'_>,
 ) -> Result<(), Fail> {
+    assert!(rt; hears_names(environment));
     assert!(rt; refuses(environment, 0));
     environment.set_undefined_behavior(UndefinedBehavior::Chainable);
     assert!(rt; refuses(environment, 1));
