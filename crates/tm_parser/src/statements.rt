@@ -3,8 +3,9 @@ ghost use Rattle.std.specs.Prelude.{◌≡◌, false, is_some};
 ghost use Rattle.tm_parser.specs.Gives.{Gives};
 ghost use Rattle.tm_parser.specs.Grammar.{inside};
 ghost use Rattle.tm_parser.specs.Statements as spec;
-ghost use Rattle.tm_parser.specs.Statements.{autoescape_tag, block_tag, body, do_tag, elif_tag, else_or_end, else_tag, emission, for_tag, if_tag, inner, jump, rest, set_block, set_tag, set_value, statement, with_tag};
-ghost use Rattle.tm_rules.specs.Combinators.{one_more};
+ghost use Rattle.tm_parser.specs.Statements.{autoescape_tag, block_end, block_tag, body, do_tag, elif_tag, else_or_end, else_tag, emission, for_tag, if_tag, inner, jump, rest, set_block, set_tag, set_value, statement, with_tag};
+ghost use Rattle.tm_rules.specs.Combinators.{one_more, provided};
+ghost use Rattle.tm_syntax.specs.declared.tree.Stmt.TheVariants.{Break, Continue};
 ghost use Rattle.tm_syntax.specs.declared.tree.Argument.TheBlock.{hidden-the_row-Step-5 as row_of_steps};
 
 use crate::cursor::{Cursor, refusal};
@@ -114,8 +115,8 @@ impl Cursor<'_> {
             Start::Emit => self.emission(alloc, depth),
             Start::If => self.if_tag(alloc, depth, looping),
             Start::For => self.for_tag(alloc, depth, looping),
-            Start::Break => self.jump(looping, Stmt::Break),
-            Start::Continue => self.jump(looping, Stmt::Continue),
+            Start::Break => self.break_tag(looping),
+            Start::Continue => self.continue_tag(looping),
             Start::Block => self.block_tag(alloc, depth),
             Start::Set => self.set_tag(alloc, depth, looping),
             Start::With => self.with_tag(alloc, depth, looping),
@@ -244,16 +245,32 @@ impl Cursor<'_> {
         Ok(Stmt::For(target, iterated, condition, recursive, body, other))
     }
 
-    /// The end of a tag of one word, whose statement stands nowhere but inside a loop.
+    /// The end of a `break`.
     #[tactic(auto, unfolding(crate::specs::Statements::jump))]
-    fn jump(&mut self, looping: bool, statement: Stmt) -> Result<Stmt, Error>
-        ensures { Gives result self.new ((jump looping statement).reads self.old) }
+    fn break_tag(&mut self, looping: bool) -> Result<Stmt, Error>
+        ensures { Gives result self.new ((jump looping Break).reads self.old) }
+    {
+        self.jump(looping)?;
+        Ok(Stmt::Break)
+    }
+
+    /// The end of a `continue`.
+    #[tactic(auto, unfolding(crate::specs::Statements::jump))]
+    fn continue_tag(&mut self, looping: bool) -> Result<Stmt, Error>
+        ensures { Gives result self.new ((jump looping Continue).reads self.old) }
+    {
+        self.jump(looping)?;
+        Ok(Stmt::Continue)
+    }
+
+    /// The end of a tag of one word, whose statement stands nowhere but inside a loop.
+    fn jump(&mut self, looping: bool) -> Result<(), Error>
+        ensures { Gives result self.new ((provided looping block_end).reads self.old) }
     {
         if !looping {
             return Err(refusal());
         }
-        self.expect(Sign::BlockEnd)?;
-        Ok(statement)
+        self.expect(Sign::BlockEnd)
     }
 
     /// A block's name and body, up to its end tag, which may say the name again. Around the body is

@@ -1,6 +1,5 @@
 //! Targets, and what is given to them.
 ghost use Rattle.std.specs.Prelude.{◌≡◌, [], MatchResult, None, Some};
-ghost use Rattle.std.specs.Option.{option_copied};
 ghost use Rattle.tm_parser.specs.Gives.{Gives, Refused};
 ghost use Rattle.tm_parser.specs.Grammar as grammar;
 ghost use Rattle.tm_parser.specs.Grammar.{inside, expr, items, member, more_items, more_targets, several, single, target, whole};
@@ -346,7 +345,6 @@ impl Cursor<'_> {
     }
 
     /// An assignment, at the end of others.
-    #[tactic(auto, unfolding(crate::specs::Statements::assignment))]
     fn one_assignment(
         &mut self,
         alloc: Global,
@@ -357,11 +355,19 @@ impl Cursor<'_> {
             ((one_more (assignment (inside depth)) assignments).reads self.old) }
     {
         let mut assignments = assignments;
+        assignments.push(self.assignment(alloc, depth)?)?;
+        Ok(assignments)
+    }
+
+    /// A target, and what is given to it.
+    #[tactic(auto, unfolding(crate::specs::Statements::assignment))]
+    fn assignment(&mut self, alloc: Global, depth: u8) -> Result<Assignment, Error>
+        ensures { Gives result self.new ((assignment (inside depth)).reads self.old) }
+    {
         let target = self.inner_target(alloc, depth)?;
         self.expect(Sign::Assign)?;
         let value = self.inner_expr(alloc, depth)?;
-        assignments.push(Assignment::Assignment(target, value))?;
-        Ok(assignments)
+        Ok(Assignment::Assignment(target, value))
     }
 }
 
@@ -376,10 +382,9 @@ fn target_of(alloc: Global, value: Boxed<Expr>, steps: Items<Step>) -> Result<Ta
     let Some(last) = steps.pop() else {
         return lone_target(value.get());
     };
-    let Some(name) = attribute_name(&last) else {
+    let Some(name) = attribute_name(last) else {
         return Err(refusal());
     };
-    let name = name.share()?;
     Ok(Target::Attribute(chained(alloc, value, steps)?, name))
 }
 
@@ -396,8 +401,8 @@ fn lone_target(value: &Expr) -> Result<Target, Error>
 }
 
 /// The name of an attribute; none of another step.
-fn attribute_name(step: &Step) -> Option<&Name>
-    ensures { option_copied result ≡ grammar.attribute_name step.now }
+fn attribute_name(step: Step) -> Option<Name>
+    ensures { result ≡ grammar.attribute_name step }
 {
     match step {
         Step::Attribute(name) => Some(name),
