@@ -177,18 +177,10 @@ fn write_streams(out: &mut String, streams: &Streams) -> Result<(), AllocError> 
     write_block(out, streams, "y")
 }
 
-/// The code of a tree, and of its blocks x and y.
-pub fn code_of(alloc: Global, tree: &Tree) -> Result<String, Error> {
+/// Whether this is the code of a tree, and of its blocks x and y.
+pub fn has_code(alloc: Global, tree: &Tree, wanted: &str) -> Result<bool, Error> {
     let streams = generate(alloc, tree)?;
     let mut out = String::new(alloc);
     write_streams(&mut out, &streams)?;
-    Ok(out)
-}
-
-/// Whether this is the code that came.
-pub fn is(code: &Result<String, Error>, wanted: &str) -> bool {
-    match code {
-        Ok(code) => code.as_str() == wanted,
-        Err(_) => false,
-    }
+    Ok(out.as_str() == wanted)
 }

@@ -1,7 +1,8 @@
 //! Sources with their code, and what is no source of a template.
-use crate::code;
 use crate::parser::{Pieces, joined};
+use crate::{code, syntax};
 use std::alloc::Global;
+use std::process::Abort;
 use std::rc::RcStr;
 use std::test::Fail;
 use tm_compiler::{SyntaxConfig, parse};
@@ -111,20 +112,27 @@ static CODES: [(&str, &str); 35] = [
     ),
 ];
 
-fn code_of(alloc: Global, source: &str) -> Result<String, Error> {
+fn has_code(
+    alloc: Global,
+    syntax: &SyntaxConfig,
+    source: &str,
+    wanted: &str,
+) -> Result<bool, Error> {
     let source = RcStr::from_str(alloc, source)?;
-    let tree = parse(alloc, &source, &SyntaxConfig::default())?;
-    code::code_of(alloc, &tree)
+    let tree = parse(alloc, &source, syntax)?;
+    code::has_code(alloc, &tree, wanted)
 }
 
 #[test]
-fn sources_have_their_code(rt: HostRuntime) {
+fn sources_have_their_code(rt: HostRuntime) -> Result<(), Fail> {
+    let syntax = syntax::usual(rt.alloc())?;
     for (source, wanted) in &CODES {
         assert!(rt;
-            code::is(&code_of(rt.alloc(), source), wanted),
+            has_code(rt.alloc(), &*syntax, source, wanted)?,
             "at {source}"
         );
     }
+    Ok(())
 }
 
 static REFUSED: [&str; 40] = [
@@ -186,9 +194,9 @@ static NESTINGS: [Pieces; 2] = [
 ];
 
 // Whether the source spells a template.
-fn spells(alloc: Global, source: &str) -> Result<bool, Error> {
+fn spells(alloc: Global, syntax: &SyntaxConfig, source: &str) -> Result<bool, Error> {
     let source = RcStr::from_str(alloc, source)?;
-    match parse(alloc, &source, &SyntaxConfig::default()) {
+    match parse(alloc, &source, syntax) {
         Ok(_) => Ok(true),
         Err(error) => {
             if error.kind() == ErrorKind::SyntaxError {
@@ -199,23 +207,39 @@ fn spells(alloc: Global, source: &str) -> Result<bool, Error> {
     }
 }
 
-fn spells_joined(alloc: Global, pieces: Pieces, count: usize) -> Result<bool, Error> {
+fn spells_joined(
+    alloc: Global,
+    syntax: &SyntaxConfig,
+    pieces: Pieces,
+    count: usize,
+) -> Result<bool, Error> {
     let source = joined(alloc, pieces, count)?;
-    spells(alloc, source.as_str())
+    spells(alloc, syntax, source.as_str())
+}
+
+fn check_nestings(
+    rt: &impl Abort,
+    alloc: Global,
+    syntax: &SyntaxConfig,
+    count: usize,
+    is_template: bool,
+) -> Result<(), Error> {
+    for (place, pieces) in NESTINGS.iter().enumerate() {
+        assert!(rt;
+            spells_joined(alloc, syntax, *pieces, count)? == is_template,
+            "{count} at {place}"
+        );
+    }
+    Ok(())
 }
 
 #[test]
 fn what_is_no_template_is_refused(rt: HostRuntime) -> Result<(), Fail> {
+    let syntax = syntax::usual(rt.alloc())?;
     for source in &REFUSED {
-        assert!(rt; !spells(rt.alloc(), source)?, "at {source}");
+        assert!(rt; !spells(rt.alloc(), &*syntax, source)?, "at {source}");
     }
-    for (count, is_template) in [(150, true), (151, false)] {
-        for (place, pieces) in NESTINGS.iter().enumerate() {
-            assert!(rt;
-                spells_joined(rt.alloc(), *pieces, count)? == is_template,
-                "{count} at {place}"
-            );
-        }
-    }
+    check_nestings(&rt, rt.alloc(), &*syntax, 150, true)?;
+    check_nestings(&rt, rt.alloc(), &*syntax, 151, false)?;
     Ok(())
 }

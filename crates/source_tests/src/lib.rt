@@ -10,4 +10,6 @@ mod parser;
 #[cfg(test)]
 mod scanner;
 #[cfg(test)]
+mod syntax;
+#[cfg(test)]
 mod tokens;

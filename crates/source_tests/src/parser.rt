@@ -1,6 +1,7 @@
 //! Templates by their tokens: what they spell, and how deep they may nest.
 use crate::code;
 use std::alloc::Global;
+use std::process::Abort;
 use std::test::Fail;
 use tm_parser::parse_tokens;
 use tm_syntax::{Name, Sign, Tag, Token};
@@ -246,17 +247,18 @@ static CODES: [(&str, &str); 60] = [
     ),
 ];
 
-fn code_of(alloc: Global, words: &str) -> Result<String, Error> {
+fn has_code(alloc: Global, words: &str, wanted: &str) -> Result<bool, Error> {
     let tokens = tokens_of(alloc, words)?;
     let tree = parse_tokens(alloc, &tokens)?;
-    code::code_of(alloc, &tree)
+    code::has_code(alloc, &tree, wanted)
 }
 
 #[test]
-fn tokens_have_their_code(rt: HostRuntime) {
+fn tokens_have_their_code(rt: HostRuntime) -> Result<(), Fail> {
     for (words, wanted) in &CODES {
-        assert!(rt; code::is(&code_of(rt.alloc(), words), wanted), "at {words}");
+        assert!(rt; has_code(rt.alloc(), words, wanted)?, "at {words}");
     }
+    Ok(())
 }
 
 static REFUSED: [&str; 64] = [
@@ -486,18 +488,26 @@ fn what_spells_nothing_is_refused(rt: HostRuntime) -> Result<(), Fail> {
     Ok(())
 }
 
+fn check_nestings(
+    rt: &impl Abort,
+    alloc: Global,
+    nestings: &[Pieces],
+    count: usize,
+    is_tree: bool,
+) -> Result<(), Error> {
+    for (place, pieces) in nestings.iter().enumerate() {
+        assert!(rt;
+            parses_joined(alloc, *pieces, count)? == is_tree,
+            "{count} at {place}"
+        );
+    }
+    Ok(())
+}
+
 #[test]
 fn nestings_are_counted(rt: HostRuntime) -> Result<(), Fail> {
-    for (count, is_tree) in [(150, true), (151, false)] {
-        for (place, pieces) in NESTINGS.iter().enumerate() {
-            assert!(rt;
-                parses_joined(rt.alloc(), *pieces, count)? == is_tree,
-                "{count} at {place}"
-            );
-        }
-    }
-    for pieces in &LONG {
-        assert!(rt; parses_joined(rt.alloc(), *pieces, 100000)?);
-    }
+    check_nestings(&rt, rt.alloc(), &NESTINGS, 150, true)?;
+    check_nestings(&rt, rt.alloc(), &NESTINGS, 151, false)?;
+    check_nestings(&rt, rt.alloc(), &LONG, 100000, true)?;
     Ok(())
 }

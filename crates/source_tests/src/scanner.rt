@@ -1,20 +1,27 @@
+//! Sources with their tokens, under flags and delimiters of the caller's own.
+use crate::syntax::{self, Flags, NO_FLAG};
 use crate::tokens::spelled;
 use std::alloc::Global;
+use std::process::Abort;
 use std::rc::RcStr;
+use std::test::Fail;
 use tm_scanner::{SyntaxConfig, scan};
 use tm_syntax::Token;
 use tm_values::{Error, ErrorKind};
 
-fn is_spelled(alloc: Global, syntax: &SyntaxConfig, source: &str, wanted: &str) -> bool {
-    match &spelled(alloc, syntax, source) {
-        Ok(tokens) => tokens.as_str() == wanted,
+/// A source and its tokens.
+type Row = (&'static str, &'static str);
+
+fn is_spelled(alloc: Global, syntax: &SyntaxConfig, row: Row) -> bool {
+    match &spelled(alloc, syntax, row.0) {
+        Ok(tokens) => tokens.as_str() == row.1,
         Err(_) => false,
     }
 }
 
 /// Whether a source spells no tokens.
-fn is_refused(alloc: Global, source: &str) -> bool {
-    match &spelled(alloc, &SyntaxConfig::default(), source) {
+fn is_refused(alloc: Global, syntax: &SyntaxConfig, source: &str) -> bool {
+    match &spelled(alloc, syntax, source) {
         Ok(_) => false,
         Err(error) => error.kind() == ErrorKind::SyntaxError,
     }
@@ -28,27 +35,17 @@ fn shares_raw_texts(alloc: Global, syntax: &SyntaxConfig, source: &str) -> Resul
     Ok(RcStr::strong_count(&source) - 1 == raw_texts.count())
 }
 
-/// Starts and ends of block tags, emissions and comments.
-fn with_delimiters(alloc: Global, texts: &[&str; 6]) -> Result<SyntaxConfig, Error> {
-    let [
-        block,
-        block_end,
-        variable,
-        variable_end,
-        comment,
-        comment_end,
-    ] = texts;
-    let block = String::from_str(alloc, block)?;
-    let block_end = String::from_str(alloc, block_end)?;
-    let variable = String::from_str(alloc, variable)?;
-    let variable_end = String::from_str(alloc, variable_end)?;
-    let comment = String::from_str(alloc, comment)?;
-    let comment_end = String::from_str(alloc, comment_end)?;
-    SyntaxConfig::builder()
-        .block_delimiters(block, block_end)
-        .variable_delimiters(variable, variable_end)
-        .comment_delimiters(comment, comment_end)
-        .build()
+fn check_rows(
+    rt: &impl Abort,
+    alloc: Global,
+    syntax: &SyntaxConfig,
+    rows: &[Row],
+) -> Result<(), Error> {
+    for row in rows {
+        assert!(rt; is_spelled(alloc, syntax, *row), "at {}", row.0);
+        assert!(rt; shares_raw_texts(alloc, syntax, row.0)?, "at {}", row.0);
+    }
+    Ok(())
 }
 
 static SPELLED: [(&str, &str); 28] = [
@@ -113,14 +110,9 @@ static SPELLED: [(&str, &str); 28] = [
 ];
 
 #[test]
-fn sources_are_tokens(rt: HostRuntime) {
-    let syntax = SyntaxConfig::default();
-    for (source, tokens) in &SPELLED {
-        assert!(rt;
-            is_spelled(rt.alloc(), &syntax, source, tokens),
-            "at {source}"
-        );
-    }
+fn sources_are_tokens(rt: HostRuntime) -> Result<(), Fail> {
+    check_rows(&rt, rt.alloc(), &*syntax::usual(rt.alloc())?, &SPELLED)?;
+    Ok(())
 }
 
 static REFUSED: [&str; 23] = [
@@ -150,18 +142,23 @@ static REFUSED: [&str; 23] = [
 ];
 
 #[test]
-fn what_is_no_token_is_refused(rt: HostRuntime) {
+fn what_is_no_token_is_refused(rt: HostRuntime) -> Result<(), Fail> {
+    let syntax = syntax::usual(rt.alloc())?;
     for source in &REFUSED {
-        assert!(rt; is_refused(rt.alloc(), source), "at {source}");
+        assert!(rt; is_refused(rt.alloc(), &*syntax, source), "at {source}");
     }
+    Ok(())
 }
 
+static DELIMITED: [Row; 1] = [(
+    "{{<%# ${a} %>b<%if a%>}${ {1:'}'} }",
+    " [{{] [b] {%if $a %} [}] {{ { #1 : '}' } }}",
+)];
+
 #[test]
-fn delimiters_are_the_callers(rt: HostRuntime) -> Result<(), Error> {
-    let syntax = with_delimiters(rt.alloc(), &["<%", "%>", "${", "}", "<%#", "%>"])?;
-    let source = "{{<%# ${a} %>b<%if a%>}${ {1:'}'} }";
-    let tokens = " [{{] [b] {%if $a %} [}] {{ { #1 : '}' } }}";
-    assert!(rt; is_spelled(rt.alloc(), &syntax, source, tokens));
+fn delimiters_are_the_callers(rt: HostRuntime) -> Result<(), Fail> {
+    let syntax = syntax::with_delimiters(rt.alloc(), &["<%", "%>", "${", "}", "<%#", "%>"])?;
+    check_rows(&rt, rt.alloc(), &*syntax, &DELIMITED)?;
     Ok(())
 }
 
@@ -171,14 +168,17 @@ static UNUSABLE: [[&str; 6]; 3] = [
     ["a", "b", "c", "d", "c", "d"],
 ];
 
+fn is_unusable(alloc: Global, texts: &[&str; 6]) -> bool {
+    match &syntax::with_delimiters(alloc, texts) {
+        Ok(_) => false,
+        Err(error) => error.kind() == ErrorKind::InvalidDelimiter,
+    }
+}
+
 #[test]
 fn unusable_delimiters_are_refused(rt: HostRuntime) {
     for texts in &UNUSABLE {
-        let refused = match &with_delimiters(rt.alloc(), texts) {
-            Ok(_) => false,
-            Err(error) => error.kind() == ErrorKind::InvalidDelimiter,
-        };
-        assert!(rt; refused, "at {}", texts[0]);
+        assert!(rt; is_unusable(rt.alloc(), texts), "at {}", texts[0]);
     }
 }
 
@@ -197,96 +197,85 @@ static MARKED: [(&str, &str); 11] = [
 ];
 
 #[test]
-fn marks_trim(rt: HostRuntime) -> Result<(), Error> {
-    let syntax = SyntaxConfig::default();
-    for (source, tokens) in &MARKED {
-        assert!(rt;
-            is_spelled(rt.alloc(), &syntax, source, tokens),
-            "at {source}"
-        );
-        assert!(rt;
-            shares_raw_texts(rt.alloc(), &syntax, source)?,
-            "at {source}"
-        );
-    }
+fn marks_trim(rt: HostRuntime) -> Result<(), Fail> {
+    check_rows(&rt, rt.alloc(), &*syntax::usual(rt.alloc())?, &MARKED)?;
     Ok(())
 }
 
-/// A source, the flags `trim_blocks` and `lstrip_blocks`, and the tokens.
-static FLAGGED: [(&str, bool, bool, &str); 9] = [
+const TRIM: Flags = Flags {
+    trim_blocks: true,
+    ..NO_FLAG
+};
+
+const STRIP: Flags = Flags {
+    lstrip_blocks: true,
+    ..NO_FLAG
+};
+
+const TRIM_AND_STRIP: Flags = Flags {
+    lstrip_blocks: true,
+    ..TRIM
+};
+
+const KEEP: Flags = Flags {
+    keep_trailing_newline: true,
+    ..NO_FLAG
+};
+
+/// The rows of each choice of flags.
+static FLAGGED: [(Flags, &[Row]); 5] = [
     (
-        "a\n  {% if b %}\n c\n{% endif %}\nd",
-        false,
-        false,
-        " [a\n  ] {%if $b %} [\n c\n] {%endif %} [\nd]",
+        NO_FLAG,
+        &[(
+            "a\n  {% if b %}\n c\n{% endif %}\nd",
+            " [a\n  ] {%if $b %} [\n c\n] {%endif %} [\nd]",
+        )],
     ),
     (
-        "a\n  {% if b %}\n c\n{% endif %}\nd",
-        true,
-        false,
-        " [a\n  ] {%if $b %} [ c\n] {%endif %} [d]",
+        TRIM,
+        &[(
+            "a\n  {% if b %}\n c\n{% endif %}\nd",
+            " [a\n  ] {%if $b %} [ c\n] {%endif %} [d]",
+        )],
     ),
     (
-        "a\n  {% if b %}\n c\n{% endif %}\nd",
-        false,
-        true,
-        " [a\n] {%if $b %} [\n c\n] {%endif %} [\nd]",
+        STRIP,
+        &[(
+            "a\n  {% if b %}\n c\n{% endif %}\nd",
+            " [a\n] {%if $b %} [\n c\n] {%endif %} [\nd]",
+        )],
     ),
     (
-        "a\n  {% if b %}\n c\n{% endif %}\nd",
-        true,
-        true,
-        " [a\n] {%if $b %} [ c\n] {%endif %} [d]",
+        TRIM_AND_STRIP,
+        &[
+            (
+                "a\n  {% if b %}\n c\n{% endif %}\nd",
+                " [a\n] {%if $b %} [ c\n] {%endif %} [d]",
+            ),
+            (
+                "a\n  {%+ if b %}\n c\n{% endif %}\nd",
+                " [a\n  ] {%if $b %} [ c\n] {%endif %} [d]",
+            ),
+            (
+                "a\n  {% if b +%}\n c\n{% endif +%}\nd",
+                " [a\n] {%if $b %} [\n c\n] {%endif %} [\nd]",
+            ),
+            (
+                "\t {# c #}\r\n  {{ a }}\n {{ b }} {# #}",
+                " [  ] {{ $a }} [\n ] {{ $b }} [ ]",
+            ),
+            ("  {% raw %}\n x\n\t{% endraw %}\n  {# #}", " [ x\n]"),
+            ("  {%+ raw +%}\n x\n\t{%+ endraw +%}\n", " [  ] [\n x\n\t]"),
+        ],
     ),
-    (
-        "a\n  {%+ if b %}\n c\n{% endif %}\nd",
-        true,
-        true,
-        " [a\n  ] {%if $b %} [ c\n] {%endif %} [d]",
-    ),
-    (
-        "a\n  {% if b +%}\n c\n{% endif +%}\nd",
-        true,
-        true,
-        " [a\n] {%if $b %} [\n c\n] {%endif %} [\nd]",
-    ),
-    (
-        "\t {# c #}\r\n  {{ a }}\n {{ b }} {# #}",
-        true,
-        true,
-        " [  ] {{ $a }} [\n ] {{ $b }} [ ]",
-    ),
-    (
-        "  {% raw %}\n x\n\t{% endraw %}\n  {# #}",
-        true,
-        true,
-        " [ x\n]",
-    ),
-    (
-        "  {%+ raw +%}\n x\n\t{%+ endraw +%}\n",
-        true,
-        true,
-        " [  ] [\n x\n\t]",
-    ),
+    (KEEP, &[("a\n", " [a\n]")]),
 ];
 
 #[test]
-fn flags_trim(rt: HostRuntime) -> Result<(), Error> {
-    for (source, trim, lstrip, tokens) in &FLAGGED {
-        let syntax = SyntaxConfig::builder()
-            .trim_blocks(*trim)
-            .lstrip_blocks(*lstrip)
-            .build()?;
-        assert!(rt;
-            is_spelled(rt.alloc(), &syntax, source, tokens),
-            "at {source}"
-        );
-        assert!(rt;
-            shares_raw_texts(rt.alloc(), &syntax, source)?,
-            "at {source}"
-        );
+fn flags_trim(rt: HostRuntime) -> Result<(), Fail> {
+    for (flags, rows) in &FLAGGED {
+        let syntax = syntax::with_flags(rt.alloc(), *flags)?;
+        check_rows(&rt, rt.alloc(), &*syntax, rows)?;
     }
-    let syntax = SyntaxConfig::builder().keep_trailing_newline(true).build()?;
-    assert!(rt; is_spelled(rt.alloc(), &syntax, "a\n", " [a\n]"));
     Ok(())
 }
