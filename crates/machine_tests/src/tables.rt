@@ -10,10 +10,8 @@ use std::test::Fail;
 use tm_compiler::NameMap;
 use tm_meaning::LoopMark;
 use tm_syntax::Name;
-use tm_tables::{
-    Answer, Callable, Called, CompiledTemplate, Context, Frame, Objects, Parties, Source,
-    TemplateConfig, View,
-};
+use tm_tables::{Answer, Callable, Called, Context, Frame, Objects, Parties, View};
+use tm_templates::{CompiledTemplate, Source, TemplateConfig};
 use tm_values::{AutoEscape, Error, NoRecords, UndefinedBehavior, Value};
 
 /// Keeps that it was called, and gives none.

@@ -15,9 +15,9 @@ use Rattle.tm_compiler.specs.Spells.{Spells, SpellsNone}
 use Rattle.tm_meaning.specs.World.{Function, View, Stated, World}
 use Rattle.tm_meaning.specs.Meaning.{Ending, done, leave, next, fault, Outcome, chain_in, chain_of}
 use Rattle.tm_output.specs.Counts.{Tally, AppendsBeginning}
-use Rattle.tm_tables.specs.Defaults.{escape_by_name, escape_of}
+use Rattle.tm_templates.specs.Defaults.{escape_by_name, escape_of}
 use Rattle.tm_tables.specs.Stated.{Table, language_functions, functions_of, behind_language}
-use Rattle.tm_tables.specs.Templates.{Compiled, IsRefused}
+use Rattle.tm_templates.specs.Templates.{Compiled, IsRefused}
 use Rattle.template_machine.specs.Environment.{EnvironmentValue, TemplateValue, IsTemplateOf, expected_environment, new_environment, greatest_limit}
 use Rattle.template_machine.specs.Renders.{CapturedValue, StateValue, answer_by, greatest, meaning, Rendered, as_meant, by_writer, by_memory}
 use Rattle.mj_words.specs.CommandLine.{Text, Asked}

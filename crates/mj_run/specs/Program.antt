@@ -14,8 +14,8 @@ use Rattle.tm_compiler.specs.Spells.{Spells, SpellsNone}
 use Rattle.tm_meaning.specs.World.{Function}
 use Rattle.tm_meaning.specs.Meaning.{Outcome, chain_of}
 use Rattle.tm_output.specs.Counts.{Tally, one_more, AppendsBeginning}
-use Rattle.tm_tables.specs.Defaults.{escape_by_name}
-use Rattle.tm_tables.specs.Templates.{Compiled}
+use Rattle.tm_templates.specs.Defaults.{escape_by_name}
+use Rattle.tm_templates.specs.Templates.{Compiled}
 use Rattle.template_machine.specs.Environment.{TemplateValue, expected_environment, greatest_limit}
 use Rattle.tm_tables.specs.Stated.{behind_language}
 use Rattle.template_machine.specs.Renders.{meaning}

@@ -8,9 +8,9 @@ use Rattle.tm_meaning.specs.declared.stream.TemplateId.TheVariants.{Own, Entry}
 use Rattle.tm_meaning.specs.World.{Function, Template, template_at, card_at, card_in, or_is}
 use Rattle.tm_meaning.specs.Calls.{is_required}
 use Rattle.tm_meaning.specs.Tree.{TemplateTree, template_of, tree_at, part_of}
-use Rattle.tm_tables.specs.Templates.{Compiled, tree_of}
-use Rattle.tm_tables.proofs.Named.{find-turned}
-use Rattle.tm_tables.proofs.Streams.{none_required}
+use Rattle.tm_templates.specs.Templates.{Compiled, tree_of}
+use Rattle.tm_templates.proofs.Named.{find-turned}
+use Rattle.tm_templates.proofs.Streams.{none_required}
 use Rattle.template_machine.specs.Environment.{TemplateValue, host_of, trees_in, meant}
 
 or_is-map : {A B : Type 0} (f : A → B) (o : Option A) (a : A) → or_is (option_map f o) (f a) ≡ f (or_is o a)

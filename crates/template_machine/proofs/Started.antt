@@ -11,8 +11,8 @@ use Rattle.tm_meaning.specs.World.{Function, World}
 use Rattle.tm_meaning.specs.Calls.{own_blocks}
 use Rattle.tm_meaning.specs.Tree.{carded}
 use Rattle.tm_meaning.specs.declared.stream.TemplateId.TheVariants.{Own}
-use Rattle.tm_tables.specs.Templates.{Compiled, body, block_codes}
-use Rattle.tm_tables.proofs.Named.{turned, by_name-turned}
+use Rattle.tm_templates.specs.Templates.{Compiled, body, block_codes}
+use Rattle.tm_templates.proofs.Named.{turned, by_name-turned}
 use Rattle.tm_state.specs.State.{started, layers_of}
 use Rattle.template_machine.specs.Environment.{TemplateValue}
 use Rattle.template_machine.specs.Renders.{first}

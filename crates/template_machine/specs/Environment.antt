@@ -13,9 +13,9 @@ use Rattle.tm_meaning.specs.declared.stream.TemplateId.TheVariants.{Own, Entry}
 use Rattle.tm_meaning.specs.World.{Bindings, Host, Template, Function, or_is}
 use Rattle.tm_meaning.specs.Tree.{TemplateTree, Trees, template_of, trees_of}
 use Rattle.tm_tables.specs.Stated.{Table, language_functions, with_object, next_number}
-use Rattle.tm_tables.specs.Templates.{Compiled, IsTemplate, tree_of}
-use Rattle.tm_tables.specs.declared.defaults.EscapeSetting.{EscapeSetting}
-use Rattle.tm_tables.specs.declared.defaults.EscapeSetting.TheVariants as escapes
+use Rattle.tm_templates.specs.Templates.{Compiled, IsTemplate, tree_of}
+use Rattle.tm_templates.specs.declared.defaults.EscapeSetting.{EscapeSetting}
+use Rattle.tm_templates.specs.declared.defaults.EscapeSetting.TheVariants as escapes
 
 -- The templates by name, the delimiters and the escape of later ones, the caller's objects, the globals, what is done with undefined values, the fuel that is set, and how deep scopes may lie.
 pub record EnvironmentValue (O : Type 0) : Type 0 where

@@ -1,5 +1,5 @@
 -- A template that is held, whoever keeps it.
-use Rattle.tm_tables.specs.Templates.{Compiled}
+use Rattle.tm_templates.specs.Templates.{Compiled}
 use Rattle.template_machine.specs.declared.template.Held.{Held}
 use Rattle.template_machine.specs.declared.template.Held.TheVariants.{Lent, Owned}
 

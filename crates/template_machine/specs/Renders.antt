@@ -15,7 +15,7 @@ use Rattle.tm_meaning.specs.Meaning.{Ending, fault, Outcome, first_world, render
 use Rattle.tm_output.specs.Counts.{one_more, AppendsBeginning}
 use Rattle.tm_parts.specs.declared.halt.Halt.{Halt}
 use Rattle.tm_parts.specs.declared.halt.Halt.TheVariants as halt
-use Rattle.tm_tables.specs.Templates.{Compiled, IsRefused}
+use Rattle.tm_templates.specs.Templates.{Compiled, IsRefused}
 use Rattle.template_machine.specs.Environment.{EnvironmentValue, TemplateValue, IsTemplateOf, host_of, trees}
 
 -- a template that is rendered, and the world that it leaves

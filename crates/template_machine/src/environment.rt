@@ -2,11 +2,11 @@
 ghost use Rattle.std.specs.Prelude.{◌≡◌, ◌≢◌, ◌<◌, [], ◌∷◌, Some, None, codes, min, OnOk, OnErr, IfOk, IfErr, MatchResult, length, slice_get};
 ghost use Rattle.tm_syntax.specs.Named.{find, pairs_of, put, without};
 ghost use Rattle.tm_tables.specs.Stated.{no_functions};
-ghost use Rattle.tm_tables.specs.Templates.{Compiled, IsRefused};
+ghost use Rattle.tm_templates.specs.Templates.{Compiled, IsRefused};
 ghost use Rattle.tm_values.specs.Answer.{IsLent, OkOrOutOfMemory};
 ghost use Rattle.tm_values.specs.Val.{function};
 ghost use Rattle.std.specs.Prelude.{string_bytes};
-ghost use Rattle.tm_tables.specs.Sources.{source_bytes};
+ghost use Rattle.tm_templates.specs.Sources.{source_bytes};
 ghost use Rattle.template_machine.specs.Renders.{greatest, IsUnnumbered, RenderedSource};
 ghost use Rattle.template_machine.specs.Environment.{IsTemplateOf, empty_environment, new_environment, language_globals, with_function, with_global, greatest_limit};
 
@@ -16,9 +16,8 @@ use std::marker::Model;
 use tm_compiler::SyntaxConfig;
 use tm_state::StateIds;
 use tm_syntax::{Name, NameMap};
-use tm_tables::{
-    Callable, CompiledTemplate, EscapeSetting, Objects, Parties, Source, TemplateConfig, Templates,
-};
+use tm_tables::{Callable, Objects, Parties};
+use tm_templates::{CompiledTemplate, EscapeSetting, Source, TemplateConfig, Templates};
 use tm_values::{Error, ErrorKind, UndefinedBehavior, Value};
 
 /// How deep scopes may lie at most.

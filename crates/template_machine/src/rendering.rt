@@ -7,7 +7,8 @@ use std::alloc::Global;
 use std::marker::Model;
 use tm_meaning::{StreamId, TemplateId};
 use tm_syntax::{Code, NameMap};
-use tm_tables::{Called, CompiledTemplate, Host, Parties, View};
+use tm_tables::{Called, Host, Parties, View};
+use tm_templates::CompiledTemplate;
 use tm_values::{UndefinedBehavior, Value};
 
 /// The environment and the template that is rendered: the machine's one party.

@@ -12,7 +12,8 @@ use tm_meaning::{StreamId, TemplateId};
 use tm_parts::{Captures, Halt, NullWriter, Sink};
 use tm_state::{StateData, StateIds};
 use tm_syntax::CaptureMode;
-use tm_tables::{Callable, CompiledTemplate, Objects, Parties};
+use tm_tables::{Callable, Objects, Parties};
+use tm_templates::CompiledTemplate;
 use tm_values::{Error, ErrorKind, Value};
 use tm_vm::Machine;
 

@@ -61,7 +61,7 @@ world_of p fuel = first_world (host_of p) own 0 fuel p.context
 abbrev pub program_of : Page → Program
 program_of p = record { host = host_of p; code = λ s. code_of (trees p s) }
 
--- The text that was heard, the fuel that is left, the chain of kinds, and a kept value.
+-- The text that was heard, the fuel that is left, and the chain of kinds.
 pub record Said : Type 0 where
   pub text : List ℕ
   pub fuel : ℕ
@@ -468,7 +468,7 @@ changed_or_not =
     page (one (For' (To (codes "x")) (List' (tt ∷ tt ∷ tt ∷ []) (expr (literal_number 1) (expr (literal_number 1) (expr (literal_number 2) no_expr)))) None false (tt ∷ tt ∷ [])
     (statement (EmitExpr (method_one (named (codes "loop")) (codes "changed") x)) (statement (raw (codes " ")) no_statement)) no_else)) nothing
 
--- {% for x in [1,2] %}{{ loop.cycle("x", "y") }}{% endfor %}, over three numbers
+-- {% for x in [1,1,2] %}{{ loop.cycle("x", "y") }}{% endfor %}
 abbrev pub by_turns : Page
 by_turns =
     page (one (For' (To (codes "x")) (List' (tt ∷ tt ∷ tt ∷ []) (expr (literal_number 1) (expr (literal_number 1) (expr (literal_number 2) no_expr)))) None false (tt ∷ [])
@@ -555,7 +555,7 @@ tree_as_value =
     (step (Attribute (codes "v")) (step (binary binaries.Concatenate (literal (codes "["))) (step (binary binaries.Concatenate (called (codes "loop") x_c))
     (step (binary binaries.Concatenate (literal (codes "]"))) no_step)))))))) (with_value (codes "tree") tree)
 
--- {% set ns = namespace() %}{% for x in [1] recursive %}{{ x }}{% set ns.l = loop %}{% endfor %}{% set l = ns.l %}{{ l([2,3]) }}
+-- {% set ns = namespace() %}{% for x in ["1"] recursive %}{{ x }}{% set ns.l = loop %}{% endfor %}{% set l = ns.l %}{{ l(["2", "3"]) }}
 abbrev pub called_behind_its_end : Page
 called_behind_its_end =
     with_languages (page (body_of

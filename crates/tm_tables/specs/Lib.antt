@@ -1,10 +1,6 @@
 pub mod Found
 pub mod Known
 pub mod Locals
-pub mod Places
 pub mod Scopes
-pub mod Sources
 pub mod Stated
-pub mod Templates
 pub mod Views
-pub mod Defaults

@@ -39,7 +39,7 @@ impl Machine<'_> {
         Ok(Flow::GoOn)
     }
 
-    /// Ends the innermost capture, and pushes its text, or undefined where that is dropped; stuck where it stood when the run began.
+    /// Ends the innermost capture, and pushes its text, or undefined where that is dropped; stuck where it stood when the run or the innermost called loop began.
     pub(crate) fn do_end_capture(&mut self, alloc: Global) -> Result<Flow, Halt>
         requires { CanGoOn self.old.run }
         ensures { Silently (end_capture_of self.old) self.old self.new result }
@@ -76,7 +76,7 @@ impl Machine<'_> {
         }
     }
 
-    /// Escapes as before the innermost open `autoescape`; stuck where the run has none open.
+    /// Escapes as before the innermost open `autoescape`; stuck where the run, or the innermost called loop, has none open.
     pub(crate) fn do_pop_auto_escape(&mut self) -> Result<Flow, Halt>
         requires { CanGoOn self.old.run }
         ensures { Silently (pop_auto_escape_of self.old) self.old self.new result }

@@ -55,7 +55,7 @@ impl Return {
     }
 }
 
-/// What is a run's own: its stream and the place in it, its operands, the escapes that its open `autoescape`s replaced, for each loop that it has open where that goes on if it was called, and how many captures stood when it began.
+/// What is a run's own: its stream and the place in it, its operands, the escapes that its open `autoescape`s replaced, for each loop that it has open where that goes on if it was called, and how many captures stood when it or the innermost called loop began.
 #[derive(Drop)]
 pub(crate) struct Run {
     pub(crate) stream: StreamId,
@@ -110,7 +110,7 @@ impl Run {
         true
     }
 
-    /// How many captures stood when it began.
+    /// How many captures stood when it or the innermost called loop began.
     pub(crate) fn floor(&self) -> usize
         ensures { result ≡ self.now.floor }
     {

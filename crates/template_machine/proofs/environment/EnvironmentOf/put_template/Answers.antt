@@ -1,6 +1,6 @@
 use Rattle.std.proofs.Common.{subst}
-use Rattle.tm_tables.specs.Sources.{source_bytes}
-use Rattle.tm_tables.specs.Templates.{IsRefused}
+use Rattle.tm_templates.specs.Sources.{source_bytes}
+use Rattle.tm_templates.specs.Templates.{IsRefused}
 use Rattle.template_machine.specs.Environment.{EnvironmentValue}
 use Rattle.template_machine.proofs.environment.EnvironmentOf.put_template.Goals as goal
 

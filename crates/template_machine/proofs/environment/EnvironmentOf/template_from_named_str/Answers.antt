@@ -1,5 +1,5 @@
 use Rattle.std.proofs.Common.{subst}
-use Rattle.tm_tables.specs.Templates.{IsRefused}
+use Rattle.tm_templates.specs.Templates.{IsRefused}
 use Rattle.template_machine.specs.Environment.{EnvironmentValue}
 use Rattle.template_machine.proofs.environment.EnvironmentOf.template_from_named_str.Goals as goal
 

@@ -1,7 +1,7 @@
 use Rattle.std.proofs.Common.{ap, sym, ◌∙◌}
 use Rattle.tm_syntax.specs.Blocks.{code_of}
 use Rattle.tm_meaning.specs.Tree.{TemplateTree, part_of}
-use Rattle.tm_tables.specs.Templates.{Compiled, tree_of}
+use Rattle.tm_templates.specs.Templates.{Compiled, tree_of}
 use Rattle.template_machine.proofs.Meant.{tree_meant}
 use Rattle.template_machine.proofs.rendering.RenderingHost.instructions.Goals as goal
 

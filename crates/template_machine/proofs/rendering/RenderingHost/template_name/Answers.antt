@@ -1,6 +1,6 @@
 use Rattle.std.proofs.Common.{ap, sym, ◌∙◌}
 use Rattle.tm_meaning.specs.World.{Template}
-use Rattle.tm_tables.specs.Templates.{Compiled}
+use Rattle.tm_templates.specs.Templates.{Compiled}
 use Rattle.template_machine.proofs.Meant.{template_meant}
 use Rattle.template_machine.proofs.rendering.RenderingHost.template_name.Goals as goal
 

@@ -1,7 +1,0 @@
-use Rattle.std.proofs.Common.{ℕ, List, subst}
-use Rattle.tm_tables.specs.Templates.{IsRefused}
-use Rattle.tm_tables.proofs.compiled.CompiledTemplate.new.Goals as goal
-
-pub returns-in-Err-parse-clause-refused : goal.returns-in-Err-parse-clause-refused
-returns-in-Err-parse-clause-refused c =
-    subst (λ (s : List ℕ). IsRefused c.args.config.now.syntax_config s c.in-Err-parse.error) c.in-Ok.ensures.shared c.in-Err-parse.ensures.refused

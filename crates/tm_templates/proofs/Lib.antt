@@ -1,0 +1,4 @@
+pub mod Named
+mod Places
+pub mod Streams
+pub mod Endings

@@ -1,0 +1,168 @@
+-- What a place among names gives, and that `put` keeps the names in order.
+use Rattle.std.proofs.Common.{◌≡◌, ◌≤◌, ◌<◌, ℕ, zero, suc, List, [], ◌∷◌, length, get_or, set, Some, None, MatchResult, Result, Ok, Err, Bool, true, false, if◌then◌else◌, Ordering, Less, Equal, Greater, insert, refl, sym, ap, subst, ◌∙◌, arith}
+use Rattle.std.proofs.lemmas.Cmp.{alike_right, nat_list_cmp_total}
+use Rattle.std.specs.List.{AllByRecursion}
+use Rattle.std.specs.List.Sorted.{IsStrictlySortedBy, IsSearchInRange, IsBinarySearchResult, IsNonDecreasingBy}
+use Rattle.std.specs.Map.{keys_of}
+use Rattle.std.specs.Ordering.{match_ordering, ordering_index, ordering_reverse}
+use Rattle.tm_syntax.specs.Named.{Named, name_cmp, find, put}
+use Rattle.tm_templates.specs.Places.{AreOrdered, IsThere, IsGapFor}
+
+-- the other way round
+turned : (x y : List ℕ) (o : Ordering) → name_cmp x y ≡ o → name_cmp y x ≡ ordering_reverse o
+turned x y o e = nat_list_cmp_total.antisymm y x ∙ ap ordering_reverse e
+
+-- of two names the lower one stands no higher to a third
+rises : (x y z : List ℕ) (o : Ordering) → name_cmp x y ≡ Less → name_cmp y z ≡ o → ordering_index (name_cmp x z) ≤ ordering_index (name_cmp y z)
+rises x y z Less h e = rw (e, nat_list_cmp_total.trans x y z h e) (omega arith)
+rises x y z Equal h e = rw (e, sym (alike_right nat_list_cmp_total y z x e) ∙ h) (omega arith)
+rises x y z Greater h e = rw e (at_most_two (name_cmp x z))
+  where
+    at_most_two : (o : Ordering) → ordering_index o ≤ 2
+    at_most_two Less = omega arith
+    at_most_two Equal = omega arith
+    at_most_two Greater = omega arith
+
+pub ordered-none : (A : Type 0) → AreOrdered {A = A} []
+unfolding IsStrictlySortedBy
+ordered-none A = tt
+
+module _ {A : Type 0} where
+  -- each name is above x
+  abbrev AreAbove : List ℕ → Named A → Type 0
+  AreAbove x ps = AllByRecursion (λ y. name_cmp x y ≡ Less) (keys_of ps)
+
+  above : (x y : List ℕ) (ps : Named A) → name_cmp x y ≡ Less → AreAbove y ps → AreAbove x ps
+  above x y [] h a = tt
+  above x y (p ∷ ps) h a = (nat_list_cmp_total.trans x y p.0 h a.0, above x y ps h a.1)
+
+  above-at : (x : List ℕ) (ps : Named A) (i : ℕ) (d : List ℕ × A) → AreAbove x ps → i < length ps → name_cmp x (get_or ps i d).0 ≡ Less
+  above-at x [] i d a h = absurd (omega arith)
+  above-at x (p ∷ ps) zero d a h = a.0
+  above-at x (p ∷ ps) (suc i) d a h = above-at x ps i d a.1 (omega arith)
+
+  -- a name behind the first is above it
+  behind_first : (x : List ℕ) (p : List ℕ × A) (ps : Named A) (i : ℕ) (d : List ℕ × A) → AreAbove p.0 ps → i < length ps → name_cmp (get_or ps i d).0 x ≡ Equal → name_cmp x p.0 ≡ Greater
+  behind_first x p ps i d a h same =
+      turned p.0 x Less (sym (alike_right nat_list_cmp_total (get_or ps i d).0 x p.0 same) ∙ above-at p.0 ps i d a h)
+
+  -- a name that is there is found
+  find-there : (x : List ℕ) (ps : Named A) (i : ℕ) (d : List ℕ × A) → AreOrdered ps → IsThere x ps i → find x ps ≡ Some (get_or ps i d).1
+  unfolding IsStrictlySortedBy
+  find-there x [] i d o t = absurd (omega (arith, t.in_range))
+  find-there x (p ∷ ps) zero d o t = rw (turned p.0 x Equal (t.same_name d))
+  find-there x (p ∷ ps) (suc i) d o t =
+      let within : i < length ps = omega (arith, t.in_range) in
+      rw (behind_first x p ps i d o.0 within (t.same_name d)) (find-there x ps i d o.1 (record { in_range = within; same_name = λ e. t.same_name e }))
+
+  pub find-read : (x : List ℕ) (ps : Named A) (i : ℕ) (p : List ℕ × A) → AreOrdered ps → IsThere x ps i → p ≡ get_or ps i p → find x ps ≡ Some p.1
+  find-read x ps i p o t e = find-there x ps i p o t ∙ ap (λ (q : List ℕ × A). Some q.1) (sym e)
+
+  -- and one that is not there isn't
+  pub find-gap : (x : List ℕ) (ps : Named A) (i : ℕ) → IsGapFor x ps i → find x ps ≡ None
+  find-gap x [] i g = refl
+  find-gap x (p ∷ ps) zero g =
+      rw (turned p.0 x Greater (g.higher_after 0 p (omega arith) (omega arith)))
+      (find-gap x ps zero (record {
+        in_range = omega arith;
+        lower_before = λ j d h. absurd (omega arith);
+        higher_after = λ j d h l. g.higher_after (suc j) d (omega arith) (omega arith);
+      }))
+  find-gap x (p ∷ ps) (suc i) g =
+      rw (turned p.0 x Less (g.lower_before 0 p (omega arith)))
+      (find-gap x ps i (record {
+        in_range = omega (arith, g.in_range);
+        lower_before = λ j d h. g.lower_before (suc j) d (omega arith);
+        higher_after = λ j d h l. g.higher_after (suc j) d (omega arith) (omega arith);
+      }))
+
+  -- `put` writes over what stands at a name that is there
+  put-there : (x : List ℕ) (a : A) (ps : Named A) (i : ℕ) (d : List ℕ × A) → AreOrdered ps → IsThere x ps i → put x a ps ≡ set ps i ((get_or ps i d).0, a)
+  unfolding IsStrictlySortedBy
+  put-there x a [] i d o t = absurd (omega (arith, t.in_range))
+  put-there x a (p ∷ ps) zero d o t = rw (turned p.0 x Equal (t.same_name d))
+  put-there x a (p ∷ ps) (suc i) d o t =
+      let within : i < length ps = omega (arith, t.in_range) in
+      rw (behind_first x p ps i d o.0 within (t.same_name d)) (ap (λ l. p ∷ l) (put-there x a ps i d o.1 (record { in_range = within; same_name = λ e. t.same_name e })))
+
+  put-read : (x : List ℕ) (a : A) (ps : Named A) (i : ℕ) (p : List ℕ × A) → AreOrdered ps → IsThere x ps i → p ≡ get_or ps i p → put x a ps ≡ set ps i (p.0, a)
+  put-read x a ps i p o t e = put-there x a ps i p o t ∙ ap (λ (q : List ℕ × A). set ps i (q.0, a)) (sym e)
+
+  -- and puts a new name into the gap
+  put-gap : (x : List ℕ) (a : A) (ps : Named A) (i : ℕ) → IsGapFor x ps i → put x a ps ≡ insert ps i (x, a)
+  put-gap x a [] zero g = refl
+  put-gap x a [] (suc i) g = absurd (omega (arith, g.in_range))
+  put-gap x a (p ∷ ps) zero g = rw (turned p.0 x Greater (g.higher_after 0 p (omega arith) (omega arith)))
+  put-gap x a (p ∷ ps) (suc i) g =
+      rw (turned p.0 x Less (g.lower_before 0 p (omega arith)))
+      (ap (λ l. p ∷ l) (put-gap x a ps i (record {
+        in_range = omega (arith, g.in_range);
+        lower_before = λ j d h. g.lower_before (suc j) d (omega arith);
+        higher_after = λ j d h l. g.higher_after (suc j) d (omega arith) (omega arith);
+      })))
+
+  above_case : (o : Ordering) (x y : List ℕ) (a : A) (p : List ℕ × A) (ps : Named A) → name_cmp x y ≡ Less → AreAbove x (p ∷ ps) → AreAbove x (put y a ps)
+      → AreAbove x (match_ordering o ((y, a) ∷ p ∷ ps) ((p.0, a) ∷ ps) (p ∷ put y a ps))
+  above_case Less x y a p ps h above rest = (h, above)
+  above_case Equal x y a p ps h above rest = above
+  above_case Greater x y a p ps h above rest = (above.0, rest)
+
+  above-put : (x y : List ℕ) (a : A) (ps : Named A) → name_cmp x y ≡ Less → AreAbove x ps → AreAbove x (put y a ps)
+  above-put x y a [] h above = (h, tt)
+  above-put x y a (p ∷ ps) h above = above_case (name_cmp y p.0) x y a p ps h above (above-put x y a ps h above.1)
+
+  ordered_case : (o : Ordering) (x : List ℕ) (a : A) (p : List ℕ × A) (ps : Named A) → name_cmp x p.0 ≡ o → AreOrdered (p ∷ ps) → AreOrdered (put x a ps)
+      → AreOrdered (match_ordering o ((x, a) ∷ p ∷ ps) ((p.0, a) ∷ ps) (p ∷ put x a ps))
+  unfolding IsStrictlySortedBy
+  ordered_case Less x a p ps e o rest = ((e, above x p.0 ps e o.0), o)
+  ordered_case Equal x a p ps e o rest = o
+  ordered_case Greater x a p ps e o rest = (above-put p.0 x a ps (turned x p.0 Greater e) o.0, rest)
+
+  -- the names stay in order
+  ordered-put : (x : List ℕ) (a : A) (ps : Named A) → AreOrdered ps → AreOrdered (put x a ps)
+  unfolding IsStrictlySortedBy
+  ordered-put x a [] o = (tt, tt)
+  ordered-put x a (p ∷ ps) o = ordered_case (name_cmp x p.0) x a p ps refl o (ordered-put x a ps o.1)
+
+  names_rise : (x : List ℕ) (ps : Named A) → AreOrdered ps → IsNonDecreasingBy (λ (p : List ℕ × A). ordering_index (name_cmp p.0 x)) ps
+  unfolding IsStrictlySortedBy
+  names_rise x [] o i j d le h = absurd (omega arith)
+  names_rise x (p ∷ ps) o zero zero d le h = omega arith
+  names_rise x (p ∷ ps) o zero (suc j) d le h = rises p.0 (get_or ps j d).0 x (name_cmp (get_or ps j d).0 x) (above-at p.0 ps j d o.0 (omega arith)) refl
+  names_rise x (p ∷ ps) o (suc i) zero d le h = absurd (omega arith)
+  names_rise x (p ∷ ps) o (suc i) (suc j) d le h = names_rise x ps o.1 i j d (omega arith) (omega arith)
+
+  -- what a binary search for the name answers
+  searched : (x : List ℕ) (ps : Named A) → AreOrdered ps → (r : Result ℕ ℕ) → IsSearchInRange r (length ps) → IsBinarySearchResult (λ (p : List ℕ × A). name_cmp p.0 x) ps r
+      → MatchResult r (IsThere x ps) (IsGapFor x ps)
+  searched x ps o (Ok i) h found = record { in_range = h; same_name = λ d. found d }
+  searched x ps o (Err i) h parted = record {
+    in_range = h;
+    lower_before = λ j d l. (parted (names_rise x ps o)).0 j d (omega arith) l;
+    higher_after = λ j d l t. (parted (names_rise x ps o)).1 j d l t;
+  }
+
+  -- the same of what is lent of the names
+  pub searched_in : (x : List ℕ) (ps lent seen : Named A) → lent ≡ ps → ps ≡ seen → AreOrdered ps → (r : Result ℕ ℕ) → IsSearchInRange r (length lent)
+      → IsBinarySearchResult (λ (p : List ℕ × A). name_cmp p.0 x) lent r → MatchResult r (IsThere x seen) (IsGapFor x seen)
+  searched_in x ps lent seen e f o r h found =
+      subst (λ l. MatchResult r (IsThere x l) (IsGapFor x l)) (e ∙ f) (searched x lent (subst AreOrdered (sym e) o) r h found)
+
+  -- what stands at a name of what is seen of the names is written over: it is what `put` gives, and the names stay in order
+  pub written : (x y : List ℕ) (a : A) (ps seen : Named A) (i : ℕ) (p : List ℕ × A) → ps ≡ seen → y ≡ x → AreOrdered ps → IsThere y seen i → p ≡ get_or ps i p → set ps i (p.0, a) ≡ put x a seen
+  written x y a ps seen i p e f o t at =
+      sym (put-read y a ps i p o (subst (λ l. IsThere y l i) (sym e) t) at) ∙ ap (λ z. put z a ps) f ∙ ap (put x a) e
+
+  pub written-ordered : (x y : List ℕ) (a : A) (ps seen : Named A) (i : ℕ) (p : List ℕ × A) → ps ≡ seen → y ≡ x → AreOrdered ps → IsThere y seen i → p ≡ get_or ps i p → AreOrdered (set ps i (p.0, a))
+  written-ordered x y a ps seen i p e f o t at =
+      subst AreOrdered (ap (put x a) e ∙ sym (written x y a ps seen i p e f o t at)) (ordered-put x a ps o)
+
+  -- so it is with what is put into a gap
+  pub added : (x y : List ℕ) (a : A) (ps seen : Named A) (i : ℕ) → ps ≡ seen → y ≡ x → IsGapFor y seen i → insert ps i (x, a) ≡ put x a seen
+  added x y a ps seen i e f g =
+      ap (λ l. insert l i (x, a)) e ∙ sym (put-gap x a seen i (subst (λ z. IsGapFor z seen i) f g))
+
+  pub added-ordered : (x y : List ℕ) (a : A) (ps seen : Named A) (i : ℕ) (b : Bool) → ps ≡ seen → y ≡ x → AreOrdered ps → IsGapFor y seen i → AreOrdered (if b then insert ps i (x, a) else ps)
+  added-ordered x y a ps seen i true e f o g =
+      subst AreOrdered (ap (put x a) e ∙ sym (added x y a ps seen i e f g)) (ordered-put x a ps o)
+  added-ordered x y a ps seen i false e f o g = o

@@ -1,0 +1,46 @@
+-- How templates are escaped by their names.
+use Rattle.std.specs.Prelude.{ℕ, List, [], ◌∷◌, Bool, true, false, ◌||◌, if◌then◌else◌, Option, None, Some, is_some, option_map, reverse, codes}
+use Rattle.std.specs.Option.{option_or}
+use Rattle.tm_values.specs.declared.escape.AutoEscape.{AutoEscape}
+use Rattle.tm_values.specs.declared.escape.AutoEscape.TheVariants as escapes
+use Rattle.tm_delimiters.specs.Front.{behind}
+use Rattle.tm_meaning.specs.World.{or_is}
+use Rattle.tm_templates.specs.declared.defaults.EscapeSetting.{EscapeSetting}
+use Rattle.tm_templates.specs.declared.defaults.EscapeSetting.TheVariants as setting
+
+-- what stands before a word that the text ends with
+abbrev pub before : List ℕ → List ℕ → Option (List ℕ)
+before word text = option_map reverse (behind (reverse word) (reverse text))
+
+-- a name without the one ending that says only that it is a template's
+abbrev pub stem_of : List ℕ → List ℕ
+stem_of name = or_is (option_or (before (codes ".j2") name) (option_or (before (codes ".jinja2") name) (before (codes ".jinja") name))) name
+
+abbrev pub is_nothing : List ℕ → Bool
+is_nothing [] = true
+is_nothing (c ∷ cs) = false
+
+-- nothing stands there, or something that ends with a dot
+abbrev pub is_up_to_dot : Option (List ℕ) → Bool
+is_up_to_dot None = false
+is_up_to_dot (Some front) = is_nothing front || is_some (before (codes ".") front)
+
+-- whether this word, without a dot, is what follows the last dot, or all where there is none
+abbrev pub has_ending : List ℕ → List ℕ → Bool
+has_ending stem word = is_up_to_dot (before word stem)
+
+abbrev pub is_markup : List ℕ → Bool
+is_markup stem = has_ending stem (codes "html") || has_ending stem (codes "htm") || has_ending stem (codes "xml")
+
+abbrev pub is_data : List ℕ → Bool
+is_data stem =
+    has_ending stem (codes "json") || has_ending stem (codes "json5") || has_ending stem (codes "js") || has_ending stem (codes "yaml")
+    || has_ending stem (codes "yml")
+
+abbrev pub escape_by_name : List ℕ → AutoEscape
+escape_by_name name = if is_markup (stem_of name) then escapes.Html else if is_data (stem_of name) then escapes.Json else escapes.None
+
+-- the escape of a template of this name
+abbrev pub escape_of : EscapeSetting → List ℕ → AutoEscape
+escape_of setting.ByName name = escape_by_name name
+escape_of setting.Never name = escapes.None

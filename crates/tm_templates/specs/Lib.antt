@@ -1,0 +1,4 @@
+pub mod Defaults
+pub mod Places
+pub mod Sources
+pub mod Templates

@@ -1,0 +1,51 @@
+-- Templates as plain data.
+use Rattle.std.specs.Prelude.{◌≡◌, ℕ, List, []}
+use Rattle.tm_values.specs.declared.error.ErrorKind.{ErrorKind}
+use Rattle.tm_values.specs.declared.escape.AutoEscape.{AutoEscape}
+use Rattle.tm_syntax.specs.declared.tree.Tree.{Tree}
+use Rattle.tm_syntax.specs.declared.tree.Stmt.TheBlock.{hidden-the_row-Stmt-0 as statements}
+use Rattle.tm_syntax.specs.declared.instruction.Instruction.{Instruction}
+use Rattle.tm_syntax.specs.Blocks.{Body, body_of, blocks_in, code_of, compiled_blocks}
+use Rattle.tm_syntax.specs.Named.{Named, by_name}
+use Rattle.tm_delimiters.specs.Syntax.{Syntax}
+use Rattle.tm_scanner.specs.Refused.{Refused}
+use Rattle.tm_compiler.specs.Spells.{Spells, SpellsNone}
+use Rattle.tm_meaning.specs.Tree.{TemplateTree}
+use Rattle.tm_templates.specs.Defaults.{escape_of}
+use Rattle.tm_templates.specs.declared.defaults.EscapeSetting.{EscapeSetting}
+
+-- A template: its name, its source, how it is escaped, and the tree that the source spells.
+pub record Compiled : Type 0 where
+  pub name : List ℕ
+  pub source : List ℕ
+  pub escape : AutoEscape
+  pub tree : Tree
+
+-- the statements of a tree
+abbrev pub body : Tree → Body
+body tree = body_of (statements tree.statements)
+
+-- the code of its blocks, by name
+abbrev pub block_codes : Tree → Named (List Instruction)
+block_codes tree = by_name (compiled_blocks (blocks_in (body tree).row))
+
+-- a template as its meaning takes it
+abbrev pub tree_of : Compiled → TemplateTree
+tree_of t = record { name = t.name; escape = t.escape; root = body t.tree }
+
+-- These are the streams of the tree, and that of no block.
+pub record AreStreams (tree : Tree) (root : List Instruction) (blocks : Named (List Instruction)) (nothing : List Instruction) : Type 0 where
+  pub root_is : root ≡ code_of (body tree)
+  pub blocks_are : blocks ≡ block_codes tree
+  pub nothing_is : nothing ≡ []
+
+-- the template that a source is under a name: its tree is the one that the source spells, its escape the one that is set for the name
+pub record IsTemplate (syntax : Syntax) (setting : EscapeSetting) (name source : List ℕ) (t : Compiled) : Type 0 where
+  pub name_is : t.name ≡ name
+  pub source_is : t.source ≡ source
+  pub escape_is : t.escape ≡ escape_of setting name
+  pub spelled : Spells syntax source t.tree
+
+-- why a source was refused: it spells no tree, or there was no memory
+abbrev pub IsRefused : Syntax → List ℕ → List ErrorKind → Type 0
+IsRefused syntax source chain = Refused chain (SpellsNone syntax source)

@@ -1,0 +1,202 @@
+//! Compiled templates.
+ghost use Rattle.std.specs.Prelude.{◌≡◌, [], ◌∷◌, IfOk, IfErr, string_bytes};
+ghost use Rattle.std.specs.Rc.{rc_str_bytes};
+ghost use Rattle.tm_syntax.specs.Blocks.{code_of};
+ghost use Rattle.tm_syntax.specs.Named.{find};
+ghost use Rattle.tm_delimiters.specs.Syntax.{default_syntax};
+ghost use Rattle.tm_values.specs.Answer.{IsLent};
+ghost use Rattle.tm_values.specs.declared.error.ErrorKind.TheVariants.{OutOfMemory};
+ghost use Rattle.tm_meaning.specs.Tree.{part_of};
+ghost use Rattle.tm_templates.specs.Templates.{IsTemplate, IsRefused, body, block_codes, tree_of};
+ghost use Rattle.tm_templates.specs.Sources.{source_bytes};
+
+use crate::defaults::EscapeSetting;
+use std::alloc::Global;
+use std::marker::Model;
+use std::rc::RcStr;
+use tm_compiler::{Code, Name, NameMap, Streams, SyntaxConfig, Tree, generate, parse};
+use tm_values::{AutoEscape, Error};
+
+/// How templates are compiled.
+#[derive(Drop)]
+pub struct TemplateConfig {
+    /// The delimiters.
+    pub syntax_config: SyntaxConfig,
+    /// How the escape of a template is chosen.
+    pub default_auto_escape: EscapeSetting,
+}
+
+impl Default for TemplateConfig {
+    /// The default delimiters, and escapes by name.
+    fn default() -> TemplateConfig
+        ensures syntax { result.syntax_config ≡ default_syntax }
+        ensures escape { result.default_auto_escape ≡ EscapeSetting.ByName }
+    {
+        TemplateConfig {
+            syntax_config: SyntaxConfig::default(),
+            default_auto_escape: EscapeSetting::ByName,
+        }
+    }
+}
+
+/// A source: a text that the caller keeps, or one of its own.
+#[derive(Drop)]
+pub enum Source<'source> {
+    /// The caller's.
+    Lent(&'source str),
+    /// Its own, which the template's raw texts share.
+    Owned(RcStr),
+}
+
+impl<'source> Source<'source> {
+    /// A source of its own; OutOfMemory.
+    pub fn owned(source: String) -> Result<Source<'source>, Error>
+        ensures owned { IfOk result (λ s. source_bytes s ≡ string_bytes source) }
+        ensures refused { IfErr result (λ e. e ≡ OutOfMemory ∷ []) }
+    {
+        Ok(Source::Owned(RcStr::from_string(source)?))
+    }
+
+    /// The text for raw texts to share, a copy of the caller's; OutOfMemory.
+    fn shared(&self, alloc: Global) -> Result<RcStr, Error>
+        ensures shared { IfOk result (λ text. rc_str_bytes text ≡ source_bytes self.now) }
+        ensures refused { IfErr result (λ e. e ≡ OutOfMemory ∷ []) }
+    {
+        match self {
+            Source::Lent(text) => Ok(RcStr::from_str(alloc, text)?),
+            Source::Owned(text) => Ok(text.clone()?),
+        }
+    }
+
+    /// The text.
+    pub fn as_str(&self) -> &str
+        ensures { result.now ≡ source_bytes self.now }
+    {
+        match self {
+            Source::Lent(text) => text,
+            Source::Owned(text) => text.as_str(),
+        }
+    }
+}
+
+/// A template that is compiled: its name, its source, how it is escaped, the tree that the source spells, and the tree's streams.
+#[derive(Drop)]
+pub struct CompiledTemplate<'source> {
+    name: Name,
+    source: Source<'source>,
+    escape: AutoEscape,
+    tree: Tree,
+    streams: Streams,
+    nothing: Code,
+}
+
+impl<'source> Model for CompiledTemplate<'source> {
+    ghost use Rattle.std.specs.Coded.{codes};
+    ghost use Rattle.tm_syntax.specs.contracts.tree.Stmt as statement;
+    ghost use Rattle.tm_templates.specs.Templates.{Compiled};
+
+    ghost Value = { Compiled };
+
+    ghost coded = { Prim.hlevel (codes, statement.the_row.coded) };
+
+    ghost use Rattle.tm_templates.specs.Sources.{source_bytes};
+    ghost use Rattle.tm_templates.specs.Templates.{AreStreams};
+
+    ghost view = { λ a. record { name = a.name; source = source_bytes a.source; escape = a.escape; tree = a.tree } };
+
+    ghost invariant = { λ a. AreStreams a.tree a.streams.root a.streams.blocks a.nothing };
+}
+
+impl<'source> CompiledTemplate<'source> {
+    /// Compiles a source under a name. SyntaxError where the source spells no template, OutOfMemory where there is no memory.
+    pub fn new(
+        alloc: Global,
+        name: &str,
+        source: Source<'source>,
+        config: &TemplateConfig,
+    ) -> Result<CompiledTemplate<'source>, Error>
+        ensures compiled { IfOk result
+            (IsTemplate config.now.syntax_config config.now.default_auto_escape
+            name.now (source_bytes source.entry)) }
+        ensures refused { IfErr result
+            (IsRefused config.now.syntax_config (source_bytes source.entry)) }
+    {
+        let text = match source.shared(alloc) {
+            Ok(text) => text,
+            Err(error) => return Err(error),
+        };
+        let tree = match parse(alloc, &text, &config.syntax_config) {
+            Ok(tree) => tree,
+            Err(error) => return Err(error),
+        };
+        let streams = match generate(alloc, &tree) {
+            Ok(streams) => streams,
+            Err(error) => return Err(error),
+        };
+        let escape = config.default_auto_escape.escape(name);
+        let name = Name::new(alloc, name)?;
+        Ok(CompiledTemplate {
+            name,
+            source,
+            escape,
+            tree,
+            streams,
+            nothing: Code::empty(alloc),
+        })
+    }
+
+    /// The name under which it was compiled.
+    pub fn name(&self) -> &str
+        ensures { result.now ≡ self.now.name }
+    {
+        self.name.as_str()
+    }
+
+    /// The source that was compiled.
+    pub fn source(&self) -> &str
+        ensures { result.now ≡ self.now.source }
+    {
+        self.source.as_str()
+    }
+
+    /// How it is escaped.
+    pub fn escape(&self) -> AutoEscape
+        ensures { result ≡ self.now.escape }
+    {
+        self.escape
+    }
+
+    /// The code of its tree.
+    pub fn instructions(&self) -> &Code
+        ensures { result.now ≡ code_of (body self.now.tree) }
+    {
+        &self.streams.root
+    }
+
+    /// The code of its blocks, by name.
+    pub fn blocks(&self) -> &NameMap<Code>
+        ensures { result.now ≡ block_codes self.now.tree }
+    {
+        &self.streams.blocks
+    }
+
+    /// The code of its block of a name, where there is one.
+    pub fn block(&self, name: &str) -> Option<&Code>
+        ensures { IsLent result (find name.now (block_codes self.now.tree)) }
+    {
+        self.streams.blocks.get(name)
+    }
+
+    /// The code of a part: of the block of a name, or of all its tree. Of a block that isn't there, none.
+    pub fn stream(&self, block: &Option<Name>) -> &Code
+        ensures { result.now ≡ code_of (part_of (tree_of self.now) block.now) }
+    {
+        match block {
+            None => self.instructions(),
+            Some(name) => match self.block(name.as_str()) {
+                Some(code) => code,
+                None => &self.nothing,
+            },
+        }
+    }
+}

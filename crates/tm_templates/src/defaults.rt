@@ -1,0 +1,90 @@
+//! What an environment does where nothing else was set.
+ghost use Rattle.std.specs.Prelude.{◌≡◌};
+ghost use Rattle.tm_delimiters.specs.Views.{place_of};
+ghost use Rattle.tm_templates.specs.Defaults as spec;
+
+use tm_values::AutoEscape;
+
+/// How the escape of a template is chosen, where the template itself doesn't say it.
+#[derive(Clone, Copy, PartialEq, Eq)]
+pub enum EscapeSetting {
+    /// By its name, as `default_auto_escape_callback` does.
+    ByName,
+    /// Nothing is escaped.
+    Never,
+}
+
+impl EscapeSetting {
+    /// The escape of a template of this name.
+    pub fn escape(self, name: &str) -> AutoEscape
+        ensures { result ≡ spec.escape_of self name.now }
+    {
+        match self {
+            EscapeSetting::ByName => default_auto_escape_callback(name),
+            EscapeSetting::Never => AutoEscape::None,
+        }
+    }
+}
+
+/// How a template is escaped by its name: what follows the last dot is asked, or the whole name where there is none; one ending `.j2`, `.jinja2` or `.jinja` is left out before. `html`, `htm` and `xml` are escaped for HTML, `json`, `json5`, `js`, `yaml` and `yml` for JSON, and all else isn't escaped.
+pub fn default_auto_escape_callback(name: &str) -> AutoEscape
+    ensures { result ≡ spec.escape_by_name name.now }
+{
+    let stem = stem(name);
+    if is_markup(stem) {
+        return AutoEscape::Html;
+    }
+    if is_data(stem) {
+        return AutoEscape::Json;
+    }
+    AutoEscape::None
+}
+
+/// What stands before the word, where the text ends with it.
+fn before<'t>(text: &'t str, word: &str) -> Option<&'t str>
+    ensures { place_of result ≡ spec.before word.now text.now }
+{
+    text.strip_suffix(word)
+}
+
+/// The name without the one ending that says only that it is a template's.
+fn stem(name: &str) -> &str
+    ensures { result.now ≡ spec.stem_of name.now }
+{
+    if let Some(stem) = before(name, ".j2") {
+        return stem;
+    }
+    if let Some(stem) = before(name, ".jinja2") {
+        return stem;
+    }
+    match before(name, ".jinja") {
+        Some(stem) => stem,
+        None => name,
+    }
+}
+
+/// Whether the word is what follows the last dot, or all where there is none.
+fn has_ending(stem: &str, word: &str) -> bool
+    ensures { result ≡ spec.has_ending stem.now word.now }
+{
+    match before(stem, word) {
+        Some(front) => front.is_empty() || before(front, ".").is_some(),
+        None => false,
+    }
+}
+
+fn is_markup(stem: &str) -> bool
+    ensures { result ≡ spec.is_markup stem.now }
+{
+    has_ending(stem, "html") || has_ending(stem, "htm") || has_ending(stem, "xml")
+}
+
+fn is_data(stem: &str) -> bool
+    ensures { result ≡ spec.is_data stem.now }
+{
+    has_ending(stem, "json")
+        || has_ending(stem, "json5")
+        || has_ending(stem, "js")
+        || has_ending(stem, "yaml")
+        || has_ending(stem, "yml")
+}

@@ -1,0 +1,85 @@
+//! Templates by name.
+ghost use Rattle.std.specs.Prelude.{◌≡◌, [], ◌∷◌, OnOk, OnErr, IfErr, MatchResult};
+ghost use Rattle.tm_syntax.specs.Named.{find, put, name_cmp};
+ghost use Rattle.tm_values.specs.Answer.{IsLent};
+ghost use Rattle.tm_templates.specs.Places.{IsThere, IsGapFor};
+
+use crate::compiled::CompiledTemplate;
+use std::alloc::Global;
+use std::marker::Model;
+use tm_compiler::Name;
+use tm_values::{Error, ErrorKind};
+
+/// The templates of an environment. A contract sees them as pairs of a name and a template, in the order of names.
+#[derive(Drop)]
+pub struct Templates<'source> {
+    // No map of the library's: in one, a template can't be lent for less long than its source is.
+    entries: Vec<(Name, CompiledTemplate<'source>)>,
+}
+
+impl<'source> Model for Templates<'source> {
+    ghost use Rattle.std.specs.Coded.{codes};
+    ghost use Rattle.tm_syntax.specs.Named.{Named};
+    ghost use Rattle.tm_syntax.specs.contracts.tree.Stmt as statement;
+    ghost use Rattle.tm_templates.specs.Templates.{Compiled};
+
+    ghost Value = { Named Compiled };
+
+    ghost coded = { Prim.hlevel (codes, statement.the_row.coded) };
+
+    ghost use Rattle.tm_templates.specs.Places.{AreOrdered};
+
+    ghost view = { λ a. a.entries.items };
+
+    ghost invariant = { λ a. AreOrdered a.entries.items };
+}
+
+impl<'source> Templates<'source> {
+    /// No templates.
+    pub fn new(alloc: Global) -> Templates<'source>
+        ensures { result ≡ [] }
+    {
+        Templates {
+            entries: Vec::new(alloc),
+        }
+    }
+
+    /// The template of a name, where there is one. Makes log n comparisons for n templates.
+    pub fn get(&self, name: &str) -> Option<&CompiledTemplate<'source>>
+        ensures { IsLent result (find name.now self.now) }
+    {
+        match self.place(name) {
+            Ok(at) => Some(&self.entries[at].1),
+            Err(_) => None,
+        }
+    }
+
+    /// Puts a template at a name, in place of one that is there. Where there is no memory, OutOfMemory, and all stays as it was.
+    pub fn insert(&mut self, name: Name, template: CompiledTemplate<'source>) -> Result<(), Error>
+        ensures ok { OnOk result (self.new ≡ put name template.entry self.old) }
+        ensures kind { IfErr result (λ e. e ≡ ErrorKind.OutOfMemory ∷ []) }
+        ensures err { OnErr result (self.new ≡ self.old) }
+    {
+        match self.place(name.as_str()) {
+            Ok(at) => {
+                self.entries[at].1 = template;
+                Ok(())
+            }
+            Err(at) => {
+                self.entries.insert(at, (name, template))?;
+                Ok(())
+            }
+        }
+    }
+
+    /// Where the template of a name stands, or where it would stand.
+    fn place(&self, name: &str) -> Result<usize, usize>
+        ensures { MatchResult result (IsThere name.now self.now) (IsGapFor name.now self.now) }
+    {
+        self.entries.binary_search_by(
+            |entry|
+                ensures { result ≡ name_cmp entry.now.0 name.entry.now }
+            { entry.0.compare(name) },
+        )
+    }
+}
