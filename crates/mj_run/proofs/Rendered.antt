@@ -4,7 +4,7 @@ use Rattle.std.specs.Prelude.{cond, true}
 use Rattle.std.specs.Io.KnownBytes.{Keeps, Appends}
 use Rattle.std.proofs.lemmas.Cmp.{nat_list_cmp_total, tied_itself}
 use Rattle.tm_values.specs.Val.{Val}
-use Rattle.tm_values.specs.Chain.{ends_in_memory}
+use Rattle.tm_meaning.specs.Memory.{is_want_of_memory}
 use Rattle.tm_values.specs.declared.error.ErrorKind.{ErrorKind}
 use Rattle.tm_values.specs.declared.escape.AutoEscape.{AutoEscape}
 use Rattle.tm_values.specs.declared.error.ErrorKind.TheVariants.{WriteFailure, OutOfMemory}
@@ -140,7 +140,7 @@ fault_chain (fault chain) w answer is = cc
 module _ {W : Type 0} (contents : W → Option Text) where
   -- want of memory, before anything was written
   pub is_memory : (i : Input) (chain : List ErrorKind) (old : Tally W) → chain ≡ OutOfMemory ∷ [] → IsFault contents i chain old old
-  is_memory i chain old e = no_memory (ap ends_in_memory e) refl (inl (keeps_same (contents old.writer)))
+  is_memory i chain old e = no_memory (ap is_want_of_memory e) refl (inl (keeps_same (contents old.writer)))
 
   -- a source that was refused
   pub is_refused : (i : Input) (syntax : Syntax) (chain : List ErrorKind) (old : Tally W) → syntax ≡ default_syntax → IsRefused syntax i.source chain →

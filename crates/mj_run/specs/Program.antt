@@ -3,7 +3,7 @@ use Rattle.std.specs.Prelude.{◌≡◌, ◌⊎◌, ℕ, List, [], ◌∷◌, �
 use Rattle.std.specs.Io.KnownBytes.{Keeps, Appends}
 use Rattle.std.specs.Str.{bytes_eq, IsUtf8}
 use Rattle.tm_values.specs.Val.{Val, text, map, pairs_of}
-use Rattle.tm_values.specs.Chain.{ends_in_memory}
+use Rattle.tm_meaning.specs.Memory.{is_want_of_memory}
 use Rattle.tm_values.specs.Map.{put_all}
 use Rattle.tm_values.specs.declared.error.ErrorKind.{ErrorKind}
 use Rattle.tm_values.specs.declared.error.ErrorKind.TheVariants.{SyntaxError, WriteFailure}
@@ -121,7 +121,7 @@ IsBegun input old new = (tree : Tree) × Spells default_syntax input.source tree
 -- A render ends with this error, and the writer holds what that error leaves. Its count of faults rose where a write failed, and only there.
 pub data IsFault {W : Type 0} (contents : W → Option Text) (input : Input) (chain : List ErrorKind) (old new : Tally W) : Type 0 where
   -- want of memory: nothing was written, or a beginning of the text
-  no_memory : ends_in_memory chain ≡ true → new.failures ≡ old.failures → Keeps (contents old.writer) (contents new.writer) ⊎ IsBegun input (contents old.writer) (contents new.writer) →
+  no_memory : is_want_of_memory chain ≡ true → new.failures ≡ old.failures → Keeps (contents old.writer) (contents new.writer) ⊎ IsBegun input (contents old.writer) (contents new.writer) →
       IsFault contents input chain old new
   -- a write failed, behind a beginning of the text
   write_failed : chain ≡ WriteFailure ∷ [] → new.failures ≡ one_more old.failures → IsBegun input (contents old.writer) (contents new.writer) →

@@ -1,7 +1,7 @@
 //! The program over words, files and streams that it is given.
 ghost use Rattle.std.specs.Prelude.{◌≡◌, ◌≢◌, ◌≤◌, ◌⊎◌, List, [], ◌∷◌, ⊤, true, Option, None, Some, map, option_map, string_bytes, MatchResult};
 ghost use Rattle.tm_values.specs.declared.error.ErrorKind.{ErrorKind as Kind};
-ghost use Rattle.tm_values.specs.Chain.{ends_in_memory};
+ghost use Rattle.tm_meaning.specs.Memory.{is_want_of_memory};
 ghost use Rattle.mj_words.specs.CommandLine.{Text, asked};
 ghost use Rattle.mj_run.specs.Program.{Input, IsRead, IsInput, IsUnread, IsMembers, IsNoObject, IsWrongUse, IsRendered, IsFault, FilesStay};
 ghost use Rattle.mj_words.specs.Told.{IsTold, message, usage};
@@ -53,7 +53,7 @@ pub fn run<T: Texts, O: Write + Drop, E: Write + Drop>(
         × IsRendered O.contents input out.old out.new }
     ensures fault { result ≡ 1 → (kind : Kind) × (kinds : List Kind)
         × IsTold E.contents err.old err.new (message kind kinds)
-        × (((ends_in_memory (kind ∷ kinds) ≡ true) × (out.new ≡ out.old))
+        × (((is_want_of_memory (kind ∷ kinds) ≡ true) × (out.new ≡ out.old))
         ⊎ ((input : Input)
         × IsInput T.of_file T.of_input texts.old (map string_bytes words.now) input
         × IsFault O.contents input (kind ∷ kinds) out.old out.new)) }

@@ -5,7 +5,8 @@ use Rattle.std.specs.Borrow.{Bor}
 use Rattle.std.specs.Io.KnownBytes.{Appends}
 use Rattle.std.proofs.Math.Seq.{take-length}
 use Rattle.std.proofs.lemmas.List.{append-nil}
-use Rattle.tm_values.specs.Chain.{causes_of, ends_in_memory}
+use Rattle.tm_values.specs.Chain.{causes_of}
+use Rattle.tm_meaning.specs.Memory.{is_want_of_memory}
 use Rattle.tm_values.specs.declared.error.ErrorKind.{ErrorKind}
 use Rattle.tm_values.specs.declared.error.ErrorKind.TheVariants as kind
 use Rattle.tm_output.specs.Counts.{Tally, one_more, AppendsBeginning}
@@ -103,6 +104,6 @@ same_message chain kind k kinds ks e f = ap message_of (sym e ∙ f)
 -- what was told where there was nothing to run, at status 1
 pub refused_memory : {W : Type 0} (contents : W → Option Text) (refusal : Refusal) (status : ℕ) (old new : Tally W) → status ≡ refusal_status refusal →
     IsTold contents old new (refusal_message refusal) → status ≡ 1 →
-    (kind : ErrorKind) × (kinds : List ErrorKind) × IsTold contents old new (message kind kinds) × (ends_in_memory (kind ∷ kinds) ≡ true)
+    (kind : ErrorKind) × (kinds : List ErrorKind) × IsTold contents old new (message kind kinds) × (is_want_of_memory (kind ∷ kinds) ≡ true)
 refused_memory contents Usage status old new is told one = absurd (cc)
 refused_memory contents OutOfMemory status old new is told one = (kind.OutOfMemory, [], told, refl)

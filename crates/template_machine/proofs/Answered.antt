@@ -1,7 +1,7 @@
 -- What a run of a template's code answered is what its trees mean.
 use Rattle.std.proofs.Common.{◌≡◌, ◌⊎◌, inl, inr, ℕ, List, [], ◌∷◌, Bool, true, false, Option, Result, Ok, Err, IsErrAnd, refl, sym, ap, ◌∙◌, subst}
 use Rattle.std.specs.Io.KnownBytes.{Appends}
-use Rattle.tm_values.specs.Chain.{ends_in_memory}
+use Rattle.tm_meaning.specs.Memory.{is_want_of_memory}
 use Rattle.tm_values.specs.declared.error.ErrorKind.{ErrorKind}
 use Rattle.tm_meaning.specs.World.{World}
 use Rattle.tm_meaning.specs.Calls.{whole}
@@ -117,7 +117,7 @@ module _ (p : Program) (trees : Trees) (compiled : IsCompiled trees p) (captures
       part : AppendsBeginning told now (put_out captures m.text)
       part = begun _ (reached fresh)
 
-      by_chain : (b : Bool) (chain : List ErrorKind) → ends_in_memory chain ≡ b → (ends_in_memory chain ≡ false → ComesTo (Failed chain left)) → count ≡ faults →
+      by_chain : (b : Bool) (chain : List ErrorKind) → is_want_of_memory chain ≡ b → (is_want_of_memory chain ≡ false → ComesTo (Failed chain left)) → count ≡ faults →
           Ran m (Err (halt.Fault chain)) captures told now faults count
       by_chain true chain memory ends counted = run_by_memory chain refl memory part counted
       by_chain false chain own ends counted =
@@ -128,7 +128,7 @@ module _ (p : Program) (trees : Trees) (compiled : IsCompiled trees p) (captures
       by_halt : (why : Halt) → HaltsAs why left ComesTo → count ≡ faults_after {A = Unit {0}} (Err why) faults → Ran m (Err why) captures told now faults count
       by_halt halt.Writer ends counted = run_by_writer refl part counted
       by_halt halt.Stuck (text, appended, reaches) counted = absurd (not_stuck m.ending captures text m.text left m.world (one_end reaches (reached fresh)))
-      by_halt (halt.Fault chain) ends counted = by_chain (ends_in_memory chain) chain refl ends counted
+      by_halt (halt.Fault chain) ends counted = by_chain (is_want_of_memory chain) chain refl ends counted
 
 -- an error that was passed on
 pub passed : {T E : Type 0} (r : Result T E) (P : Result T E → Type 0) (e : E) → IsErrAnd r (λ x. x ≡ e) → P (Err e) → P r

@@ -3,7 +3,7 @@ use Rattle.std.specs.Prelude.{◌≡◌, ◌⊎◌, ◌+◌, ◌-◌, ◌^◌, �
 use Rattle.std.specs.Io.KnownBytes.{Appends}
 use Rattle.std.specs.declared.alloc.Global.{Global}
 use Rattle.tm_values.specs.Answer.{Answer}
-use Rattle.tm_values.specs.Chain.{ends_in_memory}
+use Rattle.tm_meaning.specs.Memory.{is_want_of_memory}
 use Rattle.tm_values.specs.Val.{Val}
 use Rattle.tm_values.specs.declared.error.ErrorKind.{ErrorKind}
 use Rattle.tm_values.specs.declared.error.ErrorKind.TheVariants.{InvalidOperation, WriteFailure}
@@ -61,7 +61,7 @@ answer_of m = answer_by m.ending m.world
 -- The answer is an error that ends in want of memory.
 abbrev pub IsMemory : {A : Type 0} → Result A (List ErrorKind) → Type 0
 IsMemory (Ok x) = ⊥
-IsMemory (Err chain) = ends_in_memory chain ≡ true
+IsMemory (Err chain) = is_want_of_memory chain ≡ true
 
 -- The answer is the end that was meant: the template's state with its world and no text of its own, or an error of its chain.
 abbrev pub IsEnd : {O : Type 0} → TemplateValue O → Result (CapturedValue (StateValue O)) (List ErrorKind) → Outcome → Type 0
@@ -114,5 +114,5 @@ IsRun (Err _) old m = ⊥
 pub data Ran (m : Outcome) (result : Result (List Capture × World) Halt) (old : List Capture) (told now : Option (List ℕ)) (faults count : ℕ) : Type 0 where
   run_as_meant : IsRun result old m → Appends told now (put_out old m.text) → count ≡ faults → Ran m result old told now faults count
   run_by_writer : result ≡ Err halt.Writer → AppendsBeginning told now (put_out old m.text) → count ≡ one_more faults → Ran m result old told now faults count
-  run_by_memory : (chain : List ErrorKind) → result ≡ Err (halt.Fault chain) → ends_in_memory chain ≡ true →
+  run_by_memory : (chain : List ErrorKind) → result ≡ Err (halt.Fault chain) → is_want_of_memory chain ≡ true →
       AppendsBeginning told now (put_out old m.text) → count ≡ faults → Ran m result old told now faults count

@@ -11,6 +11,8 @@ use Rattle.tm_values.specs.Val.{Val, undefined, boolean, list, map, function, ma
 use Rattle.tm_values.specs.declared.error.ErrorKind.{ErrorKind}
 use Rattle.tm_values.specs.declared.error.ErrorKind.TheVariants.{InvalidOperation, UnknownFunction, UnknownMethod, UnknownBlock}
 use Rattle.tm_meaning.specs.declared.function.GlobalFunction.{GlobalFunction}
+use Rattle.tm_meaning.specs.declared.wrapping.Wrapping.{Wrapping}
+use Rattle.tm_meaning.specs.Memory.{kind_of_wrapping}
 use Rattle.tm_meaning.specs.declared.function.GlobalFunction.TheVariants as own
 use Rattle.tm_meaning.specs.World.{TemplateId, own, entry, StreamId, block_of, Named, find, put_each, same_name, Card, Layers, Loop, World, Host, View, Reply, gives, faults, Stated, Function, callers, languages, Res, Good, Bad, bind, bad, answered, items_over, innermost, records_of, make_namespace, need, check, card_at, view_of, lookup, context_member, or_undefined, place_of, plain, push, pop}
 
@@ -26,7 +28,7 @@ pub data Undo : Type 0 where
 pub record Call : Type 0 where
   pub callee : Callee
   pub undo : Undo
-  pub wrap : Option ErrorKind
+  pub wrap : Option Wrapping
 
 -- A value, a fault, a run that is needed and the world that it starts from, or the loop of a number of the stream that runs, which is called over these items.
 pub data Asked : Type 0 where
@@ -46,9 +48,9 @@ with_outer n w = record w { scopes = record w.scopes { outer = n } }
 abbrev pub undone : Undo → World → World
 undone (of_block b) w = record (with_outer b.scopes.outer (pop w)) { stream = b.stream; block = b.block; escape = b.escape }
 
-abbrev pub wrapped : Option ErrorKind → List ErrorKind → List ErrorKind
+abbrev pub wrapped : Option Wrapping → List ErrorKind → List ErrorKind
 wrapped None chain = chain
-wrapped (Some kind) chain = kind ∷ chain
+wrapped (Some wrap) chain = kind_of_wrapping wrap ∷ chain
 
 -- ---------------------------------------------------------------- blocks
 abbrev pub is_required : Option Card → Bool

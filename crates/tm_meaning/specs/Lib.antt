@@ -1,4 +1,5 @@
 pub mod World
+pub mod Memory
 pub mod Calls
 pub mod Tree
 pub mod Meaning

@@ -82,11 +82,15 @@ abbrev pub said_by : Option Final → Said
 said_by None = said [] 0 []
 said_by (Some o) = said_at o.text o.end
 
-abbrev pub ran : Page → Option ℕ → Said
-ran p fuel =
+-- where the page's code ends
+abbrev pub ended : Page → Option ℕ → Option Final
+ended p fuel =
     let w = world_of p fuel in
     let f = base_of true [] w in
-    said_by (run_for 200 (program_of p) f [] (step_of (program_of p) f (start (whole w.stream) [] w)))
+    run_for 200 (program_of p) f [] (step_of (program_of p) f (start (whole w.stream) [] w))
+
+abbrev pub ran : Page → Option ℕ → Said
+ran p fuel = said_by (ended p fuel)
 
 -- What the page means under this fuel, and what its code comes to.
 abbrev pub Says : Page → ℕ → List ℕ → ℕ → List ErrorKind → Type 0
@@ -98,6 +102,19 @@ Charges p t charges = Says p 1000 t (1000 - charges) []
 
 abbrev pub Fails : Page → List ℕ → List ErrorKind → Type 0
 Fails p t chain = ((meant p None).text ≡ t) × ((meant p None).chain ≡ chain) × ((ran p None).text ≡ t) × ((ran p None).chain ≡ chain)
+
+-- what is kept by names behind the page
+abbrev pub temps_of : Option Final → Bindings
+temps_of None = []
+temps_of (Some o) = temps_at o.end
+  where
+    temps_at : End → Bindings
+    temps_at (Finished ks w) = w.temps
+    temps_at (Failed chain w) = w.temps
+    temps_at (Stuck w) = w.temps
+
+abbrev pub Leaves : Page → Bindings → Type 0
+Leaves p temps = ((rendered (host_of p) (trees p) (world_of p None)).world.temps ≡ temps) × (temps_of (ended p None) ≡ temps)
 
 -- and where all is done
 abbrev pub Shows : Page → List ℕ → Type 0
@@ -131,6 +148,18 @@ a = named (codes "a")
 
 abbrev pub b : Expr
 b = named (codes "b")
+
+-- a template with nothing in it, as that of `{# c #}`
+abbrev pub empty : Page
+empty = page (body_of no_statement) nothing
+
+-- text alone
+abbrev pub text_alone : List ℕ → Page
+text_alone t = page (one (raw t)) nothing
+
+-- {{ a }}{{ b }}
+abbrev pub two_names : Page
+two_names = page (two (EmitExpr a) (EmitExpr b)) (map (pairs_of ((text (codes "a") false, text (codes "A") false) ∷ (text (codes "b") false, text (codes "B") false) ∷ [])))
 
 -- Hello {{ name }}!
 abbrev pub hello : Page

@@ -10,6 +10,7 @@ mod function;
 mod mark;
 mod rows;
 mod stream;
+mod wrapping;
 
 pub use base::Base;
 pub use function::GlobalFunction;
@@ -17,9 +18,10 @@ pub use mark::LoopMark;
 pub use rows::{
     attribute_rows, block_rows, call_rows, capture_rows, chain_rows, condition_rows,
     conditional_rows, filter_rows, function_rows, hello_rows, loop_rows, method_rows,
-    operator_rows, recursion_rows, scope_rows,
+    operator_rows, recursion_rows, scope_rows, text_rows, two_names_rows,
 };
 pub use stream::{StreamId, TemplateId};
+pub use wrapping::Wrapping;
 
 /// A run has one end.
 pub fn one_end()

@@ -1,6 +1,6 @@
 -- What an answer of an object comes to.
 use Rattle.std.proofs.Common.{◌≡◌, ℕ, List, Result, Ok, Err, false, refl, sym, ap, ◌∙◌}
-use Rattle.tm_values.specs.Chain.{ends_in_memory}
+use Rattle.tm_meaning.specs.Memory.{is_want_of_memory}
 use Rattle.tm_values.specs.Val.{Val}
 use Rattle.tm_values.specs.declared.error.ErrorKind.{ErrorKind}
 use Rattle.tm_meaning.specs.World.{World, Reply, gives, faults}
@@ -15,4 +15,4 @@ taken (Ok v) (faults chain) asked x w c d = absurd (cc d)
 taken (Err chain) (gives u) asked x w c d = λ m. absurd (cc (d m))
 taken (Err chain) (faults why) asked x w c d = λ m.
     let same : why ≡ chain = cc (d m) in
-    c (ap ends_in_memory same ∙ m) ∙ d m
+    c (ap is_want_of_memory same ∙ m) ∙ d m

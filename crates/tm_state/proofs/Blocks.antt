@@ -5,7 +5,7 @@ use Rattle.std.specs.BTreeMap.{is_at}
 use Rattle.tm_syntax.specs.Named.{find, name_cmp}
 use Rattle.tm_syntax.specs.declared.instruction.Instruction.{Instruction}
 use Rattle.tm_tables.specs.Scopes.{PushFails}
-use Rattle.tm_values.specs.Chain.{ends_in_memory}
+use Rattle.tm_meaning.specs.Memory.{is_want_of_memory}
 use Rattle.tm_values.specs.declared.error.ErrorKind.{ErrorKind}
 use Rattle.tm_values.specs.declared.error.ErrorKind.TheVariants.{InvalidOperation, UnknownBlock}
 use Rattle.tm_meaning.specs.World.{Named, World, Host, card_at, block_of, depth}
@@ -44,7 +44,7 @@ is_there x bs b known = subst (λ found. IsThere b found) (sym (layers_found x b
 
 -- why a block's scope wasn't pushed
 pub not_pushed : (host : Host) (x : List ℕ) (w : World) (fits : Bool) (chain : List ErrorKind) → find x w.blocks ≡ Some alone → is_required (card_at host (block_of Own x)) ≡ false
-    → nat_lt (depth w.scopes) host.limit ≡ fits → PushFails fits chain → ends_in_memory chain ≡ false → enter_block host x w ≡ refused chain w
+    → nat_lt (depth w.scopes) host.limit ≡ fits → PushFails fits chain → is_want_of_memory chain ≡ false → enter_block host x w ≡ refused chain w
 not_pushed host x w true chain found free known fails own = absurd cc
 not_pushed host x w false chain found free known fails own = too_deep host x w found free known ∙ ap (λ e. refused e w) (sym fails)
 

@@ -1,6 +1,6 @@
 -- What a state's calls answer, beside what the definitions say.
 use Rattle.std.specs.Prelude.{◌≡◌, ◌≤◌, ℕ, List, ◌∷◌, Option, Some, Bool, Result, Ok, Err, false}
-use Rattle.tm_values.specs.Chain.{ends_in_memory}
+use Rattle.tm_meaning.specs.Memory.{is_want_of_memory}
 use Rattle.tm_values.specs.declared.error.ErrorKind.{ErrorKind}
 use Rattle.tm_values.specs.declared.error.ErrorKind.TheVariants.{InvalidOperation}
 use Rattle.tm_syntax.specs.Named.{put_each}
@@ -23,33 +23,33 @@ pub record Keeps (old new : World) : Type 0 where
 -- A value can be emitted as this text, or it can't be.
 abbrev pub CanBeEmitted : Result (Unit {0}) (List ErrorKind) → Res (List ℕ) → List ℕ → World → Type 0
 CanBeEmitted (Ok _) emitted text w = emitted ≡ Good text w
-CanBeEmitted (Err chain) emitted text w = ends_in_memory chain ≡ false → emitted ≡ Bad chain w
+CanBeEmitted (Err chain) emitted text w = is_want_of_memory chain ≡ false → emitted ≡ Bad chain w
 
 -- What a call of these arguments comes to: what was answered, with its values kept; or what a function of the language gives; or the call is refused.
 abbrev pub Calls : Result Called (List ErrorKind) → Asked → List Val → World → Type 0
 Calls (Ok (called.Answered answer)) asked args w = is_for_memory answer.reply ≡ false → asked ≡ replied answer.reply (record w { temps = put_each answer.temps w.temps })
 Calls (Ok (called.Language g)) asked args w = asked ≡ ask (given_by g args w) has
-Calls (Err chain) asked args w = ends_in_memory chain ≡ false → asked ≡ refused chain w
+Calls (Err chain) asked args w = is_want_of_memory chain ≡ false → asked ≡ refused chain w
 
 -- What a call came to, but for want of memory: a value and the world behind it, or a fault.
 abbrev pub Comes : Result Val (List ErrorKind) → Asked → World → Type 0
 Comes (Ok v) asked w = asked ≡ has v w
-Comes (Err chain) asked w = ends_in_memory chain ≡ false → asked ≡ refused chain w
+Comes (Err chain) asked w = is_want_of_memory chain ≡ false → asked ≡ refused chain w
 
 -- Which loop a call begins, but for want of memory; or it is refused.
 abbrev pub Recurs : Result Recursion (List ErrorKind) → Asked → World → Type 0
 Recurs (Ok r) asked w = asked ≡ recurs r.number r.items.value.items w
-Recurs (Err chain) asked w = ends_in_memory chain ≡ false → asked ≡ refused chain w
+Recurs (Err chain) asked w = is_want_of_memory chain ≡ false → asked ≡ refused chain w
 
 -- What a call came to, but for want of memory: a value, a loop that is called, or a fault, and the world behind it.
 abbrev pub Becomes : Result Outcome (List ErrorKind) → Asked → World → Type 0
 Becomes (Ok (outcome.Value v)) asked w = asked ≡ has v w
 Becomes (Ok (outcome.Recursion r)) asked w = asked ≡ recurs r.number r.items.value.items w
-Becomes (Err chain) asked w = ends_in_memory chain ≡ false → asked ≡ refused chain w
+Becomes (Err chain) asked w = is_want_of_memory chain ≡ false → asked ≡ refused chain w
 
 -- InvalidOperation for this cause, unless it is for memory
 abbrev pub IsBecause : List ErrorKind → List ErrorKind → Type 0
-IsBecause cause chain = ends_in_memory chain ≡ false → chain ≡ InvalidOperation ∷ cause
+IsBecause cause chain = is_want_of_memory chain ≡ false → chain ≡ InvalidOperation ∷ cause
 
 -- A loop is there, and this tells whether these arguments differ from those that it keeps.
 abbrev pub IsChangedAt : Bool → List Val → Option Loop → Type 0

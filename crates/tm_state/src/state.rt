@@ -2,7 +2,7 @@
 ghost use Rattle.std.specs.List.Sorted.{IsStrictlySortedBy};
 ghost use Rattle.std.specs.Prelude.{◌≡◌, ◌+◌, ◌≤◌, ◌<◌, List, [], ◌∷◌, ◌++◌, Some, None, false, true, is_some, length, nat_lt, slice_get, OnOk, OnErr, IfErr, IfOk, IfSome, MatchOption, MatchResult};
 ghost use Rattle.tm_values.specs.Answer.{IsAnswer, OkOrOutOfMemory, IsLent};
-ghost use Rattle.tm_values.specs.Chain.{ends_in_memory};
+ghost use Rattle.tm_meaning.specs.Memory.{is_want_of_memory};
 ghost use Rattle.tm_syntax.specs.Named.{find, name_cmp, put, put_each, texts_of};
 ghost use Rattle.tm_meaning.specs.World.{depth, with_escape, innermost, loop_depth, top_loop, top_mark, next_turn, turned_at, cleared, pop, store, set_member, with_member, make_namespace, emitted, records_of, fuel_levels, find_name, view_of, name_of, Good, Bad, block_of};
 ghost use Rattle.tm_meaning.specs.Calls.{enter_block, given_by, refused, of_loop, keeping_at, told_changed, told_turn};
@@ -226,7 +226,7 @@ impl<'env> StateData<'env> {
         args: &[Value],
     ) -> Result<Value, Error>
         ensures ok { IfOk result (λ v. given_by function args.now self.old ≡ Good v self.new) }
-        ensures err { IfErr result (λ e. ends_in_memory e ≡ false →
+        ensures err { IfErr result (λ e. is_want_of_memory e ≡ false →
             given_by function args.now self.old ≡ Bad e self.old) }
         ensures unchanged { OnErr result (self.new ≡ self.old) }
         ensures rest { self.new ≡ record self.old { namespaces = self.new.namespaces } }
@@ -313,7 +313,7 @@ impl<'env> StateData<'env> {
             ((length self.new.scopes.frames ≡ length self.old.scopes.frames + 1)
             × (self.new.scopes.outer ≡ self.old.scopes.outer)
             × (depth self.new.scopes ≤ (H.meaning host.now).limit)) }
-        ensures err { IfErr result (λ e. ends_in_memory e ≡ false →
+        ensures err { IfErr result (λ e. is_want_of_memory e ≡ false →
             enter_block (H.meaning host.now) name.now self.old ≡ refused e self.old) }
         ensures unchanged { OnErr result (self.new ≡ self.old) }
         ensures kept { Keeps self.old self.new }
@@ -500,7 +500,7 @@ impl<'env> StateData<'env> {
     ) -> Result<(), Error>
         ensures ok { OnOk result
             (set_member name.now value object.now self.old ≡ Good tt self.new) }
-        ensures err { IfErr result (λ e. ends_in_memory e ≡ false →
+        ensures err { IfErr result (λ e. is_want_of_memory e ≡ false →
             set_member name.now value object.now self.old ≡ Bad e self.old) }
         ensures unchanged { OnErr result (self.new ≡ self.old) }
         ensures rest { self.new ≡ record self.old { namespaces = self.new.namespaces } }
@@ -602,7 +602,7 @@ fn changed_at(
     ensures ok { IfOk result (λ changed.
         IsChangedAt changed args.now (slice_get loops.old.items number)) }
     ensures now { OnOk result (loops.new.items ≡ keeping_at number args.now loops.old.items) }
-    ensures none { IfErr result (λ e. ends_in_memory e ≡ false →
+    ensures none { IfErr result (λ e. is_want_of_memory e ≡ false →
         (e ≡ ErrorKind.InvalidOperation ∷ []) × (slice_get loops.old.items number ≡ None)) }
     ensures err { OnErr result (loops.new.items ≡ loops.old.items) }
 {

@@ -1,6 +1,6 @@
 -- What callables answer.
 use Rattle.std.specs.Prelude.{◌≡◌, ◌+◌, ℕ, zero, suc, Bool, true, false, List, [], ◌∷◌, ◌++◌, length, map as each}
-use Rattle.tm_values.specs.Chain.{ends_in_memory}
+use Rattle.tm_meaning.specs.Memory.{is_want_of_memory}
 use Rattle.tm_values.specs.Val.{Val}
 use Rattle.tm_meaning.specs.declared.function.GlobalFunction.{GlobalFunction}
 use Rattle.tm_meaning.specs.declared.function.GlobalFunction.TheVariants as own
@@ -18,7 +18,7 @@ reply_of (variant.Fault chain) = faults chain
 -- The reply is a fault that ends in want of memory.
 abbrev pub is_for_memory : Reply → Bool
 is_for_memory (gives v) = false
-is_for_memory (faults chain) = ends_in_memory chain
+is_for_memory (faults chain) = is_want_of_memory chain
 
 -- The answer is the stated one, unless it is a fault that ends in want of memory.
 abbrev pub IsStated : Stated → Stated → Type 0

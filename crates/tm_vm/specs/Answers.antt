@@ -1,7 +1,7 @@
 -- What the machine's functions answer, beside what the definitions say.
 use Rattle.std.specs.Prelude.{◌≡◌, ◌+◌, ◌<◌, ◌≤◌, ◌^◌, ◌-◌, ◌*◌, ℕ, List, [], ◌∷◌, length, Option, None, Some, Result, Ok, Err, Bool, true, false}
 use Rattle.std.specs.Io.KnownBytes.{Appends}
-use Rattle.tm_values.specs.Chain.{ends_in_memory}
+use Rattle.tm_meaning.specs.Memory.{is_want_of_memory}
 use Rattle.tm_values.specs.declared.error.ErrorKind.{ErrorKind}
 use Rattle.tm_syntax.specs.declared.instruction.Instruction.{Instruction}
 use Rattle.tm_meaning.specs.World.{World, Host, Res, Good, Bad, depth}
@@ -31,7 +31,7 @@ program host code = record { host = host; code = code }
 abbrev pub HaltsAs : Halt → World → (End → Type 0) → Type 0
 HaltsAs halt.Writer w Holds = Unit {0}
 HaltsAs halt.Stuck w Holds = Holds (Stuck w)
-HaltsAs (halt.Fault chain) w Holds = ends_in_memory chain ≡ false → Holds (Failed chain w)
+HaltsAs (halt.Fault chain) w Holds = is_want_of_memory chain ≡ false → Holds (Failed chain w)
 
 -- The end that a run answered has a property.
 abbrev pub EndsAs : Result (Unit {0}) Halt → List Capture → World → (End → Type 0) → Type 0
@@ -130,7 +130,7 @@ Quietly (Ok flow.Done) c n = ⊥
 Quietly (Ok (flow.Enter e)) c n = ⊥
 Quietly (Err halt.Writer) c n = ⊥
 Quietly (Err halt.Stuck) c n = n ≡ Over (Stuck c.world)
-Quietly (Err (halt.Fault chain)) c n = ends_in_memory chain ≡ false → n ≡ Over (Failed chain c.world)
+Quietly (Err (halt.Fault chain)) c n = is_want_of_memory chain ≡ false → n ≡ Over (Failed chain c.world)
 
 pub record Silently (n : Next) (old new : Config) (result : Result Flow Halt) : Type 0 where
   pub did : Quietly result new n
@@ -152,7 +152,7 @@ Needed (Ok flow.Done) c n = ⊥
 Needed (Ok (flow.Enter e)) c n = Enters e c n
 Needed (Err halt.Writer) c n = ⊥
 Needed (Err halt.Stuck) c n = n ≡ Over (Stuck c.world)
-Needed (Err (halt.Fault chain)) c n = ends_in_memory chain ≡ false → n ≡ Over (Failed chain c.world)
+Needed (Err (halt.Fault chain)) c n = is_want_of_memory chain ≡ false → n ≡ Over (Failed chain c.world)
 
 -- how the scopes lie behind an instruction
 abbrev pub Deepens : ℕ → Result Flow Halt → World → World → Type 0

@@ -2,10 +2,11 @@
 use Rattle.std.specs.Prelude.{◌≡◌, ◌⊎◌, ℕ, List, [], ◌∷◌, length, Option, Result, Ok, Err, true}
 use Rattle.std.specs.Io.KnownBytes.{Appends}
 use Rattle.tm_meaning.specs.World.{World}
-use Rattle.tm_values.specs.Chain.{ends_in_memory}
+use Rattle.tm_meaning.specs.Memory.{is_want_of_memory}
 use Rattle.tm_values.specs.declared.error.ErrorKind.{ErrorKind}
 use Rattle.tm_values.specs.declared.error.ErrorKind.TheVariants.{OutOfMemory}
 use Rattle.tm_meaning.specs.Calls.{whole, wrapped}
+use Rattle.tm_meaning.specs.declared.wrapping.Wrapping.{Wrapping}
 use Rattle.tm_meaning.specs.Machine.{Activation, Capture, Config, End, Finished, Failed, Stuck, Next, More, Over, Program, back_with, stuck, base_of, start}
 use Rattle.tm_meaning.specs.Steps.{Final, Reaches, final}
 use Rattle.tm_meaning.specs.declared.base.Base.{Base}
@@ -49,7 +50,7 @@ Ran p e old new told now (Ok _) = Went p e old new told now
 Ran p e old new told now (Err why) = HaltsAs why new.world (EndsIn p e old told now)
 
 -- A kind is put before a fault, and touches neither the writer's failure nor what is stuck; no memory may be found for it.
-abbrev pub IsWrapped : Option ErrorKind → Halt → Halt → Type 0
+abbrev pub IsWrapped : Option Wrapping → Halt → Halt → Type 0
 IsWrapped wrap halt.Writer now = now ≡ halt.Writer
 IsWrapped wrap halt.Stuck now = now ≡ halt.Stuck
 IsWrapped wrap (halt.Fault chain) now = (now ≡ halt.Fault (wrapped wrap chain)) ⊎ (now ≡ halt.Fault (OutOfMemory ∷ []))
@@ -59,7 +60,7 @@ abbrev pub IsCaptured : Result (Unit {0}) Halt → Config → Config → Type 0
 IsCaptured (Ok _) old new = back_with true old.run old.captures old.world ≡ More [] new
 IsCaptured (Err halt.Writer) old new = ⊥
 IsCaptured (Err halt.Stuck) old new = old.captures ≡ []
-IsCaptured (Err (halt.Fault chain)) old new = ends_in_memory chain ≡ true
+IsCaptured (Err (halt.Fault chain)) old new = is_want_of_memory chain ≡ true
 
 -- What the writer has got is a beginning of all that the run writes.
 abbrev pub Begins : Program → Base → Config → Option (List ℕ) → Option (List ℕ) → Type 0

@@ -1,6 +1,6 @@
 //! The instructions of captures and escapes.
 ghost use Rattle.std.specs.Prelude.{◌≡◌, IfOk, IfErr, true};
-ghost use Rattle.tm_values.specs.Chain.{ends_in_memory};
+ghost use Rattle.tm_meaning.specs.Memory.{is_want_of_memory};
 ghost use Rattle.tm_meaning.specs.World.{captured_text};
 ghost use Rattle.tm_meaning.specs.Instructions.{begin_capture_of, end_capture_of, push_auto_escape_of, pop_auto_escape_of};
 ghost use Rattle.tm_vm.specs.Answers.{CanGoOn, Silently};
@@ -17,7 +17,7 @@ impl Machine<'_> {
     /// A captured text as a value, safe where the state escapes. Fails by OutOfMemory alone.
     pub(crate) fn captured(&self, alloc: Global, text: &str) -> Result<Value, Error>
         ensures ok { IfOk result (λ value. value ≡ captured_text text.now self.now.world) }
-        ensures kind { IfErr result (λ e. ends_in_memory e ≡ true) }
+        ensures kind { IfErr result (λ e. is_want_of_memory e ≡ true) }
     {
         match self.state.escape() {
             AutoEscape::None => Value::text(alloc, text),

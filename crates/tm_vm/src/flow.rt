@@ -1,7 +1,6 @@
 //! Where a run goes on behind a step.
-use tm_meaning::StreamId;
+use tm_meaning::{StreamId, Wrapping};
 use tm_state::Saved;
-use tm_values::ErrorKind;
 
 /// A run that an instruction needs before the next.
 #[derive(Drop)]
@@ -13,7 +12,7 @@ pub struct Entry {
     /// Whether its text is a value, which waits in the innermost capture, and not put where the run that waits is heard.
     pub value: bool,
     /// The kind that is put before its fault, if one is.
-    pub wrap: Option<ErrorKind>,
+    pub wrap: Option<Wrapping>,
     /// What is put back behind it.
     pub saved: Saved,
 }

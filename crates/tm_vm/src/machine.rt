@@ -14,24 +14,24 @@ use crate::run::Run;
 use std::alloc::Global;
 use std::marker::Model;
 use std::mem;
-use tm_meaning::{Base, StreamId};
+use tm_meaning::{Base, StreamId, Wrapping};
 use tm_parts::{Captures, Halt, Sink};
 use tm_state::{Saved, StateData};
 use tm_syntax::Code;
 use tm_tables::Host;
-use tm_values::{Error, ErrorKind};
+use tm_values::Error;
 
 /// A halt of a nested run, as it is told: a fault is wrapped in the kind, where there is one.
 #[cold]
 #[inline(never)]
-fn wrapped(alloc: Global, wrap: Option<ErrorKind>, halt: Halt) -> Halt
+fn wrapped(alloc: Global, wrap: Option<Wrapping>, halt: Halt) -> Halt
     ensures { IsWrapped wrap halt result }
 {
-    let Some(kind) = wrap else {
+    let Some(wrap) = wrap else {
         return halt;
     };
     match halt {
-        Halt::Fault(cause) => match Error::from(kind).with_source(alloc, cause) {
+        Halt::Fault(cause) => match Error::from(wrap.kind()).with_source(alloc, cause) {
             Ok(error) => Halt::Fault(error),
             Err(error) => Halt::Fault(error),
         },
