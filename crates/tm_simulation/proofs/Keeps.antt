@@ -33,7 +33,8 @@ use Rattle.tm_meaning.specs.Calls.{Callee, whole, Call, Undo, of_block, undone, 
 use Rattle.tm_meaning.specs.declared.function.GlobalFunction.{GlobalFunction}
 use Rattle.tm_meaning.specs.declared.function.GlobalFunction.TheVariants as own
 use Rattle.tm_meaning.specs.declared.mark.LoopMark.{LoopMark}
-use Rattle.tm_meaning.specs.Meaning.{Again, over, under, again_in, again_of, turn_of, text_behind, Run, Outcome, Ending, done, leave, next, fault, Nests, Under, use_it, then_do, on_done, so_far, ended, say, audible, none_waits, value_of, value_behind, in_place_of, behind, block_tag, truth, applied_unary, operated, applied, attribute, eval, eval_all, eval_pair, eval_pairs, eval_argument, eval_arguments, eval_keyword, eval_keywords, eval_named, one_counted, kept, loop_items, eval_condition, eval_conditions, eval_step, eval_links, eval_steps, assign, assign_all, set_to, set_each, closing_by, closing, capturing, captured_by, captured, round_end, rounds, loop_over, has_none, exec_behind_loop, done_by, emit, behind_first, exec, execs, exec_else, at_end, new_run, nests_of}
+use Rattle.tm_meaning.specs.Meaning.{Again, over, under, again_in, again_of, turn_of, text_behind, Run, Outcome, Ending, done, leave, next, fault, Nests, Under, use_it, then_do, on_done, so_far, ended, say, audible, none_waits, value_of, value_behind, in_place_of, behind, block_tag, truth, applied_unary, operated, applied, attribute, eval, eval_all, eval_pair, eval_pairs, eval_argument, eval_arguments, eval_keyword, eval_keywords, eval_named, one_counted, kept, loop_items, eval_condition, eval_conditions, eval_step, eval_links, eval_steps, assign, assign_all, set_to, set_each, closing_by, closing, capturing, captured_by, captured, round_end, rounds, loop_over, has_none, exec_behind_loop, done_by, emit, behind_first, exec, execs, exec_else, at_end, new_run, nests_of, rendered}
+use Rattle.tm_simulation.specs.Kept.{Keeps, KeptBy}
 use Rattle.tm_meaning.specs.Tree.{Trees}
 use Rattle.tm_meaning.specs.declared.stream.TemplateId.{TemplateId}
 
@@ -78,15 +79,17 @@ front_record (x ∷ a) b zero l e = e
 front_record (x ∷ a) b (suc n) l e = front_record a b n l e
 
 pub record Kept (old new : World) : Type 0 where
+  pub same_id : new.id ≡ old.id
+  pub same_fuel_set : new.fuel_set ≡ old.fuel_set
   pub same_marks : marks new.scopes.frames ≡ marks old.scopes.frames
   pub outer : new.scopes.outer ≡ old.scopes.outer
   pub loops : GoesOn old.loops new.loops
 
 pub kept_same : (w : World) → Kept w w
-kept_same w = record { same_marks = refl; outer = refl; loops = goes_on_same w.loops }
+kept_same w = record { same_id = refl; same_fuel_set = refl; same_marks = refl; outer = refl; loops = goes_on_same w.loops }
 
 pub kept_then : {a b c : World} → Kept a b → Kept b c → Kept a c
-kept_then {a = a} {b = b} {c = c} h k = record { same_marks = k.same_marks ∙ h.same_marks; outer = k.outer ∙ h.outer; loops = goes_on_then a.loops b.loops c.loops h.loops k.loops }
+kept_then {a = a} {b = b} {c = c} h k = record { same_id = k.same_id ∙ h.same_id; same_fuel_set = k.same_fuel_set ∙ h.same_fuel_set; same_marks = k.same_marks ∙ h.same_marks; outer = k.outer ∙ h.outer; loops = goes_on_then a.loops b.loops c.loops h.loops k.loops }
 
 -- as many scopes
 pub kept_frames : {a b : World} → Kept a b → length b.scopes.frames ≡ length a.scopes.frames
@@ -128,7 +131,7 @@ gives_kept w world1 (Good a world2) g h k = k a world2 h
 gives_kept w world1 (Bad chain world2) g h k = tt
 
 fuel_gives : (left : Option ℕ) (w : World) → Gives w (with_fuel left w)
-fuel_gives (Some left) w = record { same_marks = refl; outer = refl; loops = goes_on_same w.loops }
+fuel_gives (Some left) w = record { same_id = refl; same_fuel_set = refl; same_marks = refl; outer = refl; loops = goes_on_same w.loops }
 fuel_gives None w = tt
 
 pub tick_gives : (w : World) → Gives w (tick w)
@@ -144,7 +147,7 @@ stored_marks x v [] = refl
 stored_marks x v (s ∷ ss) = refl
 
 pub store_kept : (x : List ℕ) (v : Val) (w : World) → Kept w (store x v w)
-store_kept x v w = record { same_marks = stored_marks x v w.scopes.frames; outer = refl; loops = goes_on_same w.loops }
+store_kept x v w = record { same_id = refl; same_fuel_set = refl; same_marks = stored_marks x v w.scopes.frames; outer = refl; loops = goes_on_same w.loops }
 
 without_first_marks : (m : Option LoopMark) (ms : List (Option LoopMark)) (frames : List Scope) → marks frames ≡ m ∷ ms → marks (without_first frames) ≡ ms
 without_first_marks m ms [] e = absurd (cc e)
@@ -160,7 +163,7 @@ one_more room s w = choose room (λ _. Good tt (within s w)) (λ _. Bad (Invalid
 
 -- without it, behind what keeps it
 pub kept_popped : (s : Scope) (w world1 : World) → Kept (within s w) world1 → Kept w (pop world1)
-kept_popped s w world1 k = record { same_marks = without_first_marks s.mark (marks w.scopes.frames) world1.scopes.frames k.same_marks; outer = k.outer; loops = k.loops }
+kept_popped s w world1 k = record { same_id = k.same_id; same_fuel_set = k.same_fuel_set; same_marks = without_first_marks s.mark (marks w.scopes.frames) world1.scopes.frames k.same_marks; outer = k.outer; loops = k.loops }
 
 -- ---------------------------------------------------------------- outcomes
 ends_by_then : (w world1 : World) (e : Ending) (world2 : World) → Kept w world1 → EndsBy world1 e world2 → EndsBy w e world2
@@ -231,7 +234,7 @@ unfolding Ends
 closing_ends w v close k o h = closing_by_ends w v close k o.ending o.parent o.text o.world h
 
 pub kept_escaped : (e : AutoEscape) {w world1 : World} → Kept w world1 → Kept w (with_escape e world1)
-kept_escaped e k = record { same_marks = k.same_marks; outer = k.outer; loops = k.loops }
+kept_escaped e k = record { same_id = k.same_id; same_fuel_set = k.same_fuel_set; same_marks = k.same_marks; outer = k.outer; loops = k.loops }
 
 -- ---------------------------------------------------------------- loops
 without_locals_marks : (frames : List Scope) → marks (without_locals frames) ≡ marks frames
@@ -239,7 +242,7 @@ without_locals_marks [] = refl
 without_locals_marks (s ∷ ss) = refl
 
 pub kept_cleared : {w world1 : World} → Kept w world1 → Kept w (cleared world1)
-kept_cleared {world1 = world1} k = record { same_marks = without_locals_marks world1.scopes.frames ∙ k.same_marks; outer = k.outer; loops = k.loops }
+kept_cleared {world1 = world1} k = record { same_id = k.same_id; same_fuel_set = k.same_fuel_set; same_marks = without_locals_marks world1.scopes.frames ∙ k.same_marks; outer = k.outer; loops = k.loops }
 
 -- the record that is asked for its next item
 pub turned_behind : (a b : List Loop) → turned_at (length a) (a ++ b) ≡ a ++ turned_at 0 b
@@ -274,14 +277,14 @@ kept_turned g w world1 k =
     let loops : shapes (turned_at (length w.loops) world1.loops) ≡ shapes w.loops ++ turned_at 0 k.loops.0 =
     turned_shapes (length w.loops) world1.loops ∙ ap (turned_at (length w.loops)) k.loops.1 ∙ ap (λ n. turned_at n (shapes w.loops ++ k.loops.0)) (sym (shapes_long w.loops))
     ∙ turned_behind (shapes w.loops) k.loops.0 in
-    subst (λ x. Kept (in_loop_of g w) x) (sym is) (record { same_marks = k.same_marks; outer = k.outer; loops = (turned_at 0 k.loops.0, loops) })
+    subst (λ x. Kept (in_loop_of g w) x) (sym is) (record { same_id = k.same_id; same_fuel_set = k.same_fuel_set; same_marks = k.same_marks; outer = k.outer; loops = (turned_at 0 k.loops.0, loops) })
 
 -- a world with a loop of these items more
 abbrev pub opened : LoopFlags → ℕ → World → List Val → World
 opened g n w vs = record (in_loop_of g w) { loops = w.loops ++ new_loop vs g n w ∷ [] }
 
 pub opened_kept : (g : LoopFlags) (n : ℕ) (w : World) (vs : List Val) → Kept (in_loop_of g w) (opened g n w vs)
-opened_kept g n w vs = record { same_marks = refl; outer = refl; loops = (new_loop vs g n w ∷ [], shapes_behind w.loops (new_loop vs g n w ∷ [])) }
+opened_kept g n w vs = record { same_id = refl; same_fuel_set = refl; same_marks = refl; outer = refl; loops = (new_loop vs g n w ∷ [], shapes_behind w.loops (new_loop vs g n w ∷ [])) }
 
 -- a round's end
 round_end_ends : (w x : World) (run : Run) (f : Run → List ℕ → World → Outcome) → ((run1 : Run) (out1 : List ℕ) (world1 : World) → Kept (in_loop_of (for_flags false) w) world1 → Ends w (f run1 out1 world1)) →
@@ -373,13 +376,16 @@ ask_push limit w s true g k = k refl
 ask_push limit w s false g k = tt
 
 -- a scope more, and what stands in it, is one level deeper
-entered_asks : (limit : ℕ) (c : Call) (s : Scope) (w world1 : World) → c.undo ≡ of_block w → world1.scopes ≡ record w.scopes { frames = s ∷ w.scopes.frames } → world1.loops ≡ w.loops → nat_lt (depth w.scopes) limit ≡ true → Asks limit w (runs c world1)
-entered_asks limit c s w world1 e d same room =
+entered_asks : (limit : ℕ) (c : Call) (s : Scope) (w world1 : World) → c.undo ≡ of_block w → world1.scopes ≡ record w.scopes { frames = s ∷ w.scopes.frames } → world1.loops ≡ w.loops → world1.id ≡ w.id → world1.fuel_set ≡ w.fuel_set →
+    nat_lt (depth w.scopes) limit ≡ true → Asks limit w (runs c world1)
+entered_asks limit c s w world1 e d same id fuel_set room =
     let deep : depth world1.scopes ≡ depth w.scopes + 1 = ap depth d ∙ omega arith in
     let frames : marks world1.scopes.frames ≡ s.mark ∷ marks w.scopes.frames = ap (λ (x : Scopes). marks x.frames) d in (
       deep,
       omega (arith, deep, ltb-true (depth w.scopes) limit room),
       λ world2 k. subst (λ n. Kept w (undone n world2)) (sym e) (record {
+        same_id = k.same_id ∙ id;
+        same_fuel_set = k.same_fuel_set ∙ fuel_set;
         same_marks = without_first_marks s.mark (marks w.scopes.frames) world2.scopes.frames (k.same_marks ∙ frames);
         outer = refl;
         loops = subst (λ ls. GoesOn ls world2.loops) same k.loops;
@@ -393,7 +399,7 @@ block_asks host b w =
     ask_check host.limit w (not (required_alone host (block_of t b) l)) InvalidOperation _ (
     ask_push host.limit w (plain_scope (undefined false)) (nat_lt (depth w.scopes) host.limit) _ (λ room.
     entered_asks host.limit (record { callee = whole (block_of t b); undo = of_block w; wrap = None }) (plain_scope (undefined false)) w
-    (record (with_frames (plain_scope (undefined false) ∷ w.scopes.frames) w) { stream = block_of t b; block = Some b }) refl refl refl room))))
+    (record (with_frames (plain_scope (undefined false) ∷ w.scopes.frames) w) { stream = block_of t b; block = Some b }) refl refl refl refl refl room))))
 
 replied_asks : (limit : ℕ) (reply : Reply) (w : World) → Asks limit w (replied reply w)
 replied_asks limit (gives v) w = kept_same w
@@ -404,10 +410,10 @@ given_gives own.Range args w = answered_gives _ w
 given_gives own.Dict args w = gives_bind w (answered (dict_of (records_of w) args) w) _ (answered_gives _ w) (λ ps world1. kept_same world1)
 given_gives own.Namespace args w =
     gives_bind w (answered (namespace_of (records_of w) args) w) _ (answered_gives _ w) (λ ps world1.
-    let kept : Kept world1 (record world1 { namespaces = world1.namespaces ++ ps ∷ [] }) = record { same_marks = refl; outer = refl; loops = goes_on_same world1.loops } in kept)
+    let kept : Kept world1 (record world1 { namespaces = world1.namespaces ++ ps ∷ [] }) = record { same_id = refl; same_fuel_set = refl; same_marks = refl; outer = refl; loops = goes_on_same world1.loops } in kept)
 
 by_asks : (host : Host) (f : Function) (args : List Val) (w : World) → Asks host.limit w (call_by host f args w)
-by_asks host (callers f) args w = asks_then host.limit w _ _ (record { same_marks = refl; outer = refl; loops = goes_on_same w.loops }) (replied_asks host.limit _ _)
+by_asks host (callers f) args w = asks_then host.limit w _ _ (record { same_id = refl; same_fuel_set = refl; same_marks = refl; outer = refl; loops = goes_on_same w.loops }) (replied_asks host.limit _ _)
 by_asks host (languages g) args w = ask_then host.limit w (given_by g args w) has (given_gives g args w) (λ v world1. kept_same world1)
 
 value_asks : (host : Host) (v : Val) (args : List Val) (w : World) → Asks host.limit w (call_value host v args w)
@@ -444,7 +450,7 @@ keeping_shapes zero args (l ∷ ls) = ap (λ m. m ∷ shapes ls) (keeping_shape 
 keeping_shapes (suc n) args (l ∷ ls) = ap (λ m. shape l ∷ m) (keeping_shapes n args ls)
 
 keeping_kept : (n : ℕ) (args : List Val) (w : World) → Kept w (record w { loops = keeping_at n args w.loops })
-keeping_kept n args w = record { same_marks = refl; outer = refl; loops = ([], keeping_shapes n args w.loops ∙ sym (append-nil (shapes w.loops))) }
+keeping_kept n args w = record { same_id = refl; same_fuel_set = refl; same_marks = refl; outer = refl; loops = ([], keeping_shapes n args w.loops ∙ sym (append-nil (shapes w.loops))) }
 
 loop_asks : (limit : ℕ) (x : List ℕ) (state n : ℕ) (args : List Val) (w : World) → Asks limit w (loop_method x state n args w)
 loop_asks limit x state n args w =
@@ -698,7 +704,7 @@ module _ (u : Under) (nest_ends : (k : Callee) (heard : Bool) (out : List ℕ) (
   pub member_gives : (x : List ℕ) (v o : Val) (w : World) → Gives w (set_member x v o w)
   member_gives x v o w =
       gives_bind w (answered (settable (records_of w) o) w) _ (answered_gives _ w) (λ n world1.
-      let kept : Kept world1 (record world1 { namespaces = with_member n x v world1.namespaces }) = record { same_marks = refl; outer = refl; loops = goes_on_same world1.loops } in kept)
+      let kept : Kept world1 (record world1 { namespaces = with_member n x v world1.namespaces }) = record { same_id = refl; same_fuel_set = refl; same_marks = refl; outer = refl; loops = goes_on_same world1.loops } in kept)
 
   mutual
     pub assign_gives : (run : Run) (t : Target) (v : Val) (w : World) → Gives w (assign u run t v w)
@@ -867,3 +873,15 @@ nests_end host trees (suc n) (whole s) heard out w =
     let o = execs u 0 (trees s).row (new_run heard w) out w in
     at_end_ends w o.ending o.parent o.text o.world
     (ends_as w o (execs_end u (nests_end host trees n) (again_end host nests (nests_end host trees n) (trees s) (host.limit + 1)) 0 (trees s).row (new_run heard w) out w))
+
+-- What a render keeps, where it isn't a fault.
+kept_by : (e : Ending) (w world1 : World) → EndsBy w e world1 → KeptBy e w world1
+kept_by done w world1 k = (k.same_id, k.same_fuel_set, kept_depth k)
+kept_by leave w world1 k = (k.same_id, k.same_fuel_set, kept_depth k)
+kept_by next w world1 k = (k.same_id, k.same_fuel_set, kept_depth k)
+kept_by (fault chain) w world1 k = tt
+
+pub render_keeps : (host : Host) (trees : Trees) (w : World) → Keeps w (rendered host trees w)
+render_keeps host trees w =
+    let o = rendered host trees w in
+    kept_by o.ending w o.world (ends_as w o (nests_end host trees (host.limit + 1) (whole w.stream) true [] w))

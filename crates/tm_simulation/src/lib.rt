@@ -2,12 +2,13 @@
 #![tactic(auto)]
 
 ghost use Rattle.std.specs.Prelude.{ℕ, List};
-ghost use Rattle.tm_meaning.specs.World.{World};
+ghost use Rattle.tm_meaning.specs.World.{Host, World};
 ghost use Rattle.tm_meaning.specs.Tree.{Trees};
 ghost use Rattle.tm_meaning.specs.Meaning.{rendered};
 ghost use Rattle.tm_meaning.specs.Machine.{Program, Stuck};
 ghost use Rattle.tm_meaning.specs.Steps.{final};
 ghost use Rattle.tm_meaning.specs.Compiled.{IsCompiled};
+ghost use Rattle.tm_simulation.specs.Kept.{Keeps};
 ghost use Rattle.tm_simulation.specs.Reached.{final_of, Renders};
 
 /// The code of trees, from any world, comes to what the trees mean: its text, its world, and its end.
@@ -20,4 +21,9 @@ pub fn code_comes_to_its_meaning()
 pub fn code_is_never_stuck()
     ensures { (trees : Trees) (p : Program) (w left : World) (got : List ℕ) → IsCompiled trees p →
         Renders p w (final got (Stuck left)) → ⊥ }
+{}
+
+/// A render that is no fault leaves the state's number, the fuel that was set, and scopes as deep.
+pub fn a_render_keeps_its_state()
+    ensures { (host : Host) (trees : Trees) (w : World) → Keeps w (rendered host trees w) }
 {}
