@@ -5,4 +5,4 @@ use Rattle.template_machine.specs.declared.template.Held.TheVariants.{Lent, Owne
 
 abbrev pub held_template : Held → Compiled
 held_template (Lent t) = t.now
-held_template (Owned t) = t
+held_template (Owned t) = t.value

@@ -140,7 +140,7 @@ impl<'source, O: Drop> EnvironmentOf<'source, O> {
     {
         let source = Source::Lent(source);
         match CompiledTemplate::new(self.alloc, name, source, &self.config) {
-            Ok(compiled) => Ok(TemplateOf::new(self, Held::Owned(compiled))),
+            Ok(compiled) => Ok(TemplateOf::new(self, Held::Owned(Box::new(self.alloc, compiled)?))),
             Err(error) => Err(error),
         }
     }

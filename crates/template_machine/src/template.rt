@@ -22,8 +22,8 @@ use tm_vm::Machine;
 pub(crate) enum Held<'env, 'source> {
     /// The environment's.
     Lent(&'env CompiledTemplate<'source>),
-    /// Its own.
-    Owned(CompiledTemplate<'source>),
+    /// Its own, boxed: whoever owns a template would else have all of its layout in its proof.
+    Owned(Box<CompiledTemplate<'source>>),
 }
 
 /// A template of an environment.
@@ -85,7 +85,7 @@ impl<'env, 'source, O: Drop> TemplateOf<'env, 'source, O> {
     {
         match &self.held {
             Held::Lent(compiled) => compiled,
-            Held::Owned(compiled) => compiled,
+            Held::Owned(compiled) => &**compiled,
         }
     }
 
