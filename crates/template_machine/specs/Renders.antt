@@ -58,7 +58,7 @@ abbrev pub answer_of : Outcome → Answer World
 answer_of m = answer_by m.ending m.world
 
 -- ---------------------------------------------------------------- answers
--- The answer is an error that ends in want of memory.
+-- The answer is want of memory.
 abbrev pub IsMemory : {A : Type 0} → Result A (List ErrorKind) → Type 0
 IsMemory (Ok x) = ⊥
 IsMemory (Err chain) = is_want_of_memory chain ≡ true

@@ -47,7 +47,7 @@ Becomes (Ok (outcome.Value v)) asked w = asked ≡ has v w
 Becomes (Ok (outcome.Recursion r)) asked w = asked ≡ recurs r.number r.items.value.items w
 Becomes (Err chain) asked w = is_want_of_memory chain ≡ false → asked ≡ refused chain w
 
--- InvalidOperation for this cause, unless it is for memory
+-- InvalidOperation for this cause, unless it is want of memory
 abbrev pub IsBecause : List ErrorKind → List ErrorKind → Type 0
 IsBecause cause chain = is_want_of_memory chain ≡ false → chain ≡ InvalidOperation ∷ cause
 

@@ -15,12 +15,12 @@ abbrev pub reply_of : Replied → Reply
 reply_of (variant.Value v) = gives v
 reply_of (variant.Fault chain) = faults chain
 
--- The reply is a fault that ends in want of memory.
+-- The reply is want of memory.
 abbrev pub is_for_memory : Reply → Bool
 is_for_memory (gives v) = false
 is_for_memory (faults chain) = is_want_of_memory chain
 
--- The answer is the stated one, unless it is a fault that ends in want of memory.
+-- The answer is the stated one, unless it is want of memory.
 abbrev pub IsStated : Stated → Stated → Type 0
 IsStated answer stated = is_for_memory answer.reply ≡ false → answer ≡ stated
 
