@@ -3,6 +3,7 @@
 set -euo pipefail
 cd "$(dirname "${BASH_SOURCE[0]}")"
 
+passed=0
 failed=0
 for input in hello.txt mail.txt server.conf page.html notice.txt table.html menu.html; do
     base=${input%.*}
@@ -16,10 +17,11 @@ for input in hello.txt mail.txt server.conf page.html notice.txt table.html menu
         done <"$base.names"
     fi
     if ../mj "${words[@]}" "$input" | cmp - "$base.expected"; then
-        echo "$input: as expected"
+        passed=$((passed + 1))
     else
         echo "$input: failed" >&2
-        failed=1
+        failed=$((failed + 1))
     fi
 done
-exit "$failed"
+echo "$passed passed, $failed failed"
+((failed == 0))

@@ -9,144 +9,6 @@ use tm_parts::Counted;
 
 const USAGE_LINE: &str = "usage: mj [-D name=text].. [--json FILE] [--fuel N] [--limit N] FILE..\n";
 
-// The texts of examples/, which a test can't open: examples/check.sh compares the files.
-const MAIL: &str = "From: {{ sender }}
-To: {{ recipient }}
-Subject: Your order {{ order }}
-
-Dear {{ recipient_name }},
-
-thank you for your order {{ order }} of {{ date }}.
-It was handed to {{ carrier }} today, and its number there is {{ parcel }}.
-
-With kind regards
-{{ sender_name }}
-";
-
-const MAIL_NAMES: &str = "sender=shop@example.org
-recipient=ada@example.org
-recipient_name=Ada
-order=2024-117
-date=3 May
-carrier=Parcel & Sons
-parcel=JD0146=9
-sender_name=The shop
-";
-
-const MAIL_EXPECTED: &str = "From: shop@example.org
-To: ada@example.org
-Subject: Your order 2024-117
-
-Dear Ada,
-
-thank you for your order 2024-117 of 3 May.
-It was handed to Parcel & Sons today, and its number there is JD0146=9.
-
-With kind regards
-The shop";
-
-const SERVER: &str = "# {{ name }}: made from a template, so change that
-listen      {{ address }}:{{ port }};
-server_name {{ name }};
-root        {{ root }};
-
-location /api/ {
-    proxy_pass {{ upstream }};
-}
-
-# braces alone are text: { { } } and a lone }}
-log_format short '{\"host\": \"{{name}}\", \"at\": \"$time\"}';
-access_log  {{root}}/{{name}}.log short;
-";
-
-const SERVER_NAMES: &str = "name=docs.example.org
-address=127.0.0.1
-port=8080
-root=/srv/docs
-upstream=http://10.0.0.5:9000/?a=1
-";
-
-const SERVER_EXPECTED: &str = "# docs.example.org: made from a template, so change that
-listen      127.0.0.1:8080;
-server_name docs.example.org;
-root        /srv/docs;
-
-location /api/ {
-    proxy_pass http://10.0.0.5:9000/?a=1;
-}
-
-# braces alone are text: { { } } and a lone }}
-log_format short '{\"host\": \"docs.example.org\", \"at\": \"$time\"}';
-access_log  /srv/docs/docs.example.org.log short;";
-
-const PAGE: &str = "<!DOCTYPE html>
-<html lang=\"{{ language }}\">
-  <head>
-    <meta charset=\"utf-8\">
-    <title>{{ title }}</title>
-    <style>body { margin: 2em }</style>
-  </head>
-  <body>
-    <h1>{{ title }}</h1>
-    <p>{{ greeting }}</p>
-    <p class=\"{{ missing }}\">{{ missing }}</p>
-    <footer>© {{ year }} {{ owner }}</footer>
-  </body>
-</html>
-";
-
-const PAGE_NAMES: &str = "language=de
-title=Grüße aus Zürich
-greeting=Schön, dass Sie da sind.
-year=2024
-owner=Müller & Töchter
-";
-
-const PAGE_EXPECTED: &str = "<!DOCTYPE html>
-<html lang=\"de\">
-  <head>
-    <meta charset=\"utf-8\">
-    <title>Grüße aus Zürich</title>
-    <style>body { margin: 2em }</style>
-  </head>
-  <body>
-    <h1>Grüße aus Zürich</h1>
-    <p>Schön, dass Sie da sind.</p>
-    <p class=\"\"></p>
-    <footer>© 2024 Müller &amp; Töchter</footer>
-  </body>
-</html>";
-
-const NOTICE: &str = "{# A notice of a parcel. Where no recipient is named,
-   it goes to the customer. #}Parcel {{ parcel }}{% if service == 'express' %}, express{% endif %}
-
-Dear {{ recipient or 'customer' }},
-
-{% if neighbour %}it was left with {{ neighbour }}.{% elif shop and not held
-%}it waits for you at {{ shop }}.{% else %}we could not deliver it.{% endif %}
-{% block foot %}
-With kind regards
-{{ carrier }}
-{% endblock foot %}
-";
-
-const NOTICE_NAMES: &str = "parcel=JD0146
-service=express
-neighbour=
-shop=Corner & Co
-carrier=Parcel & Sons
-";
-
-const NOTICE_EXPECTED: &str = "Parcel JD0146, express
-
-Dear customer,
-
-it waits for you at Corner & Co.
-
-With kind regards
-Parcel & Sons
-";
-
 /// A few files and a standard input, and how often one of them was read.
 #[derive(Drop)]
 struct Shelf {
@@ -160,105 +22,6 @@ impl Shelf {
     }
 }
 
-const TABLE: &str = "<!DOCTYPE html>
-<html lang=\"en\">
-  <head>
-    <meta charset=\"utf-8\">
-    <title>{{ title }}</title>
-  </head>
-  <body>
-    <h1>{{ title }}</h1>
-    <table>
-      {%- for a in range(1, 5) %}
-      <tr>{% for b in range(1, 5) %}<td>{{ a * b }}</td>{% endfor %}</tr>
-      {%- endfor %}
-    </table>
-    <p>These divide 12: {% for n in range(2, 12) if 12 % n == 0 %}{{ n }}{% if not loop.last %}, {% endif %}{% endfor %}.</p>
-  </body>
-</html>
-";
-
-const TABLE_NAMES: &str = "title=Products & divisors
-";
-
-const TABLE_EXPECTED: &str = "<!DOCTYPE html>
-<html lang=\"en\">
-  <head>
-    <meta charset=\"utf-8\">
-    <title>Products &amp; divisors</title>
-  </head>
-  <body>
-    <h1>Products &amp; divisors</h1>
-    <table>
-      <tr><td>1</td><td>2</td><td>3</td><td>4</td></tr>
-      <tr><td>2</td><td>4</td><td>6</td><td>8</td></tr>
-      <tr><td>3</td><td>6</td><td>9</td><td>12</td></tr>
-      <tr><td>4</td><td>8</td><td>12</td><td>16</td></tr>
-    </table>
-    <p>These divide 12: 2, 3, 4, 6.</p>
-  </body>
-</html>";
-
-const MENU: &str = "<nav>
-  <h2>{{ title }}</h2>
-  <ul>
-    {%- for node in nodes recursive %}
-    <li class=\"level{{ loop.depth }}\">
-      {%- if node.file == none %}{{ node.name }}, soon{% else %}<a href=\"{{ node.file }}\">{{ node.name }}</a>{% endif %}
-      {%- if node.nodes %}
-    <ul>{{ loop(node.nodes) }}
-    </ul>
-      {%- endif %}</li>
-    {%- endfor %}
-  </ul>
-</nav>
-";
-
-const MENU_JSON: &str = "{
-  \"title\": \"Contents\",
-  \"nodes\": [
-    {\"name\": \"Start\", \"file\": \"start.html\", \"nodes\": []},
-    {\"name\": \"Guide\", \"file\": \"guide.html\", \"nodes\": [
-      {\"name\": \"Install & run\", \"file\": \"guide.html?a=1&b=2\", \"nodes\": [
-        {\"name\": \"From source\", \"file\": \"source.html\", \"nodes\": [
-          {\"name\": \"Tests\", \"file\": \"tests.html\", \"nodes\": []}
-        ]},
-        {\"name\": \"On a server\", \"file\": null, \"nodes\": []}
-      ]},
-      {\"name\": \"Prices < 10 €\", \"file\": \"prices.html\", \"nodes\": []},
-      {\"name\": \"Reports\", \"file\": null, \"nodes\": []}
-    ]},
-    {\"name\": \"Reference\", \"file\": \"reference.html\", \"nodes\": [
-      {\"name\": \"Words\", \"file\": \"words.html\", \"nodes\": []}
-    ]}
-  ]
-}
-";
-
-const MENU_EXPECTED: &str = "<nav>
-  <h2>Contents</h2>
-  <ul>
-    <li class=\"level1\"><a href=\"start.html\">Start</a></li>
-    <li class=\"level1\"><a href=\"guide.html\">Guide</a>
-    <ul>
-    <li class=\"level2\"><a href=\"guide.html?a=1&amp;b=2\">Install &amp; run</a>
-    <ul>
-    <li class=\"level3\"><a href=\"source.html\">From source</a>
-    <ul>
-    <li class=\"level4\"><a href=\"tests.html\">Tests</a></li>
-    </ul></li>
-    <li class=\"level3\">On a server, soon</li>
-    </ul></li>
-    <li class=\"level2\"><a href=\"prices.html\">Prices &lt; 10 €</a></li>
-    <li class=\"level2\">Reports, soon</li>
-    </ul></li>
-    <li class=\"level1\"><a href=\"reference.html\">Reference</a>
-    <ul>
-    <li class=\"level2\"><a href=\"words.html\">Words</a></li>
-    </ul></li>
-  </ul>
-</nav>";
-
 const ITEMS: &str =
     "{% for item in who %}[{% for inner in item.list %}{{ inner }},{% endfor %}]{% endfor %}";
 
@@ -271,19 +34,12 @@ const ITEMS_JSON: &str = "{
 }";
 
 /// The files that hold text.
-static FILES: [(&str, &str); 24] = [
+static FILES: [(&str, &str); 17] = [
     ("hello.txt", "Hello {{ name }}!\n"),
     ("tag.txt", "a{% x %}"),
     ("call.txt", "a{{ nope() }}b"),
     ("block.txt", "a{% block x %}b{% endblock %}"),
     ("-x", "never read"),
-    ("mail.txt", MAIL),
-    ("server.conf", SERVER),
-    ("page.html", PAGE),
-    ("notice.txt", NOTICE),
-    ("table.html", TABLE),
-    ("menu.html", MENU),
-    ("menu.json", MENU_JSON),
     ("main.txt", "Hi {{ who }}!"),
     ("c.json", "{\"who\":\"A\"}"),
     ("-", "{\"who\":\"C\"}"),
@@ -698,52 +454,6 @@ fn faults_of_the_writer(rt: HostRuntime) -> Result<(), Fail> {
             flushes: 1,
         };
         expect(&rt, page, words, &wanted)?;
-    }
-    Ok(())
-}
-
-/// The words that give an example its JSON and its names, and the example itself.
-fn words_of<'a>(
-    alloc: Global,
-    json: Option<&'a str>,
-    names: &'a str,
-    path: &'a str,
-) -> Result<Vec<&'a str>, Fail> {
-    let mut words = Vec::new(alloc);
-    if let Some(json) = json {
-        words.push("--json")?;
-        words.push(json)?;
-    }
-    for line in names.lines() {
-        words.push("-D")?;
-        words.push(line)?;
-    }
-    words.push(path)?;
-    Ok(words)
-}
-
-static EXAMPLES: [(&str, Option<&str>, &str, &str); 6] = [
-    ("mail.txt", None, MAIL_NAMES, MAIL_EXPECTED),
-    ("server.conf", None, SERVER_NAMES, SERVER_EXPECTED),
-    ("page.html", None, PAGE_NAMES, PAGE_EXPECTED),
-    ("notice.txt", None, NOTICE_NAMES, NOTICE_EXPECTED),
-    ("table.html", None, TABLE_NAMES, TABLE_EXPECTED),
-    ("menu.html", Some("menu.json"), "", MENU_EXPECTED),
-];
-
-#[test]
-fn the_examples(rt: HostRuntime) -> Result<(), Fail> {
-    let alloc = rt.alloc();
-    for (file, json, names, written) in &EXAMPLES {
-        let wanted = Answer {
-            status: 0,
-            written: *written,
-            told: "",
-            reads: if json.is_some() { 2 } else { 1 },
-            flushes: 1,
-        };
-        let words = words_of(alloc, *json, names, file)?;
-        expect(&rt, Page::new(alloc), words.as_slice(), &wanted)?;
     }
     Ok(())
 }
