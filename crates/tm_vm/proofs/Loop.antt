@@ -1,9 +1,13 @@
 -- Where the loop stands in a run, and what it answers there.
-use Rattle.std.proofs.Common.{◌≡◌, ◌≤◌, ◌+◌, ℕ, List, [], ◌∷◌, length, ◌++◌, take, zero, suc, Option, Result, Ok, Bool, true, false, refl, sym, ◌∙◌, ap, subst, append_assoc, arith}
+use Rattle.std.proofs.Common.{◌≡◌, ◌≤◌, ◌+◌, ℕ, List, [], ◌∷◌, length, ◌++◌, take, zero, suc, Option, Result, Ok, Some, None, Bool, true, false, refl, sym, ◌∙◌, ap, subst, append_assoc, arith, inl, inr}
 use Rattle.std.specs.Io.KnownBytes.{Appends}
 use Rattle.std.proofs.lemmas.List.{append-nil}
 use Rattle.tm_meaning.specs.World.{World, Scope, depth, without_first}
-use Rattle.tm_meaning.specs.Calls.{whole, of_block}
+use Rattle.tm_meaning.specs.Calls.{whole, of_block, wrapped}
+use Rattle.tm_meaning.specs.Memory.{is_want_of_memory}
+use Rattle.tm_meaning.specs.declared.wrapping.Wrapping.{Wrapping}
+use Rattle.tm_meaning.specs.declared.wrapping.Wrapping.TheVariants as wrapping
+use Rattle.tm_values.specs.declared.error.ErrorKind.{ErrorKind}
 use Rattle.tm_meaning.specs.Machine.{Activation, Capture, Config, End, Finished, Failed, Stuck, Next, More, Over, Nest, Program, Back, back_to, back_with, base_of}
 use Rattle.tm_meaning.specs.Steps.{step, Final, Leads, Reaches, over, more, nest}
 use Rattle.tm_meaning.specs.declared.base.Base.{Base}
@@ -17,7 +21,7 @@ use Rattle.tm_vm.specs.declared.flow.Flow.{Flow}
 use Rattle.tm_vm.specs.declared.flow.Flow.TheVariants as flow
 use Rattle.tm_vm.specs.Answers.{Did, Depths, HaltsAs, Comes, SameScopes, Stays, Paid, weight, output}
 use Rattle.tm_state.specs.Answers.{Keeps}
-use Rattle.tm_vm.specs.Nested.{Went, EndsIn, Begins, behind, start_in, base_in}
+use Rattle.tm_vm.specs.Nested.{Went, EndsIn, Begins, IsWrapped, behind, start_in, base_in}
 use Rattle.tm_state.specs.State.{saved_of, put_back}
 use Rattle.tm_state.specs.declared.saved.Saved.{Saved}
 use Rattle.tm_vm.proofs.Shift.{behind as after_text, alone, behind_text}
@@ -241,3 +245,27 @@ put_back_deep old w saved outer same = by_frames w.scopes.frames same
     by_frames : (xs : List Scope) → length xs ≡ length old.scopes.frames → depth old.scopes ≤ length (without_first xs) + saved.outer + 1
     by_frames [] e = omega (arith, e, outer)
     by_frames (x ∷ xs) e = omega (arith, e, outer)
+
+-- ---------------------------------------------------------------- wraps
+want_wrapped : (wrap : Option Wrapping) (chain : List ErrorKind) → is_want_of_memory (wrapped wrap chain) ≡ is_want_of_memory chain
+want_wrapped None chain = refl
+want_wrapped (Some wrapping.EvalBlock) [] = refl
+want_wrapped (Some wrapping.EvalBlock) (k ∷ ks) = refl
+want_wrapped (Some wrapping.BadInclude) [] = refl
+want_wrapped (Some wrapping.BadInclude) (k ∷ ks) = refl
+
+-- the halt of a nested run, as it is told
+wrapped_as : (p : Program) (e : Entry) (old : Config) (told now : Option (List ℕ)) (why tells : Halt) (w : World) → IsWrapped e.wrap why tells
+    → HaltsAs why w (Comes p (base_in e old) (start_in e old) told now) → HaltsAs tells w (EndsIn p e old told now)
+wrapped_as p e old told now halt.Writer tells w is h = subst (λ x. HaltsAs x w (EndsIn p e old told now)) (sym is) tt
+wrapped_as p e old told now halt.Stuck tells w is h = subst (λ x. HaltsAs x w (EndsIn p e old told now)) (sym is) (Stuck w, h, refl)
+wrapped_as p e old told now (halt.Fault chain) tells w (inl is) h =
+    subst (λ x. HaltsAs x w (EndsIn p e old told now)) (sym is) (λ own. (Failed chain w, h (sym (want_wrapped e.wrap chain) ∙ own), refl))
+wrapped_as p e old told now (halt.Fault chain) tells w (inr is) h =
+    subst (λ x. HaltsAs x w (EndsIn p e old told now)) (sym is) (λ own. absurd (cc own))
+
+pub wrapped_ends : (p : Program) (e : Entry) (old begun ran left : Config) (told now : Option (List ℕ)) (why tells : Halt) → begun ≡ start_in e old → left.world ≡ ran.world
+    → IsWrapped e.wrap why tells → HaltsAs why ran.world (Comes p (base_of e.heard begun.captures begun.world) begun told now) → HaltsAs tells left.world (EndsIn p e old told now)
+wrapped_ends p e old begun ran left told now why tells begins same is h =
+    subst (λ w. HaltsAs tells w (EndsIn p e old told now)) (sym same)
+    (wrapped_as p e old told now why tells ran.world is (subst (λ c. HaltsAs why ran.world (Comes p (base_of e.heard c.captures c.world) c told now)) begins h))

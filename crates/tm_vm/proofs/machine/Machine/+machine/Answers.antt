@@ -1,9 +1,9 @@
-use Rattle.std.proofs.Common.{◌≡◌, length, Ok, Err, refl, ◌∙◌, arith}
-use Rattle.tm_meaning.specs.Machine.{base_of}
+use Rattle.std.proofs.Common.{◌≡◌, length, Ok, Err, refl, ap, ◌∙◌, arith}
+use Rattle.tm_meaning.specs.Machine.{Config, base_of}
 use Rattle.tm_meaning.specs.World.{depth}
 use Rattle.tm_vm.specs.Answers.{program}
 use Rattle.tm_vm.specs.declared.flow.Flow.TheVariants as flow
-use Rattle.tm_vm.proofs.Loop.{at_base, kept_same, kept_then, stands_first, stands_next, stands_behind, beginning_at, beginning_in, ended_at, ended_in, done_at, whole_at, scopes_behind, above_base}
+use Rattle.tm_vm.proofs.Loop.{at_base, kept_same, kept_then, stands_first, stands_next, stands_behind, beginning_at, beginning_in, ended_at, ended_in, done_at, whole_at, wrapped_ends, scopes_behind, above_base}
 use Rattle.tm_vm.proofs.Weight.{less_behind}
 use Rattle.tm_vm.proofs.machine.Machine.+machine.Goals as goal
 
@@ -121,3 +121,11 @@ run-returns-in-Err-clause-beginning g t c =
     let new = g.W.Sink.told c.step.new.writer in
     let did = at_base p c.loop-entry.self c.step.new.self now new (Err c.in-Err.halt) c.base-base.result (base_of c.args.heard a.captures a.world) c.base-base.ensures c.in-Err.ensures.performs.did in
     beginning_at new c.loop-entry.invariant.stands did.1
+
+pub run_nested-returns-in-Err-clause-ran : goal.run_nested-returns-in-Err-clause-ran
+run_nested-returns-in-Err-clause-ran g t c =
+    let p = program (g.H.Host.meaning c.args.host.now) (g.H.Host.code c.args.host.now) in
+    let now = g.W.Sink.told c.args.writer.now in
+    let new = g.W.Sink.told c.run-result.new.writer in
+    let same = ap (λ (x : Config). x.world) c.resume.ensures in
+    wrapped_ends p c.args.entry c.args.self.now c.begin-waiting.new.self c.run-result.new.self c.resume.new.self now new c.in-Err.halt c.wrapped.result c.begin-waiting.ensures.begins same c.wrapped.ensures c.in-Err.ensures.ended
