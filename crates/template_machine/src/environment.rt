@@ -27,7 +27,6 @@ const GREATEST_LIMIT: usize = 500;
 const UNNAMED: &str = "<string>";
 
 /// Templates by name, the caller's objects, and the settings of renders.
-#[derive(Drop)]
 pub struct EnvironmentOf<'source, O: Drop> {
     alloc: Global,
     templates: Templates<'source>,
@@ -37,6 +36,22 @@ pub struct EnvironmentOf<'source, O: Drop> {
     undefined: UndefinedBehavior,
     fuel: Option<u64>,
     limit: usize,
+}
+
+// By hand, so that the crates above need no proof of their own that all of it can be dropped.
+impl<O: Drop> Drop for EnvironmentOf<'_, O> {
+    fn drop(self) {
+        let EnvironmentOf {
+            alloc: _alloc,
+            templates: _templates,
+            config: _config,
+            objects: _objects,
+            globals: _globals,
+            undefined: _undefined,
+            fuel: _fuel,
+            limit: _limit,
+        } = self;
+    }
 }
 
 /// The environment of a program: its functions are boxed.

@@ -18,10 +18,19 @@ use tm_tables::{Callable, Host, Objects, Parties};
 use tm_values::{AutoEscape, Error, ErrorKind, Value};
 
 /// The state of a render. A contract sees the template that was rendered, and a world of the definitions.
-#[derive(Drop)]
 pub struct StateOf<'env, O: Drop> {
     rendering: Rendering<'env, O>,
     kept: StateData<'env>,
+}
+
+// By hand, as the environment's.
+impl<O: Drop> Drop for StateOf<'_, O> {
+    fn drop(self) {
+        let StateOf {
+            rendering: _rendering,
+            kept: _kept,
+        } = self;
+    }
 }
 
 /// The state of a program's render.

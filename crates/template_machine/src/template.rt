@@ -27,10 +27,19 @@ pub(crate) enum Held<'env, 'source> {
 }
 
 /// A template of an environment.
-#[derive(Drop)]
 pub struct TemplateOf<'env, 'source, O: Drop> {
     environment: &'env EnvironmentOf<'source, O>,
     held: Held<'env, 'source>,
+}
+
+// By hand, as the environment's.
+impl<O: Drop> Drop for TemplateOf<'_, '_, O> {
+    fn drop(self) {
+        let TemplateOf {
+            environment: _environment,
+            held: _held,
+        } = self;
+    }
 }
 
 /// A template of a program's environment.

@@ -80,7 +80,6 @@ impl<'source> Source<'source> {
 }
 
 /// A template that is compiled: its name, its source, how it is escaped, the tree that the source spells, and the tree's streams.
-#[derive(Drop)]
 pub struct CompiledTemplate<'source> {
     name: Name,
     source: Source<'source>,
@@ -88,6 +87,20 @@ pub struct CompiledTemplate<'source> {
     tree: Tree,
     streams: Streams,
     nothing: Code,
+}
+
+// By hand, so that the crates above need no proof of their own that a tree can be dropped.
+impl Drop for CompiledTemplate<'_> {
+    fn drop(self) {
+        let CompiledTemplate {
+            name: _name,
+            source: _source,
+            escape: _escape,
+            tree: _tree,
+            streams: _streams,
+            nothing: _nothing,
+        } = self;
+    }
 }
 
 impl<'source> Model for CompiledTemplate<'source> {
