@@ -16,9 +16,3 @@ causes_of (k ∷ ks) = ks
 abbrev pub is_memory : ErrorKind → Bool
 is_memory OutOfMemory = true
 is_memory _ = false
-
--- the innermost kind is OutOfMemory
-abbrev pub ends_in_memory : List ErrorKind → Bool
-ends_in_memory [] = false
-ends_in_memory (k ∷ []) = is_memory k
-ends_in_memory (k ∷ c ∷ cs) = ends_in_memory (c ∷ cs)
