@@ -1,13 +1,18 @@
 -- What instructions of each kind did, as what every step says.
-use Rattle.std.proofs.Common.{◌≡◌, ℕ, List, [], Option, Result, Ok, Err, ◌≤◌, refl, sym, ◌∙◌, ap, subst, arith, length}
+use Rattle.std.specs.Prelude.{get_or}
+use Rattle.std.proofs.Common.{◌≡◌, ◌<◌, ℕ, zero, suc, List, [], ◌∷◌, Option, Some, Result, Ok, Err, ◌≤◌, refl, sym, ◌∙◌, ap, subst, arith, length, slice_get}
 use Rattle.std.specs.Io.KnownBytes.{Appends}
-use Rattle.tm_meaning.specs.Machine.{Config, Next, More}
+use Rattle.tm_meaning.specs.Machine.{Config, Next, More, Program, after, with_world}
+use Rattle.tm_meaning.specs.Steps.{act, effect, pay, step}
+use Rattle.tm_syntax.specs.declared.instruction.Instruction.{Instruction}
+use Rattle.tm_state.specs.Answers.{Keeps}
+use Rattle.tm_vm.proofs.Loop.{kept_then}
 use Rattle.tm_meaning.specs.declared.base.Base.{Base}
 use Rattle.tm_parts.proofs.Pieces.{appends_nothing, beginning_nothing}
 use Rattle.tm_parts.specs.declared.halt.Halt.{Halt}
 use Rattle.tm_parts.specs.declared.halt.Halt.TheVariants as halt
-use Rattle.tm_meaning.specs.World.{World}
-use Rattle.tm_vm.specs.Answers.{Performs, Writes, Silently, Shifts, Needs, SameScopes, Stays, output}
+use Rattle.tm_meaning.specs.World.{World, Good}
+use Rattle.tm_vm.specs.Answers.{Depths, Did, Performs, Writes, Silently, Shifts, Needs, SameScopes, Stays, output}
 use Rattle.tm_vm.specs.declared.flow.Flow.{Flow}
 use Rattle.tm_vm.specs.declared.flow.Flow.TheVariants as flow
 
@@ -76,3 +81,41 @@ needed {f = f} {n = n} {old = old} {new = new} {told = told} (Err (halt.Fault ch
     record { did = (s.did, beginning_nothing told (output n)); counted = refl; kept = s.kept; depths = stays f old.world new.world s.deepens; same_stream = s.same_stream }
 
 pub ruleset kinds = (silent, shifted, wrote, needed)
+
+-- ---------------------------------------------------------------- behind a charge
+depths_paid : (limit : ℕ) (f : Base) (result : Result Flow Halt) (left : ℕ) (old new : World) → Depths limit f result (record old { fuel = left }) new → Depths limit f result old new
+depths_paid limit f (Ok flow.GoOn) left old new h = h
+depths_paid limit f (Ok flow.Done) left old new h = h
+depths_paid limit f (Ok (flow.Enter e)) left old new h = h
+depths_paid limit f (Err why) left old new h = h
+
+abbrev paid_for : Config → ℕ → Config
+paid_for c left = record c { world = record c.world { fuel = left } }
+
+step_paid : {limit : ℕ} {told now : Option (List ℕ)} {faults count : ℕ} (p : Program) (f : Base) (x : Instruction) (old new : Config) (result : Result Flow Halt) (left : ℕ)
+    → slice_get (p.code old.run.stream) old.run.place ≡ Some x → pay x old.world ≡ Good tt (paid_for old left).world → Keeps old.world (paid_for old left).world
+    → Performs limit f (effect p f x (paid_for old left)) (paid_for old left) new told now faults count result → Performs limit f (step p f old) old new told now faults count result
+step_paid {limit = limit} {told = told} {now = now} p f x old new result left found paid kept h =
+    let same : step p f old ≡ effect p f x (paid_for old left) =
+    ap (λ i. act p f i old) found ∙ ap (λ r. after r (λ _ w. effect p f x (with_world w old))) paid in
+    record {
+      did = subst (λ n. Did result told now new n) (sym same) h.did;
+      counted = h.counted;
+      kept = kept_then kept h.kept;
+      depths = depths_paid limit f result left old.world new.world h.depths;
+      same_stream = h.same_stream;
+    }
+
+-- an instruction did its part, behind its charge
+pub step_done : {limit : ℕ} {told now : Option (List ℕ)} {faults count : ℕ} (p : Program) (f : Base) (x : Instruction) (old mid new : Config) (result : Result Flow Halt)
+    → slice_get (p.code old.run.stream) old.run.place ≡ Some x → pay x old.world ≡ Good tt mid.world → Keeps old.world mid.world → mid ≡ record old { world = record old.world { fuel = mid.world.fuel } }
+    → Performs limit f (effect p f x mid) mid new told now faults count result → Performs limit f (step p f old) old new told now faults count result
+step_done {limit = limit} {told = told} {now = now} {faults = faults} {count = count} p f x old mid new result found paid kept rest h =
+    step_paid p f x old new result mid.world.fuel found (paid ∙ ap (λ (c : Config). Good tt c.world) rest) (subst (λ (c : Config). Keeps old.world c.world) rest kept)
+    (subst (λ (c : Config). Performs limit f (effect p f x c) c new told now faults count result) rest h)
+
+-- what stands at a place of a list
+pub read_at : {A : Type 0} (xs : List A) (n : ℕ) (x : A) → n < length xs → ((d : A) → x ≡ get_or xs n d) → slice_get xs n ≡ Some x
+read_at [] n x within read = absurd (omega (arith, within))
+read_at (y ∷ ys) zero x within read = ap (λ z. Some z) (sym (read y))
+read_at (y ∷ ys) (suc n) x within read = read_at ys n x (omega (arith, within)) read
