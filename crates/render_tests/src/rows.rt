@@ -580,112 +580,159 @@ const WIDE: Option<usize> = Some(usize::MAX);
 
 const BLOCK: &str = "{% block b %}x{{ a }}{% endblock %}y";
 
-/// A fuel, a limit of scopes and the width of a writer, a row under them, the fuel that it leaves, and how often the writer fails.
-struct Bound(u64, usize, Option<usize>, Row<'static>, u64, u64);
+/// A row under a fuel, a limit of scopes and a writer of a width; the fuel that it leaves, and how often the writer fails.
+struct Bound {
+    fuel: u64,
+    limit: usize,
+    width: Option<usize>,
+    row: Row<'static>,
+    left: u64,
+    failures: u64,
+}
 
 static BOUNDS: &[Bound] = &[
-    Bound(
-        5,
-        500,
-        WIDE,
-        Row("Hello {{ w }}!", "Hello World!", Ok(4)),
-        1,
-        0,
-    ),
-    Bound(
-        5,
-        500,
-        WIDE,
-        Row("{{ w }}{{ t }}", "Worldtrue", Ok(4)),
-        1,
-        0,
-    ),
-    Bound(
-        4,
-        500,
-        WIDE,
-        Row("{{ w }}{{ t }}", "World", Err(ErrorKind::OutOfFuel)),
-        0,
-        0,
-    ),
-    Bound(
-        3,
-        500,
-        WIDE,
-        Row("{{ w }}{{ t }}", "World", Err(ErrorKind::OutOfFuel)),
-        0,
-        0,
-    ),
-    Bound(
-        2,
-        500,
-        WIDE,
-        Row("{{ w }}{{ t }}", "", Err(ErrorKind::OutOfFuel)),
-        0,
-        0,
-    ),
-    Bound(0, 500, WIDE, Row("", "", Ok(0)), 0, 0),
-    Bound(9, 500, None, Row("", "", Ok(0)), 9, 0),
-    Bound(
-        9,
-        500,
-        None,
-        Row("Hello!", "", Err(ErrorKind::WriteFailure)),
-        0,
-        1,
-    ),
-    Bound(
-        9,
-        500,
-        Some(0),
-        Row("Hello!", "", Err(ErrorKind::WriteFailure)),
-        0,
-        1,
-    ),
-    Bound(9, 500, Some(3), Row("Hello!", "Hello!", Ok(1)), 8, 0),
-    Bound(
-        9,
-        500,
-        WIDE,
-        Row("a{{ failing() }}b", "a", Err(ErrorKind::WriteFailure)),
-        0,
-        0,
-    ),
-    Bound(9, 2, WIDE, Row(BLOCK, "xy", Ok(5)), 4, 0),
-    Bound(
-        9,
-        1,
-        WIDE,
-        Row(BLOCK, "", Err(ErrorKind::InvalidOperation)),
-        0,
-        0,
-    ),
-    Bound(
-        3,
-        500,
-        WIDE,
-        Row(BLOCK, "x", Err(ErrorKind::OutOfFuel)),
-        0,
-        0,
-    ),
-    Bound(
-        29,
-        500,
-        WIDE,
-        Row(CHOSEN, "2", Err(ErrorKind::OutOfFuel)),
-        0,
-        0,
-    ),
-    Bound(30, 500, WIDE, Row(CHOSEN, "2", Ok(29)), 1, 0),
+    Bound {
+        fuel: 5,
+        limit: 500,
+        width: WIDE,
+        row: Row("Hello {{ w }}!", "Hello World!", Ok(4)),
+        left: 1,
+        failures: 0,
+    },
+    Bound {
+        fuel: 5,
+        limit: 500,
+        width: WIDE,
+        row: Row("{{ w }}{{ t }}", "Worldtrue", Ok(4)),
+        left: 1,
+        failures: 0,
+    },
+    Bound {
+        fuel: 4,
+        limit: 500,
+        width: WIDE,
+        row: Row("{{ w }}{{ t }}", "World", Err(ErrorKind::OutOfFuel)),
+        left: 0,
+        failures: 0,
+    },
+    Bound {
+        fuel: 3,
+        limit: 500,
+        width: WIDE,
+        row: Row("{{ w }}{{ t }}", "World", Err(ErrorKind::OutOfFuel)),
+        left: 0,
+        failures: 0,
+    },
+    Bound {
+        fuel: 2,
+        limit: 500,
+        width: WIDE,
+        row: Row("{{ w }}{{ t }}", "", Err(ErrorKind::OutOfFuel)),
+        left: 0,
+        failures: 0,
+    },
+    Bound {
+        fuel: 0,
+        limit: 500,
+        width: WIDE,
+        row: Row("", "", Ok(0)),
+        left: 0,
+        failures: 0,
+    },
+    Bound {
+        fuel: 9,
+        limit: 500,
+        width: None,
+        row: Row("", "", Ok(0)),
+        left: 9,
+        failures: 0,
+    },
+    Bound {
+        fuel: 9,
+        limit: 500,
+        width: None,
+        row: Row("Hello!", "", Err(ErrorKind::WriteFailure)),
+        left: 0,
+        failures: 1,
+    },
+    Bound {
+        fuel: 9,
+        limit: 500,
+        width: Some(0),
+        row: Row("Hello!", "", Err(ErrorKind::WriteFailure)),
+        left: 0,
+        failures: 1,
+    },
+    Bound {
+        fuel: 9,
+        limit: 500,
+        width: Some(3),
+        row: Row("Hello!", "Hello!", Ok(1)),
+        left: 8,
+        failures: 0,
+    },
+    Bound {
+        fuel: 9,
+        limit: 500,
+        width: WIDE,
+        row: Row("a{{ failing() }}b", "a", Err(ErrorKind::WriteFailure)),
+        left: 0,
+        failures: 0,
+    },
+    Bound {
+        fuel: 9,
+        limit: 2,
+        width: WIDE,
+        row: Row(BLOCK, "xy", Ok(5)),
+        left: 4,
+        failures: 0,
+    },
+    Bound {
+        fuel: 9,
+        limit: 1,
+        width: WIDE,
+        row: Row(BLOCK, "", Err(ErrorKind::InvalidOperation)),
+        left: 0,
+        failures: 0,
+    },
+    Bound {
+        fuel: 3,
+        limit: 500,
+        width: WIDE,
+        row: Row(BLOCK, "x", Err(ErrorKind::OutOfFuel)),
+        left: 0,
+        failures: 0,
+    },
+    Bound {
+        fuel: 29,
+        limit: 500,
+        width: WIDE,
+        row: Row(CHOSEN, "2", Err(ErrorKind::OutOfFuel)),
+        left: 0,
+        failures: 0,
+    },
+    Bound {
+        fuel: 30,
+        limit: 500,
+        width: WIDE,
+        row: Row(CHOSEN, "2", Ok(29)),
+        left: 1,
+        failures: 0,
+    },
 ];
 
 /// Renders rows under their bounds.
 fn expect_bounds(rt: &impl Abort, alloc: Global, environment: &mut Rows<'_>) -> Result<(), Fail> {
-    for Bound(fuel, limit, width, row, left, failures) in BOUNDS {
-        environment.set_fuel(Some(*fuel));
-        environment.set_recursion_limit(*limit);
-        let rest = expect_render(rt, alloc, environment, *width, row)?;
-        assert!(rt; rest == (*left, *failures), "at {fuel} {limit} {}", row.0);
+    for bound in BOUNDS {
+        environment.set_fuel(Some(bound.fuel));
+        environment.set_recursion_limit(bound.limit);
+        let rest = expect_render(rt, alloc, environment, bound.width, &bound.row)?;
+        assert!(rt;
+            rest == (bound.left, bound.failures),
+            "at {} of {}",
+            bound.row.0,
+            bound.fuel
+        );
     }
     Ok(())
 }
