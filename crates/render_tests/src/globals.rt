@@ -1,34 +1,50 @@
 //! What the environment's globals give, and what a state keeps behind a render.
-ghost use Rattle.std.specs.Prelude.{pos};
-ghost use Rattle.tm_values.specs.Val.{number};
-ghost use Rattle.tm_meaning.specs.World.{gives};
+ghost use Rattle.std.specs.Prelude.{codes, false, pos};
+ghost use Rattle.tm_values.specs.Val.{number, text};
+ghost use Rattle.tm_meaning.specs.World.{find_name, gives};
 ghost use Rattle.tm_tables.specs.Stated.{just};
-ghost use Rattle.render_tests.specs.declared.globals.Gives.TheVariants.{One, Two};
+ghost use Rattle.render_tests.specs.Found.{reply_of_found};
+ghost use Rattle.render_tests.specs.declared.globals.Gives.TheVariants.{One, Two, Title, Found};
 
 use std::alloc::Global;
 use std::process::Abort;
 use std::test::Fail;
 use template_machine::*;
 
-/// A function that answers its number.
+/// A function that answers its number, or what it sees.
 #[derive(Clone, Copy)]
 enum Gives {
     /// Answers 1.
     One,
     /// Answers 2.
     Two,
+    /// Answers the name of the template that runs.
+    Title,
+    /// Answers the value of the name `g`.
+    Found,
 }
 
 impl Callable for Gives {
     ghost answers = { elim [
       | One ↦ λ args view. just (gives (number (pos 1)))
       | Two ↦ λ args view. just (gives (number (pos 2)))
+      | Title ↦ λ args view. just (gives (text view.name false))
+      | Found ↦ λ args view. just (reply_of_found (find_name view (codes "g")))
     ] };
 
-    fn call(&self, alloc: Global, _args: &[Value], _view: &View<'_>) -> Answer {
+    fn call(&self, alloc: Global, _args: &[Value], view: &View<'_>) -> Answer {
         match self {
             Gives::One => Answer::value(alloc, Value::number(1)),
             Gives::Two => Answer::value(alloc, Value::number(2)),
+            Gives::Title => match Value::text(alloc, view.name()) {
+                Ok(name) => Answer::value(alloc, name),
+                Err(error) => Answer::fault(alloc, error),
+            },
+            Gives::Found => match view.lookup("g") {
+                Ok(Some(found)) => Answer::value(alloc, found),
+                Ok(None) => Answer::value(alloc, Value::undefined()),
+                Err(error) => Answer::fault(alloc, error),
+            },
         }
     }
 }
@@ -36,10 +52,12 @@ impl Callable for Gives {
 /// An environment of such functions.
 type Globals<'source> = EnvironmentOf<'source, Objects<Gives>>;
 
-/// Two functions, and one global more, which stands before them in the order of names.
+/// Functions, and one global more, which stands before them in the order of names.
 fn add_globals(environment: &mut Globals<'_>) -> Result<(), Error> {
     environment.add_function("one", Gives::One)?;
     environment.add_function("two", Gives::Two)?;
+    environment.add_function("title", Gives::Title)?;
+    environment.add_function("h", Gives::Found)?;
     environment.add_global("g", Value::number(1))
 }
 
@@ -83,10 +101,25 @@ fn seven(alloc: Global) -> Result<Value, Error> {
 fn hears_globals(environment: &Globals<'_>, alloc: Global) -> Result<bool, Error> {
     Ok(
         writes(environment, "{{ g }}", Value::undefined(), "1")
-            && writes(environment, "{{ g }}", seven(alloc)?, "7")
+            && writes(environment, "{{ g }}{{ h() }}", seven(alloc)?, "77")
+            && writes(
+                environment,
+                "{{ h() }}{{ title() }}",
+                Value::undefined(),
+                "1<string>",
+            )
             && names_are(
                 environment,
-                &["dict", "g", "namespace", "one", "range", "two"],
+                &[
+                    "dict",
+                    "g",
+                    "h",
+                    "namespace",
+                    "one",
+                    "range",
+                    "title",
+                    "two",
+                ],
             )?,
     )
 }
@@ -102,7 +135,10 @@ fn hears_removed(environment: &Globals<'_>) -> Result<bool, Error> {
         writes(environment, "[{{ g }}]", Value::undefined(), "[]")
             && is_unknown(environment, "{{ one() }}")
             && writes(environment, "{{ two() }}", Value::undefined(), "2")
-            && names_are(environment, &["dict", "namespace", "range", "two"])?,
+            && names_are(
+                environment,
+                &["dict", "h", "namespace", "range", "title", "two"],
+            )?,
     )
 }
 
@@ -200,8 +236,14 @@ fn is_worked_on(template: &Page<'_, '_>) -> Result<bool, Error> {
     works_on(&mut captured)
 }
 
-/// Hears what states keep.
+/// Whether a template that was given no name has the usual one, and this source.
+fn is_unnamed(template: &Page<'_, '_>, source: &str) -> bool {
+    template.name() == "<string>" && template.source() == source
+}
+
+/// Hears what a template is called, and what states keep.
 fn expect_kept(rt: &impl Abort, template: &Page<'_, '_>) -> Result<(), Fail> {
+    assert!(rt; is_unnamed(template, "x"));
     assert!(rt; keeps_the_last(template)?);
     assert!(rt; is_worked_on(template)?);
     Ok(())

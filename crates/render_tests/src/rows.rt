@@ -6,7 +6,8 @@ ghost use Rattle.tm_meaning.specs.World.{gives, faults, or_undefined};
 ghost use Rattle.tm_tables.specs.Stated.{IsStated, just, keeping};
 ghost use Rattle.render_tests.specs.declared.rows.Party.TheVariants.{Second, Last, Keeper, Reader, Faulty};
 
-use std::alloc::Global;
+use std::alloc::{AllocError, Global};
+use std::io::{self, Write};
 use std::process::Abort;
 use std::test::Fail;
 use template_machine::*;
@@ -91,9 +92,10 @@ fn add_functions(environment: &mut Rows<'_>) -> Result<(), Error> {
 const CHOSEN: &str = "{% for x in [1,2] if x > 1 %}{{ x }}{% endfor %}";
 
 /// A source, what it writes, and how it ends: with so many charges, or by a fault.
-struct Row(&'static str, &'static str, Result<u64, ErrorKind>);
+#[derive(Clone, Copy)]
+struct Row<'a>(&'a str, &'a str, Result<u64, ErrorKind>);
 
-static ROWS: &[Row] = &[
+static ROWS: &[Row<'static>] = &[
     Row("Hello {{ w }}!", "Hello World!", Ok(4)),
     Row("", "", Ok(0)),
     Row("{% if a %}x{% else %}y{% endif %}", "y", Ok(3)),
@@ -417,30 +419,52 @@ fn context(alloc: Global) -> Result<Value, Error> {
 /// A template of such an environment.
 type Page<'env, 'source> = TemplateOf<'env, 'source, Objects<Party>>;
 
-/// How many charges a render takes; 0 where none is counted.
-fn charges_of(
+/// A writer that takes so many bytes at a time; where no number is given, it fails.
+#[derive(Drop)]
+struct Narrow {
+    bytes: Vec<u8>,
+    width: Option<usize>,
+}
+
+impl Write for Narrow {
+    fn write(&mut self, bytes: &[u8]) -> io::Result<usize> {
+        let Some(width) = self.width else {
+            return Err(io::Error::from(io::ErrorKind::BrokenPipe));
+        };
+        let taken = bytes.len().min(width);
+        self.bytes.extend_from_slice(&bytes[..taken])?;
+        Ok(taken)
+    }
+
+    fn flush(&mut self) -> io::Result<()> {
+        Ok(())
+    }
+}
+
+/// The fuel that a render consumes and leaves; none where none is counted.
+type Levels = Option<(u64, u64)>;
+
+/// The fuel that a render consumes and leaves, or the kind of its error.
+fn levels_of(
     template: &Page<'_, '_>,
     context: Value,
-    writer: &mut Counted<Vec<u8>>,
-) -> Result<u64, ErrorKind> {
+    writer: &mut Counted<Narrow>,
+) -> Result<Levels, ErrorKind> {
     match template.render_captured_to(&mut StateIds::new(), context, writer) {
-        Ok(captured) => match captured.state().fuel_levels() {
-            Some((consumed, _left)) => Ok(consumed),
-            None => Ok(0),
-        },
+        Ok(captured) => Ok(captured.state().fuel_levels()),
         Err(error) => Err(error.kind()),
     }
 }
 
-/// How many charges a render of the source takes, or the kind of its error.
-fn charges(
-    environment: &Rows<'_>,
-    source: &'static str,
+/// The fuel that a render of the source consumes and leaves, or the kind of its error.
+fn levels<'source>(
+    environment: &Rows<'source>,
+    source: &'source str,
     context: Value,
-    writer: &mut Counted<Vec<u8>>,
-) -> Result<u64, ErrorKind> {
+    writer: &mut Counted<Narrow>,
+) -> Result<Levels, ErrorKind> {
     match environment.template_from_str(source) {
-        Ok(template) => charges_of(&template, context, writer),
+        Ok(template) => levels_of(&template, context, writer),
         Err(error) => Err(error.kind()),
     }
 }
@@ -454,6 +478,8 @@ enum Left {
     Exported,
     /// That the first function of the caller stands behind the three of the language.
     Numbered,
+    /// That the template has no name but the usual one, and nothing is escaped.
+    Unnamed,
 }
 
 static LEFT: &[(&str, Left)] = &[
@@ -463,6 +489,7 @@ static LEFT: &[(&str, Left)] = &[
         Left::Exported,
     ),
     ("", Left::Numbered),
+    ("x", Left::Unnamed),
 ];
 
 /// Whether 1 is kept at `k`, where no name leads, and no name is exported.
@@ -480,6 +507,7 @@ fn is_left(state: &StateOf<'_, Objects<Party>>, left: Left) -> Result<bool, Erro
         Left::Kept => keeps_apart(state),
         Left::Exported => Ok(state.exports()?.as_slice() == ["y"].as_slice()),
         Left::Numbered => Ok(state.lookup("f")? == Some(Value::function(3))),
+        Left::Unnamed => Ok(state.name() == "<string>" && state.auto_escape() == AutoEscape::None),
     }
 }
 
@@ -507,34 +535,302 @@ fn expect_left(rt: &impl Abort, environment: &Rows<'_>) -> Result<(), Fail> {
     Ok(())
 }
 
-/// How a render of the loop under a condition ends.
-fn charges_of_chosen(alloc: Global, environment: &Rows<'_>) -> Result<u64, ErrorKind> {
-    let mut writer = Counted::new(Vec::<u8>::new(alloc));
-    charges(environment, CHOSEN, Value::undefined(), &mut writer)
+/// Renders a source, and compares what it writes and how it ends; gives the fuel that is left, and the writer's failures.
+fn expect_render(
+    rt: &impl Abort,
+    alloc: Global,
+    environment: &Rows<'_>,
+    width: Option<usize>,
+    row: &Row<'_>,
+) -> Result<(u64, u64), Fail> {
+    let mut writer = Counted::new(Narrow {
+        bytes: Vec::new(alloc),
+        width,
+    });
+    let Row(source, text, end) = row;
+    let answer = levels(environment, source, context(alloc)?, &mut writer);
+    let (consumed, left) = parted(answer);
+    assert!(rt; consumed == *end, "at {source}");
+    assert!(rt;
+        writer.inner().bytes.as_slice() == text.as_bytes(),
+        "at {source}"
+    );
+    Ok((left, writer.failures()))
 }
 
-/// Renders the rows, and compares what they write and how they end.
+/// What is consumed, and what is left; 0 where there is none.
+fn parted(levels: Result<Levels, ErrorKind>) -> (Result<u64, ErrorKind>, u64) {
+    match levels {
+        Ok(Some((consumed, left))) => (Ok(consumed), left),
+        Ok(None) => (Ok(0), 0),
+        Err(kind) => (Err(kind), 0),
+    }
+}
+
+/// Renders the rows.
 fn expect_rows(rt: &impl Abort, alloc: Global, environment: &Rows<'_>) -> Result<(), Fail> {
-    for Row(source, text, end) in ROWS {
-        let mut writer = Counted::new(Vec::<u8>::new(alloc));
-        let answer = charges(environment, source, context(alloc)?, &mut writer);
-        assert!(rt; answer == *end, "at {source}");
-        assert!(rt; writer.inner().as_slice() == text.as_bytes(), "at {source}");
+    for row in ROWS {
+        expect_render(rt, alloc, environment, WIDE, row)?;
     }
     Ok(())
 }
 
-/// Adds the functions of the rows to an environment, renders them, and sees what states keep and where fuel ends.
+/// All bytes at a time.
+const WIDE: Option<usize> = Some(usize::MAX);
+
+const BLOCK: &str = "{% block b %}x{{ a }}{% endblock %}y";
+
+/// A row under a fuel, a limit of scopes and a writer of a width; the fuel that it leaves, and how often the writer fails.
+struct Bound {
+    fuel: u64,
+    limit: usize,
+    width: Option<usize>,
+    row: Row<'static>,
+    left: u64,
+    failures: u64,
+}
+
+static BOUNDS: &[Bound] = &[
+    Bound {
+        fuel: 5,
+        limit: 500,
+        width: WIDE,
+        row: Row("Hello {{ w }}!", "Hello World!", Ok(4)),
+        left: 1,
+        failures: 0,
+    },
+    Bound {
+        fuel: 5,
+        limit: 500,
+        width: WIDE,
+        row: Row("{{ w }}{{ t }}", "Worldtrue", Ok(4)),
+        left: 1,
+        failures: 0,
+    },
+    Bound {
+        fuel: 4,
+        limit: 500,
+        width: WIDE,
+        row: Row("{{ w }}{{ t }}", "World", Err(ErrorKind::OutOfFuel)),
+        left: 0,
+        failures: 0,
+    },
+    Bound {
+        fuel: 3,
+        limit: 500,
+        width: WIDE,
+        row: Row("{{ w }}{{ t }}", "World", Err(ErrorKind::OutOfFuel)),
+        left: 0,
+        failures: 0,
+    },
+    Bound {
+        fuel: 2,
+        limit: 500,
+        width: WIDE,
+        row: Row("{{ w }}{{ t }}", "", Err(ErrorKind::OutOfFuel)),
+        left: 0,
+        failures: 0,
+    },
+    Bound {
+        fuel: 0,
+        limit: 500,
+        width: WIDE,
+        row: Row("", "", Ok(0)),
+        left: 0,
+        failures: 0,
+    },
+    Bound {
+        fuel: 9,
+        limit: 500,
+        width: None,
+        row: Row("", "", Ok(0)),
+        left: 9,
+        failures: 0,
+    },
+    Bound {
+        fuel: 9,
+        limit: 500,
+        width: None,
+        row: Row("Hello!", "", Err(ErrorKind::WriteFailure)),
+        left: 0,
+        failures: 1,
+    },
+    Bound {
+        fuel: 9,
+        limit: 500,
+        width: Some(0),
+        row: Row("Hello!", "", Err(ErrorKind::WriteFailure)),
+        left: 0,
+        failures: 1,
+    },
+    Bound {
+        fuel: 9,
+        limit: 500,
+        width: Some(3),
+        row: Row("Hello!", "Hello!", Ok(1)),
+        left: 8,
+        failures: 0,
+    },
+    Bound {
+        fuel: 9,
+        limit: 500,
+        width: WIDE,
+        row: Row("a{{ failing() }}b", "a", Err(ErrorKind::WriteFailure)),
+        left: 0,
+        failures: 0,
+    },
+    Bound {
+        fuel: 9,
+        limit: 2,
+        width: WIDE,
+        row: Row(BLOCK, "xy", Ok(5)),
+        left: 4,
+        failures: 0,
+    },
+    Bound {
+        fuel: 9,
+        limit: 1,
+        width: WIDE,
+        row: Row(BLOCK, "", Err(ErrorKind::InvalidOperation)),
+        left: 0,
+        failures: 0,
+    },
+    Bound {
+        fuel: 3,
+        limit: 500,
+        width: WIDE,
+        row: Row(BLOCK, "x", Err(ErrorKind::OutOfFuel)),
+        left: 0,
+        failures: 0,
+    },
+    Bound {
+        fuel: 29,
+        limit: 500,
+        width: WIDE,
+        row: Row(CHOSEN, "2", Err(ErrorKind::OutOfFuel)),
+        left: 0,
+        failures: 0,
+    },
+    Bound {
+        fuel: 30,
+        limit: 500,
+        width: WIDE,
+        row: Row(CHOSEN, "2", Ok(29)),
+        left: 1,
+        failures: 0,
+    },
+];
+
+/// Renders rows under their bounds.
+fn expect_bounds(rt: &impl Abort, alloc: Global, environment: &mut Rows<'_>) -> Result<(), Fail> {
+    for bound in BOUNDS {
+        environment.set_fuel(Some(bound.fuel));
+        environment.set_recursion_limit(bound.limit);
+        let rest = expect_render(rt, alloc, environment, bound.width, &bound.row)?;
+        assert!(rt;
+            rest == (bound.left, bound.failures),
+            "at {} of {}",
+            bound.row.0,
+            bound.fuel
+        );
+    }
+    Ok(())
+}
+
+/// A source of pieces, of which two stand so many times, one before the middle and one behind it; and what it writes, a text so many times.
+struct Long {
+    start: &'static str,
+    count: usize,
+    before: &'static str,
+    middle: &'static str,
+    behind: &'static str,
+    end: &'static str,
+    text: &'static str,
+    times: usize,
+}
+
+static LONG: &[Long] = &[
+    Long {
+        start: "{% set a = 'b' %}",
+        count: 2000,
+        before: "{{ a }}x",
+        middle: "",
+        behind: "",
+        end: "",
+        text: "bx",
+        times: 2000,
+    },
+    Long {
+        start: "",
+        count: 100_000,
+        before: "word ",
+        middle: "",
+        behind: "",
+        end: "",
+        text: "word ",
+        times: 100_000,
+    },
+    Long {
+        start: "{{ 1",
+        count: 99_999,
+        before: " + 1",
+        middle: " }}",
+        behind: "",
+        end: "",
+        text: "100000",
+        times: 1,
+    },
+    Long {
+        start: "{{ ",
+        count: 150,
+        before: "(",
+        middle: "7",
+        behind: ")",
+        end: " }}",
+        text: "7",
+        times: 1,
+    },
+];
+
+/// Puts a text so many times behind another.
+fn repeat(out: &mut String, text: &str, times: usize) -> Result<(), AllocError> {
+    for _ in 0..times {
+        out.push_str(text)?;
+    }
+    Ok(())
+}
+
+/// The source of a long row.
+fn source_of(alloc: Global, long: &Long) -> Result<String, AllocError> {
+    let mut source = String::from_str(alloc, long.start)?;
+    repeat(&mut source, long.before, long.count)?;
+    source.push_str(long.middle)?;
+    repeat(&mut source, long.behind, long.count)?;
+    source.push_str(long.end)?;
+    Ok(source)
+}
+
+/// Renders long rows without a bound on the fuel, whose charges are not counted then.
+fn expect_long(rt: &impl Abort, alloc: Global, environment: &Rows<'_>) -> Result<(), Fail> {
+    for long in LONG {
+        let source = source_of(alloc, long)?;
+        let mut text = String::new(alloc);
+        repeat(&mut text, long.text, long.times)?;
+        let row = Row(source.as_str(), text.as_str(), Ok(0));
+        expect_render(rt, alloc, environment, WIDE, &row)?;
+    }
+    Ok(())
+}
+
+/// Adds the functions of the rows to an environment, renders them, and sees what states keep and where renders are bounded.
 fn expect_all(rt: &impl Abort, alloc: Global, environment: &mut Rows<'_>) -> Result<(), Fail> {
     environment.set_fuel(Some(10_000));
     add_functions(environment)?;
     expect_rows(rt, alloc, environment)?;
     expect_left(rt, environment)?;
-    environment.set_fuel(Some(29));
-    assert!(rt; charges_of_chosen(alloc, environment) == Err(ErrorKind::OutOfFuel));
-    environment.set_fuel(Some(30));
-    assert!(rt; charges_of_chosen(alloc, environment) == Ok(29));
-    Ok(())
+    expect_bounds(rt, alloc, environment)?;
+    environment.set_fuel(None);
+    expect_long(rt, alloc, environment)
 }
 
 // The test lends its environment, which is dropped in one place: each way out that drops one is dear to prove.

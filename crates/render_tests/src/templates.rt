@@ -13,10 +13,10 @@ use template_machine::*;
 #[derive(Drop)]
 struct Yes;
 
-impl Callable for Yes {
-    ghost answers = { λ _ args view. just (gives (boolean true)) };
+impl Answering for Yes {
+    ghost answers = { λ _ args. just (gives (boolean true)) };
 
-    fn call(&self, alloc: Global, _args: &[Value], _view: &View<'_>) -> Answer {
+    fn answer(&self, alloc: Global, _args: &[Value]) -> Answer {
         Answer::value(alloc, Value::boolean(true))
     }
 }
@@ -41,11 +41,12 @@ fn expect_sources(
     alloc: Global,
     environment: &mut Environment<'_>,
 ) -> Result<(), Fail> {
-    environment.add_function("yes", Box::new(alloc, Yes)?)?;
+    environment.add_function("yes", Box::new(alloc, Plain::new(Yes))?)?;
     expect_texts(
         rt,
         environment,
         &[
+            ("x", "x"),
             ("Hello {{ name }}!", "Hello !"),
             ("{% if yes() %}x{% else %}y{% endif %}", "x"),
             ("{% block b %}x{{ a }}{% endblock %}y", "xy"),
@@ -61,7 +62,7 @@ fn sources_render(rt: HostRuntime) -> Result<(), Fail> {
 }
 
 /// An environment without boxes.
-type Unboxed<'source> = EnvironmentOf<'source, Objects<Yes>>;
+type Unboxed<'source> = EnvironmentOf<'source, Objects<Plain<Yes>>>;
 
 /// Renders the template of a name into no writer, and gives the fuel that it took.
 fn consumed(environment: &Unboxed<'_>, name: &str) -> Result<u64, Error> {
@@ -70,7 +71,7 @@ fn consumed(environment: &Unboxed<'_>, name: &str) -> Result<u64, Error> {
 }
 
 /// The fuel that a render took; 0 where none is counted.
-fn consumed_by(template: &TemplateOf<'_, '_, Objects<Yes>>) -> Result<u64, Error> {
+fn consumed_by(template: &TemplateOf<'_, '_, Objects<Plain<Yes>>>) -> Result<u64, Error> {
     let mut ids = StateIds::new();
     let captured = template.render_captured_to(&mut ids, Value::undefined(), &mut NullWriter)?;
     match captured.state().fuel_levels() {
@@ -96,14 +97,23 @@ fn text_at_once(environment: &Unboxed<'_>) -> Result<String, Error> {
     environment.render_named_str(&mut StateIds::new(), "named", "x", Value::undefined())
 }
 
-/// An environment with a template whose source is the caller's, and one with a source of its own.
-fn with_templates(alloc: Global) -> Result<Unboxed<'static>, Error> {
-    let mut environment = Unboxed::new(alloc)?;
-    add_templates(&mut environment, alloc)?;
-    Ok(environment)
+/// Whether no template has a name.
+fn is_absent(environment: &Unboxed<'_>, name: &str) -> bool {
+    match text_of(environment, name) {
+        Ok(_) => false,
+        Err(error) => error.kind() == ErrorKind::TemplateNotFound,
+    }
 }
 
-/// Adds both to an environment with fuel.
+/// Whether a source that spells no template is refused at a name.
+fn is_refused(environment: &mut Unboxed<'_>, name: &str) -> bool {
+    match environment.add_template(name, "{{") {
+        Ok(()) => false,
+        Err(error) => error.kind() == ErrorKind::SyntaxError,
+    }
+}
+
+/// Adds a template whose source is the caller's, and one with a source of its own, to an environment with fuel.
 fn add_templates(environment: &mut Unboxed<'_>, alloc: Global) -> Result<(), Error> {
     environment.set_fuel(Some(100));
     environment.add_template("page", "Hello {{ name }}!")?;
@@ -113,23 +123,32 @@ fn add_templates(environment: &mut Unboxed<'_>, alloc: Global) -> Result<(), Err
 /// Whether the templates render, and one that isn't kept.
 fn templates_render(environment: &Unboxed<'_>) -> Result<bool, Error> {
     Ok(
-        consumed(environment, "page")? == 4
+        is_absent(environment, "named")
+            && consumed(environment, "page")? == 4
+            && text_of(environment, "page")?.as_str() == "Hello !"
             && text_of(environment, "own")?.as_str() == "x"
             && text_of_x(environment)?.as_str() == "x"
             && text_at_once(environment)?.as_str() == "x",
     )
 }
 
-/// Renders the templates of an environment.
-fn expect_templates(rt: &impl Abort, environment: &Unboxed<'_>) -> Result<(), Fail> {
+/// Adds templates and renders them, also behind a source that was refused at the name of one.
+fn expect_templates(
+    rt: &impl Abort,
+    alloc: Global,
+    environment: &mut Unboxed<'_>,
+) -> Result<(), Fail> {
+    add_templates(environment, alloc)?;
+    assert!(rt; templates_render(environment)?);
+    assert!(rt; is_refused(environment, "page"));
     assert!(rt; templates_render(environment)?);
     Ok(())
 }
 
 #[test]
 fn templates_render_by_name(rt: HostRuntime) -> Result<(), Fail> {
-    let environment = with_templates(rt.alloc())?;
-    expect_templates(&rt, &environment)
+    let mut environment = Unboxed::new(rt.alloc())?;
+    expect_templates(&rt, rt.alloc(), &mut environment)
 }
 
 /// Whether the text of a source under a name is this.
@@ -167,7 +186,7 @@ fn hears_names(environment: &Unboxed<'_>) -> bool {
     true
 }
 
-/// Other delimiters, with both trims of blocks.
+/// Other delimiters, with both trims of blocks, and with the last line's end.
 fn angles(alloc: Global) -> Result<SyntaxConfig, Error> {
     let block = String::from_str(alloc, "<%")?;
     let block_end = String::from_str(alloc, "%>")?;
@@ -181,6 +200,7 @@ fn angles(alloc: Global) -> Result<SyntaxConfig, Error> {
         .variable_delimiters(variable, variable_end)
         .trim_blocks(true)
         .lstrip_blocks(true)
+        .keep_trailing_newline(true)
         .build()
 }
 
@@ -229,12 +249,27 @@ fn refuses(environment: &Unboxed<'_>, behavior: usize) -> bool {
     true
 }
 
+/// Settings of an environment: its fuel, its limit, and whether the last line's end is kept.
+#[derive(Clone, Copy)]
+struct Settings(Option<u64>, usize, UndefinedBehavior, bool);
+
+/// Whether an environment is set so.
+fn is_set(environment: &Unboxed<'_>, settings: &Settings) -> bool {
+    let Settings(fuel, limit, behavior, keeps_newline) = settings;
+    environment.fuel() == *fuel
+        && environment.recursion_limit() == *limit
+        && environment.undefined_behavior() == *behavior
+        && environment.syntax().keeps_newline() == *keeps_newline
+}
+
 /// Hears names, undefined values under each behavior, and then other delimiters.
 fn expect_settings(
     rt: &impl Abort,
     alloc: Global,
     environment: &mut Unboxed<'_>,
 ) -> Result<(), Fail> {
+    let first = Settings(None, 500, UndefinedBehavior::Lenient, false);
+    assert!(rt; is_set(environment, &first));
     assert!(rt; hears_names(environment));
     assert!(rt; refuses(environment, 0));
     environment.set_undefined_behavior(UndefinedBehavior::Chainable);
@@ -244,8 +279,14 @@ fn expect_settings(
     environment.set_undefined_behavior(UndefinedBehavior::Strict);
     assert!(rt; refuses(environment, 3));
     environment.set_syntax(angles(alloc)?);
-    let source = "a\n  <% if 1 %>\n b<%# c %>\n<% endif %>\n${ 2 }";
-    assert!(rt; writes(environment, "p", source, "a\n b2"));
+    let source = "a\n  <% if 1 %>\n b<%# c %>\n<% endif %>\n${ 2 }\n";
+    assert!(rt; writes(environment, "p", source, "a\n b2\n"));
+    environment.set_fuel(Some(7));
+    environment.set_recursion_limit(40);
+    let last = Settings(Some(7), 40, UndefinedBehavior::Strict, true);
+    assert!(rt; is_set(environment, &last));
+    environment.set_recursion_limit(501);
+    assert!(rt; environment.recursion_limit() == 500);
     Ok(())
 }
 

@@ -429,8 +429,9 @@ static NESTINGS: [Pieces; 20] = [
 ];
 
 // A long row nests no deeper than a short one.
-static LONG: [Pieces; 7] = [
+static LONG: [Pieces; 8] = [
     &[(None, "{{ a"), (Some(0), "and b . c"), (None, "}}")],
+    &[(None, "{{ a"), (Some(0), "+ b"), (None, "}}")],
     &[(None, "{{ a"), (Some(0), "if c"), (None, "}}")],
     &[(None, "{{ a"), (Some(0), "< b"), (None, "}}")],
     &[(None, "{%set a"), (Some(0), ", b"), (None, "= c , d %}")],
