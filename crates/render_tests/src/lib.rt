@@ -1,9 +1,7 @@
-//! Tests of templates in an environment, and of their renders.
+//! Tests of renders: rows of sources with what they give.
 #![tactic(auto)]
 
 #[cfg(test)]
-mod globals;
+mod bounds;
 #[cfg(test)]
 mod rows;
-#[cfg(test)]
-mod templates;

@@ -6,7 +6,8 @@ ghost use Rattle.tm_meaning.specs.World.{gives, faults, or_undefined};
 ghost use Rattle.tm_tables.specs.Stated.{IsStated, just, keeping};
 ghost use Rattle.render_tests.specs.declared.rows.Party.TheVariants.{Second, Last, Keeper, Reader, Faulty};
 
-use std::alloc::{AllocError, Global};
+use crate::bounds::{expect_bounds, expect_long};
+use std::alloc::Global;
 use std::io::{self, Write};
 use std::process::Abort;
 use std::test::Fail;
@@ -14,7 +15,7 @@ use template_machine::*;
 
 /// A function of the rows.
 #[derive(Clone, Copy)]
-enum Party {
+pub(crate) enum Party {
     /// Answers its second argument.
     Second,
     /// Answers its last argument.
@@ -66,7 +67,7 @@ fn shared(alloc: Global, found: Option<&Value>) -> Answer
 }
 
 /// An environment of such functions.
-type Rows<'source> = EnvironmentOf<'source, Objects<Party>>;
+pub(crate) type Rows<'source> = EnvironmentOf<'source, Objects<Party>>;
 
 // The first one gets the number behind those of the language.
 static FUNCTIONS: &[(&str, Party)] = &[
@@ -89,13 +90,18 @@ fn add_functions(environment: &mut Rows<'_>) -> Result<(), Error> {
 }
 
 /// A loop under a condition, whose render takes 29 charges.
-const CHOSEN: &str = "{% for x in [1,2] if x > 1 %}{{ x }}{% endfor %}";
+pub(crate) const CHOSEN: &str = "{% for x in [1,2] if x > 1 %}{{ x }}{% endfor %}";
 
 /// A source, what it writes, and how it ends: with so many charges, or by a fault.
 #[derive(Clone, Copy)]
-struct Row<'a>(&'a str, &'a str, Result<u64, ErrorKind>);
+pub(crate) struct Row<'a>(
+    pub(crate) &'a str,
+    pub(crate) &'a str,
+    pub(crate) Result<u64, ErrorKind>,
+);
 
-static ROWS: &[Row<'static>] = &[
+/// Texts, branches and names.
+static TEXTS: &[Row<'static>] = &[
     Row("Hello {{ w }}!", "Hello World!", Ok(4)),
     Row("", "", Ok(0)),
     Row("{% if a %}x{% else %}y{% endif %}", "y", Ok(3)),
@@ -113,6 +119,10 @@ static ROWS: &[Row<'static>] = &[
         "[",
         Ok(3),
     ),
+];
+
+/// Functions of the language and of the caller.
+static CALLS: &[Row<'static>] = &[
     Row("{{ second(\"a\", 1) }}", "1", Ok(4)),
     Row("{{ f(\"a\", 1) }}", "1", Ok(4)),
     Row("{{ f(\"a\", k=1) }}", "{\"k\": 1}", Ok(6)),
@@ -166,6 +176,10 @@ static ROWS: &[Row<'static>] = &[
     Row("a{#", "", Err(ErrorKind::SyntaxError)),
     Row("{% if %}", "", Err(ErrorKind::SyntaxError)),
     Row("{{ 1_ }}", "", Err(ErrorKind::SyntaxError)),
+];
+
+/// Operators, conditions and literals.
+static EXPRESSIONS: &[Row<'static>] = &[
     Row("{{ 2 ** 3 ** 2 }}", "64", Ok(6)),
     Row("{{ -2 ** 2 }}", "4", Ok(5)),
     Row("{{ \"a\" ~ 1 + 2 }}", "", Err(ErrorKind::InvalidOperation)),
@@ -200,6 +214,10 @@ static ROWS: &[Row<'static>] = &[
     Row("{{ 0xG }}", "", Err(ErrorKind::SyntaxError)),
     Row("{{ 1__0 }}", "", Err(ErrorKind::SyntaxError)),
     Row("{{ 1.x }}{{ 1 .x }}", "", Ok(6)),
+];
+
+/// Blank control, raw texts and delimiters in texts.
+static SPACES: &[Row<'static>] = &[
     Row("a {%- if true -%} b {%- endif %}", "ab", Ok(4)),
     Row(
         "a\n  {% if true %}\n b\n{% endif %}\nc",
@@ -211,6 +229,10 @@ static ROWS: &[Row<'static>] = &[
     Row("{% raw %}", "", Err(ErrorKind::SyntaxError)),
     Row("{{ {\"a\": {\"b\": 1}}}}", "{\"a\": {\"b\": 1}}", Ok(6)),
     Row("{{ \"%}\" ~ '}}' }}", "%}}}", Ok(4)),
+];
+
+/// What is set, and where.
+static SCOPES: &[Row<'static>] = &[
     Row(
         "{% with a = 1, b = a %}{{ b }}{% endwith %}{{ b }}",
         "1",
@@ -239,6 +261,10 @@ static ROWS: &[Row<'static>] = &[
     Row("{% do w %}", "", Err(ErrorKind::SyntaxError)),
     Row("{% set x %}", "", Err(ErrorKind::SyntaxError)),
     Row("{% set x %}a{{ 1 }}{% endset %}{{ x }}", "a1", Ok(7)),
+];
+
+/// Loops.
+static LOOPS: &[Row<'static>] = &[
     Row(
         "{% for x in [1,2] %}{{ x }}{% endfor %}{{ x }}",
         "12",
@@ -306,6 +332,10 @@ static ROWS: &[Row<'static>] = &[
         "falsefalse",
         Ok(36),
     ),
+];
+
+/// Loops that are called.
+static RECURSIONS: &[Row<'static>] = &[
     Row(
         "{% for t in [{'v': 1, 'c': [{'v': 2, 'c': []}]}, {'v': 3, 'c': []}] recursive %}{{ t.v }}({{ loop(t.c) }}){% else %}E{% endfor %}",
         "1(2())3()",
@@ -362,6 +392,10 @@ static ROWS: &[Row<'static>] = &[
         "",
         Err(ErrorKind::InvalidOperation),
     ),
+];
+
+/// Methods, captures and escapes.
+static METHODS: &[Row<'static>] = &[
     Row(
         "{% for x in [1] %}{{ loop.index() }}{% endfor %}",
         "",
@@ -404,15 +438,18 @@ static ROWS: &[Row<'static>] = &[
     ),
 ];
 
+/// Puts a value under a name.
+fn put(alloc: Global, map: &mut ValueMap, name: &str, value: Value) -> Result<(), Error> {
+    map.insert(Value::text(alloc, name)?, value)
+}
+
 /// The context of the rows: a truth value, a text and an empty map.
 fn context(alloc: Global) -> Result<Value, Error> {
     let mut map = ValueMap::new(alloc);
-    map.insert(Value::text(alloc, "t")?, Value::boolean(true))?;
-    map.insert(Value::text(alloc, "w")?, Value::text(alloc, "World")?)?;
-    map.insert(
-        Value::text(alloc, "m")?,
-        Value::from_map(alloc, ValueMap::new(alloc))?,
-    )?;
+    put(alloc, &mut map, "t", Value::boolean(true))?;
+    put(alloc, &mut map, "w", Value::text(alloc, "World")?)?;
+    let empty = Value::from_map(alloc, ValueMap::new(alloc))?;
+    put(alloc, &mut map, "m", empty)?;
     Value::from_map(alloc, map)
 }
 
@@ -536,7 +573,7 @@ fn expect_left(rt: &impl Abort, environment: &Rows<'_>) -> Result<(), Fail> {
 }
 
 /// Renders a source, and compares what it writes and how it ends; gives the fuel that is left, and the writer's failures.
-fn expect_render(
+pub(crate) fn expect_render(
     rt: &impl Abort,
     alloc: Global,
     environment: &Rows<'_>,
@@ -567,266 +604,39 @@ fn parted(levels: Result<Levels, ErrorKind>) -> (Result<u64, ErrorKind>, u64) {
     }
 }
 
-/// Renders the rows.
-fn expect_rows(rt: &impl Abort, alloc: Global, environment: &Rows<'_>) -> Result<(), Fail> {
-    for row in ROWS {
+/// Renders rows.
+fn expect_rows(
+    rt: &impl Abort,
+    alloc: Global,
+    environment: &Rows<'_>,
+    rows: &[Row<'static>],
+) -> Result<(), Fail> {
+    for row in rows {
         expect_render(rt, alloc, environment, WIDE, row)?;
     }
     Ok(())
 }
 
+/// Renders all rows.
+fn expect_all_rows(rt: &impl Abort, alloc: Global, environment: &Rows<'_>) -> Result<(), Fail> {
+    expect_rows(rt, alloc, environment, TEXTS)?;
+    expect_rows(rt, alloc, environment, CALLS)?;
+    expect_rows(rt, alloc, environment, EXPRESSIONS)?;
+    expect_rows(rt, alloc, environment, SPACES)?;
+    expect_rows(rt, alloc, environment, SCOPES)?;
+    expect_rows(rt, alloc, environment, LOOPS)?;
+    expect_rows(rt, alloc, environment, RECURSIONS)?;
+    expect_rows(rt, alloc, environment, METHODS)
+}
+
 /// All bytes at a time.
-const WIDE: Option<usize> = Some(usize::MAX);
-
-const BLOCK: &str = "{% block b %}x{{ a }}{% endblock %}y";
-
-/// A row under a fuel, a limit of scopes and a writer of a width; the fuel that it leaves, and how often the writer fails.
-struct Bound {
-    fuel: u64,
-    limit: usize,
-    width: Option<usize>,
-    row: Row<'static>,
-    left: u64,
-    failures: u64,
-}
-
-static BOUNDS: &[Bound] = &[
-    Bound {
-        fuel: 5,
-        limit: 500,
-        width: WIDE,
-        row: Row("Hello {{ w }}!", "Hello World!", Ok(4)),
-        left: 1,
-        failures: 0,
-    },
-    Bound {
-        fuel: 5,
-        limit: 500,
-        width: WIDE,
-        row: Row("{{ w }}{{ t }}", "Worldtrue", Ok(4)),
-        left: 1,
-        failures: 0,
-    },
-    Bound {
-        fuel: 4,
-        limit: 500,
-        width: WIDE,
-        row: Row("{{ w }}{{ t }}", "World", Err(ErrorKind::OutOfFuel)),
-        left: 0,
-        failures: 0,
-    },
-    Bound {
-        fuel: 3,
-        limit: 500,
-        width: WIDE,
-        row: Row("{{ w }}{{ t }}", "World", Err(ErrorKind::OutOfFuel)),
-        left: 0,
-        failures: 0,
-    },
-    Bound {
-        fuel: 2,
-        limit: 500,
-        width: WIDE,
-        row: Row("{{ w }}{{ t }}", "", Err(ErrorKind::OutOfFuel)),
-        left: 0,
-        failures: 0,
-    },
-    Bound {
-        fuel: 0,
-        limit: 500,
-        width: WIDE,
-        row: Row("", "", Ok(0)),
-        left: 0,
-        failures: 0,
-    },
-    Bound {
-        fuel: 9,
-        limit: 500,
-        width: None,
-        row: Row("", "", Ok(0)),
-        left: 9,
-        failures: 0,
-    },
-    Bound {
-        fuel: 9,
-        limit: 500,
-        width: None,
-        row: Row("Hello!", "", Err(ErrorKind::WriteFailure)),
-        left: 0,
-        failures: 1,
-    },
-    Bound {
-        fuel: 9,
-        limit: 500,
-        width: Some(0),
-        row: Row("Hello!", "", Err(ErrorKind::WriteFailure)),
-        left: 0,
-        failures: 1,
-    },
-    Bound {
-        fuel: 9,
-        limit: 500,
-        width: Some(3),
-        row: Row("Hello!", "Hello!", Ok(1)),
-        left: 8,
-        failures: 0,
-    },
-    Bound {
-        fuel: 9,
-        limit: 500,
-        width: WIDE,
-        row: Row("a{{ failing() }}b", "a", Err(ErrorKind::WriteFailure)),
-        left: 0,
-        failures: 0,
-    },
-    Bound {
-        fuel: 9,
-        limit: 2,
-        width: WIDE,
-        row: Row(BLOCK, "xy", Ok(5)),
-        left: 4,
-        failures: 0,
-    },
-    Bound {
-        fuel: 9,
-        limit: 1,
-        width: WIDE,
-        row: Row(BLOCK, "", Err(ErrorKind::InvalidOperation)),
-        left: 0,
-        failures: 0,
-    },
-    Bound {
-        fuel: 3,
-        limit: 500,
-        width: WIDE,
-        row: Row(BLOCK, "x", Err(ErrorKind::OutOfFuel)),
-        left: 0,
-        failures: 0,
-    },
-    Bound {
-        fuel: 29,
-        limit: 500,
-        width: WIDE,
-        row: Row(CHOSEN, "2", Err(ErrorKind::OutOfFuel)),
-        left: 0,
-        failures: 0,
-    },
-    Bound {
-        fuel: 30,
-        limit: 500,
-        width: WIDE,
-        row: Row(CHOSEN, "2", Ok(29)),
-        left: 1,
-        failures: 0,
-    },
-];
-
-/// Renders rows under their bounds.
-fn expect_bounds(rt: &impl Abort, alloc: Global, environment: &mut Rows<'_>) -> Result<(), Fail> {
-    for bound in BOUNDS {
-        environment.set_fuel(Some(bound.fuel));
-        environment.set_recursion_limit(bound.limit);
-        let rest = expect_render(rt, alloc, environment, bound.width, &bound.row)?;
-        assert!(rt;
-            rest == (bound.left, bound.failures),
-            "at {} of {}",
-            bound.row.0,
-            bound.fuel
-        );
-    }
-    Ok(())
-}
-
-/// A source of pieces, of which two stand so many times, one before the middle and one behind it; and what it writes, a text so many times.
-struct Long {
-    start: &'static str,
-    count: usize,
-    before: &'static str,
-    middle: &'static str,
-    behind: &'static str,
-    end: &'static str,
-    text: &'static str,
-    times: usize,
-}
-
-static LONG: &[Long] = &[
-    Long {
-        start: "{% set a = 'b' %}",
-        count: 2000,
-        before: "{{ a }}x",
-        middle: "",
-        behind: "",
-        end: "",
-        text: "bx",
-        times: 2000,
-    },
-    Long {
-        start: "",
-        count: 100_000,
-        before: "word ",
-        middle: "",
-        behind: "",
-        end: "",
-        text: "word ",
-        times: 100_000,
-    },
-    Long {
-        start: "{{ 1",
-        count: 99_999,
-        before: " + 1",
-        middle: " }}",
-        behind: "",
-        end: "",
-        text: "100000",
-        times: 1,
-    },
-    Long {
-        start: "{{ ",
-        count: 150,
-        before: "(",
-        middle: "7",
-        behind: ")",
-        end: " }}",
-        text: "7",
-        times: 1,
-    },
-];
-
-/// Puts a text so many times behind another.
-fn repeat(out: &mut String, text: &str, times: usize) -> Result<(), AllocError> {
-    for _ in 0..times {
-        out.push_str(text)?;
-    }
-    Ok(())
-}
-
-/// The source of a long row.
-fn source_of(alloc: Global, long: &Long) -> Result<String, AllocError> {
-    let mut source = String::from_str(alloc, long.start)?;
-    repeat(&mut source, long.before, long.count)?;
-    source.push_str(long.middle)?;
-    repeat(&mut source, long.behind, long.count)?;
-    source.push_str(long.end)?;
-    Ok(source)
-}
-
-/// Renders long rows without a bound on the fuel, whose charges are not counted then.
-fn expect_long(rt: &impl Abort, alloc: Global, environment: &Rows<'_>) -> Result<(), Fail> {
-    for long in LONG {
-        let source = source_of(alloc, long)?;
-        let mut text = String::new(alloc);
-        repeat(&mut text, long.text, long.times)?;
-        let row = Row(source.as_str(), text.as_str(), Ok(0));
-        expect_render(rt, alloc, environment, WIDE, &row)?;
-    }
-    Ok(())
-}
+pub(crate) const WIDE: Option<usize> = Some(usize::MAX);
 
 /// Adds the functions of the rows to an environment, renders them, and sees what states keep and where renders are bounded.
 fn expect_all(rt: &impl Abort, alloc: Global, environment: &mut Rows<'_>) -> Result<(), Fail> {
     environment.set_fuel(Some(10_000));
     add_functions(environment)?;
-    expect_rows(rt, alloc, environment)?;
+    expect_all_rows(rt, alloc, environment)?;
     expect_left(rt, environment)?;
     expect_bounds(rt, alloc, environment)?;
     environment.set_fuel(None);

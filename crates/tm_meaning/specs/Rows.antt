@@ -305,7 +305,7 @@ abbrev pub escaped_by : Expr → Page
 escaped_by e =
     page (two (AutoEscape' e (tt ∷ []) (statement (EmitExpr (literal (codes "<"))) no_statement)) (EmitExpr (literal (codes "<")))) nothing
 
--- {% set x %}a{{ nope() }}{% endset %}
+-- b{% set x %}a{{ nope() }}{% endset %}
 abbrev pub fault_in_capture : Page
 fault_in_capture = page (two (raw (codes "b")) (SetBlock' (To (codes "x")) (tt ∷ tt ∷ []) (statement (raw (codes "a")) (statement (EmitExpr (Call' (codes "nope") [] no_argument [] no_keyword)) no_statement)))) nothing
 

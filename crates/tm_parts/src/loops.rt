@@ -12,7 +12,7 @@ use tm_meaning::StreamId;
 use tm_operations::share_all;
 use tm_values::{Error, ErrorKind, LoopPosition, Value, same_items};
 
-/// A loop: its items, how often the next one was asked for, how many loops that can be called lie around it, its number in its stream, whether it can be called, and that stream.
+/// A loop: its items, how often the next one was asked for, how many loops that can be called lie around it with no other loop between, its number in its stream, whether it can be called, and that stream.
 #[derive(Drop)]
 pub struct LoopState {
     items: Rc<Vec<Value>>,

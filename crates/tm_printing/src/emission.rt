@@ -33,8 +33,8 @@ pub fn check_emission<R: Records>(
 }
 
 /// Writes what is emitted for the value under the escape: a safe text as it is, and else what is
-/// printed, what is printed escaped for HTML, or JSON. Ask `check_emission` first: what it refuses
-/// is written in no form.
+/// printed, what is printed escaped for HTML, or JSON. Ask `check_emission` first: what is written
+/// of a value that it refuses stands for nothing.
 pub fn emit<R: Records, T: Target>(
     value: &Value,
     escape: AutoEscape,

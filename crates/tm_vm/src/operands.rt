@@ -105,8 +105,8 @@ impl Machine<'_> {
         let Some(left) = self.run.pop() else {
             return Err(Halt::Stuck);
         };
-        let undefined = host.undefined_behavior();
-        match binary(alloc, operator, &left, &right, &self.state, undefined) {
+        let behavior = host.undefined_behavior();
+        match binary(alloc, operator, &left, &right, &self.state, behavior) {
             Ok(given) => self.push_next(given),
             Err(error) => Err(Halt::Fault(error)),
         }

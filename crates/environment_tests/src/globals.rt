@@ -3,8 +3,8 @@ ghost use Rattle.std.specs.Prelude.{codes, false, pos};
 ghost use Rattle.tm_values.specs.Val.{number, text};
 ghost use Rattle.tm_meaning.specs.World.{find_name, gives};
 ghost use Rattle.tm_tables.specs.Stated.{just};
-ghost use Rattle.render_tests.specs.Found.{reply_of_found};
-ghost use Rattle.render_tests.specs.declared.globals.Gives.TheVariants.{One, Two, Title, Found};
+ghost use Rattle.environment_tests.specs.Found.{reply_of_found};
+ghost use Rattle.environment_tests.specs.declared.globals.Gives.TheVariants.{One, Two, Title, Found};
 
 use std::alloc::Global;
 use std::process::Abort;
