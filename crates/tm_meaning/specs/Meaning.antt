@@ -12,7 +12,7 @@ use Rattle.tm_values.specs.declared.undefined.UndefinedBehavior.{UndefinedBehavi
 use Rattle.tm_operations.specs.Arithmetic as arithmetic
 use Rattle.tm_operations.specs.Truth.{truth_of}
 use Rattle.tm_operations.specs.Comparison.{compared}
-use Rattle.tm_operations.specs.Concatenation.{concatenated}
+use Rattle.tm_printing.specs.Concatenation.{concatenated}
 use Rattle.tm_operations.specs.Containment.{contained}
 use Rattle.tm_operations.specs.Members.{attribute_of, item_of}
 use Rattle.tm_operations.specs.Slices.{sliced}

@@ -22,7 +22,7 @@ pub use Rattle.tm_meaning.specs.declared.stream.TemplateId.TheVariants.{Own as o
 pub use Rattle.tm_meaning.specs.declared.stream.StreamId.{StreamId}
 use Rattle.tm_operations.specs.Iteration.{iterated, unpacked}
 use Rattle.tm_operations.specs.Members.{settable}
-use Rattle.tm_operations.specs.Undefined.{refusal_of, unless}
+use Rattle.tm_values.specs.Defined.{refusal_of, unless}
 use Rattle.tm_printing.specs.Emitted.{emission_verdict, emitted_text}
 use Rattle.tm_printing.specs.Refused.{Verdict}
 

@@ -2,7 +2,7 @@
 use Rattle.std.specs.Prelude.{Bool, not, Ok}
 use Rattle.std.specs.declared.cmp.Ordering.{Ordering}
 use Rattle.std.specs.Ordering.{is_lt, is_eq, is_gt}
-use Rattle.tm_operations.specs.Undefined.{refusal_of, unless}
+use Rattle.tm_values.specs.Defined.{refusal_of, unless}
 use Rattle.tm_operations.specs.declared.comparisons.Comparison.{Comparison}
 use Rattle.tm_operations.specs.declared.comparisons.Comparison.TheVariants.{Equal, NotEqual, Less, LessOrEqual, Greater, GreaterOrEqual}
 use Rattle.tm_values.specs.Answer.{Answer}

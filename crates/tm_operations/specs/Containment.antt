@@ -2,7 +2,7 @@
 use Rattle.std.specs.Prelude.{ℕ, Bool, true, false, eqb, ◌||◌, ◌&&◌, List, [], ◌∷◌, Option, None, Some, Ok, is_some}
 use Rattle.std.specs.List.{list_any}
 use Rattle.std.specs.Ordering.{eq_by_cmp}
-use Rattle.tm_operations.specs.Undefined.{refusal_of, unless}
+use Rattle.tm_values.specs.Defined.{refusal_of, unless}
 use Rattle.tm_values.specs.Answer.{Answer, invalid}
 use Rattle.tm_values.specs.Map.{find}
 use Rattle.tm_values.specs.Order.{val_cmp}

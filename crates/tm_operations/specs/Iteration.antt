@@ -4,7 +4,7 @@ use Rattle.std.specs.Char.{encode_utf8}
 use Rattle.std.specs.Str.{chars}
 use Rattle.tm_operations.specs.Members.{text_values}
 use Rattle.tm_operations.specs.Names.{loop_names, macro_names}
-use Rattle.tm_operations.specs.Undefined.{refusal_of, unless}
+use Rattle.tm_values.specs.Defined.{refusal_of, unless}
 use Rattle.tm_values.specs.Answer.{Answer, refused, invalid, is_memory_alone}
 use Rattle.tm_values.specs.Records.{RecordData, namespace_at}
 use Rattle.tm_values.specs.Val.{Val, undefined, text, list, map, keywords, exports, macro, loop, namespace, list_of, entries_of}

@@ -1,4 +1,3 @@
-pub mod Undefined
 pub mod Truth
 pub mod Arithmetic
 pub mod Comparison
@@ -6,7 +5,6 @@ pub mod Members
 pub mod Containment
 pub mod Ranges
 pub mod Slices
-pub mod Concatenation
 pub mod Names
 pub mod Iteration
 pub mod Maps

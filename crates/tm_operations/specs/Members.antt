@@ -3,7 +3,7 @@ use Rattle.std.specs.Prelude.{ℕ, ◌+◌, ◌-◌, ◌==◌, ℤ, pos, Bool, t
 use Rattle.std.specs.Char.{encode_utf8}
 use Rattle.std.specs.Cmp.Lexicographic.{pointwise}
 use Rattle.std.specs.Str.{chars}
-use Rattle.tm_operations.specs.Undefined.{refusal_of, unless}
+use Rattle.tm_values.specs.Defined.{refusal_of, unless}
 use Rattle.tm_operations.specs.declared.members.LoopAttribute.{LoopAttribute}
 use Rattle.tm_operations.specs.declared.members.LoopAttribute.TheVariants as of_loop
 use Rattle.tm_primitives.specs.Places.{place_of}

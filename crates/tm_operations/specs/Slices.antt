@@ -2,7 +2,7 @@
 use Rattle.std.specs.Prelude.{◌==◌, ℕ, ℤ, pos, false, cond, List, [], length, map as each, Option, None, Some, Ok, Err, slice_index_or}
 use Rattle.std.specs.Ordering.{int_eq}
 use Rattle.std.specs.Str.{chars}
-use Rattle.tm_operations.specs.Undefined.{refusal_of, unless}
+use Rattle.tm_values.specs.Defined.{refusal_of, unless}
 use Rattle.tm_primitives.specs.Characters.{picked}
 use Rattle.tm_primitives.specs.Places.{places_of}
 use Rattle.tm_values.specs.Answer.{Answer, invalid}

@@ -1,7 +1,7 @@
 -- The truth of values.
 use Rattle.std.specs.Prelude.{ℕ, pos, Bool, true, false, not, ◌==◌, List, length, Ok}
 use Rattle.std.specs.Ordering.{int_eq}
-use Rattle.tm_operations.specs.Undefined.{refusal_of, unless}
+use Rattle.tm_values.specs.Defined.{refusal_of, unless}
 use Rattle.tm_values.specs.Answer.{Answer}
 use Rattle.tm_values.specs.Val.{Val, undefined, none, boolean, number, text, list, map, keywords, exports, list_of, entries_of}
 use Rattle.tm_values.specs.declared.undefined.UndefinedBehavior.{UndefinedBehavior}

@@ -2,9 +2,8 @@
 ghost use Rattle.std.specs.Prelude.{◌≡◌};
 ghost use Rattle.tm_operations.specs.Comparison.{is_met, compared};
 
-use crate::undefined::check_defined;
 use std::cmp::Ordering;
-use tm_values::{Error, UndefinedBehavior, UndefinedUse, Value};
+use tm_values::{Error, UndefinedBehavior, UndefinedUse, Value, check_defined};
 
 /// How two values are compared.
 #[derive(Clone, Copy, PartialEq, Eq, Debug)]

@@ -2,8 +2,7 @@
 ghost use Rattle.std.specs.Prelude.{◌≡◌};
 ghost use Rattle.tm_operations.specs.Truth.{is_true, truth_of};
 
-use crate::undefined::check_defined;
-use tm_values::{Error, Node, UndefinedBehavior, UndefinedUse, Value};
+use tm_values::{Error, Node, UndefinedBehavior, UndefinedUse, Value, check_defined};
 
 /// Whether the value counts as true. False are undefined, none, false, 0, and what is empty of
 /// texts, lists, maps, keyword maps and modules.

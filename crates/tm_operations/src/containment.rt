@@ -3,10 +3,10 @@ ghost use Rattle.std.specs.Prelude.{◌≡◌, ◌∷◌, []};
 ghost use Rattle.tm_operations.specs.Containment.{has_part, found_in, contained};
 ghost use Rattle.tm_values.specs.Answer.{IsAnswer};
 
-use crate::undefined::check_defined;
 use std::alloc::Global;
 use tm_values::{
-    Error, ErrorKind, Node, Records, UndefinedBehavior, UndefinedUse, Value, find_namespace,
+    Error, ErrorKind, Node, Records, UndefinedBehavior, UndefinedUse, Value, check_defined,
+    find_namespace,
 };
 
 /// Whether `item in container`: an item of a list, a key of a map, keyword map, module or

@@ -6,12 +6,12 @@ ghost use Rattle.tm_operations.specs.Members.{text_values};
 ghost use Rattle.tm_operations.specs.Names.{loop_names, macro_names};
 
 use crate::names::{LOOP_NAMES, MACRO_NAMES};
-use crate::undefined::check_defined;
 use std::alloc::Global;
 use std::rc::Rc;
 use tm_primitives::characters;
 use tm_values::{
-    Error, ErrorKind, Node, Records, UndefinedBehavior, UndefinedUse, Value, find_namespace,
+    Error, ErrorKind, Node, Records, UndefinedBehavior, UndefinedUse, Value, check_defined,
+    find_namespace,
 };
 
 /// What `for` goes over: a list's items, shared and not copied; a text's characters, which aren't

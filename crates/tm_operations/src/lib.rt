@@ -3,7 +3,6 @@
 
 mod arithmetic;
 mod comparisons;
-mod concatenation;
 mod condition;
 mod containment;
 mod iteration;
@@ -13,13 +12,11 @@ mod names;
 mod ranges;
 mod rows;
 mod slices;
-mod undefined;
 
 pub use arithmetic::{
     add, divide, floor_divide, multiply, negate, power, remainder, share_all, subtract,
 };
 pub use comparisons::{Comparison, compare};
-pub use concatenation::concatenate;
 pub use condition::{is_true, truth};
 pub use containment::contains;
 pub use iteration::{iterate, unpack, unpack_law};
@@ -28,4 +25,3 @@ pub use members::{LoopAttribute, attribute, check_settable, is_callable, item};
 pub use ranges::{range, range_law};
 pub use rows::{dict_rows, namespace_rows, range_faults, range_rows};
 pub use slices::slice;
-pub use undefined::check_defined;

@@ -7,13 +7,12 @@ ghost use Rattle.tm_values.specs.Records.{LoopData, loop_at};
 ghost use Rattle.tm_values.specs.Position.{position_of};
 ghost use Rattle.tm_values.specs.Val.{list, vals_of, text_in};
 
-use crate::undefined::check_defined;
 use std::alloc::Global;
 use std::rc::RcStr;
 use tm_primitives::{characters, places};
 use tm_values::{
     Error, ErrorKind, LoopPosition, Macro, Node, Records, UndefinedBehavior, UndefinedUse, Value,
-    find_loop, find_namespace,
+    check_defined, find_loop, find_namespace,
 };
 
 /// What a loop tells of itself.

@@ -4,12 +4,11 @@ ghost use Rattle.tm_operations.specs.Slices.{bound_in, step_in, parts_in, list_a
 ghost use Rattle.tm_primitives.specs.Places.{places_of};
 ghost use Rattle.tm_values.specs.Answer.{IsAnswer};
 
-use crate::undefined::check_defined;
 use std::alloc::Global;
 use std::rc::RcStr;
 use tm_primitives::characters;
 use tm_primitives::places::Places;
-use tm_values::{Error, ErrorKind, Node, UndefinedBehavior, UndefinedUse, Value};
+use tm_values::{Error, ErrorKind, Node, UndefinedBehavior, UndefinedUse, Value, check_defined};
 
 /// The slice `value[start:stop:step]`: of a list its items, of a text its characters, which aren't
 /// safe, and of undefined and none the empty list. Parts are whole numbers, or none where they are

@@ -4,7 +4,6 @@
 mod escapes;
 mod fuel;
 mod halt;
-mod loops;
 mod operators;
 mod output;
 mod stack;
@@ -12,7 +11,6 @@ mod stack;
 pub use escapes::escape_for;
 pub use fuel::FuelTracker;
 pub use halt::Halt;
-pub use loops::{LoopState, following_at, position_at, previous_at};
 pub use operators::{binary, paired, unary};
 pub use output::{Captures, Output, WriteWrapper};
 pub use stack::Stack;

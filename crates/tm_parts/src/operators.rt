@@ -7,9 +7,10 @@ ghost use Rattle.tm_values.specs.declared.error.ErrorKind.TheVariants.{OutOfMemo
 
 use std::alloc::Global;
 use tm_operations::{
-    Comparison, add, compare, concatenate, contains, divide, floor_divide, multiply, negate, power,
-    remainder, subtract, truth,
+    Comparison, add, compare, contains, divide, floor_divide, multiply, negate, power, remainder,
+    subtract, truth,
 };
+use tm_printing::concatenate;
 use tm_syntax::{BinaryOperator, UnaryOperator};
 use tm_values::{Error, Records, UndefinedBehavior, Value};
 

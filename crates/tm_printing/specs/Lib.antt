@@ -4,3 +4,4 @@ pub mod Printed
 pub mod Json
 pub mod Refused
 pub mod Emitted
+pub mod Concatenation

@@ -3,6 +3,7 @@
 
 mod check;
 mod compact;
+mod concatenation;
 mod emission;
 mod printing;
 mod spelling;
@@ -10,6 +11,7 @@ mod text;
 
 pub use check::{check_json, check_print};
 pub use compact::write_json;
+pub use concatenation::concatenate;
 pub use emission::{check_emission, emit, to_text};
 pub use printing::{print, write_html};
 pub use spelling::{Escape, Html, HtmlQuoted, Json, Quoted, Spelling, Verbatim};

@@ -12,9 +12,8 @@ use crate::state::StateData;
 use std::alloc::Global;
 use std::rc::Rc;
 use tm_operations::{attribute, iterate};
-use tm_parts::LoopState;
 use tm_syntax::Name;
-use tm_tables::{Answer, Called, Host, Reply};
+use tm_tables::{Answer, Called, Host, LoopState, Reply};
 use tm_values::{Error, ErrorKind, Node, UndefinedBehavior, Value, find_namespace};
 
 /// What a call came to.

@@ -19,13 +19,16 @@ use std::marker::Model;
 use std::mem;
 use std::rc::Rc;
 use tm_meaning::{GlobalFunction, LoopMark, StreamId, TemplateId};
-use tm_operations::{check_defined, check_settable, dict, namespace, range};
-use tm_parts::{FuelTracker, LoopState, following_at, position_at, previous_at};
+use tm_operations::{check_settable, dict, namespace, range};
+use tm_parts::FuelTracker;
 use tm_printing::check_emission;
 use tm_syntax::{Code, Instruction, LoopFlags, Name, NameMap};
-use tm_tables::{Called, Context, Frame, Host, View};
+use tm_tables::{
+    Called, Context, Frame, Host, LoopState, View, following_at, position_at, previous_at,
+};
 use tm_values::{
     AutoEscape, Error, ErrorKind, LoopPosition, Node, Records, UndefinedUse, Value, ValueMap,
+    check_defined,
 };
 
 /// What a state keeps. A contract sees it as a world of the definitions.

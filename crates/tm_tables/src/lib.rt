@@ -1,10 +1,11 @@
-//! Scopes, what objects of the caller see and answer, and what the machine asks of the environment.
+//! Scopes, loops, what objects of the caller see and answer, and what the machine asks of the environment.
 #![tactic(auto)]
 
 mod callable;
 mod context;
 mod host;
 mod locals;
+mod loops;
 mod objects;
 mod plain;
 mod view;
@@ -12,6 +13,7 @@ mod view;
 pub use callable::{Answer, Callable, Called, Reply};
 pub use context::{Context, Found, Frame};
 pub use host::Host;
+pub use loops::{LoopState, following_at, position_at, previous_at};
 pub use objects::{Objects, Parties};
 pub use plain::{Answering, Plain};
 pub use view::View;

@@ -6,8 +6,8 @@ ghost use Rattle.tm_meaning.specs.World.{find_name};
 ghost use Rattle.tm_tables.specs.Views.{records_with};
 
 use crate::context::Context;
+use crate::loops::{LoopState, following_at, position_at, previous_at};
 use std::marker::Model;
-use tm_parts::{LoopState, following_at, position_at, previous_at};
 use tm_syntax::{Name, NameMap};
 use tm_values::{AutoEscape, Error, LoopPosition, Records, UndefinedBehavior, Value, ValueMap};
 

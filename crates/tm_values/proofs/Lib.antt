@@ -2,3 +2,4 @@ pub mod Lists
 pub mod Sizes
 pub mod Maps
 pub mod Entries
+pub mod Asked

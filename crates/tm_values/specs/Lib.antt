@@ -14,3 +14,4 @@ pub mod Records
 pub mod Position
 pub mod Answer
 pub mod Held
+pub mod Defined

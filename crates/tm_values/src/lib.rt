@@ -1,6 +1,7 @@
 //! The values of templates and the errors of every call.
 #![tactic(auto, using(crate::proofs::Lists::round_trips))]
 
+mod defined;
 mod dropping;
 mod error;
 mod escape;
@@ -11,6 +12,7 @@ mod records;
 mod undefined;
 mod value;
 
+pub use defined::check_defined;
 pub use error::{Error, ErrorKind};
 pub use escape::AutoEscape;
 pub use macros::Macro;

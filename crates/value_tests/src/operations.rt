@@ -9,12 +9,13 @@ use std::process::Abort;
 use std::rc::Rc;
 use std::test::Fail;
 use tm_operations::{
-    Comparison, add, attribute, check_defined, check_settable, compare, concatenate, contains,
-    divide, floor_divide, is_callable, item, iterate, multiply, negate, power, remainder, slice,
-    subtract, truth, unpack,
+    Comparison, add, attribute, check_settable, compare, contains, divide, floor_divide,
+    is_callable, item, iterate, multiply, negate, power, remainder, slice, subtract, truth, unpack,
 };
-use tm_printing::to_text;
-use tm_values::{Error, ErrorKind, NoRecords, Node, UndefinedBehavior, UndefinedUse, Value};
+use tm_printing::{concatenate, to_text};
+use tm_values::{
+    Error, ErrorKind, NoRecords, Node, UndefinedBehavior, UndefinedUse, Value, check_defined,
+};
 
 /// What is done with the left operand, and with the right one if it takes one.
 #[derive(Clone, Copy)]

@@ -1,6 +1,6 @@
-use Rattle.tm_operations.proofs.Asked.{passes, passes_on, fails}
+use Rattle.tm_values.proofs.Asked.{passes, passes_on, fails}
 use Rattle.tm_operations.specs.Containment.{found_in}
-use Rattle.tm_operations.specs.Undefined.{refusal_of, unless}
+use Rattle.tm_values.specs.Defined.{refusal_of, unless}
 use Rattle.tm_values.specs.Answer.{IsAnswer}
 use Rattle.tm_values.specs.declared.undefined.UndefinedUse.TheVariants as use_of
 use Rattle.tm_operations.proofs.containment.contains.Goals as goal

@@ -1,6 +1,6 @@
-use Rattle.tm_operations.proofs.Asked.{passes}
+use Rattle.tm_values.proofs.Asked.{passes}
 use Rattle.tm_operations.specs.Slices.{parts_in, cut_by}
-use Rattle.tm_operations.specs.Undefined.{refusal_of}
+use Rattle.tm_values.specs.Defined.{refusal_of}
 use Rattle.tm_values.specs.declared.undefined.UndefinedUse.TheVariants as use_of
 use Rattle.tm_operations.proofs.slices.slice.Goals as goal
 

@@ -1,8 +1,10 @@
 //! Undefined values as operands.
 ghost use Rattle.std.specs.Prelude.{◌≡◌, Ok};
-ghost use Rattle.tm_operations.specs.Undefined.{refusal_of, unless};
+ghost use Rattle.tm_values.specs.Defined.{refusal_of, unless};
 
-use tm_values::{Error, Node, UndefinedBehavior, UndefinedUse, Value};
+use crate::error::Error;
+use crate::undefined::{UndefinedBehavior, UndefinedUse};
+use crate::value::{Node, Value};
 
 /// Whether the value may be used so: UndefinedError or InvalidOperation where it is undefined and
 /// the behaviour refuses that use.

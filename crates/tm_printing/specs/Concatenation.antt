@@ -1,6 +1,6 @@
 -- `~`: the two printed texts, one after the other.
 use Rattle.std.specs.Prelude.{ℕ, false, List, ◌++◌, Ok, Err}
-use Rattle.tm_operations.specs.Undefined.{refusal_of, unless}
+use Rattle.tm_values.specs.Defined.{refusal_of, unless}
 use Rattle.tm_printing.specs.Printed.{printed}
 use Rattle.tm_printing.specs.Refused.{Verdict, print_verdict}
 use Rattle.tm_values.specs.Answer.{Answer}

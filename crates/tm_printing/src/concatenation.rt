@@ -1,14 +1,14 @@
 //! Printed texts, one after the other.
 ghost use Rattle.std.specs.Prelude.{◌≡◌, ◌++◌, ◌∷◌, [], OnOk, IfErr, MatchResult, string_bytes};
-ghost use Rattle.tm_operations.specs.Concatenation.{joined, concatenated};
+ghost use Rattle.tm_printing.specs.Concatenation.{joined, concatenated};
 ghost use Rattle.tm_printing.specs.Printed.{printed};
 ghost use Rattle.tm_values.specs.Answer.{IsAnswer};
 
-use crate::undefined::check_defined;
+use crate::check::check_print;
+use crate::printing::print;
 use std::alloc::Global;
 use std::rc::RcStr;
-use tm_printing::{check_print, print};
-use tm_values::{Error, ErrorKind, Records, UndefinedBehavior, UndefinedUse, Value};
+use tm_values::{Error, ErrorKind, Records, UndefinedBehavior, UndefinedUse, Value, check_defined};
 
 /// `left ~ right`: the two printed texts, one after the other, not safe. UndefinedError where a
 /// side is undefined and the behaviour refuses that; InvalidOperation where one can't be printed.

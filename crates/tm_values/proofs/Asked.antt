@@ -1,6 +1,6 @@
 -- Answers behind a test for being undefined.
 use Rattle.std.proofs.Common.{◌≡◌, List, Option, None, Some, Ok, Err}
-use Rattle.tm_operations.specs.Undefined.{unless}
+use Rattle.tm_values.specs.Defined.{unless}
 use Rattle.tm_values.specs.Answer.{Answer, IsAnswer}
 use Rattle.tm_values.specs.declared.error.ErrorKind.{ErrorKind}
 

@@ -1,8 +1,8 @@
-use Rattle.tm_operations.proofs.Asked.{passes, passes_on, fails}
-use Rattle.tm_operations.specs.Concatenation.{joined}
-use Rattle.tm_operations.specs.Undefined.{refusal_of, unless}
+use Rattle.tm_values.proofs.Asked.{passes, passes_on, fails}
+use Rattle.tm_printing.specs.Concatenation.{joined}
+use Rattle.tm_values.specs.Defined.{refusal_of, unless}
 use Rattle.tm_values.specs.declared.undefined.UndefinedUse.TheVariants as use_of
-use Rattle.tm_operations.proofs.concatenation.concatenate.Goals as goal
+use Rattle.tm_printing.proofs.concatenation.concatenate.Goals as goal
 
 -- both sides may be used so
 pub returns : goal.returns
