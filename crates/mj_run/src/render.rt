@@ -8,9 +8,8 @@ ghost use Rattle.mj_run.specs.Program.{Input, input_of, context_of, limit_of, Is
 use mj_words::Arguments;
 use std::alloc::Global;
 use std::io::Write;
-use template_machine::{Environment, Parties, TemplateOf};
+use template_machine::{Environment, Parties, StateIds, TemplateOf};
 use tm_parts::Counted;
-use tm_state::StateIds;
 use tm_values::{Error, ErrorKind, Value, ValueMap};
 
 /// Renders the source and flushes, also after a render that failed, whose error is the one that

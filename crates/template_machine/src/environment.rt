@@ -10,11 +10,11 @@ ghost use Rattle.tm_templates.specs.Sources.{source_bytes};
 ghost use Rattle.template_machine.specs.Renders.{greatest, IsUnnumbered, RenderedSource};
 ghost use Rattle.template_machine.specs.Environment.{IsTemplateOf, empty_environment, new_environment, language_globals, with_function, with_global, greatest_limit};
 
+use crate::ids::StateIds;
 use crate::template::{Held, TemplateOf};
 use std::alloc::Global;
 use std::marker::Model;
 use tm_compiler::SyntaxConfig;
-use tm_state::StateIds;
 use tm_syntax::{Name, NameMap};
 use tm_tables::{Callable, Objects, Parties};
 use tm_templates::{CompiledTemplate, EscapeSetting, Source, TemplateConfig, Templates};

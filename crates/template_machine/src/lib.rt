@@ -2,11 +2,13 @@
 #![tactic(auto)]
 
 mod environment;
+mod ids;
 mod rendering;
 mod state;
 mod template;
 
 pub use environment::{Environment, EnvironmentOf};
+pub use ids::StateIds;
 pub use state::{Captured, CapturedOf, State, StateOf};
 pub use template::{Template, TemplateOf};
 pub use tm_compiler::{
@@ -19,7 +21,6 @@ pub use tm_operations as operations;
 pub use tm_output::{Target, TargetFailed};
 pub use tm_parts::{Counted, FuelTracker, NullWriter, Output, Sink, WriteWrapper};
 pub use tm_printing as printing;
-pub use tm_state::StateIds;
 pub use tm_syntax::{Assignment, Code, Target as AssignmentTarget};
 pub use tm_tables::{Answer, Answering, Callable, Called, Objects, Parties, Plain, Reply, View};
 pub use tm_templates::{

@@ -5,12 +5,13 @@ ghost use Rattle.template_machine.specs.Held.{held_template};
 ghost use Rattle.template_machine.specs.Renders.{first, greatest, meaning, meaning_from, IsFresh, Ran, Rendered, RenderedText};
 
 use crate::environment::EnvironmentOf;
+use crate::ids::StateIds;
 use crate::rendering::Rendering;
 use crate::state::{CapturedOf, StateOf};
 use std::marker::Model;
 use tm_meaning::{StreamId, TemplateId};
 use tm_parts::{Captures, Halt, NullWriter, Sink};
-use tm_state::{StateData, StateIds};
+use tm_state::StateData;
 use tm_syntax::CaptureMode;
 use tm_tables::{Callable, Objects, Parties};
 use tm_templates::CompiledTemplate;

@@ -2,11 +2,9 @@
 #![tactic(auto)]
 
 mod calls;
-mod ids;
 mod saved;
 mod state;
 
 pub use calls::{Outcome, Recursion};
-pub use ids::StateIds;
 pub use saved::Saved;
 pub use state::StateData;
