@@ -605,7 +605,7 @@ fn outcome_of(
 }
 
 /// Whether the answer is printed so, being no safe text, or is the error of this name.
-fn is_spelled(alloc: Global, answer: &Result<Value, Error>, wanted: &str) -> bool {
+pub(crate) fn is_spelled(alloc: Global, answer: &Result<Value, Error>, wanted: &str) -> bool {
     match answer {
         Ok(value) => prints(alloc, value, wanted),
         Err(error) => error.kind().name() == wanted,
@@ -645,19 +645,36 @@ fn check_no_record(rt: &impl Abort, alloc: Global, records: &Fake, foreign: Give
     }
 }
 
-fn check_all(rt: &impl Abort, alloc: Global, records: &Fake) {
+// Some tables a function: more rows in one are dear to prove.
+fn check_numbers(rt: &impl Abort, alloc: Global, records: &Fake) {
     check_rows(rt, alloc, records, "arithmetic", &ARITHMETIC);
     check_rows(rt, alloc, records, "sums", &SUMS);
+}
+
+fn check_truths(rt: &impl Abort, alloc: Global, records: &Fake) {
     check_rows(rt, alloc, records, "order", &ORDER);
     check_rows(rt, alloc, records, "truth", &TRUTH);
-    check_rows(rt, alloc, records, "items", &ITEMS);
     check_rows(rt, alloc, records, "members", &MEMBERS);
+}
+
+fn check_parts(rt: &impl Abort, alloc: Global, records: &Fake) {
+    check_rows(rt, alloc, records, "items", &ITEMS);
+    check_rows(rt, alloc, records, "own record", &OWN_RECORD);
+}
+
+fn check_sequences(rt: &impl Abort, alloc: Global, records: &Fake) {
     check_rows(rt, alloc, records, "slices", &SLICES);
     check_rows(rt, alloc, records, "iteration", &ITERATION);
-    check_rows(rt, alloc, records, "own record", &OWN_RECORD);
-    check_no_record(rt, alloc, records, Namespace(5, 0));
-    check_no_record(rt, alloc, records, Namespace(7, 3));
-    check_no_record(rt, alloc, records, Loop(7, 1));
+}
+
+fn check_all(rt: &impl Abort, alloc: Global, records: &Fake) {
+    check_numbers(rt, alloc, records);
+    check_truths(rt, alloc, records);
+    check_parts(rt, alloc, records);
+    check_sequences(rt, alloc, records);
+    for foreign in &[Namespace(5, 0), Namespace(7, 3), Loop(7, 1)] {
+        check_no_record(rt, alloc, records, *foreign);
+    }
 }
 
 /// What the operation is refused by.
@@ -674,59 +691,77 @@ fn refusal(
     }
 }
 
-fn check_cells(
-    rt: &impl Abort,
+fn has_cells(
     alloc: Global,
     records: &Fake,
     operation: Operation,
     operands: (Given, Given),
-    cells: Cells,
-) {
-    for (behavior, wanted) in [
-        (UndefinedBehavior::Lenient, cells.0),
-        (UndefinedBehavior::Chainable, cells.1),
-        (UndefinedBehavior::SemiStrict, cells.2),
-        (UndefinedBehavior::Strict, cells.3),
-    ] {
-        assert!(rt; refusal(alloc, records, operation, operands, behavior) == wanted);
-    }
-}
-
-fn check_undefined(rt: &impl Abort, alloc: Global, records: &Fake, undefined: Given) {
-    for (operation, cells) in &UNDEFINED_LEFT {
-        check_cells(
-            rt,
+    cells: &Cells,
+) -> bool {
+    refusal(
+        alloc,
+        records,
+        operation,
+        operands,
+        UndefinedBehavior::Lenient,
+    ) == cells.0
+        && refusal(
             alloc,
             records,
-            *operation,
-            (undefined, Text("a")),
-            *cells,
-        );
+            operation,
+            operands,
+            UndefinedBehavior::Chainable,
+        ) == cells.1
+        && refusal(
+            alloc,
+            records,
+            operation,
+            operands,
+            UndefinedBehavior::SemiStrict,
+        ) == cells.2
+        && refusal(
+            alloc,
+            records,
+            operation,
+            operands,
+            UndefinedBehavior::Strict,
+        ) == cells.3
+}
+
+/// Whether undefined operands are refused as the rows say.
+fn is_refused(alloc: Global, records: &Fake, undefined: Given) -> bool {
+    for (operation, cells) in &UNDEFINED_LEFT {
+        if !has_cells(alloc, records, *operation, (undefined, Text("a")), cells) {
+            return false;
+        }
     }
     for (operation, cells) in &UNDEFINED_RIGHT {
-        check_cells(rt, alloc, records, *operation, (ONE, undefined), *cells);
+        if !has_cells(alloc, records, *operation, (ONE, undefined), cells) {
+            return false;
+        }
     }
+    true
 }
 
-fn check_all_undefined(rt: &impl Abort, alloc: Global, records: &Fake) {
-    check_undefined(rt, alloc, records, Undefined);
-    check_undefined(rt, alloc, records, Silent);
+fn is_refused_alone(alloc: Global, records: &Fake) -> bool {
     for (undefined, operation, cells) in &UNDEFINED_ALONE {
-        check_cells(
-            rt,
-            alloc,
-            records,
-            *operation,
-            (*undefined, Nothing),
-            *cells,
-        );
+        if !has_cells(alloc, records, *operation, (*undefined, Nothing), cells) {
+            return false;
+        }
     }
+    true
+}
+
+fn check_undefined(rt: &impl Abort, alloc: Global, records: &Fake) {
+    assert!(rt; is_refused(alloc, records, Undefined));
+    assert!(rt; is_refused(alloc, records, Silent));
+    assert!(rt; is_refused_alone(alloc, records));
 }
 
 #[test]
 fn operations_on_values(rt: HostRuntime) -> Result<(), Fail> {
     let records = made_records(rt.alloc())?;
     check_all(&rt, rt.alloc(), &records);
-    check_all_undefined(&rt, rt.alloc(), &records);
+    check_undefined(&rt, rt.alloc(), &records);
     Ok(())
 }
