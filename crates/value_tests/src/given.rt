@@ -92,16 +92,10 @@ static NAMESPACES: [&[(Given, Given)]; 3] = [
 
 pub fn made_records(alloc: Global) -> Result<Fake, Error> {
     let mut namespaces = Vec::new(alloc);
-    add_namespaces(alloc, &mut namespaces)?;
-    Ok(Fake { namespaces })
-}
-
-// This and its like only borrow what they fill: a way out that drops it is dear to prove.
-fn add_namespaces(alloc: Global, namespaces: &mut Vec<ValueMap>) -> Result<(), Error> {
     for pairs in &NAMESPACES {
         namespaces.push(map_of(alloc, pairs)?)?;
     }
-    Ok(())
+    Ok(Fake { namespaces })
 }
 
 pub fn made(alloc: Global, given: Given) -> Result<Value, Error> {
@@ -118,25 +112,18 @@ pub fn made(alloc: Global, given: Given) -> Result<Value, Error> {
 // The value, or none where it is a list or a map of a table.
 fn made_part(alloc: Global, given: Given) -> Result<Value, Error> {
     match given {
+        Given::Undefined => Ok(Value::undefined()),
+        Given::Silent => Ok(Value::silent_undefined()),
+        Given::Truth(truth) => Ok(Value::boolean(truth)),
+        Given::Number(whole) => Ok(Value::number(whole)),
         Given::Text(content) => Value::text(alloc, content),
         Given::Safe(content) => Value::safe_text(alloc, content),
+        Given::Function(number) => Ok(Value::function(number)),
         Given::Declared(name, entry, closure) => macro_of(alloc, name, entry, closure),
+        Given::Loop(state, index) => Ok(Value::loop_record(state, index)),
+        Given::Namespace(state, index) => Ok(Value::namespace(state, index)),
         Given::Around(index) => list_around(alloc, index),
-        _ => Ok(plain(given)),
-    }
-}
-
-// The value that needs no memory, or none.
-fn plain(given: Given) -> Value {
-    match given {
-        Given::Undefined => Value::undefined(),
-        Given::Silent => Value::silent_undefined(),
-        Given::Truth(truth) => Value::boolean(truth),
-        Given::Number(whole) => Value::number(whole),
-        Given::Function(number) => Value::function(number),
-        Given::Loop(state, index) => Value::loop_record(state, index),
-        Given::Namespace(state, index) => Value::namespace(state, index),
-        _ => Value::none(),
+        _ => Ok(Value::none()),
     }
 }
 
@@ -155,20 +142,17 @@ fn macro_of(
 }
 
 fn list_around(alloc: Global, index: usize) -> Result<Value, Error> {
-    Value::list(alloc, vec![in alloc; Value::namespace(7, index)]?)
+    let mut items = Vec::new(alloc);
+    items.push(Value::namespace(7, index))?;
+    Value::list(alloc, items)
 }
 
 fn list_of(alloc: Global, parts: &[Given]) -> Result<Value, Error> {
     let mut items = Vec::new(alloc);
-    add_parts(alloc, &mut items, parts)?;
-    Value::list(alloc, items)
-}
-
-fn add_parts(alloc: Global, items: &mut Vec<Value>, parts: &[Given]) -> Result<(), Error> {
     for part in parts {
         items.push(made_part(alloc, *part)?)?;
     }
-    Ok(())
+    Value::list(alloc, items)
 }
 
 fn map_of(alloc: Global, pairs: &[(Given, Given)]) -> Result<ValueMap, Error> {

@@ -605,7 +605,7 @@ fn outcome_of(
 }
 
 /// Whether the answer is printed so, being no safe text, or is the error of this name.
-pub(crate) fn is_spelled(alloc: Global, answer: &Result<Value, Error>, wanted: &str) -> bool {
+fn is_spelled(alloc: Global, answer: &Result<Value, Error>, wanted: &str) -> bool {
     match answer {
         Ok(value) => prints(alloc, value, wanted),
         Err(error) => error.kind().name() == wanted,
@@ -645,36 +645,19 @@ fn check_no_record(rt: &impl Abort, alloc: Global, records: &Fake, foreign: Give
     }
 }
 
-// Some tables a function: more rows in one are dear to prove.
-fn check_numbers(rt: &impl Abort, alloc: Global, records: &Fake) {
+fn check_all(rt: &impl Abort, alloc: Global, records: &Fake) {
     check_rows(rt, alloc, records, "arithmetic", &ARITHMETIC);
     check_rows(rt, alloc, records, "sums", &SUMS);
-}
-
-fn check_truths(rt: &impl Abort, alloc: Global, records: &Fake) {
     check_rows(rt, alloc, records, "order", &ORDER);
     check_rows(rt, alloc, records, "truth", &TRUTH);
-    check_rows(rt, alloc, records, "members", &MEMBERS);
-}
-
-fn check_parts(rt: &impl Abort, alloc: Global, records: &Fake) {
     check_rows(rt, alloc, records, "items", &ITEMS);
-    check_rows(rt, alloc, records, "own record", &OWN_RECORD);
-}
-
-fn check_sequences(rt: &impl Abort, alloc: Global, records: &Fake) {
+    check_rows(rt, alloc, records, "members", &MEMBERS);
     check_rows(rt, alloc, records, "slices", &SLICES);
     check_rows(rt, alloc, records, "iteration", &ITERATION);
-}
-
-fn check_all(rt: &impl Abort, alloc: Global, records: &Fake) {
-    check_numbers(rt, alloc, records);
-    check_truths(rt, alloc, records);
-    check_parts(rt, alloc, records);
-    check_sequences(rt, alloc, records);
-    for foreign in &[Namespace(5, 0), Namespace(7, 3), Loop(7, 1)] {
-        check_no_record(rt, alloc, records, *foreign);
-    }
+    check_rows(rt, alloc, records, "own record", &OWN_RECORD);
+    check_no_record(rt, alloc, records, Namespace(5, 0));
+    check_no_record(rt, alloc, records, Namespace(7, 3));
+    check_no_record(rt, alloc, records, Loop(7, 1));
 }
 
 /// What the operation is refused by.
@@ -691,77 +674,59 @@ fn refusal(
     }
 }
 
-fn has_cells(
+fn check_cells(
+    rt: &impl Abort,
     alloc: Global,
     records: &Fake,
     operation: Operation,
     operands: (Given, Given),
-    cells: &Cells,
-) -> bool {
-    refusal(
-        alloc,
-        records,
-        operation,
-        operands,
-        UndefinedBehavior::Lenient,
-    ) == cells.0
-        && refusal(
-            alloc,
-            records,
-            operation,
-            operands,
-            UndefinedBehavior::Chainable,
-        ) == cells.1
-        && refusal(
-            alloc,
-            records,
-            operation,
-            operands,
-            UndefinedBehavior::SemiStrict,
-        ) == cells.2
-        && refusal(
-            alloc,
-            records,
-            operation,
-            operands,
-            UndefinedBehavior::Strict,
-        ) == cells.3
+    cells: Cells,
+) {
+    for (behavior, wanted) in [
+        (UndefinedBehavior::Lenient, cells.0),
+        (UndefinedBehavior::Chainable, cells.1),
+        (UndefinedBehavior::SemiStrict, cells.2),
+        (UndefinedBehavior::Strict, cells.3),
+    ] {
+        assert!(rt; refusal(alloc, records, operation, operands, behavior) == wanted);
+    }
 }
 
-/// Whether undefined operands are refused as the rows say.
-fn is_refused(alloc: Global, records: &Fake, undefined: Given) -> bool {
+fn check_undefined(rt: &impl Abort, alloc: Global, records: &Fake, undefined: Given) {
     for (operation, cells) in &UNDEFINED_LEFT {
-        if !has_cells(alloc, records, *operation, (undefined, Text("a")), cells) {
-            return false;
-        }
+        check_cells(
+            rt,
+            alloc,
+            records,
+            *operation,
+            (undefined, Text("a")),
+            *cells,
+        );
     }
     for (operation, cells) in &UNDEFINED_RIGHT {
-        if !has_cells(alloc, records, *operation, (ONE, undefined), cells) {
-            return false;
-        }
+        check_cells(rt, alloc, records, *operation, (ONE, undefined), *cells);
     }
-    true
 }
 
-fn is_refused_alone(alloc: Global, records: &Fake) -> bool {
+fn check_all_undefined(rt: &impl Abort, alloc: Global, records: &Fake) {
+    check_undefined(rt, alloc, records, Undefined);
+    check_undefined(rt, alloc, records, Silent);
     for (undefined, operation, cells) in &UNDEFINED_ALONE {
-        if !has_cells(alloc, records, *operation, (*undefined, Nothing), cells) {
-            return false;
-        }
+        check_cells(
+            rt,
+            alloc,
+            records,
+            *operation,
+            (*undefined, Nothing),
+            *cells,
+        );
     }
-    true
-}
-
-fn check_undefined(rt: &impl Abort, alloc: Global, records: &Fake) {
-    assert!(rt; is_refused(alloc, records, Undefined));
-    assert!(rt; is_refused(alloc, records, Silent));
-    assert!(rt; is_refused_alone(alloc, records));
 }
 
 #[test]
 fn operations_on_values(rt: HostRuntime) -> Result<(), Fail> {
     let records = made_records(rt.alloc())?;
     check_all(&rt, rt.alloc(), &records);
-    check_undefined(&rt, rt.alloc(), &records);
+    check_all_undefined(&rt, rt.alloc(), &records);
     Ok(())
 }
