@@ -28,5 +28,5 @@ pub use tm_templates::{
 };
 pub use tm_values::{
     AutoEscape, Error, ErrorKind, LoopPosition, NoRecords, Records, UndefinedBehavior,
-    UndefinedUse, Value, ValueMap,
+    UndefinedUse, Value, ValueMap, check_defined,
 };
