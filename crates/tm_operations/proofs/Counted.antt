@@ -1,5 +1,5 @@
 -- Numbers by steps: that those before the stop are counted, and that what is asked for decides.
-use Rattle.std.proofs.Common.{◌≡◌, ◌≢◌, ◌<◌, ◌≤◌, ◌+◌, ◌*◌, ◌<ℤ◌, ◌≤ℤ◌, ◌+ℤ◌, ◌-ℤ◌, ◌*ℤ◌, ◌^◌, ◌&&◌, not, nat_lt, slice_get, ℕ, ℤ, pos, negsuc, neg_ℤ, Bool, true, false, cond, Option, Some, None, Ok, Err, List, length, inl, inr, refl, sym, ap, ◌∙◌, arith, zero, suc, unsigned_abs}
+use Rattle.std.proofs.Common.{◌≡◌, ◌≢◌, ◌<◌, ◌≤◌, ◌+◌, ◌*◌, ◌<ℤ◌, ◌≤ℤ◌, ◌+ℤ◌, ◌-ℤ◌, ◌*ℤ◌, ◌^◌, ◌&&◌, not, nat_lt, slice_get, ℕ, ℤ, pos, negsuc, neg_ℤ, Bool, true, false, Option, Some, None, Ok, List, length, inl, inr, refl, sym, ap, ◌∙◌, arith, zero, suc}
 use Rattle.std.proofs.lemmas.Bool.Decides.{nat_tests}
 use Rattle.std.proofs.lemmas.Int.{ints}
 use Rattle.std.proofs.lemmas.Grind.{div_ceil_times}
@@ -17,7 +17,7 @@ use Rattle.std.specs.Borrow.{Bor}
 use Rattle.tm_operations.specs.Ranges.{Span, count_of, numbers_of, is_served, served, ranged, required_in, later_in, span_of, range_of, AreStepped, StandBefore, LeaveNoneOut}
 use Rattle.tm_primitives.proofs.Steps.{distance_is, count_up, not_negative}
 use Rattle.tm_primitives.specs.Places.{distance, count_before, IsBefore, step_to}
-use Rattle.tm_values.specs.Answer.{Answer, invalid}
+use Rattle.tm_values.specs.Answer.{invalid}
 use Rattle.tm_values.specs.Val.{Val}
 
 -- k steps up, or down

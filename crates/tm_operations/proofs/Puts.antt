@@ -1,5 +1,5 @@
 -- Keywords behind plain arguments, and maps put one after the other.
-use Rattle.std.proofs.Common.{Vec, Global, ◌≡◌, ◌++◌, ◌<◌, nat_lt, Bool, true, false, cond, ℕ, List, [], ◌∷◌, length, Ok, Err, Less, Greater, refl, sym, ap, subst, ◌∙◌, append_assoc, slice_get}
+use Rattle.std.proofs.Common.{Vec, Global, ◌≡◌, ◌++◌, nat_lt, Bool, true, false, cond, List, [], ◌∷◌, length, Ok, Err, Less, Greater, refl, sym, ap, subst, ◌∙◌, append_assoc, slice_get}
 use Rattle.std.proofs.lemmas.List.{append-nil}
 use Rattle.tm_operations.specs.Maps.{keyword_pairs, plain_alone, keywords_of, plain_of, base_of, dict_of, has_text_key, text_pairs, namespace_of, IsMapWithKeywords}
 use Rattle.tm_operations.specs.Ranges.{given, no_more}

@@ -1,5 +1,5 @@
 -- Attributes and items of values.
-use Rattle.std.specs.Prelude.{ℕ, ◌+◌, ◌-◌, ◌==◌, ℤ, pos, Bool, true, false, cond, List, [], ◌∷◌, length, Option, None, Some, Ok, nat_eq, slice_index_or, codes}
+use Rattle.std.specs.Prelude.{ℕ, ◌+◌, ◌-◌, ◌==◌, pos, Bool, true, false, cond, List, [], ◌∷◌, length, Option, None, Some, Ok, nat_eq, slice_index_or, codes}
 use Rattle.std.specs.Char.{encode_utf8}
 use Rattle.std.specs.Cmp.Lexicographic.{pointwise}
 use Rattle.std.specs.Str.{chars}

@@ -1,5 +1,5 @@
 -- Worked calls of `range`, `dict` and `namespace`.
-use Rattle.std.specs.Prelude.{◌≡◌, ℕ, ℤ, pos, false, List, [], ◌∷◌, map as each, Ok, codes}
+use Rattle.std.specs.Prelude.{◌≡◌, ℕ, ℤ, pos, false, List, map as each, Ok, codes}
 use Rattle.tm_operations.specs.Maps.{dict_of, namespace_of}
 use Rattle.tm_operations.specs.Ranges.{number_list, range_of}
 use Rattle.tm_values.specs.Answer.{refused}

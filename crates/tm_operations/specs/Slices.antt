@@ -1,5 +1,5 @@
 -- Slices.
-use Rattle.std.specs.Prelude.{◌==◌, ℕ, ℤ, pos, false, cond, List, [], length, map as each, Option, None, Some, Ok, Err, slice_index_or}
+use Rattle.std.specs.Prelude.{ℕ, ℤ, pos, false, cond, List, [], length, map as each, Option, None, Some, Ok, slice_index_or}
 use Rattle.std.specs.Ordering.{int_eq}
 use Rattle.std.specs.Str.{chars}
 use Rattle.tm_values.specs.Defined.{refusal_of, unless}

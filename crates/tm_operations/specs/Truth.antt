@@ -1,5 +1,5 @@
 -- The truth of values.
-use Rattle.std.specs.Prelude.{ℕ, pos, Bool, true, false, not, ◌==◌, List, length, Ok}
+use Rattle.std.specs.Prelude.{pos, Bool, true, false, not, ◌==◌, List, length, Ok}
 use Rattle.std.specs.Ordering.{int_eq}
 use Rattle.tm_values.specs.Defined.{refusal_of, unless}
 use Rattle.tm_values.specs.Answer.{Answer}

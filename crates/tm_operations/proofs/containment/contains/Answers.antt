@@ -1,7 +1,8 @@
+use Rattle.std.proofs.lemmas.Grind.{common_steps}
+use Rattle.std.proofs.Common.{arith}
 use Rattle.tm_values.proofs.Asked.{passes, passes_on, fails}
 use Rattle.tm_operations.specs.Containment.{found_in}
 use Rattle.tm_values.specs.Defined.{refusal_of, unless}
-use Rattle.tm_values.specs.Answer.{IsAnswer}
 use Rattle.tm_values.specs.declared.undefined.UndefinedUse.TheVariants as use_of
 use Rattle.tm_operations.proofs.containment.contains.Goals as goal
 
@@ -22,3 +23,6 @@ returns-in-Err-check_defined g c found =
     let right = refusal_of c.args.behavior use_of.Containment c.args.container.now in
     let refused = fails left stated c.check_defined-2.result c.in-Err-check_defined.error c.check_defined-2.ensures c.in-Err-check_defined.is in
     passes_on right (unless left stated) c.check_defined.result tt c.in-Err-check_defined.error c.check_defined.ensures c.in_default.is refused
+
+pub returns-in-Err : goal.returns-in-Err
+returns-in-Err g c = grind (arith, common_steps)

@@ -1,4 +1,4 @@
-use Rattle.std.proofs.Common.{◌≡◌, ap, sym, ◌∙◌, map-id}
+use Rattle.std.proofs.Common.{◌≡◌, ap, sym, ◌∙◌, map-id, rules}
 use Rattle.std.specs.Str.{chars}
 use Rattle.std.proofs.lemmas.Iterator.{YieldsList-from_chars}
 use Rattle.std.proofs.lemmas.Iterator.Consumers.{YieldsList-end}
@@ -13,3 +13,15 @@ returns c =
     let stored = c.in_ok-new.ensures.ok in
     let values = c.loop-character.invariant in
     cc
+
+pub returns-in_err-values : goal.returns-in_err-values
+returns-in_err-values c = search rules fits 100
+
+pub returns-in_err-text : goal.returns-in_err-text
+returns-in_err-text c = search rules fits 100
+
+pub returns-in_err-push : goal.returns-in_err-push
+returns-in_err-push c = search rules fits 100
+
+pub returns-in_err-new : goal.returns-in_err-new
+returns-in_err-new c = search rules fits 100

@@ -1,6 +1,5 @@
 use Rattle.std.proofs.Common.{◌≡◌, ◌++◌, ◌∷◌, [], ◌∙◌, rules}
 use Rattle.tm_operations.proofs.Puts.{split, unsplit}
-use Rattle.tm_operations.specs.Maps.{keywords_of, plain_of}
 use Rattle.tm_values.specs.Val.{keywords, pairs_of}
 use Rattle.tm_operations.proofs.maps.split_keywords.Goals as goal
 

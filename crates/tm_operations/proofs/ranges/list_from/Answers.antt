@@ -1,3 +1,4 @@
+use Rattle.std.proofs.lemmas.Grind.{common_steps}
 use Rattle.std.proofs.Common.{◌≡◌, ◌++◌, ◌∷◌, ◌+◌, [], ap, ◌∙◌, arith, rules, map as each}
 use Rattle.std.proofs.lemmas.Int.{to_z-of_z}
 use Rattle.std.proofs.lemmas.List.{map-append}
@@ -23,3 +24,12 @@ loop-place-preserved c =
     let done = simp to_z-of_z at c.loop-place.invariant in
     let items = c.in_ok-push.ensures.items in
     simp to_z-of_z (cc)
+
+pub returns-in_err-items : goal.returns-in_err-items
+returns-in_err-items c = search rules fits 100
+
+pub returns-in_err-push : goal.returns-in_err-push
+returns-in_err-push c = grind (arith, common_steps)
+
+pub returns : goal.returns
+returns c = grind (arith, common_steps)

@@ -1,4 +1,5 @@
-use Rattle.std.proofs.Common.{◌≡◌, ◌≤◌, ap, ◌∙◌, Ok, None, Some, pos, arith, rules, slice_get, length}
+use Rattle.std.proofs.lemmas.Grind.{common_steps}
+use Rattle.std.proofs.Common.{◌≡◌, ◌≤◌, ap, Ok, Some, pos, arith, rules, slice_get, length}
 use Rattle.std.proofs.lemmas.Int.{to_z-of_z}
 use Rattle.std.specs.Int.{w64}
 use Rattle.std.specs.Int.RustNames.{FitsSigned}
@@ -40,3 +41,15 @@ returns-in-None c =
     let z : FitsSigned w64 c.unwrap_or-step.result = search rules in
     let answer = simp to_z-of_z at c.numbers-in-None.ensures in
     rw (asked_one vs c.in_ok-first.first c.unwrap_or-step.result c.in_ok-second.second c.in_ok-step.step first second third few c.in-None.is step) answer
+
+pub returns-in_err-first : goal.returns-in_err-first
+returns-in_err-first c = search rules fits 100
+
+pub returns-in_err-second : goal.returns-in_err-second
+returns-in_err-second c = grind (arith, common_steps)
+
+pub returns-in_err-step : goal.returns-in_err-step
+returns-in_err-step c = grind (arith, common_steps)
+
+pub returns-then-arguments-gt3 : goal.returns-then-arguments-gt3
+returns-then-arguments-gt3 c = grind (arith, common_steps)

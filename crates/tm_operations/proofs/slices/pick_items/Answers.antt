@@ -1,4 +1,4 @@
-use Rattle.std.proofs.Common.{◌≡◌, ◌<◌, ◌++◌, ℕ, List, [], ◌∷◌, length, get_or, sym, ap, ◌∙◌, append_assoc}
+use Rattle.std.proofs.Common.{◌≡◌, ◌<◌, ◌++◌, ℕ, List, [], ◌∷◌, length, get_or, sym, ap, ◌∙◌, append_assoc, rules}
 use Rattle.std.proofs.lemmas.List.{get_or_default}
 use Rattle.std.specs.Prelude.{slice_index_or}
 use Rattle.tm_operations.specs.Slices.{items_at}
@@ -27,3 +27,15 @@ loop-place-preserved c =
     let same : v ≡ get_or xs p c.index-items-place.result = c.in_ok-share.ensures ∙ c.index-items-place.is in
     let rest = next_item xs c.loop-place.picked.items p ps old v c.index-items-place.result (items_at xs c.args.places) is (inside_first n p old ps is inside) same c.loop-place.invariant.rest in
     record { inside = inside_more n p old ps is inside; rest = rw c.in_ok-push.ensures.items rest }
+
+pub returns-in_err-picked : goal.returns-in_err-picked
+returns-in_err-picked c = search rules fits 100
+
+pub returns-in_err-share : goal.returns-in_err-share
+returns-in_err-share c = search rules fits 100
+
+pub returns-in_err-push : goal.returns-in_err-push
+returns-in_err-push c = search rules fits 100
+
+pub returns : goal.returns
+returns c = search rules fits 100

@@ -1,0 +1,18 @@
+use Rattle.std.proofs.lemmas.Grind.{common_steps}
+use Rattle.std.proofs.Common.{rules, arith}
+use Rattle.tm_operations.proofs.iteration.texts.Goals as goal
+
+pub returns-in_err-values : goal.returns-in_err-values
+returns-in_err-values c = search rules fits 100
+
+pub returns-in_err-text : goal.returns-in_err-text
+returns-in_err-text c = search rules fits 100
+
+pub returns-in_err-push : goal.returns-in_err-push
+returns-in_err-push c = search rules fits 100
+
+pub returns-in_err-new : goal.returns-in_err-new
+returns-in_err-new c = search rules fits 100
+
+pub returns : goal.returns
+returns c = grind (arith, common_steps)
