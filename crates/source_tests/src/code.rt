@@ -1,8 +1,9 @@
 //! The code of a tree as a text.
-use std::alloc::{AllocError, Global};
+use std::alloc::Global;
 use tm_compiler::{Instruction, Streams, Tree, generate};
+use tm_printing::to_text;
 use tm_syntax::{BinaryOperator, CaptureMode};
-use tm_values::{Error, Node, Value};
+use tm_values::{Error, NoRecords, Node, Value};
 
 static NUMERALS: [&str; 23] = [
     "0", "1", "2", "3", "4", "5", "6", "7", "8", "9", "10", "11", "12", "13", "14", "15", "16",
@@ -16,18 +17,15 @@ fn numeral(number: usize) -> &'static str {
     }
 }
 
-fn constant(value: &Value) -> &str {
-    match &value.node {
-        Node::Undefined(true) => "silent",
-        Node::None => "none",
-        Node::Boolean(true) => "true",
-        Node::Boolean(false) => "false",
-        Node::Number(0) => "0",
-        Node::Number(1) => "1",
-        Node::Number(2) => "2",
-        Node::Text(content, false) => content.as_str(),
-        _ => "?",
+/// Writes a value as it is printed, and an undefined one as `silent`: no other is a constant.
+fn write_constant(alloc: Global, out: &mut String, value: &Value) -> Result<(), Error> {
+    if let Node::Undefined(_) = &value.node {
+        out.push_str("silent")?;
+        return Ok(());
     }
+    let text = to_text(alloc, value, &NoRecords)?;
+    out.push_str(text.as_str())?;
+    Ok(())
 }
 
 fn word(instruction: &Instruction) -> &'static str {
@@ -125,7 +123,6 @@ fn detail(instruction: &Instruction) -> &str {
         | Instruction::CallBlock(name)
         | Instruction::StoreLocal(name)
         | Instruction::SetAttr(name) => name.as_str(),
-        Instruction::LoadConst(value) => constant(value),
         Instruction::CompareAndPreserve(operator) => comparison(*operator),
         Instruction::BuildList(Some(number))
         | Instruction::BuildTuple(number)
@@ -150,37 +147,55 @@ fn count(instruction: &Instruction) -> &'static str {
     }
 }
 
-fn write_code(out: &mut String, code: &[Instruction]) -> Result<(), AllocError> {
+/// Writes the words of an instruction.
+fn write_instruction(
+    alloc: Global,
+    out: &mut String,
+    instruction: &Instruction,
+) -> Result<(), Error> {
+    out.push_str(" ")?;
+    out.push_str(word(instruction))?;
+    if let Instruction::LoadConst(value) = instruction {
+        return write_constant(alloc, out, value);
+    }
+    out.push_str(detail(instruction))?;
+    out.push_str(count(instruction))?;
+    Ok(())
+}
+
+fn write_code(alloc: Global, out: &mut String, code: &[Instruction]) -> Result<(), Error> {
     for instruction in code {
-        out.push_str(" ")?;
-        out.push_str(word(instruction))?;
-        out.push_str(detail(instruction))?;
-        out.push_str(count(instruction))?;
+        write_instruction(alloc, out, instruction)?;
     }
     Ok(())
 }
 
-fn write_block(out: &mut String, streams: &Streams, name: &str) -> Result<(), AllocError> {
+fn write_block(
+    alloc: Global,
+    out: &mut String,
+    streams: &Streams,
+    name: &str,
+) -> Result<(), Error> {
     match streams.blocks.get(name) {
         Some(code) => {
             out.push_str(" | ")?;
             out.push_str(name)?;
-            write_code(out, code.as_slice())
+            write_code(alloc, out, code.as_slice())
         }
         None => Ok(()),
     }
 }
 
-fn write_streams(out: &mut String, streams: &Streams) -> Result<(), AllocError> {
-    write_code(out, streams.root.as_slice())?;
-    write_block(out, streams, "x")?;
-    write_block(out, streams, "y")
+fn write_streams(alloc: Global, out: &mut String, streams: &Streams) -> Result<(), Error> {
+    write_code(alloc, out, streams.root.as_slice())?;
+    write_block(alloc, out, streams, "x")?;
+    write_block(alloc, out, streams, "y")
 }
 
 /// Whether this is the code of a tree, and of its blocks x and y.
 pub fn has_code(alloc: Global, tree: &Tree, wanted: &str) -> Result<bool, Error> {
     let streams = generate(alloc, tree)?;
     let mut out = String::new(alloc);
-    write_streams(&mut out, &streams)?;
+    write_streams(alloc, &mut out, &streams)?;
     Ok(out.as_str() == wanted)
 }

@@ -4,12 +4,10 @@
 #[cfg(test)]
 mod code;
 #[cfg(test)]
-mod compiler;
+mod flags;
 #[cfg(test)]
-mod parser;
+mod rows;
 #[cfg(test)]
-mod scanner;
+mod sources;
 #[cfg(test)]
 mod syntax;
-#[cfg(test)]
-mod tokens;

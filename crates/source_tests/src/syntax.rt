@@ -31,21 +31,31 @@ pub(crate) fn with_flags(alloc: Global, flags: Flags) -> Result<Rc<SyntaxConfig>
     Ok(Rc::new(alloc, syntax)?)
 }
 
-fn owned(alloc: Global, pair: (&str, &str)) -> Result<(String, String), AllocError> {
-    let start = String::from_str(alloc, pair.0)?;
-    let end = String::from_str(alloc, pair.1)?;
+/// A start and an end.
+type Delimiters = (String, String);
+
+fn owned(alloc: Global, start: &str, end: &str) -> Result<Delimiters, AllocError> {
+    let start = String::from_str(alloc, start)?;
+    let end = String::from_str(alloc, end)?;
     Ok((start, end))
+}
+
+fn built(
+    block: Delimiters,
+    variable: Delimiters,
+    comment: Delimiters,
+) -> Result<SyntaxConfig, Error> {
+    SyntaxConfig::builder()
+        .block_delimiters(block.0, block.1)
+        .variable_delimiters(variable.0, variable.1)
+        .comment_delimiters(comment.0, comment.1)
+        .build()
 }
 
 /// Starts and ends of block tags, emissions and comments.
 pub(crate) fn with_delimiters(alloc: Global, texts: &[&str; 6]) -> Result<Rc<SyntaxConfig>, Error> {
-    let block = owned(alloc, (texts[0], texts[1]))?;
-    let variable = owned(alloc, (texts[2], texts[3]))?;
-    let comment = owned(alloc, (texts[4], texts[5]))?;
-    let syntax = SyntaxConfig::builder()
-        .block_delimiters(block.0, block.1)
-        .variable_delimiters(variable.0, variable.1)
-        .comment_delimiters(comment.0, comment.1)
-        .build()?;
-    Ok(Rc::new(alloc, syntax)?)
+    let block = owned(alloc, texts[0], texts[1])?;
+    let variable = owned(alloc, texts[2], texts[3])?;
+    let comment = owned(alloc, texts[4], texts[5])?;
+    Ok(Rc::new(alloc, built(block, variable, comment)?)?)
 }

@@ -1,0 +1,118 @@
+//! Sources under flags and delimiters of the caller's own, and who owns the texts of a source.
+use crate::sources::check_codes;
+use crate::syntax::{self, Flags, NO_FLAG};
+use std::alloc::Global;
+use std::process::Abort;
+use std::rc::RcStr;
+use std::test::Fail;
+use tm_scanner::{SyntaxConfig, scan};
+use tm_syntax::Token;
+use tm_values::{Error, ErrorKind};
+
+static DELIMITED: [&str; 1] = [
+    "{{<%# ${a} %>b<%if a%>}<%endif%>${ {1:'}'} } => raw:{{ raw:b $a if-false:5 raw:} #1 #} map:1 emit",
+];
+
+#[test]
+fn delimiters_are_the_callers(rt: HostRuntime) -> Result<(), Fail> {
+    let syntax = syntax::with_delimiters(rt.alloc(), &["<%", "%>", "${", "}", "<%#", "%>"])?;
+    check_codes(&rt, rt.alloc(), &*syntax, &DELIMITED)?;
+    Ok(())
+}
+
+static UNUSABLE: [[&str; 6]; 3] = [
+    ["", "b", "c", "d", "e", "f"],
+    ["a", "b", "c", "d", "e", ""],
+    ["a", "b", "c", "d", "c", "d"],
+];
+
+fn is_unusable(alloc: Global, texts: &[&str; 6]) -> bool {
+    match &syntax::with_delimiters(alloc, texts) {
+        Ok(_) => false,
+        Err(error) => error.kind() == ErrorKind::InvalidDelimiter,
+    }
+}
+
+#[test]
+fn unusable_delimiters_are_refused(rt: HostRuntime) {
+    for texts in &UNUSABLE {
+        assert!(rt; is_unusable(rt.alloc(), texts), "at {}", texts[0]);
+    }
+}
+
+const TRIM: Flags = Flags {
+    trim_blocks: true,
+    ..NO_FLAG
+};
+
+const STRIP: Flags = Flags {
+    lstrip_blocks: true,
+    ..NO_FLAG
+};
+
+const TRIM_AND_STRIP: Flags = Flags {
+    lstrip_blocks: true,
+    ..TRIM
+};
+
+const KEEP: Flags = Flags {
+    keep_trailing_newline: true,
+    ..NO_FLAG
+};
+
+/// The rows of each choice of flags.
+static FLAGGED: [(Flags, &[&str]); 5] = [
+    (
+        NO_FLAG,
+        &["a\n  {% if b %}\n c\n{% endif %}\nd => raw:a\n   $b if-false:4 raw:\n c\n raw:\nd"],
+    ),
+    (
+        TRIM,
+        &["a\n  {% if b %}\n c\n{% endif %}\nd => raw:a\n   $b if-false:4 raw: c\n raw:d"],
+    ),
+    (
+        STRIP,
+        &["a\n  {% if b %}\n c\n{% endif %}\nd => raw:a\n $b if-false:4 raw:\n c\n raw:\nd"],
+    ),
+    (
+        TRIM_AND_STRIP,
+        &[
+            "a\n  {% if b %}\n c\n{% endif %}\nd => raw:a\n $b if-false:4 raw: c\n raw:d",
+            "a\n  {%+ if b %}\n c\n{% endif %}\nd => raw:a\n   $b if-false:4 raw: c\n raw:d",
+            "a\n  {% if b +%}\n c\n{% endif +%}\nd => raw:a\n $b if-false:4 raw:\n c\n raw:\nd",
+            "\t {# c #}\r\n  {{ a }}\n {{ b }} {# #} => raw:   $a emit raw:\n  $b emit raw: ",
+            "  {% raw %}\n x\n\t{% endraw %}\n  {# #} => raw: x\n",
+            "  {%+ raw +%}\n x\n\t{%+ endraw +%}\n => raw:   raw:\n x\n\t",
+        ],
+    ),
+    (KEEP, &["a\n => raw:a\n"]),
+];
+
+#[test]
+fn flags_trim(rt: HostRuntime) -> Result<(), Fail> {
+    for (flags, rows) in &FLAGGED {
+        let syntax = syntax::with_flags(rt.alloc(), *flags)?;
+        check_codes(&rt, rt.alloc(), &*syntax, rows)?;
+    }
+    Ok(())
+}
+
+/// Whether each raw text of a source owns a share of it, and no copy.
+fn shares_raw_texts(alloc: Global, syntax: &SyntaxConfig, source: &str) -> Result<bool, Error> {
+    let source = RcStr::from_str(alloc, source)?;
+    let tokens = scan(alloc, syntax, &source)?;
+    let raw_texts = tokens.iter().filter(|token| matches!(token, Token::Raw(_)));
+    Ok(RcStr::strong_count(&source) - 1 == raw_texts.count())
+}
+
+#[test]
+fn raw_texts_share_the_source(rt: HostRuntime) -> Result<(), Fail> {
+    let syntax = syntax::usual(rt.alloc())?;
+    for source in ["", "a{{ b }} c {% raw %} d {% endraw %}", "{ {{- a -}} }\n"] {
+        assert!(rt;
+            shares_raw_texts(rt.alloc(), &*syntax, source)?,
+            "at {source}"
+        );
+    }
+    Ok(())
+}

@@ -1,0 +1,35 @@
+//! Rows of tables, each one text: an array of texts is proved far faster than one of pairs.
+use std::alloc::Global;
+use tm_values::Error;
+
+/// A row's parts before and behind its ` =>`.
+pub(crate) fn halves(row: &str) -> (&str, &str) {
+    row.split_once(" =>").unwrap_or((row, ""))
+}
+
+// How often a piece stands, and its words: once, or so many times less than a count as the number
+// before its `*` says.
+fn repeated(piece: &str, count: usize) -> (usize, &str) {
+    match piece.split_once('*') {
+        Some((less, words)) if less.len() == 1 => (
+            count.saturating_sub(less.parse().unwrap_or(0)),
+            words,
+        ),
+        _ => (1, piece),
+    }
+}
+
+/// The pieces between `|` behind one another, with a blank between them.
+pub(crate) fn joined(alloc: Global, pieces: &str, count: usize) -> Result<String, Error> {
+    let mut text = String::new(alloc);
+    for piece in pieces.split('|') {
+        let (times, words) = repeated(piece, count);
+        for _ in 0..times {
+            if !text.is_empty() {
+                text.push_str(" ")?;
+            }
+            text.push_str(words)?;
+        }
+    }
+    Ok(text)
+}

@@ -1,0 +1,402 @@
+//! Sources with their code, and what is no source of a template.
+use crate::rows::{halves, joined};
+use crate::{code, syntax};
+use std::alloc::Global;
+use std::process::Abort;
+use std::rc::RcStr;
+use std::test::Fail;
+use tm_compiler::{SyntaxConfig, Tree, parse};
+use tm_values::{Error, ErrorKind};
+
+/// What a source is compiled to.
+static EXPRESSIONS_AND_STATEMENTS: [&str; 95] = [
+    "{# c #} =>",
+    "{{ \"}}\" }}\n => #}} emit",
+    "{{ a == none }} => $a #none == emit",
+    "{{ not a == b and c }} => $a $b == not and:6 $c emit",
+    "{{ a and b or not c.d.e }} => $a and:3 $b or:8 $c .d .e not emit",
+    "{{ f(1, (a),) }}x => #1 $a call:f2 emit raw:x",
+    "{{ f() == true }} => call:f0 #true == emit",
+    "{{ f(a, b=1) }} => $a #b #1 named:1 call:f2 emit",
+    "{{ a.m() }} => $a method:m1 emit",
+    "{{ a.b.m(1, k=c)[0] }} => $a .b #1 #k $c named:1 method:m3 #0 item emit",
+    "{% do a.m(1) %} => $a #1 method:m2 drop",
+    "{{ f(b=1,) }} => #b #1 named:1 call:f1 emit",
+    "{{ f(b=1, c=2) }} => #b #1 #c #2 named:2 call:f1 emit",
+    "{{ 1 < a < 1 if b }} => $b if-false:12 #1 $a keep:< and:9 #1 < jump:11 swap drop jump:13 #silent emit",
+    "{% if a %}x{% elif b %}{% else %}{% endif %} => $a if-false:4 raw:x jump:7 $b if-false:7 jump:7",
+    "{% if a %}{% endif %} => $a if-false:2",
+    "{% block x %}{% block y %}{% endblock y %}{% endblock %} => block:x | x block:y | y",
+    "{% if a %}{% block y %}b{% endblock %}{% endif %} => $a if-false:3 block:y | y raw:b",
+    "{% set do, b = 1, do %}{% do f(b) %} => #1 $do tuple:2 unpack:2 store:do store:b $b call:f1 drop",
+    "{% with set = 1, x = set %}{{ x }}{% endwith %} => with #1 store:set $set store:x $x emit leave",
+    "{% set x %}a{% endset %} => capture raw:a captured store:x",
+    "{% set a, b %}{% endset %} => capture captured unpack:2 store:a store:b",
+    "{% set (a) %}{% endset %} => capture captured store:a",
+    "{% set a.b %}x{% endset %} => capture raw:x captured $a set:b",
+    "{% autoescape false %}x{% endautoescape %} => #false escape raw:x escaped",
+    "{% for x in y %}{% endfor %} => $y loop iterate:5 store:x jump:2 looped",
+    "{% for a, b in c %}{{ a }}{% else %}e{% endfor %} => $c loop iterate:9 unpack:2 store:a store:b $a emit jump:2 empty looped if-false:13 raw:e",
+    "{% for (a, b) in c, d %}{% endfor %} => $c $d tuple:2 loop iterate:9 unpack:2 store:a store:b jump:4 looped",
+    "{% for x in a if x %}{% endfor %} => #0 $a pass iterate:14 copy store:x $x if-false:12 swap #1 + jump:3 drop jump:3 looped list loop iterate:20 store:x jump:17 looped",
+    "{% for x in a, b if x %}{% endfor %} => #0 $a $b tuple:2 pass iterate:16 copy store:x $x if-false:14 swap #1 + jump:5 drop jump:5 looped list loop iterate:22 store:x jump:19 looped",
+    "{% for x in y %}{% if x %}{% break %}{% endif %}{% continue %}{% endfor %} => $y loop iterate:9 store:x $x if-false:7 jump:9 jump:2 jump:2 looped",
+    "{% for x in y %}{% with %}{% break %}{% endwith %}{% endfor %} => $y loop iterate:9 store:x with leave jump:9 leave jump:2 looped",
+    "{% for x in y %}{% for x in y %}{% else %}{% break %}{% endfor %}{% endfor %} => $y loop iterate:14 store:x $y loop iterate:9 store:x jump:6 empty looped if-false:13 jump:14 jump:2 looped",
+    "{% for x in y recursive %}{{ loop(x) }}{{ loop(x).a }}{{ loop(x, x) }}{% endfor %} => $y loop! iterate:15 store:x $x recurse $x call:loop1 .a emit $x $x call:loop2 emit jump:2 looped",
+    "{% for x in a if x recursive %}{% endfor %} => #0 $a pass iterate:14 copy store:x $x if-false:12 swap #1 + jump:3 drop jump:3 looped list loop! iterate:20 store:x jump:17 looped",
+    "{{ a ** b ** c }} => $a $b ** $c ** emit",
+    "{{ - a ** b }} => $a - $b ** emit",
+    "{{ a ~ b + c }} => $a $b ~ $c + emit",
+    "{{ a ~ b * c }} => $a $b $c * ~ emit",
+    "{{ not a == b }} => $a $b == not emit",
+    "{{ a not in [ b ] }} => $a $b list:1 in not emit",
+    "{{ a [ b : c ] }} => $a $b $c #none slice emit",
+    "{{ a [ : ] }} => $a #none #none #none slice emit",
+    "{{ a [ : : b ] }} => $a #none #none $b slice emit",
+    "{{ a [ b ] . c }} => $a $b item .c emit",
+    "{{ f ( a , b , c = d , c = e , ) }} => $a $b #c $d #c $e named:2 call:f3 emit",
+    "{{ f ( a = b if c ) }} => #a $c if-false:5 $b jump:6 #silent named:1 call:f1 emit",
+    "{{ f ( a == b ) }} => $a $b == call:f1 emit",
+    "{{ ( a , ) }} => $a tuple:1 emit",
+    "{{ ( ) }} => tuple:0 emit",
+    "{{ ( a ) }} => $a emit",
+    "{{ [ a , b , ] }} => $a $b list:2 emit",
+    "{{ { a : b } [ c ] }} => $a $b map:1 $c item emit",
+    "{{ { } }} => map:0 emit",
+    "{{ a + b * - c ** d }} => $a $b $c - $d ** * + emit",
+    "{{ a ~ b not in c }} => $a $b ~ $c in not emit",
+    "{{ a // b % c - d / e }} => $a $b // $c % $d $e / minus emit",
+    "{{ a < b }}{{ a > b }} => $a $b < emit $a $b > emit",
+    "{{ a >= b }} => $a $b >= emit",
+    "{{ a [ b ] [ c : ] }} => $a $b item $c #none #none slice emit",
+    "{{ a <= [ b , ( c , ) ] }} => $a $b $c tuple:1 list:2 <= emit",
+    "{{ { a : b , c : { } } != ( ) }} => $a $b $c map:0 map:2 tuple:0 != emit",
+    "{{ a < b < c }} => $a $b keep:< and:7 $c < jump:9 swap drop emit",
+    "{{ a <= b not in c + d == e }} => $a $b keep:<= and:12 $c $d + keep:not-in and:12 $e == jump:14 swap drop emit",
+    "{{ a if b }} => $b if-false:4 $a jump:5 #silent emit",
+    "{{ ( a if b else c ) }} => $b if-false:4 $a jump:5 $c emit",
+    "{{ a if b else c if d else e }} => $b if-false:4 $a jump:9 $d if-false:8 $c jump:9 $e emit",
+    "{{ a if b if c }} => $c if-false:8 $b if-false:6 $a jump:7 #silent jump:9 #silent emit",
+    "{{ a if b if c else d }} => $c if-false:8 $b if-false:6 $a jump:7 #silent jump:9 $d emit",
+    "{{ a or b if c and d else e or f }} => $c and:3 $d if-false:8 $a or:7 $b jump:11 $e or:11 $f emit",
+    "{%if a if b %}{%endif %} => $b if-false:4 $a jump:5 #silent if-false:6",
+    "{%set a = b %} => $b store:a",
+    "{%set a , b = c , d %} => $c $d tuple:2 unpack:2 store:a store:b",
+    "{%set ( a , ( b , c , ) ) = x %} => $x unpack:2 store:a unpack:2 store:b store:c",
+    "{%set a , = x %} => $x unpack:1 store:a",
+    "{%set ( a ) = x , %} => $x tuple:1 store:a",
+    "{%set a . b . c = d %} => $d $a .b set:c",
+    "{%set f ( x ) . n , a [ b ] . c = d if e %} => $e if-false:4 $d jump:5 #silent unpack:2 $x call:f1 set:n $a $b item set:c",
+    "{%with a = b , c = a %}{{ c }}{%endwith %} => with $b store:a $a store:c $c emit leave",
+    "{%with %}{%endwith %} => with leave",
+    "{%with a , b = x , c = ( d , e ) , %}{%endwith %} => with $x unpack:2 store:a store:b $d $e tuple:2 store:c leave",
+    "{%with %}{%block x %}{%endblock %}{%endwith %} => with block:x leave | x",
+    "{%do f ( a ) %} => $a call:f1 drop",
+    "{%set ( a , f ( b ) . c ) , %}{{ d }}{%endset %} => capture $d emit captured unpack:1 unpack:2 store:a $b call:f1 set:c",
+    "{%set a %}{%block x %}{%endblock %}{%endset %} => capture block:x captured store:a | x",
+    "{%autoescape a if b %}{{ c }}{%endautoescape %} => $b if-false:4 $a jump:5 #silent escape $c emit escaped",
+    "{%autoescape a %}{%block x %}{%endblock %}{%endautoescape %} => $a escape block:x escaped | x",
+    "{%for ( a ) , b . c , in d , %}{%endfor %} => $d tuple:1 loop iterate:9 unpack:2 store:a $b set:c jump:3 looped",
+    "{%for a in b in c %}{%endfor %} => $b $c in loop iterate:7 store:a jump:4 looped",
+    "{%for a in b , if c %}{%endfor %} => #0 $b tuple:1 pass iterate:15 copy store:a $c if-false:13 swap #1 + jump:4 drop jump:4 looped list loop iterate:21 store:a jump:18 looped",
+    "{%for a in b if c or d %}{%endfor %} => #0 $b pass iterate:16 copy store:a $c or:9 $d if-false:14 swap #1 + jump:3 drop jump:3 looped list loop iterate:22 store:a jump:19 looped",
+    "{%for a in b %}{%block x %}{%endblock %}{%else %}{%block y %}{%endblock %}{%endfor %} => $b loop iterate:6 store:a block:x jump:2 empty looped if-false:10 block:y | x | y",
+    "{%for a in b %}{%block x %}{%for a in b %}{%break %}{%endfor %}{%endblock %}{%endfor %} => $b loop iterate:6 store:a block:x jump:2 looped | x $b loop iterate:6 store:a jump:6 jump:2 looped",
+    "{%for a in b %}{%set c %}{%break %}{%endset %}{%endfor %} => $b loop iterate:11 store:a capture captured drop jump:11 captured store:c jump:2 looped",
+    "{%for a in b %}{%autoescape a %}{%continue %}{%endautoescape %}{%endfor %} => $b loop iterate:10 store:a $a escape escaped jump:2 escaped jump:2 looped",
+];
+
+/// Where one token ends and the next one begins, what is blank, and what a mark trims.
+static TOKENS: [&str; 35] = [
+    " =>",
+    "\r\n =>",
+    "a\n\n => raw:a\n",
+    "a{# {{ %} #}b => raw:a raw:b",
+    "{ {{ größe_1 }} } => raw:{  $größe_1 emit raw: }",
+    "{{a.b==c}} => $a .b $c == emit",
+    "{{ f((1007),x) }} => #1007 $x call:f2 emit",
+    "{{ True\u{c}and\tnot iffy\r}} => #true and:4 $iffy not emit",
+    "{% if a or b %}{% endif %} => $a or:3 $b if-false:4",
+    "{%if a%}{%elif None == x%}{%else%}{%endif%} => $a if-false:3 jump:8 #none $x == if-false:8 jump:8",
+    "{% block x %}{% endblock %} => block:x | x",
+    "{{ 170141183460469231731687303715884105727 }} => #170141183460469231731687303715884105727 emit",
+    "{% set set=with==do %}{% do do() %} => $with $do == store:set call:do0 drop",
+    "{% set autoescape%}{%endset%}{% autoescape endset %}{% endautoescape %} => capture captured store:autoescape $endset escape escaped",
+    "{% for for in break %}{%continue%}{% break%}{% endfor %} => $break loop iterate:7 store:for jump:2 jump:7 jump:2 looped",
+    "{{ 007 }} => #7 emit",
+    "{{ 7.a }} => #7 .a emit",
+    "{{ 0xfF+0o17+0b101+1_000 }} => #255 #15 + #5 + #1000 + emit",
+    "{{ 0x1e5 or 0or 1 }} => #485 or:3 #0 or:5 #1 emit",
+    "{{ {a:b}**c//d*e/f+g-h~i%j }} => $a $b map:1 $c ** $d // $e * $f / $g + $h $i $j % ~ minus emit",
+    "{{ a<=b>=c!=d==e<f>g }} => $a $b keep:<= and:19 $c keep:>= and:19 $d keep:!= and:19 $e keep:== and:19 $f keep:< and:19 $g > jump:21 swap drop emit",
+    "{{ {\"a\": {\"b\": 1}}}} => #a #b #1 map:1 map:1 emit",
+    "{{ \"%}\" ~ '}}' }} => #%} #}} ~ emit",
+    r#"{{ "\u00e9\ud83d\ude00\/" }} => #é😀/ emit"#,
+    "{{ 'a\"\\'\\\\\\n' ~ \"\" }} => #a\"'\\\n # ~ emit",
+    "a {{- b -}} \u{a0}c => raw:a $b emit raw:c",
+    "a {%- if b -%} {% endif %} => raw:a $b if-false:3",
+    "a {#- c -#} b{#-#}{#+-#} {#+#} d => raw:a raw:b raw: d",
+    "{{+ a - b + c +}}\n => $a $b minus $c + emit",
+    "{% raw %}{% endif %}{% endraw %} => raw:{% endif %}",
+    "{% raw -%} {{ x }} {%- endraw %} => raw:{{ x }}",
+    "a {%- raw %} b {% endraw -%} c => raw:a raw: b  raw:c",
+    "{%raw+%}{% endrawa %}{%{% endraw %} => raw:{% endrawa %}{%",
+    "{% raw %}{% endraw %} =>",
+    "{%-raw-%}\n{#{%+endraw+%} => raw:{#",
+];
+
+fn tree_of(alloc: Global, syntax: &SyntaxConfig, source: &str) -> Result<Tree, Error> {
+    let source = RcStr::from_str(alloc, source)?;
+    parse(alloc, &source, syntax)
+}
+
+/// Whether the source of a row has its code.
+pub(crate) fn has_code(alloc: Global, syntax: &SyntaxConfig, row: &str) -> Result<bool, Error> {
+    let (source, wanted) = halves(row);
+    let tree = tree_of(alloc, syntax, source)?;
+    code::has_code(alloc, &tree, wanted)
+}
+
+/// Asserts that each row has its code.
+pub(crate) fn check_codes(
+    rt: &impl Abort,
+    alloc: Global,
+    syntax: &SyntaxConfig,
+    rows: &[&str],
+) -> Result<(), Error> {
+    for row in rows {
+        assert!(rt; has_code(alloc, syntax, row)?, "at {row}");
+    }
+    Ok(())
+}
+
+#[test]
+fn sources_have_their_code(rt: HostRuntime) -> Result<(), Fail> {
+    let syntax = syntax::usual(rt.alloc())?;
+    check_codes(&rt, rt.alloc(), &*syntax, &EXPRESSIONS_AND_STATEMENTS)?;
+    check_codes(&rt, rt.alloc(), &*syntax, &TOKENS)?;
+    Ok(())
+}
+
+/// What spells no template.
+static REFUSED: [&str; 134] = [
+    "a{#",
+    "{{ \"a }}",
+    "{{ 1.5 }}",
+    "{{ 1_ }}",
+    "{% if %}",
+    "{% if a %}",
+    "{% endif %}",
+    "{% block b %}{% endblock c %}",
+    "{% block b %}{% endblock %}{% block b %}{% endblock %}",
+    "{% set 1 = 2 %}",
+    "{% set x %}",
+    "{% endset %}",
+    "{% set x %}{% endwith %}",
+    "{% set x %}{% endset x %}",
+    "{% set 1 %}{% endset %}",
+    "{% set %}{% endset %}",
+    "{% autoescape %}x{% endautoescape %}",
+    "{% autoescape 1, 2 %}{% endautoescape %}",
+    "{% autoescape true %}",
+    "{% with a = 1 %}",
+    "{% break %}",
+    "{% continue %}",
+    "{% for x in y %}",
+    "{% endfor %}",
+    "{% for x in y %}{% block b %}{% break %}{% endblock %}{% endfor %}",
+    "{% for x in y %}{% else %}{% break %}{% endfor %}",
+    "{% for x %}{% endfor %}",
+    "{% for 1 in x %}{% endfor %}",
+    "{% for x in y %}{% endfor x %}",
+    "{% for x in y %}{% break 1 %}{% endfor %}",
+    "{% for x in y %}{% else %}{% else %}{% endfor %}",
+    "{% for x in y recursive recursive %}{% endfor %}",
+    "{% for x in y recursive if x %}{% endfor %}",
+    "{{ f(b=1, a) }}",
+    "{{ f(b=) }}",
+    "{{ f(1=2) }}",
+    "{{ f(b=1 c=2) }}",
+    "{% for x in a if %}{% endfor %}",
+    "{% for x in a if b if c %}{% endfor %}",
+    "{% for x in a if b else c %}{% endfor %}",
+    "{{ a == b == }}",
+    "{{ f ( , ) }}",
+    "{{ f ( a = b , c ) }}",
+    "{{ f ( a = ) }}",
+    "{{ f ( true = a ) }}",
+    "{{ f ( a = b c = d ) }}",
+    "{{ f ( a = b , , ) }}",
+    "{{ f ( a . b = c ) }}",
+    "{{ ( a }}",
+    "{{ a [ ] }}",
+    "{{ a [ : : : ] }}",
+    "{{ ( , ) }}",
+    "{{ [ , ] }}",
+    "{{ a else b }}",
+    "{{ a if }}",
+    "{{ a if else b }}",
+    "{{ a if b else c else d }}",
+    "{{ if a }}",
+    "{{ not in }}",
+    "{{ - }}",
+    "{{ { a } }}",
+    "{{ }}",
+    "{%if a %}{%else %}{%elif b %}{%endif %}",
+    "{%block x %}{%endblock y %}",
+    "{%block x %}{%endblock %}{%if a %}{%else %}{%block x %}{%endblock %}{%endif %}",
+    "{%block x %}{%block x %}{%endblock %}{%endblock %}",
+    "{%with %}{%block x %}{%endblock %}{%endwith %}{%block x %}{%endblock %}",
+    "{{ a = b }}",
+    "{%set true = a %}",
+    "{%set a [ b ] = c %}",
+    "{%set f ( a ) = b %}",
+    "{%set ( a ) . b = c %}",
+    "{%set a %}",
+    "{%set a %}{%endwith %}",
+    "{%set a %}{%endset a %}",
+    "{%set a ( %}{%endset %}",
+    "{%set a , , %}{%endset %}",
+    "{%set ( a %}{%endset %}",
+    "{%set a %}{%endset %}{%endset %}",
+    "{%set a %}{%block x %}{%endblock %}{%endset %}{%block x %}{%endblock %}",
+    "{%set a = %}",
+    "{%set a = b = c %}",
+    "{%set = a %}",
+    "{%set ( ) = a %}",
+    "{%set a , , = b %}",
+    "{%set ( a , b = c %}",
+    "{%with a = b %}",
+    "{%with a %}{%endwith %}",
+    "{%with a = b , , c = d %}{%endwith %}",
+    "{%autoescape %}{%endautoescape %}",
+    "{%autoescape a , b %}{%endautoescape %}",
+    "{%for a in %}{%endfor %}",
+    "{%for in b %}{%endfor %}",
+    "{%for a = b %}{%endfor %}",
+    "{%for a in , %}{%endfor %}",
+    "{%for a in b if %}{%endfor %}",
+    "{%for a in b if c if d %}{%endfor %}",
+    "{%for a in b if c else d %}{%endfor %}",
+    "{%for a in b if c , d %}{%endfor %}",
+    "{%for a in if b %}{%endfor %}",
+    "{%for a in b %}{%block x %}{%endblock %}{%else %}{%block x %}{%endblock %}{%endfor %}",
+    "{%do a %}",
+    "{%do f ( a ) . x %}",
+    "{% raw %}",
+    "{% raw x %}{% endraw %}",
+    "{% raw %}{% endraw x %}",
+    "{% endraw %}",
+    "{{ a",
+    "{{ (a }}",
+    "{{ a ; b }}",
+    "{% %}",
+    "{% macro x %}",
+    "{{ 1e5 }}",
+    "{{ 1_0E5 }}",
+    "{{ a ! b }}",
+    "{{ [a }}",
+    "{{ {a }}",
+    "{{ 170141183460469231731687303715884105728 }}",
+    r#"{{ "\ud83d" }}"#,
+    r#"{{ "\ud83d\u0041" }}"#,
+    r#"{{ "\ude00" }}"#,
+    r#"{{ "\x41" }}"#,
+    r#"{{ "\u00g0" }}"#,
+    "{% if a %}{% endif if %}",
+    "{% with a===b %}{%endwith%}",
+    "{% do do %}",
+    "{% for x in y %}{% endfor endfor %}",
+    "{{ 1__0 }}",
+    "{{ 0xG }}",
+    "{{ 0b2 }}",
+    "{{ 1a }}",
+    "{{ (a -}} ) - }}",
+    "{{ [a:b] }}",
+    "{{ 'a' \"\" }}",
+];
+
+/// What may nest 150 deep, by its pieces.
+static NESTINGS: [&str; 22] = [
+    "{{|0*(|a|0*)|}}",
+    "{{|0*f (|a|0*)|}}",
+    "{{|0*f ( a =|a|0*)|}}",
+    "{{|0*[|0*]|}}",
+    "{{|0*f (|0*)|}}",
+    "{{|0*a [|0*: ]|}}",
+    "{{|0*not|a }}",
+    "{{|0*a if b else|a }}",
+    "{{|1*a if b else|a if ( b ) else c }}",
+    "0*{%if a %}|{{ a }}|0*{%endif %}",
+    "{%if a %}|2*{%elif a %}|{%else %} {%endif %}",
+    "1*{%if a %}|{{ ( a ) }}|1*{%endif %}",
+    "2*{%if a %}|{%if ( a ) %} {%endif %}|2*{%endif %}",
+    "{%set|0*(|a|0*)|= b %}",
+    "1*{%with %}|{%set ( a ) , b = ( c ) , d %}|1*{%endwith %}",
+    "2*{%with %}|{%with ( a ) = ( b ) %} {%endwith %}|2*{%endwith %}",
+    "2*{%set a %}|{%autoescape ( b ) %} {%endautoescape %}|2*{%endset %}",
+    "0*{%for a in b %}|{%break %}|0*{%endfor %}",
+    "2*{%for a in b %}|{%for ( a ) in ( b ) , c if ( d ) %} {%endfor %}|2*{%endfor %}",
+    "2*{%with %}|{%for a in b %} {%else %} {%endfor %}|2*{%endwith %}",
+    "{{|0*(|1|0*)|}}",
+    "1*{% if a %}|{{ (1) }}|1*{% endif %}",
+];
+
+/// A long row nests no deeper than a short one.
+static LONG: [&str; 8] = [
+    "{{ a|0*and b . c|}}",
+    "{{ a|0*+ b|}}",
+    "{{ a|0*if c|}}",
+    "{{ a|0*< b|}}",
+    "{%set a|0*, b|= c , d %}",
+    "{%for a in b|0*, c|if d %} {%endfor %}",
+    "{{ f ( a|0*, b = c|) }}",
+    "{%with a = b|0*, c = d|%} {%endwith %}",
+];
+
+/// Whether the source spells a template; an error that isn't one of syntax is given on.
+fn is_template(alloc: Global, syntax: &SyntaxConfig, source: &str) -> Result<bool, Error> {
+    match tree_of(alloc, syntax, source) {
+        Ok(_) => Ok(true),
+        Err(error) => {
+            if error.kind() == ErrorKind::SyntaxError {
+                return Ok(false);
+            }
+            Err(error)
+        }
+    }
+}
+
+/// Asserts of each row's pieces, joined, whether they spell a template.
+fn check_joined(
+    rt: &impl Abort,
+    alloc: Global,
+    rows: &[&str],
+    count: usize,
+    wanted: bool,
+) -> Result<(), Error> {
+    let syntax = syntax::usual(alloc)?;
+    for pieces in rows {
+        let source = joined(alloc, pieces, count)?;
+        assert!(rt;
+            is_template(alloc, &*syntax, source.as_str())? == wanted,
+            "{count} at {pieces}"
+        );
+    }
+    Ok(())
+}
+
+#[test]
+fn what_is_no_template_is_refused(rt: HostRuntime) -> Result<(), Fail> {
+    check_joined(&rt, rt.alloc(), &REFUSED, 0, false)?;
+    Ok(())
+}
+
+#[test]
+fn nestings_are_counted(rt: HostRuntime) -> Result<(), Fail> {
+    check_joined(&rt, rt.alloc(), &NESTINGS, 150, true)?;
+    check_joined(&rt, rt.alloc(), &NESTINGS, 151, false)?;
+    check_joined(&rt, rt.alloc(), &LONG, 100000, true)?;
+    Ok(())
+}
