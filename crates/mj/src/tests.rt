@@ -3,11 +3,10 @@
 use mj_run::{Texts, run};
 use std::alloc::Global;
 use std::io::{self, Write};
-use std::process::Abort;
 use std::test::Fail;
 use tm_parts::Counted;
 
-const USAGE_LINE: &str = "usage: mj [-D name=text].. [--json FILE] [--fuel N] [--limit N] FILE..\n";
+const USAGE: &str = "usage: mj [-D name=text].. [--json FILE] [--fuel N] [--limit N] FILE..\n";
 
 /// A few files and a standard input, and how often one of them was read.
 #[derive(Drop)]
@@ -125,41 +124,86 @@ impl Write for Page {
     }
 }
 
-/// What a run answers: its status, what is written and told, and how often is read and flushed.
-#[derive(Clone, Copy)]
-struct Answer {
-    status: u8,
-    written: &'static str,
-    told: &'static str,
-    reads: u64,
-    flushes: u64,
-}
+/// What rows say: the status of a run, how often is read and flushed, and its words, with a blank
+/// between them; what is written; and what is told: the usage line, an error of a kind, or nothing.
+const ROWS: &str = r#"Words and files.
+- 0 1 1 -D name=World - => Hello World! => -
+- 0 1 1 -D name=World hello.txt => Hello World! => -
+- 0 1 1 --fuel 5 -D name=World hello.txt => Hello World! => -
+- 0 1 1 -Dname=A -D name=B hello.txt => Hello B! => -
+- 0 1 1 -D name=a=b=c hello.txt => Hello a=b=c! => -
+- 0 1 1 -Dname= hello.txt => Hello ! => -
+- 0 1 1 hello.txt => Hello ! => -
+- 0 1 1 --limit 1 hello.txt => Hello ! => -
+- 0 1 1 --limit 2 block.txt => ab => -
+- 0 1 1 -Dname=x --fuel 1 --fuel 5 - => Hello x! => -
+- 0 1 1 -Dname=x --fuel 18446744073709551615 - => Hello x! => -
+- 2 0 0 =>  => usage
+- 2 0 0 --json =>  => usage
+- 2 0 0 --json c.json =>  => usage
+- 2 0 0 main.txt --json c.json =>  => usage
+- 2 0 0 --limit hello.txt =>  => usage
+- 2 0 0 --limit -1 hello.txt =>  => usage
+- 2 0 0 --other hello.txt =>  => usage
+- 2 0 0 -x =>  => usage
+- 2 0 0 -- hello.txt =>  => usage
+- 2 0 0 hello.txt hello.txt =>  => usage
+- 2 0 0 - - =>  => usage
+- 2 0 0 hello.txt -D name=World =>  => usage
+- 2 0 0 -D x hello.txt =>  => usage
+- 2 0 0 -Dx hello.txt =>  => usage
+- 2 0 0 -D =>  => usage
+- 2 0 0 -D name=World =>  => usage
+- 2 0 0 --fuel =>  => usage
+- 2 0 0 --fuel hello.txt =>  => usage
+- 2 0 0 --fuel  hello.txt =>  => usage
+- 2 0 0 --fuel -1 hello.txt =>  => usage
+- 2 0 0 --fuel +1 hello.txt =>  => usage
+- 2 0 0 --fuel 18446744073709551616 hello.txt =>  => usage
+- 2 1 0 missing.txt =>  => usage
+- 2 1 0 bytes.bin =>  => usage
+- 0 2 1 --json c.json main.txt => Hi A! => -
+- 0 2 1 --json c.json -D who=B main.txt => Hi B! => -
+- 0 2 1 -Dwho=B --json c.json main.txt => Hi B! => -
+- 0 2 1 --json missing.json --json c.json main.txt => Hi A! => -
+- 0 2 1 --json - main.txt => Hi C! => -
+- 0 2 1 --json c.json -Dname=B - => Hello B! => -
+- 0 2 1 --json other.json main.txt => Hi ! => -
+- 0 2 1 --json items.json items.txt => [18446744073709551615,-9223372036854775808,true,none,][][läst,<,] => -
+- 2 2 0 --json float.json main.txt =>  => usage
+- 2 2 0 --json inner_float.json main.txt =>  => usage
+- 2 2 0 --json minus_zero.json main.txt =>  => usage
+- 2 2 0 --json large.json main.txt =>  => usage
+- 2 2 0 --json list.json main.txt =>  => usage
+- 2 2 0 --json cut.json main.txt =>  => usage
+- 2 2 0 --json bytes.bin main.txt =>  => usage
+- 2 2 0 --json missing.json main.txt =>  => usage
+- 2 2 0 --json missing.json tag.txt =>  => usage
+- 2 1 0 --json c.json missing.txt =>  => usage
+- 1 1 1 --fuel 4 -Dname=World hello.txt => Hello World => OutOfFuel
+- 1 1 1 tag.txt =>  => SyntaxError
+- 1 1 1 --limit 1 block.txt => a => InvalidOperation
+- 1 1 1 call.txt => a => UnknownFunction
+- 1 1 0 vast.txt =>  => OutOfMemory
+- 1 2 0 --json vast.txt main.txt =>  => OutOfMemory
+- 1 2 1 --json c.json tag.txt =>  => SyntaxError"#;
 
-/// The words of a run.
-type Words = &'static [&'static str];
+/// Rows on a page that takes eight bytes.
+const NARROW: &str = "A page that takes eight bytes.
+- 1 1 1 -Dname=World hello.txt => Hello Wo => WriteFailure";
 
-/// Nothing is read or written for words that ask for nothing.
-static NOTHING_READ: Answer = Answer {
-    status: 2,
-    written: "",
-    told: USAGE_LINE,
-    reads: 0,
-    flushes: 0,
-};
-
-/// A file that gives no text.
-static NO_TEXT: Answer = Answer {
-    status: 2,
-    written: "",
-    told: USAGE_LINE,
-    reads: 1,
-    flushes: 0,
-};
+/// Rows on a page whose flush fails.
+const UNFLUSHED: &str = "A flush that fails.
+- 1 1 1 -Dname=World hello.txt => Hello World! => WriteFailure
+- 1 1 1 --fuel 1 - =>  => OutOfFuel";
 
 /// The words one by one, each a text of its own.
-fn owned(alloc: Global, words: &[&str]) -> Result<Vec<String>, Fail> {
+fn owned(alloc: Global, words: &str) -> Result<Vec<String>, Fail> {
     let mut owned = Vec::new(alloc);
-    for word in words {
+    if words.is_empty() {
+        return Ok(owned);
+    }
+    for word in words.split(' ') {
         owned.push(String::from_str(alloc, word)?)?;
     }
     Ok(owned)
@@ -174,8 +218,8 @@ struct Ran {
     reads: u64,
 }
 
-/// Runs the program over these words, onto this page.
-fn run_onto(page: Page, words: &[&str]) -> Result<Ran, Fail> {
+/// Runs the program over words, with a blank between them, onto a page.
+fn run_onto(page: Page, words: &str) -> Result<Ran, Fail> {
     let alloc = *page.bytes.allocator();
     let words = owned(alloc, words)?;
     let mut shelf = Shelf::new(alloc);
@@ -190,270 +234,79 @@ fn run_onto(page: Page, words: &[&str]) -> Result<Ran, Fail> {
     })
 }
 
-/// Runs the program over these words, onto this page, and compares what it answers.
-fn expect(rt: &impl Abort, page: Page, words: &[&str], wanted: &Answer) -> Result<(), Fail> {
-    let ran = run_onto(page, words)?;
-    compare(rt, &ran, words, wanted)
+/// Whether a field is this number; and what stands behind it.
+fn behind(fields: &str, number: u64) -> (bool, &str) {
+    let (field, rest) = fields.split_once(' ').unwrap_or((fields, ""));
+    (field.parse() == Ok(number), rest)
 }
 
-/// Compares how a run ended with what is wanted.
-fn compare(rt: &impl Abort, ran: &Ran, words: &[&str], wanted: &Answer) -> Result<(), Fail> {
-    let told = std::str::from_utf8(ran.told.as_slice())?;
-    assert_eq!(rt; told, wanted.told, "told of {words:?}");
-    assert_eq!(rt; ran.status, wanted.status, "status of {words:?}");
-    let written = std::str::from_utf8(ran.page.bytes.as_slice())?;
-    assert_eq!(rt; written, wanted.written, "written of {words:?}");
-    assert_eq!(rt; ran.reads, wanted.reads, "reads of {words:?}");
-    assert_eq!(rt; ran.page.flushes, wanted.flushes, "flushes of {words:?}");
-    Ok(())
+/// Whether a run ended, read and flushed so.
+fn is_counted(ran: &Ran, fields: &str) -> bool {
+    let (is_status, fields) = behind(fields, ran.status as u64);
+    let (are_reads, fields) = behind(fields, ran.reads);
+    let (are_flushes, _words) = behind(fields, ran.page.flushes);
+    is_status && are_reads && are_flushes
 }
 
-static SERVE: [(Words, &str); 11] = [
-    (&["-D", "name=World", "-"], "Hello World!"),
-    (&["-D", "name=World", "hello.txt"], "Hello World!"),
-    (
-        &["--fuel", "5", "-D", "name=World", "hello.txt"],
-        "Hello World!",
-    ),
-    (&["-Dname=A", "-D", "name=B", "hello.txt"], "Hello B!"),
-    (&["-D", "name=a=b=c", "hello.txt"], "Hello a=b=c!"),
-    (&["-Dname=", "hello.txt"], "Hello !"),
-    (&["hello.txt"], "Hello !"),
-    (&["--limit", "1", "hello.txt"], "Hello !"),
-    (&["--limit", "2", "block.txt"], "ab"),
-    (&["-Dname=x", "--fuel", "1", "--fuel", "5", "-"], "Hello x!"),
-    (
-        &["-Dname=x", "--fuel", "18446744073709551615", "-"],
-        "Hello x!",
-    ),
-];
-
-#[test]
-fn words_that_serve(rt: HostRuntime) -> Result<(), Fail> {
-    for (words, written) in &SERVE {
-        let wanted = Answer {
-            status: 0,
-            written: *written,
-            told: "",
-            reads: 1,
-            flushes: 1,
-        };
-        expect(&rt, Page::new(rt.alloc()), words, &wanted)?;
-    }
-    Ok(())
-}
-
-static ASK_NOTHING: [Words; 22] = [
-    &[],
-    &["--json"],
-    &["--json", "c.json"],
-    &["main.txt", "--json", "c.json"],
-    &["--limit", "hello.txt"],
-    &["--limit", "-1", "hello.txt"],
-    &["--other", "hello.txt"],
-    &["-x"],
-    &["--", "hello.txt"],
-    &["hello.txt", "hello.txt"],
-    &["-", "-"],
-    &["hello.txt", "-D", "name=World"],
-    &["-D", "x", "hello.txt"],
-    &["-Dx", "hello.txt"],
-    &["-D"],
-    &["-D", "name=World"],
-    &["--fuel"],
-    &["--fuel", "hello.txt"],
-    &["--fuel", "", "hello.txt"],
-    &["--fuel", "-1", "hello.txt"],
-    &["--fuel", "+1", "hello.txt"],
-    &["--fuel", "18446744073709551616", "hello.txt"],
-];
-
-#[test]
-fn words_that_do_not_serve(rt: HostRuntime) -> Result<(), Fail> {
-    for words in &ASK_NOTHING {
-        expect(&rt, Page::new(rt.alloc()), words, &NOTHING_READ)?;
-    }
-    for file in ["missing.txt", "bytes.bin"] {
-        expect(&rt, Page::new(rt.alloc()), &[file], &NO_TEXT)?;
-    }
-    Ok(())
-}
-
-static JSON_SERVES: [(Words, &str); 8] = [
-    (&["--json", "c.json", "main.txt"], "Hi A!"),
-    (&["--json", "c.json", "-D", "who=B", "main.txt"], "Hi B!"),
-    (&["-Dwho=B", "--json", "c.json", "main.txt"], "Hi B!"),
-    (
-        &["--json", "missing.json", "--json", "c.json", "main.txt"],
-        "Hi A!",
-    ),
-    (&["--json", "-", "main.txt"], "Hi C!"),
-    (&["--json", "c.json", "-Dname=B", "-"], "Hello B!"),
-    (&["--json", "other.json", "main.txt"], "Hi !"),
-    (
-        &["--json", "items.json", "items.txt"],
-        "[18446744073709551615,-9223372036854775808,true,none,][][läst,<,]",
-    ),
-];
-
-#[test]
-fn json_that_serves(rt: HostRuntime) -> Result<(), Fail> {
-    for (words, written) in &JSON_SERVES {
-        let wanted = Answer {
-            status: 0,
-            written: *written,
-            told: "",
-            reads: 2,
-            flushes: 1,
-        };
-        expect(&rt, Page::new(rt.alloc()), words, &wanted)?;
-    }
-    Ok(())
-}
-
-/// JSON files that don't serve: they come behind the template's file, and before what it holds.
-static JSON_FAILS: [Words; 9] = [
-    &["--json", "float.json", "main.txt"],
-    &["--json", "inner_float.json", "main.txt"],
-    &["--json", "minus_zero.json", "main.txt"],
-    &["--json", "large.json", "main.txt"],
-    &["--json", "list.json", "main.txt"],
-    &["--json", "cut.json", "main.txt"],
-    &["--json", "bytes.bin", "main.txt"],
-    &["--json", "missing.json", "main.txt"],
-    &["--json", "missing.json", "tag.txt"],
-];
-
-#[test]
-fn json_that_does_not_serve(rt: HostRuntime) -> Result<(), Fail> {
-    let wanted = Answer {
-        reads: 2,
-        ..NO_TEXT
+/// Whether this is told: the usage line, an error of a kind, or nothing.
+fn is_told(told: &[u8], wanted: &str) -> bool {
+    let Ok(told) = std::str::from_utf8(told) else {
+        return false;
     };
-    for words in &JSON_FAILS {
-        expect(&rt, Page::new(rt.alloc()), words, &wanted)?;
+    match wanted {
+        "usage" => told == USAGE,
+        "-" => told.is_empty(),
+        kind => told
+            .strip_prefix("error: ")
+            .and_then(|rest| rest.strip_suffix("\n"))
+            == Some(kind),
     }
-    let file = &["--json", "c.json", "missing.txt"];
-    expect(&rt, Page::new(rt.alloc()), file, &NO_TEXT)?;
-    Ok(())
 }
 
-static FAULTS: [(Words, Answer); 7] = [
-    (
-        &["--fuel", "4", "-Dname=World", "hello.txt"],
-        Answer {
-            status: 1,
-            written: "Hello World",
-            told: "error: OutOfFuel\n",
-            reads: 1,
-            flushes: 1,
-        },
-    ),
-    (
-        &["tag.txt"],
-        Answer {
-            status: 1,
-            written: "",
-            told: "error: SyntaxError\n",
-            reads: 1,
-            flushes: 1,
-        },
-    ),
-    (
-        &["--limit", "1", "block.txt"],
-        Answer {
-            status: 1,
-            written: "a",
-            told: "error: InvalidOperation\n",
-            reads: 1,
-            flushes: 1,
-        },
-    ),
-    (
-        &["call.txt"],
-        Answer {
-            status: 1,
-            written: "a",
-            told: "error: UnknownFunction\n",
-            reads: 1,
-            flushes: 1,
-        },
-    ),
-    (
-        &["vast.txt"],
-        Answer {
-            status: 1,
-            written: "",
-            told: "error: OutOfMemory\n",
-            reads: 1,
-            flushes: 0,
-        },
-    ),
-    (
-        &["--json", "vast.txt", "main.txt"],
-        Answer {
-            status: 1,
-            written: "",
-            told: "error: OutOfMemory\n",
-            reads: 2,
-            flushes: 0,
-        },
-    ),
-    (
-        &["--json", "c.json", "tag.txt"],
-        Answer {
-            status: 1,
-            written: "",
-            told: "error: SyntaxError\n",
-            reads: 2,
-            flushes: 1,
-        },
-    ),
-];
-
-#[test]
-fn faults_of_renders(rt: HostRuntime) -> Result<(), Fail> {
-    for (words, wanted) in &FAULTS {
-        expect(&rt, Page::new(rt.alloc()), words, wanted)?;
-    }
-    Ok(())
+/// The words behind the three numbers of a row.
+fn words_of(fields: &str) -> &str {
+    let (_status, fields) = fields.split_once(' ').unwrap_or((fields, ""));
+    let (_reads, fields) = fields.split_once(' ').unwrap_or((fields, ""));
+    let (_flushes, words) = fields.split_once(' ').unwrap_or((fields, ""));
+    words
 }
 
-/// A page that takes this many bytes, and whose flush may fail; what is written and told on it.
-static PAGES: [(usize, bool, Words, &str, &str); 3] = [
-    (
-        8,
-        false,
-        &["-Dname=World", "hello.txt"],
-        "Hello Wo",
-        "error: WriteFailure\n",
-    ),
-    (
-        1000,
-        true,
-        &["-Dname=World", "hello.txt"],
-        "Hello World!",
-        "error: WriteFailure\n",
-    ),
-    (1000, true, &["--fuel", "1", "-"], "", "error: OutOfFuel\n"),
-];
+/// Runs a row onto a page, and compares.
+fn is_row(page: Page, row: &str) -> Result<bool, Fail> {
+    let (fields, wanted) = row.split_once(" => ").unwrap_or((row, ""));
+    let (written, told) = wanted.split_once(" => ").unwrap_or((wanted, ""));
+    let ran = run_onto(page, words_of(fields))?;
+    Ok(
+        is_counted(&ran, fields)
+            && ran.page.bytes.as_slice() == written.as_bytes()
+            && is_told(ran.told.as_slice(), told),
+    )
+}
 
-#[test]
-fn faults_of_the_writer(rt: HostRuntime) -> Result<(), Fail> {
-    for (room, flush_fails, words, written, told) in &PAGES {
+/// Runs the rows behind a heading, each onto such a page.
+fn expect_rows(alloc: Global, room: usize, flush_fails: bool, rows: &str) -> Result<(), Fail> {
+    let mut rows = rows.split("\n- ");
+    let _heading = rows.next();
+    for row in rows {
         let page = Page {
-            room: *room,
-            flush_fails: *flush_fails,
-            ..Page::new(rt.alloc())
+            room,
+            flush_fails,
+            ..Page::new(alloc)
         };
-        let wanted = Answer {
-            status: 1,
-            written: *written,
-            told: *told,
-            reads: 1,
-            flushes: 1,
-        };
-        expect(&rt, page, words, &wanted)?;
+        if !is_row(page, row)? {
+            return Err(Fail::new(row));
+        }
     }
     Ok(())
+}
+
+#[test]
+fn words_and_files(rt: HostRuntime) -> Result<(), Fail> {
+    expect_rows(rt.alloc(), 1000, false, ROWS)
+}
+
+#[test]
+fn writers_that_fail(rt: HostRuntime) -> Result<(), Fail> {
+    expect_rows(rt.alloc(), 8, false, NARROW)?;
+    expect_rows(rt.alloc(), 1000, true, UNFLUSHED)
 }

@@ -1,173 +1,47 @@
 //! Rows under bounds of fuel, scopes and writers, and long sources.
 
-use crate::rows::{CHOSEN, Row, Rows, WIDE, expect_render};
+use crate::party::Rows;
+use crate::renders::{Row, expect_row, usual};
 use std::alloc::{AllocError, Global};
-use std::process::Abort;
 use std::test::Fail;
-use template_machine::ErrorKind;
 
-const BLOCK: &str = "{% block b %}x{{ a }}{% endblock %}y";
-
-/// A row under a fuel, a limit of scopes and a writer of a width; the fuel that it leaves, and how often the writer fails.
-struct Bound {
-    fuel: u64,
-    limit: usize,
-    width: Option<usize>,
-    row: Row<'static>,
-    left: u64,
-    failures: u64,
-}
-
-static BOUNDS: &[Bound] = &[
-    Bound {
-        fuel: 5,
-        limit: 500,
-        width: WIDE,
-        row: Row("Hello {{ w }}!", "Hello World!", Ok(4)),
-        left: 1,
-        failures: 0,
-    },
-    Bound {
-        fuel: 5,
-        limit: 500,
-        width: WIDE,
-        row: Row("{{ w }}{{ t }}", "Worldtrue", Ok(4)),
-        left: 1,
-        failures: 0,
-    },
-    Bound {
-        fuel: 4,
-        limit: 500,
-        width: WIDE,
-        row: Row("{{ w }}{{ t }}", "World", Err(ErrorKind::OutOfFuel)),
-        left: 0,
-        failures: 0,
-    },
-    Bound {
-        fuel: 3,
-        limit: 500,
-        width: WIDE,
-        row: Row("{{ w }}{{ t }}", "World", Err(ErrorKind::OutOfFuel)),
-        left: 0,
-        failures: 0,
-    },
-    Bound {
-        fuel: 2,
-        limit: 500,
-        width: WIDE,
-        row: Row("{{ w }}{{ t }}", "", Err(ErrorKind::OutOfFuel)),
-        left: 0,
-        failures: 0,
-    },
-    Bound {
-        fuel: 0,
-        limit: 500,
-        width: WIDE,
-        row: Row("", "", Ok(0)),
-        left: 0,
-        failures: 0,
-    },
-    Bound {
-        fuel: 9,
-        limit: 500,
-        width: None,
-        row: Row("", "", Ok(0)),
-        left: 9,
-        failures: 0,
-    },
-    Bound {
-        fuel: 9,
-        limit: 500,
-        width: None,
-        row: Row("Hello!", "", Err(ErrorKind::WriteFailure)),
-        left: 0,
-        failures: 1,
-    },
-    Bound {
-        fuel: 9,
-        limit: 500,
-        width: Some(0),
-        row: Row("Hello!", "", Err(ErrorKind::WriteFailure)),
-        left: 0,
-        failures: 1,
-    },
-    Bound {
-        fuel: 9,
-        limit: 500,
-        width: Some(3),
-        row: Row("Hello!", "Hello!", Ok(1)),
-        left: 8,
-        failures: 0,
-    },
-    Bound {
-        fuel: 9,
-        limit: 500,
-        width: WIDE,
-        row: Row("a{{ failing() }}b", "a", Err(ErrorKind::WriteFailure)),
-        left: 0,
-        failures: 0,
-    },
-    Bound {
-        fuel: 9,
-        limit: 2,
-        width: WIDE,
-        row: Row(BLOCK, "xy", Ok(5)),
-        left: 4,
-        failures: 0,
-    },
-    Bound {
-        fuel: 9,
-        limit: 1,
-        width: WIDE,
-        row: Row(BLOCK, "", Err(ErrorKind::InvalidOperation)),
-        left: 0,
-        failures: 0,
-    },
-    Bound {
-        fuel: 3,
-        limit: 500,
-        width: WIDE,
-        row: Row(BLOCK, "x", Err(ErrorKind::OutOfFuel)),
-        left: 0,
-        failures: 0,
-    },
-    Bound {
-        fuel: 29,
-        limit: 500,
-        width: WIDE,
-        row: Row(CHOSEN, "2", Err(ErrorKind::OutOfFuel)),
-        left: 0,
-        failures: 0,
-    },
-    Bound {
-        fuel: 30,
-        limit: 500,
-        width: WIDE,
-        row: Row(CHOSEN, "2", Ok(29)),
-        left: 1,
-        failures: 0,
-    },
-];
-
-/// Renders rows under their bounds.
-pub(crate) fn expect_bounds(
-    rt: &impl Abort,
-    alloc: Global,
-    environment: &mut Rows<'_>,
-) -> Result<(), Fail> {
-    for bound in BOUNDS {
-        environment.set_fuel(Some(bound.fuel));
-        environment.set_recursion_limit(bound.limit);
-        let rest = expect_render(rt, alloc, environment, bound.width, &bound.row)?;
-        assert!(rt;
-            rest == (bound.left, bound.failures),
-            "at {} of {}",
-            bound.row.0,
-            bound.fuel
-        );
-    }
-    Ok(())
-}
+/// Bounds of fuel, scopes and writers. No fuel is set behind them.
+pub(crate) const BOUNDS: &str = r#"Bounds of fuel, scopes and writers.
+- @fuel 5
+- Hello {{ w }}! => Hello World! => 4
+- {{ w }}{{ t }} => Worldtrue => 4
+- @fuel 4
+- {{ w }}{{ t }} => World => OutOfFuel
+- @fuel 3
+- {{ w }}{{ t }} => World => OutOfFuel
+- @fuel 2
+- {{ w }}{{ t }} =>  => OutOfFuel
+- @fuel 0
+-  =>  => 0
+- @fuel 9
+- @width none
+-  =>  => 0
+- Hello! =>  => WriteFailure
+- @width 0
+- Hello! =>  => WriteFailure
+- @width 3
+- Hello! => Hello! => 1
+- @width 1000
+- a{{ failing() }}b => a => WriteFailure
+- @limit 2
+- {% block b %}x{{ a }}{% endblock %}y => xy => 5
+- @limit 1
+- {% block b %}x{{ a }}{% endblock %}y =>  => InvalidOperation
+- @limit 500
+- @fuel 3
+- {% block b %}x{{ a }}{% endblock %}y => x => OutOfFuel
+- @fuel 29
+- {% for x in [1,2] if x > 1 %}{{ x }}{% endfor %} => 2 => OutOfFuel
+- @fuel 30
+- {% for x in [1,2] if x > 1 %}{{ x }}{% endfor %} => 2 => 29
+- @fuel none
+- {% set ns = namespace(v=[]) %}{% for i in range(100000) %}{% set ns.v = [ns.v] %}{% endfor %} =>  => ok
+- {% set ns = namespace(v={}) %}{% for i in range(100000) %}{% set ns.v = {1: ns.v} %}{% endfor %} =>  => ok"#;
 
 /// A source of pieces, of which two stand so many times, one before the middle and one behind it; and what it writes, a text so many times.
 struct Long {
@@ -243,17 +117,18 @@ fn source_of(alloc: Global, long: &Long) -> Result<String, AllocError> {
 }
 
 /// Renders long rows without a bound on the fuel, whose charges are not counted then.
-pub(crate) fn expect_long(
-    rt: &impl Abort,
-    alloc: Global,
-    environment: &Rows<'_>,
-) -> Result<(), Fail> {
+pub(crate) fn expect_long(alloc: Global, environment: &Rows<'_>) -> Result<(), Fail> {
     for long in LONG {
         let source = source_of(alloc, long)?;
         let mut text = String::new(alloc);
         repeat(&mut text, long.text, long.times)?;
-        let row = Row(source.as_str(), text.as_str(), Ok(0));
-        expect_render(rt, alloc, environment, WIDE, &row)?;
+        let row = Row {
+            source: source.as_str(),
+            text: text.as_str(),
+            end: "0",
+            left: "",
+        };
+        expect_row(alloc, environment, &usual(), &row)?;
     }
     Ok(())
 }

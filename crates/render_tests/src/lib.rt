@@ -1,7 +1,19 @@
-//! Tests of renders: rows of sources with what they give.
+//! Tests of renders: rows of sources with what they give, and what no row asks for.
 #![tactic(auto)]
 
 #[cfg(test)]
 mod bounds;
 #[cfg(test)]
+mod loops;
+#[cfg(test)]
+mod party;
+#[cfg(test)]
+mod renders;
+#[cfg(test)]
 mod rows;
+#[cfg(test)]
+mod settings;
+#[cfg(test)]
+mod states;
+#[cfg(test)]
+mod values;

@@ -143,9 +143,9 @@ impl<'env, 'source, O: Parties> TemplateOf<'env, 'source, O> {
             Rendered self.now (meaning O.functions self.now ids.old context) result
             (W.told writer.old) (W.told writer.new) (W.faults writer.old) (W.faults writer.new) }
     {
-        let state = self.first_state(ids, context)?;
+        let first = self.first_state(ids, context)?;
         let alloc = self.environment.allocator();
-        let (_captures, state) = self.run_over(state, Captures::new(alloc), writer)?;
+        let (_captures, state) = self.run_over(first, Captures::new(alloc), writer)?;
         Ok(CapturedOf::new(String::new(alloc), StateOf::new(self.rendering(), state)))
     }
 

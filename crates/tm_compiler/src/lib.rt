@@ -2,9 +2,10 @@
 #![tactic(auto)]
 
 mod source;
+mod streams;
 
 pub use source::{one_tree, parse};
-pub use tm_generator::{Streams, generate};
+pub use streams::{Streams, generate};
 pub use tm_scanner::{SyntaxConfig, SyntaxConfigBuilder};
 pub use tm_syntax::{
     Argument, BinaryOperator, Code, Comparison, Condition, Expr, Instruction, Keyword, Name,

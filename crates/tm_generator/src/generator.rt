@@ -4,7 +4,7 @@ ghost use Rattle.tm_generator.specs.Exits.{unset, with_exits, exits_of, exits_in
 ghost use Rattle.tm_generator.specs.Jumps.{link_places, asked, asked_places, all_answered};
 ghost use Rattle.tm_syntax.specs.Blocks.{blocks_of, blocks_in, compiled_blocks};
 ghost use Rattle.tm_syntax.specs.Code.{unary_code, binary_code, expr_code, exprs_code, pair_code, pairs_code, argument_code, arguments_code, keyword_code, keywords_code, named_code, step_code, links_code, in_a_row, steps_code, statement_code, statements_code, stream_code};
-ghost use Rattle.tm_syntax.specs.Named.{put as put_named, put_each, by_name};
+ghost use Rattle.tm_syntax.specs.Named.{put as put_named, put_each};
 ghost use Rattle.tm_syntax.specs.declared.tree.Argument.TheBlock.{hidden-the_row-Expr-1 as exprs, hidden-the_row-Pair-2 as pairs, hidden-the_row-Argument-3 as arguments, hidden-the_row-Keyword-4 as keywords, hidden-the_row-Step-5 as steps, hidden-the_row-Comparison-7 as comparisons};
 ghost use Rattle.tm_syntax.specs.declared.tree.Stmt.TheBlock.{hidden-the_row-Stmt-0 as statements};
 ghost use Rattle.tm_syntax.specs.declared.tree.Stmt.TheVariants.{AutoEscape, For, If, SetBlock, With};
@@ -19,18 +19,9 @@ use sqlite_items::{Boxed, Items};
 use std::alloc::Global;
 use tm_syntax::{
     Argument, Assignment, BinaryOperator, CaptureMode, Code, Comparison, Condition, Expr,
-    Instruction, Keyword, LoopFlags, Name, NameMap, Pair, Step, Stmt, Target, Tree, UnaryOperator,
+    Instruction, Keyword, LoopFlags, Name, NameMap, Pair, Step, Stmt, Target, UnaryOperator,
 };
 use tm_values::{Error, ErrorKind, Value};
-
-/// The streams of a template.
-#[derive(Drop)]
-pub struct Streams {
-    /// What a render runs.
-    pub root: Code,
-    /// What its blocks run, by name.
-    pub blocks: NameMap<Code>,
-}
 
 /// The instruction of a prefix operator.
 fn unary(operator: UnaryOperator) -> Instruction
@@ -773,7 +764,7 @@ fn push_statements(
 
 /// The code of statements on their own, and that of their blocks; OutOfMemory.
 #[cycle(statements)]
-fn stream(alloc: Global, blocks: &mut NameMap<Code>, body: &[Stmt]) -> Result<Code, Error>
+pub fn stream(alloc: Global, blocks: &mut NameMap<Code>, body: &[Stmt]) -> Result<Code, Error>
     ensures code { IfOk result (λ code. code ≡ stream_code (statements body.now)) }
     ensures blocks { OnOk result
         (blocks.new ≡ put_each (compiled_blocks (blocks_in (statements body.now))) blocks.old) }
@@ -785,16 +776,4 @@ fn stream(alloc: Global, blocks: &mut NameMap<Code>, body: &[Stmt]) -> Result<Co
     let end = code.len();
     around.lead(&mut code, end, end);
     Ok(Code::new(alloc, code)?)
-}
-
-/// The streams of a tree, which share its texts and literals; OutOfMemory.
-pub fn generate(alloc: Global, tree: &Tree) -> Result<Streams, Error>
-    ensures root { IfOk result (λ s. s.root ≡ stream_code (statements tree.now.statements)) }
-    ensures blocks { IfOk result
-        (λ s. s.blocks ≡ by_name (compiled_blocks (blocks_in (statements tree.now.statements)))) }
-    ensures err { IfErr result (λ e. e ≡ OutOfMemory ∷ []) }
-{
-    let mut blocks = NameMap::new(alloc);
-    let root = stream(alloc, &mut blocks, tree.statements.as_slice())?;
-    Ok(Streams { root, blocks })
 }

@@ -1,4 +1,4 @@
-//! Instructions from trees.
+//! Instructions from statements.
 #![tactic(auto, using(tm_syntax::proofs::Forms::boxes))]
 
 mod filters;
@@ -7,4 +7,4 @@ mod loops;
 mod patches;
 mod targets;
 
-pub use generator::{Streams, generate};
+pub use generator::stream;

@@ -1,9 +1,9 @@
 -- What a call comes to, up to the run that it needs: the meaning and the machine share it. Neither trees nor instructions stand here.
 use Rattle.std.specs.Prelude.{ℕ, zero, suc, ◌%◌, List, [], ◌∷◌, length, map as each, Option, Some, None, Ok, Bool, true, false, not, nat_eq, ◌&&◌, ◌||◌, slice_get, codes, if◌then◌else◌}
 use Rattle.std.specs.Ordering.{is_eq}
-use Rattle.tm_operations.specs.Maps.{dict_of, namespace_of}
-use Rattle.tm_operations.specs.Ranges.{range_of}
-use Rattle.tm_operations.specs.Members.{macro_member}
+use Rattle.tm_definitions.specs.Maps.{dict_of, namespace_of}
+use Rattle.tm_definitions.specs.Ranges.{range_of}
+use Rattle.tm_definitions.specs.Members.{macro_member}
 use Rattle.tm_values.specs.Answer.{Answer}
 use Rattle.tm_values.specs.Order.{val_cmp}
 use Rattle.tm_values.specs.Records.{RecordData}

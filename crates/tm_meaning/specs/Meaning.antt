@@ -9,14 +9,14 @@ use Rattle.tm_values.specs.declared.error.ErrorKind.{ErrorKind}
 use Rattle.tm_values.specs.declared.error.ErrorKind.TheVariants.{InvalidOperation}
 use Rattle.tm_values.specs.declared.escape.AutoEscape.{AutoEscape}
 use Rattle.tm_values.specs.declared.undefined.UndefinedBehavior.{UndefinedBehavior}
-use Rattle.tm_operations.specs.Arithmetic as arithmetic
-use Rattle.tm_operations.specs.Truth.{truth_of}
-use Rattle.tm_operations.specs.Comparison.{compared}
-use Rattle.tm_printing.specs.Concatenation.{concatenated}
-use Rattle.tm_operations.specs.Containment.{contained}
-use Rattle.tm_operations.specs.Members.{attribute_of, item_of}
-use Rattle.tm_operations.specs.Slices.{sliced}
-use Rattle.tm_operations.specs.declared.comparisons.Comparison.TheVariants as comparison
+use Rattle.tm_definitions.specs.Arithmetic as arithmetic
+use Rattle.tm_definitions.specs.Truth.{truth_of}
+use Rattle.tm_definitions.specs.Comparison.{compared}
+use Rattle.tm_definitions.specs.Concatenation.{concatenated}
+use Rattle.tm_definitions.specs.Containment.{contained}
+use Rattle.tm_definitions.specs.Members.{attribute_of, item_of}
+use Rattle.tm_definitions.specs.Slices.{sliced}
+use Rattle.tm_definitions.specs.declared.comparison.Comparison.TheVariants as comparison
 use Rattle.tm_syntax.specs.declared.tree.UnaryOperator.{UnaryOperator}
 use Rattle.tm_syntax.specs.declared.tree.UnaryOperator.TheVariants as unaries
 use Rattle.tm_syntax.specs.declared.tree.BinaryOperator.{BinaryOperator}

@@ -20,11 +20,11 @@ use Rattle.tm_meaning.specs.declared.mark.LoopMark.{LoopMark}
 pub use Rattle.tm_meaning.specs.declared.stream.TemplateId.{TemplateId}
 pub use Rattle.tm_meaning.specs.declared.stream.TemplateId.TheVariants.{Own as own, Entry as entry}
 pub use Rattle.tm_meaning.specs.declared.stream.StreamId.{StreamId}
-use Rattle.tm_operations.specs.Iteration.{iterated, unpacked}
-use Rattle.tm_operations.specs.Members.{settable}
+use Rattle.tm_definitions.specs.Iteration.{iterated, unpacked}
+use Rattle.tm_definitions.specs.Members.{settable}
 use Rattle.tm_values.specs.Defined.{refusal_of, unless}
-use Rattle.tm_printing.specs.Emitted.{emission_verdict, emitted_text}
-use Rattle.tm_printing.specs.Refused.{Verdict}
+use Rattle.tm_definitions.specs.Emitted.{emission_verdict, emitted_text}
+use Rattle.tm_definitions.specs.Refused.{Verdict}
 
 -- one of two, where only that one is computed
 abbrev pub choose : {A : Type 0} → Bool → (Unit {0} → A) → (Unit {0} → A) → A

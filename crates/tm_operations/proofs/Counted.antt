@@ -14,7 +14,7 @@ use Rattle.std.specs.Option.{option_copied, unwrap_or}
 use Rattle.std.specs.Ordering.{int_eq}
 use Rattle.std.specs.Slice.{IsItemAt}
 use Rattle.std.specs.Borrow.{Bor}
-use Rattle.tm_operations.specs.Ranges.{Span, count_of, numbers_of, is_served, served, ranged, required_in, later_in, span_of, range_of, AreStepped, StandBefore, LeaveNoneOut}
+use Rattle.tm_definitions.specs.Ranges.{Span, count_of, numbers_of, is_served, served, ranged, required_in, later_in, span_of, range_of, AreStepped, StandBefore, LeaveNoneOut}
 use Rattle.tm_primitives.proofs.Steps.{distance_is, count_up, not_negative}
 use Rattle.tm_primitives.specs.Places.{distance, count_before, IsBefore, step_to}
 use Rattle.tm_values.specs.Answer.{invalid}

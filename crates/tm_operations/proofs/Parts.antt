@@ -2,7 +2,7 @@
 use Rattle.std.proofs.Common.{◌≡◌, ℕ, Bool, true, false, eqb, ◌||◌, ◌&&◌, List, [], ◌∷◌, ◌++◌, refl, ap, subst, sym, arith}
 use Rattle.std.proofs.lemmas.Bool.Decides.{nat_tests}
 use Rattle.std.specs.Str.Iter.{HasSubslice}
-use Rattle.tm_operations.specs.Containment.{begins, has_part}
+use Rattle.tm_definitions.specs.Containment.{begins, has_part}
 
 same : (x : ℕ) → eqb x x ≡ true
 same x = grind (arith, nat_tests)

@@ -1,8 +1,8 @@
 -- Keywords behind plain arguments, and maps put one after the other.
 use Rattle.std.proofs.Common.{Vec, Global, ◌≡◌, ◌++◌, nat_lt, Bool, true, false, cond, List, [], ◌∷◌, length, Ok, Err, Less, Greater, refl, sym, ap, subst, ◌∙◌, append_assoc, slice_get}
 use Rattle.std.proofs.lemmas.List.{append-nil}
-use Rattle.tm_operations.specs.Maps.{keyword_pairs, plain_alone, keywords_of, plain_of, base_of, dict_of, has_text_key, text_pairs, namespace_of, IsMapWithKeywords}
-use Rattle.tm_operations.specs.Ranges.{given, no_more}
+use Rattle.tm_definitions.specs.Maps.{keyword_pairs, plain_alone, keywords_of, plain_of, base_of, dict_of, has_text_key, text_pairs, namespace_of, IsMapWithKeywords}
+use Rattle.tm_definitions.specs.Ranges.{given, no_more}
 use Rattle.tm_values.proofs.Maps.{turned, map-put}
 use Rattle.tm_values.specs.Answer.{Answer, refused, IsAnswer, OkOrOutOfMemory}
 use Rattle.tm_values.specs.Map.{put, put_each, put_all, IsAbove, IsMap}

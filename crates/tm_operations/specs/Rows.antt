@@ -1,7 +1,7 @@
 -- Worked calls of `range`, `dict` and `namespace`.
 use Rattle.std.specs.Prelude.{◌≡◌, ℕ, ℤ, pos, false, List, map as each, Ok, codes}
-use Rattle.tm_operations.specs.Maps.{dict_of, namespace_of}
-use Rattle.tm_operations.specs.Ranges.{number_list, range_of}
+use Rattle.tm_definitions.specs.Maps.{dict_of, namespace_of}
+use Rattle.tm_definitions.specs.Ranges.{number_list, range_of}
 use Rattle.tm_values.specs.Answer.{refused}
 use Rattle.tm_values.specs.Records.{no_records}
 use Rattle.tm_values.specs.Val.{Val, number, text, map, keywords, pairs_of}

@@ -1,13 +1,13 @@
 //! Arithmetic.
-ghost use Rattle.std.specs.Prelude.{◌≡◌, ◌++◌, ◌∷◌, [], OnOk, IfErr, MatchOption, string_bytes};
-ghost use Rattle.tm_operations.specs.Arithmetic.{both, number_answer, added, subtracted, multiplied, floor_divided, remaining, raised, negated, divided, text_added, list_added};
+ghost use Rattle.std.specs.Prelude.{◌≡◌, ◌∷◌, [], MatchOption, string_bytes};
+ghost use Rattle.tm_definitions.specs.Arithmetic.{both, number_answer, added, subtracted, multiplied, floor_divided, remaining, raised, negated, divided, text_added, list_added};
 ghost use Rattle.tm_values.specs.Answer.{IsAnswer};
 ghost use Rattle.tm_values.specs.Val.{whole_in, text_in, list_in};
 
 use std::alloc::Global;
 use std::rc::RcStr;
 use tm_primitives::whole;
-use tm_values::{Error, ErrorKind, Node, Value};
+use tm_values::{Error, ErrorKind, Node, Value, share_all};
 
 /// The sum of two numbers, truth values counted as 0 and 1; or two texts or two lists, one after
 /// another, not safe. InvalidOperation for other values and a sum out of range.
@@ -163,16 +163,4 @@ fn add_list(alloc: Global, items: &[Value], right: &Value) -> Result<Value, Erro
     share_all(items, &mut joined)?;
     share_all(behind, &mut joined)?;
     Value::list(alloc, joined)
-}
-
-/// Puts a second owner of each value behind those that are there. Fails by OutOfMemory alone.
-pub fn share_all(values: &[Value], out: &mut Vec<Value>) -> Result<(), Error>
-    ensures items { OnOk result (out.new.items ≡ out.old.items ++ values.now) }
-    ensures memory { IfErr result (λ e. e ≡ ErrorKind.OutOfMemory ∷ []) }
-{
-    out.reserve(values.len())?;
-    for value in values {
-        out.push(value.share()?)?;
-    }
-    Ok(())
 }

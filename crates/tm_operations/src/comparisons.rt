@@ -1,42 +1,9 @@
-//! The six comparisons.
+//! Comparing two values.
 ghost use Rattle.std.specs.Prelude.{◌≡◌};
-ghost use Rattle.tm_operations.specs.Comparison.{is_met, compared};
+ghost use Rattle.tm_definitions.specs.Comparison.{compared};
 
-use std::cmp::Ordering;
+use tm_definitions::Comparison;
 use tm_values::{Error, UndefinedBehavior, UndefinedUse, Value, check_defined};
-
-/// How two values are compared.
-#[derive(Clone, Copy, PartialEq, Eq, Debug)]
-pub enum Comparison {
-    /// `==`
-    Equal,
-    /// `!=`
-    NotEqual,
-    /// `<`
-    Less,
-    /// `<=`
-    LessOrEqual,
-    /// `>`
-    Greater,
-    /// `>=`
-    GreaterOrEqual,
-}
-
-impl Comparison {
-    // Whether values that stand to one another so compare so.
-    fn is_met(self, order: Ordering) -> bool
-        ensures { result ≡ is_met self order }
-    {
-        match self {
-            Comparison::Equal => order.is_eq(),
-            Comparison::NotEqual => order.is_ne(),
-            Comparison::Less => order.is_lt(),
-            Comparison::LessOrEqual => order.is_le(),
-            Comparison::Greater => order.is_gt(),
-            Comparison::GreaterOrEqual => order.is_ge(),
-        }
-    }
-}
 
 /// Whether the comparison holds of the two values, by their order: UndefinedError where one is
 /// undefined and the behaviour refuses that.

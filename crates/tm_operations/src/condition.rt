@@ -1,6 +1,6 @@
 //! The truth of values.
 ghost use Rattle.std.specs.Prelude.{◌≡◌};
-ghost use Rattle.tm_operations.specs.Truth.{is_true, truth_of};
+ghost use Rattle.tm_definitions.specs.Truth.{is_true, truth_of};
 
 use tm_values::{Error, Node, UndefinedBehavior, UndefinedUse, Value, check_defined};
 

@@ -1,6 +1,6 @@
 //! What `in` finds.
 ghost use Rattle.std.specs.Prelude.{◌≡◌, ◌∷◌, []};
-ghost use Rattle.tm_operations.specs.Containment.{has_part, found_in, contained};
+ghost use Rattle.tm_definitions.specs.Containment.{has_part, found_in, contained};
 ghost use Rattle.tm_values.specs.Answer.{IsAnswer};
 
 use std::alloc::Global;

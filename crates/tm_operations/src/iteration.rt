@@ -1,9 +1,9 @@
 //! What `for` goes over, and what unpacks into several targets.
 ghost use Rattle.std.specs.Prelude.{◌≡◌, ◌∷◌, [], Ok, map as each};
 ghost use Rattle.std.specs.Str.{chars};
-ghost use Rattle.tm_operations.specs.Iteration.{IsAnswerRead, UnpacksAsIterated, keys_of, character_texts, items_or, items_of, iterated, exactly, unpacked};
-ghost use Rattle.tm_operations.specs.Members.{text_values};
-ghost use Rattle.tm_operations.specs.Names.{loop_names, macro_names};
+ghost use Rattle.tm_definitions.specs.Iteration.{IsAnswerRead, UnpacksAsIterated, keys_of, character_texts, items_or, items_of, iterated, exactly, unpacked};
+ghost use Rattle.tm_definitions.specs.Members.{text_values};
+ghost use Rattle.tm_definitions.specs.Names.{loop_names, macro_names};
 
 use crate::names::{LOOP_NAMES, MACRO_NAMES};
 use std::alloc::Global;

@@ -13,15 +13,14 @@ mod ranges;
 mod rows;
 mod slices;
 
-pub use arithmetic::{
-    add, divide, floor_divide, multiply, negate, power, remainder, share_all, subtract,
-};
-pub use comparisons::{Comparison, compare};
+pub use arithmetic::{add, divide, floor_divide, multiply, negate, power, remainder, subtract};
+pub use comparisons::compare;
 pub use condition::{is_true, truth};
 pub use containment::contains;
 pub use iteration::{iterate, unpack, unpack_law};
 pub use maps::{dict, dict_law, namespace};
-pub use members::{LoopAttribute, attribute, check_settable, is_callable, item};
+pub use members::{attribute, check_settable, is_callable, item};
 pub use ranges::{range, range_law};
 pub use rows::{dict_rows, namespace_rows, range_faults, range_rows};
 pub use slices::slice;
+pub use tm_definitions::{Comparison, LoopAttribute};

@@ -1,8 +1,8 @@
 //! `dict` and `namespace`: a map and keywords.
 ghost use Rattle.std.specs.Prelude.{◌≡◌, ◌++◌, ◌∷◌, [], OnOk, IfErr};
 ghost use Rattle.std.specs.Option.{option_copied};
-ghost use Rattle.tm_operations.specs.Iteration.{IsAnswerRead};
-ghost use Rattle.tm_operations.specs.Maps.{keywords_of, plain_of, base_of, dict_of, text_pairs, namespace_of, IsMapWithKeywords};
+ghost use Rattle.tm_definitions.specs.Iteration.{IsAnswerRead};
+ghost use Rattle.tm_definitions.specs.Maps.{keywords_of, plain_of, base_of, dict_of, text_pairs, namespace_of, IsMapWithKeywords};
 ghost use Rattle.tm_values.specs.Answer.{IsAnswer, OkOrOutOfMemory};
 
 use std::alloc::Global;

@@ -1,7 +1,7 @@
 //! Attributes and items.
 ghost use Rattle.std.specs.Prelude.{◌≡◌, ◌∷◌, [], Some, Ok, option_map, slice_get, map as each};
 ghost use Rattle.std.specs.Rc.{rc_str_bytes};
-ghost use Rattle.tm_operations.specs.Members.{or_undefined, loop_attribute_named, at_item, loop_member, macro_member, member_of_undefined, attribute_of, item_of, list_item, text_item, loop_item, settable, is_callable, text_values};
+ghost use Rattle.tm_definitions.specs.Members.{or_undefined, loop_attribute_named, at_item, loop_member, macro_member, member_of_undefined, attribute_of, item_of, list_item, text_item, loop_item, settable, is_callable, text_values};
 ghost use Rattle.tm_values.specs.Answer.{IsAnswer};
 ghost use Rattle.tm_values.specs.Records.{LoopData, loop_at};
 ghost use Rattle.tm_values.specs.Position.{position_of};
@@ -9,71 +9,12 @@ ghost use Rattle.tm_values.specs.Val.{list, vals_of, text_in};
 
 use std::alloc::Global;
 use std::rc::RcStr;
+use tm_definitions::LoopAttribute;
 use tm_primitives::{characters, places};
 use tm_values::{
     Error, ErrorKind, LoopPosition, Macro, Node, Records, UndefinedBehavior, UndefinedUse, Value,
     check_defined, find_loop, find_namespace,
 };
-
-/// What a loop tells of itself.
-#[derive(Clone, Copy, PartialEq, Eq, Debug)]
-pub enum LoopAttribute {
-    /// The place of the item, counted from 0.
-    Index0,
-    /// The place of the item, counted from 1.
-    Index,
-    /// How many items there are.
-    Length,
-    /// How many items are left, this one among them.
-    RevIndex,
-    /// How many items are left behind this one.
-    RevIndex0,
-    /// Whether this is the first item.
-    First,
-    /// Whether this is the last item.
-    Last,
-    /// How many recursive loops there are, this one among them.
-    Depth,
-    /// How many recursive loops lie around this one.
-    Depth0,
-    /// The item before.
-    PrevItem,
-    /// The item behind.
-    NextItem,
-}
-
-impl LoopAttribute {
-    /// The attribute of this name, where there is one.
-    pub fn named(name: &str) -> Option<LoopAttribute>
-        ensures { result ≡ loop_attribute_named name.now }
-    {
-        if name == "index0" {
-            Some(LoopAttribute::Index0)
-        } else if name == "index" {
-            Some(LoopAttribute::Index)
-        } else if name == "length" {
-            Some(LoopAttribute::Length)
-        } else if name == "revindex" {
-            Some(LoopAttribute::RevIndex)
-        } else if name == "revindex0" {
-            Some(LoopAttribute::RevIndex0)
-        } else if name == "first" {
-            Some(LoopAttribute::First)
-        } else if name == "last" {
-            Some(LoopAttribute::Last)
-        } else if name == "depth" {
-            Some(LoopAttribute::Depth)
-        } else if name == "depth0" {
-            Some(LoopAttribute::Depth0)
-        } else if name == "previtem" {
-            Some(LoopAttribute::PrevItem)
-        } else if name == "nextitem" {
-            Some(LoopAttribute::NextItem)
-        } else {
-            None
-        }
-    }
-}
 
 /// The attribute `value.name`: of a map, keyword map, module or namespace the value at the text, of
 /// a loop or a macro what it tells of itself; undefined where there is none. UndefinedError where
@@ -227,9 +168,40 @@ fn loop_member<R: Records>(
     let Some(position) = find_loop(records, state, index) else {
         return Err(no_record(alloc));
     };
-    match (position.place, LoopAttribute::named(name)) {
+    match (position.place, loop_attribute(name)) {
         (Some(place), Some(attribute)) => loop_value(records, index, position, place, attribute),
         _ => Ok(Value::undefined()),
+    }
+}
+
+// The attribute of a loop of this name, where there is one.
+fn loop_attribute(name: &str) -> Option<LoopAttribute>
+    ensures { result ≡ loop_attribute_named name.now }
+{
+    if name == "index0" {
+        Some(LoopAttribute::Index0)
+    } else if name == "index" {
+        Some(LoopAttribute::Index)
+    } else if name == "length" {
+        Some(LoopAttribute::Length)
+    } else if name == "revindex" {
+        Some(LoopAttribute::RevIndex)
+    } else if name == "revindex0" {
+        Some(LoopAttribute::RevIndex0)
+    } else if name == "first" {
+        Some(LoopAttribute::First)
+    } else if name == "last" {
+        Some(LoopAttribute::Last)
+    } else if name == "depth" {
+        Some(LoopAttribute::Depth)
+    } else if name == "depth0" {
+        Some(LoopAttribute::Depth0)
+    } else if name == "previtem" {
+        Some(LoopAttribute::PrevItem)
+    } else if name == "nextitem" {
+        Some(LoopAttribute::NextItem)
+    } else {
+        None
     }
 }
 

@@ -1,6 +1,6 @@
 //! Slices.
 ghost use Rattle.std.specs.Prelude.{◌≡◌, ◌≢◌, ◌<◌, ◌∷◌, [], pos, length, Some, OnSome, All};
-ghost use Rattle.tm_operations.specs.Slices.{bound_in, step_in, parts_in, list_at, cut, cut_by, sliced};
+ghost use Rattle.tm_definitions.specs.Slices.{bound_in, step_in, parts_in, list_at, cut, cut_by, sliced};
 ghost use Rattle.tm_primitives.specs.Places.{places_of};
 ghost use Rattle.tm_values.specs.Answer.{IsAnswer};
 

@@ -1,3 +1,2 @@
-pub mod Fuel
 pub mod Outgoing
 pub mod Halts

@@ -1,15 +1,13 @@
-//! Parts of a machine: the fuel that a run is charged, its operands and operators, where its text goes and how it is escaped, and why it may stop.
+//! Parts of a machine: its operands and operators, where its text goes and how it is escaped, and why it may stop.
 #![tactic(auto)]
 
 mod escapes;
-mod fuel;
 mod halt;
 mod operators;
 mod output;
 mod stack;
 
 pub use escapes::escape_for;
-pub use fuel::FuelTracker;
 pub use halt::Halt;
 pub use operators::{binary, paired, unary};
 pub use output::{Captures, Output, WriteWrapper};

@@ -5,7 +5,7 @@ ghost use Rattle.tm_values.specs.declared.error.ErrorKind.TheVariants.{WriteFail
 ghost use Rattle.tm_meaning.specs.Instructions.{is_heard};
 ghost use Rattle.tm_meaning.specs.Machine.{first_heard, new_capture, put_in, put_out};
 ghost use Rattle.tm_output.specs.Counts.{one_more, AppendsBeginning};
-ghost use Rattle.tm_printing.specs.Emitted.{emitted_text};
+ghost use Rattle.tm_definitions.specs.Emitted.{emitted_text};
 ghost use Rattle.tm_parts.specs.Halts.{faults_after, PutHalts};
 
 use crate::halt::Halt;

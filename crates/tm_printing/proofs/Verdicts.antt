@@ -8,9 +8,9 @@ use Rattle.tm_values.specs.Answer.{Answer, IsAnswer, is_memory_alone, invalid}
 use Rattle.tm_values.specs.Records.{RecordData, namespace_at}
 use Rattle.tm_values.specs.Val.{Val, Pairs, vals_of, pairs_of}
 use Rattle.tm_values.specs.declared.error.ErrorKind.{ErrorKind}
-use Rattle.tm_printing.specs.Printed.{entered}
-use Rattle.tm_printing.specs.Refused.{Inside, Way, and_then, verdict, pair_verdict, items_verdict, pairs_verdict, through, nowhere, namespace_verdict, verdict_within}
-use Rattle.tm_printing.specs.declared.check.Form.{Form}
+use Rattle.tm_definitions.specs.Printed.{entered}
+use Rattle.tm_definitions.specs.Refused.{Inside, Way, and_then, verdict, pair_verdict, items_verdict, pairs_verdict, through, nowhere, namespace_verdict, verdict_within}
+use Rattle.tm_definitions.specs.declared.form.Form.{Form}
 
 -- an error that a part of the walk answers is the answer of the whole
 pub passed : {A : Type 0} (r : Answer A) (e : List ErrorKind) (stated : Answer A) → IsErrAnd r (λ x. x ≡ e) → (is_memory_alone e ≡ false → stated ≡ Err e) → IsAnswer r stated

@@ -3,20 +3,12 @@ ghost use Rattle.std.specs.Prelude.{◌≡◌, OnOk, nat_eq};
 ghost use Rattle.std.specs.HashSet.{contains};
 ghost use Rattle.tm_values.specs.Answer.{IsAnswer};
 ghost use Rattle.tm_values.specs.Val.{vals_of, pairs_of};
-ghost use Rattle.tm_printing.specs.Refused.{in_json, key_verdict, fits_json, if_holds, no_json, items_verdict, pair_verdict, pairs_verdict, namespace_verdict, loop_verdict, verdict_within, print_verdict, json_verdict};
+ghost use Rattle.tm_definitions.specs.Refused.{in_json, key_verdict, fits_json, if_holds, no_json, items_verdict, pair_verdict, pairs_verdict, namespace_verdict, loop_verdict, verdict_within, print_verdict, json_verdict};
 
 use std::alloc::Global;
 use std::collections::HashSet;
+use tm_definitions::Form;
 use tm_values::{Error, ErrorKind, Node, Records, Value, find_loop, find_namespace};
-
-/// What a value is tested for.
-#[derive(Clone, Copy, PartialEq, Eq, Debug)]
-pub enum Form {
-    /// That it can be printed.
-    Printed,
-    /// That it can be written as JSON.
-    Json,
-}
 
 /// Whether the value can be printed: InvalidOperation where a loop or a namespace in it has no
 /// record, or a namespace holds itself. OutOfMemory where the way through namespaces finds no

@@ -1,7 +1,7 @@
 //! Printed texts, one after the other.
 ghost use Rattle.std.specs.Prelude.{◌≡◌, ◌++◌, ◌∷◌, [], OnOk, IfErr, MatchResult, string_bytes};
-ghost use Rattle.tm_printing.specs.Concatenation.{joined, concatenated};
-ghost use Rattle.tm_printing.specs.Printed.{printed};
+ghost use Rattle.tm_definitions.specs.Concatenation.{joined, concatenated};
+ghost use Rattle.tm_definitions.specs.Printed.{printed};
 ghost use Rattle.tm_values.specs.Answer.{IsAnswer};
 
 use crate::check::check_print;

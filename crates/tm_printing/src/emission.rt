@@ -2,7 +2,7 @@
 ghost use Rattle.std.specs.Prelude.{string_bytes};
 ghost use Rattle.tm_output.specs.Targets.{Takes};
 ghost use Rattle.tm_values.specs.Answer.{IsAnswer};
-ghost use Rattle.tm_printing.specs.Emitted.{emission_verdict, emitted_text, map_ok, text_answer};
+ghost use Rattle.tm_definitions.specs.Emitted.{emission_verdict, emitted_text, map_ok, text_answer};
 
 use crate::check::{check_json, check_print};
 use crate::compact::write_json;

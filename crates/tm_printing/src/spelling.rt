@@ -1,7 +1,7 @@
 //! What stands for the bytes of a text.
 ghost use Rattle.std.specs.Prelude.{◌≡◌, ◌<◌, ℕ, List, [], ◌∷◌, IfSome, MatchOption, flat_map, refl};
 ghost use Rattle.json.specs.Print.{escape_byte};
-ghost use Rattle.tm_printing.specs.Texts.{as_is, as_is_quoted, in_html, within_quotes};
+ghost use Rattle.tm_definitions.specs.Texts.{as_is, as_is_quoted, in_html, within_quotes};
 
 /// What stands for each byte of a text that is written.
 pub trait Spelling {

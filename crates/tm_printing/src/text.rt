@@ -3,7 +3,7 @@ ghost use Rattle.std.specs.Prelude.{flat_map};
 ghost use Rattle.std.specs.Fmt.{signed_decimal};
 ghost use Rattle.json.specs.Print as json;
 ghost use Rattle.tm_output.specs.Targets.{Takes};
-ghost use Rattle.tm_printing.specs.Texts.{quoted};
+ghost use Rattle.tm_definitions.specs.Texts.{quoted};
 
 use crate::spelling::{Escape, Json, Spelling};
 use tm_output::{Target, TargetFailed};

@@ -7,8 +7,8 @@ use Rattle.tm_values.specs.Answer.{Answer}
 use Rattle.tm_values.specs.Val.{Val, undefined, boolean, number, text, vals_of, list_of}
 use Rattle.tm_values.specs.declared.escape.AutoEscape.{AutoEscape}
 use Rattle.tm_values.specs.declared.error.ErrorKind.TheVariants.{CannotUnpack, InvalidOperation}
-use Rattle.tm_operations.specs.Iteration.{exactly}
-use Rattle.tm_operations.specs.Arithmetic.{added, number_answer}
+use Rattle.tm_definitions.specs.Iteration.{exactly}
+use Rattle.tm_definitions.specs.Arithmetic.{added, number_answer}
 use Rattle.tm_syntax.specs.declared.tree.UnaryOperator.{UnaryOperator}
 use Rattle.tm_syntax.specs.declared.tree.UnaryOperator.TheVariants as unaries
 use Rattle.tm_syntax.specs.declared.tree.BinaryOperator.{BinaryOperator}

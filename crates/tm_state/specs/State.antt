@@ -9,7 +9,7 @@ use Rattle.tm_meaning.specs.Meaning.{first_fuel}
 use Rattle.tm_meaning.specs.declared.stream.TemplateId.TheVariants.{Own}
 use Rattle.tm_meaning.specs.declared.stream.StreamId.{StreamId}
 use Rattle.tm_syntax.specs.declared.instruction.LoopFlags.{LoopFlags}
-use Rattle.tm_parts.specs.Fuel.{Fuel}
+use Rattle.tm_tables.specs.Fuel.{Fuel}
 use Rattle.tm_tables.specs.Scopes.{exported_of}
 use Rattle.tm_state.specs.declared.saved.Saved.{Saved}
 

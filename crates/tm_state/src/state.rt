@@ -7,7 +7,7 @@ ghost use Rattle.tm_syntax.specs.Named.{find, name_cmp, put, put_each, texts_of}
 ghost use Rattle.tm_meaning.specs.World.{depth, with_escape, innermost, loop_depth, top_loop, top_mark, next_turn, turned_at, cleared, pop, store, set_member, with_member, make_namespace, emitted, records_of, fuel_levels, find_name, view_of, name_of, Good, Bad, block_of};
 ghost use Rattle.tm_meaning.specs.Calls.{enter_block, given_by, refused, of_loop, keeping_at, told_changed, told_turn};
 ghost use Rattle.tm_meaning.specs.Steps.{charge_of, pay};
-ghost use Rattle.tm_printing.specs.Emitted.{emitted_text};
+ghost use Rattle.tm_definitions.specs.Emitted.{emitted_text};
 ghost use Rattle.tm_tables.specs.Known.{AreFound, NamingFails};
 ghost use Rattle.tm_tables.specs.Scopes.{PushFails};
 ghost use Rattle.tm_state.specs.Answers.{Keeps, CanBeEmitted, Comes, IsChangedAt};
@@ -20,11 +20,11 @@ use std::mem;
 use std::rc::Rc;
 use tm_meaning::{GlobalFunction, LoopMark, StreamId, TemplateId};
 use tm_operations::{check_settable, dict, namespace, range};
-use tm_parts::FuelTracker;
 use tm_printing::check_emission;
 use tm_syntax::{Code, Instruction, LoopFlags, Name, NameMap};
 use tm_tables::{
-    Called, Context, Frame, Host, LoopState, View, following_at, position_at, previous_at,
+    Called, Context, Frame, FuelTracker, Host, LoopState, View, following_at, position_at,
+    previous_at,
 };
 use tm_values::{
     AutoEscape, Error, ErrorKind, LoopPosition, Node, Records, UndefinedUse, Value, ValueMap,

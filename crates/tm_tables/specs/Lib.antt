@@ -4,3 +4,4 @@ pub mod Locals
 pub mod Scopes
 pub mod Stated
 pub mod Views
+pub mod Fuel

@@ -1,8 +1,9 @@
-//! Scopes, loops, what objects of the caller see and answer, and what the machine asks of the environment.
+//! Scopes, loops, fuel, what objects of the caller see and answer, and what the machine asks of the environment.
 #![tactic(auto)]
 
 mod callable;
 mod context;
+mod fuel;
 mod host;
 mod locals;
 mod loops;
@@ -12,6 +13,7 @@ mod view;
 
 pub use callable::{Answer, Callable, Called, Reply};
 pub use context::{Context, Found, Frame};
+pub use fuel::FuelTracker;
 pub use host::Host;
 pub use loops::{LoopState, following_at, position_at, previous_at};
 pub use objects::{Objects, Parties};

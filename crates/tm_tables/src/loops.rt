@@ -9,8 +9,7 @@ use std::alloc::Global;
 use std::marker::Model;
 use std::rc::Rc;
 use tm_meaning::StreamId;
-use tm_operations::share_all;
-use tm_values::{Error, ErrorKind, LoopPosition, Value, same_items};
+use tm_values::{Error, ErrorKind, LoopPosition, Value, same_items, share_all};
 
 /// A loop: its items, how often the next one was asked for, how many loops that can be called lie around it with no other loop between, its number in its stream, whether it can be called, and that stream.
 #[derive(Drop)]

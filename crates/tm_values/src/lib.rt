@@ -9,6 +9,7 @@ mod macros;
 mod map;
 mod order;
 mod records;
+mod sharing;
 mod undefined;
 mod value;
 
@@ -19,5 +20,6 @@ pub use macros::Macro;
 pub use map::{ValueMap, put_law};
 pub use order::{order_law, same_items};
 pub use records::{LoopPosition, NoRecords, Records, find_loop, find_namespace};
+pub use sharing::share_all;
 pub use undefined::{UndefinedBehavior, UndefinedUse};
 pub use value::{Node, Value};

@@ -2,7 +2,7 @@
 ghost use Rattle.tm_meaning.specs.World.{records_of};
 ghost use Rattle.tm_meaning.specs.Machine.{writes};
 ghost use Rattle.tm_meaning.specs.Instructions.{emit_raw_of, emit_of};
-ghost use Rattle.tm_printing.specs.Emitted.{emitted_text};
+ghost use Rattle.tm_definitions.specs.Emitted.{emitted_text};
 ghost use Rattle.tm_vm.specs.Answers.{CanGoOn, Writes};
 
 use crate::flow::Flow;

@@ -4,7 +4,7 @@ ghost use Rattle.tm_values.specs.Val.{Val};
 ghost use Rattle.tm_meaning.specs.Meaning.{none_waits};
 ghost use Rattle.tm_meaning.specs.Steps.{is_empty};
 ghost use Rattle.tm_meaning.specs.Machine.{run_from, taken};
-ghost use Rattle.tm_operations.specs.Truth.{truth_of};
+ghost use Rattle.tm_definitions.specs.Truth.{truth_of};
 ghost use Rattle.tm_vm.specs.Answers.{CanGoOn, called, resumed};
 
 use std::alloc::Global;

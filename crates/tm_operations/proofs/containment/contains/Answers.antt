@@ -1,7 +1,7 @@
 use Rattle.std.proofs.lemmas.Grind.{common_steps}
 use Rattle.std.proofs.Common.{arith}
 use Rattle.tm_values.proofs.Asked.{passes, passes_on, fails}
-use Rattle.tm_operations.specs.Containment.{found_in}
+use Rattle.tm_definitions.specs.Containment.{found_in}
 use Rattle.tm_values.specs.Defined.{refusal_of, unless}
 use Rattle.tm_values.specs.declared.undefined.UndefinedUse.TheVariants as use_of
 use Rattle.tm_operations.proofs.containment.contains.Goals as goal

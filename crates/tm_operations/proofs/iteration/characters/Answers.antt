@@ -2,7 +2,7 @@ use Rattle.std.proofs.Common.{◌≡◌, ap, sym, ◌∙◌, map-id, rules}
 use Rattle.std.specs.Str.{chars}
 use Rattle.std.proofs.lemmas.Iterator.{YieldsList-from_chars}
 use Rattle.std.proofs.lemmas.Iterator.Consumers.{YieldsList-end}
-use Rattle.tm_operations.specs.Iteration.{character_texts}
+use Rattle.tm_definitions.specs.Iteration.{character_texts}
 use Rattle.tm_operations.proofs.iteration.characters.Goals as goal
 
 -- at the end every character has come

@@ -1,5 +1,5 @@
 use Rattle.std.proofs.Common.{◌≡◌}
-use Rattle.tm_operations.specs.Iteration.{character_texts}
+use Rattle.tm_definitions.specs.Iteration.{character_texts}
 use Rattle.tm_operations.proofs.iteration.characters.Given as goal
 
 abbrev pub invariant-loop-character : goal.invariant-loop-character

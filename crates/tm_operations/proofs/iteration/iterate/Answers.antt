@@ -1,7 +1,7 @@
 use Rattle.std.proofs.lemmas.Grind.{common_steps}
 use Rattle.std.proofs.Common.{arith}
 use Rattle.tm_operations.proofs.Unpacking.{passes_read}
-use Rattle.tm_operations.specs.Iteration.{items_of}
+use Rattle.tm_definitions.specs.Iteration.{items_of}
 use Rattle.tm_values.specs.Defined.{refusal_of}
 use Rattle.tm_values.specs.declared.undefined.UndefinedUse.TheVariants as use_of
 use Rattle.tm_operations.proofs.iteration.iterate.Goals as goal

@@ -1,5 +1,5 @@
 use Rattle.std.proofs.Common.{◌≡◌, ◌++◌, drop}
-use Rattle.tm_operations.specs.Iteration.{keys_of}
+use Rattle.tm_definitions.specs.Iteration.{keys_of}
 use Rattle.tm_operations.proofs.iteration.keys.Given as goal
 
 -- the keys from the index on are left

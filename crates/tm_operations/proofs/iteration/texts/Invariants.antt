@@ -1,5 +1,5 @@
 use Rattle.std.proofs.Common.{◌≡◌, ◌++◌, drop, map as each}
-use Rattle.tm_operations.specs.Members.{text_values}
+use Rattle.tm_definitions.specs.Members.{text_values}
 use Rattle.tm_operations.proofs.iteration.texts.Given as goal
 
 -- the names from the index on are left

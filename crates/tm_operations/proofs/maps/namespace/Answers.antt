@@ -1,6 +1,6 @@
 use Rattle.std.proofs.Common.{◌≡◌, Ok, rules}
 use Rattle.tm_operations.proofs.Puts.{named}
-use Rattle.tm_operations.specs.Maps.{dict_of, text_pairs}
+use Rattle.tm_definitions.specs.Maps.{dict_of, text_pairs}
 use Rattle.tm_operations.proofs.maps.namespace.Goals as goal
 
 pub returns : goal.returns

@@ -1,5 +1,5 @@
 use Rattle.std.proofs.Common.{◌≡◌, ◌++◌, drop}
-use Rattle.tm_operations.specs.Maps.{text_pairs}
+use Rattle.tm_definitions.specs.Maps.{text_pairs}
 use Rattle.tm_operations.proofs.maps.text_pairs.Given as goal
 
 -- the pairs from the index on are left

@@ -1,6 +1,6 @@
 use Rattle.std.proofs.Common.{◌≡◌, ◌++◌, drop, map as each}
 use Rattle.std.specs.Rc.{rc_str_bytes}
-use Rattle.tm_operations.specs.Members.{text_values}
+use Rattle.tm_definitions.specs.Members.{text_values}
 use Rattle.tm_operations.proofs.members.text_list.Given as goal
 
 -- the texts from the index on are left

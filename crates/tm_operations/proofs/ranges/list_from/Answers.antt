@@ -5,7 +5,7 @@ use Rattle.std.proofs.lemmas.List.{map-append}
 use Rattle.std.proofs.lemmas.List.FromFn.{map-range_with_len_more}
 use Rattle.std.specs.Int.{w64}
 use Rattle.std.specs.Int.RustNames.{FitsSigned}
-use Rattle.tm_operations.specs.Ranges.{numbers_from}
+use Rattle.tm_definitions.specs.Ranges.{numbers_from}
 use Rattle.tm_primitives.specs.Places.{step_to}
 use Rattle.tm_values.specs.Val.{number}
 use Rattle.tm_operations.proofs.ranges.list_from.Goals as goal

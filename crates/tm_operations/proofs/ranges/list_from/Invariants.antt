@@ -1,5 +1,5 @@
 use Rattle.std.proofs.Common.{◌≡◌, map as each}
-use Rattle.tm_operations.specs.Ranges.{numbers_from}
+use Rattle.tm_definitions.specs.Ranges.{numbers_from}
 use Rattle.tm_values.specs.Val.{number}
 use Rattle.tm_operations.proofs.ranges.list_from.Given as goal
 

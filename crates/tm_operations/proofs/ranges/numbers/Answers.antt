@@ -3,7 +3,7 @@ use Rattle.std.proofs.lemmas.Int.{to_z-of_z}
 use Rattle.std.specs.Int.{w64}
 use Rattle.std.specs.Int.RustNames.{FitsSigned}
 use Rattle.tm_operations.proofs.Counted.{refused_count, served_count}
-use Rattle.tm_operations.specs.Ranges.{Span, count_of}
+use Rattle.tm_definitions.specs.Ranges.{Span, count_of}
 use Rattle.tm_operations.proofs.ranges.numbers.Goals as goal
 
 -- too many numbers

@@ -5,7 +5,7 @@ use Rattle.std.specs.Int.{w64}
 use Rattle.std.specs.Int.RustNames.{FitsSigned}
 use Rattle.std.specs.Option.{unwrap_or}
 use Rattle.tm_operations.proofs.Counted.{copied, asked_both, asked_one}
-use Rattle.tm_operations.specs.Ranges.{required_in, later_in}
+use Rattle.tm_definitions.specs.Ranges.{required_in, later_in}
 use Rattle.tm_operations.proofs.ranges.range.Goals as goal
 
 -- from the first argument to the second one

@@ -1,7 +1,7 @@
 use Rattle.std.proofs.Common.{◌≡◌, ◌<◌, ◌++◌, ℕ, List, [], ◌∷◌, length, get_or, sym, ap, ◌∙◌, append_assoc, rules}
 use Rattle.std.proofs.lemmas.List.{get_or_default}
 use Rattle.std.specs.Prelude.{slice_index_or}
-use Rattle.tm_operations.specs.Slices.{items_at}
+use Rattle.tm_definitions.specs.Slices.{items_at}
 use Rattle.tm_primitives.proofs.Picks.{inside_first, inside_more}
 use Rattle.tm_values.specs.Val.{Val, none}
 use Rattle.tm_operations.proofs.slices.pick_items.Goals as goal

@@ -1,6 +1,6 @@
 use Rattle.std.proofs.Common.{◌≡◌, ◌<◌, ◌++◌, length}
 use Rattle.std.specs.List.{All}
-use Rattle.tm_operations.specs.Slices.{items_at}
+use Rattle.tm_definitions.specs.Slices.{items_at}
 use Rattle.tm_operations.proofs.slices.pick_items.Given as goal
 
 -- the items at the places that are left are left

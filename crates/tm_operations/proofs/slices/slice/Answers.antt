@@ -1,7 +1,7 @@
 use Rattle.std.proofs.lemmas.Grind.{common_steps}
 use Rattle.std.proofs.Common.{arith}
 use Rattle.tm_values.proofs.Asked.{passes}
-use Rattle.tm_operations.specs.Slices.{parts_in, cut_by}
+use Rattle.tm_definitions.specs.Slices.{parts_in, cut_by}
 use Rattle.tm_values.specs.Defined.{refusal_of}
 use Rattle.tm_values.specs.declared.undefined.UndefinedUse.TheVariants as use_of
 use Rattle.tm_operations.proofs.slices.slice.Goals as goal

@@ -2,8 +2,8 @@ use Rattle.std.proofs.Common.{ℕ, List, ap, subst, nat_eq}
 use Rattle.std.specs.HashSet.{contains}
 use Rattle.std.specs.List.{list_any}
 use Rattle.tm_values.specs.Answer.{IsAnswer}
-use Rattle.tm_printing.specs.Refused.{Verdict}
-use Rattle.tm_printing.specs.declared.check.Form.TheVariants.{Printed}
+use Rattle.tm_definitions.specs.Refused.{Verdict}
+use Rattle.tm_definitions.specs.declared.form.Form.TheVariants.{Printed}
 use Rattle.tm_printing.proofs.Verdicts.{at_start}
 use Rattle.tm_printing.proofs.check.check_print.Goals as goal
 

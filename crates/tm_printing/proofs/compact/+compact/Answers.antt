@@ -5,7 +5,7 @@ use Rattle.tm_output.proofs.Written.{all_ahead, rest_is, past, past_two, failed,
 use Rattle.tm_values.proofs.Sizes.{item-smaller}
 use Rattle.tm_values.specs.Val.{Val, list, map, keywords, val_size, vals_of, pairs_of}
 use Rattle.tm_values.specs.View.{node_view}
-use Rattle.tm_printing.specs.Json.{data_of, items_of, members_of, namespace_data}
+use Rattle.tm_definitions.specs.Json.{data_of, items_of, members_of, namespace_data}
 use Rattle.tm_printing.proofs.Members.{item_first, member_first, namespace-there}
 use Rattle.tm_printing.proofs.Parts.{pair-smaller}
 use Rattle.tm_printing.proofs.Weights.{weight, level-heavier}

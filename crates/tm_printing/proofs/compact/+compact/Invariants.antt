@@ -2,7 +2,7 @@ use Rattle.std.proofs.Common.{◌+◌, ◌*◌, drop, nat_lt}
 use Rattle.serde_json.specs.Written.{items_text, members_text}
 use Rattle.tm_output.proofs.Written.{Ahead}
 use Rattle.tm_values.specs.Val.{val_size, vals_size, pairs_size, vals_of, pairs_of}
-use Rattle.tm_printing.specs.Json.{array_text, object_text, items_of, members_of, namespace_data}
+use Rattle.tm_definitions.specs.Json.{array_text, object_text, items_of, members_of, namespace_data}
 use Rattle.tm_printing.proofs.Weights.{weight}
 use Rattle.tm_printing.proofs.compact.+compact.Given as goal
 

@@ -1,5 +1,5 @@
 use Rattle.tm_values.proofs.Asked.{passes, passes_on, fails}
-use Rattle.tm_printing.specs.Concatenation.{joined}
+use Rattle.tm_definitions.specs.Concatenation.{joined}
 use Rattle.tm_values.specs.Defined.{refusal_of, unless}
 use Rattle.tm_values.specs.declared.undefined.UndefinedUse.TheVariants as use_of
 use Rattle.tm_printing.proofs.concatenation.concatenate.Goals as goal

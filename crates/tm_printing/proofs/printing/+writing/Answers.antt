@@ -3,7 +3,7 @@ use Rattle.tm_output.proofs.Written.{Ahead, rest_is, past, failed}
 use Rattle.tm_values.proofs.Sizes.{item-smaller}
 use Rattle.tm_values.specs.Val.{Val, list, map, keywords, val_size, pairs_size, vals_of, pairs_of}
 use Rattle.tm_values.specs.View.{node_view}
-use Rattle.tm_printing.specs.Printed.{inner_items, inner_pairs, namespace_text}
+use Rattle.tm_definitions.specs.Printed.{inner_items, inner_pairs, namespace_text}
 use Rattle.tm_printing.proofs.Parts.{item_first, pair_first, pair-smaller, namespace-there}
 use Rattle.tm_printing.proofs.Spelled.{spelled_laws}
 use Rattle.tm_printing.proofs.Weights.{weight, level-heavier}

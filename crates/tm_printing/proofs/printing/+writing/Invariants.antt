@@ -1,7 +1,7 @@
 use Rattle.std.proofs.Common.{◌+◌, ◌*◌, drop, nat_lt, flat_map}
 use Rattle.tm_output.proofs.Written.{Ahead}
 use Rattle.tm_values.specs.Val.{val_size, vals_size, pairs_size, vals_of, pairs_of}
-use Rattle.tm_printing.specs.Printed.{list_text, map_text, inner_items, inner_pairs, namespace_text}
+use Rattle.tm_definitions.specs.Printed.{list_text, map_text, inner_items, inner_pairs, namespace_text}
 use Rattle.tm_printing.proofs.Spelled.{spelled}
 use Rattle.tm_printing.proofs.Weights.{weight}
 use Rattle.tm_printing.proofs.printing.+writing.Given as goal

@@ -1,7 +1,7 @@
 use Rattle.std.proofs.Common.{List, ℕ, subst, sym}
 use Rattle.tm_output.specs.Targets.{Takes}
-use Rattle.tm_printing.specs.Printed.{printed}
-use Rattle.tm_printing.specs.Texts.{as_is_all}
+use Rattle.tm_definitions.specs.Printed.{printed}
+use Rattle.tm_definitions.specs.Texts.{as_is_all}
 use Rattle.tm_printing.proofs.printing.print.Goals as goal
 
 pub returns : goal.returns

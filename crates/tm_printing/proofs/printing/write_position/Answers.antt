@@ -1,6 +1,6 @@
 use Rattle.std.proofs.Common.{◌++◌, codes}
 use Rattle.tm_output.proofs.Written.{at_opening, within, closed}
-use Rattle.tm_printing.specs.Loops.{progress_text}
+use Rattle.tm_definitions.specs.Loops.{progress_text}
 use Rattle.tm_printing.proofs.Spelled.{spelled_laws}
 use Rattle.tm_printing.proofs.printing.write_position.Goals as goal
 

@@ -1,5 +1,5 @@
 use Rattle.std.proofs.Common.{◌≡◌, ℕ, List, Option, ap, sym, ◌∙◌, length, unwrap_or}
-use Rattle.tm_printing.specs.Printed.{printed, inner, namespace_text}
+use Rattle.tm_definitions.specs.Printed.{printed, inner, namespace_text}
 use Rattle.tm_printing.proofs.printing.write_value.Goals as goal
 
 pub returns-in-None : goal.returns-in-None

@@ -1,6 +1,6 @@
 use Rattle.std.proofs.Common.{◌≡◌, List, ℕ, [], ◌∷◌, flat_map, subst}
 use Rattle.tm_output.proofs.Written.{within, closed}
-use Rattle.tm_printing.specs.Texts.{within_quotes}
+use Rattle.tm_definitions.specs.Texts.{within_quotes}
 use Rattle.tm_printing.proofs.Spelled.{spelled_laws, in_two_steps}
 use Rattle.tm_printing.proofs.text.write_quoted.Goals as goal
 

@@ -1,0 +1,130 @@
+//! The functions of the rows.
+ghost use Rattle.std.specs.Prelude.{◌≡◌, ◌-◌, false, List, [], ◌∷◌, codes, length, option_copied, pos, slice_get};
+ghost use Rattle.tm_values.specs.Val.{number, text};
+ghost use Rattle.tm_syntax.specs.Named.{find};
+ghost use Rattle.tm_meaning.specs.World.{find_name, gives, faults, or_undefined};
+ghost use Rattle.tm_tables.specs.Stated.{IsStated, just, keeping};
+ghost use Rattle.render_tests.specs.Found.{reply_of_found};
+ghost use Rattle.render_tests.specs.declared.party.Party.TheVariants.{Second, Last, Keeper, Reader, Title, Seen, Faulty};
+
+use std::alloc::Global;
+use template_machine::*;
+
+/// A function of the rows.
+#[derive(Clone, Copy)]
+pub(crate) enum Party {
+    /// Answers its second argument.
+    Second,
+    /// Answers its last argument.
+    Last,
+    /// Keeps 1 at `k`, and answers 2.
+    Keeper,
+    /// Answers what is kept at `k`.
+    Reader,
+    /// Answers the name of the template that runs.
+    Title,
+    /// Answers the value of the name `g`.
+    Seen,
+    /// Answers a fault.
+    Faulty(ErrorKind),
+}
+
+impl Callable for Party {
+    ghost answers = { elim [
+      | Second ↦ λ args view. just (gives (or_undefined (slice_get args 1)))
+      | Last ↦ λ args view. just (gives (or_undefined (slice_get args (length args - 1))))
+      | Keeper ↦ λ args view.
+          keeping (codes "k") (number (pos 1)) (just (gives (number (pos 2))))
+      | Reader ↦ λ args view. just (gives (or_undefined (find (codes "k") view.temps)))
+      | Title ↦ λ args view. just (gives (text view.name false))
+      | Seen ↦ λ args view. just (reply_of_found (find_name view (codes "g")))
+      | Faulty kind ↦ λ args view. just (faults (kind ∷ []))
+    ] };
+
+    fn call(&self, alloc: Global, args: &[Value], view: &View<'_>) -> Answer {
+        match self {
+            Party::Second => shared(alloc, args.get(1)),
+            Party::Last => shared(alloc, args.last()),
+            Party::Keeper => Answer::value(alloc, Value::number(2)).keep(
+                alloc,
+                "k",
+                Value::number(1),
+            ),
+            Party::Reader => shared(alloc, view.get_temp("k")),
+            Party::Title => match Value::text(alloc, view.name()) {
+                Ok(name) => Answer::value(alloc, name),
+                Err(error) => Answer::fault(alloc, error),
+            },
+            Party::Seen => match view.lookup("g") {
+                Ok(Some(found)) => Answer::value(alloc, found),
+                Ok(None) => Answer::value(alloc, Value::undefined()),
+                Err(error) => Answer::fault(alloc, error),
+            },
+            Party::Faulty(kind) => Answer::fault(alloc, Error::from(*kind)),
+        }
+    }
+}
+
+/// Answers a value that is kept elsewhere; undefined where there is none.
+fn shared(alloc: Global, found: Option<&Value>) -> Answer
+    ensures { IsStated result (just (gives (or_undefined (option_copied found.entry)))) }
+{
+    match found {
+        Some(value) => match value.share() {
+            Ok(value) => Answer::value(alloc, value),
+            Err(error) => Answer::fault(alloc, error),
+        },
+        None => Answer::value(alloc, Value::undefined()),
+    }
+}
+
+/// An environment of such functions.
+pub(crate) type Rows<'source> = EnvironmentOf<'source, Objects<Party>>;
+
+/// A template of such an environment.
+pub(crate) type Page<'env, 'source> = TemplateOf<'env, 'source, Objects<Party>>;
+
+/// The state that its render leaves.
+pub(crate) type Left<'env> = StateOf<'env, Objects<Party>>;
+
+// The first one gets the number behind those of the language.
+static FUNCTIONS: &[(&str, Party)] = &[
+    ("f", Party::Last),
+    ("second", Party::Second),
+    ("keep", Party::Keeper),
+    ("read", Party::Reader),
+    ("title", Party::Title),
+    ("seen", Party::Seen),
+    ("missing", Party::Faulty(ErrorKind::MissingArgument)),
+    ("failing", Party::Faulty(ErrorKind::WriteFailure)),
+    ("stuck", Party::Faulty(ErrorKind::BadStream)),
+    ("hungry", Party::Faulty(ErrorKind::OutOfMemory)),
+];
+
+/// Adds the functions of the rows.
+pub(crate) fn add_functions(environment: &mut Rows<'_>) -> Result<(), Error> {
+    for &(name, party) in FUNCTIONS {
+        environment.add_function(name, party)?;
+    }
+    Ok(())
+}
+
+/// Puts a value under a name.
+fn put(alloc: Global, map: &mut ValueMap, name: &str, value: Value) -> Result<(), Error> {
+    map.insert(Value::text(alloc, name)?, value)
+}
+
+/// The context of the rows: a truth value, a text, an empty map, 7 at `g` and at a number, and
+/// records that no state of a row has.
+pub(crate) fn context(alloc: Global) -> Result<Value, Error> {
+    let mut map = ValueMap::new(alloc);
+    put(alloc, &mut map, "t", Value::boolean(true))?;
+    put(alloc, &mut map, "w", Value::text(alloc, "World")?)?;
+    put(alloc, &mut map, "g", Value::number(7))?;
+    map.insert(Value::number(3), Value::number(7))?;
+    put(alloc, &mut map, "lost", Value::namespace(9, 0))?;
+    put(alloc, &mut map, "ended", Value::loop_record(9, 1))?;
+    let empty = Value::from_map(alloc, ValueMap::new(alloc))?;
+    put(alloc, &mut map, "m", empty)?;
+    Value::from_map(alloc, map)
+}

@@ -1,0 +1,222 @@
+//! What rows are: renders of sources, and settings between them.
+
+use crate::party::{Left, Page, Rows, context};
+use std::alloc::Global;
+use std::io::{self, Write};
+use std::test::Fail;
+use template_machine::*;
+
+/// A writer that takes so many bytes at a time; where no number is given, it fails.
+#[derive(Drop)]
+struct Narrow {
+    bytes: Vec<u8>,
+    width: Option<usize>,
+}
+
+impl Write for Narrow {
+    fn write(&mut self, bytes: &[u8]) -> io::Result<usize> {
+        let Some(width) = self.width else {
+            return Err(io::Error::from(io::ErrorKind::BrokenPipe));
+        };
+        let taken = bytes.len().min(width);
+        self.bytes.extend_from_slice(&bytes[..taken])?;
+        Ok(taken)
+    }
+
+    fn flush(&mut self) -> io::Result<()> {
+        Ok(())
+    }
+}
+
+/// How rows are rendered beside their environment's settings.
+#[derive(Clone, Copy)]
+pub(crate) struct Setup<'a> {
+    /// The name of their templates.
+    pub(crate) name: &'a str,
+    /// How many bytes their writer takes at a time; where no number is given, it fails.
+    pub(crate) width: Option<usize>,
+    /// Their context value.
+    pub(crate) given: Given,
+}
+
+/// A context value.
+#[derive(Clone, Copy)]
+pub(crate) enum Given {
+    /// That of the rows.
+    Names,
+    Undefined,
+    /// A namespace that no state of a row has.
+    Lost,
+}
+
+/// The usual one: a whole text at a time, over the names of the rows.
+pub(crate) fn usual<'a>() -> Setup<'a> {
+    Setup {
+        name: "<string>",
+        width: Some(usize::MAX),
+        given: Given::Names,
+    }
+}
+
+fn made(alloc: Global, given: Given) -> Result<Value, Error> {
+    match given {
+        Given::Names => context(alloc),
+        Given::Undefined => Ok(Value::undefined()),
+        Given::Lost => Ok(Value::namespace(9, 0)),
+    }
+}
+
+/// A source, or the name of a template that is kept behind `&`; what it writes; how it ends: with
+/// so many charges, `ok` with any, or by a kind of error; and what is asked of the state behind it.
+/// Where four ends are given, they are those under each behavior, from the loosest.
+#[derive(Clone, Copy)]
+pub(crate) struct Row<'a> {
+    pub(crate) source: &'a str,
+    pub(crate) text: &'a str,
+    pub(crate) end: &'a str,
+    pub(crate) left: &'a str,
+}
+
+/// The fields of a row, with ` => ` between them.
+pub(crate) fn row_of(line: &str) -> Row<'_> {
+    let mut fields = line.split(" => ");
+    Row {
+        source: fields.next().unwrap_or(""),
+        text: fields.next().unwrap_or(""),
+        end: fields.next().unwrap_or(""),
+        left: fields.next().unwrap_or(""),
+    }
+}
+
+/// Whether these are the names, in this order.
+pub(crate) fn are(names: &[&str], wanted: &str) -> bool {
+    let mut rest = names.iter();
+    for name in wanted.split_whitespace() {
+        match rest.next() {
+            Some(found) if *found == name => {}
+            _ => return false,
+        }
+    }
+    rest.next().is_none()
+}
+
+fn lists(found: &Result<Vec<&str>, Error>, wanted: &str) -> bool {
+    match found {
+        Ok(names) => are(names, wanted),
+        Err(error) => error.kind().name() == wanted,
+    }
+}
+
+/// Whether 1 is kept under a name that leads nowhere, and no name is exported.
+fn keeps_apart(state: &Left<'_>, name: &str) -> Result<bool, Error> {
+    let is_kept = match state.get_temp(name) {
+        Some(kept) => *kept == Value::number(1),
+        None => false,
+    };
+    Ok(is_kept && state.lookup(name)?.is_none() && state.exports()?.is_empty())
+}
+
+/// Whether a state is left as a row asks.
+fn is_left(state: &Left<'_>, wanted: &str) -> bool {
+    match wanted.split_once(' ') {
+        Some(("known", names)) => lists(&state.known_variables(), names),
+        Some(("exports", names)) => lists(&state.exports(), names),
+        Some(("keeps", name)) => keeps_apart(state, name).unwrap_or(false),
+        Some(("name", name)) => state.name() == name && state.auto_escape() == AutoEscape::None,
+        Some(("first", name)) => match state.lookup(name) {
+            Ok(found) => found == Some(Value::function(3)),
+            Err(_) => false,
+        },
+        _ => wanted.is_empty(),
+    }
+}
+
+/// The charges of a render; 0 where none are counted.
+fn charges(state: &Left<'_>) -> u64 {
+    match state.fuel_levels() {
+        Some((consumed, _)) => consumed,
+        None => 0,
+    }
+}
+
+/// How a render ends: by its charges, and whether its state is left as a row asks; or by a kind.
+type End = Result<(u64, bool), ErrorKind>;
+
+fn end_of(template: &Page<'_, '_>, given: Value, writer: &mut Counted<Narrow>, left: &str) -> End {
+    match template.render_captured_to(&mut StateIds::new(), given, writer) {
+        Ok(captured) => {
+            let state = captured.state();
+            Ok((charges(state), is_left(state, left)))
+        }
+        Err(error) => Err(error.kind()),
+    }
+}
+
+/// The template of a source under a name, or the one that is kept.
+fn template_of<'env, 'source>(
+    environment: &'env Rows<'source>,
+    name: &'env str,
+    source: &'source str,
+) -> Result<Page<'env, 'source>, Error> {
+    match source.strip_prefix('&') {
+        Some(kept) => environment.get_template(kept),
+        None => environment.template_from_named_str(name, source),
+    }
+}
+
+fn ended<'source>(
+    environment: &Rows<'source>,
+    setup: &Setup<'_>,
+    source: &'source str,
+    left: &str,
+    given: Value,
+    writer: &mut Counted<Narrow>,
+) -> End {
+    match template_of(environment, setup.name, source) {
+        Ok(template) => end_of(&template, given, writer, left),
+        Err(error) => Err(error.kind()),
+    }
+}
+
+/// The end that is wanted under a behavior.
+fn wanted(end: &str, behavior: UndefinedBehavior) -> &str {
+    let place = match behavior {
+        UndefinedBehavior::Lenient => 0,
+        UndefinedBehavior::Chainable => 1,
+        UndefinedBehavior::SemiStrict => 2,
+        UndefinedBehavior::Strict => 3,
+    };
+    end.split(' ').nth(place).unwrap_or(end)
+}
+
+fn is_end(end: End, wanted: &str) -> bool {
+    match end {
+        Ok((charges, is_left)) => is_left
+            && (wanted == "ok" || wanted.parse().ok() == Some(charges)),
+        Err(kind) => kind.name() == wanted,
+    }
+}
+
+/// Renders the source of a row, and compares what it writes, how it ends and what it leaves.
+pub(crate) fn expect_row(
+    alloc: Global,
+    environment: &Rows<'_>,
+    setup: &Setup<'_>,
+    row: &Row<'_>,
+) -> Result<(), Fail> {
+    let mut writer = Counted::new(Narrow {
+        bytes: Vec::new(alloc),
+        width: setup.width,
+    });
+    let given = made(alloc, setup.given)?;
+    let end = ended(environment, setup, row.source, row.left, given, &mut writer);
+    let is_ended = is_end(end, wanted(row.end, environment.undefined_behavior()));
+    let written = writer.inner().bytes.as_slice();
+    // What stands before a use that is refused under some behaviors alone is none of the row's.
+    let is_written = written == row.text.as_bytes() || end.is_err() && row.end.contains(' ');
+    let failures = (row.end == "WriteFailure" && setup.width.unwrap_or(0) == 0) as u64;
+    if is_ended && is_written && writer.failures() == failures {
+        return Ok(());
+    }
+    Err(Fail::new(row.source))
+}

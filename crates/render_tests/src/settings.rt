@@ -1,0 +1,272 @@
+//! Tables of rows, with settings between them.
+
+use crate::party::{Rows, add_functions};
+use crate::renders::{Given, Setup, are, expect_row, row_of, usual};
+use crate::{bounds, loops, rows, values};
+use std::alloc::Global;
+use std::test::Fail;
+use template_machine::*;
+
+/// Other delimiters, with both trims of blocks, and with the last line's end.
+fn angles(alloc: Global) -> Result<SyntaxConfig, Error> {
+    let block = String::from_str(alloc, "<%")?;
+    let block_end = String::from_str(alloc, "%>")?;
+    let comment = String::from_str(alloc, "<%#")?;
+    let comment_end = String::from_str(alloc, "%>")?;
+    let variable = String::from_str(alloc, "${")?;
+    let variable_end = String::from_str(alloc, "}")?;
+    SyntaxConfig::builder()
+        .block_delimiters(block, block_end)
+        .comment_delimiters(comment, comment_end)
+        .variable_delimiters(variable, variable_end)
+        .trim_blocks(true)
+        .lstrip_blocks(true)
+        .keep_trailing_newline(true)
+        .build()
+}
+
+fn behavior(name: &str) -> UndefinedBehavior {
+    match name {
+        "chainable" => UndefinedBehavior::Chainable,
+        "semi-strict" => UndefinedBehavior::SemiStrict,
+        "strict" => UndefinedBehavior::Strict,
+        _ => UndefinedBehavior::Lenient,
+    }
+}
+
+/// Whether an environment has this fuel, limit and behavior, and keeps the last line's end or not.
+fn is_set(environment: &Rows<'_>, wanted: &str) -> bool {
+    let mut fields = wanted.split(' ');
+    let fuel = fields.next().unwrap_or("").parse().ok();
+    let limit = fields.next().unwrap_or("").parse().unwrap_or(0);
+    let undefined = behavior(fields.next().unwrap_or(""));
+    environment.fuel() == fuel
+        && environment.recursion_limit() == limit
+        && environment.undefined_behavior() == undefined
+        && environment.syntax().keeps_newline() == (fields.next() == Some("keeps"))
+}
+
+/// Whether the globals of an environment have these names.
+fn has_globals(alloc: Global, environment: &Rows<'_>, wanted: &str) -> Result<bool, Error> {
+    let mut names = Vec::new(alloc);
+    for &(name, _) in environment.globals()?.iter() {
+        names.push(name)?;
+    }
+    Ok(are(&names, wanted))
+}
+
+/// Whether a source that spells no template is refused at the name before it.
+fn is_refused<'source>(environment: &mut Rows<'source>, rest: &'source str) -> bool {
+    let (name, source) = rest.split_once(' ').unwrap_or((rest, ""));
+    match environment.add_template(name, source) {
+        Ok(()) => false,
+        Err(error) => error.kind() == ErrorKind::SyntaxError,
+    }
+}
+
+/// Changes a setting of an environment, or asks for them; false where they aren't so, or there is
+/// no such word.
+fn set(environment: &mut Rows<'_>, word: &str, rest: &str) -> bool {
+    match word {
+        "fuel" => environment.set_fuel(rest.parse().ok()),
+        "limit" => environment.set_recursion_limit(rest.parse().unwrap_or(0)),
+        "undefined" => environment.set_undefined_behavior(behavior(rest)),
+        "remove" => environment.remove_global(rest),
+        "set" => return is_set(environment, rest),
+        _ => return false,
+    }
+    true
+}
+
+/// Adds what is named first in the rest to an environment, or sets other delimiters.
+fn add<'source>(
+    alloc: Global,
+    environment: &mut Rows<'source>,
+    word: &str,
+    rest: &'source str,
+) -> Result<(), Error> {
+    let (name, source) = rest.split_once(' ').unwrap_or((rest, ""));
+    match word {
+        "global" => environment.add_global(name, Value::number(source.parse().unwrap_or(0))),
+        "template" => environment.add_template(name, source),
+        "owned" => environment.add_template_owned(name, String::from_str(alloc, source)?),
+        _ => Ok(environment.set_syntax(angles(alloc)?)),
+    }
+}
+
+/// Changes an environment, or asks how it is; false where it isn't so, or there is no such word.
+fn change<'source>(
+    alloc: Global,
+    environment: &mut Rows<'source>,
+    word: &str,
+    rest: &'source str,
+) -> Result<bool, Error> {
+    match word {
+        "global" | "template" | "owned" | "angles" => {
+            add(alloc, environment, word, rest)?;
+            Ok(true)
+        }
+        "refused" => Ok(is_refused(environment, rest)),
+        "globals" => has_globals(alloc, environment, rest),
+        _ => Ok(set(environment, word, rest)),
+    }
+}
+
+/// Changes how rows are rendered; false where no such change is there.
+fn change_setup<'source>(setup: &mut Setup<'source>, word: &str, rest: &'source str) -> bool {
+    match word {
+        "name" => setup.name = rest,
+        "width" => setup.width = rest.parse().ok(),
+        "names" => setup.given = Given::Names,
+        "undefined-names" => setup.given = Given::Undefined,
+        "lost-names" => setup.given = Given::Lost,
+        _ => return false,
+    }
+    true
+}
+
+/// Renders a table's rows behind its heading. A row that begins with `@` is a setting.
+fn expect_table<'source>(
+    alloc: Global,
+    environment: &mut Rows<'source>,
+    table: &'source str,
+) -> Result<(), Fail> {
+    let mut setup: Setup<'source> = usual();
+    let mut lines = table.split("\n- ");
+    let _heading = lines.next();
+    for line in lines {
+        let Some(words) = line.strip_prefix('@') else {
+            expect_row(alloc, environment, &setup, &row_of(line))?;
+            continue;
+        };
+        let (word, rest) = words.split_once(' ').unwrap_or((words, ""));
+        if !change_setup(&mut setup, word, rest) && !change(alloc, environment, word, rest)? {
+            return Err(Fail::new(line));
+        }
+    }
+    Ok(())
+}
+
+static TABLES: [&str; 19] = [
+    rows::TEXTS,
+    rows::CALLS,
+    rows::EXPRESSIONS,
+    rows::SCOPES,
+    loops::LOOPS,
+    loops::RECURSIONS,
+    loops::METHODS,
+    values::OPERATIONS,
+    values::FUNCTIONS,
+    values::UNDEFINED,
+    "\n- @undefined chainable",
+    values::UNDEFINED,
+    "\n- @undefined semi-strict",
+    values::UNDEFINED,
+    "\n- @undefined strict",
+    values::UNDEFINED,
+    "\n- @undefined lenient",
+    bounds::BOUNDS,
+    SETTINGS,
+];
+
+/// Renders all tables, and long rows before the settings change.
+fn expect_tables(alloc: Global, environment: &mut Rows<'_>) -> Result<(), Fail> {
+    add_functions(environment)?;
+    for table in TABLES {
+        expect_table(alloc, environment, table)?;
+    }
+    Ok(())
+}
+
+// The test lends its environment, which is dropped in one place: each way out that drops one is
+// dear to prove.
+#[test]
+fn rows_render(rt: HostRuntime) -> Result<(), Fail> {
+    let mut environment = Rows::new(rt.alloc())?;
+    expect_tables(rt.alloc(), &mut environment)
+}
+
+#[test]
+fn long_sources_render(rt: HostRuntime) -> Result<(), Fail> {
+    let environment = Rows::new(rt.alloc())?;
+    bounds::expect_long(rt.alloc(), &environment)
+}
+
+/// Asks an environment without functions.
+fn expect_empty(alloc: Global, environment: &mut Rows<'_>) -> Result<(), Fail> {
+    expect_table(alloc, environment, EMPTY)
+}
+
+#[test]
+fn empty_has_no_functions(rt: HostRuntime) -> Result<(), Fail> {
+    let mut environment = Rows::empty(rt.alloc());
+    expect_empty(rt.alloc(), &mut environment)
+}
+
+const EMPTY: &str = "An environment without functions, as it is at first.
+- @set none 500 lenient drops
+- @globals
+- {{ range(1) }} =>  => UnknownFunction";
+
+/// Settings, globals, names that are known, templates by name, and escapes by names.
+const SETTINGS: &str =
+    r#"Settings, globals, names that are known, templates by name, and escapes by names.
+- @set none 500 lenient drops
+- @fuel 10000
+- @global g 1
+- @undefined-names
+- {{ g }} => 1 => 2
+- {{ seen() }}{{ title() }} => 1<string> => 4
+- @names
+- {{ g }}{{ seen() }} => 77 => 4
+- @globals dict f failing g hungry keep missing namespace range read second seen stuck title
+- @global g 2
+- @undefined-names
+- {{ g }} => 2 => 2
+- @remove g
+- @remove second
+- @remove nope
+- [{{ g }}] => [] => 4
+- {{ second(1, 2) }} =>  => UnknownFunction
+- {{ f(2) }} => 2 => 3
+- @globals dict f failing hungry keep missing namespace range read seen stuck title
+- {% set b = 1 %}{% set a = 1 %}{% set _b = 2 %} =>  => 6 => known _b a b dict f failing hungry keep missing namespace range read seen stuck title
+- @names
+- {% set b = 1 %}{% set a = 1 %}{% set _b = 2 %} =>  => 6 => known _b a b dict ended f failing g hungry keep lost m missing namespace range read seen stuck t title w
+- @lost-names
+-  =>  => 0 => known InvalidOperation
+- @names
+- @template page Hello {{ name }}!
+- @owned own x
+- &named =>  => TemplateNotFound
+- &page => Hello ! => 4
+- &own => x => 1
+- @refused page {{
+- &page => Hello ! => 4
+- @name p.html
+- {{ '<' }}{{ '<' ~ '>' }} => &lt;&lt;&gt; => ok
+- {% set x %}<b>{% endset %}{{ x }} => <b> => ok
+- {% autoescape false %}{% set x %}<b>{% endset %}{% endautoescape %}{{ x }} => &lt;b&gt; => ok
+- @name p.html.j2
+- {{ '<' }} => &lt; => ok
+- @name html
+- {{ '<' }} => &lt; => ok
+- @name p.txt
+- {{ '<' }} => < => ok
+- @name p.json
+- {{ {'a': [1, none]} }} => {"a":[1,null]} => ok
+- @undefined strict
+- @angles
+- a
+  <% if 1 %>
+ b<%# c %>
+<% endif %>
+${ 2 }
+ => a
+ b2
+ => ok
+- @fuel 7
+- @limit 40
+- @set 7 40 strict keeps
+- @limit 501
+- @set 7 500 strict keeps"#;

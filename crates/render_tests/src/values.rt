@@ -1,0 +1,211 @@
+//! Rows of operations on values, and of what the functions of the language answer.
+
+/// Operations on values.
+pub(crate) const OPERATIONS: &str = r#"Operations on values.
+- @fuel 10000
+- {{ 7 // -2 }} => -3 => ok
+- {{ -7 // 2 }} => -4 => ok
+- {{ -7 % 2 }} => 1 => ok
+- {{ 7 % -2 }} => 1 => ok
+- {{ (-170141183460469231731687303715884105727 - 1) % -1 }} => 0 => ok
+- {{ (-170141183460469231731687303715884105727 - 1) // -1 }} =>  => InvalidOperation
+- {{ 2 ** 126 }} => 85070591730234615865843651857942052864 => ok
+- {{ 2 ** 127 }} =>  => InvalidOperation
+- {{ -2 ** 127 }} => -170141183460469231731687303715884105728 => ok
+- {{ 0 ** 0 }} => 1 => ok
+- {{ 2 ** -1 }} =>  => InvalidOperation
+- {{ -1 ** 4294967297 }} => -1 => ok
+- {{ 1 // 0 }} =>  => InvalidOperation
+- {{ 1 % 0 }} =>  => InvalidOperation
+- {{ 170141183460469231731687303715884105727 + 1 }} =>  => InvalidOperation
+- {{ 3 - 5 }} => -2 => ok
+- {{ -3 * 5 }} => -15 => ok
+- {{ 2 + 3 }} => 5 => ok
+- {{ 2 - 3 }} => -1 => ok
+- {{ -4 * 5 }} => -20 => ok
+- {{ (-170141183460469231731687303715884105727 - 1) * -1 }} =>  => InvalidOperation
+- {{ -(7) }} => -7 => ok
+- {{ -true }} => -1 => ok
+- {{ [1] + [2] }} => [1, 2] => ok
+- {{ 1 + true }} => 2 => ok
+- {{ true + true }} => 2 => ok
+- {{ 1 + 'a' }} =>  => InvalidOperation
+- {{ 1 + false }} => 1 => ok
+- {{ '1' - 1 }} =>  => InvalidOperation
+- {{ 'a' ~ lost }} =>  => InvalidOperation
+- {{ u < none }} => true => ok
+- {{ none < false }} => true => ok
+- {{ false < 1 }} => true => ok
+- {{ 1 < 2 }} => true => ok
+- {{ 2 < '' }} => true => ok
+- {{ '' < [] }} => true => ok
+- {{ [] < {} }} => true => ok
+- {{ {} < u }} => false => ok
+- {{ false == 0 }} => true => ok
+- {{ true == 1 }} => true => ok
+- {{ '1' == 1 }} => false => ok
+- {{ 1 != true }} => false => ok
+- {{ 1 > true }} => false => ok
+- {{ 1 >= true }} => true => ok
+- {{ 1 <= false }} => false => ok
+- {{ true == 2 }} => false => ok
+- {{ u == (1 if false) }} => true => ok
+- {{ not 0 }} => true => ok
+- {{ not '' }} => true => ok
+- {{ not {} }} => true => ok
+- {{ not f }} => false => ok
+- {{ 'größe'[2] }} => ö => ok
+- {{ 'größe'[-1] }} => e => ok
+- {{ ['größe'[-6]] }} => [undefined] => ok
+- {{ ['abc'[5]] }} => [undefined] => ok
+- {{ [1, 2][-1] }} => 2 => ok
+- {{ [[1, 2][true]] }} => [undefined] => ok
+- {{ {1: 'a'}[true] }} => a => ok
+- {{ [{1: 'a'}.x] }} => [undefined] => ok
+- {{ {'x': 'a'}.x }} => a => ok
+- {% set e = {'d': '4', 'a': '1', 'c': '3', 'b': '2', 'e': '5'} %}{{ e.d }}{{ e.a }}{{ e.c }}{{ e.b }}{{ e.e }}{{ [e[''], e.A, e.ab, e.f] }} => 41325[undefined, undefined, undefined, undefined] => ok
+- {{ ['a'.a] }} => [undefined] => ok
+- {% set e = {'a': 1} %}{% set e.a = 2 %} =>  => InvalidOperation
+- {{ true in [1, 2] }} => true => ok
+- {{ 3 in [1, 2] }} => false => ok
+- {{ 'key' in {'key': 'a'} }} => true => ok
+- {{ 'a' in {'key': 'a'} }} => false => ok
+- {{ 'öß' in 'größe' }} => true => ok
+- {{ 'ög' in 'größe' }} => false => ok
+- {{ [1] in 'größe' }} =>  => InvalidOperation
+- {{ [1] in u }} => false => ok
+- {{ [1, 2, 3][-2:] }} => [2, 3] => ok
+- {{ [1, 2, 3][5::-2] }} => [3, 1] => ok
+- {{ [1, 2, 3][::0] }} =>  => InvalidOperation
+- {{ [1, 2, 3][true:true:true] }} =>  => InvalidOperation
+- {{ [1, 2, 3][:] }} => [1, 2, 3] => ok
+- {{ none[1:2] }} => [] => ok
+- {{ u[1:2] }} => [] => ok
+- {{ {}[1:2] }} =>  => InvalidOperation
+- {{ [1, 2, 3][::-1] }} => [3, 2, 1] => ok
+- {{ [1, 2, 3][1::36893488147419103232] }} => [2] => ok
+- {{ 'größe'[::-1] }} => eßörg => ok
+- {{ 'größe'[1:-1:1] }} => röß => ok
+- {% for c in 'größe' %}{{ c }},{% endfor %} => g,r,ö,ß,e, => ok
+- {% for x in [1] %}{% for k in loop %}{{ k }} {% endfor %}{% endfor %} => index0 index length revindex revindex0 first last depth depth0 previtem nextitem  => ok
+- {% for k in {2: 'a', 1: 'a'} %}{{ k }}{% endfor %} => 12 => ok
+- {% for x in none %}{% endfor %} =>  => InvalidOperation
+- {% for x in 3 %}{% endfor %} =>  => InvalidOperation
+- {% for x in lost %}{% endfor %} =>  => InvalidOperation
+- {% set (a,) = [1, 2] %} =>  => CannotUnpack
+- {% set a, b = [1, 2] %}{{ a }}{{ b }} => 12 => ok
+- {% set a, b, c = [1, 2] %} =>  => CannotUnpack
+- {% set a, b = 'ab' %} =>  => CannotUnpack
+- {% set a, b = u %} =>  => CannotUnpack
+- {% set a, b = none %} =>  => CannotUnpack
+- {% set a, b = lost %} =>  => InvalidOperation
+- {% set n = namespace(x=1) %}{{ n.x }}{{ n['x'] }}{{ 'x' in n }}{% for k in n %}{{ k }}{% endfor %}{% set n.x = 2 %}{{ n.x }} => 11truex2 => ok
+- {{ lost.x }} =>  => InvalidOperation
+- {{ lost[lost] }} =>  => InvalidOperation
+- {{ lost in lost }} =>  => InvalidOperation
+- {% set lost.x = 1 %} =>  => InvalidOperation
+- {{ lost ~ lost }} =>  => InvalidOperation
+- {{ lost == lost }} => true => ok
+- {{ lost < lost }} => false => ok
+- {{ not lost }} => false => ok
+- {{ ended.x }} =>  => InvalidOperation
+- {{ ended[ended] }} =>  => InvalidOperation
+- {{ ended in ended }} =>  => InvalidOperation
+- {% set ended.x = 1 %} =>  => InvalidOperation
+- {{ ended ~ ended }} =>  => InvalidOperation
+- {{ ended == ended }} => true => ok
+- {{ ended < ended }} => false => ok
+- {{ not ended }} => false => ok
+- @name p.html
+- {% set s %}<b>{% endset %}{{ s[0] }}{{ s[::-1] }}{{ s + '<' }} => &lt;&gt;b&lt;&lt;b&gt;&lt; => ok
+- {% set s %}<a>{% endset %}{{ s ~ [1, 2] }}{{ u ~ s }} => &lt;a&gt;[1, 2]&lt;a&gt; => ok
+- {% set s %}1{% endset %}{{ s == '1' }} => true => ok"#;
+
+/// Undefined operands under each behavior, from the loosest.
+pub(crate) const UNDEFINED: &str = r#"Undefined operands under each behavior, from the loosest.
+- {% for x in u %}{% endfor %} =>  => ok ok UndefinedError UndefinedError
+- {{ u['a'] }} =>  => UndefinedError ok UndefinedError UndefinedError
+- {{ u.x }} =>  => UndefinedError ok UndefinedError UndefinedError
+- {{ u < 'a' }} => true => ok ok ok UndefinedError
+- {{ u ~ 'a' }} => a => ok ok ok UndefinedError
+- {{ 'a' in u }} => false => ok ok UndefinedError UndefinedError
+- {{ u['a':'a':'a'] }} =>  => InvalidOperation InvalidOperation InvalidOperation UndefinedError
+- {{ u + 'a' }} =>  => InvalidOperation
+- {{ -u }} =>  => InvalidOperation
+- {{ [1] == u }} => false => ok ok ok UndefinedError
+- {{ [1] ~ u }} => [1] => ok ok ok UndefinedError
+- {{ u in [1] }} => false => ok ok ok UndefinedError
+- {{ [1] + u }} =>  => InvalidOperation
+- {{ u[:] }} => [] => ok ok ok UndefinedError
+- {{ u[1:2] }} => [] => ok ok ok UndefinedError
+- {% for x in (1 if false) %}{% endfor %} =>  => ok ok UndefinedError UndefinedError
+- {{ (1 if false)['a'] }} =>  => UndefinedError ok UndefinedError UndefinedError
+- {{ (1 if false).x }} =>  => UndefinedError ok UndefinedError UndefinedError
+- {{ (1 if false) < 'a' }} => true => ok ok ok UndefinedError
+- {{ (1 if false) ~ 'a' }} => a => ok ok ok UndefinedError
+- {{ 'a' in (1 if false) }} => false => ok ok UndefinedError UndefinedError
+- {{ (1 if false)['a':'a':'a'] }} =>  => InvalidOperation InvalidOperation InvalidOperation UndefinedError
+- {{ (1 if false) + 'a' }} =>  => InvalidOperation
+- {{ -(1 if false) }} =>  => InvalidOperation
+- {{ [1] == (1 if false) }} => false => ok ok ok UndefinedError
+- {{ [1] ~ (1 if false) }} => [1] => ok ok ok UndefinedError
+- {{ (1 if false) in [1] }} => false => ok ok ok UndefinedError
+- {{ [1] + (1 if false) }} =>  => InvalidOperation
+- {{ (1 if false)[:] }} => [] => ok ok ok UndefinedError
+- {{ (1 if false)[1:2] }} => [] => ok ok ok UndefinedError
+- {% if u %}{% endif %} =>  => ok ok ok UndefinedError
+- {% if (1 if false) %}{% endif %} =>  => ok
+- [{{ u }}] => [] => ok ok UndefinedError UndefinedError
+- [{{ 1 if false }}] => [] => ok"#;
+
+/// Arguments of `range`, `dict` and `namespace`.
+pub(crate) const FUNCTIONS: &str = r#"Arguments of `range`, `dict` and `namespace`.
+- {{ range(1, 4) }} => [1, 2, 3] => ok
+- {{ range(0, 7, 3) }} => [0, 3, 6] => ok
+- {{ range(0, 6, 3) }} => [0, 3] => ok
+- {{ range(0) }} => [] => ok
+- {{ range(-3) }} => [] => ok
+- {{ range(2, none) }} => [0, 1] => ok
+- {{ range(2, u, (1 if false)) }} => [0, 1] => ok
+- {{ range(4, none, 2) }} => [0, 2] => ok
+- {{ range(2, 0) }} => [] => ok
+- {{ range(0, -9223372036854775807 - 1, -9223372036854775807 - 1) }} => [0] => ok
+- {{ range(-9223372036854775807 - 1, 9223372036854775807, 9223372036854775807) }} => [-9223372036854775808, -1, 9223372036854775806] => ok
+- {{ range(9223372036854775807, -9223372036854775807 - 1) }} => [] => ok
+- {{ range(100000)[99999] }} => 99999 => ok
+- {{ range(-9223372036854775807 - 1, 9223372036854775807) }} =>  => InvalidOperation
+- {{ range(9223372036854775807, -9223372036854775807 - 1, -1) }} =>  => InvalidOperation
+- {{ range(1, 2, 3, 'a') }} =>  => TooManyArguments
+- {{ range(1, 2, 0, none) }} =>  => TooManyArguments
+- {{ range('a', 1, 1, 1) }} =>  => InvalidOperation
+- {{ range(1, 1, 'a', 1) }} =>  => InvalidOperation
+- {{ range(true) }} =>  => InvalidOperation
+- {{ range(1, true) }} =>  => InvalidOperation
+- {{ range(u) }} =>  => InvalidOperation
+- {{ range(none) }} =>  => InvalidOperation
+- {{ range(9223372036854775808) }} =>  => InvalidOperation
+- {{ range(0, -9223372036854775808 - 1) }} =>  => InvalidOperation
+- {{ range(a=1) }} =>  => InvalidOperation
+- {{ range(1, a=1) }} =>  => InvalidOperation
+- {{ dict() }} => {} => ok
+- {{ dict(u) }} => {} => ok
+- {{ dict((1 if false)) }} => {} => ok
+- {{ dict(none) }} => {} => ok
+- {{ dict({'a': 1}) }} => {"a": 1} => ok
+- {{ dict(a=1) }} => {"a": 1} => ok
+- {{ dict(namespace(x=1)) }} => {"x": 1} => ok
+- {{ dict(none, a=1) }} => {"a": 1} => ok
+- {{ dict({1: 2}, a=1) }} => {1: 2, "a": 1} => ok
+- {{ dict(1) }} =>  => InvalidOperation
+- {{ dict([]) }} =>  => InvalidOperation
+- {{ dict(f) }} =>  => InvalidOperation
+- {% for x in [1] %}{{ dict(loop) }}{% endfor %} =>  => InvalidOperation
+- {{ dict(lost) }} =>  => InvalidOperation
+- {{ dict({}, {}) }} =>  => TooManyArguments
+- {{ dict(1, {}) }} =>  => InvalidOperation
+- {{ namespace() }} => {} => ok
+- {{ namespace({'a': 1}, b=2) }} => {"a": 1, "b": 2} => ok
+- {{ namespace({1: 2}) }} => {} => ok
+- {{ namespace({1: 'a', 'x': none}) }} => {"x": none} => ok
+- {{ namespace(1) }} =>  => InvalidOperation
+- {{ namespace({}, {}) }} =>  => TooManyArguments"#;

@@ -1,0 +1,78 @@
+-- What a value is as JSON: `serde_json`'s data, whose compact text is written.
+use Rattle.std.specs.Prelude.{ℕ, zero, suc, ℤ, pos, negsuc, Bool, List, [], ◌∷◌, ◌++◌, length, unwrap_or}
+use Rattle.serde_json.specs.Data as json
+use Rattle.serde_json.specs.Written.{compact_text, comma_if}
+use Rattle.json.specs.Print.{quoted}
+use Rattle.tm_values.specs.Records.{RecordData, namespace_at}
+use Rattle.tm_values.specs.Val.{Val, undefined, none, boolean, number, text, list, map, keywords, exports, function, macro, loop, namespace, text_in, Vals, no_vals, val, Pairs, no_pairs, pair}
+use Rattle.tm_definitions.specs.Printed.{entered}
+
+abbrev pub number_data : ℤ → json.Num
+number_data (pos n) = json.unsigned n
+number_data (negsuc n) = json.negative (negsuc n)
+
+-- a key that is no text is refused, and stands without bytes
+abbrev pub key_bytes : Val → List ℕ
+key_bytes k = unwrap_or (text_in k) []
+
+-- what namespaces are, by state and number
+abbrev pub Inside : Type 0
+Inside = ℕ → ℕ → json.Data
+
+abbrev mutual
+  -- macros, functions and loops are refused, and stand as null
+  pub data_of : Inside → Val → json.Data
+  data_of inside (undefined silent) = json.null
+  data_of inside none = json.null
+  data_of inside (boolean truth) = json.boolean truth
+  data_of inside (number z) = json.number (number_data z)
+  data_of inside (text s safe) = json.string s
+  data_of inside (list vs) = json.array (items_of inside vs)
+  data_of inside (map ps) = json.object (members_of inside ps)
+  data_of inside (keywords ps) = json.object (members_of inside ps)
+  data_of inside (exports ps s) = json.object (members_of inside ps)
+  data_of inside (function n) = json.null
+  data_of inside (macro m) = json.null
+  data_of inside (loop s n) = json.null
+  data_of inside (namespace s n) = inside s n
+
+  pub items_of : Inside → Vals → json.Items
+  items_of inside no_vals = json.no_items
+  items_of inside (val v vs) = json.item (data_of inside v) (items_of inside vs)
+
+  pub members_of : Inside → Pairs → json.Members
+  members_of inside no_pairs = json.no_members
+  members_of inside (pair k v ps) =
+      json.member (key_bytes k) (data_of inside v) (members_of inside ps)
+
+abbrev pub object_data : Inside → Pairs → json.Data
+object_data inside ps = json.object (members_of inside ps)
+
+-- a namespace is the object of what it holds
+abbrev pub namespace_data : RecordData → ℕ → Inside
+namespace_data r zero s n = json.null
+namespace_data r (suc levels) s n =
+    entered (namespace_at r s n) json.null (object_data (namespace_data r levels))
+
+-- the text of a list, of an item with its comma, of a map, of a key and of a member with its comma
+abbrev pub array_text : Inside → Vals → List ℕ
+array_text inside vs = compact_text (json.array (items_of inside vs))
+
+abbrev pub item_json : Inside → Bool → Val → List ℕ
+item_json inside later v = comma_if later ++ compact_text (data_of inside v)
+
+abbrev pub object_text : Inside → Pairs → List ℕ
+object_text inside ps = compact_text (object_data inside ps)
+
+abbrev pub key_text : Val → List ℕ
+key_text k = quoted (key_bytes k)
+
+abbrev pub member_json : Inside → Bool → Val × Val → List ℕ
+member_json inside later p =
+    comma_if later ++ (key_text p.0 ++ ((58 ∷ []) ++ compact_text (data_of inside p.1)))
+
+abbrev pub json_within : RecordData → ℕ → Val → List ℕ
+json_within r levels v = compact_text (data_of (namespace_data r levels) v)
+
+abbrev pub json_text : RecordData → Val → List ℕ
+json_text r v = json_within r (length r.namespaces) v

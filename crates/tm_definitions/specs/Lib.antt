@@ -1,0 +1,17 @@
+pub mod Truth
+pub mod Arithmetic
+pub mod Comparison
+pub mod Members
+pub mod Containment
+pub mod Ranges
+pub mod Slices
+pub mod Names
+pub mod Iteration
+pub mod Maps
+pub mod Texts
+pub mod Loops
+pub mod Printed
+pub mod Json
+pub mod Refused
+pub mod Emitted
+pub mod Concatenation

@@ -1,0 +1,10 @@
+//! What a value is tested for.
+
+/// What a value is tested for.
+#[derive(Clone, Copy, PartialEq, Eq, Debug)]
+pub enum Form {
+    /// That it can be printed.
+    Printed,
+    /// That it can be written as JSON.
+    Json,
+}

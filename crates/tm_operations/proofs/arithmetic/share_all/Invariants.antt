@@ -1,6 +1,0 @@
-use Rattle.std.proofs.Common.{◌≡◌, ◌++◌, take}
-use Rattle.tm_operations.proofs.arithmetic.share_all.Given as goal
-
--- what was shared so far stands behind what was there
-abbrev pub invariant-loop-value : goal.invariant-loop-value
-invariant-loop-value l = l.out.items ≡ l.initial.out.items ++ take l.value-index l.values

@@ -1,0 +1,103 @@
+//! Fuel: how many charges a run may take.
+ghost use Rattle.std.specs.Prelude.{◌≡◌, ◌+◌, ◌≤◌, [], ◌∷◌, Some, None, OnOk, IfErr};
+ghost use Rattle.tm_values.specs.declared.error.ErrorKind.TheVariants.{OutOfFuel};
+ghost use Rattle.tm_meaning.specs.World.{charged};
+ghost use Rattle.tm_meaning.specs.Steps.{charge_of};
+
+use std::marker::Model;
+use tm_syntax::Instruction;
+use tm_values::{Error, ErrorKind};
+
+/// The fuel of a run: what was set at its start, and what is left of it.
+#[derive(Drop)]
+pub struct FuelTracker {
+    initial: u64,
+    remaining: u64,
+}
+
+impl Model for FuelTracker {
+    ghost use Rattle.std.specs.Prelude.{◌≤◌};
+    ghost use Rattle.tm_tables.specs.Fuel.{Fuel};
+
+    ghost Value = { Fuel };
+
+    ghost view = { λ tracker. record { set = tracker.initial; left = tracker.remaining } };
+
+    ghost invariant = { λ tracker. tracker.remaining ≤ tracker.initial };
+}
+
+/// What an instruction is charged: 0 where it is free.
+fn charge(instruction: &Instruction) -> u64
+    ensures { result ≡ charge_of instruction.now }
+{
+    match instruction {
+        Instruction::DupTop
+        | Instruction::DiscardTop
+        | Instruction::PushWith
+        | Instruction::PopFrame
+        | Instruction::PushLoop(_)
+        | Instruction::PushDidNotIterate
+        | Instruction::PopLoopFrame
+        | Instruction::BeginCapture(_)
+        | Instruction::PushAutoEscape
+        | Instruction::PopAutoEscape => 0,
+        _ => 1,
+    }
+}
+
+impl FuelTracker {
+    /// A tracker with this fuel, all of it left.
+    pub fn new(fuel: u64) -> FuelTracker
+        ensures { result ≡ record { set = fuel; left = fuel } }
+    {
+        FuelTracker {
+            initial: fuel,
+            remaining: fuel,
+        }
+    }
+
+    /// Charges an instruction; a free one takes nothing. OutOfFuel, with nothing left, where no
+    /// more than the charge was left.
+    pub fn track(&mut self, instruction: &Instruction) -> Result<(), Error>
+        ensures ok { OnOk result
+            (charged (charge_of instruction.now) self.old.left ≡ Some self.new.left) }
+        ensures err { IfErr result (λ e. (e ≡ OutOfFuel ∷ []) × (self.new.left ≡ 0)
+            × (charged (charge_of instruction.now) self.old.left ≡ None)) }
+        ensures set { self.new.set ≡ self.old.set }
+        ensures falls { self.new.left ≤ self.old.left }
+        ensures spent { OnOk result
+            (self.new.left + charge_of instruction.now ≡ self.old.left) }
+    {
+        let charge = charge(instruction);
+        if charge == 0 {
+            return Ok(());
+        }
+        if self.remaining <= charge {
+            self.remaining = 0;
+            return Err(Error::from(ErrorKind::OutOfFuel));
+        }
+        self.remaining -= charge;
+        Ok(())
+    }
+
+    /// The fuel that is left.
+    pub fn remaining(&self) -> u64
+        ensures { result ≡ self.now.left }
+    {
+        self.remaining
+    }
+
+    /// The fuel that is spent.
+    pub fn consumed(&self) -> u64
+        ensures { result + self.now.left ≡ self.now.set }
+    {
+        self.initial - self.remaining
+    }
+
+    /// The fuel that was set at the start.
+    pub fn initial(&self) -> u64
+        ensures { result ≡ self.now.set }
+    {
+        self.initial
+    }
+}

@@ -1,0 +1,17 @@
+//! Second owners of many values.
+ghost use Rattle.std.specs.Prelude.{◌≡◌, ◌++◌, ◌∷◌, [], OnOk, IfErr};
+
+use crate::error::{Error, ErrorKind};
+use crate::value::Value;
+
+/// Puts a second owner of each value behind those that are there. Fails by OutOfMemory alone.
+pub fn share_all(values: &[Value], out: &mut Vec<Value>) -> Result<(), Error>
+    ensures items { OnOk result (out.new.items ≡ out.old.items ++ values.now) }
+    ensures memory { IfErr result (λ e. e ≡ ErrorKind.OutOfMemory ∷ []) }
+{
+    out.reserve(values.len())?;
+    for value in values {
+        out.push(value.share()?)?;
+    }
+    Ok(())
+}
