@@ -147,7 +147,7 @@ fn expect_table<'source>(
     Ok(())
 }
 
-static TABLES: [&str; 19] = [
+static TABLES: [&str; 20] = [
     rows::TEXTS,
     rows::CALLS,
     rows::EXPRESSIONS,
@@ -156,6 +156,7 @@ static TABLES: [&str; 19] = [
     loops::RECURSIONS,
     loops::METHODS,
     values::OPERATIONS,
+    values::WRITTEN,
     values::FUNCTIONS,
     values::UNDEFINED,
     "\n- @undefined chainable",

@@ -41,6 +41,8 @@ pub(crate) const OPERATIONS: &str = r#"Operations on values.
 - {{ '' < [] }} => true => ok
 - {{ [] < {} }} => true => ok
 - {{ {} < u }} => false => ok
+- {{ {} < range }}{{ range < dict }} => truetrue => ok
+- {% for x in 'a' %}{{ dict < loop }}{{ loop < namespace() }}{% endfor %} => truetrue => ok
 - {{ false == 0 }} => true => ok
 - {{ true == 1 }} => true => ok
 - {{ '1' == 1 }} => false => ok
@@ -209,3 +211,45 @@ pub(crate) const FUNCTIONS: &str = r#"Arguments of `range`, `dict` and `namespac
 - {{ namespace({1: 'a', 'x': none}) }} => {"x": none} => ok
 - {{ namespace(1) }} =>  => InvalidOperation
 - {{ namespace({}, {}) }} =>  => TooManyArguments"#;
+
+/// How values are written.
+pub(crate) const WRITTEN: &str = r#"How values are written: plainly, in HTML and as JSON.
+- @fuel 10000
+- {{ "" }}{% autoescape "html" %}{{ "" }}{% endautoescape %}{% autoescape "json" %}{{ "" }}{% endautoescape %} => "" => ok
+- {% autoescape "html" %}{{ "a/<\"\\é" }}{% endautoescape %} => a&#x2f;&lt;&quot;\é => ok
+- {% autoescape "html" %}{{ "<a href='/'>&\"" }}{% endautoescape %} => &lt;a href=&#x27;&#x2f;&#x27;&gt;&amp;&quot; => ok
+- {% autoescape "json" %}{{ "a/<\"\\\n\r\t\b\f\u0000\u001fé" }}{% endautoescape %} => "a/<\"\\\n\r\t\b\f\u0000\u001fé" => ok
+- {{ ["a\"\\\n/é", "\t\r", ""] }} => ["a\"\\\n/é", "\t\r", ""] => ok
+- {% autoescape "html" %}{{ ["a\"\\\n/é", "\t\r", ""] }}{% endautoescape %} => [&quot;a\&quot;\\\n&#x2f;é&quot;, &quot;\t\r&quot;, &quot;&quot;] => ok
+- {% autoescape "json" %}{{ ["a\"\\\n/é", "\t\r", ""] }}{% endautoescape %} => ["a\"\\\n/é","\t\r",""] => ok
+- {% autoescape "json" %}{{ 0 }} {{ 18446744073709551615 }} {{ -9223372036854775808 }}{% endautoescape %} => 0 18446744073709551615 -9223372036854775808 => ok
+- {% autoescape "html" %}{{ 0 }} {{ 18446744073709551616 }} {{ -9223372036854775809 }}{% endautoescape %} => 0 18446744073709551616 -9223372036854775809 => ok
+- {% autoescape "json" %}{{ 18446744073709551616 }}{% endautoescape %} =>  => BadSerialization
+- {% autoescape "json" %}{{ -9223372036854775809 }}{% endautoescape %} =>  => BadSerialization
+- {% autoescape "json" %}{{ -2 ** 127 }}{% endautoescape %} =>  => BadSerialization
+- {{ u }}{% autoescape "html" %}{{ u }}{% endautoescape %}{% autoescape "json" %}{{ u }}{% endautoescape %} => null => ok
+- {{ true }}{% autoescape "html" %}{{ true }}{% endautoescape %}{% autoescape "json" %}{{ true }}{% endautoescape %} => truetruetrue => ok
+- {{ [1, none, u, "a/<"] }} => [1, none, undefined, "a/<"] => ok
+- {% autoescape "html" %}{{ [1, none, u, "a/<"] }}{% endautoescape %} => [1, none, undefined, &quot;a&#x2f;&lt;&quot;] => ok
+- {% autoescape "json" %}{{ [1, none, u, "a/<"] }}{% endautoescape %} => [1,null,null,"a/<"] => ok
+- {{ {1: "a", true: "z", true: "b", 2: none} }} => {1: "b", 2: none} => ok
+- {% autoescape "html" %}{{ {1: "b", 2: none} }}{% endautoescape %} => {1: &quot;b&quot;, 2: none} => ok
+- {{ {true: "a"} }}{% autoescape "html" %}{{ {true: "a"} }}{% endautoescape %} => {true: "a"}{true: &quot;a&quot;} => ok
+- {% autoescape "json" %}{{ {true: "a"} }}{% endautoescape %} =>  => BadSerialization
+- {% autoescape "json" %}{{ {1: none} }}{% endautoescape %} =>  => BadSerialization
+- {% autoescape "html" %}{% set x %}<a href='/'>&"{% endset %}{% endautoescape %}{{ [x] }} => ["<a href='/'>&\""] => ok
+- {% autoescape "html" %}{% set x %}<a href='/'>&"{% endset %}{{ x }}{{ [x] }}{% endautoescape %} => <a href='/'>&"[&quot;&lt;a href=&#x27;&#x2f;&#x27;&gt;&amp;\&quot;&quot;] => ok
+- {% autoescape "html" %}{% set x %}<a href='/'>&"{% endset %}{% endautoescape %}{% autoescape "json" %}{{ x }}{{ [x] }}{% endautoescape %} => <a href='/'>&"["<a href='/'>&\""] => ok
+- {{ range }}{% autoescape "html" %}{{ range }}{% endautoescape %} => <function>&lt;function&gt; => ok
+- {% autoescape "json" %}{{ range }}{% endautoescape %} =>  => BadSerialization
+- {% for x in "abc" %}{{ [loop] }}{% endfor %} => [<loop 0/3>][<loop 1/3>][<loop 2/3>] => ok
+- {% for x in "a" %}{% autoescape "html" %}{{ loop }}{% endautoescape %}{% endfor %} => &lt;loop 0&#x2f;1&gt; => ok
+- {% for x in "a" %}{% autoescape "json" %}{{ loop }}{% endautoescape %}{% endfor %} =>  => BadSerialization
+- {% set b = namespace(x=1) %}{{ namespace(a=b, b=b) }} => {"a": {"x": 1}, "b": {"x": 1}} => ok
+- {% set b = namespace(x=1) %}{% autoescape "html" %}{{ namespace(a=b, b=b) }}{% endautoescape %} => {&quot;a&quot;: {&quot;x&quot;: 1}, &quot;b&quot;: {&quot;x&quot;: 1}} => ok
+- {% set b = namespace(x=1) %}{% autoescape "json" %}{{ namespace(a=b, b=b) }}{% endautoescape %} => {"a":{"x":1},"b":{"x":1}} => ok
+- {% set n = namespace() %}{% set n.a = [n] %}{{ n }} =>  => InvalidOperation
+- {% set n = namespace() %}{% set n.a = [n] %}{% autoescape "html" %}{{ n }}{% endautoescape %} =>  => InvalidOperation
+- {% set n = namespace() %}{% set n.a = [n] %}{% autoescape "json" %}{{ n }}{% endautoescape %} =>  => InvalidOperation
+- {% set n = namespace() %}{% set n.a = [n] %}{{ [range, n] }} =>  => InvalidOperation
+- {% set n = namespace() %}{% set n.a = [n] %}{% autoescape "json" %}{{ [range, n] }}{% endautoescape %} =>  => BadSerialization"#;

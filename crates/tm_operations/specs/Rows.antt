@@ -1,10 +1,12 @@
 -- Worked calls of `range`, `dict` and `namespace`.
-use Rattle.std.specs.Prelude.{◌≡◌, ℕ, ℤ, pos, false, List, map as each, Ok, codes}
+use Rattle.std.specs.Prelude.{◌≡◌, ℕ, ℤ, pos, false, List, [], map as each, Option, Ok, codes}
+use Rattle.std.specs.declared.cmp.Ordering.TheVariants.{Less}
 use Rattle.tm_definitions.specs.Maps.{dict_of, namespace_of}
 use Rattle.tm_definitions.specs.Ranges.{number_list, range_of}
 use Rattle.tm_values.specs.Answer.{refused}
 use Rattle.tm_values.specs.Records.{no_records}
-use Rattle.tm_values.specs.Val.{Val, number, text, map, keywords, pairs_of}
+use Rattle.tm_values.specs.Order.{val_cmp}
+use Rattle.tm_values.specs.Val.{Val, MacroData, number, text, map, keywords, macro, pairs_of}
 use Rattle.tm_values.specs.declared.error.ErrorKind.{ErrorKind}
 
 abbrev pub RangeIs : List Val → List ℤ → Type 0
@@ -41,3 +43,19 @@ map_of ps = map (pairs_of ps)
 
 abbrev pub keywords_given : List (Val × Val) → Val
 keywords_given ps = keywords (pairs_of ps)
+
+-- the macro of an entry, a closure and a name
+abbrev pub macro_at : ℕ → Option ℕ → List ℕ → Val
+macro_at entry closure name = macro (record {
+  state = 0;
+  stream = 0;
+  entry = entry;
+  closure = closure;
+  name = name;
+  arguments = [];
+  caller = false;
+})
+
+-- the first stands before the second in the order of values
+abbrev pub IsBelow : Val → Val → Type 0
+IsBelow v w = val_cmp v w ≡ Less

@@ -21,6 +21,6 @@ pub use iteration::{iterate, unpack, unpack_law};
 pub use maps::{dict, dict_law, namespace};
 pub use members::{attribute, check_settable, is_callable, item};
 pub use ranges::{range, range_law};
-pub use rows::{dict_rows, namespace_rows, range_faults, range_rows};
+pub use rows::{dict_rows, namespace_rows, order_rows, range_faults, range_rows};
 pub use slices::slice;
 pub use tm_definitions::{Comparison, LoopAttribute};

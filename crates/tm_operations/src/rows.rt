@@ -1,7 +1,7 @@
-//! Worked calls: each clause says what a call of `range`, `dict` or `namespace` answers.
-ghost use Rattle.std.specs.Prelude.{[], ◌∷◌, pos, negsuc, true};
-ghost use Rattle.tm_operations.specs.Rows.{RangeIs, RangeFails, DictIs, DictFails, NamespaceIs, numbers, letter, a_is, b_is, map_of, keywords_given};
-ghost use Rattle.tm_values.specs.Val.{none, boolean, number};
+//! Worked calls, of `range`, `dict` and `namespace`, and the order of values that no template makes.
+ghost use Rattle.std.specs.Prelude.{[], ◌∷◌, pos, negsuc, true, Some, None, codes};
+ghost use Rattle.tm_operations.specs.Rows.{RangeIs, RangeFails, DictIs, DictFails, NamespaceIs, numbers, letter, a_is, b_is, map_of, keywords_given, macro_at, IsBelow};
+ghost use Rattle.tm_values.specs.Val.{none, boolean, number, exports, function, loop, namespace, pairs_of};
 ghost use Rattle.tm_values.specs.declared.error.ErrorKind.TheVariants.{InvalidOperation, MissingArgument, TooManyArguments};
 
 /// `range(4)`, `range(0, 4, 1)`, `range(5, 0, -2)`, `range(2, none)`, `range(2, 0)`, and ranges at
@@ -31,6 +31,7 @@ pub fn range_faults()
     ensures four { RangeFails (numbers (1 ∷ 2 ∷ 3 ∷ 4 ∷ [])) TooManyArguments }
     ensures last_text { RangeFails (number (pos 1) ∷ number (pos 2) ∷ number (pos 3) ∷ letter ∷ [])
         TooManyArguments }
+    ensures keywords { RangeFails (number (pos 1) ∷ keywords_given [] ∷ []) InvalidOperation }
     ensures first_text { RangeFails (letter ∷ numbers (1 ∷ 1 ∷ 1 ∷ [])) InvalidOperation }
 {}
 
@@ -41,6 +42,7 @@ pub fn dict_rows()
     ensures both { DictIs (map_of (a_is 1 ∷ []) ∷ keywords_given (a_is 2 ∷ b_is 3 ∷ []) ∷ [])
         (a_is 2 ∷ b_is 3 ∷ []) }
     ensures keywords { DictIs (keywords_given (a_is 2 ∷ []) ∷ []) (a_is 2 ∷ []) }
+    ensures module { DictIs (exports (pairs_of (a_is 1 ∷ [])) [] ∷ []) (a_is 1 ∷ []) }
     ensures number { DictFails (numbers (1 ∷ [])) InvalidOperation }
     ensures two { DictFails (map_of [] ∷ map_of [] ∷ []) TooManyArguments }
     ensures first { DictFails (number (pos 1) ∷ map_of [] ∷ []) InvalidOperation }
@@ -53,4 +55,18 @@ pub fn namespace_rows()
     ensures both { NamespaceIs (map_of (a_is 1 ∷ []) ∷ keywords_given (b_is 2 ∷ []) ∷ [])
         (a_is 1 ∷ b_is 2 ∷ []) }
     ensures no_text { NamespaceIs (map_of ((number (pos 1), number (pos 2)) ∷ []) ∷ []) [] }
+{}
+
+/// Keyword maps, modules, functions, macros, loops and namespaces ascend so.
+pub fn order_rows()
+    ensures keywords { IsBelow (map_of (a_is 1 ∷ [])) (keywords_given []) }
+    ensures module { IsBelow (keywords_given []) (exports (pairs_of []) (codes "m")) }
+    ensures function { IsBelow (exports (pairs_of []) (codes "m")) (function 0) }
+    ensures functions { IsBelow (function 0) (function 3) }
+    ensures declared { IsBelow (function 3) (macro_at 0 None (codes "n")) }
+    ensures entries { IsBelow (macro_at 0 None (codes "n")) (macro_at 1 None (codes "m")) }
+    ensures closures { IsBelow (macro_at 1 None (codes "m")) (macro_at 1 (Some 0) (codes "a")) }
+    ensures record { IsBelow (macro_at 1 (Some 0) (codes "a")) (loop 1 5) }
+    ensures states { IsBelow (loop 1 5) (loop 2 0) }
+    ensures namespace { IsBelow (loop 2 0) (namespace 0 0) }
 {}

@@ -6,6 +6,7 @@ mod compact;
 mod concatenation;
 mod emission;
 mod printing;
+mod rows;
 mod spelling;
 mod text;
 
@@ -14,5 +15,6 @@ pub use compact::write_json;
 pub use concatenation::concatenate;
 pub use emission::{check_emission, emit, to_text};
 pub use printing::{print, write_html};
+pub use rows::written_rows;
 pub use spelling::{Escape, Html, HtmlQuoted, Json, Quoted, Spelling, Verbatim};
 pub use text::{write_json_text, write_number, write_quoted, write_spelled};

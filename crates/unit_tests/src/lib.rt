@@ -1,5 +1,5 @@
-//! Tests of parts by themselves: of values, of what is written for them, and of the way from a
-//! source to its tree and its streams.
+//! Tests of parts by themselves: errors, writers and what stands around them, fuel, and the way from
+//! a source to its tree and its streams.
 #![tactic(auto)]
 
 #[cfg(test)]
@@ -7,18 +7,14 @@ mod code;
 #[cfg(test)]
 mod flags;
 #[cfg(test)]
-mod given;
-#[cfg(test)]
 mod output;
 #[cfg(test)]
-mod printing;
+mod parts;
 #[cfg(test)]
 mod rows;
 #[cfg(test)]
 mod sources;
 #[cfg(test)]
 mod syntax;
-#[cfg(test)]
-mod uses;
 #[cfg(test)]
 mod values;

@@ -1,62 +1,7 @@
-//! The order of values, sharing and dropping them, and errors.
-use crate::given::{Given, made};
+//! Errors, and sizes.
 use std::alloc::Global;
-use std::cmp::Ordering;
 use std::test::Fail;
 use tm_values::{Error, ErrorKind, NoRecords, Records, Value, find_loop, find_namespace};
-
-/// A value of each kind, each above the one before it.
-static ASCENDING: [Given; 20] = [
-    Given::Undefined,
-    Given::Nothing,
-    Given::Truth(false),
-    Given::Number(1),
-    Given::Number(2),
-    Given::Text(""),
-    Given::Text("a"),
-    Given::Items(&[]),
-    Given::Entries(&[]),
-    Given::Entries(&[(Given::Text("a"), Given::Text("x"))]),
-    Given::Keywords(&[]),
-    Given::Module("m", &[]),
-    Given::Function(0),
-    Given::Function(3),
-    Given::Declared("n", 0, None),
-    Given::Declared("m", 1, None),
-    Given::Declared("a", 1, Some(0)),
-    Given::Loop(1, 5),
-    Given::Loop(2, 0),
-    Given::Namespace(0, 0),
-];
-
-fn order(alloc: Global, value: &Value, other: Given) -> Result<Ordering, Error> {
-    let other = made(alloc, other)?;
-    Ok(value.compare(&other))
-}
-
-// Whether the value is above those before the place alone, and equal to its share.
-fn is_at(alloc: Global, place: usize, value: &Value) -> Result<bool, Error> {
-    for (i, other) in ASCENDING.iter().enumerate() {
-        if order(alloc, value, *other)? != place.cmp(&i) {
-            return Ok(false);
-        }
-    }
-    let share = value.share()?;
-    Ok(*value == share)
-}
-
-fn is_placed(alloc: Global, place: usize, given: Given) -> Result<bool, Error> {
-    let value = made(alloc, given)?;
-    is_at(alloc, place, &value)
-}
-
-#[test]
-fn kinds_ascend_and_shares_are_equal(rt: HostRuntime) -> Result<(), Fail> {
-    for (place, given) in ASCENDING.iter().enumerate() {
-        assert!(rt; is_placed(rt.alloc(), place, *given)?, "at {place}");
-    }
-    Ok(())
-}
 
 fn is_bad_include(error: &Error) -> bool {
     error.kind() == ErrorKind::BadInclude && error.detail() == Some("in \"page\"")

@@ -11,14 +11,5 @@ returns-in-Some g c = search rules fits 100
 pub returns-in-None : goal.returns-in-None
 returns-in-None g c = search rules fits 100
 
-pub returns-in-Some-find_namespace : goal.returns-in-Some-find_namespace
-returns-in-Some-find_namespace g c = search rules fits 100
-
-pub returns-in-None-find_namespace : goal.returns-in-None-find_namespace
-returns-in-None-find_namespace g c = search rules fits 100
-
 pub returns-in_default : goal.returns-in_default
 returns-in_default g c = grind (arith, common_steps)
-
-pub returns-in-Map : goal.returns-in-Map
-returns-in-Map g c = search rules fits 100

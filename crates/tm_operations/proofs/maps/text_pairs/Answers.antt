@@ -13,3 +13,6 @@ returns-in_err-push c = search rules fits 100
 
 pub returns : goal.returns
 returns c = grind (arith, common_steps)
+
+pub loop-pair-preserved : goal.loop-pair-preserved
+loop-pair-preserved c = grind (arith, common_steps)

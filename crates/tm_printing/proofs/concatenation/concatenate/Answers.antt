@@ -1,3 +1,5 @@
+use Rattle.std.proofs.lemmas.Grind.{common_steps}
+use Rattle.std.proofs.Common.{arith}
 use Rattle.tm_values.proofs.Asked.{passes, passes_on, fails}
 use Rattle.tm_definitions.specs.Concatenation.{joined}
 use Rattle.tm_values.specs.Defined.{refusal_of, unless}
@@ -21,3 +23,6 @@ returns-in-Err-check_defined g c found =
     let right = refusal_of c.args.behavior use_of.Comparison c.args.right.now in
     let refused = fails right stated c.check_defined-2.result c.in-Err-check_defined.error c.check_defined-2.ensures c.in-Err-check_defined.is in
     passes_on left (unless right stated) c.check_defined.result tt c.in-Err-check_defined.error c.check_defined.ensures c.in_default.is refused
+
+pub returns-in-Err : goal.returns-in-Err
+returns-in-Err g c = grind (arith, common_steps)

@@ -1,4 +1,5 @@
-use Rattle.std.proofs.Common.{◌≡◌, ◌<◌, ◌+◌, ◌++◌, ℕ, [], ◌∷◌, get_or, length, sym, ap, ◌∙◌, arith, subst}
+use Rattle.std.proofs.lemmas.Grind.{common_steps}
+use Rattle.std.proofs.Common.{◌≡◌, ◌<◌, ◌+◌, ◌++◌, ℕ, [], ◌∷◌, get_or, length, sym, ap, ◌∙◌, arith, subst, rules}
 use Rattle.std.proofs.lemmas.Str.{IsCharBoundary-start, IsCharBoundary-after_ascii}
 use Rattle.tm_output.proofs.Written.{all_ahead, rest_is, past}
 use Rattle.tm_printing.proofs.Runs.{left, plain_step, spelled_step, left-at_end}
@@ -32,3 +33,6 @@ loop-i-preserved g c =
           let waits = rest_is (plain_step spelled bs start i (omega arith) within plain) so_far in
           rw (w.start-is, w.target-is) (record { in_order = omega arith; boundary = c.loop-i.invariant.boundary; ahead = waits })
     ]
+
+pub returns : goal.returns
+returns g c = grind (arith, common_steps)

@@ -1,0 +1,95 @@
+//! What stands by itself of a render: fuel, and the parts around a writer.
+use std::io::{self, Write};
+use std::test::Fail;
+use tm_compiler::Instruction;
+use tm_output::Counted;
+use tm_parts::{Output, Sink, WriteWrapper};
+use tm_tables::FuelTracker;
+use tm_values::{Error, ErrorKind};
+
+/// So much fuel, how often a charge is taken from it, whether the last one is refused, and then
+/// what is consumed and what remains.
+type Charges = (u64, u64, bool, u64, u64);
+
+static CHARGES: [Charges; 3] = [(2, 1, false, 1, 1), (2, 2, true, 2, 0), (0, 1, true, 0, 0)];
+
+fn are_charged(charges: &Charges) -> bool {
+    let mut tracker = FuelTracker::new(charges.0);
+    let mut is_refused = false;
+    for _ in 0..charges.1 {
+        is_refused = tracker.track(&Instruction::Emit).is_err();
+    }
+    is_refused == charges.2
+        && tracker.consumed() == charges.3
+        && tracker.remaining() == charges.4
+        && tracker.initial() == charges.0
+}
+
+#[test]
+fn fuel_is_charged(rt: HostRuntime) {
+    for charges in &CHARGES {
+        assert!(rt; are_charged(charges));
+    }
+}
+
+/// A writer that fails; where it has no error, it takes nothing.
+#[derive(Drop)]
+struct Broken(Option<io::ErrorKind>);
+
+impl Write for Broken {
+    fn write(&mut self, _bytes: &[u8]) -> io::Result<usize> {
+        match self.0 {
+            Some(kind) => Err(io::Error::from(kind)),
+            None => Ok(0),
+        }
+    }
+
+    fn flush(&mut self) -> io::Result<()> {
+        Ok(())
+    }
+}
+
+/// The kind that a write is refused with.
+fn refused<W: Sink>(wrapper: &mut WriteWrapper<W>) -> Option<ErrorKind> {
+    match wrapper.write_str("Hello!") {
+        Ok(()) => None,
+        Err(error) => Some(error.kind()),
+    }
+}
+
+/// The kind of the error that is taken out, where InvalidOperation is given.
+fn taken_out<W: Sink>(wrapper: &mut WriteWrapper<W>) -> ErrorKind {
+    wrapper
+        .take_err(Error::from(ErrorKind::InvalidOperation))
+        .kind()
+}
+
+/// Whether a wrapper keeps the writer's error, and gives it once.
+fn keeps_the_error(error: Option<io::ErrorKind>, kept: io::ErrorKind) -> bool {
+    let mut wrapper = WriteWrapper::new(Counted::new(Broken(error)));
+    let is_refused = refused(&mut wrapper) == Some(ErrorKind::WriteFailure);
+    let is_kept = match &wrapper.err {
+        Some(error) => error.kind() == kept,
+        None => false,
+    };
+    is_refused
+        && is_kept
+        && taken_out(&mut wrapper) == ErrorKind::WriteFailure
+        && taken_out(&mut wrapper) == ErrorKind::InvalidOperation
+}
+
+#[test]
+fn a_wrapper_keeps_the_error(rt: HostRuntime) {
+    let broken = io::ErrorKind::BrokenPipe;
+    assert!(rt; keeps_the_error(Some(broken), broken));
+    assert!(rt; keeps_the_error(None, io::ErrorKind::WriteZero));
+}
+
+#[test]
+fn an_output_over_a_vector(rt: HostRuntime) -> Result<(), Fail> {
+    let mut output = Output::new(rt.alloc(), Counted::new(Vec::<u8>::new(rt.alloc())));
+    output.write_str("Hello ")?;
+    output.write_str("Ada!")?;
+    assert!(rt; output.writer().inner().as_slice() == b"Hello Ada!".as_slice());
+    Ok(())
+}
