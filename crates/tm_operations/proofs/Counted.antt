@@ -1,89 +1,22 @@
 -- Numbers by steps: that those before the stop are counted, and that what is asked for decides.
-use Rattle.std.proofs.Common.{◌≡◌, ◌≢◌, ◌<◌, ◌≤◌, ◌+◌, ◌*◌, ◌<ℤ◌, ◌≤ℤ◌, ◌+ℤ◌, ◌-ℤ◌, ◌*ℤ◌, ◌^◌, ◌&&◌, not, nat_lt, slice_get, ℕ, ℤ, pos, negsuc, neg_ℤ, Bool, true, false, Option, Some, None, Ok, List, length, inl, inr, refl, sym, ap, ◌∙◌, arith, zero, suc}
+use Rattle.std.proofs.Common.{◌≡◌, ◌≢◌, ◌<◌, ◌≤◌, ◌*◌, ◌≤ℤ◌, ◌*ℤ◌, ◌^◌, ◌&&◌, not, nat_lt, slice_get, ℕ, ℤ, pos, negsuc, Bool, true, false, Option, Some, None, Ok, List, length, refl, sym, ap, ◌∙◌, arith, suc}
 use Rattle.std.proofs.lemmas.Bool.Decides.{nat_tests}
 use Rattle.std.proofs.lemmas.Int.{ints}
-use Rattle.std.proofs.lemmas.Grind.{div_ceil_times}
 use Rattle.std.proofs.lemmas.List.FromFn.{length-map-range_with_len, get_or-map-range_with_len}
 use Rattle.std.proofs.lemmas.Nat.{mul-le}
 use Rattle.std.proofs.lemmas.Option.{slice_get_past, slice_get_read}
-use Rattle.std.proofs.Math.Nat.{suc-mul}
 use Rattle.std.proofs.Math.IntN.{pos-*ℤ-pos, pos-*ℤ-negsuc}
-use Rattle.std.specs.Int.{w64, w128, div_ceil}
+use Rattle.std.specs.Int.{w64, w128}
 use Rattle.std.specs.Int.RustNames.{FitsSigned}
 use Rattle.std.specs.Option.{option_copied, unwrap_or}
 use Rattle.std.specs.Ordering.{int_eq}
 use Rattle.std.specs.Slice.{IsItemAt}
 use Rattle.std.specs.Borrow.{Bor}
 use Rattle.tm_definitions.specs.Ranges.{Span, count_of, numbers_of, is_served, served, ranged, required_in, later_in, span_of, range_of, AreStepped, StandBefore, LeaveNoneOut}
-use Rattle.tm_primitives.proofs.Steps.{distance_is, count_up, not_negative}
-use Rattle.tm_primitives.specs.Places.{distance, count_before, IsBefore, step_to}
+use Rattle.tm_primitives.proofs.Laws.{before_at, past_at}
+use Rattle.tm_primitives.specs.Places.{step_to}
 use Rattle.tm_values.specs.Answer.{invalid}
 use Rattle.tm_values.specs.Val.{Val}
-
--- k steps up, or down
-up_to : (x : ℤ) (a k : ℕ) → step_to x (pos a) k ≡ x +ℤ pos (k * a)
-up_to x a k = ap (λ (d : ℤ). x +ℤ d) (pos-*ℤ-pos k a)
-
-down_to : (x : ℤ) (a k : ℕ) → step_to x (negsuc a) k ≡ x -ℤ pos (k * suc a)
-down_to x a k =
-    let e : pos k *ℤ negsuc a ≡ neg_ℤ (pos (k * suc a)) = pos-*ℤ-negsuc k a in
-    omega (arith, ints, e)
-
--- before the stop, up or down
-before_up : (a m k : ℕ) (x y : ℤ) → m ≡ div_ceil (distance x y) (suc a) → k < m → (x +ℤ pos (k * suc a)) <ℤ y
-before_up a m k x y e h =
-    let short : m * suc a < distance x y + suc a = rw e ((div_ceil_times (distance x y) (suc a) (omega arith)).1) in
-    let next : suc k * suc a ≤ m * suc a = mul-le (suc k) (suc a) m (suc a) h (omega arith) in
-    let same : suc k * suc a ≡ k * suc a + suc a = suc-mul k (suc a) in
-    elim (distance_is x y) [
-      | inl d ↦ omega (arith, ints, short, next, same, d.0, d.1)
-      | inr d ↦ absurd (omega (arith, ints, short, next, same, d.1))
-    ]
-
-before_down : (a m k : ℕ) (x y : ℤ) → m ≡ div_ceil (distance y x) (suc a) → k < m → y <ℤ (x -ℤ pos (k * suc a))
-before_down a m k x y e h =
-    let short : m * suc a < distance y x + suc a = rw e ((div_ceil_times (distance y x) (suc a) (omega arith)).1) in
-    let next : suc k * suc a ≤ m * suc a = mul-le (suc k) (suc a) m (suc a) h (omega arith) in
-    let same : suc k * suc a ≡ k * suc a + suc a = suc-mul k (suc a) in
-    elim (distance_is y x) [
-      | inl d ↦ omega (arith, ints, short, next, same, d.0, d.1)
-      | inr d ↦ absurd (omega (arith, ints, short, next, same, d.1))
-    ]
-
--- and the step after the last one is past it
-past_up : (a m : ℕ) (x y : ℤ) → m ≡ div_ceil (distance x y) (suc a) → y ≤ℤ (x +ℤ pos (m * suc a))
-past_up a m x y e =
-    let long : distance x y ≤ m * suc a = rw e ((div_ceil_times (distance x y) (suc a) (omega arith)).0) in
-    elim (distance_is x y) [
-      | inl d ↦ omega (arith, ints, long, d.1)
-      | inr d ↦ omega (arith, ints, d.0)
-    ]
-
-past_down : (a m : ℕ) (x y : ℤ) → m ≡ div_ceil (distance y x) (suc a) → (x -ℤ pos (m * suc a)) ≤ℤ y
-past_down a m x y e =
-    let long : distance y x ≤ m * suc a = rw e ((div_ceil_times (distance y x) (suc a) (omega arith)).0) in
-    elim (distance_is y x) [
-      | inl d ↦ omega (arith, ints, long, d.1)
-      | inr d ↦ omega (arith, ints, d.0)
-    ]
-
-before_at : (z x y : ℤ) (k : ℕ) → z ≢ pos 0 → k < count_before z x y → IsBefore z (step_to x z k) y
-before_at (pos zero) x y k h l = absurd (h refl)
-before_at (pos (suc a)) x y k h l =
-    let b = before_up a (count_before (pos (suc a)) x y) k x y (count_up (pos (suc a)) x y (not_negative (suc a))) l in
-    omega (arith, ints, b, up_to x (suc a) k)
-before_at (negsuc a) x y k h l =
-    let b = before_down a (count_before (negsuc a) x y) k x y refl l in
-    omega (arith, ints, b, down_to x a k)
-
-past_at : (z x y : ℤ) (m : ℕ) → z ≢ pos 0 → m ≡ count_before z x y → IsBefore z (step_to x z m) y → ⊥
-past_at (pos zero) x y m h e l = h refl
-past_at (pos (suc a)) x y m h e l =
-    let b = past_up a m x y (e ∙ count_up (pos (suc a)) x y (not_negative (suc a))) in
-    omega (arith, ints, b, l, up_to x (suc a) m)
-past_at (negsuc a) x y m h e l =
-    let b = past_down a m x y e in
-    omega (arith, ints, b, l, down_to x a m)
 
 -- ---- the laws
 

@@ -81,7 +81,8 @@ past_down a m x y e =
       | inr d ↦ omega (arith, ints, d.0)
     ]
 
-before_at : (z x y : ℤ) (k : ℕ) → z ≢ pos 0 → k < count_before z x y → IsBefore z (step_to x z k) y
+-- of the steps that are counted each is before the stop, and the one behind them is not
+pub before_at : (z x y : ℤ) (k : ℕ) → z ≢ pos 0 → k < count_before z x y → IsBefore z (step_to x z k) y
 before_at (pos zero) x y k h l = absurd (h refl)
 before_at (pos (suc a)) x y k h l =
     let b = before_up a (count_before (pos (suc a)) x y) k x y (count_up (pos (suc a)) x y (not_negative (suc a))) l in
@@ -90,14 +91,14 @@ before_at (negsuc a) x y k h l =
     let b = before_down a (count_before (negsuc a) x y) k x y refl l in
     omega (arith, ints, b, down_to x a k)
 
-past_at : (z x y : ℤ) → z ≢ pos 0 → IsBefore z (step_to x z (count_before z x y)) y → ⊥
-past_at (pos zero) x y h l = h refl
-past_at (pos (suc a)) x y h l =
-    let b = past_up a (count_before (pos (suc a)) x y) x y (count_up (pos (suc a)) x y (not_negative (suc a))) in
-    omega (arith, ints, b, l, up_to x (suc a) (count_before (pos (suc a)) x y))
-past_at (negsuc a) x y h l =
-    let b = past_down a (count_before (negsuc a) x y) x y refl in
-    omega (arith, ints, b, l, down_to x a (count_before (negsuc a) x y))
+pub past_at : (z x y : ℤ) (m : ℕ) → z ≢ pos 0 → m ≡ count_before z x y → IsBefore z (step_to x z m) y → ⊥
+past_at (pos zero) x y m h e l = h refl
+past_at (pos (suc a)) x y m h e l =
+    let b = past_up a m x y (e ∙ count_up (pos (suc a)) x y (not_negative (suc a))) in
+    omega (arith, ints, b, l, up_to x (suc a) m)
+past_at (negsuc a) x y m h e l =
+    let b = past_down a m x y e in
+    omega (arith, ints, b, l, down_to x a m)
 
 -- two places, in order
 rising : (x : ℤ) (a j k p q : ℕ) → j < k → pos p ≡ step_to x (pos (suc a)) j → pos q ≡ step_to x (pos (suc a)) k → p < q
@@ -130,7 +131,7 @@ pub before : (n : ℕ) (start stop : Option ℤ) (z : ℤ) → z ≢ pos 0 → A
 before n start stop z h k d l = rw (spaced n start stop z h k d l) (before_at z (start_of n z start) (stop_of n z stop) k h (rw length-places_from at l))
 
 pub done : (n : ℕ) (start stop : Option ℤ) (z : ℤ) → z ≢ pos 0 → IsDone n start stop z (places_of n start stop z)
-done n start stop z h l = past_at z (start_of n z start) (stop_of n z stop) h (rw length-places_from at l)
+done n start stop z h l = past_at z (start_of n z start) (stop_of n z stop) (count_before z (start_of n z start) (stop_of n z stop)) h refl (rw length-places_from at l)
 
 pub strict : (n : ℕ) (start stop : Option ℤ) (z : ℤ) → z ≢ pos 0 → GoTheWay z (places_of n start stop z)
 strict n start stop z h = go_the_way z (start_of n z start) (places_of n start stop z) h (spaced n start stop z h)
