@@ -2,7 +2,8 @@
 ghost use Rattle.std.specs.Prelude.{◌≡◌, ◌-◌, false, List, [], ◌∷◌, codes, length, option_copied, pos, slice_get};
 ghost use Rattle.tm_values.specs.Val.{number, text};
 ghost use Rattle.tm_syntax.specs.Named.{find};
-ghost use Rattle.tm_meaning.specs.World.{find_name, gives, faults, or_undefined};
+ghost use Rattle.tm_meaning.specs.World.{find_name, or_undefined};
+ghost use Rattle.tm_meaning.specs.declared.reply.Reply.TheVariants.{Value as gives, Fault as faults};
 ghost use Rattle.tm_tables.specs.Stated.{IsStated, just, keeping};
 ghost use Rattle.render_tests.specs.Found.{reply_of_found};
 ghost use Rattle.render_tests.specs.declared.party.Party.TheVariants.{Second, Last, Keeper, Reader, Title, Seen, Faulty};

@@ -1,7 +1,7 @@
 //! What states keep, the other ways to render, and functions in boxes.
 ghost use Rattle.std.specs.Prelude.{true};
 ghost use Rattle.tm_values.specs.Val.{boolean};
-ghost use Rattle.tm_meaning.specs.World.{gives};
+ghost use Rattle.tm_meaning.specs.declared.reply.Reply.TheVariants.{Value as gives};
 ghost use Rattle.tm_tables.specs.Stated.{just};
 
 use crate::party::{Left, Page, Rows};

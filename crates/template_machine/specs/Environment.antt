@@ -1,5 +1,5 @@
 -- Environments and templates as plain data, over all objects of the caller as one.
-use Rattle.std.specs.Prelude.{ℕ, List, [], codes, map as each, Option, Some, None}
+use Rattle.std.specs.Prelude.{ℕ, List, [], codes, map as each, Ok, Option, Some, None}
 use Rattle.tm_values.specs.Val.{Val, function}
 use Rattle.tm_values.specs.declared.undefined.UndefinedBehavior.{UndefinedBehavior}
 use Rattle.tm_values.specs.declared.undefined.UndefinedBehavior.TheVariants.{Lenient}
@@ -89,8 +89,9 @@ host_of functions t = record {
   functions = functions t.environment.objects;
   filters = [];
   tests = [];
-  join = λ x parent. x;
+  join = λ x parent. Ok x;
   formatter = None;
+  unknown_method = None;
   undefined = t.environment.undefined;
   limit = t.environment.limit;
 }

@@ -16,14 +16,14 @@ pub use tm_compiler::{
     Pair, RawText, Step, Stmt, Streams, SyntaxConfig, SyntaxConfigBuilder, Tree, UnaryOperator,
     generate, parse,
 };
-pub use tm_meaning::GlobalFunction;
+pub use tm_meaning::{GlobalFunction, Reply};
 pub use tm_operations as operations;
 pub use tm_output::{Target, TargetFailed};
 pub use tm_parts::{Counted, NullWriter, Output, Sink, WriteWrapper};
 pub use tm_printing as printing;
 pub use tm_syntax::{Assignment, Code, Target as AssignmentTarget};
 pub use tm_tables::{
-    Answer, Answering, Callable, Called, FuelTracker, Objects, Parties, Plain, Reply, View,
+    Answer, Answering, Callable, Called, FuelTracker, Objects, Parties, Plain, View,
 };
 pub use tm_templates::{
     CompiledTemplate, EscapeSetting, Source, TemplateConfig, default_auto_escape_callback,

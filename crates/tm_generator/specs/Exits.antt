@@ -4,9 +4,9 @@ use Rattle.tm_syntax.specs.declared.tree.Stmt.{Stmt, If', For', Break, Continue,
 use Rattle.tm_syntax.specs.declared.tree.Target.{Target}
 use Rattle.tm_syntax.specs.declared.instruction.Instruction.{Instruction}
 use Rattle.tm_syntax.specs.declared.instruction.Instruction.TheVariants as i
-use Rattle.tm_syntax.specs.Code.{Inside, Opened, a_scope, an_escape, a_capture, close_all, expr_code, iterable_code, target_code, assignments_code, statement_code, statements_code, outside, for_flags}
-use Rattle.tm_generator.specs.declared.loops.Opened.{Opened as Open}
-use Rattle.tm_generator.specs.declared.loops.Opened.TheVariants as opens
+use Rattle.tm_syntax.specs.Code.{Inside, close_all, expr_code, iterable_code, target_code, assignments_code, statement_code, statements_code, outside, for_flags}
+use Rattle.tm_syntax.specs.declared.opened.Opened.{Opened}
+use Rattle.tm_syntax.specs.declared.opened.Opened.TheVariants.{Scope as a_scope, Escape as an_escape, Capture as a_capture}
 use Rattle.tm_generator.specs.declared.loops.Exit.{Exit}
 use Rattle.tm_generator.specs.declared.loops.Exit.TheVariants.{Leave, Next}
 
@@ -14,11 +14,6 @@ use Rattle.tm_generator.specs.declared.loops.Exit.TheVariants.{Leave, Next}
 pub record Around : Type 0 where
   pub opened : List Opened
   pub exits : List Exit
-
-abbrev pub opened_kind : Open → Opened
-opened_kind opens.Scope = a_scope
-opened_kind opens.Escape = an_escape
-opened_kind opens.Capture = a_capture
 
 abbrev pub rest_of : List Opened → List Opened
 rest_of [] = []

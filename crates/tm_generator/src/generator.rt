@@ -12,14 +12,15 @@ ghost use Rattle.tm_syntax.specs.declared.instruction.Instruction.TheVariants.{C
 ghost use Rattle.tm_values.specs.declared.error.ErrorKind.TheVariants.{OutOfMemory};
 
 use crate::filters::push_iterable;
-use crate::loops::{Enclosing, Opened};
+use crate::loops::Enclosing;
 use crate::patches::{end_at, put};
 use crate::targets::{push_assignments, push_set, push_target};
 use sqlite_items::{Boxed, Items};
 use std::alloc::Global;
 use tm_syntax::{
     Argument, Assignment, BinaryOperator, CaptureMode, Code, Comparison, Condition, Expr,
-    Instruction, Keyword, LoopFlags, Name, NameMap, Pair, Step, Stmt, Target, UnaryOperator,
+    Instruction, Keyword, LoopFlags, Name, NameMap, Opened, Pair, Step, Stmt, Target,
+    UnaryOperator,
 };
 use tm_values::{Error, ErrorKind, Value};
 

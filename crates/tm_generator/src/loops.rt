@@ -1,6 +1,6 @@
 //! Jumps out of a loop's body, which are set once the loop's end is known.
-ghost use Rattle.std.specs.Prelude.{◌≡◌, ◌++◌, ◌+◌, ◌<◌, [], ◌∷◌, All, OnOk, IfErr, length, map, reverse};
-ghost use Rattle.tm_generator.specs.Exits.{Around, opened_kind, place_of, rest_of, led, with_exits};
+ghost use Rattle.std.specs.Prelude.{◌≡◌, ◌++◌, ◌+◌, ◌<◌, [], ◌∷◌, All, OnOk, IfErr, length, reverse};
+ghost use Rattle.tm_generator.specs.Exits.{Around, place_of, rest_of, led, with_exits};
 ghost use Rattle.tm_generator.specs.declared.loops.Exit.TheVariants.{Leave, Next};
 ghost use Rattle.tm_syntax.specs.Code.{close, close_all as close_each};
 ghost use Rattle.tm_syntax.specs.declared.instruction.Instruction.TheVariants.{Jump};
@@ -10,19 +10,8 @@ use crate::patches::put;
 use sqlite_items::Items;
 use std::alloc::Global;
 use std::marker::Model;
-use tm_syntax::Instruction;
+use tm_syntax::{Instruction, Opened};
 use tm_values::Error;
-
-/// What a body opens, and closes behind it.
-#[derive(Clone, Copy)]
-pub(crate) enum Opened {
-    /// A scope.
-    Scope,
-    /// A way to escape.
-    Escape,
-    /// A capture.
-    Capture,
-}
 
 /// A jump out of a loop's body, by its place.
 #[derive(Clone, Copy)]
@@ -42,12 +31,12 @@ pub(crate) struct Enclosing {
 }
 
 impl Model for Enclosing {
-    ghost use Rattle.std.specs.Prelude.{map, reverse};
-    ghost use Rattle.tm_generator.specs.Exits.{Around, opened_kind};
+    ghost use Rattle.std.specs.Prelude.{reverse};
+    ghost use Rattle.tm_generator.specs.Exits.{Around};
 
     ghost Value = { Around };
 
-    ghost view = { λ e. record { opened = reverse (map opened_kind e.opened); exits = e.exits } };
+    ghost view = { λ e. record { opened = reverse e.opened; exits = e.exits } };
 }
 
 impl Enclosing {
@@ -64,7 +53,7 @@ impl Enclosing {
     /// Something more is open; OutOfMemory.
     pub(crate) fn begin(&mut self, opened: Opened) -> Result<(), Error>
         ensures ok { OnOk result
-            (self.new ≡ record self.old { opened = opened_kind opened ∷ self.old.opened }) }
+            (self.new ≡ record self.old { opened = opened ∷ self.old.opened }) }
         ensures err { IfErr result (λ e. e ≡ OutOfMemory ∷ []) }
     {
         self.opened.push(opened)?;
@@ -122,7 +111,7 @@ impl Enclosing {
 /// Adds what closes all that is open, the last first; OutOfMemory.
 fn close_all(code: &mut Items<Instruction>, opened: &[Opened]) -> Result<(), Error>
     ensures ok { OnOk result
-        (code.new ≡ code.old ++ close_each (reverse (map opened_kind opened.now))) }
+        (code.new ≡ code.old ++ close_each (reverse opened.now)) }
     ensures err { IfErr result (λ e. e ≡ OutOfMemory ∷ []) }
 {
     let mut left = opened.len();
@@ -135,7 +124,7 @@ fn close_all(code: &mut Items<Instruction>, opened: &[Opened]) -> Result<(), Err
 
 /// Adds what closes something; OutOfMemory.
 fn close(code: &mut Items<Instruction>, opened: Opened) -> Result<(), Error>
-    ensures ok { OnOk result (code.new ≡ code.old ++ close (opened_kind opened)) }
+    ensures ok { OnOk result (code.new ≡ code.old ++ close opened) }
     ensures err { IfErr result (λ e. e ≡ OutOfMemory ∷ []) }
 {
     match opened {

@@ -14,7 +14,9 @@ use Rattle.tm_meaning.specs.declared.function.GlobalFunction.{GlobalFunction}
 use Rattle.tm_meaning.specs.declared.wrapping.Wrapping.{Wrapping}
 use Rattle.tm_meaning.specs.Memory.{kind_of_wrapping}
 use Rattle.tm_meaning.specs.declared.function.GlobalFunction.TheVariants as own
-use Rattle.tm_meaning.specs.World.{TemplateId, own, entry, StreamId, block_of, Named, find, put_each, same_name, Card, Layers, Loop, World, Host, View, Reply, gives, faults, Stated, Function, callers, languages, Res, Good, Bad, bind, bad, answered, items_over, innermost, records_of, make_namespace, need, check, card_at, view_of, lookup, context_member, or_undefined, place_of, plain, push, pop}
+use Rattle.tm_meaning.specs.World.{TemplateId, own, entry, StreamId, block_of, Named, find, put_each, same_name, Card, Layers, Loop, World, Host, View, Stated, Function, callers, languages, Res, Good, Bad, bind, bad, answered, items_over, innermost, records_of, make_namespace, need, check, card_at, view_of, lookup, context_member, or_undefined, place_of, plain, push, pop}
+use Rattle.tm_meaning.specs.declared.reply.Reply.{Reply}
+use Rattle.tm_meaning.specs.declared.reply.Reply.TheVariants.{Value as gives, Fault as faults}
 
 -- What is run: a whole stream.
 pub data Callee : Type 0 where

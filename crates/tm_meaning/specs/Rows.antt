@@ -1,5 +1,5 @@
 -- Worked renders, through the meaning, and through the code and the machine.
-use Rattle.std.specs.Prelude.{◌≡◌, ℕ, ◌-◌, List, [], ◌∷◌, map as each, Option, Some, None, Bool, true, false, codes, pos}
+use Rattle.std.specs.Prelude.{◌≡◌, ℕ, ◌-◌, List, [], ◌∷◌, map as each, Option, Some, None, Bool, true, false, codes, pos, Ok}
 use Rattle.tm_values.specs.Val.{Val, undefined, boolean, number, text, list, map, function, vals_of, pairs_of}
 use Rattle.tm_values.specs.declared.error.ErrorKind.{ErrorKind}
 use Rattle.tm_values.specs.declared.error.ErrorKind.TheVariants as kind
@@ -16,7 +16,9 @@ use Rattle.tm_syntax.specs.declared.tree.Assignment.TheVariants.{Assignment as G
 use Rattle.tm_syntax.specs.declared.tree.Stmt.{Stmt, EmitRaw, EmitExpr, EmitLoop, If', For', Break, Continue, Block', Set, SetBlock', With', Do, AutoEscape', end_of-Stmt as no_statement, more_of-Stmt as statement, Held-Stmt-If-2 as Otherwise, None' as no_else, Some' as otherwise}
 use Rattle.tm_syntax.specs.Forms.{unary, chained, conditional, condition, comparison, plain, keyword, binary, compare, and_then, or_else}
 use Rattle.tm_meaning.specs.Compiled.{code_of}
-use Rattle.tm_meaning.specs.World.{Bindings, find, own, World, Host, View, Reply, gives, faults, Stated, Function, callers, languages}
+use Rattle.tm_meaning.specs.World.{Bindings, find, find_name, view_of, own, World, Host, View, Stated, Function, callers, languages}
+use Rattle.tm_meaning.specs.declared.reply.Reply.{Reply}
+use Rattle.tm_meaning.specs.declared.reply.Reply.TheVariants.{Value as gives, Fault as faults}
 use Rattle.tm_meaning.specs.declared.function.GlobalFunction.TheVariants as own
 use Rattle.tm_meaning.specs.Calls.{whole}
 use Rattle.tm_meaning.specs.Tree.{Body, body_of, TemplateTree, Trees, template_of, trees_of}
@@ -46,8 +48,9 @@ host_of p = record {
   functions = p.functions;
   filters = [];
   tests = [];
-  join = λ x parent. x;
+  join = λ x parent. Ok x;
   formatter = None;
+  unknown_method = None;
   undefined = Lenient;
   limit = p.limit;
 }
@@ -103,18 +106,26 @@ Charges p t charges = Says p 1000 t (1000 - charges) []
 abbrev pub Fails : Page → List ℕ → List ErrorKind → Type 0
 Fails p t chain = ((meant p None).text ≡ t) × ((meant p None).chain ≡ chain) × ((ran p None).text ≡ t) × ((ran p None).chain ≡ chain)
 
--- what is kept by names behind the page
-abbrev pub temps_of : Option Final → Bindings
-temps_of None = []
-temps_of (Some o) = temps_at o.end
-  where
-    temps_at : End → Bindings
-    temps_at (Finished ks w) = w.temps
-    temps_at (Failed chain w) = w.temps
-    temps_at (Stuck w) = w.temps
+-- the world behind the page, as it means it and as its code comes to it
+abbrev pub left_at : End → World
+left_at (Finished ks w) = w
+left_at (Failed chain w) = w
+left_at (Stuck w) = w
 
+abbrev pub left_by : Option Final → World → World
+left_by None w = w
+left_by (Some o) w = left_at o.end
+
+abbrev pub Behind : (World → Type 0) → Page → Type 0
+Behind Holds p = Holds (rendered (host_of p) (trees p) (world_of p None)).world × Holds (left_by (ended p None) (world_of p None))
+
+-- what is kept by names behind it
 abbrev pub Leaves : Page → Bindings → Type 0
-Leaves p temps = ((rendered (host_of p) (trees p) (world_of p None)).world.temps ≡ temps) × (temps_of (ended p None) ≡ temps)
+Leaves p temps = Behind (λ w. w.temps ≡ temps) p
+
+-- a name that a look-up doesn't find behind it
+abbrev pub Lacks : Page → List ℕ → Type 0
+Lacks p x = Behind (λ w. find_name (view_of (host_of p) w) x ≡ Ok None) p
 
 -- and where all is done
 abbrev pub Shows : Page → List ℕ → Type 0
@@ -160,6 +171,10 @@ text_alone t = page (one (raw t)) nothing
 -- {{ a }}{{ b }}
 abbrev pub two_names : Page
 two_names = page (two (EmitExpr a) (EmitExpr b)) (map (pairs_of ((text (codes "a") false, text (codes "A") false) ∷ (text (codes "b") false, text (codes "B") false) ∷ [])))
+
+-- the same where b is undefined
+abbrev pub one_name : Page
+one_name = page (two (EmitExpr a) (EmitExpr b)) (with_value (codes "a") (text (codes "x") false))
 
 -- Hello {{ name }}!
 abbrev pub hello : Page

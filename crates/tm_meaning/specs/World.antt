@@ -17,6 +17,7 @@ use Rattle.tm_values.specs.declared.undefined.UndefinedBehavior.{UndefinedBehavi
 use Rattle.tm_values.specs.declared.undefined.UndefinedUse.TheVariants.{Emission}
 use Rattle.tm_meaning.specs.declared.function.GlobalFunction.{GlobalFunction}
 use Rattle.tm_meaning.specs.declared.mark.LoopMark.{LoopMark}
+use Rattle.tm_meaning.specs.declared.reply.Reply.{Reply}
 pub use Rattle.tm_meaning.specs.declared.stream.TemplateId.{TemplateId}
 pub use Rattle.tm_meaning.specs.declared.stream.TemplateId.TheVariants.{Own as own, Entry as entry}
 pub use Rattle.tm_meaning.specs.declared.stream.StreamId.{StreamId}
@@ -120,10 +121,6 @@ pub record View : Type 0 where
   pub undefined : UndefinedBehavior
 
 -- What a callable answers: values to keep, in order, and a value or a fault.
-pub data Reply : Type 0 where
-  gives : Val → Reply
-  faults : List ErrorKind → Reply
-
 pub record Stated : Type 0 where
   pub temps : Bindings
   pub reply : Reply
@@ -141,8 +138,9 @@ pub record Host : Type 0 where
   pub functions : List Function
   pub filters : Named Function
   pub tests : Named Function
-  pub join : List ℕ → List ℕ → List ℕ
+  pub join : List ℕ → List ℕ → Answer (List ℕ)
   pub formatter : Option (Val → View → Answer (List ℕ))
+  pub unknown_method : Option (Val → List ℕ → List Val → View → Stated)
   pub undefined : UndefinedBehavior
   pub limit : ℕ
 

@@ -8,6 +8,7 @@ ghost use Rattle.tm_meaning.specs.Steps.{Final, Leads};
 mod base;
 mod function;
 mod mark;
+mod reply;
 mod rows;
 mod stream;
 mod wrapping;
@@ -15,6 +16,7 @@ mod wrapping;
 pub use base::Base;
 pub use function::GlobalFunction;
 pub use mark::LoopMark;
+pub use reply::Reply;
 pub use rows::{
     attribute_rows, block_rows, call_rows, capture_rows, chain_rows, condition_rows,
     conditional_rows, filter_rows, function_rows, hello_rows, loop_rows, method_rows,

@@ -3,7 +3,7 @@ ghost use Rattle.std.specs.Prelude.{[], ◌∷◌, ◌++◌, true, false, codes,
 ghost use Rattle.std.specs.Fmt.{decimal};
 ghost use Rattle.tm_values.specs.Val.{boolean, function, map, no_pairs, number};
 ghost use Rattle.tm_values.specs.declared.error.ErrorKind.TheVariants.{CannotUnpack, InvalidOperation, MissingArgument, UndefinedError, UnknownFunction, UnknownMethod, OutOfFuel, WriteFailure, BadStream, OutOfMemory};
-ghost use Rattle.tm_meaning.specs.Rows.{Says, Charges, Shows, Fails, Leaves, empty, text_alone, two_names, nothing, with_value, hello, either_text, of_three, empty_condition, shown, a_and_b_c, a_or_x, not_equal, a_b, literal_number, three_in_a_row, false_before_fault, no_value, one_condition, two_conditions, in_block, block_not_reached, with_two, empty_with, set_two, set_two_of_one, set_attribute, literal, each_number, no_round, broken_round, break_in_capture, continue_in_scope, loop_members, set_in_round, chosen, chosen_alone, chosen_index, chosen_by_loop, changed_or_not, by_turns, by_no_turns, no_method_of_loops, method_of_map, method_of_undefined, called_in_place, called_over_a_number, not_recursive, no_loop_to_call, called_with_too_many, depth_inside_recursive, tree_in_place, tree_as_value, called_behind_its_end, range_of_three, range_by_name, dict_by_names, summed, over_a_number, set_block, set_under, escaped_by, fault_in_capture, set_block_of_two, literal_truth, do_call, last_function, faulty, calling, keep_and_read, unknown_behind};
+ghost use Rattle.tm_meaning.specs.Rows.{Says, Charges, Shows, Fails, Leaves, Lacks, empty, text_alone, two_names, one_name, nothing, with_value, hello, either_text, of_three, empty_condition, shown, a_and_b_c, a_or_x, not_equal, a_b, literal_number, three_in_a_row, false_before_fault, no_value, one_condition, two_conditions, in_block, block_not_reached, with_two, empty_with, set_two, set_two_of_one, set_attribute, literal, each_number, no_round, broken_round, break_in_capture, continue_in_scope, loop_members, set_in_round, chosen, chosen_alone, chosen_index, chosen_by_loop, changed_or_not, by_turns, by_no_turns, no_method_of_loops, method_of_map, method_of_undefined, called_in_place, called_over_a_number, not_recursive, no_loop_to_call, called_with_too_many, depth_inside_recursive, tree_in_place, tree_as_value, called_behind_its_end, range_of_three, range_by_name, dict_by_names, summed, over_a_number, set_block, set_under, escaped_by, fault_in_capture, set_block_of_two, literal_truth, do_call, last_function, faulty, calling, keep_and_read, unknown_behind};
 
 /// `Hello {{ name }}!` with the name World takes 4 charges, so 5 units of fuel; with fewer it ends where the fuel does.
 pub fn hello_rows()
@@ -17,19 +17,23 @@ pub fn hello_rows()
     ensures no_fuel_set { Shows hello (codes "Hello World!") }
 {}
 
-/// A template with nothing in it, `x`, and `{{ "}}" }}`.
+/// A template with nothing in it, `x`, and `{{ "}}" }}`, whose tree is the same with brackets round the literal.
 pub fn text_rows()
     ensures empty { Says empty 0 [] 0 [] }
     ensures text { Charges (text_alone (codes "x")) (codes "x") 1 }
     ensures literal { Charges (shown (literal (codes "}}")) nothing) (codes "}}") 2 }
 {}
 
-/// `{{ a }}{{ b }}` with the names A and B takes 4 charges, so 5 units of fuel; with fewer it ends where the fuel does.
+/// `{{ a }}{{ b }}` with the names A and B, and with x and an undefined one, takes 4 charges, so 5 units of fuel; with fewer it ends where the fuel does.
 pub fn two_names_rows()
     ensures five { Says two_names 5 (codes "AB") 1 [] }
     ensures four { Says two_names 4 (codes "A") 0 (OutOfFuel ∷ []) }
     ensures three { Says two_names 3 (codes "A") 0 (OutOfFuel ∷ []) }
     ensures two { Says two_names 2 [] 0 (OutOfFuel ∷ []) }
+    ensures charges_of_one { Charges one_name (codes "x") 4 }
+    ensures four_of_one { Says one_name 4 (codes "x") 0 (OutOfFuel ∷ []) }
+    ensures three_of_one { Says one_name 3 (codes "x") 0 (OutOfFuel ∷ []) }
+    ensures two_of_one { Says one_name 2 [] 0 (OutOfFuel ∷ []) }
 {}
 
 /// `{% if a %}x{% else %}y{% endif %}`, `{% if a %}1{% elif b %}2{% else %}3{% endif %}` and `{% if a %}{% endif %}`.
@@ -170,6 +174,7 @@ pub fn call_rows()
     ensures memory { Fails (calling (faulty (OutOfMemory ∷ []))) [] (OutOfMemory ∷ []) }
     ensures kept { Charges keep_and_read (decimal 2 ++ decimal 1) 4 }
     ensures left { Leaves keep_and_read ((codes "k", number (pos 1)) ∷ []) }
+    ensures no_name { Lacks keep_and_read (codes "k") }
     ensures arguments_first { Fails (unknown_behind (faulty (MissingArgument ∷ []))) (codes "a") (MissingArgument ∷ []) }
     ensures not_found { Fails (unknown_behind last_function) (codes "a") (UnknownFunction ∷ []) }
 {}

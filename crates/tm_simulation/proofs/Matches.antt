@@ -10,7 +10,9 @@ use Rattle.tm_syntax.specs.declared.instruction.CaptureMode.TheVariants.{Capture
 use Rattle.tm_syntax.specs.declared.tree.Expr.{Expr}
 use Rattle.tm_syntax.specs.declared.tree.Target.{Target}
 use Rattle.tm_syntax.specs.declared.tree.Stmt.{Stmt, EmitRaw, EmitExpr, EmitLoop, If', For', Break, Continue, Block', Set, SetBlock', With', Do, AutoEscape', Row_of-Stmt, end_of-Stmt as no_statement, more_of-Stmt as statement, Held-Stmt-If-2 as Otherwise, None' as no_else, Some' as otherwise}
-use Rattle.tm_syntax.specs.Code.{Inside, Opened, a_scope, an_escape, a_capture, opening, outside, close_all, jump_over, for_flags, filter_flags, expr_code, target_code, set_code, assignments_code, iterable_code, filter_code, statement_code, statements_code, otherwise_code, behind_loop_code}
+use Rattle.tm_syntax.specs.Code.{Inside, opening, outside, close_all, jump_over, for_flags, filter_flags, expr_code, target_code, set_code, assignments_code, iterable_code, filter_code, statement_code, statements_code, otherwise_code, behind_loop_code}
+use Rattle.tm_syntax.specs.declared.opened.Opened.{Opened}
+use Rattle.tm_syntax.specs.declared.opened.Opened.TheVariants.{Scope as a_scope, Escape as an_escape, Capture as a_capture}
 use Rattle.tm_syntax.specs.Blocks.{body_of}
 use Rattle.tm_syntax.proofs.Long.{statements_long}
 use Rattle.tm_syntax.specs.declared.instruction.LoopPlace.{LoopPlace}

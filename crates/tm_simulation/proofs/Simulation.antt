@@ -28,7 +28,9 @@ use Rattle.tm_syntax.specs.declared.instruction.LoopFlags.{LoopFlags}
 use Rattle.tm_syntax.specs.declared.instruction.Instruction.{Instruction}
 use Rattle.tm_syntax.specs.declared.instruction.Instruction.TheVariants as i
 use Rattle.tm_syntax.specs.Forms.{unary, chained, conditional, condition, comparison, pair, plain, keyword, item, slice, binary, compare, and_then, or_else}
-use Rattle.tm_syntax.specs.Code.{expr_code, condition_code, conditions_code, exprs_code, pair_code, pairs_code, argument_code, arguments_code, keyword_code, keywords_code, named_code, count_keywords, together, filter_code, iterable_code, filter_flags, step_code, links_code, steps_code, count, count_exprs, count_pairs, unary_code, binary_code, count_targets, target_code, targets_code, set_code, assignments_code, Opened, a_scope, an_escape, a_capture, Inside, outside, opening, close_all, for_flags, statement_code, statements_code, otherwise_code, behind_loop_code, jump_over}
+use Rattle.tm_syntax.specs.Code.{expr_code, condition_code, conditions_code, exprs_code, pair_code, pairs_code, argument_code, arguments_code, keyword_code, keywords_code, named_code, count_keywords, together, filter_code, iterable_code, filter_flags, step_code, links_code, steps_code, count, count_exprs, count_pairs, unary_code, binary_code, count_targets, target_code, targets_code, set_code, assignments_code, Inside, outside, opening, close_all, for_flags, statement_code, statements_code, otherwise_code, behind_loop_code, jump_over}
+use Rattle.tm_syntax.specs.declared.opened.Opened.{Opened}
+use Rattle.tm_syntax.specs.declared.opened.Opened.TheVariants.{Scope as a_scope, Escape as an_escape, Capture as a_capture}
 use Rattle.tm_syntax.proofs.Long.{statements_long}
 use Rattle.tm_meaning.specs.World.{choose, World, Scope, Loop, Host, loop_scope, new_loop, open_loop, turned, next_turn, cleared, top_mark, top_loop, items_over, Res, Good, Bad, bind, tick, depth, push, pop, plain as plain_scope, items_of, set_member, answered, emitted, looked_up, escape_for, with_escape, captured_text}
 use Rattle.tm_meaning.specs.Calls.{Callee, whole, Call, Asked, has, refused, runs, recurs, enter_block, call_named, call_first, call_method, call_innermost}

@@ -3,7 +3,9 @@ use Rattle.std.proofs.Common.{◌≡◌, ℕ, List, Result, Ok, Err, false, refl
 use Rattle.tm_meaning.specs.Memory.{is_want_of_memory}
 use Rattle.tm_values.specs.Val.{Val}
 use Rattle.tm_values.specs.declared.error.ErrorKind.{ErrorKind}
-use Rattle.tm_meaning.specs.World.{World, Reply, gives, faults}
+use Rattle.tm_meaning.specs.World.{World}
+use Rattle.tm_meaning.specs.declared.reply.Reply.{Reply}
+use Rattle.tm_meaning.specs.declared.reply.Reply.TheVariants.{Value as gives, Fault as faults}
 use Rattle.tm_meaning.specs.Calls.{Asked, replied}
 use Rattle.tm_tables.specs.Stated.{is_for_memory}
 use Rattle.tm_state.specs.Answers.{Comes}

@@ -11,9 +11,10 @@ ghost use Rattle.tm_state.specs.Answers.{Becomes, Calls, Comes, IsBecause, Recur
 use crate::state::StateData;
 use std::alloc::Global;
 use std::rc::Rc;
+use tm_meaning::Reply;
 use tm_operations::{attribute, iterate};
 use tm_syntax::Name;
-use tm_tables::{Answer, Called, Host, LoopState, Reply};
+use tm_tables::{Answer, Called, Host, LoopState};
 use tm_values::{Error, ErrorKind, Node, UndefinedBehavior, Value, find_namespace};
 
 /// What a call came to.

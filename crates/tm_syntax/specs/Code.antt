@@ -19,6 +19,8 @@ use Rattle.tm_syntax.specs.declared.instruction.CaptureMode.TheVariants.{Capture
 use Rattle.tm_syntax.specs.declared.instruction.LoopFlags.{LoopFlags}
 use Rattle.tm_syntax.specs.declared.instruction.Instruction.{Instruction}
 use Rattle.tm_syntax.specs.declared.instruction.Instruction.TheVariants as i
+use Rattle.tm_syntax.specs.declared.opened.Opened.{Opened}
+use Rattle.tm_syntax.specs.declared.opened.Opened.TheVariants.{Scope as a_scope, Escape as an_escape, Capture as a_capture}
 use Rattle.tm_syntax.specs.Forms.{unary, chained, conditional, condition, comparison, pair, plain, keyword, item, slice, binary, compare, and_then, or_else}
 
 abbrev pub unary_code : UnaryOperator → Instruction
@@ -176,10 +178,6 @@ assignments_code pc [] = []
 assignments_code pc (Given t e ∷ more) = before pc (set_code pc t e) (λ pc1. assignments_code pc1 more)
 
 -- ---------------------------------------------------------------- statements
--- what was opened since a loop's body began
-pub data Opened : Type 0 where
-  a_scope an_escape a_capture : Opened
-
 -- The innermost loop: where its next item is asked for, what stands behind its jump back, and what was opened since its body began, innermost first.
 pub record Inside : Type 0 where
   pub again : ℕ

@@ -5,6 +5,7 @@ mod code;
 mod instruction;
 mod name;
 mod name_map;
+mod opened;
 mod raw_text;
 mod token;
 mod tree;
@@ -13,6 +14,7 @@ pub use code::Code;
 pub use instruction::{CaptureMode, Instruction, LoopFlags, LoopPlace};
 pub use name::Name;
 pub use name_map::NameMap;
+pub use opened::Opened;
 pub use raw_text::RawText;
 pub use token::{Sign, Tag, Token};
 pub use tree::{

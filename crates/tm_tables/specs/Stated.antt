@@ -4,16 +4,11 @@ use Rattle.tm_meaning.specs.Memory.{is_want_of_memory}
 use Rattle.tm_values.specs.Val.{Val}
 use Rattle.tm_meaning.specs.declared.function.GlobalFunction.{GlobalFunction}
 use Rattle.tm_meaning.specs.declared.function.GlobalFunction.TheVariants as own
-use Rattle.tm_meaning.specs.World.{View, Function, callers, languages, Reply, gives, faults, Stated}
+use Rattle.tm_meaning.specs.World.{View, Function, callers, languages, Stated}
+use Rattle.tm_meaning.specs.declared.reply.Reply.{Reply}
+use Rattle.tm_meaning.specs.declared.reply.Reply.TheVariants.{Value as gives, Fault as faults}
 use Rattle.tm_tables.specs.declared.callable.Called.{Called}
 use Rattle.tm_tables.specs.declared.callable.Called.TheVariants as called
-use Rattle.tm_tables.specs.declared.callable.Reply.{Reply as Replied}
-use Rattle.tm_tables.specs.declared.callable.Reply.TheVariants as variant
-
--- a reply as it is stated
-abbrev pub reply_of : Replied → Reply
-reply_of (variant.Value v) = gives v
-reply_of (variant.Fault chain) = faults chain
 
 -- The reply is want of memory.
 abbrev pub is_for_memory : Reply → Bool

@@ -1,24 +1,16 @@
 //! What callables of the caller answer.
 ghost use Rattle.std.specs.Prelude.{◌≡◌, ◌++◌, [], ◌∷◌, List, OnOk, IfErr};
 ghost use Rattle.tm_values.specs.Val.{Val};
-ghost use Rattle.tm_meaning.specs.World.{View as Seen, Stated, gives, faults};
+ghost use Rattle.tm_meaning.specs.World.{View as Seen, Stated};
+ghost use Rattle.tm_meaning.specs.declared.reply.Reply.TheVariants.{Value as gives, Fault as faults};
 ghost use Rattle.tm_tables.specs.Stated.{IsStated, just, keeping};
 
 use crate::view::View;
 use std::alloc::Global;
 use std::marker::Model;
-use tm_meaning::GlobalFunction;
+use tm_meaning::{GlobalFunction, Reply};
 use tm_syntax::Name;
 use tm_values::{Error, Value};
-
-/// The end of a call: a value, or a fault.
-#[derive(Drop)]
-pub enum Reply {
-    /// The value of the call.
-    Value(Value),
-    /// Why there is none.
-    Fault(Error),
-}
 
 /// What a callable answers: values that the state keeps by name, in order, and its reply. They are kept where the reply is a fault, too.
 #[derive(Drop)]
@@ -38,9 +30,7 @@ impl Model for Answer {
 
     ghost coded = { Prim.hlevel (codes, coded_Val) };
 
-    ghost use Rattle.tm_tables.specs.Stated.{reply_of};
-
-    ghost view = { λ a. record { temps = a.temps.items; reply = reply_of a.result } };
+    ghost view = { λ a. record { temps = a.temps.items; reply = a.result } };
 }
 
 impl Answer {

@@ -11,7 +11,7 @@ mod objects;
 mod plain;
 mod view;
 
-pub use callable::{Answer, Callable, Called, Reply};
+pub use callable::{Answer, Callable, Called};
 pub use context::{Context, Found, Frame};
 pub use fuel::FuelTracker;
 pub use host::Host;

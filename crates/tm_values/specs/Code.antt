@@ -1,16 +1,8 @@
 -- A value as the steps that build it on stacks, so that values can be told apart.
-use Rattle.std.specs.Prelude.{◌≡◌, ◌==◌, cond, ℕ, ℤ, pos, Bool, true, false, List, [], ◌∷◌, Option, None, refl}
+use Rattle.std.specs.Prelude.{◌≡◌, ◌==◌, cond, ℕ, ℤ, pos, Bool, false, List, [], ◌∷◌, refl}
 use Rattle.std.proofs.Common.{◌∙◌}
-use Rattle.std.specs.Coded.{Coded, code_by, coded×, coded_ℕ, coded_ℤ, coded_bool, coded_list, coded_option}
+use Rattle.std.specs.Coded.{Coded, code_by, codes}
 use Rattle.tm_values.specs.Val.{MacroData, Val, undefined, none, boolean, number, text, list, map, keywords, exports, function, macro, loop, namespace, Vals, no_vals, val, Pairs, no_pairs, pair}
-
-abbrev pub coded_Macro : Coded MacroData
-coded_Macro =
-    code_by (ℕ × (ℕ × (ℕ × (Option ℕ × (List ℕ × (List (List ℕ) × Bool))))))
-    (coded× coded_ℕ (coded× coded_ℕ (coded× coded_ℕ (coded× (coded_option coded_ℕ) (coded× (coded_list coded_ℕ) (coded× (coded_list (coded_list coded_ℕ)) coded_bool))))))
-    (λ m. (m.state, (m.stream, (m.entry, (m.closure, (m.name, (m.arguments, m.caller)))))))
-    (λ t. record { state = t.0; stream = t.1.0; entry = t.1.1.0; closure = t.1.1.1.0; name = t.1.1.1.1.0; arguments = t.1.1.1.1.1.0; caller = t.1.1.1.1.1.1 })
-    (λ _. refl)
 
 -- A step: its tag says what it builds, of the parts that it has and of what lies on the stacks.
 pub record Step : Type 0 where
@@ -24,14 +16,6 @@ pub record Step : Type 0 where
 
 abbrev plain : ℕ → Step
 plain tag = record { tag = tag; flag = false; whole = pos 0; bytes = []; first = 0; second = 0; declared = [] }
-
-abbrev pub coded_Step : Coded Step
-coded_Step =
-    code_by (ℕ × (Bool × (ℤ × (List ℕ × (ℕ × (ℕ × List MacroData))))))
-    (coded× coded_ℕ (coded× coded_bool (coded× coded_ℤ (coded× (coded_list coded_ℕ) (coded× coded_ℕ (coded× coded_ℕ (coded_list coded_Macro)))))))
-    (λ s. (s.tag, (s.flag, (s.whole, (s.bytes, (s.first, (s.second, s.declared)))))))
-    (λ t. record { tag = t.0; flag = t.1.0; whole = t.1.1.0; bytes = t.1.1.1.0; first = t.1.1.1.1.0; second = t.1.1.1.1.1.0; declared = t.1.1.1.1.1.1 })
-    (λ _. refl)
 
 -- what was built and is not part of something yet, the last first
 pub record Stacks : Type 0 where
@@ -155,4 +139,4 @@ pub built-back : (v : Val) → top (built (steps v []) empty).values ≡ v
 built-back v = rw (built-steps v [] empty) refl
 
 abbrev pub coded_Val : Coded Val
-coded_Val = code_by (List Step) (coded_list coded_Step) (λ v. steps v []) (λ s. top (built s empty).values) built-back
+coded_Val = code_by (List Step) (Prim.hlevel codes) (λ v. steps v []) (λ s. top (built s empty).values) built-back

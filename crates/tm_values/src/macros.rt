@@ -23,11 +23,8 @@ pub struct Macro {
 
 impl Model for Macro {
     ghost use Rattle.tm_values.specs.Val.{MacroData};
-    ghost use Rattle.tm_values.specs.Code.{coded_Macro};
 
     ghost Value = { MacroData };
-
-    ghost coded = { coded_Macro };
 
     ghost use Rattle.tm_values.specs.MacroView.{macro_view};
 

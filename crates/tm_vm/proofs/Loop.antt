@@ -1,4 +1,5 @@
 -- Where the loop stands in a run, and what it answers there.
+use Rattle.std.specs.Global.{Box}
 use Rattle.std.proofs.Common.{◌≡◌, ◌≤◌, ◌+◌, ℕ, List, [], ◌∷◌, length, ◌++◌, take, zero, suc, Option, Result, Ok, Some, None, Bool, true, false, refl, sym, ◌∙◌, ap, subst, append_assoc, arith, inl, inr}
 use Rattle.std.specs.Io.KnownBytes.{Appends}
 use Rattle.std.proofs.lemmas.List.{append-nil}
@@ -19,7 +20,7 @@ use Rattle.tm_parts.specs.declared.halt.Halt.TheVariants as halt
 use Rattle.tm_vm.specs.declared.flow.Entry.{Entry}
 use Rattle.tm_vm.specs.declared.flow.Flow.{Flow}
 use Rattle.tm_vm.specs.declared.flow.Flow.TheVariants as flow
-use Rattle.tm_vm.specs.Answers.{Did, Depths, HaltsAs, Comes, SameScopes, Stays, Paid, weight, output}
+use Rattle.tm_vm.specs.Answers.{Did, Enters, OneDeeper, HaltsAs, Comes, SameScopes, Stays, output}
 use Rattle.tm_state.specs.Answers.{Keeps}
 use Rattle.tm_vm.specs.Nested.{Went, EndsIn, Begins, IsWrapped, behind, start_in, base_in}
 use Rattle.tm_state.specs.State.{saved_of, put_back}
@@ -81,7 +82,7 @@ behind_is e b r (Stuck w) saved = refl
 
 -- a nested run that is done, and what follows it
 pub stands_behind : {p : Program} {f : Base} {a c : Config} {told now : Option (List ℕ)} (entry : Entry) (mid d : Config) (at new : Option (List ℕ)) → Stands p f a told now c
-    → Did (Ok (flow.Enter entry)) now at mid (step p f c) → Went p entry mid d at new → Stands p f a told new d
+    → (Enters entry mid (step p f c) × (at ≡ now)) → Went p entry mid d at new → Stands p f a told new d
 stands_behind {p = p} {f = f} {c = c} {told = told} {now = now} entry mid d at new s did ran =
     let enters = did.0 in
     let b = enters.0 in
@@ -125,7 +126,7 @@ begun_in {p = p} {f = f} {g = g} {t = t} {c = c} {o = o} told now new at first b
     (appends_then_beginning_longer told now new t inner.end.text grown.0 first (begins inner.end inner.leads))
 
 pub beginning_in : {p : Program} {f : Base} {a c : Config} {told now : Option (List ℕ)} (entry : Entry) (mid : Config) (at new : Option (List ℕ)) → Stands p f a told now c
-    → Did (Ok (flow.Enter entry)) now at mid (step p f c) → Begins p (base_in entry mid) (start_in entry mid) at new → Begins p f a told new
+    → (Enters entry mid (step p f c) × (at ≡ now)) → Begins p (base_in entry mid) (start_in entry mid) at new → Begins p f a told new
 beginning_in {p = p} {told = told} {now = now} entry mid at new s did begins = λ o r.
     begun_in told now new did.0.2 s.appended (subst (λ x. Begins p (base_in entry mid) (start_in entry mid) x new) did.1 begins) (s.back o r)
 
@@ -154,7 +155,7 @@ ended_at {p = p} {f = f} {a = a} {c = c} {told = told} {now = now} new why w s e
 
 -- the end of a run whose nested run halted
 pub ended_in : {p : Program} {f : Base} {a c : Config} {told now : Option (List ℕ)} (entry : Entry) (mid : Config) (at new : Option (List ℕ)) (why : Halt) (w : World) → Stands p f a told now c
-    → Did (Ok (flow.Enter entry)) now at mid (step p f c) → HaltsAs why w (EndsIn p entry mid at new) → HaltsAs why w (Comes p f a told new)
+    → (Enters entry mid (step p f c) × (at ≡ now)) → HaltsAs why w (EndsIn p entry mid at new) → HaltsAs why w (Comes p f a told new)
 ended_in {p = p} {f = f} {a = a} {c = c} {told = told} {now = now} entry mid at new why w s did ends = by_halt why ends
   where
     comes : (x : End) → EndsIn p entry mid at new x → Comes p f a told new x
@@ -204,9 +205,9 @@ back_world true r [] w d e = absurd cc
 back_world true r (k ∷ ks) w d e = sym (ap world_in e)
 
 -- behind a nested run there are as many scopes as before it, and they stand where they stood
-pub scopes_behind : {p : Program} {e : Entry} {mid d : Config} {told now : Option (List ℕ)} (limit : ℕ) (f : Base) (old : World) → Depths limit f (Ok (flow.Enter e)) old mid.world
+pub scopes_behind : {p : Program} {e : Entry} {mid d : Config} {told now : Option (List ℕ)} (limit : ℕ) (old : World) → OneDeeper limit e old mid.world
     → Went p e mid d told now → SameScopes old d.world
-scopes_behind {e = e} {mid = mid} {d = d} limit f old deep went =
+scopes_behind {e = e} {mid = mid} {d = d} limit old deep went =
     let back = back_world e.value mid.run went.captures (put_back e.saved went.world) d went.goes in (
       ap (λ (w : World). length w.scopes.frames) back ∙ short went.world.scopes.frames (length old.scopes.frames) (went.closed ∙ deep.0),
       ap (λ (w : World). w.scopes.outer) back ∙ deep.2,
@@ -220,13 +221,20 @@ above_base heard ks first f old new e above stays =
     let then : f.scopes ≤ length new.scopes.frames = stays.0 (omega (arith, base, above)) in
     omega (arith, base, then)
 
+-- what a step gives boxed, taken out
+pub unboxed : {n : Next} (b : Box Entry) (e : Entry) (c : Config) (told now : Option (List ℕ)) → e ≡ b.value → Did (Ok (flow.Enter b)) told now c n → Enters e c n × (now ≡ told)
+unboxed {n = n} b e c told now same did = (subst (λ x. Enters x c n) (sym same) did.0, did.1)
+
+pub deeper : (limit : ℕ) (b : Box Entry) (e : Entry) (old new : World) → e ≡ b.value → OneDeeper limit b.value old new → OneDeeper limit e old new
+deeper limit b e old new same h = subst (λ x. OneDeeper limit x old new) (sym same) h
+
 -- ---------------------------------------------------------------- behind a nested run
 -- a run that was done, and what follows for the one that waited over the same captures and world
 pub went : (p : Program) (e : Entry) (a begun m d : Config) (told now : Option (List ℕ)) → begun ≡ start_in e a
     → Comes p (base_of e.heard begun.captures begun.world) begun told now (Finished m.captures m.world)
-    → length m.world.scopes.frames ≡ length begun.world.scopes.frames
+    → SameScopes begun.world m.world
     → behind e a.run (Finished m.captures m.world) ≡ More [] d → Went p e a d told now
-went p e a begun m d told now first comes same_height goes =
+went p e a begun m d told now first comes same goes =
     let from = subst (λ (c : Config). Comes p (base_of e.heard c.captures c.world) c told now (Finished m.captures m.world)) first comes in
     record {
       text = from.0;
@@ -234,13 +242,13 @@ went p e a begun m d told now first comes same_height goes =
       world = m.world;
       appended = from.1;
       reaches = from.2;
-      closed = same_height ∙ ap (λ (c : Config). length c.world.scopes.frames) first;
+      closed = same.0 ∙ ap (λ (c : Config). length c.world.scopes.frames) first;
       goes = goes;
     }
 
 -- behind what was put back, the scopes lie at most one less deep
-pub put_back_deep : (old w : World) (saved : Saved) → saved.outer ≡ old.scopes.outer → length w.scopes.frames ≡ length old.scopes.frames → depth old.scopes ≤ depth (put_back saved w).scopes + 1
-put_back_deep old w saved outer same = by_frames w.scopes.frames same
+pub put_back_deep : (old w : World) (saved : Saved) → saved.outer ≡ old.scopes.outer → SameScopes old w → depth old.scopes ≤ depth (put_back saved w).scopes + 1
+put_back_deep old w saved outer same = by_frames w.scopes.frames same.0
   where
     by_frames : (xs : List Scope) → length xs ≡ length old.scopes.frames → depth old.scopes ≤ length (without_first xs) + saved.outer + 1
     by_frames [] e = omega (arith, e, outer)

@@ -1,8 +1,13 @@
 -- What instructions of each kind did, as what every step says.
 use Rattle.std.specs.Prelude.{get_or}
-use Rattle.std.proofs.Common.{◌≡◌, ◌<◌, ℕ, zero, suc, List, [], ◌∷◌, Option, Some, Result, Ok, Err, ◌≤◌, refl, sym, ◌∙◌, ap, subst, arith, length, slice_get}
+use Rattle.std.proofs.Common.{◌≡◌, ◌<◌, ℕ, zero, suc, List, [], ◌∷◌, ◌+◌, ◌&&◌, Bool, true, false, None, Option, Some, Result, Ok, Err, refl, sym, ◌∙◌, ap, subst, arith, length, slice_get}
+use Rattle.std.specs.Global.{Box}
 use Rattle.std.specs.Io.KnownBytes.{Appends}
-use Rattle.tm_meaning.specs.Machine.{Config, Next, More, Program, after, with_world}
+use Rattle.tm_meaning.specs.Calls.{Call, enter_block, of_block, whole}
+use Rattle.tm_meaning.specs.Instructions.{call_block_of}
+use Rattle.tm_meaning.specs.Machine.{Config, Next, More, Nest, Program, after, asked_in_place, audible, base_of, start, with_world}
+use Rattle.tm_meaning.specs.Meaning.{none_waits}
+use Rattle.tm_meaning.specs.declared.stream.TemplateId.TheVariants.{Own}
 use Rattle.tm_meaning.specs.Steps.{act, effect, pay, step}
 use Rattle.tm_syntax.specs.declared.instruction.Instruction.{Instruction}
 use Rattle.tm_state.specs.Answers.{Keeps}
@@ -11,8 +16,10 @@ use Rattle.tm_meaning.specs.declared.base.Base.{Base}
 use Rattle.tm_parts.proofs.Pieces.{appends_nothing, beginning_nothing}
 use Rattle.tm_parts.specs.declared.halt.Halt.{Halt}
 use Rattle.tm_parts.specs.declared.halt.Halt.TheVariants as halt
-use Rattle.tm_meaning.specs.World.{World, Good}
-use Rattle.tm_vm.specs.Answers.{Depths, Did, Performs, Writes, Silently, Shifts, Needs, SameScopes, Stays, output}
+use Rattle.tm_meaning.specs.World.{World, Good, block_of, choose}
+use Rattle.tm_state.specs.State.{runs_block, saved_of}
+use Rattle.tm_vm.specs.Answers.{Depths, Did, Enters, entered, OneDeeper, Performs, Writes, Silently, Opens, Shifts, Needs, SameScopes, NoFewer, Stays, output}
+use Rattle.tm_vm.specs.declared.flow.Entry.{Entry}
 use Rattle.tm_vm.specs.declared.flow.Flow.{Flow}
 use Rattle.tm_vm.specs.declared.flow.Flow.TheVariants as flow
 
@@ -45,9 +52,36 @@ silent {f = f} {n = n} {old = old} {new = new} {told = told} (Err (halt.Fault ch
   same_stream = s.same_stream;
 }
 
--- one that may open or leave a scope, and does neither
-pub still : {n : Next} {old new : Config} (f : Base) (result : Result Flow Halt) → Silently n old new result → Shifts f n old new result
-still {old = old} {new = new} f result s = record { did = s.did; kept = s.kept; stays = stays f old.world new.world s.same_scopes; same_stream = s.same_stream }
+-- one that may open a scope, and doesn't
+pub still : {n : Next} {old new : Config} (result : Result Flow Halt) → Silently n old new result → Opens n old new result
+still {old = old} {new = new} result s =
+    let same = s.same_scopes.0 in
+    record { did = s.did; kept = s.kept; no_fewer = (omega (arith, same), s.same_scopes.1); same_stream = s.same_stream }
+
+stays_over : (f : Base) (old new : World) → NoFewer old new → Stays f old new
+stays_over f old new more = let long = more.0 in (λ h. omega (arith, h, long), more.1)
+
+pub opened : {limit : ℕ} {f : Base} {n : Next} {old new : Config} {told : Option (List ℕ)} {faults : ℕ} (result : Result Flow Halt) → Opens n old new result
+    → Performs limit f n old new told told faults faults result
+opened {f = f} {n = n} {old = old} {new = new} {told = told} (Ok flow.GoOn) s =
+    record { did = nothing_written told s.did; counted = refl; kept = s.kept; depths = stays_over f old.world new.world s.no_fewer; same_stream = s.same_stream }
+opened (Ok flow.Done) s = absurd s.did
+opened (Ok (flow.Enter e)) s = absurd s.did
+opened (Err halt.Writer) s = absurd s.did
+opened {f = f} {n = n} {old = old} {new = new} {told = told} (Err halt.Stuck) s = record {
+  did = (s.did, beginning_nothing told (output n));
+  counted = refl;
+  kept = s.kept;
+  depths = stays_over f old.world new.world s.no_fewer;
+  same_stream = s.same_stream;
+}
+opened {f = f} {n = n} {old = old} {new = new} {told = told} (Err (halt.Fault chain)) s = record {
+  did = (s.did, beginning_nothing told (output n));
+  counted = refl;
+  kept = s.kept;
+  depths = stays_over f old.world new.world s.no_fewer;
+  same_stream = s.same_stream;
+}
 
 pub shifted : {limit : ℕ} {f : Base} {n : Next} {old new : Config} {told : Option (List ℕ)} {faults : ℕ} (result : Result Flow Halt) → Shifts f n old new result
     → Performs limit f n old new told told faults faults result
@@ -76,11 +110,47 @@ needed (Ok flow.Done) s = absurd s.did
 needed {f = f} {old = old} {new = new} (Ok (flow.Enter e)) s = record { did = (s.did, refl); counted = refl; kept = s.kept; depths = s.deepens; same_stream = s.same_stream }
 needed (Err halt.Writer) s = absurd s.did
 needed {f = f} {n = n} {old = old} {new = new} {told = told} (Err halt.Stuck) s =
-    record { did = (s.did, beginning_nothing told (output n)); counted = refl; kept = s.kept; depths = stays f old.world new.world s.deepens; same_stream = s.same_stream }
+    record { did = (s.did, beginning_nothing told (output n)); counted = refl; kept = s.kept; depths = stays_over f old.world new.world s.deepens; same_stream = s.same_stream }
 needed {f = f} {n = n} {old = old} {new = new} {told = told} (Err (halt.Fault chain)) s =
-    record { did = (s.did, beginning_nothing told (output n)); counted = refl; kept = s.kept; depths = stays f old.world new.world s.deepens; same_stream = s.same_stream }
+    record { did = (s.did, beginning_nothing told (output n)); counted = refl; kept = s.kept; depths = stays_over f old.world new.world s.deepens; same_stream = s.same_stream }
 
-pub ruleset kinds = (silent, shifted, wrote, needed)
+-- one that needs a run, which is boxed
+pub boxed : {limit : ℕ} {n : Next} {old new : Config} (e : Entry) (b : Box Entry) → b.value ≡ e → Enters e new n → Keeps old.world new.world → OneDeeper limit e old.world new.world
+    → new.run.stream ≡ old.run.stream → Needs limit n old new (Ok (flow.Enter b))
+boxed {limit = limit} {n = n} {old = old} {new = new} e b same enters kept deeper stream = record {
+  did = subst (λ x. Enters x new n) (sym same) enters;
+  kept = kept;
+  deepens = subst (λ x. OneDeeper limit x old.world new.world) (sym same) deeper;
+  same_stream = stream;
+}
+
+-- a block that is run in place
+same_entry : (e d : Entry) (b : World) (c : Config) → e ≡ d → d.saved ≡ saved_of b → (n : Next) → n ≡ entered d b c → Enters e c n
+same_entry e d b c same saved n at = subst (λ x. Enters x c n) (sym same) (b, saved, at)
+
+chosen : (b : Bool) (x y : Unit {0} → Next) → b ≡ true → choose b x y ≡ x tt
+chosen true x y e = refl
+chosen false x y e = absurd cc
+
+both : (a b : Bool) → a ≡ true → b ≡ true → a && b ≡ true
+both true b d e = e
+both false b d e = absurd cc
+
+pub block_entered : (p : Program) (f : Base) (old : Config) (x : List ℕ) (e : Entry) (new : Config) (w : World) → none_waits old.run.parent ≡ true → audible f old ≡ true
+    → enter_block p.host x old.world ≡ runs_block x old.world w → new ≡ record { run = record old.run { place = old.run.place + 1 }; captures = old.captures; world = w }
+    → e ≡ record { stream = block_of Own x; heard = true; value = false; wrap = None; saved = saved_of old.world }
+    → Enters e new (call_block_of p f x old)
+block_entered p f old x e new w waits heard enters moved is =
+    let d : Entry = record { stream = block_of Own x; heard = true; value = false; wrap = None; saved = saved_of old.world } in
+    let call : Call = record { callee = whole (block_of Own x); undo = of_block old.world; wrap = None } in
+    let mid : Config = record { run = record old.run { place = old.run.place + 1 }; captures = old.captures; world = w } in
+    let goes : call_block_of p f x old ≡ entered d old.world mid =
+    chosen (none_waits old.run.parent && audible f old) _ _ (both _ _ waits heard)
+    ∙ ap (asked_in_place p f old old.run.operands) enters
+    ∙ ap (λ h. Nest (base_of h old.captures w) (start (whole (block_of Own x)) old.captures w) (record { run = mid.run; call = call; value = false })) heard in
+    same_entry e d old.world new is refl (call_block_of p f x old) (goes ∙ ap (entered d old.world) (sym moved))
+
+pub ruleset kinds = (silent, opened, shifted, wrote, needed)
 
 -- ---------------------------------------------------------------- behind a charge
 depths_paid : (limit : ℕ) (f : Base) (result : Result Flow Halt) (left : ℕ) (old new : World) → Depths limit f result (record old { fuel = left }) new → Depths limit f result old new

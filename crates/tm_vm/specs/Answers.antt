@@ -62,23 +62,31 @@ Enters e c n = (b : World) × (e.saved ≡ saved_of b) × (n ≡ entered e b c)
 abbrev pub Did : Result Flow Halt → Option (List ℕ) → Option (List ℕ) → Config → Next → Type 0
 Did (Ok flow.GoOn) told now c n = (n ≡ More (output n) c) × Appends told now (output n)
 Did (Ok flow.Done) told now c n = (n ≡ Over (Finished c.captures c.world)) × (now ≡ told)
-Did (Ok (flow.Enter e)) told now c n = Enters e c n × (now ≡ told)
+Did (Ok (flow.Enter e)) told now c n = Enters e.value c n × (now ≡ told)
 Did (Err why) told now c n = HaltsAs why c.world (λ e. n ≡ Over e) × AppendsBeginning told now (output n)
 
 -- There are as many scopes, and they stand where they stood.
 abbrev pub SameScopes : World → World → Type 0
 SameScopes old new = (length new.scopes.frames ≡ length old.scopes.frames) × (new.scopes.outer ≡ old.scopes.outer)
 
+-- No scope is left, and they stand where they stood.
+abbrev pub NoFewer : World → World → Type 0
+NoFewer old new = (length old.scopes.frames ≤ length new.scopes.frames) × (new.scopes.outer ≡ old.scopes.outer)
+
 -- No scope that stood before the run is left, and they stand where they stood.
 abbrev pub Stays : Base → World → World → Type 0
 Stays f old new = (f.scopes ≤ length old.scopes.frames → f.scopes ≤ length new.scopes.frames) × (new.scopes.outer ≡ old.scopes.outer)
+
+-- There is a scope more, within the limit, for a run that is needed first, behind which they stand where they stood.
+abbrev pub OneDeeper : ℕ → Entry → World → World → Type 0
+OneDeeper limit e old new =
+    (length new.scopes.frames ≡ length old.scopes.frames + 1) × (new.scopes.outer ≡ old.scopes.outer) × (e.saved.outer ≡ old.scopes.outer) × (depth new.scopes ≤ limit)
 
 -- How the scopes lie behind a step: none of before is left; there is one more, within the limit, where a run of its own is needed; and a run that is over has closed what it opened.
 abbrev pub Depths : ℕ → Base → Result Flow Halt → World → World → Type 0
 Depths limit f (Ok flow.GoOn) old new = Stays f old new
 Depths limit f (Ok flow.Done) old new = Stays f old new × (f.scopes ≡ length new.scopes.frames)
-Depths limit f (Ok (flow.Enter e)) old new =
-    (length new.scopes.frames ≡ length old.scopes.frames + 1) × (new.scopes.outer ≡ old.scopes.outer) × (e.saved.outer ≡ old.scopes.outer) × (depth new.scopes ≤ limit)
+Depths limit f (Ok (flow.Enter e)) old new = OneDeeper limit e.value old new
 Depths limit f (Err why) old new = Stays f old new
 
 -- An instruction, or a step, did what its definition says: by its answer, with the writer that had got `told` and has got `now`, and whose count of faults was `faults` and is `count`.
@@ -138,7 +146,14 @@ pub record Silently (n : Next) (old new : Config) (result : Result Flow Halt) : 
   pub same_scopes : SameScopes old.world new.world
   pub same_stream : new.run.stream ≡ old.run.stream
 
--- And of one that opens a scope, or leaves one that the run opened.
+-- And of one that may open a scope, and leaves none.
+pub record Opens (n : Next) (old new : Config) (result : Result Flow Halt) : Type 0 where
+  pub did : Quietly result new n
+  pub kept : Keeps old.world new.world
+  pub no_fewer : NoFewer old.world new.world
+  pub same_stream : new.run.stream ≡ old.run.stream
+
+-- And of one that may leave a scope that the run opened.
 pub record Shifts (f : Base) (n : Next) (old new : Config) (result : Result Flow Halt) : Type 0 where
   pub did : Quietly result new n
   pub kept : Keeps old.world new.world
@@ -149,16 +164,16 @@ pub record Shifts (f : Base) (n : Next) (old new : Config) (result : Result Flow
 abbrev pub Needed : Result Flow Halt → Config → Next → Type 0
 Needed (Ok flow.GoOn) c n = n ≡ More [] c
 Needed (Ok flow.Done) c n = ⊥
-Needed (Ok (flow.Enter e)) c n = Enters e c n
+Needed (Ok (flow.Enter e)) c n = Enters e.value c n
 Needed (Err halt.Writer) c n = ⊥
 Needed (Err halt.Stuck) c n = n ≡ Over (Stuck c.world)
 Needed (Err (halt.Fault chain)) c n = is_want_of_memory chain ≡ false → n ≡ Over (Failed chain c.world)
 
 -- how the scopes lie behind an instruction
 abbrev pub Deepens : ℕ → Result Flow Halt → World → World → Type 0
-Deepens limit (Ok (flow.Enter e)) old new =
-    (length new.scopes.frames ≡ length old.scopes.frames + 1) × (new.scopes.outer ≡ old.scopes.outer) × (e.saved.outer ≡ old.scopes.outer) × (depth new.scopes ≤ limit)
-Deepens limit _ old new = SameScopes old new
+Deepens limit (Ok (flow.Enter e)) old new = OneDeeper limit e.value old new
+Deepens limit (Ok _) old new = SameScopes old new
+Deepens limit (Err why) old new = NoFewer old new
 
 pub record Needs (limit : ℕ) (n : Next) (old new : Config) (result : Result Flow Halt) : Type 0 where
   pub did : Needed result new n

@@ -2,7 +2,7 @@
 ghost use Rattle.std.specs.Prelude.{◌≡◌, ◌∷◌, drop};
 ghost use Rattle.tm_meaning.specs.Machine.{goes};
 ghost use Rattle.tm_meaning.specs.Instructions.{call_function_of, call_method_of, call_block_of, fast_recurse_of};
-ghost use Rattle.tm_vm.specs.Answers.{program, recurses, CanGoOn, Silently, Shifts, Needs};
+ghost use Rattle.tm_vm.specs.Answers.{program, recurses, CanGoOn, Silently, Opens, Needs};
 
 use crate::flow::{Entry, Flow};
 use crate::machine::Machine;
@@ -21,14 +21,13 @@ impl Machine<'_> {
         &mut self,
         alloc: Global,
         host: &H,
-        base: &Base,
         code: &Code,
         name: &Name,
         count: usize,
     ) -> Result<Flow, Halt>
         requires in_place { CanGoOn self.old.run }
         requires its_code { code.now ≡ H.code host.now self.old.run.stream }
-        ensures { Shifts base.now (call_function_of
+        ensures { Opens (call_function_of
             (program (H.meaning host.now) (H.code host.now)) name.now count self.old)
             self.old self.new result }
     {
@@ -40,7 +39,7 @@ impl Machine<'_> {
             Ok(Outcome::Recursion(recursion)) => {
                 self.run.drop_operands(count);
                 self.captures.begin(alloc, CaptureMode::Capture)?;
-                self.recurse(alloc, host, base, code, recursion, true)
+                self.recurse(alloc, host, code, recursion, true)
             }
             Err(fault) => Err(Halt::Fault(fault)),
         }
@@ -56,7 +55,7 @@ impl Machine<'_> {
     ) -> Result<Flow, Halt>
         requires in_place { CanGoOn self.old.run }
         requires its_code { code.now ≡ H.code host.now self.old.run.stream }
-        ensures { Shifts base.now (fast_recurse_of
+        ensures { Opens (fast_recurse_of
             (program (H.meaning host.now) (H.code host.now)) base.now self.old)
             self.old self.new result }
     {
@@ -64,7 +63,7 @@ impl Machine<'_> {
             return Err(Halt::Stuck);
         };
         match self.state.call_innermost(alloc, host, &value) {
-            Ok(recursion) => self.recurse(alloc, host, base, code, recursion, false),
+            Ok(recursion) => self.recurse(alloc, host, code, recursion, false),
             Err(error) => Err(Halt::Fault(error)),
         }
     }
@@ -74,18 +73,16 @@ impl Machine<'_> {
         &mut self,
         alloc: Global,
         host: &H,
-        base: &Base,
         code: &Code,
         called: Recursion,
         value: bool,
     ) -> Result<Flow, Halt>
         requires in_place { CanGoOn self.old.run }
         requires its_code { code.now ≡ H.code host.now self.old.run.stream }
-        ensures { Shifts base.now (recurses
+        ensures { Opens (recurses
             (program (H.meaning host.now) (H.code host.now)) called value self.old)
             self.old self.new result }
     {
-        let _scopes = base.scopes;
         let Recursion { number, items } = called;
         let Some(found) = code.loop_place(number) else {
             return Err(Halt::Fault(Error::from(ErrorKind::InvalidOperation)));
@@ -146,6 +143,7 @@ impl Machine<'_> {
     }
 
     /// Runs the block of a name in place, where it is heard and no parent waits.
+    #[inline(never)]
     pub(crate) fn do_call_block<H: Host>(
         &mut self,
         alloc: Global,
@@ -167,13 +165,15 @@ impl Machine<'_> {
             Ok(entered) => entered,
             Err(error) => return Err(Halt::Fault(error)),
         };
-        self.run.advance();
-        Ok(Flow::Enter(Entry {
+        let entry = Entry {
             stream,
             heard,
             value: false,
             wrap: None,
             saved,
-        }))
+        };
+        let entry = entry.boxed(alloc)?;
+        self.run.advance();
+        Ok(Flow::Enter(entry))
     }
 }

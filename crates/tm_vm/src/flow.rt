@@ -1,6 +1,10 @@
 //! Where a run goes on behind a step.
+ghost use Rattle.std.specs.Prelude.{◌≡◌, [], ◌∷◌, IfOk, IfErr};
+
+use std::alloc::Global;
 use tm_meaning::{StreamId, Wrapping};
 use tm_state::Saved;
+use tm_values::{Error, ErrorKind};
 
 /// A run that an instruction needs before the next.
 #[derive(Drop)]
@@ -17,13 +21,23 @@ pub struct Entry {
     pub saved: Saved,
 }
 
+impl Entry {
+    /// This, boxed; OutOfMemory where there is no memory for it.
+    pub(crate) fn boxed(self, alloc: Global) -> Result<Box<Entry>, Error>
+        ensures ok { IfOk result (λ boxed. boxed.value ≡ self) }
+        ensures kind { IfErr result (λ e. e ≡ ErrorKind.OutOfMemory ∷ []) }
+    {
+        Ok(Box::new(alloc, self)?)
+    }
+}
+
 /// Where a run goes on behind a step.
 #[derive(Drop)]
 pub enum Flow {
     /// At its place.
     GoOn,
-    /// Behind a run that is needed first.
-    Enter(Entry),
+    /// Behind a run that is needed first. Boxed, since each step hands its answer on.
+    Enter(Box<Entry>),
     /// Nowhere: its stream is at the end.
     Done,
 }

@@ -1,7 +1,7 @@
 //! The instructions of loops.
 ghost use Rattle.std.specs.Prelude.{◌≡◌};
 ghost use Rattle.tm_meaning.specs.Instructions.{push_loop_of, iterate_of, push_did_not_iterate_of, pop_loop_frame_of, returns};
-ghost use Rattle.tm_vm.specs.Answers.{program, resumed, CanGoOn, Silently, Shifts};
+ghost use Rattle.tm_vm.specs.Answers.{program, resumed, CanGoOn, Silently, Opens, Shifts};
 
 use crate::flow::Flow;
 use crate::machine::Machine;
@@ -20,17 +20,15 @@ impl Machine<'_> {
         &mut self,
         alloc: Global,
         host: &H,
-        base: &Base,
         code: &Code,
         flags: LoopFlags,
     ) -> Result<Flow, Halt>
         requires in_place { CanGoOn self.old.run }
         requires its_code { code.now ≡ H.code host.now self.old.run.stream }
-        ensures { Shifts base.now
+        ensures { Opens
             (push_loop_of (program (H.meaning host.now) (H.code host.now)) flags self.old)
             self.old self.new result }
     {
-        let _scopes = base.scopes;
         let number = code.loop_number(self.run.place);
         let Some(value) = self.run.pop() else {
             return Err(Halt::Stuck);

@@ -1,10 +1,10 @@
 //! The machine: a run with its operands, the captures and the state, and the loop.
-ghost use Rattle.std.specs.Prelude.{◌≡◌, ◌+◌, ◌≤◌, OnOk, OnErr, length};
+ghost use Rattle.std.specs.Prelude.{◌≡◌, ◌+◌, ◌≤◌, OnOk, OnErr};
 ghost use Rattle.tm_meaning.specs.World.{depth};
 ghost use Rattle.tm_meaning.specs.Calls.{whole};
 ghost use Rattle.tm_meaning.specs.Machine.{audible, base_of, start};
 ghost use Rattle.tm_parts.specs.Halts.{faults_after};
-ghost use Rattle.tm_vm.specs.Answers.{program, EndsAs, Comes};
+ghost use Rattle.tm_vm.specs.Answers.{program, EndsAs, Comes, SameScopes};
 ghost use Rattle.tm_state.specs.Answers.{Keeps};
 ghost use Rattle.tm_state.specs.State.{put_back};
 ghost use Rattle.tm_vm.specs.Nested.{Ran, Begins, IsWrapped, IsCaptured, base_in, start_in};
@@ -224,8 +224,7 @@ impl<'env> Machine<'env> {
         ensures faults { W.faults writer.new ≡ faults_after result (W.faults writer.old) }
         ensures kept { Keeps self.old.world self.new.world }
         ensures no_shallower { depth self.old.world.scopes ≤ depth self.new.world.scopes }
-        ensures closed { OnOk result
-            (length self.new.world.scopes.frames ≡ length self.old.world.scopes.frames) }
+        ensures closed { OnOk result (SameScopes self.old.world self.new.world) }
     {
         let base = self.base(heard);
         let code = self.code(host);
@@ -233,7 +232,12 @@ impl<'env> Machine<'env> {
             match self.step(alloc, host, &base, code, writer) {
                 Ok(Flow::GoOn) => {}
                 Ok(Flow::Enter(entry)) => {
-                    if let Err(halt) = self.run_nested(alloc, host, entry, writer) {
+                    if let Err(halt) = self.run_nested(
+                        alloc,
+                        host,
+                        Box::into_inner(entry),
+                        writer,
+                    ) {
                         return Err(halt);
                     }
                 }

@@ -1,6 +1,6 @@
 //! The instructions of scopes and targets.
 ghost use Rattle.tm_meaning.specs.Instructions.{store_local_of, unpack_list_of, set_attr_of, push_with_of, pop_frame_of};
-ghost use Rattle.tm_vm.specs.Answers.{CanGoOn, Silently, Shifts};
+ghost use Rattle.tm_vm.specs.Answers.{CanGoOn, Silently, Opens, Shifts};
 
 use crate::flow::Flow;
 use crate::machine::Machine;
@@ -64,17 +64,10 @@ impl Machine<'_> {
     }
 
     /// Opens a scope; InvalidOperation where it would lie deeper than the limit.
-    pub(crate) fn do_push_with<H: Host>(
-        &mut self,
-        alloc: Global,
-        host: &H,
-        base: &Base,
-    ) -> Result<Flow, Halt>
+    pub(crate) fn do_push_with<H: Host>(&mut self, alloc: Global, host: &H) -> Result<Flow, Halt>
         requires { CanGoOn self.old.run }
-        ensures { Shifts base.now (push_with_of (H.meaning host.now) self.old)
-            self.old self.new result }
+        ensures { Opens (push_with_of (H.meaning host.now) self.old) self.old self.new result }
     {
-        let _scopes = base.scopes;
         match self.state.push_scope(alloc, host.recursion_limit()) {
             Ok(()) => {
                 self.run.advance();

@@ -75,7 +75,7 @@ impl Machine<'_> {
             Instruction::JumpIfFalseOrPop(place) => self.jump_or_pop(host, *place, false),
             Instruction::JumpIfTrueOrPop(place) => self.jump_or_pop(host, *place, true),
             Instruction::CallFunction(name, count) => {
-                self.do_call_function(alloc, host, base, code, name, *count)
+                self.do_call_function(alloc, host, code, name, *count)
             }
             Instruction::CallMethod(name, count) => {
                 self.do_call_method(alloc, host, name, *count)
@@ -85,9 +85,9 @@ impl Machine<'_> {
             Instruction::StoreLocal(name) => self.do_store_local(name),
             Instruction::UnpackList(count) => self.do_unpack_list(alloc, *count),
             Instruction::SetAttr(name) => self.do_set_attr(alloc, name),
-            Instruction::PushWith => self.do_push_with(alloc, host, base),
+            Instruction::PushWith => self.do_push_with(alloc, host),
             Instruction::PopFrame => self.do_pop_frame(base),
-            Instruction::PushLoop(flags) => self.do_push_loop(alloc, host, base, code, *flags),
+            Instruction::PushLoop(flags) => self.do_push_loop(alloc, host, code, *flags),
             Instruction::Iterate(place) => self.do_iterate(*place),
             Instruction::PushDidNotIterate => self.do_push_did_not_iterate(),
             Instruction::PopLoopFrame => self.do_pop_loop_frame(alloc, base),

@@ -1,9 +1,10 @@
-use Rattle.std.proofs.Common.{◌≡◌, length, Ok, Err, refl, ap, ◌∙◌, arith}
+use Rattle.std.proofs.Common.{◌≡◌, length, Ok, Err, refl, sym, ap, ◌∙◌, arith}
+use Rattle.tm_meaning.specs.declared.base.Base.{Base}
 use Rattle.tm_meaning.specs.Machine.{Config, base_of}
 use Rattle.tm_meaning.specs.World.{depth}
 use Rattle.tm_vm.specs.Answers.{program}
 use Rattle.tm_vm.specs.declared.flow.Flow.TheVariants as flow
-use Rattle.tm_vm.proofs.Loop.{at_base, kept_same, kept_then, stands_first, stands_next, stands_behind, beginning_at, beginning_in, ended_at, ended_in, done_at, whole_at, wrapped_ends, scopes_behind, above_base}
+use Rattle.tm_vm.proofs.Loop.{at_base, kept_same, kept_then, stands_first, stands_next, stands_behind, beginning_at, beginning_in, ended_at, ended_in, done_at, whole_at, wrapped_ends, scopes_behind, above_base, unboxed, deeper}
 use Rattle.tm_vm.proofs.Weight.{less_behind}
 use Rattle.tm_vm.proofs.machine.Machine.+machine.Goals as goal
 
@@ -46,18 +47,19 @@ run-loop-entry-preserved g t c =
     let now = g.W.Sink.told c.loop-entry.writer in
     let at = g.W.Sink.told c.step.new.writer in
     let new = g.W.Sink.told c.run_nested.new.writer in
-    let e = c.in-Ok-Enter.entry in
+    let e = c.into_inner.result in
     let step = rw c.in-Ok-Enter.field-0-is at c.in-Ok-Enter.ensures.performs in
-    let did = at_base p c.loop-entry.self c.step.new.self now at (Ok (flow.Enter e)) c.base-base.result (base_of c.args.heard a.captures a.world) c.base-base.ensures step.did in
+    let did = at_base p c.loop-entry.self c.step.new.self now at (Ok (flow.Enter c.in-Ok-Enter.entry)) c.base-base.result (base_of c.args.heard a.captures a.world) c.base-base.ensures step.did in
+    let enters = unboxed c.in-Ok-Enter.entry e c.step.new.self now at c.into_inner.ensures did in
     let went = c.in_default.ensures.ran in
-    let same = scopes_behind limit c.base-base.result c.loop-entry.self.world step.depths went in
+    let same = scopes_behind limit c.loop-entry.self.world (deeper limit c.in-Ok-Enter.entry e c.loop-entry.self.world c.step.new.self.world c.into_inner.ensures step.depths) went in
     record {
       faults = c.in_default.ensures.faults ∙ step.counted ∙ c.loop-entry.invariant.faults;
       kept = kept_then c.loop-entry.invariant.kept (kept_then step.kept c.in_default.ensures.kept);
       above = omega (arith, same.0, c.loop-entry.invariant.above);
       same_outer = same.1 ∙ c.loop-entry.invariant.same_outer;
       same_stream = c.in_default.ensures.same_stream ∙ step.same_stream ∙ c.loop-entry.invariant.same_stream;
-      stands = stands_behind e c.step.new.self c.run_nested.new.self at new c.loop-entry.invariant.stands did went;
+      stands = stands_behind e c.step.new.self c.run_nested.new.self at new c.loop-entry.invariant.stands enters went;
     }
 
 pub run-loop-entry-smaller : goal.run-loop-entry-smaller
@@ -72,10 +74,11 @@ run-returns-in-Err-run_nested-clause-ended g t c =
     let now = g.W.Sink.told c.loop-entry.writer in
     let at = g.W.Sink.told c.step.new.writer in
     let new = g.W.Sink.told c.run_nested.new.writer in
-    let e = c.in-Ok-Enter.entry in
+    let e = c.into_inner.result in
     let step = rw c.in-Ok-Enter.field-0-is at c.in-Ok-Enter.ensures.performs in
-    let did = at_base p c.loop-entry.self c.step.new.self now at (Ok (flow.Enter e)) c.base-base.result (base_of c.args.heard a.captures a.world) c.base-base.ensures step.did in
-    ended_in e c.step.new.self at new c.in-Err-run_nested.halt c.run_nested.new.self.world c.loop-entry.invariant.stands did c.in-Err-run_nested.ensures.ran
+    let did = at_base p c.loop-entry.self c.step.new.self now at (Ok (flow.Enter c.in-Ok-Enter.entry)) c.base-base.result (base_of c.args.heard a.captures a.world) c.base-base.ensures step.did in
+    let enters = unboxed c.in-Ok-Enter.entry e c.step.new.self now at c.into_inner.ensures did in
+    ended_in e c.step.new.self at new c.in-Err-run_nested.halt c.run_nested.new.self.world c.loop-entry.invariant.stands enters c.in-Err-run_nested.ensures.ran
 
 pub run-returns-in-Err-run_nested-clause-beginning : goal.run-returns-in-Err-run_nested-clause-beginning
 run-returns-in-Err-run_nested-clause-beginning g t c =
@@ -84,10 +87,11 @@ run-returns-in-Err-run_nested-clause-beginning g t c =
     let now = g.W.Sink.told c.loop-entry.writer in
     let at = g.W.Sink.told c.step.new.writer in
     let new = g.W.Sink.told c.run_nested.new.writer in
-    let e = c.in-Ok-Enter.entry in
+    let e = c.into_inner.result in
     let step = rw c.in-Ok-Enter.field-0-is at c.in-Ok-Enter.ensures.performs in
-    let did = at_base p c.loop-entry.self c.step.new.self now at (Ok (flow.Enter e)) c.base-base.result (base_of c.args.heard a.captures a.world) c.base-base.ensures step.did in
-    beginning_in e c.step.new.self at new c.loop-entry.invariant.stands did c.in-Err-run_nested.ensures.beginning
+    let did = at_base p c.loop-entry.self c.step.new.self now at (Ok (flow.Enter c.in-Ok-Enter.entry)) c.base-base.result (base_of c.args.heard a.captures a.world) c.base-base.ensures step.did in
+    let enters = unboxed c.in-Ok-Enter.entry e c.step.new.self now at c.into_inner.ensures did in
+    beginning_in e c.step.new.self at new c.loop-entry.invariant.stands enters c.in-Err-run_nested.ensures.beginning
 
 pub run-returns-in-Ok-Done-clause-ended : goal.run-returns-in-Ok-Done-clause-ended
 run-returns-in-Ok-Done-clause-ended g t c =
@@ -103,6 +107,12 @@ pub run-returns-in-Ok-Done-clause-beginning : goal.run-returns-in-Ok-Done-clause
 run-returns-in-Ok-Done-clause-beginning g t c =
     let step = rw c.in-Ok-Done.field-0-is at c.in-Ok-Done.ensures.performs in
     whole_at (g.W.Sink.told c.step.new.writer) c.loop-entry.invariant.stands step.did.1
+
+pub run-returns-in-Ok-Done-clause-closed : goal.run-returns-in-Ok-Done-clause-closed
+run-returns-in-Ok-Done-clause-closed g t c =
+    let step = rw c.in-Ok-Done.field-0-is at c.in-Ok-Done.ensures.performs in
+    let base = ap (λ (b : Base). b.scopes) c.base-base.ensures in
+    (sym step.depths.1 ∙ base, step.depths.0.1 ∙ c.loop-entry.invariant.same_outer)
 
 pub run-returns-in-Err-clause-ended : goal.run-returns-in-Err-clause-ended
 run-returns-in-Err-clause-ended g t c =
