@@ -1,16 +1,15 @@
 -- What a result, an outcome or a step is followed by, on the way to an end.
-use Rattle.std.proofs.Common.{◌≡◌, ℕ, zero, suc, ◌+◌, ◌<◌, ◌⊎◌, inl, inr, List, [], ◌∷◌, ◌++◌, length, Option, Some, None, Bool, true, false, refl, sym, subst, ap, ◌∙◌, arith, length-append}
+use Rattle.std.proofs.Common.{◌≡◌, ℕ, ◌+◌, List, [], ◌∷◌, Option, Some, Bool, true, false, refl, sym, subst}
 use Rattle.std.proofs.lemmas.List.{append-nil}
 use Rattle.std.specs.Prelude.{slice_get}
 use Rattle.tm_values.specs.Val.{Val}
 use Rattle.tm_values.specs.declared.error.ErrorKind.{ErrorKind}
 use Rattle.tm_syntax.specs.declared.instruction.Instruction.{Instruction}
 use Rattle.tm_syntax.specs.declared.instruction.LoopFlags.{LoopFlags}
-use Rattle.tm_syntax.specs.Code.{for_flags}
 use Rattle.tm_meaning.specs.World.{choose, World, Scope, Res, Good, Bad, bind, tick, pop, loop_scope}
 use Rattle.tm_meaning.specs.Meaning.{Run, Outcome, Ending, done, leave, next, fault, ended, so_far, use_it, then_do, closing_by, closing, captured_by, captured, round_end}
 use Rattle.tm_simulation.proofs.Keeps.{Kept, within, one_more, mark_behind, recorded, opened, Gives, EndsBy as EndsKept, Ends as KeptEnds}
-use Rattle.tm_meaning.specs.Machine.{Capture, Activation, Config, Failed, Next, More, Program, after, goes, jumps}
+use Rattle.tm_meaning.specs.Machine.{Capture, Activation, Config, Failed, Next, More, Program, after, goes}
 use Rattle.tm_meaning.specs.Steps.{act, step, Final, final, Leads, over, more}
 use Rattle.tm_meaning.specs.declared.stream.TemplateId.{TemplateId}
 use Rattle.tm_meaning.specs.declared.base.Base.{Base}
@@ -135,9 +134,9 @@ do_then r b run w o g D L N K e h k =
 
 -- what runs in a scope more, where there is room for it
 pub within_then : (r : Final) (b : Bed) (w : World) (s : Scope) (room : Bool) (run : Run) (out : List ℕ) (g : Unit {0} → World → Outcome) (D L N : Then) (K : World → Type 0) →
-    Ends r b (use_it (one_more room s w) run out g) D L N → (Ends r b (g tt (within s w)) D L N → K (within s w)) → Follows r (told_by b out) (one_more room s w) (λ _ world1. K world1)
+    Ends r b (use_it (one_more room s w) run out g) D L N → (room ≡ true → Ends r b (g tt (within s w)) D L N → K (within s w)) → Follows r (told_by b out) (one_more room s w) (λ _ world1. K world1)
 unfolding Ends
-within_then r b w s true run out g D L N K h k = k h
+within_then r b w s true run out g D L N K h k = k refl h
 within_then r b w s false run out g D L N K h k = h
 
 -- what follows once something is closed
@@ -250,17 +249,17 @@ round_then r b run o g D L N h = round_by r b run o.ending o.parent o.text o.wor
 
 -- a loop opened, where there is room for its scope
 pub opened_then : (r : Final) (b : Bed) (g0 : LoopFlags) (n : ℕ) (w : World) (vs : List Val) (room : Bool) (run : Run) (out : List ℕ) (g : Unit {0} → World → Outcome) (D L N : Then) (K : World → Type 0) →
-    Ends r b (use_it (bind (one_more room (loop_scope (mark_behind g0 w)) w) (λ _ world1. recorded g0 n vs w world1)) run out g) D L N → (Ends r b (g tt (opened g0 n w vs)) D L N → K (opened g0 n w vs)) →
+    Ends r b (use_it (bind (one_more room (loop_scope (mark_behind g0 w)) w) (λ _ world1. recorded g0 n vs w world1)) run out g) D L N → (room ≡ true → Ends r b (g tt (opened g0 n w vs)) D L N → K (opened g0 n w vs)) →
     Follows r (told_by b out) (bind (one_more room (loop_scope (mark_behind g0 w)) w) (λ _ world1. recorded g0 n vs w world1)) (λ _ world1. K world1)
 unfolding Ends
-opened_then r b g0 n w vs true run out g D L N K h k = k h
+opened_then r b g0 n w vs true run out g D L N K h k = k refl h
 opened_then r b g0 n w vs false run out g D L N K h k = h
 
 -- the same before values
 pub opened_follows : {A : Type 0} (r : Final) (t : List ℕ) (g : LoopFlags) (n : ℕ) (w : World) (vs : List Val) (room : Bool) (rest : World → Res A) (K : A → World → Type 0) (L : World → Type 0) →
-    Follows r t (bind (bind (one_more room (loop_scope (mark_behind g w)) w) (λ _ world1. recorded g n vs w world1)) (λ _ x. rest x)) K → (Follows r t (rest (opened g n w vs)) K → L (opened g n w vs)) →
+    Follows r t (bind (bind (one_more room (loop_scope (mark_behind g w)) w) (λ _ world1. recorded g n vs w world1)) (λ _ x. rest x)) K → (room ≡ true → Follows r t (rest (opened g n w vs)) K → L (opened g n w vs)) →
     Follows r t (bind (one_more room (loop_scope (mark_behind g w)) w) (λ _ world1. recorded g n vs w world1)) (λ _ world1. L world1)
-opened_follows r t g n w vs true rest K L h k = k h
+opened_follows r t g n w vs true rest K L h k = k refl h
 opened_follows r t g n w vs false rest K L h k = h
 
 module _ (p : Program) (f : Base) (r : Final) where

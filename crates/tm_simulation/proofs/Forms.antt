@@ -1,11 +1,10 @@
 -- What is written, and runs that are nested, in place and as a value.
-use Rattle.std.proofs.Common.{◌≡◌, ℕ, zero, suc, ◌+◌, ◌<◌, ◌≤◌, ◌⊎◌, inl, inr, List, [], ◌∷◌, ◌++◌, length, nat_lt, Option, Some, None, Bool, true, false, refl, sym, subst, ap, ◌∙◌, arith, lt-ltb, le-ltb}
-use Rattle.std.specs.Prelude.{◌&&◌}
+use Rattle.std.proofs.Common.{◌≡◌, ℕ, suc, ◌+◌, ◌<◌, ◌≤◌, ◌⊎◌, inl, inr, List, [], ◌∷◌, ◌++◌, length, nat_lt, Option, Bool, true, false, refl, sym, subst, arith, lt-ltb, le-ltb}
 use Rattle.tm_values.specs.Val.{Val}
-use Rattle.tm_meaning.specs.World.{choose, World, Res, Good, Bad, captured_text}
-use Rattle.tm_meaning.specs.Calls.{Callee, Call, undone, wrapped, Asked, has, refused, runs}
-use Rattle.tm_meaning.specs.Meaning.{Run, Outcome, Ending, done, leave, next, fault, Under, none_waits, so_far, audible as heard_here, say, behind, in_place_of, value_behind, value_of, capturing}
-use Rattle.tm_meaning.specs.Machine.{Capture, Activation, Config, Finished, Failed, Back, Next, More, Nest, Program, audible, put_in, put_out, writes, back_to, back_with, base_of, start, waiting, new_capture, pushed, asked, asked_in_place, nested_in_place, nested_as_value}
+use Rattle.tm_meaning.specs.World.{choose, World, captured_text}
+use Rattle.tm_meaning.specs.Calls.{Callee, Call, undone, wrapped, runs}
+use Rattle.tm_meaning.specs.Meaning.{Run, Outcome, Ending, done, leave, next, fault, Under, audible as heard_here, say, behind, in_place_of, value_behind, value_of, capturing}
+use Rattle.tm_meaning.specs.Machine.{Activation, Finished, Failed, Back, More, Nest, Program, audible, put_in, put_out, writes, back_to, base_of, start, waiting, pushed, nested_in_place, nested_as_value}
 use Rattle.tm_meaning.specs.Steps.{step, Final, final, Leads, over, more, nest}
 use Rattle.tm_simulation.proofs.Follow.{Bed, air, inside, captured_in, captures_of, told_by, Spot, told, cfg, later, Follows, Then, Ends, whole_of, so_far_then, fault_then, Go, silent}
 use Rattle.tm_meaning.specs.declared.stream.TemplateId.{TemplateId}

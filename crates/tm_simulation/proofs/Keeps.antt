@@ -1,6 +1,6 @@
 -- What statements keep, whatever they do: the scopes' loops, how deep the outermost scope lies, and the records of loops that were there. A fault leaves them as they are then.
-use Rattle.std.proofs.Common.{◌≡◌, ℕ, zero, suc, ◌+◌, ◌<◌, List, [], ◌∷◌, length, Option, Some, None, Bool, true, false, Ok, Err, nat_lt, ◌++◌, refl, sym, subst, ap, ◌∙◌, arith, ltb-true, append_assoc, length-append, ◌≤◌}
-use Rattle.std.specs.Prelude.{slice_get, get_or, not, ◌&&◌, codes, if◌then◌else◌}
+use Rattle.std.proofs.Common.{◌≡◌, ℕ, zero, suc, ◌+◌, List, [], ◌∷◌, length, Option, Some, None, Bool, true, false, Ok, Err, nat_lt, ◌++◌, refl, sym, subst, ap, ◌∙◌, arith, ltb-true, append_assoc, ◌≤◌}
+use Rattle.std.specs.Prelude.{slice_get, not, ◌&&◌, codes, if◌then◌else◌}
 use Rattle.std.proofs.lemmas.List.{append-nil}
 use Rattle.tm_values.specs.Answer.{Answer}
 use Rattle.tm_values.specs.Val.{Val, undefined, function, none, boolean, number, text, list, map, keywords, exports, macro, loop, namespace}
@@ -28,12 +28,12 @@ use Rattle.tm_meaning.specs.Tree.{Body}
 use Rattle.tm_syntax.specs.Forms.{unary, chained, conditional, condition, comparison, pair, plain, keyword, item, slice, binary, compare, and_then, or_else}
 use Rattle.tm_definitions.specs.Maps.{dict_of, namespace_of}
 use Rattle.tm_definitions.specs.Members.{settable}
-use Rattle.tm_meaning.specs.World.{choose, find, same_name, block_of, with_frames, World, Host, Scopes, Scope, Loop, loop_scope, new_loop, open_loop, innermost, turned, turned_at, turned_of, top_mark, next_turn, without_locals, cleared, top_loop, items_over, Res, Good, Bad, bind, need, check, answered, charged, with_fuel, tick, push, pop, depth, without_first, emitted, looked_up, lookup, Function, callers, languages, Reply, gives, faults, stored_in, store, records_of, with_member, set_member, escape_for, with_escape, captured_text, plain as plain_scope}
-use Rattle.tm_meaning.specs.Calls.{Callee, whole, Call, Undo, of_block, undone, wrapped, Asked, has, refused, runs, recurs, ask, same_stream, wrapped_as, call_loop, call_innermost, one_argument, call_found, enter_block, call_named, call_value, call_method, loop_method, method_in, of_loop, record_at, keeping_at, is_changed, call_by, given_by, replied, required_alone}
+use Rattle.tm_meaning.specs.World.{choose, find, same_name, block_of, with_frames, World, Host, Scopes, Scope, Loop, loop_scope, new_loop, innermost, turned_at, turned_of, top_mark, next_turn, without_locals, cleared, items_over, Res, Good, Bad, bind, need, check, answered, charged, with_fuel, tick, pop, depth, without_first, emitted, looked_up, lookup, Function, callers, languages, Reply, gives, faults, stored_in, store, records_of, with_member, set_member, escape_for, with_escape, captured_text, plain as plain_scope}
+use Rattle.tm_meaning.specs.Calls.{Callee, whole, Call, of_block, undone, wrapped, Asked, has, refused, runs, recurs, ask, same_stream, wrapped_as, call_loop, call_innermost, one_argument, call_found, enter_block, call_named, call_value, call_method, loop_method, method_in, of_loop, record_at, keeping_at, is_changed, call_by, given_by, replied, required_alone}
 use Rattle.tm_meaning.specs.declared.function.GlobalFunction.{GlobalFunction}
 use Rattle.tm_meaning.specs.declared.function.GlobalFunction.TheVariants as own
 use Rattle.tm_meaning.specs.declared.mark.LoopMark.{LoopMark}
-use Rattle.tm_meaning.specs.Meaning.{Again, over, under, again_in, again_of, turn_of, text_behind, Run, Outcome, Ending, done, leave, next, fault, Nests, Under, use_it, then_do, on_done, so_far, ended, say, audible, none_waits, value_of, value_behind, in_place_of, behind, block_tag, truth, applied_unary, operated, applied, attribute, eval, eval_all, eval_pair, eval_pairs, eval_argument, eval_arguments, eval_keyword, eval_keywords, eval_named, one_counted, kept, loop_items, eval_condition, eval_conditions, eval_step, eval_links, eval_steps, assign, assign_all, set_to, set_each, closing_by, closing, capturing, captured_by, captured, round_end, rounds, loop_over, has_none, exec_behind_loop, done_by, emit, behind_first, exec, execs, exec_else, at_end, new_run, nests_of, rendered}
+use Rattle.tm_meaning.specs.Meaning.{over, under, again_in, again_of, turn_of, text_behind, Run, Outcome, Ending, done, leave, next, fault, Nests, Under, use_it, then_do, so_far, ended, say, audible, value_of, value_behind, in_place_of, behind, block_tag, truth, applied_unary, operated, applied, eval, eval_all, eval_pair, eval_pairs, eval_argument, eval_arguments, eval_keyword, eval_keywords, eval_named, one_counted, kept, loop_items, eval_condition, eval_conditions, eval_step, eval_links, eval_steps, assign, assign_all, set_to, set_each, closing_by, closing, capturing, captured_by, captured, round_end, rounds, loop_over, has_none, exec_behind_loop, done_by, emit, behind_first, exec, execs, exec_else, at_end, new_run, nests_of, rendered}
 use Rattle.tm_simulation.specs.Kept.{Keeps, KeptBy}
 use Rattle.tm_meaning.specs.Tree.{Trees}
 use Rattle.tm_meaning.specs.declared.stream.TemplateId.{TemplateId}

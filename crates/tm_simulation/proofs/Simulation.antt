@@ -1,5 +1,5 @@
 -- The code of trees comes to what the trees mean.
-use Rattle.std.proofs.Common.{le-ltb, ◌≡◌, ℕ, zero, suc, ◌+◌, ◌<◌, ◌≤◌, ◌⊎◌, inl, inr, List, [], ◌∷◌, ◌++◌, length, Option, Some, None, Bool, true, false, refl, sym, ap, ◌∙◌, subst, arith, length-append, eq-eqb, lt-ltb, eqb-true}
+use Rattle.std.proofs.Common.{◌≡◌, ℕ, zero, suc, ◌+◌, ◌<◌, ◌≤◌, ◌⊎◌, inl, inr, List, [], ◌∷◌, ◌++◌, length, Option, Some, None, Bool, true, false, refl, sym, ap, ◌∙◌, subst, arith, length-append, eq-eqb, lt-ltb, ltb-true, eqb-true}
 use Rattle.std.specs.Prelude.{ℤ, pos, slice_get, ◌&&◌, nat_eq, nat_lt, ◌==◌, cond, Ok, Err}
 use Rattle.std.proofs.lemmas.List.{append-nil}
 use Rattle.std.proofs.lemmas.Option.{slice_get_past}
@@ -30,23 +30,23 @@ use Rattle.tm_syntax.specs.declared.instruction.Instruction.TheVariants as i
 use Rattle.tm_syntax.specs.Forms.{unary, chained, conditional, condition, comparison, pair, plain, keyword, item, slice, binary, compare, and_then, or_else}
 use Rattle.tm_syntax.specs.Code.{expr_code, condition_code, conditions_code, exprs_code, pair_code, pairs_code, argument_code, arguments_code, keyword_code, keywords_code, named_code, count_keywords, together, filter_code, iterable_code, filter_flags, step_code, links_code, steps_code, count, count_exprs, count_pairs, unary_code, binary_code, count_targets, target_code, targets_code, set_code, assignments_code, Opened, a_scope, an_escape, a_capture, Inside, outside, opening, close_all, for_flags, statement_code, statements_code, otherwise_code, behind_loop_code, jump_over}
 use Rattle.tm_syntax.proofs.Long.{statements_long}
-use Rattle.tm_meaning.specs.World.{choose, World, Scope, Loop, Host, loop_scope, new_loop, open_loop, turned, next_turn, cleared, top_mark, top_loop, items_over, Res, Good, Bad, bind, tick, depth, push, pop, plain as plain_scope, items_of, set_member, answered, emitted, looked_up, escape_for, with_escape, captured_text}
-use Rattle.tm_meaning.specs.Calls.{Callee, whole, Call, Asked, has, refused, runs, recurs, enter_block, call_named, call_first, call_method, call_innermost}
-use Rattle.tm_meaning.specs.Tree.{Trees, Body}
-use Rattle.tm_meaning.specs.Meaning.{Again, ended, over, under, again_in, again_of, text_behind, Run, Outcome, Ending, done, leave, next, fault, Nests, Under, so_far, say, use_it, then_do, value_of, in_place_of, block_tag, truth, applied_unary, operated, applied, attribute, item_at, slice_of, list_of_values, map_of_pairs, audible as heard_here, none_waits, eval, eval_all, eval_pair, eval_pairs, eval_argument, eval_arguments, eval_keyword, eval_keywords, eval_named, keyword_map, one_counted, kept, loop_items, eval_condition, eval_conditions, eval_step, eval_links, eval_steps, assign, assign_all, set_to, set_each, closing, capturing, captured, rounds, loop_over, has_none, exec_behind_loop, done_by, emit, behind_first, exec, execs, exec_else, new_run, at_end, stream_run, nests_of, rendered}
-use Rattle.tm_meaning.specs.Machine.{Return, Capture as OpenCapture, new_capture, recursion, place_of_loop, Activation, Config, Finished, Failed, Stuck, Next, More, Over, Program, after, goes, taken, on_taken, asked, asked_in_place, base_of, start, run_from, stuck, audible, with_world}
+use Rattle.tm_meaning.specs.World.{choose, World, Scope, Loop, loop_scope, new_loop, open_loop, turned, next_turn, cleared, top_mark, top_loop, items_over, Res, Good, Bad, bind, tick, depth, push, pop, plain as plain_scope, items_of, set_member, answered, emitted, looked_up, escape_for, with_escape, captured_text}
+use Rattle.tm_meaning.specs.Calls.{Callee, whole, Asked, has, refused, runs, recurs, enter_block, call_named, call_first, call_method, call_innermost}
+use Rattle.tm_meaning.specs.Tree.{Trees}
+use Rattle.tm_meaning.specs.Meaning.{Again, ended, over, under, again_in, again_of, text_behind, Run, Outcome, Ending, done, leave, next, fault, Under, so_far, say, use_it, value_of, in_place_of, block_tag, truth, applied_unary, operated, applied, attribute, item_at, slice_of, list_of_values, map_of_pairs, audible as heard_here, none_waits, eval, eval_all, eval_pair, eval_pairs, eval_argument, eval_arguments, eval_keyword, eval_keywords, eval_named, keyword_map, one_counted, kept, loop_items, eval_condition, eval_conditions, eval_step, eval_links, eval_steps, assign, assign_all, set_to, set_each, capturing, rounds, loop_over, has_none, exec_behind_loop, done_by, emit, behind_first, exec, execs, exec_else, new_run, at_end, nests_of, rendered}
+use Rattle.tm_meaning.specs.Machine.{Return, new_capture, recursion, place_of_loop, Config, Finished, Failed, Stuck, More, Over, Program, after, goes, taken, on_taken, asked, asked_in_place, base_of, run_from, stuck, with_world}
 use Rattle.tm_meaning.specs.Instructions.{returned, returns, binary_of, paired, end_capture_of, replacing, is_no_loop, on_loop, iterate_of, iterate_with, push_did_not_iterate_of, pop_loop_with, looping}
-use Rattle.tm_meaning.specs.Steps.{act, step, closed, finish, Final, final, Leads, over as is_over}
-use Rattle.tm_meaning.specs.Compiled.{IsCompiled, code_of}
+use Rattle.tm_meaning.specs.Steps.{act, finish, Final, final, Leads, over as is_over}
+use Rattle.tm_meaning.specs.Compiled.{IsCompiled}
 use Rattle.tm_meaning.proofs.Ends.{one_end}
 use Rattle.tm_simulation.specs.Reached.{final_by, final_of, Renders}
 use Rattle.tm_simulation.proofs.Place.{HasAt, has_front, has_behind, has_both, has_whole}
 use Rattle.tm_syntax.specs.declared.instruction.LoopPlace.{LoopPlace}
 use Rattle.tm_syntax.specs.Loops.{loops_before, passes, within_loop, past, pasts, FoundLoop, loops_in, loop_places}
-use Rattle.tm_simulation.proofs.Matches.{IsAt, Both, Looped, Match, match_at, statements_match}
+use Rattle.tm_simulation.proofs.Matches.{Both, Looped, Match, match_at, statements_match}
 use Rattle.tm_simulation.proofs.Numbers.{behind_code, expr_none, target_none, assignments_none, iterable_count, statement_count, statements_count}
 use Rattle.tm_simulation.proofs.Loops.{LeftOf, next_item, no_item, left_then, turned_items, on_top_loop, next_record, new_record, none_is}
-use Rattle.tm_simulation.proofs.Keeps.{Kept, one_more, shapes, marks, kept_frames, kept_depth, kept_same, kept_then, kept_record, kept_popped, kept_cleared, kept_turned, top_of_marks, mark_behind, in_loop_of, opened, opened_kept, loop_ends, ends_use, Gives, EndsBy as EndsKept, Ends as KeptEnds, ends_as, tick_gives, answered_gives, Asks, block_asks, named_asks, method_asks, innermost_asks, again_end, eval_gives, condition_gives, all_give, pair_gives, pairs_give, argument_gives, arguments_give, keyword_gives, keywords_give, named_give, one_counted_gives, kept_gives, test_gives, loop_items_give, recorded, step_gives, steps_give, unary_gives, binary_gives, looked_up_gives, within, kept_escaped, assign_gives, set_gives, set_each_gives, exec_ends, execs_end, nests_end}
+use Rattle.tm_simulation.proofs.Keeps.{Kept, shapes, marks, kept_frames, kept_depth, kept_same, kept_then, kept_record, kept_popped, kept_cleared, kept_turned, top_of_marks, mark_behind, in_loop_of, opened, opened_kept, loop_ends, ends_use, Gives, EndsBy as EndsKept, Ends as KeptEnds, ends_as, tick_gives, answered_gives, Asks, block_asks, named_asks, method_asks, innermost_asks, again_end, eval_gives, condition_gives, all_give, pair_gives, pairs_give, argument_gives, arguments_give, keyword_gives, keywords_give, named_give, one_counted_gives, loop_items_give, step_gives, binary_gives, within, kept_escaped, assign_gives, set_gives, set_each_gives, exec_ends, execs_end, nests_end}
 use Rattle.tm_simulation.proofs.Follow.{follows_map_kept, bound_follows, ends_map_kept, leave_then, next_then, Goes, round_then, opened_then, opened_follows, Bed, air, inside, captures_of, told_by, Spot, told, cfg, later, Follows, Then, Ends, whole_of, follows_map, follows_bind, bind_then, use_then, so_far_then, fault_then, do_then, within_then, Closed, closed_then, captured_in, Dropped, captured_then, ends_map, Go, silent, at, after_then, move, pushes, choose_then, choose_ends}
 use Rattle.tm_simulation.proofs.Forms.{Fits, Stands, fits_captured, audible_is, writes_then, end_by, end_of, Entered, call_in_place, call_as_value}
 use Rattle.tm_meaning.specs.declared.stream.TemplateId.{TemplateId}
@@ -177,15 +177,21 @@ same_captures (inside x t ks) out out1 = refl
 stands_later : (f : Base) (run : Run) (s : Spot) → Stands f run s → (q : Option TemplateId) (out : List ℕ) → Stands f run (later s q out)
 stands_later f run s stands q out = (stands.0, subst (λ n. s.run.floor ≤ n) (same_captures s.bed s.out out) stands.1, stands.2)
 
--- So many levels are left for what nests and for loops that are called, the scopes of the run's start stand, and the text goes where the meaning's does.
+-- So many levels are left for what nests and for loops that are called, and the scopes of the run's start stand.
+-- A loop that is called opens its scope within the limit, so in it the depth is. Before any call it may be more, where the run began so; then no loop has room for its scope.
+record Levels (p : Program) (f : Base) (n level : ℕ) (w : World) : Type 0 where
+  nests : p.host.limit + 1 ≤ suc n + depth w.scopes
+  scopes : f.scopes ≤ length w.scopes.frames
+  calls : p.host.limit + 1 ≤ level + depth w.scopes
+  within_call : level ≤ p.host.limit → depth w.scopes ≤ p.host.limit
+
+-- So many levels are left, and the text goes where the meaning's does, in code of this stream.
 abbrev DeepIn : Program → Base → ℕ → StreamId → ℕ → Run → Spot → World → Type 0
-DeepIn p f n id level run s w =
-    (p.host.limit + 1 ≤ suc n + depth w.scopes) × (f.scopes ≤ length w.scopes.frames) × Stands f run s × (s.run.stream ≡ id) × (p.host.limit + 1 ≤ level + depth w.scopes)
+DeepIn p f n id level run s w = Levels p f n level w × Stands f run s × (s.run.stream ≡ id)
 
 -- And the same parent waits for both.
 abbrev HereIn : Program → Base → ℕ → StreamId → ℕ → Run → Spot → World → Type 0
-HereIn p f n id level run s w =
-    (p.host.limit + 1 ≤ suc n + depth w.scopes) × (f.scopes ≤ length w.scopes.frames) × Stands f run s × (s.run.stream ≡ id) × (p.host.limit + 1 ≤ level + depth w.scopes) × (run.parent ≡ s.parent)
+HereIn p f n id level run s w = Levels p f n level w × Stands f run s × (s.run.stream ≡ id) × (run.parent ≡ s.parent)
 
 -- A loop that is called, in place and as a value, comes behind its call with what its rounds mean.
 abbrev CalledInPlace : Program → Base → Final → ℕ → StreamId → ℕ → Again → Type 1
@@ -199,6 +205,32 @@ CalledAsValue p f r n id level again =
     (m : ℕ) (items : List Val) (run : Run) (s : Spot) (pc : ℕ) (stack old : List Val) (w0 w : World) (K : Val → World → Type 0) → HereIn p f n id level run s w →
     (let o = again m items (capturing true run) [] w in Follows r (told s) (text_behind o.ending o) K) → ((v : Val) (x : World) → K v x → Go p f r s (pc + 1) (v ∷ stack) x) →
     Leads p f (told s) (recursion p (cfg s pc old w0) true stack (new_capture true ∷ captures_of s.bed s.out) m (place_of_loop p (cfg s pc old w0) m) items w) r
+
+levels_kept : (p : Program) (f : Base) (n level : ℕ) (w world1 : World) → Kept w world1 → Levels p f n level w → Levels p f n level world1
+levels_kept p f n level w world1 k l = record {
+  nests = omega (arith, kept_depth k, l.nests);
+  scopes = omega (arith, kept_frames k, l.scopes);
+  calls = omega (arith, kept_depth k, l.calls);
+  within_call = λ called. omega (arith, kept_depth k, l.within_call called);
+}
+
+-- in a scope more, for which there was room
+levels_within : (p : Program) (f : Base) (n level : ℕ) (a : Scope) (w : World) → nat_lt (depth w.scopes) p.host.limit ≡ true → Levels p f n level w → Levels p f n level (within a w)
+levels_within p f n level a w room l = record {
+  nests = omega (arith, l.nests);
+  scopes = omega (arith, l.scopes);
+  calls = omega (arith, l.calls);
+  within_call = λ _. omega (arith, ltb-true (depth w.scopes) p.host.limit room);
+}
+
+-- The scope of a loop that is called takes a level.
+levels_called : (p : Program) (f : Base) (n level : ℕ) (a : Scope) (w : World) → nat_lt (depth w.scopes) p.host.limit ≡ true → Levels p f n (suc level) w → Levels p f n level (within a w)
+levels_called p f n level a w room l = record {
+  nests = omega (arith, l.nests);
+  scopes = omega (arith, l.scopes);
+  calls = omega (arith, l.calls);
+  within_call = λ _. omega (arith, ltb-true (depth w.scopes) p.host.limit room);
+}
 
 module _ (p : Program) (f : Base) (r : Final) (trees : Trees) (n : ℕ)
     (entered : (k : Callee) (heard : Bool) (b : Bed) (out : List ℕ) (w : World) → p.host.limit + 1 ≤ n + depth w.scopes → depth w.scopes ≤ p.host.limit →
@@ -215,27 +247,27 @@ module _ (p : Program) (f : Base) (r : Final) (trees : Trees) (n : ℕ)
   Deep run s w = DeepIn p f n id level run s w
 
   deep_kept : (run : Run) (s : Spot) {w world1 : World} → Kept w world1 → Deep run s w → Deep run s world1
-  deep_kept run s k d = (omega (arith, kept_depth k, d.0), omega (arith, kept_frames k, d.1), d.2, d.3, omega (arith, kept_depth k, d.4))
+  deep_kept run s {w = w} {world1 = world1} k d = (levels_kept p f n level w world1 k d.0, d.1, d.2)
 
-  deep_within : (run : Run) (s : Spot) (a : Scope) (w : World) → Deep run s w → Deep run s (within a w)
-  deep_within run s a w d = (omega (arith, d.0), omega (arith, d.1), d.2, d.3, omega (arith, d.4))
+  deep_within : (run : Run) (s : Spot) (a : Scope) (w : World) → nat_lt (depth w.scopes) p.host.limit ≡ true → Deep run s w → Deep run s (within a w)
+  deep_within run s a w room d = (levels_within p f n level a w room d.0, d.1, d.2)
 
   abbrev Here : Run → Spot → World → Type 0
   Here run s w = HereIn p f n id level run s w
 
   here_kept : (run : Run) (s : Spot) {w world1 : World} → Kept w world1 → Here run s w → Here run s world1
-  here_kept run s k d = (omega (arith, kept_depth k, d.0), omega (arith, kept_frames k, d.1), d.2, d.3, omega (arith, kept_depth k, d.4), d.5)
+  here_kept run s {w = w} {world1 = world1} k d = (levels_kept p f n level w world1 k d.0, d.1, d.2, d.3)
 
-  here_within : (run : Run) (s : Spot) (a : Scope) (w : World) → Here run s w → Here run s (within a w)
-  here_within run s a w d = (omega (arith, d.0), omega (arith, d.1), d.2, d.3, omega (arith, d.4), d.5)
+  here_within : (run : Run) (s : Spot) (a : Scope) (w : World) → nat_lt (depth w.scopes) p.host.limit ≡ true → Here run s w → Here run s (within a w)
+  here_within run s a w room d = (levels_within p f n level a w room d.0, d.1, d.2, d.3)
 
   -- at the spot's own parent
   here : (run : Run) (s : Spot) (w : World) → Deep run s w → Here (as_at run s) s w
-  here run s w d = (d.0, d.1, d.2, d.3, d.4, refl)
+  here run s w d = (d.0, d.1, d.2, refl)
 
   -- the same at another text
   deep_later : (run : Run) (s : Spot) (w : World) (q : Option TemplateId) (out : List ℕ) → Deep run s w → Deep run (later s q out) w
-  deep_later run s w q out d = (d.0, d.1, stands_later f run s d.2 q out, d.3, d.4)
+  deep_later run s w q out d = (d.0, stands_later f run s d.1 q out, d.2)
 
   -- what a call comes to, as a value
   asked_then : (run : Run) (s : Spot) (pc : ℕ) (stack old : List Val) (w world1 : World) (q : Asked) → Asks p.host.limit world1 q → Here run s world1 →
@@ -245,7 +277,7 @@ module _ (p : Program) (f : Base) (r : Final) (trees : Trees) (n : ℕ)
   asked_then run s pc stack old w world1 (recurs m items world2) e d h =
       called_as_value m items run s pc stack old w world2 _ (here_kept run s e d) h (λ v x g. g)
   asked_then run s pc stack old w world1 (runs c world2) e d h =
-      call_as_value p f r u run c s pc old stack w world2 _ (entered c.callee true (inside true (told s) (captures_of s.bed s.out)) [] world2 (omega (arith, e.0, d.0)) e.1) h (λ x world3 g. g)
+      call_as_value p f r u run c s pc old stack w world2 _ (entered c.callee true (inside true (told s) (captures_of s.bed s.out)) [] world2 (omega (arith, e.0, d.0.nests)) e.1) h (λ x world3 g. g)
 
   -- and in place
   placed_then : (run : Run) (s : Spot) (pc : ℕ) (stack old : List Val) (w world1 : World) (q : Asked) (D L N : Then) → Fits f run s.bed → Asks p.host.limit world1 q → Deep run s world1 →
@@ -255,7 +287,7 @@ module _ (p : Program) (f : Base) (r : Final) (trees : Trees) (n : ℕ)
   placed_then run s pc stack old w world1 (refused chain world2) D L N fits e d h g = is_over refl (fault_then r s.bed (as_at run s) s.out world2 chain D L N h)
   placed_then run s pc stack old w world1 (recurs m items world2) D L N fits e d h g = called_in_place m items run s pc stack old w world2 D L N (deep_kept run s e d) h g
   placed_then run s pc stack old w world1 (runs c world2) D L N fits e d h g =
-      call_in_place p f r u c (as_at run s) s pc old stack w world2 D L N refl fits (entered c.callee (heard_here (as_at run s)) s.bed s.out world2 (omega (arith, e.0, d.0)) e.1) h (g s.parent)
+      call_in_place p f r u c (as_at run s) s pc old stack w world2 D L N refl fits (entered c.callee (heard_here (as_at run s)) s.bed s.out world2 (omega (arith, e.0, d.0.nests)) e.1) h (g s.parent)
 
   -- an operator behind its operands
   unary_then : (op : UnaryOperator) (s : Spot) (pc : ℕ) (v : Val) (stack : List Val) (w : World) → slice_get (p.code s.run.stream) pc ≡ Some (unary_code op) →
@@ -321,7 +353,7 @@ module _ (p : Program) (f : Base) (r : Final) (trees : Trees) (n : ℕ)
 
   mutual
     -- An expression's code pushes what it means, over any operands.
-    pub expr_runs : (e : Expr) (run : Run) (s : Spot) (pc : ℕ) (stack : List Val) (w : World) → Here run s w → HasAt (p.code s.run.stream) pc (expr_code pc e) →
+    expr_runs : (e : Expr) (run : Run) (s : Spot) (pc : ℕ) (stack : List Val) (w : World) → Here run s w → HasAt (p.code s.run.stream) pc (expr_code pc e) →
         Follows r (told s) (eval u run e w) (λ v world1. Go p f r s (pc + length (expr_code pc e)) (v ∷ stack) world1) → Go p f r s pc stack w
     expr_runs (Var x) run s pc stack w d is h =
         at p f r (i.Lookup x) s pc stack w is.0 (after_then p f r (told s) (tick w) _ (bind_then r (told s) w (tick w) _ _ _ (tick_gives w) h (λ _ world1 k h1.
@@ -780,7 +812,6 @@ module _ (p : Program) (f : Base) (r : Final) (trees : Trees) (n : ℕ)
   stands_captured : (run : Run) (s : Spot) → Stands f run s → Stands f (capturing true run) (record s { bed = captured_in s.bed s.out; out = [] })
   stands_captured run s stands = (stands.0, omega (arith, stands.1), fits_captured f run s.bed s.out stands.2)
 
-  -- Where a run stands its text may grow.
   -- what is emitted
   emit_then : (run : Run) (s : Spot) (pc : ℕ) (v : Val) (stack : List Val) (w : World) (D L N : Then) → Stands f run s → slice_get (p.code s.run.stream) pc ≡ Some i.Emit →
       Ends r s.bed (emit u (as_at run s) s.out v w) D L N → ((out1 : List ℕ) (world1 : World) → D s.parent out1 world1 → Go p f r (later s s.parent out1) (pc + 1) stack world1) → Go p f r s pc (v ∷ stack) w
@@ -968,13 +999,13 @@ module _ (p : Program) (f : Base) (r : Final) (trees : Trees) (n : ℕ)
 
   -- From where the next item is asked for the pass comes behind its loop, with what it takes below the count.
   filter_runs : (t : Target) (c : Expr) (again : ℕ) (items vs : List Val) (n : ℕ) (run : Run) (s : Spot) (below : List Val) (w x : World) (l : Loop) →
-      Here run s w → Kept (in_loop_of filter_flags w) x → slice_get (shapes x.loops) (length w.loops) ≡ Some l → LeftOf l items vs →
+      Here run s w → nat_lt (depth w.scopes) p.host.limit ≡ true → Kept (in_loop_of filter_flags w) x → slice_get (shapes x.loops) (length w.loops) ≡ Some l → LeftOf l items vs →
       (tc qc : List Instruction) → tc ≡ target_code (again + 1 + 1) t → qc ≡ expr_code (again + 1 + 1 + length tc) c → (end : ℕ) → end ≡ again + 1 + 1 + length tc + length qc →
       HasAt (p.code s.run.stream) again (i.Iterate (end + 7) ∷ i.DupTop ∷ (tc ++ (qc
       ++ i.JumpIfFalse (end + 5) ∷ i.Swap ∷ i.LoadConst (number (pos 1)) ∷ i.Add ∷ i.Jump again ∷ i.DiscardTop ∷ i.Jump again ∷ i.PopLoopFrame ∷ i.BuildList None ∷ []))) →
       Follows r (told s) (kept p.host (test_of run t c) n vs x) (λ us y. (m : ℕ) → m ≡ n + length us → Go p f r s (end + 1 + 1 + 1 + 1 + 1 + 1 + 1 + 1) (number (pos m) ∷ onto us below) y) →
       Go p f r (looped None s) again (number (pos n) ∷ below) x
-  filter_runs t c again items [] n run s below w x l d k e left tc qc et ec end ee is h =
+  filter_runs t c again items [] n run s below w x l d room k e left tc qc et ec end ee is h =
       let all = p.code s.run.stream in
       let from_test = has_behind all (again + 1 + 1) tc _ is.1.1 in
       let last = has_behind all (again + 1 + 1 + length tc) qc _ from_test in
@@ -986,9 +1017,9 @@ module _ (p : Program) (f : Base) (r : Final) (trees : Trees) (n : ℕ)
       let record1 = kept_record k1 (length w.loops) l e in
       subst (λ a. Leads p f (told s) a r) (sym (iterate_is None filter_flags s s.parent s.out again (end + 7) (number (pos n) ∷ below) w world1 l None all_kept record1 (no_item l items left)))
       (silent p f r (told s) _ (move p f r (looped None s) _ _ (number (pos n) ∷ below) (next_turn world1) there
-      (left_loop_then filter_flags s s.parent s.out _ (number (pos n) ∷ below) w (next_turn world1) (turned l) d.1 (kept_turned filter_flags w world1 all_kept) (next_record filter_flags w world1 l all_kept record1) tail.1.1.1.1.1.1.1.0
+      (left_loop_then filter_flags s s.parent s.out _ (number (pos n) ∷ below) w (next_turn world1) (turned l) d.0.scopes (kept_turned filter_flags w world1 all_kept) (next_record filter_flags w world1 l all_kept record1) tail.1.1.1.1.1.1.1.0
       (h1 n (omega arith))))))))
-  filter_runs t c again items (v ∷ vs) n run s below w x l d k e left tc qc et ec end ee is h =
+  filter_runs t c again items (v ∷ vs) n run s below w x l d room k e left tc qc et ec end ee is h =
       let all = p.code s.run.stream in
       let from_test = has_behind all (again + 1 + 1) tc _ is.1.1 in
       let last = has_behind all (again + 1 + 1 + length tc) qc _ from_test in
@@ -996,7 +1027,7 @@ module _ (p : Program) (f : Base) (r : Final) (trees : Trees) (n : ℕ)
       let tail = subst (λ m. HasAt all m (i.JumpIfFalse (end + 5) ∷ i.Swap ∷ i.LoadConst (number (pos 1)) ∷ i.Add ∷ i.Jump again ∷ i.DiscardTop ∷ i.Jump again ∷ i.PopLoopFrame ∷ i.BuildList None ∷ [])) here last in
       let no : end + 5 ≡ end + 1 + 1 + 1 + 1 + 1 = omega arith in
       let count = number (pos n) in
-      let deep = here_within run s (loop_scope (mark_behind filter_flags w)) w d in
+      let deep = here_within run s (loop_scope (mark_behind filter_flags w)) w room d in
       let q = looped None s in
       at p f r (i.Iterate (end + 7)) q again (count ∷ below) x is.0 (after_then p f r (told s) (tick x) _ (bind_then r (told s) x (tick x) _ _ _ (tick_gives x) h (λ _ world1 k1 h1.
       let all_kept = kept_then k k1 in
@@ -1032,13 +1063,13 @@ module _ (p : Program) (f : Base) (r : Final) (trees : Trees) (n : ℕ)
       (one_more_then r (told s) n world8 _ (λ z world9. Go p f r q (end + 1 + 1 + 1 + 1) (z ∷ v ∷ below) world9) h9 (λ both.
       at p f r (i.Jump again) q (end + 1 + 1 + 1 + 1) (number (pos (n + 1)) ∷ v ∷ below) world8 tail.1.1.1.1.0 (after_then p f r (told s) (tick world8) _ (bind_then r (told s) world8 (tick world8) _ _ _ (tick_gives world8) both.1 (λ _ world9 k9 h10.
       silent p f r (told s) _
-      (filter_runs t c again items vs (n + 1) run s (v ∷ below) w world9 (turned l) d (kept_then kept5 (kept_then both.0 k9)) (record5 world9 (kept_then both.0 k9)) left_y tc qc et ec end ee is
+      (filter_runs t c again items vs (n + 1) run s (v ∷ below) w world9 (turned l) d room (kept_then kept5 (kept_then both.0 k9)) (record5 world9 (kept_then both.0 k9)) left_y tc qc et ec end ee is
       (follows_map r (told s) (kept p.host (test_of run t c) (n + 1) vs world9) _ _ (bound_follows r (told s) (kept p.host (test_of run t c) (n + 1) vs world9) _ _ h10) (λ us z g m em. g m (omega (arith, em)))))))))))))))))))))))
       (λ h6. silent p f r (told s) _ (move p f r q _ _ (v ∷ count ∷ below) world5 no
       (at p f r i.DiscardTop q (end + 1 + 1 + 1 + 1 + 1) (v ∷ count ∷ below) world5 tail.1.1.1.1.1.0 (silent p f r (told s) _
       (at p f r (i.Jump again) q (end + 1 + 1 + 1 + 1 + 1 + 1) (count ∷ below) world5 tail.1.1.1.1.1.1.0 (after_then p f r (told s) (tick world5) _ (bind_then r (told s) world5 (tick world5) _ _ _ (tick_gives world5) h6 (λ _ world6 k6 h7.
       silent p f r (told s) _
-      (filter_runs t c again items vs n run s below w world6 (turned l) d (kept_then kept5 k6) (record5 world6 k6) left_y tc qc et ec end ee is h7)))))))))))))))))))))))))))
+      (filter_runs t c again items vs n run s below w world6 (turned l) d room (kept_then kept5 k6) (record5 world6 k6) left_y tc qc et ec end ee is h7)))))))))))))))))))))))))))
 
   -- What is iterated, up to where its loop's scope is opened.
   iterable_runs : (recursive : Bool) (loops : ℕ) (t : Target) (e : Expr) (c : Option Expr) (run : Run) (s : Spot) (pc : ℕ) (stack : List Val) (w : World) → Here run s w → HasAt (p.code s.run.stream) pc (iterable_code pc t e c) →
@@ -1077,9 +1108,9 @@ module _ (p : Program) (f : Base) (r : Final) (trees : Trees) (n : ℕ)
       let d3 = here_kept run s k3 (here_kept run s k2 (here_kept run s k1 d)) in
       subst (λ m. Leads p f (told s) (after (open_loop p.host vs filter_flags m world3) (λ _ y. goes (number (pos 0) ∷ stack) y (looping (None ∷ s.run.loops) (cfg s pc1 (v ∷ number (pos 0) ∷ stack) world3)))) r) (sym pass_number)
       (after_then p f r (told s) (open_loop p.host vs filter_flags loops world3) _
-      (opened_follows r (told s) filter_flags loops world3 vs (nat_lt (depth world3.scopes) p.host.limit) _ _ (λ y. Leads p f (told s) (goes (number (pos 0) ∷ stack) y (looping (None ∷ s.run.loops) (cfg s pc1 (v ∷ number (pos 0) ∷ stack) world3))) r) h3 (λ h4.
+      (opened_follows r (told s) filter_flags loops world3 vs (nat_lt (depth world3.scopes) p.host.limit) _ _ (λ y. Leads p f (told s) (goes (number (pos 0) ∷ stack) y (looping (None ∷ s.run.loops) (cfg s pc1 (v ∷ number (pos 0) ∷ stack) world3))) r) h3 (λ room h4.
       silent p f r (told s) _
-      (filter_runs t c again vs vs 0 run s stack world3 (opened filter_flags loops world3 vs) (new_loop vs filter_flags loops world3) d3
+      (filter_runs t c again vs vs 0 run s stack world3 (opened filter_flags loops world3 vs) (new_loop vs filter_flags loops world3) d3 room
       (opened_kept filter_flags loops world3 vs) (new_record filter_flags loops world3 vs) (record { before = []; same = refl; all = refl; turns = refl }) tc qc refl refl end refl behind.1
       (follows_map r (told s) (kept p.host (test_of run t c) 0 vs (opened filter_flags loops world3 vs)) _ _ (bound_follows r (told s) (kept p.host (test_of run t c) 0 vs (opened filter_flags loops world3 vs)) _ _ h4) (λ us y h5 m em.
       at p f r (i.BuildList None) s build (number (pos m) ∷ onto us stack) y tail.1.1.1.1.1.1.1.1.0 (after_then p f r (told s) (tick y) _ (bind_then r (told s) y (tick y) _ _ _ (tick_gives y) h5 (λ _ y1 k6 h6.
@@ -1115,7 +1146,7 @@ module _ (p : Program) (f : Base) (r : Final) (trees : Trees) (n : ℕ)
 
   mutual
     -- A statement's code comes behind itself with what it means, or to its fault.
-    pub stmt_runs : (k : Inside) (loops : ℕ) (x : Stmt) (run : Run) (s : Spot) (pc : ℕ) (stack : List Val) (w : World) (L N : Then) → Stands f run s → Deep run s w → Around k s stack w L N → HasAt (p.code s.run.stream) pc (statement_code k pc x) → loops_before pc (p.code s.run.stream) ≡ loops →
+    stmt_runs : (k : Inside) (loops : ℕ) (x : Stmt) (run : Run) (s : Spot) (pc : ℕ) (stack : List Val) (w : World) (L N : Then) → Stands f run s → Deep run s w → Around k s stack w L N → HasAt (p.code s.run.stream) pc (statement_code k pc x) → loops_before pc (p.code s.run.stream) ≡ loops →
         Ends r s.bed (exec u loops x (as_at run s) s.out w) (λ q out1 world1. Go p f r (later s q out1) (pc + length (statement_code k pc x)) stack world1) L N → Go p f r s pc stack w
     stmt_runs k loops (EmitRaw t) run s pc stack w L N fits d j is nth h =
         at p f r (i.EmitRaw t) s pc stack w is.0 (after_then p f r (told s) (tick w) _ (use_then r s.bed w (tick w) (as_at run s) s.out _ _ L N _ (tick_gives w) h (λ _ world1 k1 h1.
@@ -1197,9 +1228,9 @@ module _ (p : Program) (f : Base) (r : Final) (trees : Trees) (n : ℕ)
         subst (λ m. Leads p f (told s) (after (open_loop p.host vs (for_flags recursive) m world1) (λ _ x. goes stack x (looping (None ∷ s.run.loops) (cfg s pc1 old world1)))) r) (sym number1)
         (after_then p f r (told s) (open_loop p.host vs (for_flags recursive) (loops + passes c) world1) _
         (opened_then r s.bed (for_flags recursive) (loops + passes c) world1 vs (nat_lt (depth world1.scopes) p.host.limit) (as_at run s) s.out (λ _ x. rounds turn vs (as_at run s) s.out x) D1 L N
-        (λ x. Leads p f (told s) (goes stack x (looping (None ∷ s.run.loops) (cfg s pc1 old world1))) r) over_it (λ h4.
+        (λ x. Leads p f (told s) (goes stack x (looping (None ∷ s.run.loops) (cfg s pc1 old world1))) r) over_it (λ room h4.
         silent p f r (told s) _
-        (rounds_run None t (within_loop c loops) body (pc1 + 1) end (stmts_run inner (within_loop c loops) body) vs vs run s stack world1 (opened (for_flags recursive) (loops + passes c) world1 vs) (new_loop vs (for_flags recursive) (loops + passes c) world1) D1 L N fits (deep_within run s (loop_scope (mark_behind (for_flags false) world1)) world1 d1)
+        (rounds_run None t (within_loop c loops) body (pc1 + 1) end (stmts_run inner (within_loop c loops) body) vs vs run s stack world1 (opened (for_flags recursive) (loops + passes c) world1 vs) (new_loop vs (for_flags recursive) (loops + passes c) world1) D1 L N fits (deep_within run s (loop_scope (mark_behind (for_flags false) world1)) world1 room d1)
         (opened_kept (for_flags recursive) (loops + passes c) world1 vs) (new_record (for_flags recursive) (loops + passes c) world1 vs) (record { before = []; same = refl; all = refl; turns = refl })
         (has_loop all pc1 end tc bc oc behind.1) number2 (λ q out1 x l k3 e3 same d3.
         behind_loop_runs k (pasts (within_loop c loops) body) other vs run s pc1 end (pc + length (ec ++ i.PushLoop (for_flags recursive) ∷ i.Iterate end ∷ rest)) stack world1 x l L N fits d1 j1 k3 e3 same place at_end_of number3 q out1 d3) h4))))))
@@ -1222,14 +1253,14 @@ module _ (p : Program) (f : Base) (r : Final) (trees : Trees) (n : ℕ)
         let a = plain_scope (undefined false) in
         let nth1 : loops_before (pc + 1) all ≡ loops = behind_code all pc (i.PushWith ∷ []) (is.0, tt) ∙ omega (arith, nth) in
         let nth2 : loops_before pc1 all ≡ loops = behind_code all (pc + 1) gc (has_front all (pc + 1) gc (bc ++ i.PopFrame ∷ []) is.1) ∙ omega (arith, nth1, assignments_none (pc + 1) given) in
-        let deep1 = deep_within run s a w d in
         at p f r i.PushWith s pc stack w is.0 (after_then p f r (told s) (push p.host a w) _
-        (within_then r s.bed w a (nat_lt (depth w.scopes) p.host.limit) (as_at run s) s.out _ _ L N (λ world1. Leads p f (told s) (goes stack world1 (cfg s pc stack w)) r) h (λ h1.
+        (within_then r s.bed w a (nat_lt (depth w.scopes) p.host.limit) (as_at run s) s.out _ _ L N (λ world1. Leads p f (told s) (goes stack world1 (cfg s pc stack w)) r) h (λ room h1.
+        let deep1 = deep_within run s a w room d in
         silent p f r (told s) _ (sets_run given (as_at run s) s (pc + 1) stack (within a w) (here run s (within a w) deep1) (has_front all (pc + 1) gc (bc ++ i.PopFrame ∷ []) is.1)
         (use_then r s.bed (within a w) (set_each u (as_at run s) given (within a w)) (as_at run s) s.out _ _ L N _ (set_each_gives u nest_ends again_kept (as_at run s) given (within a w)) h1 (λ _ world2 k2 h2.
-        stmts_run (opening a_scope k) loops body run s pc1 stack world2 (Closed pop L) (Closed pop N) fits (deep_kept run s k2 deep1) (around_scope k s stack w world2 L N d.1 k2 j) (has_front all pc1 bc (i.PopFrame ∷ []) from_body) nth2
+        stmts_run (opening a_scope k) loops body run s pc1 stack world2 (Closed pop L) (Closed pop N) fits (deep_kept run s k2 deep1) (around_scope k s stack w world2 L N d.0.scopes k2 j) (has_front all pc1 bc (i.PopFrame ∷ []) from_body) nth2
         (closed_then r s.bed world2 pop (execs u loops body (as_at run s) s.out world2) _ L N _ (execs_end u nest_ends again_kept loops body (as_at run s) s.out world2) h2 (λ q out1 world3 k3 g.
-        popped_then (later s q out1) (pc1 + length bc) stack world3 (omega (arith, kept_frames k3, kept_frames k2, d.1)) (top_of_marks None (marks w.scopes.frames) world3.scopes.frames (k3.same_marks ∙ k2.same_marks)) last.0
+        popped_then (later s q out1) (pc1 + length bc) stack world3 (omega (arith, kept_frames k3, kept_frames k2, d.0.scopes)) (top_of_marks None (marks w.scopes.frames) world3.scopes.frames (k3.same_marks ∙ k2.same_marks)) last.0
         (move p f r (later s q out1) _ _ stack (pop world3) place g)))))))))
     stmt_runs k loops (SetBlock' t _ body) run s pc stack w L N fits d j is nth h =
         let all = p.code s.run.stream in
@@ -1242,7 +1273,7 @@ module _ (p : Program) (f : Base) (r : Final) (trees : Trees) (n : ℕ)
         let o = execs u loops body (capturing true (as_at run s)) [] w in
         let nth1 : loops_before (pc + 1) all ≡ loops = behind_code all pc (i.BeginCapture Capture ∷ []) (is.0, tt) ∙ omega (arith, nth) in
         at p f r (i.BeginCapture Capture) s pc stack w is.0 (silent p f r (told s) _
-        (stmts_run (opening a_capture k) loops body (capturing true run) inner (pc + 1) stack w (Dropped r s.bed s.out L) (Dropped r s.bed s.out N) (stands_captured run s fits) (d.0, d.1, stands_captured run s fits, d.3, d.4) (around_capture k s stack w L N (omega (arith, fits.1)) j) (has_front all (pc + 1) bc (i.EndCapture ∷ tc) is.1) nth1
+        (stmts_run (opening a_capture k) loops body (capturing true run) inner (pc + 1) stack w (Dropped r s.bed s.out L) (Dropped r s.bed s.out N) (stands_captured run s fits) (d.0, stands_captured run s fits, d.2) (around_capture k s stack w L N (omega (arith, fits.1)) j) (has_front all (pc + 1) bc (i.EndCapture ∷ tc) is.1) nth1
         (captured_then r s.bed (as_at run s) s.out w o _ _ L N _ (execs_end u nest_ends again_kept loops body (capturing true (as_at run s)) [] w) h (λ q x world1 k1 h1.
         at p f r i.EndCapture (later inner q x) pc1 stack world1 behind.0 (after_then p f r (told s) (tick world1) _
         (use_then r s.bed world1 (tick world1) (record run { parent = q }) s.out _ _ L N _ (tick_gives world1) h1 (λ _ world2 k2 h2.
@@ -1283,7 +1314,7 @@ module _ (p : Program) (f : Base) (r : Final) (trees : Trees) (n : ℕ)
         at p f r i.DiscardTop s (pc + length c) (v ∷ stack) world1 behind.0
         (silent p f r (told s) _ (move p f r s _ _ stack world1 place (so_far_then r s.bed (as_at run s) s.out world1 _ L N h1)))))
 
-    pub stmts_run : {m : _} → (k : Inside) (loops : ℕ) (ss : Row_of-Stmt m) (run : Run) (s : Spot) (pc : ℕ) (stack : List Val) (w : World) (L N : Then) → Stands f run s → Deep run s w → Around k s stack w L N → HasAt (p.code s.run.stream) pc (statements_code k pc ss) → loops_before pc (p.code s.run.stream) ≡ loops →
+    stmts_run : {m : _} → (k : Inside) (loops : ℕ) (ss : Row_of-Stmt m) (run : Run) (s : Spot) (pc : ℕ) (stack : List Val) (w : World) (L N : Then) → Stands f run s → Deep run s w → Around k s stack w L N → HasAt (p.code s.run.stream) pc (statements_code k pc ss) → loops_before pc (p.code s.run.stream) ≡ loops →
         Ends r s.bed (execs u loops ss (as_at run s) s.out w) (λ q out1 world1. Go p f r (later s q out1) (pc + length (statements_code k pc ss)) stack world1) L N → Go p f r s pc stack w
     stmts_run k loops no_statement run s pc stack w L N fits d j is nth h = move p f r s pc (pc + 0) stack w (omega arith) (so_far_then r s.bed (as_at run s) s.out w _ L N h)
     stmts_run k loops (statement x ss) run s pc stack w L N fits d j is nth h =
@@ -1322,7 +1353,7 @@ module _ (p : Program) (f : Base) (r : Final) (trees : Trees) (n : ℕ)
         Kept (in_loop_of (for_flags false) w) x → slice_get (shapes x.loops) (length w.loops) ≡ Some l → l.items ≡ vs → end + length (behind_loop_code k end other) ≡ to → HasAt (p.code s.run.stream) end (behind_loop_code k end other) → loops_before end (p.code s.run.stream) ≡ loops → (q : Option TemplateId) (out : List ℕ) →
         Ends r s.bed (exec_behind_loop u loops other (has_none vs) (record run { parent = q }) out (pop x)) (λ q1 out1 v. Go p f r (later s q1 out1) to stack v) L N → Go p f r (later (looped None s) q out) end stack x
     behind_loop_runs k loops no_else vs run s pc end to stack w x l L N fits d j kept e same place is nth q out h =
-        left_loop_then (for_flags false) s q out end stack w x l d.1 kept e is.0 (move p f r (later s q out) _ _ stack (pop x) place (so_far_then r s.bed (record run { parent = q }) out (pop x) _ L N h))
+        left_loop_then (for_flags false) s q out end stack w x l d.0.scopes kept e is.0 (move p f r (later s q out) _ _ stack (pop x) place (so_far_then r s.bed (record run { parent = q }) out (pop x) _ L N h))
     behind_loop_runs k loops (otherwise _ eb) vs run s pc end to stack w x l L N fits d j kept e same place is nth q out h =
         let all = p.code s.run.stream in
         let ec = statements_code k (end + 3) eb in
@@ -1337,7 +1368,7 @@ module _ (p : Program) (f : Base) (r : Final) (trees : Trees) (n : ℕ)
         at p f r i.PushDidNotIterate (later (looped None s) q out) end stack x is.0
         (subst (λ n. Leads p f (told_by s.bed out) n r) (sym (did_not_is None (for_flags false) s q out end stack w x l vs kept e same))
         (silent p f r (told_by s.bed out) _
-        (left_loop_then (for_flags false) s q out (end + 1) (boolean b ∷ stack) w x l d.1 kept e is.1.0
+        (left_loop_then (for_flags false) s q out (end + 1) (boolean b ∷ stack) w x l d.0.scopes kept e is.1.0
         (at p f r test (later s q out) (end + 1 + 1) (boolean b ∷ stack) (pop x) is.1.1.0 (after_then p f r (told_by s.bed out) (tick (pop x)) _
         (use_then r s.bed (pop x) (tick (pop x)) (record run { parent = q }) out _ D0 L N _ (tick_gives (pop x)) h (λ _ v k1 h1.
         choose_ends p f r b (execs u loops eb (record run { parent = q }) out v) (so_far (record run { parent = q }) out v) _ _ (told_by s.bed out) s.bed D0 L N h1
@@ -1384,21 +1415,21 @@ module _ (p : Program) (f : Base) (r : Final) (trees : Trees) (n : ℕ)
       (silent p f r (told_by s1.bed out) _ (called_exit o s1 q out (end + 1) (boolean (has_none items) ∷ []) w x l d k e h.1.0 (z (end + 1) (boolean (has_none items) ∷ [])))))
 
   -- a called loop's rounds, from its place, over nothing
-  called_rounds : (l : FoundLoop) (place : ℕ) → Looped (p.code id) l place → (o : Return) (m : ℕ) (items : List Val) (run : Run) (s1 : Spot) (w : World) (D : Then) (L N : Then) → DeepIn p f n id (suc level) run s1 w →
+  called_rounds : (l : FoundLoop) (place : ℕ) → Looped (p.code id) l place → (o : Return) (m : ℕ) (items : List Val) (run : Run) (s1 : Spot) (w : World) (D : Then) (L N : Then) → DeepIn p f n id (suc level) run s1 w → nat_lt (depth w.scopes) p.host.limit ≡ true →
       ((q : Option TemplateId) (out : List ℕ) (x : World) → D q out (pop x) → (at_place : ℕ) (below : List Val) →
       Leads p f (told_by s1.bed out) (returns o o.value (returned o s1.run.loops (cfg (later (looped (Some o) (in_call s1)) q out) at_place below x))) r) →
       Ends r s1.bed (rounds (turn_of l.target l.at l.body.row) items (as_at run s1) s1.out (opened (for_flags true) m w items)) D L N →
       Go p f r (looped (Some o) (in_call s1)) (place + 1) [] (opened (for_flags true) m w items)
-  called_rounds l place lo o m items run s1 w D L N d goes_on h =
+  called_rounds l place lo o m items run s1 w D L N d room goes_on h =
       let inner : Inside = record { again = place + 1; behind = lo.end; opened = [] } in
-      let all_is : p.code id ≡ p.code s1.run.stream = ap p.code (sym d.3) in
-      let fits : Stands f run (in_call s1) = (d.2.0, omega arith, d.2.2) in
+      let all_is : p.code id ≡ p.code s1.run.stream = ap p.code (sym d.2) in
+      let fits : Stands f run (in_call s1) = (d.1.0, omega arith, d.1.2) in
       rounds_run (Some o) l.target l.at l.body.row (place + 1) lo.end (stmts_run inner l.at l.body.row) items items run (in_call s1) [] w (opened (for_flags true) m w items) (new_loop items (for_flags true) m w) D L N fits
-      (omega (arith, d.0), omega (arith, d.1), fits, d.3, omega (arith, d.4))
+      (levels_called p f n level (loop_scope (mark_behind (for_flags false) w)) w room d.0, fits, d.2)
       (opened_kept (for_flags true) m w items) (new_record (for_flags true) m w items) (record { before = []; same = refl; all = refl; turns = refl })
       (subst (λ c. HasAt c (place + 1) (i.Iterate lo.end ∷ (target_code (place + 1 + 1) l.target ++ (statements_code inner (place + 1 + 1 + length (target_code (place + 1 + 1) l.target)) l.body.row ++ i.Jump (place + 1) ∷ [])))) all_is lo.rounds)
       (subst (λ c. loops_before (place + 1 + 1 + length (target_code (place + 1 + 1) l.target)) c ≡ l.at) all_is lo.numbered)
-      (λ q out x l1 k e same g. called_over o s1 q out lo.end w x l1 items d.1 k e same
+      (λ q out x l1 k e same g. called_over o s1 q out lo.end w x l1 items d.0.scopes k e same
       (subst (λ c. HasAt c lo.end (i.PopLoopFrame ∷ []) ⊎ HasAt c lo.end (i.PushDidNotIterate ∷ i.PopLoopFrame ∷ [])) all_is lo.exit) (goes_on q out x g)) h
 
   -- a loop that can be called there, and one that can't
@@ -1417,8 +1448,8 @@ module _ (p : Program) (f : Base) (r : Final) (trees : Trees) (n : ℕ)
       subst (λ g. Leads p f (told s1) (after (open_loop p.host items g m w) (λ _ x. More [] (cfg (looped (Some o) (in_call s1)) (lp.place + 1) [] x))) r) (sym there.0)
       (after_then p f r (told s1) (open_loop p.host items (for_flags true) m w) _
       (opened_then r s1.bed (for_flags true) m w items (nat_lt (depth w.scopes) p.host.limit) (as_at run s1) s1.out (λ _ x. rounds (turn_of l.target l.at l.body.row) items (as_at run s1) s1.out x) D L N
-      (λ x. Leads p f (told s1) (More [] (cfg (looped (Some o) (in_call s1)) (lp.place + 1) [] x)) r) h (λ h1.
-      silent p f r (told s1) _ (called_rounds l lp.place there.1 o m items run s1 w D L N d goes_on h1))))
+      (λ x. Leads p f (told s1) (More [] (cfg (looped (Some o) (in_call s1)) (lp.place + 1) [] x)) r) h (λ room h1.
+      silent p f r (told s1) _ (called_rounds l lp.place there.1 o m items run s1 w D L N d room goes_on h1))))
 
   -- in place: it is heard where it is called
   recursed_in_place : (ol : Option FoundLoop) (op : Option LoopPlace) → Both (p.code id) ol op → (m : ℕ) (items : List Val) (run : Run) (s : Spot) (pc : ℕ) (stack old : List Val) (w0 w : World) (D L N : Then) → DeepIn p f n id (suc level) run s w →
@@ -1452,12 +1483,12 @@ module _ (p : Program) (f : Base) (r : Final) (trees : Trees) (n : ℕ)
   recursed_as_value (Some l) None both m items run s pc stack old w0 w D d h g = absurd both
   recursed_as_value (Some l) (Some lp) both m items run s pc stack old w0 w D d h g =
       let s1 = apart s in
-      let fits : Stands f (capturing true run) s1 = stands_captured run s d.2 in
-      let placed = subst (λ q. Ends r s1.bed (again_in u (Some l) m items (record (capturing true run) { parent = q }) [] w) D D D) d.5 h in
+      let fits : Stands f (capturing true run) s1 = stands_captured run s d.1 in
+      let placed = subst (λ q. Ends r s1.bed (again_in u (Some l) m items (record (capturing true run) { parent = q }) [] w) D D D) d.3 h in
       subst (λ b. Leads p f (told s) (choose b
       (λ _. after (open_loop p.host items lp.flags m w) (λ _ x. More [] (cfg (looped (Some (from_call true s pc stack)) (in_call s1)) (lp.place + 1) [] x)))
       (λ _. Over (Failed (InvalidOperation ∷ []) w))) r) (sym both.0)
-      (recursed_by l.recursive l lp both.1 true m items (capturing true run) s s1 pc stack old w0 w D D D refl refl (d.0, d.1, fits, d.3, d.4)
+      (recursed_by l.recursive l lp both.1 true m items (capturing true run) s s1 pc stack old w0 w D D D refl refl (d.0, fits, d.2)
       (λ q out x e at_place below. silent p f r (told s) _ (g q out (pop x) e)) placed)
 
 -- ---------------------------------------------------------------- streams
@@ -1507,22 +1538,6 @@ module _ (p : Program) (trees : Trees) (compiled : IsCompiled trees p) where
   end_then id heard b out w next q x v k = stopped_by b q x v next (tick v)
   end_then id heard b out w (fault chain) q x v k = refl
 
-  -- Where no scope has room no loop is called.
-  no_room : (f : Base) (r : Final) (t : List ℕ) (g : LoopFlags) (m : ℕ) (items : List Val) (w : World) (room : Bool) (next_one : Unit {0} → World → Next) → room ≡ false → r ≡ final t (Failed (InvalidOperation ∷ []) w) →
-      Leads p f t (after (bind (one_more room (loop_scope (mark_behind g w)) w) (λ _ world1. recorded g m items w world1)) next_one) r
-  no_room f r t g m items w true next_one e is = absurd (cc e)
-  no_room f r t g m items w false next_one e is = is_over refl is
-
-  refused_by : (f : Base) (r : Final) (t : List ℕ) (b : Bool) (g : LoopFlags) (m : ℕ) (items : List Val) (w : World) (next_one : Unit {0} → World → Next) → nat_lt (depth w.scopes) p.host.limit ≡ false → r ≡ final t (Failed (InvalidOperation ∷ []) w) →
-      Leads p f t (choose b (λ _. after (open_loop p.host items g m w) next_one) (λ _. Over (Failed (InvalidOperation ∷ []) w))) r
-  refused_by f r t true g m items w next_one e is = no_room f r t g m items w (nat_lt (depth w.scopes) p.host.limit) next_one e is
-  refused_by f r t false g m items w next_one e is = is_over refl is
-
-  refused_call : (f : Base) (r : Final) (t : List ℕ) (c : Config) (value : Bool) (vs : List Val) (ks : List OpenCapture) (m : ℕ) (op : Option LoopPlace) (items : List Val) (w : World) → nat_lt (depth w.scopes) p.host.limit ≡ false →
-      r ≡ final t (Failed (InvalidOperation ∷ []) w) → Leads p f t (recursion p c value vs ks m op items w) r
-  refused_call f r t c value vs ks m None items w e is = is_over refl is
-  refused_call f r t c value vs ks m (Some lp) items w e is = refused_by f r t lp.flags.recursive lp.flags m items w _ e is
-
   -- the loops of a stream stand in its code
   all_match : (id : StreamId) (m : ℕ) → Both (p.code id) (slice_get (loops_in 0 (trees id).row) m) (slice_get (loop_places 0 (p.code id)) m)
   all_match id m =
@@ -1533,15 +1548,13 @@ module _ (p : Program) (trees : Trees) (compiled : IsCompiled trees p) where
       let stands : HasAt (p.code id) 0 code = subst (λ c. HasAt c 0 code) (sym (compiled id)) (has_whole code) in
       match_at (p.code id) _ _ m (subst (λ c. Match (p.code id) (loops_in 0 row) (loop_places 0 c)) (sym (compiled id)) (statements_match (p.code id) k 0 0 row stands refl))
 
-  -- Loops that are called come behind their calls, over as many levels as there are.
+  -- Loops that are called come behind their calls. Level zero isn't reached: each call opens a scope within the limit, and there is one level more than the limit.
   again_runs : (f : Base) (r : Final) (n : ℕ) →
       ((k : Callee) (heard : Bool) (b : Bed) (out : List ℕ) (w : World) → p.host.limit + 1 ≤ n + depth w.scopes → depth w.scopes ≤ p.host.limit → Entered p k heard b out w (nests_of p.host trees n k heard out w)) →
       (id : StreamId) (level : ℕ) → CalledInPlace p f r n id level (again_of p.host (nests_of p.host trees n) (trees id) level) × CalledAsValue p f r n id level (again_of p.host (nests_of p.host trees n) (trees id) level)
   again_runs f r n below id zero = (
-    λ m items run s pc stack old w0 w D L N d h g.
-        refused_call f r (told s) (cfg s pc old w0) false stack (captures_of s.bed s.out) m (place_of_loop p (cfg s pc old w0) m) items w (le-ltb _ _ (omega (arith, d.4))) (fault_then r s.bed (as_at run s) s.out w (InvalidOperation ∷ []) D L N h),
-    λ m items run s pc stack old w0 w K d h g.
-        refused_call f r (told s) (cfg s pc old w0) true stack (new_capture true ∷ captures_of s.bed s.out) m (place_of_loop p (cfg s pc old w0) m) items w (le-ltb _ _ (omega (arith, d.4))) h,
+    λ m items run s pc stack old w0 w D L N d h g. absurd (omega (arith, d.0.calls, d.0.within_call)),
+    λ m items run s pc stack old w0 w K d h g. absurd (omega (arith, d.0.calls, d.0.within_call)),
   )
   again_runs f r n below id (suc level) =
       let lower = again_runs f r n below id level in
@@ -1549,11 +1562,11 @@ module _ (p : Program) (trees : Trees) (compiled : IsCompiled trees p) where
       let inner = again_of p.host nests (trees id) level in
       let kept = again_end p.host nests (nests_end p.host trees n) (trees id) level in (
         λ m items run s pc stack old w0 w D L N d h g.
-            subst (λ q. Leads p f (told s) (recursion p (cfg s pc old w0) false stack (captures_of s.bed s.out) m (slice_get (loop_places 0 (p.code q)) m) items w) r) (sym d.3)
+            subst (λ q. Leads p f (told s) (recursion p (cfg s pc old w0) false stack (captures_of s.bed s.out) m (slice_get (loop_places 0 (p.code q)) m) items w) r) (sym d.2)
             (recursed_in_place p f r trees n below id level inner kept lower.0 lower.1 (slice_get (loops_in 0 (trees id).row) m) (slice_get (loop_places 0 (p.code id)) m) (all_match id m) m items run s pc stack old w0 w D L N d h g),
         λ m items run s pc stack old w0 w K d h g.
             let o = again_of p.host nests (trees id) (suc level) m items (capturing true run) [] w in
-            subst (λ q. Leads p f (told s) (recursion p (cfg s pc old w0) true stack (new_capture true ∷ captures_of s.bed s.out) m (slice_get (loop_places 0 (p.code q)) m) items w) r) (sym d.3)
+            subst (λ q. Leads p f (told s) (recursion p (cfg s pc old w0) true stack (new_capture true ∷ captures_of s.bed s.out) m (slice_get (loop_places 0 (p.code q)) m) items w) r) (sym d.2)
             (recursed_as_value p f r trees n below id level inner kept lower.0 lower.1 (slice_get (loops_in 0 (trees id).row) m) (slice_get (loop_places 0 (p.code id)) m) (all_match id m) m items run s pc stack old w0 w
             (λ q out1 x. K (captured_text out1 x) x) d (text_ends p f r trees n below id level inner kept lower.0 lower.1 s o.ending o.parent o.text o.world K h) (λ q out1 x e. g (captured_text out1 x) x e)),
       )
@@ -1587,10 +1600,11 @@ module _ (p : Program) (trees : Trees) (compiled : IsCompiled trees p) where
       silent p f r (told_by b x) _ (move p f r (later s q x) _ _ [] v1 end_of_code (finishes id heard b out w q x v1 r (kept_then kept k1) e))))) in
       let calls = again_runs f r n below id (p.host.limit + 1) in
       stmts_run p f r trees n below id (p.host.limit + 1) again kept_again calls.0 calls.1 k 0 row (new_run heard w) s 0 [] w (Stops r b) (Stops r b) (stands_start id b out heard w)
-      (deep, omega arith, stands_start id b out heard w, refl, omega arith) (stops, stops) stands refl placed
+      (record { nests = deep; scopes = omega arith; calls = omega arith; within_call = λ called. absurd (omega (arith, called)) }, stands_start id b out heard w, refl)
+      (stops, stops) stands refl placed
 
   -- What nests comes to what it means. Level zero isn't reached, since a run stands one level deeper than the one that needs it, within the limit.
-  pub nests_run : (n : ℕ) (k : Callee) (heard : Bool) (b : Bed) (out : List ℕ) (w : World) → p.host.limit + 1 ≤ n + depth w.scopes → depth w.scopes ≤ p.host.limit →
+  nests_run : (n : ℕ) (k : Callee) (heard : Bool) (b : Bed) (out : List ℕ) (w : World) → p.host.limit + 1 ≤ n + depth w.scopes → depth w.scopes ≤ p.host.limit →
       Entered p k heard b out w (nests_of p.host trees n k heard out w)
   nests_run zero k heard b out w deep within = absurd (omega (arith, deep, within))
   nests_run (suc n) (whole id) heard b out w deep within = stream_runs n id heard b out w deep (nests_run n)

@@ -3,9 +3,8 @@ use Rattle.std.specs.Prelude.{ℕ, List, [], true}
 use Rattle.tm_meaning.specs.World.{World}
 use Rattle.tm_meaning.specs.Calls.{whole}
 use Rattle.tm_meaning.specs.Meaning.{Ending, fault, Outcome}
-use Rattle.tm_meaning.specs.Machine.{Program, Config, Finished, Failed, base_of, start}
+use Rattle.tm_meaning.specs.Machine.{Program, Finished, Failed, base_of, start}
 use Rattle.tm_meaning.specs.Steps.{Final, final, Reaches}
-use Rattle.tm_meaning.specs.declared.base.Base.{Base}
 
 -- a fault's chain, or done, with no capture left open
 abbrev pub final_by : Ending → List ℕ → World → Final
