@@ -39,6 +39,7 @@ use Rattle.tm_meaning.specs.Instructions.{returned, returns, binary_of, paired, 
 use Rattle.tm_meaning.specs.Steps.{act, finish, Final, final, Leads, over as is_over}
 use Rattle.tm_meaning.specs.Compiled.{IsCompiled}
 use Rattle.tm_meaning.proofs.Ends.{one_end}
+use Rattle.tm_simulation.specs.Kept.{shapes}
 use Rattle.tm_simulation.specs.Reached.{final_by, final_of, Renders}
 use Rattle.tm_simulation.proofs.Place.{HasAt, has_front, has_behind, has_both, has_whole}
 use Rattle.tm_syntax.specs.declared.instruction.LoopPlace.{LoopPlace}
@@ -46,7 +47,7 @@ use Rattle.tm_syntax.specs.Loops.{loops_before, passes, within_loop, past, pasts
 use Rattle.tm_simulation.proofs.Matches.{Both, Looped, Match, match_at, statements_match}
 use Rattle.tm_simulation.proofs.Numbers.{behind_code, expr_none, target_none, assignments_none, iterable_count, statement_count, statements_count}
 use Rattle.tm_simulation.proofs.Loops.{LeftOf, next_item, no_item, left_then, turned_items, on_top_loop, next_record, new_record, none_is}
-use Rattle.tm_simulation.proofs.Keeps.{Kept, shapes, marks, kept_frames, kept_depth, kept_same, kept_then, kept_record, kept_popped, kept_cleared, kept_turned, top_of_marks, mark_behind, in_loop_of, opened, opened_kept, loop_ends, ends_use, Gives, EndsBy as EndsKept, Ends as KeptEnds, ends_as, tick_gives, answered_gives, Asks, block_asks, named_asks, method_asks, innermost_asks, again_end, eval_gives, condition_gives, all_give, pair_gives, pairs_give, argument_gives, arguments_give, keyword_gives, keywords_give, named_give, one_counted_gives, loop_items_give, step_gives, binary_gives, within, kept_escaped, assign_gives, set_gives, set_each_gives, exec_ends, execs_end, nests_end}
+use Rattle.tm_simulation.proofs.Keeps.{Kept, marks, kept_frames, kept_depth, kept_same, kept_then, kept_record, kept_popped, kept_cleared, kept_turned, top_of_marks, mark_behind, in_loop_of, opened, opened_kept, loop_ends, ends_use, Gives, EndsBy as EndsKept, Ends as KeptEnds, ends_as, tick_gives, answered_gives, Asks, block_asks, named_asks, method_asks, innermost_asks, again_end, eval_gives, condition_gives, all_give, pair_gives, pairs_give, argument_gives, arguments_give, keyword_gives, keywords_give, named_give, one_counted_gives, loop_items_give, step_gives, binary_gives, within, kept_unescaped, assign_gives, set_gives, set_each_gives, exec_ends, execs_end, nests_end}
 use Rattle.tm_simulation.proofs.Follow.{follows_map_kept, bound_follows, ends_map_kept, leave_then, next_then, Goes, round_then, opened_then, opened_follows, Bed, air, inside, captures_of, told_by, Spot, told, cfg, later, Follows, Then, Ends, whole_of, follows_map, follows_bind, bind_then, use_then, so_far_then, fault_then, do_then, within_then, Closed, closed_then, captured_in, Dropped, captured_then, ends_map, Go, silent, at, after_then, move, pushes, choose_then, choose_ends}
 use Rattle.tm_simulation.proofs.Forms.{Fits, Stands, fits_captured, audible_is, writes_then, end_by, end_of, Entered, call_in_place, call_as_value}
 use Rattle.tm_meaning.specs.declared.stream.TemplateId.{TemplateId}
@@ -251,6 +252,9 @@ module _ (p : Program) (f : Base) (r : Final) (trees : Trees) (n : ℕ)
 
   deep_within : (run : Run) (s : Spot) (a : Scope) (w : World) → nat_lt (depth w.scopes) p.host.limit ≡ true → Deep run s w → Deep run s (within a w)
   deep_within run s a w room d = (levels_within p f n level a w room d.0, d.1, d.2)
+
+  deep_escaped : (run : Run) (s : Spot) (e : AutoEscape) (w : World) → Deep run s w → Deep run s (with_escape e w)
+  deep_escaped run s e w d = (record { nests = d.0.nests; scopes = d.0.scopes; calls = d.0.calls; within_call = d.0.within_call }, d.1, d.2)
 
   abbrev Here : Run → Spot → World → Type 0
   Here run s w = HereIn p f n id level run s w
@@ -860,7 +864,7 @@ module _ (p : Program) (f : Base) (r : Final) (trees : Trees) (n : ℕ)
       Jumps to (an_escape ∷ os) (escaping s w.escape) stack (with_escape e w) (Closed (with_escape w.escape) L)
   jumps_escape to os s stack w e L j q out x pc h is l =
       at p f r i.PopAutoEscape (later (escaping s w.escape) q out) pc stack x is.0
-      (silent p f r (told_by s.bed out) _ (j q out (with_escape w.escape x) (pc + 1) (kept_then (kept_escaped e (kept_same w)) (kept_escaped w.escape h)) is.1 l))
+      (silent p f r (told_by s.bed out) _ (j q out (with_escape w.escape x) (pc + 1) (kept_unescaped e w x h) is.1 l))
 
   around_escape : (k : Inside) (s : Spot) (stack : List Val) (w : World) (e : AutoEscape) (L N : Then) → Around k s stack w L N →
       Around (opening an_escape k) (escaping s w.escape) stack (with_escape e w) (Closed (with_escape w.escape) L) (Closed (with_escape w.escape) N)
@@ -1301,7 +1305,7 @@ module _ (p : Program) (f : Base) (r : Final) (trees : Trees) (n : ℕ)
         let inner : Spot = record s { run = record s.run { escapes = world2.escape ∷ s.run.escapes } } in
         silent p f r (told s) _
         (stmts_run (opening an_escape k) loops body run inner (pc1 + 1) stack (with_escape x world2) (Closed (with_escape world2.escape) L) (Closed (with_escape world2.escape) N) fits
-        (deep_kept run s (kept_escaped x (kept_same world2)) (deep_kept run s k2 (deep_kept run s k1 d))) (around_escape k s stack world2 x L N (around_kept k s stack L N (kept_then k1 k2) j)) (has_front all (pc1 + 1) bc (i.PopAutoEscape ∷ []) behind.1) nth2
+        (deep_escaped run s x world2 (deep_kept run s k2 (deep_kept run s k1 d))) (around_escape k s stack world2 x L N (around_kept k s stack L N (kept_then k1 k2) j)) (has_front all (pc1 + 1) bc (i.PopAutoEscape ∷ []) behind.1) nth2
         (closed_then r s.bed (with_escape x world2) (with_escape world2.escape) (execs u loops body (as_at run s) s.out (with_escape x world2)) _ L N _ (execs_end u nest_ends again_kept loops body (as_at run s) s.out (with_escape x world2)) h2 (λ q out1 world3 k3 g.
         at p f r i.PopAutoEscape (later inner q out1) (pc1 + 1 + length bc) stack world3 last.0
         (silent p f r (told (later s q out1)) _ (move p f r (later s q out1) _ _ stack (with_escape world2.escape world3) place g)))))))))))

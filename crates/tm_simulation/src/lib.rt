@@ -8,7 +8,7 @@ ghost use Rattle.tm_meaning.specs.Meaning.{rendered};
 ghost use Rattle.tm_meaning.specs.Machine.{Program, Stuck};
 ghost use Rattle.tm_meaning.specs.Steps.{final};
 ghost use Rattle.tm_meaning.specs.Compiled.{IsCompiled};
-ghost use Rattle.tm_simulation.specs.Kept.{Keeps};
+ghost use Rattle.tm_simulation.specs.Kept.{Stays, Grows};
 ghost use Rattle.tm_simulation.specs.Reached.{final_of, Renders};
 
 /// The code of trees, from any world, comes to what the trees mean: its text, its world, and its end.
@@ -23,7 +23,8 @@ pub fn code_is_never_stuck()
         Renders p w (final got (Stuck left)) → ⊥ }
 {}
 
-/// A render that is no fault leaves the state's number, the fuel that was set, and scopes as deep.
+/// A render keeps its state: no fuel comes back and no record is lost, also where it ends in a fault; where it doesn't, the scopes lie as deep, and the stream, the block, the escape and the blocks are as they were.
 pub fn a_render_keeps_its_state()
-    ensures { (host : Host) (trees : Trees) (w : World) → Keeps w (rendered host trees w) }
+    ensures { (host : Host) (trees : Trees) (w : World) →
+        Stays w (rendered host trees w) × Grows w (rendered host trees w) }
 {}
