@@ -1081,7 +1081,11 @@ grows_by w o h = let l = ends_advance o.ending w o.world h in record {
   same_blocks = unless_fault o.ending w o.world _ h (λ k. k.same_blocks);
 }
 
-pub render_keeps : (host : Host) (trees : Trees) (w : World) → Stays w (rendered host trees w) × Grows w (rendered host trees w)
-render_keeps host trees w =
-    let o = rendered host trees w in
-    let h = ends_as w o (nests_end host trees (host.limit + 1) (whole w.stream) true [] w) in (stays_by w o h, grows_by w o h)
+render_ends : (host : Host) (trees : Trees) (w : World) → EndsBy w (rendered host trees w).ending (rendered host trees w).world
+render_ends host trees w = ends_as w (rendered host trees w) (nests_end host trees (host.limit + 1) (whole w.stream) true [] w)
+
+pub render_stays : (host : Host) (trees : Trees) (w : World) → Stays w (rendered host trees w)
+render_stays host trees w = stays_by w (rendered host trees w) (render_ends host trees w)
+
+pub render_grows : (host : Host) (trees : Trees) (w : World) → Grows w (rendered host trees w)
+render_grows host trees w = grows_by w (rendered host trees w) (render_ends host trees w)

@@ -23,8 +23,12 @@ pub fn code_is_never_stuck()
         Renders p w (final got (Stuck left)) → ⊥ }
 {}
 
-/// A render keeps its state: no fuel comes back and no record is lost, also where it ends in a fault; where it doesn't, the scopes lie as deep, and the stream, the block, the escape and the blocks are as they were.
+/// A render keeps its state: it is the same one, no fuel comes back, and where the render is no fault the scopes lie as deep.
 pub fn a_render_keeps_its_state()
-    ensures { (host : Host) (trees : Trees) (w : World) →
-        Stays w (rendered host trees w) × Grows w (rendered host trees w) }
+    ensures { (host : Host) (trees : Trees) (w : World) → Stays w (rendered host trees w) }
+{}
+
+/// A render loses nothing: no record, also where it ends in a fault; and where it doesn't, the stream, the block, the escape and the blocks are as they were.
+pub fn a_render_loses_nothing()
+    ensures { (host : Host) (trees : Trees) (w : World) → Grows w (rendered host trees w) }
 {}
