@@ -34,13 +34,13 @@ use Rattle.tm_meaning.specs.World.{choose, World, Scope, Loop, loop_scope, new_l
 use Rattle.tm_meaning.specs.Calls.{Callee, whole, Asked, has, refused, runs, recurs, enter_block, call_named, call_first, call_method, call_innermost}
 use Rattle.tm_meaning.specs.Tree.{Trees}
 use Rattle.tm_meaning.specs.Meaning.{Again, ended, over, under, again_in, again_of, text_behind, Run, Outcome, Ending, done, leave, next, fault, Under, so_far, say, use_it, value_of, in_place_of, block_tag, truth, applied_unary, operated, applied, attribute, item_at, slice_of, list_of_values, map_of_pairs, audible as heard_here, none_waits, eval, eval_all, eval_pair, eval_pairs, eval_argument, eval_arguments, eval_keyword, eval_keywords, eval_named, keyword_map, one_counted, kept, loop_items, eval_condition, eval_conditions, eval_step, eval_links, eval_steps, assign, assign_all, set_to, set_each, capturing, rounds, loop_over, has_none, exec_behind_loop, done_by, emit, behind_first, exec, execs, exec_else, new_run, at_end, nests_of, rendered}
-use Rattle.tm_meaning.specs.Machine.{Return, new_capture, recursion, place_of_loop, Config, Finished, Failed, Stuck, More, Over, Program, after, goes, taken, on_taken, asked, asked_in_place, base_of, run_from, stuck, with_world}
+use Rattle.tm_meaning.specs.Machine.{Return, new_capture, recursion, place_of_loop, Capture as OpenCapture, Config, Finished, Failed, Stuck, More, Over, Program, after, goes, taken, on_taken, asked, asked_in_place, base_of, run_from, stuck, with_world}
 use Rattle.tm_meaning.specs.Instructions.{returned, returns, binary_of, paired, end_capture_of, replacing, is_no_loop, on_loop, iterate_of, iterate_with, push_did_not_iterate_of, pop_loop_with, looping}
 use Rattle.tm_meaning.specs.Steps.{act, finish, Final, final, Leads, over as is_over}
 use Rattle.tm_meaning.specs.Compiled.{IsCompiled}
 use Rattle.tm_meaning.proofs.Ends.{one_end}
 use Rattle.tm_simulation.specs.Kept.{shapes}
-use Rattle.tm_simulation.specs.Reached.{final_by, final_of, Renders}
+use Rattle.tm_simulation.specs.Reached.{RunsTo, Renders, text_in, end_by, final_in, final_of, HasLevels}
 use Rattle.tm_simulation.proofs.Place.{HasAt, has_front, has_behind, has_both, has_whole}
 use Rattle.tm_syntax.specs.declared.instruction.LoopPlace.{LoopPlace}
 use Rattle.tm_syntax.specs.Loops.{loops_before, passes, within_loop, past, pasts, FoundLoop, loops_in, loop_places}
@@ -49,7 +49,7 @@ use Rattle.tm_simulation.proofs.Numbers.{behind_code, expr_none, target_none, as
 use Rattle.tm_simulation.proofs.Loops.{LeftOf, next_item, no_item, left_then, turned_items, on_top_loop, next_record, new_record, none_is}
 use Rattle.tm_simulation.proofs.Keeps.{Kept, marks, kept_frames, kept_depth, kept_same, kept_then, kept_record, kept_popped, kept_cleared, kept_turned, top_of_marks, mark_behind, in_loop_of, opened, opened_kept, loop_ends, ends_use, Gives, EndsBy as EndsKept, Ends as KeptEnds, ends_as, tick_gives, answered_gives, Asks, block_asks, named_asks, method_asks, innermost_asks, again_end, eval_gives, condition_gives, all_give, pair_gives, pairs_give, argument_gives, arguments_give, keyword_gives, keywords_give, named_give, one_counted_gives, loop_items_give, step_gives, binary_gives, within, kept_unescaped, assign_gives, set_gives, set_each_gives, exec_ends, execs_end, nests_end}
 use Rattle.tm_simulation.proofs.Follow.{follows_map_kept, bound_follows, ends_map_kept, leave_then, next_then, Goes, round_then, opened_then, opened_follows, Bed, air, inside, captures_of, told_by, Spot, told, cfg, later, Follows, Then, Ends, whole_of, follows_map, follows_bind, bind_then, use_then, so_far_then, fault_then, do_then, within_then, Closed, closed_then, captured_in, Dropped, captured_then, ends_map, Go, silent, at, after_then, move, pushes, choose_then, choose_ends}
-use Rattle.tm_simulation.proofs.Forms.{Fits, Stands, fits_captured, audible_is, writes_then, end_by, end_of, Entered, call_in_place, call_as_value}
+use Rattle.tm_simulation.proofs.Forms.{Fits, Stands, fits_captured, audible_is, writes_then, end_by as bed_end, end_of, Entered, call_in_place, call_as_value}
 use Rattle.tm_meaning.specs.declared.stream.TemplateId.{TemplateId}
 use Rattle.tm_meaning.specs.declared.stream.StreamId.{StreamId}
 use Rattle.tm_meaning.specs.declared.base.Base.{Base}
@@ -1613,28 +1613,51 @@ module _ (p : Program) (trees : Trees) (compiled : IsCompiled trees p) where
   nests_run zero k heard b out w deep within = absurd (omega (arith, deep, within))
   nests_run (suc n) (whole id) heard b out w deep within = stream_runs n id heard b out w deep (nests_run n)
 
-  -- A render's run comes to what its trees mean, from any world, heard by the writer or by captures.
+  -- And so does any run that has levels enough, from any world, heard or not.
+  level_runs : (n : ℕ) (k : Callee) (heard : Bool) (b : Bed) (out : List ℕ) (w : World) → HasLevels p.host (suc n) w → Entered p k heard b out w (nests_of p.host trees (suc n) k heard out w)
+  level_runs n (whole id) heard b out w deep = stream_runs n id heard b out w deep (nests_run n)
+
+  -- A render's run comes to what its trees mean, heard by the writer or by captures.
   pub render_runs : (b : Bed) (w : World) → Entered p (whole w.stream) true b [] w (rendered p.host trees w)
   render_runs b w =
       let e : suc p.host.limit ≡ p.host.limit + 1 = omega arith in
-      let run : Entered p (whole w.stream) true b [] w (nests_of p.host trees (suc p.host.limit) (whole w.stream) true [] w) =
-      stream_runs p.host.limit w.stream true b [] w (omega arith) (nests_run p.host.limit) in
-      subst (λ n. Entered p (whole w.stream) true b [] w (nests_of p.host trees n (whole w.stream) true [] w)) e run
+      subst (λ n. Entered p (whole w.stream) true b [] w (nests_of p.host trees n (whole w.stream) true [] w)) e (level_runs p.host.limit (whole w.stream) true b [] w (omega arith))
+
+-- ---------------------------------------------------------------- over any captures
+unheard_end : (e : Ending) (out : List ℕ) (w : World) → bed_end e air out w ≡ final out (end_by e [] w)
+unheard_end done out w = refl
+unheard_end leave out w = refl
+unheard_end next out w = refl
+unheard_end (fault chain) out w = refl
+
+captured_end : (e : Ending) (h : Bool) (told : List ℕ) (ks : List OpenCapture) (out : List ℕ) (w : World) → bed_end e (inside h told ks) out w ≡ final told (end_by e (record { heard = h; text = out } ∷ ks) w)
+captured_end done h told ks out w = refl
+captured_end leave h told ks out w = refl
+captured_end next h told ks out w = refl
+captured_end (fault chain) h told ks out w = refl
+
+pub nested_comes_to_meaning : (trees : Trees) (p : Program) (n : ℕ) (k : Callee) (heard : Bool) (captures : List OpenCapture) (told : List ℕ) (w : World) → IsCompiled trees p → HasLevels p.host (suc n) w →
+    RunsTo p k heard captures told w (final_in captures told (nests_of p.host trees (suc n) k heard (text_in captures told) w))
+nested_comes_to_meaning trees p n k heard [] told w compiled enough =
+    let o = nests_of p.host trees (suc n) k heard told w in
+    subst (λ e. RunsTo p k heard [] told w e) (unheard_end o.ending o.text o.world) (level_runs p trees compiled n k heard air told w enough)
+nested_comes_to_meaning trees p n k heard (c ∷ ks) told w compiled enough =
+    let o = nests_of p.host trees (suc n) k heard c.text w in
+    subst (λ e. RunsTo p k heard (c ∷ ks) told w e) (captured_end o.ending c.heard told ks o.text o.world) (level_runs p trees compiled n k heard (inside c.heard told ks) c.text w enough)
 
 -- ---------------------------------------------------------------- renders
-heard_out : (o : Outcome) → end_of air o ≡ final_of o
-heard_out o = elim o.ending as (λ e. end_by e air o.text o.world ≡ final_by e o.text o.world) [ done ↦ refl | leave ↦ refl | next ↦ refl | fault chain ↦ refl ]
-
 pub comes_to_meaning : (trees : Trees) (p : Program) (w : World) → IsCompiled trees p → Renders p w (final_of (rendered p.host trees w))
-comes_to_meaning trees p w compiled = subst (λ o. Renders p w o) (heard_out (rendered p.host trees w)) (render_runs p trees compiled air w)
+comes_to_meaning trees p w compiled =
+    let o = rendered p.host trees w in
+    subst (λ e. Renders p w e) (unheard_end o.ending o.text o.world) (render_runs p trees compiled air w)
 
-not_stuck_by : (e : Ending) (t got : List ℕ) (w left : World) → final_by e t w ≡ final got (Stuck left) → ⊥
-not_stuck_by done t got w left e = let ends : Finished [] w ≡ Stuck left = ap (λ (o : Final). o.end) e in absurd (cc)
-not_stuck_by leave t got w left e = let ends : Finished [] w ≡ Stuck left = ap (λ (o : Final). o.end) e in absurd (cc)
-not_stuck_by next t got w left e = let ends : Finished [] w ≡ Stuck left = ap (λ (o : Final). o.end) e in absurd (cc)
-not_stuck_by (fault chain) t got w left e = let ends : Failed chain w ≡ Stuck left = ap (λ (o : Final). o.end) e in absurd (cc)
+not_stuck_by : (e : Ending) (w left : World) → end_by e [] w ≡ Stuck left → ⊥
+not_stuck_by done w left e = cc
+not_stuck_by leave w left e = cc
+not_stuck_by next w left e = cc
+not_stuck_by (fault chain) w left e = cc
 
 pub never_stuck : (trees : Trees) (p : Program) (w left : World) (got : List ℕ) → IsCompiled trees p → Renders p w (final got (Stuck left)) → ⊥
 never_stuck trees p w left got compiled reached =
     let o = rendered p.host trees w in
-    not_stuck_by o.ending o.text got o.world left (one_end (comes_to_meaning trees p w compiled) reached)
+    not_stuck_by o.ending o.world left (ap (λ (f : Final). f.end) (one_end (comes_to_meaning trees p w compiled) reached))

@@ -1,20 +1,30 @@
 //! Proofs: the code of trees comes to what the trees mean. The functions here are laws: they run nothing, and their contracts say what is proved.
 #![tactic(auto)]
 
-ghost use Rattle.std.specs.Prelude.{ℕ, List};
+ghost use Rattle.std.specs.Prelude.{ℕ, suc, List, Bool};
 ghost use Rattle.tm_meaning.specs.World.{Host, World};
+ghost use Rattle.tm_meaning.specs.Calls.{Callee};
 ghost use Rattle.tm_meaning.specs.Tree.{Trees};
-ghost use Rattle.tm_meaning.specs.Meaning.{rendered};
-ghost use Rattle.tm_meaning.specs.Machine.{Program, Stuck};
+ghost use Rattle.tm_meaning.specs.Meaning.{nests_of, rendered};
+ghost use Rattle.tm_meaning.specs.Machine.{Program, Capture, Stuck};
 ghost use Rattle.tm_meaning.specs.Steps.{final};
 ghost use Rattle.tm_meaning.specs.Compiled.{IsCompiled};
 ghost use Rattle.tm_simulation.specs.Kept.{Stays, Grows};
-ghost use Rattle.tm_simulation.specs.Reached.{final_of, Renders};
+ghost use Rattle.tm_simulation.specs.Reached.{RunsTo, Renders, text_in, final_in, final_of, HasLevels};
 
 /// The code of trees, from any world, comes to what the trees mean: its text, its world, and its end.
 pub fn code_comes_to_its_meaning()
     ensures { (trees : Trees) (p : Program) (w : World) → IsCompiled trees p →
         Renders p w (final_of (rendered p.host trees w)) }
+{}
+
+/// So does the code of a stream in a run of its own, from any world: heard or not, over any open captures and whatever the writer has got, with levels enough. No more than the innermost capture's text changes of those.
+pub fn nested_code_comes_to_its_meaning()
+    ensures { (trees : Trees) (p : Program) (n : ℕ) (k : Callee) (heard : Bool)
+        (captures : List Capture) (told : List ℕ) (w : World) →
+        IsCompiled trees p → HasLevels p.host (suc n) w →
+        let meant = nests_of p.host trees (suc n) k heard (text_in captures told) w in
+        RunsTo p k heard captures told w (final_in captures told meant) }
 {}
 
 /// The code of trees is never stuck.
