@@ -18,7 +18,7 @@ pub fn code_comes_to_its_meaning()
         Renders p w (final_of (rendered p.host trees w)) }
 {}
 
-/// So does the code of a stream in a run of its own, from any world: heard or not, over any open captures and whatever the writer has got, with levels enough. No more than the innermost capture's text changes of those.
+/// So does the code of a stream in any run of its own: heard or not, from any world, over any open captures and whatever the writer has got, where the levels are enough. Of the captures the innermost one's text alone changes.
 pub fn nested_code_comes_to_its_meaning()
     ensures { (trees : Trees) (p : Program) (n : ℕ) (k : Callee) (heard : Bool)
         (captures : List Capture) (told : List ℕ) (w : World) →
