@@ -178,12 +178,17 @@ same_captures (inside x t ks) out out1 = refl
 stands_later : (f : Base) (run : Run) (s : Spot) → Stands f run s → (q : Option TemplateId) (out : List ℕ) → Stands f run (later s q out)
 stands_later f run s stands q out = (stands.0, subst (λ n. s.run.floor ≤ n) (same_captures s.bed s.out out) stands.1, stands.2)
 
+-- Runs that nest, with so many levels, come to what they mean, from worlds within the limit.
+abbrev AllNested : Program → Trees → ℕ → Type 0
+AllNested p trees n =
+    (k : Callee) (heard : Bool) (b : Bed) (out : List ℕ) (w : World) → HasLevels p.host n w → depth w.scopes ≤ p.host.limit → Entered p k heard b out w (nests_of p.host trees n k heard out w)
+
 -- So many levels are left for what nests and for loops that are called, and the scopes of the run's start stand.
 -- A loop that is called opens its scope within the limit, so in it the depth is. Before any call it may be more, where the run began so; then no loop has room for its scope.
 record Levels (context : Context) (n level : ℕ) (w : World) : Type 0 where
-  nests : context.program.host.limit + 1 ≤ suc n + depth w.scopes
+  nests : HasLevels context.program.host (suc n) w
   scopes : context.base.scopes ≤ length w.scopes.frames
-  calls : context.program.host.limit + 1 ≤ level + depth w.scopes
+  calls : HasLevels context.program.host level w
   within_call : level ≤ context.program.host.limit → depth w.scopes ≤ context.program.host.limit
 
 -- So many levels are left, and the text goes where the meaning's does, in code of this stream.
@@ -234,8 +239,7 @@ levels_called context n level a w room l = record {
 }
 
 module _ (context : Context) (trees : Trees) (n : ℕ)
-    (entered : (k : Callee) (heard : Bool) (b : Bed) (out : List ℕ) (w : World) → context.program.host.limit + 1 ≤ n + depth w.scopes → depth w.scopes ≤ context.program.host.limit →
-    Entered context.program k heard b out w (nests_of context.program.host trees n k heard out w)) (id : StreamId) (level : ℕ) (again : Again)
+    (entered : AllNested context.program trees n) (id : StreamId) (level : ℕ) (again : Again)
     (again_kept : (m : ℕ) (items : List Val) (run : Run) (out : List ℕ) (w : World) → KeptEnds w (again m items run out w))
     (called_in_place : CalledInPlace context n id level again) (called_as_value : CalledAsValue context n id level again) where
   abbrev u : Under
@@ -1560,7 +1564,7 @@ module _ (p : Program) (trees : Trees) (compiled : IsCompiled trees p) where
 
   -- Loops that are called come behind their calls. Level zero isn't reached: each call opens a scope within the limit, and there is one level more than the limit.
   again_runs : (f : Base) (end : Final) (n : ℕ) →
-      ((k : Callee) (heard : Bool) (b : Bed) (out : List ℕ) (w : World) → p.host.limit + 1 ≤ n + depth w.scopes → depth w.scopes ≤ p.host.limit → Entered p k heard b out w (nests_of p.host trees n k heard out w)) →
+      AllNested p trees n →
       (id : StreamId) (level : ℕ) → CalledInPlace (in_program f end) n id level (again_of p.host (nests_of p.host trees n) (trees id) level) × CalledAsValue (in_program f end) n id level (again_of p.host (nests_of p.host trees n) (trees id) level)
   again_runs f end n below id zero = (
     λ m items run s pc stack old w0 w D L N d h g. absurd (omega (arith, d.0.calls, d.0.within_call)),
@@ -1583,8 +1587,8 @@ module _ (p : Program) (trees : Trees) (compiled : IsCompiled trees p) where
       )
 
   -- A stream's run comes to what its tree means, where what nests does so a level below.
-  stream_runs : (n : ℕ) (id : StreamId) (heard : Bool) (b : Bed) (out : List ℕ) (w : World) → p.host.limit + 1 ≤ suc n + depth w.scopes →
-      ((k : Callee) (heard : Bool) (b : Bed) (out : List ℕ) (w : World) → p.host.limit + 1 ≤ n + depth w.scopes → depth w.scopes ≤ p.host.limit → Entered p k heard b out w (nests_of p.host trees n k heard out w)) →
+  stream_runs : (n : ℕ) (id : StreamId) (heard : Bool) (b : Bed) (out : List ℕ) (w : World) → HasLevels p.host (suc n) w →
+      AllNested p trees n →
       Entered p (whole id) heard b out w (nests_of p.host trees (suc n) (whole id) heard out w)
   stream_runs n id heard b out w deep below =
       let nests = nests_of p.host trees n in
@@ -1614,8 +1618,7 @@ module _ (p : Program) (trees : Trees) (compiled : IsCompiled trees p) where
       (stops, stops) stands refl placed
 
   -- What nests comes to what it means. Level zero isn't reached, since a run stands one level deeper than the one that needs it, within the limit.
-  nests_run : (n : ℕ) (k : Callee) (heard : Bool) (b : Bed) (out : List ℕ) (w : World) → p.host.limit + 1 ≤ n + depth w.scopes → depth w.scopes ≤ p.host.limit →
-      Entered p k heard b out w (nests_of p.host trees n k heard out w)
+  nests_run : (n : ℕ) → AllNested p trees n
   nests_run zero k heard b out w deep within = absurd (omega (arith, deep, within))
   nests_run (suc n) (whole id) heard b out w deep within = stream_runs n id heard b out w deep (nests_run n)
 

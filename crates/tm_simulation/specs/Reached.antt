@@ -45,6 +45,6 @@ final_in captures told o = final (told_with captures told o.text) (end_by o.endi
 abbrev pub final_of : Outcome → Final
 final_of o = final_in [] [] o
 
--- So many levels of runs, one in the other, are enough from this world: each stands a scope deeper, and none beyond the limit.
+-- So many levels of runs, one in the other, are enough from this world, since each stands a scope deeper and none beyond the limit. One more than the limit are from any world.
 abbrev pub HasLevels : Host → ℕ → World → Type 0
 HasLevels host n w = host.limit + 1 ≤ n + depth w.scopes
