@@ -1,5 +1,5 @@
 -- The records of loops: what is left of their items.
-use Rattle.std.proofs.Common.{◌≡◌, ℕ, zero, suc, ◌+◌, ◌<◌, List, [], ◌∷◌, ◌++◌, length, Option, Some, None, Bool, true, false, nat_lt, refl, sym, ap, ◌∙◌, subst, arith, length-append, append_assoc, le-ltb, ne_eqb}
+use Rattle.std.proofs.Common.{◌≡◌, ℕ, zero, suc, ◌+◌, List, [], ◌∷◌, ◌++◌, length, Option, Some, None, Bool, false, nat_lt, refl, sym, ap, ◌∙◌, subst, arith, length-append, append_assoc, le-ltb, ne_eqb}
 use Rattle.std.specs.Prelude.{slice_get, nat_eq, option_and_then}
 use Rattle.tm_values.specs.Val.{Val}
 use Rattle.tm_meaning.specs.World.{World, Loop, new_loop, turned, turned_at, turned_of, top_mark, next_turn, top_loop}
@@ -8,7 +8,8 @@ use Rattle.tm_meaning.specs.Instructions.{on_loop}
 use Rattle.tm_syntax.specs.declared.instruction.LoopFlags.{LoopFlags}
 use Rattle.tm_meaning.specs.declared.mark.LoopMark.{LoopMark}
 use Rattle.tm_meaning.specs.Meaning.{has_none}
-use Rattle.tm_simulation.proofs.Keeps.{Kept, shape, shapes, shapes_long, shapes_behind, turned_shapes, opened, marks, mark_behind, in_loop_of, top_of_marks}
+use Rattle.tm_simulation.specs.Kept.{shape, shapes}
+use Rattle.tm_simulation.proofs.Keeps.{Kept, shapes_long, shapes_behind, turned_shapes, opened, marks, mark_behind, in_loop_of, top_of_marks}
 
 pub seam_some : {A : Type 0} (a b : List A) (v : A) → slice_get (a ++ v ∷ b) (length a) ≡ Some v
 seam_some [] b v = refl

@@ -1,5 +1,5 @@
 -- The loops of a tree stand in its code, each at its number.
-use Rattle.std.proofs.Common.{◌≡◌, ℕ, zero, suc, ◌+◌, ◌⊎◌, inl, inr, List, [], ◌∷◌, ◌++◌, length, Option, Some, None, Bool, true, false, refl, sym, ap, subst, ◌∙◌, arith, length-append}
+use Rattle.std.proofs.Common.{◌≡◌, ℕ, zero, suc, ◌+◌, ◌⊎◌, inl, inr, List, [], ◌∷◌, ◌++◌, length, Option, Some, None, true, refl, sym, ap, subst, ◌∙◌, arith}
 use Rattle.std.specs.Prelude.{slice_get, pos}
 use Rattle.std.proofs.lemmas.List.{append-nil}
 use Rattle.tm_values.specs.Val.{number}
@@ -10,15 +10,14 @@ use Rattle.tm_syntax.specs.declared.instruction.CaptureMode.TheVariants.{Capture
 use Rattle.tm_syntax.specs.declared.tree.Expr.{Expr}
 use Rattle.tm_syntax.specs.declared.tree.Target.{Target}
 use Rattle.tm_syntax.specs.declared.tree.Stmt.{Stmt, EmitRaw, EmitExpr, EmitLoop, If', For', Break, Continue, Block', Set, SetBlock', With', Do, AutoEscape', Row_of-Stmt, end_of-Stmt as no_statement, more_of-Stmt as statement, Held-Stmt-If-2 as Otherwise, None' as no_else, Some' as otherwise}
-use Rattle.tm_syntax.specs.Code.{Inside, opening, outside, close_all, jump_over, for_flags, filter_flags, expr_code, target_code, set_code, assignments_code, iterable_code, filter_code, statement_code, statements_code, otherwise_code, behind_loop_code}
-use Rattle.tm_syntax.specs.declared.opened.Opened.{Opened}
+use Rattle.tm_syntax.specs.Code.{Inside, opening, outside, jump_over, for_flags, filter_flags, expr_code, target_code, assignments_code, iterable_code, filter_code, statement_code, statements_code, otherwise_code, behind_loop_code}
 use Rattle.tm_syntax.specs.declared.opened.Opened.TheVariants.{Scope as a_scope, Escape as an_escape, Capture as a_capture}
 use Rattle.tm_syntax.specs.Blocks.{body_of}
 use Rattle.tm_syntax.proofs.Long.{statements_long}
 use Rattle.tm_syntax.specs.declared.instruction.LoopPlace.{LoopPlace}
-use Rattle.tm_syntax.specs.Loops.{begins, with_place, one_more_loop, loops_before, loop_places, FoundLoop, with_pass, passes, within_loop, past, pasts, past_else, loops_of, loops_in, loops_else}
+use Rattle.tm_syntax.specs.Loops.{begins, with_place, one_more_loop, loops_before, loop_places, FoundLoop, with_pass, within_loop, past, pasts, loops_of, loops_in, loops_else}
 use Rattle.tm_simulation.proofs.Place.{HasAt, has_front, has_behind, has_both}
-use Rattle.tm_simulation.proofs.Numbers.{count, count_both, behind_code, expr_none, target_none, set_none, assignments_none, iterable_count, statement_count, statements_count, otherwise_count, behind_loop_count}
+use Rattle.tm_simulation.proofs.Numbers.{count, count_both, behind_code, expr_none, target_none, assignments_none, iterable_count, statement_count, statements_count}
 
 -- ---------------------------------------------------------------- places
 with_place_front : (o : Option LoopFlags) (pc : ℕ) (a b : List LoopPlace) → with_place o pc (a ++ b) ≡ with_place o pc a ++ b

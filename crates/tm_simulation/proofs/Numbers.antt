@@ -1,5 +1,5 @@
 -- How many loops begin in the code of a tree.
-use Rattle.std.proofs.Common.{◌≡◌, ℕ, zero, suc, ◌+◌, List, [], ◌∷◌, ◌++◌, length, Option, Some, None, Bool, true, false, pos, refl, sym, ap, ◌∙◌, arith}
+use Rattle.std.proofs.Common.{◌≡◌, ℕ, zero, suc, ◌+◌, List, [], ◌∷◌, ◌++◌, length, Option, Some, None, true, pos, refl, sym, ap, ◌∙◌, arith}
 use Rattle.std.specs.Prelude.{slice_get}
 use Rattle.tm_syntax.specs.declared.instruction.Instruction.{Instruction}
 use Rattle.tm_syntax.specs.declared.instruction.Instruction.TheVariants as i
@@ -20,7 +20,7 @@ use Rattle.tm_syntax.specs.declared.tree.Assignment.TheVariants.{Assignment as G
 use Rattle.tm_syntax.specs.Forms.{unary, chained, conditional, condition, comparison, pair, plain, keyword, item, slice, binary, compare, and_then, or_else}
 use Rattle.tm_syntax.specs.declared.tree.Stmt.{Stmt, EmitRaw, EmitExpr, EmitLoop, If', For', Break, Continue, Block', Set, SetBlock', With', Do, AutoEscape', Row_of-Stmt, end_of-Stmt as no_statement, more_of-Stmt as statement, Held-Stmt-If-2 as Otherwise, None' as no_else, Some' as otherwise}
 use Rattle.tm_values.specs.Val.{number}
-use Rattle.tm_syntax.specs.Code.{Inside, opening, outside, close_all, jump_over, iterable_code, filter_code, statement_code, statements_code, otherwise_code, behind_loop_code, unary_code, binary_code, before, expr_code, conditions_code, condition_code, exprs_code, pair_code, pairs_code, argument_code, arguments_code, keyword_code, keywords_code, named_code, step_code, links_code, steps_code, target_code, targets_code, set_code, assignments_code}
+use Rattle.tm_syntax.specs.Code.{Inside, opening, outside, close_all, jump_over, iterable_code, filter_code, statement_code, statements_code, otherwise_code, behind_loop_code, unary_code, binary_code, expr_code, conditions_code, condition_code, exprs_code, pair_code, pairs_code, argument_code, arguments_code, keyword_code, keywords_code, named_code, step_code, links_code, steps_code, target_code, targets_code, set_code, assignments_code}
 use Rattle.tm_syntax.specs.declared.opened.Opened.{Opened}
 use Rattle.tm_syntax.specs.declared.opened.Opened.TheVariants.{Scope as a_scope, Escape as an_escape, Capture as a_capture}
 use Rattle.tm_syntax.specs.Loops.{begins, one_more_loop, loops_before, passes, within_loop, past, pasts, past_else}

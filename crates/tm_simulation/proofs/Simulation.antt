@@ -1,5 +1,5 @@
 -- The code of trees comes to what the trees mean.
-use Rattle.std.proofs.Common.{le-ltb, ◌≡◌, ℕ, zero, suc, ◌+◌, ◌<◌, ◌≤◌, ◌⊎◌, inl, inr, List, [], ◌∷◌, ◌++◌, length, Option, Some, None, Bool, true, false, refl, sym, ap, ◌∙◌, subst, arith, length-append, eq-eqb, lt-ltb, eqb-true}
+use Rattle.std.proofs.Common.{◌≡◌, ℕ, zero, suc, ◌+◌, ◌<◌, ◌≤◌, ◌⊎◌, inl, inr, List, [], ◌∷◌, ◌++◌, length, Option, Some, None, Bool, true, false, refl, sym, ap, ◌∙◌, subst, arith, length-append, eq-eqb, lt-ltb, ltb-true, eqb-true}
 use Rattle.std.specs.Prelude.{ℤ, pos, slice_get, ◌&&◌, nat_eq, nat_lt, ◌==◌, cond, Ok, Err}
 use Rattle.std.proofs.lemmas.List.{append-nil}
 use Rattle.std.proofs.lemmas.Option.{slice_get_past}
@@ -32,25 +32,26 @@ use Rattle.tm_syntax.specs.Code.{expr_code, condition_code, conditions_code, exp
 use Rattle.tm_syntax.specs.declared.opened.Opened.{Opened}
 use Rattle.tm_syntax.specs.declared.opened.Opened.TheVariants.{Scope as a_scope, Escape as an_escape, Capture as a_capture}
 use Rattle.tm_syntax.proofs.Long.{statements_long}
-use Rattle.tm_meaning.specs.World.{choose, World, Scope, Loop, Host, loop_scope, new_loop, open_loop, turned, next_turn, cleared, top_mark, top_loop, items_over, Res, Good, Bad, bind, tick, depth, push, pop, plain as plain_scope, items_of, set_member, answered, emitted, looked_up, escape_for, with_escape, captured_text}
-use Rattle.tm_meaning.specs.Calls.{Callee, whole, Call, Asked, has, refused, runs, recurs, enter_block, call_named, call_first, call_method, call_innermost}
-use Rattle.tm_meaning.specs.Tree.{Trees, Body}
-use Rattle.tm_meaning.specs.Meaning.{Again, ended, over, under, again_in, again_of, text_behind, Run, Outcome, Ending, done, leave, next, fault, Nests, Under, so_far, say, use_it, then_do, value_of, in_place_of, block_tag, truth, applied_unary, operated, applied, attribute, item_at, slice_of, list_of_values, map_of_pairs, audible as heard_here, none_waits, eval, eval_all, eval_pair, eval_pairs, eval_argument, eval_arguments, eval_keyword, eval_keywords, eval_named, keyword_map, one_counted, kept, loop_items, eval_condition, eval_conditions, eval_step, eval_links, eval_steps, assign, assign_all, set_to, set_each, closing, capturing, captured, rounds, loop_over, has_none, exec_behind_loop, done_by, emit, behind_first, exec, execs, exec_else, new_run, at_end, stream_run, nests_of, rendered}
-use Rattle.tm_meaning.specs.Machine.{Return, Capture as OpenCapture, new_capture, recursion, place_of_loop, Activation, Config, Finished, Failed, Stuck, Next, More, Over, Program, after, goes, taken, on_taken, asked, asked_in_place, base_of, start, run_from, stuck, audible, with_world}
+use Rattle.tm_meaning.specs.World.{choose, World, Scope, Loop, loop_scope, new_loop, open_loop, turned, next_turn, cleared, top_mark, top_loop, items_over, Res, Good, Bad, bind, tick, depth, push, pop, plain as plain_scope, items_of, set_member, answered, emitted, looked_up, escape_for, with_escape, captured_text}
+use Rattle.tm_meaning.specs.Calls.{Callee, whole, Asked, has, refused, runs, recurs, enter_block, call_named, call_first, call_method, call_innermost}
+use Rattle.tm_meaning.specs.Tree.{Trees}
+use Rattle.tm_meaning.specs.Meaning.{Again, ended, over, under, again_in, again_of, text_behind, Run, Outcome, Ending, done, leave, next, fault, Under, so_far, say, use_it, value_of, in_place_of, block_tag, truth, applied_unary, operated, applied, attribute, item_at, slice_of, list_of_values, map_of_pairs, audible as heard_here, none_waits, eval, eval_all, eval_pair, eval_pairs, eval_argument, eval_arguments, eval_keyword, eval_keywords, eval_named, keyword_map, one_counted, kept, loop_items, eval_condition, eval_conditions, eval_step, eval_links, eval_steps, assign, assign_all, set_to, set_each, capturing, rounds, loop_over, has_none, exec_behind_loop, done_by, emit, behind_first, exec, execs, exec_else, new_run, at_end, nests_of, rendered}
+use Rattle.tm_meaning.specs.Machine.{Return, new_capture, recursion, place_of_loop, Capture as OpenCapture, Config, Finished, Failed, Stuck, More, Over, Program, after, goes, taken, on_taken, asked, asked_in_place, base_of, run_from, stuck, with_world}
 use Rattle.tm_meaning.specs.Instructions.{returned, returns, binary_of, paired, end_capture_of, replacing, is_no_loop, on_loop, iterate_of, iterate_with, push_did_not_iterate_of, pop_loop_with, looping}
-use Rattle.tm_meaning.specs.Steps.{act, step, closed, finish, Final, final, Leads, over as is_over}
-use Rattle.tm_meaning.specs.Compiled.{IsCompiled, code_of}
+use Rattle.tm_meaning.specs.Steps.{act, finish, Final, final, over as is_over}
+use Rattle.tm_meaning.specs.Compiled.{IsCompiled}
 use Rattle.tm_meaning.proofs.Ends.{one_end}
-use Rattle.tm_simulation.specs.Reached.{final_by, final_of, Renders}
+use Rattle.tm_simulation.specs.Kept.{shapes}
+use Rattle.tm_simulation.specs.Reached.{RunsTo, Renders, text_in, end_by, final_in, final_of, HasLevels}
 use Rattle.tm_simulation.proofs.Place.{HasAt, has_front, has_behind, has_both, has_whole}
 use Rattle.tm_syntax.specs.declared.instruction.LoopPlace.{LoopPlace}
 use Rattle.tm_syntax.specs.Loops.{loops_before, passes, within_loop, past, pasts, FoundLoop, loops_in, loop_places}
-use Rattle.tm_simulation.proofs.Matches.{IsAt, Both, Looped, Match, match_at, statements_match}
+use Rattle.tm_simulation.proofs.Matches.{Both, Looped, Match, match_at, statements_match}
 use Rattle.tm_simulation.proofs.Numbers.{behind_code, expr_none, target_none, assignments_none, iterable_count, statement_count, statements_count}
 use Rattle.tm_simulation.proofs.Loops.{LeftOf, next_item, no_item, left_then, turned_items, on_top_loop, next_record, new_record, none_is}
-use Rattle.tm_simulation.proofs.Keeps.{Kept, one_more, shapes, marks, kept_frames, kept_depth, kept_same, kept_then, kept_record, kept_popped, kept_cleared, kept_turned, top_of_marks, mark_behind, in_loop_of, opened, opened_kept, loop_ends, ends_use, Gives, EndsBy as EndsKept, Ends as KeptEnds, ends_as, tick_gives, answered_gives, Asks, block_asks, named_asks, method_asks, innermost_asks, again_end, eval_gives, condition_gives, all_give, pair_gives, pairs_give, argument_gives, arguments_give, keyword_gives, keywords_give, named_give, one_counted_gives, kept_gives, test_gives, loop_items_give, recorded, step_gives, steps_give, unary_gives, binary_gives, looked_up_gives, within, kept_escaped, assign_gives, set_gives, set_each_gives, exec_ends, execs_end, nests_end}
-use Rattle.tm_simulation.proofs.Follow.{follows_map_kept, bound_follows, ends_map_kept, leave_then, next_then, Goes, round_then, opened_then, opened_follows, Bed, air, inside, captures_of, told_by, Spot, told, cfg, later, Follows, Then, Ends, whole_of, follows_map, follows_bind, bind_then, use_then, so_far_then, fault_then, do_then, within_then, Closed, closed_then, captured_in, Dropped, captured_then, ends_map, Go, silent, at, after_then, move, pushes, choose_then, choose_ends}
-use Rattle.tm_simulation.proofs.Forms.{Fits, Stands, fits_captured, audible_is, writes_then, end_by, end_of, Entered, call_in_place, call_as_value}
+use Rattle.tm_simulation.proofs.Keeps.{Kept, marks, kept_frames, kept_depth, kept_same, kept_then, kept_record, kept_popped, kept_cleared, kept_turned, top_of_marks, mark_behind, in_loop_of, opened, opened_kept, loop_ends, ends_use, Gives, EndsBy as EndsKept, Ends as KeptEnds, ends_as, tick_gives, answered_gives, Asks, block_asks, named_asks, method_asks, innermost_asks, again_end, eval_gives, condition_gives, all_give, pair_gives, pairs_give, argument_gives, arguments_give, keyword_gives, keywords_give, named_give, one_counted_gives, loop_items_give, step_gives, binary_gives, within, kept_unescaped, assign_gives, set_gives, set_each_gives, exec_ends, execs_end, nests_end}
+use Rattle.tm_simulation.proofs.Follow.{Context, Comes, follows_map_kept, bound_follows, ends_map_kept, leave_then, next_then, Goes, round_then, opened_then, opened_follows, Bed, air, inside, captures_of, told_by, Spot, told, cfg, later, Follows, Then, Ends, whole_of, follows_map, follows_bind, bind_then, use_then, so_far_then, fault_then, do_then, within_then, Closed, closed_then, captured_in, Dropped, captured_then, ends_map, Go, silent, at, after_then, move, pushes, choose_then, choose_ends}
+use Rattle.tm_simulation.proofs.Forms.{Fits, Stands, fits_captured, audible_is, writes_then, end_by as bed_end, end_of, Entered, call_in_place, call_as_value}
 use Rattle.tm_meaning.specs.declared.stream.TemplateId.{TemplateId}
 use Rattle.tm_meaning.specs.declared.stream.StreamId.{StreamId}
 use Rattle.tm_meaning.specs.declared.base.Base.{Base}
@@ -127,10 +128,10 @@ items_long : (n : ℕ) (v : Val) (w : World) → IsLong n (items_of n v w)
 items_long n v w = exactly_long n _ w
 
 -- the same as `bind_then`, of as many as were asked for
-bind_long : {A B : Type 0} (r : Final) (t : List ℕ) (w : World) (n : ℕ) (m : Res (List A)) (g : List A → World → Res B) (K : B → World → Type 0) (L : List A → World → Type 0) →
-    Gives w m → IsLong n m → Follows r t (bind m g) K → ((xs : List A) (world1 : World) → Kept w world1 → length xs ≡ n → Follows r t (g xs world1) K → L xs world1) → Follows r t m L
-bind_long r t w n (Good xs world1) g K L e l h k = k xs world1 e l h
-bind_long r t w n (Bad chain world1) g K L e l h k = h
+bind_long : {A B : Type 0} (context : Context) (t : List ℕ) (w : World) (n : ℕ) (m : Res (List A)) (g : List A → World → Res B) (K : B → World → Type 0) (L : List A → World → Type 0) →
+    Gives w m → IsLong n m → Follows context t (bind m g) K → ((xs : List A) (world1 : World) → Kept w world1 → length xs ≡ n → Follows context t (g xs world1) K → L xs world1) → Follows context t m L
+bind_long context t w n (Good xs world1) g K L e l h k = k xs world1 e l h
+bind_long context t w n (Bad chain world1) g K L e l h k = h
 
 -- keys, each with its value behind it
 abbrev flat : List (Val × Val) → List Val
@@ -154,14 +155,14 @@ links_long end to pc op (with_comparison (comparison op1 a) more) =
     omega (arith, length-append c (links_code end place op1 more), length-append c (links_code to place op1 more), links_long end to place op1 more)
 
 -- one more than a count, where that is a number still
-counted_by : (r : Final) (t : List ℕ) (z : ℤ) (fits : Bool) (w : World) (K L : Val → World → Type 0) → Follows r t (answered (number_answer (cond fits (Some z) None)) w) K → (K (number z) w → L (number z) w) →
-    Follows r t (answered (number_answer (cond fits (Some z) None)) w) L
-counted_by r t z true w K L h k = k h
-counted_by r t z false w K L h k = h
+counted_by : (context : Context) (t : List ℕ) (z : ℤ) (fits : Bool) (w : World) (K L : Val → World → Type 0) → Follows context t (answered (number_answer (cond fits (Some z) None)) w) K → (K (number z) w → L (number z) w) →
+    Follows context t (answered (number_answer (cond fits (Some z) None)) w) L
+counted_by context t z true w K L h k = k h
+counted_by context t z false w K L h k = h
 
-one_more_then : (r : Final) (t : List ℕ) (n : ℕ) (w : World) (K L : Val → World → Type 0) → Follows r t (answered (added (number (pos n)) (number (pos 1))) w) K → (K (number (pos (n + 1))) w → L (number (pos (n + 1))) w) →
-    Follows r t (answered (added (number (pos n)) (number (pos 1))) w) L
-one_more_then r t n w K L h k = counted_by r t (pos (n + 1)) _ w K L h k
+one_more_then : (context : Context) (t : List ℕ) (n : ℕ) (w : World) (K L : Val → World → Type 0) → Follows context t (answered (added (number (pos n)) (number (pos 1))) w) K → (K (number (pos (n + 1))) w → L (number (pos (n + 1))) w) →
+    Follows context t (answered (added (number (pos n)) (number (pos 1))) w) L
+one_more_then context t n w K L h k = counted_by context t (pos (n + 1)) _ w K L h k
 
 items_back : (vs : List Val) → list_of (vals_of vs) ≡ vs
 items_back [] = refl
@@ -179,107 +180,146 @@ same_captures (inside x t ks) out out1 = refl
 stands_later : (f : Base) (run : Run) (s : Spot) → Stands f run s → (q : Option TemplateId) (out : List ℕ) → Stands f run (later s q out)
 stands_later f run s stands q out = (stands.0, subst (λ n. s.run.floor ≤ n) (same_captures s.bed s.out out) stands.1, stands.2)
 
--- So many levels are left for what nests and for loops that are called, the scopes of the run's start stand, and the text goes where the meaning's does.
-abbrev DeepIn : Program → Base → ℕ → StreamId → ℕ → Run → Spot → World → Type 0
-DeepIn p f n id level run s w =
-    (p.host.limit + 1 ≤ suc n + depth w.scopes) × (f.scopes ≤ length w.scopes.frames) × Stands f run s × (s.run.stream ≡ id) × (p.host.limit + 1 ≤ level + depth w.scopes)
+-- Runs that nest, with so many levels, come to what they mean, from worlds within the limit.
+abbrev AllNested : Program → Trees → ℕ → Type 0
+AllNested p trees n =
+    (k : Callee) (heard : Bool) (b : Bed) (out : List ℕ) (w : World) → HasLevels p.host n w → depth w.scopes ≤ p.host.limit → Entered p k heard b out w (nests_of p.host trees n k heard out w)
+
+-- So many levels are left for what nests and for loops that are called, and the scopes of the run's start stand.
+-- A loop that is called opens its scope within the limit, so in it the depth is. Before any call it may be more, where the run began so; then no loop has room for its scope.
+record Levels (context : Context) (n level : ℕ) (w : World) : Type 0 where
+  nests : HasLevels context.program.host (suc n) w
+  scopes : context.base.scopes ≤ length w.scopes.frames
+  calls : HasLevels context.program.host level w
+  within_call : level ≤ context.program.host.limit → depth w.scopes ≤ context.program.host.limit
+
+-- So many levels are left, and the text goes where the meaning's does, in code of this stream.
+abbrev DeepIn : Context → ℕ → StreamId → ℕ → Run → Spot → World → Type 0
+DeepIn context n id level run s w = Levels context n level w × Stands context.base run s × (s.run.stream ≡ id)
 
 -- And the same parent waits for both.
-abbrev HereIn : Program → Base → ℕ → StreamId → ℕ → Run → Spot → World → Type 0
-HereIn p f n id level run s w =
-    (p.host.limit + 1 ≤ suc n + depth w.scopes) × (f.scopes ≤ length w.scopes.frames) × Stands f run s × (s.run.stream ≡ id) × (p.host.limit + 1 ≤ level + depth w.scopes) × (run.parent ≡ s.parent)
+abbrev HereIn : Context → ℕ → StreamId → ℕ → Run → Spot → World → Type 0
+HereIn context n id level run s w = Levels context n level w × Stands context.base run s × (s.run.stream ≡ id) × (run.parent ≡ s.parent)
 
 -- A loop that is called, in place and as a value, comes behind its call with what its rounds mean.
-abbrev CalledInPlace : Program → Base → Final → ℕ → StreamId → ℕ → Again → Type 1
-CalledInPlace p f r n id level again =
-    (m : ℕ) (items : List Val) (run : Run) (s : Spot) (pc : ℕ) (stack old : List Val) (w0 w : World) (D L N : Then) → DeepIn p f n id level run s w →
-    Ends r s.bed (again m items (as_at run s) s.out w) D L N → ((q : Option TemplateId) (out1 : List ℕ) (x : World) → D q out1 x → Go p f r (later s q out1) (pc + 1) stack x) →
-    Leads p f (told s) (recursion p (cfg s pc old w0) false stack (captures_of s.bed s.out) m (place_of_loop p (cfg s pc old w0) m) items w) r
+abbrev CalledInPlace : Context → ℕ → StreamId → ℕ → Again → Type 1
+CalledInPlace context n id level again =
+    (m : ℕ) (items : List Val) (run : Run) (s : Spot) (pc : ℕ) (stack old : List Val) (w0 w : World) (D L N : Then) → DeepIn context n id level run s w →
+    Ends context s.bed (again m items (as_at run s) s.out w) D L N → ((q : Option TemplateId) (out1 : List ℕ) (x : World) → D q out1 x → Go context (later s q out1) (pc + 1) stack x) →
+    Comes context (told s) (recursion context.program (cfg s pc old w0) false stack (captures_of s.bed s.out) m (place_of_loop context.program (cfg s pc old w0) m) items w)
 
-abbrev CalledAsValue : Program → Base → Final → ℕ → StreamId → ℕ → Again → Type 1
-CalledAsValue p f r n id level again =
-    (m : ℕ) (items : List Val) (run : Run) (s : Spot) (pc : ℕ) (stack old : List Val) (w0 w : World) (K : Val → World → Type 0) → HereIn p f n id level run s w →
-    (let o = again m items (capturing true run) [] w in Follows r (told s) (text_behind o.ending o) K) → ((v : Val) (x : World) → K v x → Go p f r s (pc + 1) (v ∷ stack) x) →
-    Leads p f (told s) (recursion p (cfg s pc old w0) true stack (new_capture true ∷ captures_of s.bed s.out) m (place_of_loop p (cfg s pc old w0) m) items w) r
+abbrev CalledAsValue : Context → ℕ → StreamId → ℕ → Again → Type 1
+CalledAsValue context n id level again =
+    (m : ℕ) (items : List Val) (run : Run) (s : Spot) (pc : ℕ) (stack old : List Val) (w0 w : World) (K : Val → World → Type 0) → HereIn context n id level run s w →
+    (let o = again m items (capturing true run) [] w in Follows context (told s) (text_behind o.ending o) K) → ((v : Val) (x : World) → K v x → Go context s (pc + 1) (v ∷ stack) x) →
+    Comes context (told s) (recursion context.program (cfg s pc old w0) true stack (new_capture true ∷ captures_of s.bed s.out) m (place_of_loop context.program (cfg s pc old w0) m) items w)
 
-module _ (p : Program) (f : Base) (r : Final) (trees : Trees) (n : ℕ)
-    (entered : (k : Callee) (heard : Bool) (b : Bed) (out : List ℕ) (w : World) → p.host.limit + 1 ≤ n + depth w.scopes → depth w.scopes ≤ p.host.limit →
-    Entered p k heard b out w (nests_of p.host trees n k heard out w)) (id : StreamId) (level : ℕ) (again : Again)
+levels_kept : (context : Context) (n level : ℕ) (w world1 : World) → Kept w world1 → Levels context n level w → Levels context n level world1
+levels_kept context n level w world1 k l = record {
+  nests = omega (arith, kept_depth k, l.nests);
+  scopes = omega (arith, kept_frames k, l.scopes);
+  calls = omega (arith, kept_depth k, l.calls);
+  within_call = λ called. omega (arith, kept_depth k, l.within_call called);
+}
+
+-- in a scope more, for which there was room
+levels_within : (context : Context) (n level : ℕ) (a : Scope) (w : World) → nat_lt (depth w.scopes) context.program.host.limit ≡ true → Levels context n level w → Levels context n level (within a w)
+levels_within context n level a w room l = record {
+  nests = omega (arith, l.nests);
+  scopes = omega (arith, l.scopes);
+  calls = omega (arith, l.calls);
+  within_call = λ _. omega (arith, ltb-true (depth w.scopes) context.program.host.limit room);
+}
+
+-- The scope of a loop that is called takes a level.
+levels_called : (context : Context) (n level : ℕ) (a : Scope) (w : World) → nat_lt (depth w.scopes) context.program.host.limit ≡ true → Levels context n (suc level) w → Levels context n level (within a w)
+levels_called context n level a w room l = record {
+  nests = omega (arith, l.nests);
+  scopes = omega (arith, l.scopes);
+  calls = omega (arith, l.calls);
+  within_call = λ _. omega (arith, ltb-true (depth w.scopes) context.program.host.limit room);
+}
+
+module _ (context : Context) (trees : Trees) (n : ℕ)
+    (entered : AllNested context.program trees n) (id : StreamId) (level : ℕ) (again : Again)
     (again_kept : (m : ℕ) (items : List Val) (run : Run) (out : List ℕ) (w : World) → KeptEnds w (again m items run out w))
-    (called_in_place : CalledInPlace p f r n id level again) (called_as_value : CalledAsValue p f r n id level again) where
+    (called_in_place : CalledInPlace context n id level again) (called_as_value : CalledAsValue context n id level again) where
   abbrev u : Under
-  u = over p.host (nests_of p.host trees n) again
+  u = over context.program.host (nests_of context.program.host trees n) again
 
-  nest_ends : (k : Callee) (heard : Bool) (out : List ℕ) (w : World) → KeptEnds w (nests_of p.host trees n k heard out w)
-  nest_ends k heard out w = nests_end p.host trees n k heard out w
+  nest_ends : (k : Callee) (heard : Bool) (out : List ℕ) (w : World) → KeptEnds w (nests_of context.program.host trees n k heard out w)
+  nest_ends k heard out w = nests_end context.program.host trees n k heard out w
 
   abbrev Deep : Run → Spot → World → Type 0
-  Deep run s w = DeepIn p f n id level run s w
+  Deep run s w = DeepIn context n id level run s w
 
   deep_kept : (run : Run) (s : Spot) {w world1 : World} → Kept w world1 → Deep run s w → Deep run s world1
-  deep_kept run s k d = (omega (arith, kept_depth k, d.0), omega (arith, kept_frames k, d.1), d.2, d.3, omega (arith, kept_depth k, d.4))
+  deep_kept run s {w = w} {world1 = world1} k d = (levels_kept context n level w world1 k d.0, d.1, d.2)
 
-  deep_within : (run : Run) (s : Spot) (a : Scope) (w : World) → Deep run s w → Deep run s (within a w)
-  deep_within run s a w d = (omega (arith, d.0), omega (arith, d.1), d.2, d.3, omega (arith, d.4))
+  deep_within : (run : Run) (s : Spot) (a : Scope) (w : World) → nat_lt (depth w.scopes) context.program.host.limit ≡ true → Deep run s w → Deep run s (within a w)
+  deep_within run s a w room d = (levels_within context n level a w room d.0, d.1, d.2)
+
+  deep_escaped : (run : Run) (s : Spot) (e : AutoEscape) (w : World) → Deep run s w → Deep run s (with_escape e w)
+  deep_escaped run s e w d = (record { nests = d.0.nests; scopes = d.0.scopes; calls = d.0.calls; within_call = d.0.within_call }, d.1, d.2)
 
   abbrev Here : Run → Spot → World → Type 0
-  Here run s w = HereIn p f n id level run s w
+  Here run s w = HereIn context n id level run s w
 
   here_kept : (run : Run) (s : Spot) {w world1 : World} → Kept w world1 → Here run s w → Here run s world1
-  here_kept run s k d = (omega (arith, kept_depth k, d.0), omega (arith, kept_frames k, d.1), d.2, d.3, omega (arith, kept_depth k, d.4), d.5)
+  here_kept run s {w = w} {world1 = world1} k d = (levels_kept context n level w world1 k d.0, d.1, d.2, d.3)
 
-  here_within : (run : Run) (s : Spot) (a : Scope) (w : World) → Here run s w → Here run s (within a w)
-  here_within run s a w d = (omega (arith, d.0), omega (arith, d.1), d.2, d.3, omega (arith, d.4), d.5)
+  here_within : (run : Run) (s : Spot) (a : Scope) (w : World) → nat_lt (depth w.scopes) context.program.host.limit ≡ true → Here run s w → Here run s (within a w)
+  here_within run s a w room d = (levels_within context n level a w room d.0, d.1, d.2, d.3)
 
   -- at the spot's own parent
   here : (run : Run) (s : Spot) (w : World) → Deep run s w → Here (as_at run s) s w
-  here run s w d = (d.0, d.1, d.2, d.3, d.4, refl)
+  here run s w d = (d.0, d.1, d.2, refl)
 
   -- the same at another text
   deep_later : (run : Run) (s : Spot) (w : World) (q : Option TemplateId) (out : List ℕ) → Deep run s w → Deep run (later s q out) w
-  deep_later run s w q out d = (d.0, d.1, stands_later f run s d.2 q out, d.3, d.4)
+  deep_later run s w q out d = (d.0, stands_later context.base run s d.1 q out, d.2)
 
   -- what a call comes to, as a value
-  asked_then : (run : Run) (s : Spot) (pc : ℕ) (stack old : List Val) (w world1 : World) (q : Asked) → Asks p.host.limit world1 q → Here run s world1 →
-      Follows r (told s) (value_of u run q) (λ v world2. Go p f r s (pc + 1) (v ∷ stack) world2) → Leads p f (told s) (asked p (cfg s pc old w) stack q) r
-  asked_then run s pc stack old w world1 (has v world2) e d h = silent p f r (told s) _ h
+  asked_then : (run : Run) (s : Spot) (pc : ℕ) (stack old : List Val) (w world1 : World) (q : Asked) → Asks context.program.host.limit world1 q → Here run s world1 →
+      Follows context (told s) (value_of u run q) (λ v world2. Go context s (pc + 1) (v ∷ stack) world2) → Comes context (told s) (asked context.program (cfg s pc old w) stack q)
+  asked_then run s pc stack old w world1 (has v world2) e d h = silent context (told s) _ h
   asked_then run s pc stack old w world1 (refused chain world2) e d h = is_over refl h
   asked_then run s pc stack old w world1 (recurs m items world2) e d h =
       called_as_value m items run s pc stack old w world2 _ (here_kept run s e d) h (λ v x g. g)
   asked_then run s pc stack old w world1 (runs c world2) e d h =
-      call_as_value p f r u run c s pc old stack w world2 _ (entered c.callee true (inside true (told s) (captures_of s.bed s.out)) [] world2 (omega (arith, e.0, d.0)) e.1) h (λ x world3 g. g)
+      call_as_value context u run c s pc old stack w world2 _ (entered c.callee true (inside true (told s) (captures_of s.bed s.out)) [] world2 (omega (arith, e.0, d.0.nests)) e.1) h (λ x world3 g. g)
 
   -- and in place
-  placed_then : (run : Run) (s : Spot) (pc : ℕ) (stack old : List Val) (w world1 : World) (q : Asked) (D L N : Then) → Fits f run s.bed → Asks p.host.limit world1 q → Deep run s world1 →
-      Ends r s.bed (in_place_of u (as_at run s) s.out q) D L N → ((q1 : Option TemplateId) (out1 : List ℕ) (world2 : World) → D q1 out1 world2 → Go p f r (later s q1 out1) (pc + 1) stack world2) →
-      Leads p f (told s) (asked_in_place p f (cfg s pc old w) stack q) r
-  placed_then run s pc stack old w world1 (has v world2) D L N fits e d h g = silent p f r (told s) _ (g s.parent s.out world2 (so_far_then r s.bed (as_at run s) s.out world2 D L N h))
-  placed_then run s pc stack old w world1 (refused chain world2) D L N fits e d h g = is_over refl (fault_then r s.bed (as_at run s) s.out world2 chain D L N h)
+  placed_then : (run : Run) (s : Spot) (pc : ℕ) (stack old : List Val) (w world1 : World) (q : Asked) (D L N : Then) → Fits context.base run s.bed → Asks context.program.host.limit world1 q → Deep run s world1 →
+      Ends context s.bed (in_place_of u (as_at run s) s.out q) D L N → ((q1 : Option TemplateId) (out1 : List ℕ) (world2 : World) → D q1 out1 world2 → Go context (later s q1 out1) (pc + 1) stack world2) →
+      Comes context (told s) (asked_in_place context.program context.base (cfg s pc old w) stack q)
+  placed_then run s pc stack old w world1 (has v world2) D L N fits e d h g = silent context (told s) _ (g s.parent s.out world2 (so_far_then context s.bed (as_at run s) s.out world2 D L N h))
+  placed_then run s pc stack old w world1 (refused chain world2) D L N fits e d h g = is_over refl (fault_then context s.bed (as_at run s) s.out world2 chain D L N h)
   placed_then run s pc stack old w world1 (recurs m items world2) D L N fits e d h g = called_in_place m items run s pc stack old w world2 D L N (deep_kept run s e d) h g
   placed_then run s pc stack old w world1 (runs c world2) D L N fits e d h g =
-      call_in_place p f r u c (as_at run s) s pc old stack w world2 D L N refl fits (entered c.callee (heard_here (as_at run s)) s.bed s.out world2 (omega (arith, e.0, d.0)) e.1) h (g s.parent)
+      call_in_place context u c (as_at run s) s pc old stack w world2 D L N refl fits (entered c.callee (heard_here (as_at run s)) s.bed s.out world2 (omega (arith, e.0, d.0.nests)) e.1) h (g s.parent)
 
   -- an operator behind its operands
-  unary_then : (op : UnaryOperator) (s : Spot) (pc : ℕ) (v : Val) (stack : List Val) (w : World) → slice_get (p.code s.run.stream) pc ≡ Some (unary_code op) →
-      Follows r (told s) (bind (tick w) (λ _ world1. applied_unary p.host op v world1)) (λ x world1. Go p f r s (pc + 1) (x ∷ stack) world1) → Go p f r s pc (v ∷ stack) w
+  unary_then : (op : UnaryOperator) (s : Spot) (pc : ℕ) (v : Val) (stack : List Val) (w : World) → slice_get (context.program.code s.run.stream) pc ≡ Some (unary_code op) →
+      Follows context (told s) (bind (tick w) (λ _ world1. applied_unary context.program.host op v world1)) (λ x world1. Go context s (pc + 1) (x ∷ stack) world1) → Go context s pc (v ∷ stack) w
   unary_then unaries.Not s pc v stack w e h =
-      at p f r i.Not s pc (v ∷ stack) w e (after_then p f r (told s) (tick w) _ (bind_then r (told s) w (tick w) _ _ _ (tick_gives w) h (λ _ world1 k h1.
-      pushes p f r s pc stack (v ∷ stack) world1 (applied_unary p.host unaries.Not v world1) h1)))
+      at context i.Not s pc (v ∷ stack) w e (after_then context (told s) (tick w) _ (bind_then context (told s) w (tick w) _ _ _ (tick_gives w) h (λ _ world1 k h1.
+      pushes context s pc stack (v ∷ stack) world1 (applied_unary context.program.host unaries.Not v world1) h1)))
   unary_then unaries.Negate s pc v stack w e h =
-      at p f r i.Neg s pc (v ∷ stack) w e (after_then p f r (told s) (tick w) _ (bind_then r (told s) w (tick w) _ _ _ (tick_gives w) h (λ _ world1 k h1.
-      pushes p f r s pc stack (v ∷ stack) world1 (applied_unary p.host unaries.Negate v world1) h1)))
+      at context i.Neg s pc (v ∷ stack) w e (after_then context (told s) (tick w) _ (bind_then context (told s) w (tick w) _ _ _ (tick_gives w) h (λ _ world1 k h1.
+      pushes context s pc stack (v ∷ stack) world1 (applied_unary context.program.host unaries.Negate v world1) h1)))
 
   -- an instruction that is an operator
-  operates : (op : BinaryOperator) (x : Instruction) → ((c : Config) → act p f (Some x) c ≡ after (tick c.world) (λ _ world1. binary_of p.host op (with_world world1 c))) →
-      (s : Spot) (pc : ℕ) (a b : Val) (stack : List Val) (w : World) → slice_get (p.code s.run.stream) pc ≡ Some x →
-      Follows r (told s) (bind (tick w) (λ _ world1. operated p.host op a b world1)) (λ y world1. Go p f r s (pc + 1) (y ∷ stack) world1) → Go p f r s pc (b ∷ a ∷ stack) w
+  operates : (op : BinaryOperator) (x : Instruction) → ((c : Config) → act context.program context.base (Some x) c ≡ after (tick c.world) (λ _ world1. binary_of context.program.host op (with_world world1 c))) →
+      (s : Spot) (pc : ℕ) (a b : Val) (stack : List Val) (w : World) → slice_get (context.program.code s.run.stream) pc ≡ Some x →
+      Follows context (told s) (bind (tick w) (λ _ world1. operated context.program.host op a b world1)) (λ y world1. Go context s (pc + 1) (y ∷ stack) world1) → Go context s pc (b ∷ a ∷ stack) w
   operates op x is s pc a b stack w e h =
-      at p f r x s pc (b ∷ a ∷ stack) w e (subst (λ n. Leads p f (told s) n r) (sym (is (cfg s pc (b ∷ a ∷ stack) w)))
-      (after_then p f r (told s) (tick w) _ (bind_then r (told s) w (tick w) _ _ _ (tick_gives w) h (λ _ world1 k h1.
-      pushes p f r s pc stack (b ∷ a ∷ stack) world1 (operated p.host op a b world1) h1))))
+      at context x s pc (b ∷ a ∷ stack) w e (subst (λ n. Comes context (told s) n) (sym (is (cfg s pc (b ∷ a ∷ stack) w)))
+      (after_then context (told s) (tick w) _ (bind_then context (told s) w (tick w) _ _ _ (tick_gives w) h (λ _ world1 k h1.
+      pushes context s pc stack (b ∷ a ∷ stack) world1 (operated context.program.host op a b world1) h1))))
 
-  binary_then : (op : BinaryOperator) (s : Spot) (pc : ℕ) (a b : Val) (stack : List Val) (w : World) → HasAt (p.code s.run.stream) pc (binary_code op) →
-      Follows r (told s) (bind (tick w) (λ _ world1. applied p.host op a b world1)) (λ x world1. Go p f r s (pc + length (binary_code op)) (x ∷ stack) world1) → Go p f r s pc (b ∷ a ∷ stack) w
+  binary_then : (op : BinaryOperator) (s : Spot) (pc : ℕ) (a b : Val) (stack : List Val) (w : World) → HasAt (context.program.code s.run.stream) pc (binary_code op) →
+      Follows context (told s) (bind (tick w) (λ _ world1. applied context.program.host op a b world1)) (λ x world1. Go context s (pc + length (binary_code op)) (x ∷ stack) world1) → Go context s pc (b ∷ a ∷ stack) w
   binary_then binaries.Equal s pc a b stack w is h = operates binaries.Equal i.Eq (λ c. refl) s pc a b stack w is.0 h
   binary_then binaries.NotEqual s pc a b stack w is h = operates binaries.NotEqual i.Ne (λ c. refl) s pc a b stack w is.0 h
   binary_then binaries.Less s pc a b stack w is h = operates binaries.Less i.Lt (λ c. refl) s pc a b stack w is.0 h
@@ -289,10 +329,10 @@ module _ (p : Program) (f : Base) (r : Final) (trees : Trees) (n : ℕ)
   binary_then binaries.In s pc a b stack w is h = operates binaries.In i.In (λ c. refl) s pc a b stack w is.0 h
   binary_then binaries.NotIn s pc a b stack w is h =
       let place : pc + 1 + 1 ≡ pc + 2 = omega arith in
-      at p f r i.In s pc (b ∷ a ∷ stack) w is.0 (after_then p f r (told s) (tick w) _ (bind_then r (told s) w (tick w) _ _ _ (tick_gives w) h (λ _ world1 k h1.
-      pushes p f r s pc stack (b ∷ a ∷ stack) world1 (operated p.host binaries.In a b world1) (bind_then r (told s) world1 (operated p.host binaries.In a b world1) _ _ _ (answered_gives _ world1) h1 (λ v world2 k2 h2.
+      at context i.In s pc (b ∷ a ∷ stack) w is.0 (after_then context (told s) (tick w) _ (bind_then context (told s) w (tick w) _ _ _ (tick_gives w) h (λ _ world1 k h1.
+      pushes context s pc stack (b ∷ a ∷ stack) world1 (operated context.program.host binaries.In a b world1) (bind_then context (told s) world1 (operated context.program.host binaries.In a b world1) _ _ _ (answered_gives _ world1) h1 (λ v world2 k2 h2.
       unary_then unaries.Not s (pc + 1) v stack world2 is.1.0
-      (follows_map r (told s) (bind (tick world2) (λ _ world3. applied_unary p.host unaries.Not v world3)) _ _ h2 (λ x world3 g. move p f r s _ _ (x ∷ stack) world3 place g)))))))
+      (follows_map context (told s) (bind (tick world2) (λ _ world3. applied_unary context.program.host unaries.Not v world3)) _ _ h2 (λ x world3 g. move context s _ _ (x ∷ stack) world3 place g)))))))
   binary_then binaries.Add s pc a b stack w is h = operates binaries.Add i.Add (λ c. refl) s pc a b stack w is.0 h
   binary_then binaries.Subtract s pc a b stack w is h = operates binaries.Subtract i.Sub (λ c. refl) s pc a b stack w is.0 h
   binary_then binaries.Concatenate s pc a b stack w is h = operates binaries.Concatenate i.StringConcat (λ c. refl) s pc a b stack w is.0 h
@@ -303,68 +343,68 @@ module _ (p : Program) (f : Base) (r : Final) (trees : Trees) (n : ℕ)
   binary_then binaries.Power s pc a b stack w is h = operates binaries.Power i.Pow (λ c. refl) s pc a b stack w is.0 h
 
   -- values become one
-  built_then : (made : List Val → Val) (s : Spot) (pc n : ℕ) (vs stack : List Val) (w : World) → length vs ≡ n → Go p f r s (pc + 1) (made vs ∷ stack) w →
-      Leads p f (told s) (on_taken (taken n [] (onto vs stack)) w (λ xs rest. goes (made xs ∷ rest) w (cfg s pc (onto vs stack) w))) r
+  built_then : (made : List Val → Val) (s : Spot) (pc n : ℕ) (vs stack : List Val) (w : World) → length vs ≡ n → Go context s (pc + 1) (made vs ∷ stack) w →
+      Comes context (told s) (on_taken (taken n [] (onto vs stack)) w (λ xs rest. goes (made xs ∷ rest) w (cfg s pc (onto vs stack) w)))
   built_then made s pc n vs stack w l g =
-      subst (λ t. Leads p f (told s) (on_taken t w (λ xs rest. goes (made xs ∷ rest) w (cfg s pc (onto vs stack) w))) r) (sym (taken_all vs n stack l)) (silent p f r (told s) _ g)
+      subst (λ t. Comes context (told s) (on_taken t w (λ xs rest. goes (made xs ∷ rest) w (cfg s pc (onto vs stack) w)))) (sym (taken_all vs n stack l)) (silent context (told s) _ g)
 
   -- behind a false comparison its right side is dropped, which is free
-  dropped_then : (s : Spot) (end to : ℕ) (v y : Val) (stack : List Val) (w : World) → HasAt (p.code s.run.stream) end (i.Swap ∷ i.DiscardTop ∷ []) → end + 1 + 1 ≡ to →
-      Follows r (told s) (bind (tick w) (λ _ world1. Good v world1)) (λ x world1. Go p f r s to (x ∷ stack) world1) → Go p f r s end (v ∷ y ∷ stack) w
+  dropped_then : (s : Spot) (end to : ℕ) (v y : Val) (stack : List Val) (w : World) → HasAt (context.program.code s.run.stream) end (i.Swap ∷ i.DiscardTop ∷ []) → end + 1 + 1 ≡ to →
+      Follows context (told s) (bind (tick w) (λ _ world1. Good v world1)) (λ x world1. Go context s to (x ∷ stack) world1) → Go context s end (v ∷ y ∷ stack) w
   dropped_then s end to v y stack w is place h =
-      at p f r i.Swap s end (v ∷ y ∷ stack) w is.0 (after_then p f r (told s) (tick w) _ (bind_then r (told s) w (tick w) _ _ _ (tick_gives w) h (λ _ world1 k g.
-      silent p f r (told s) _ (at p f r i.DiscardTop s (end + 1) (y ∷ v ∷ stack) world1 is.1.0 (silent p f r (told s) _ (move p f r s _ _ (v ∷ stack) world1 place g))))))
+      at context i.Swap s end (v ∷ y ∷ stack) w is.0 (after_then context (told s) (tick w) _ (bind_then context (told s) w (tick w) _ _ _ (tick_gives w) h (λ _ world1 k g.
+      silent context (told s) _ (at context i.DiscardTop s (end + 1) (y ∷ v ∷ stack) world1 is.1.0 (silent context (told s) _ (move context s _ _ (v ∷ stack) world1 place g))))))
 
   -- Wherever this code stands it pushes this value.
   abbrev Runs : Run → (ℕ → List Instruction) → (World → Res Val) → Type 0
   Runs run code value =
-      (s : Spot) (pc : ℕ) (stack : List Val) (w : World) → Here run s w → HasAt (p.code s.run.stream) pc (code pc) →
-      Follows r (told s) (value w) (λ v world1. Go p f r s (pc + length (code pc)) (v ∷ stack) world1) → Go p f r s pc stack w
+      (s : Spot) (pc : ℕ) (stack : List Val) (w : World) → Here run s w → HasAt (context.program.code s.run.stream) pc (code pc) →
+      Follows context (told s) (value w) (λ v world1. Go context s (pc + length (code pc)) (v ∷ stack) world1) → Go context s pc stack w
 
   mutual
     -- An expression's code pushes what it means, over any operands.
-    pub expr_runs : (e : Expr) (run : Run) (s : Spot) (pc : ℕ) (stack : List Val) (w : World) → Here run s w → HasAt (p.code s.run.stream) pc (expr_code pc e) →
-        Follows r (told s) (eval u run e w) (λ v world1. Go p f r s (pc + length (expr_code pc e)) (v ∷ stack) world1) → Go p f r s pc stack w
+    expr_runs : (e : Expr) (run : Run) (s : Spot) (pc : ℕ) (stack : List Val) (w : World) → Here run s w → HasAt (context.program.code s.run.stream) pc (expr_code pc e) →
+        Follows context (told s) (eval u run e w) (λ v world1. Go context s (pc + length (expr_code pc e)) (v ∷ stack) world1) → Go context s pc stack w
     expr_runs (Var x) run s pc stack w d is h =
-        at p f r (i.Lookup x) s pc stack w is.0 (after_then p f r (told s) (tick w) _ (bind_then r (told s) w (tick w) _ _ _ (tick_gives w) h (λ _ world1 k h1.
-        pushes p f r s pc stack stack world1 (looked_up p.host x world1) h1)))
+        at context (i.Lookup x) s pc stack w is.0 (after_then context (told s) (tick w) _ (bind_then context (told s) w (tick w) _ _ _ (tick_gives w) h (λ _ world1 k h1.
+        pushes context s pc stack stack world1 (looked_up context.program.host x world1) h1)))
     expr_runs (Const v) run s pc stack w d is h =
-        at p f r (i.LoadConst v) s pc stack w is.0 (after_then p f r (told s) (tick w) _ (bind_then r (told s) w (tick w) _ _ _ (tick_gives w) h (λ _ world1 k h1.
-        silent p f r (told s) _ h1)))
+        at context (i.LoadConst v) s pc stack w is.0 (after_then context (told s) (tick w) _ (bind_then context (told s) w (tick w) _ _ _ (tick_gives w) h (λ _ world1 k h1.
+        silent context (told s) _ h1)))
     expr_runs (List' _ es) run s pc stack w d is h =
         let c = exprs_code pc es in
         let last = i.BuildList (Some (count_exprs es)) in
-        let behind = has_behind (p.code s.run.stream) pc c (last ∷ []) is in
+        let behind = has_behind (context.program.code s.run.stream) pc c (last ∷ []) is in
         let place : pc + length c + 1 ≡ pc + length (c ++ last ∷ []) = omega (arith, length-append c (last ∷ [])) in
-        exprs_run es run s pc stack w d (has_front (p.code s.run.stream) pc c _ is)
-        (bind_long r (told s) w (count_exprs es) (eval_all u run es w) _ _ _ (all_give u nest_ends again_kept run es w) (all_long u run es w) h (λ vs world1 k l h1.
-        at p f r last s (pc + length c) (onto vs stack) world1 behind.0
-        (after_then p f r (told s) (tick world1) _ (bind_then r (told s) world1 (tick world1) _ _ _ (tick_gives world1) h1 (λ _ world2 k2 h2.
-        built_then list_of_values s (pc + length c) (count_exprs es) vs stack world2 l (move p f r s _ _ (list_of_values vs ∷ stack) world2 place h2))))))
+        exprs_run es run s pc stack w d (has_front (context.program.code s.run.stream) pc c _ is)
+        (bind_long context (told s) w (count_exprs es) (eval_all u run es w) _ _ _ (all_give u nest_ends again_kept run es w) (all_long u run es w) h (λ vs world1 k l h1.
+        at context last s (pc + length c) (onto vs stack) world1 behind.0
+        (after_then context (told s) (tick world1) _ (bind_then context (told s) world1 (tick world1) _ _ _ (tick_gives world1) h1 (λ _ world2 k2 h2.
+        built_then list_of_values s (pc + length c) (count_exprs es) vs stack world2 l (move context s _ _ (list_of_values vs ∷ stack) world2 place h2))))))
     expr_runs (Tuple' _ es) run s pc stack w d is h =
         let c = exprs_code pc es in
         let last = i.BuildTuple (count_exprs es) in
-        let behind = has_behind (p.code s.run.stream) pc c (last ∷ []) is in
+        let behind = has_behind (context.program.code s.run.stream) pc c (last ∷ []) is in
         let place : pc + length c + 1 ≡ pc + length (c ++ last ∷ []) = omega (arith, length-append c (last ∷ [])) in
-        exprs_run es run s pc stack w d (has_front (p.code s.run.stream) pc c _ is)
-        (bind_long r (told s) w (count_exprs es) (eval_all u run es w) _ _ _ (all_give u nest_ends again_kept run es w) (all_long u run es w) h (λ vs world1 k l h1.
-        at p f r last s (pc + length c) (onto vs stack) world1 behind.0
-        (after_then p f r (told s) (tick world1) _ (bind_then r (told s) world1 (tick world1) _ _ _ (tick_gives world1) h1 (λ _ world2 k2 h2.
-        built_then list_of_values s (pc + length c) (count_exprs es) vs stack world2 l (move p f r s _ _ (list_of_values vs ∷ stack) world2 place h2))))))
+        exprs_run es run s pc stack w d (has_front (context.program.code s.run.stream) pc c _ is)
+        (bind_long context (told s) w (count_exprs es) (eval_all u run es w) _ _ _ (all_give u nest_ends again_kept run es w) (all_long u run es w) h (λ vs world1 k l h1.
+        at context last s (pc + length c) (onto vs stack) world1 behind.0
+        (after_then context (told s) (tick world1) _ (bind_then context (told s) world1 (tick world1) _ _ _ (tick_gives world1) h1 (λ _ world2 k2 h2.
+        built_then list_of_values s (pc + length c) (count_exprs es) vs stack world2 l (move context s _ _ (list_of_values vs ∷ stack) world2 place h2))))))
     expr_runs (Map' _ ps) run s pc stack w d is h =
         let c = pairs_code pc ps in
         let n = count_pairs ps in
         let last = i.BuildMap n in
-        let behind = has_behind (p.code s.run.stream) pc c (last ∷ []) is in
+        let behind = has_behind (context.program.code s.run.stream) pc c (last ∷ []) is in
         let place : pc + length c + 1 ≡ pc + length (c ++ last ∷ []) = omega (arith, length-append c (last ∷ [])) in
-        pairs_run ps run s pc stack w d (has_front (p.code s.run.stream) pc c _ is)
-        (bind_long r (told s) w n (eval_pairs u run ps w) _ _ _ (pairs_give u nest_ends again_kept run ps w) (pairs_long u run ps w) h (λ xs world1 k l h1.
-        at p f r last s (pc + length c) (onto (flat xs) stack) world1 behind.0
-        (after_then p f r (told s) (tick world1) _ (bind_then r (told s) world1 (tick world1) _ _ _ (tick_gives world1) h1 (λ _ world2 k2 h2.
+        pairs_run ps run s pc stack w d (has_front (context.program.code s.run.stream) pc c _ is)
+        (bind_long context (told s) w n (eval_pairs u run ps w) _ _ _ (pairs_give u nest_ends again_kept run ps w) (pairs_long u run ps w) h (λ xs world1 k l h1.
+        at context last s (pc + length c) (onto (flat xs) stack) world1 behind.0
+        (after_then context (told s) (tick world1) _ (bind_then context (told s) world1 (tick world1) _ _ _ (tick_gives world1) h1 (λ _ world2 k2 h2.
         built_then (λ vs. map_of_pairs (paired vs)) s (pc + length c) (n + n) (flat xs) stack world2 (flat_long n xs l)
-        (subst (λ ys. Go p f r s (pc + length c + 1) (map_of_pairs ys ∷ stack) world2) (sym (paired_flat xs)) (move p f r s _ _ (map_of_pairs xs ∷ stack) world2 place h2)))))))
+        (subst (λ ys. Go context s (pc + length c + 1) (map_of_pairs ys ∷ stack) world2) (sym (paired_flat xs)) (move context s _ _ (map_of_pairs xs ∷ stack) world2 place h2)))))))
     expr_runs (Call' g _ given _ named) run s pc stack w d is h =
-        let all = p.code s.run.stream in
+        let all = context.program.code s.run.stream in
         let c = arguments_code pc given in
         let kc = named_code (pc + length c) named in
         let n = count given + together named in
@@ -374,33 +414,33 @@ module _ (p : Program) (f : Base) (r : Final) (trees : Trees) (n : ℕ)
         let there : pc + length c + length kc ≡ pc + length (c ++ kc) = omega (arith, length-append c kc) in
         let place : pc + length (c ++ kc) + 1 ≡ pc + length ((c ++ kc) ++ last ∷ []) = omega (arith, length-append (c ++ kc) (last ∷ [])) in
         arguments_run given run s pc stack w d (has_front all pc c kc front)
-        (bind_long r (told s) w (count given) (eval_arguments u run given w) _ _ _ (arguments_give u nest_ends again_kept run given w) (arguments_long u run given w) h (λ vs world1 k l h1.
+        (bind_long context (told s) w (count given) (eval_arguments u run given w) _ _ _ (arguments_give u nest_ends again_kept run given w) (arguments_long u run given w) h (λ vs world1 k l h1.
         named_runs named run s (pc + length c) (onto vs stack) world1 (here_kept run s k d) (has_behind all pc c kc front)
-        (bind_long r (told s) world1 (together named) (eval_named u run named world1) _ _ _ (named_give u nest_ends again_kept run named world1) (named_long u run named world1) h1 (λ ks world2 k2 l2 h2.
+        (bind_long context (told s) world1 (together named) (eval_named u run named world1) _ _ _ (named_give u nest_ends again_kept run named world1) (named_long u run named world1) h1 (λ ks world2 k2 l2 h2.
         let long : length (vs ++ ks) ≡ n = omega (arith, length-append vs ks, l, l2) in
-        move p f r s _ _ (onto ks (onto vs stack)) world2 there
-        (subst (λ us. Go p f r s (pc + length (c ++ kc)) us world2) (onto_both vs ks stack)
-        (at p f r last s (pc + length (c ++ kc)) (onto (vs ++ ks) stack) world2 behind.0
-        (after_then p f r (told s) (tick world2) _ (bind_then r (told s) world2 (tick world2) _ _ _ (tick_gives world2) h2 (λ _ world3 k3 h3.
-        subst (λ t. Leads p f (told s) (on_taken t world3 (λ xs rest. asked p (cfg s (pc + length (c ++ kc)) (onto (vs ++ ks) stack) world3) rest (call_named p.host g xs world3))) r) (sym (taken_all (vs ++ ks) n stack long))
-        (asked_then run s (pc + length (c ++ kc)) stack (onto (vs ++ ks) stack) world3 world3 (call_named p.host g (vs ++ ks) world3) (named_asks p.host g (vs ++ ks) world3) (here_kept run s k3 (here_kept run s k2 (here_kept run s k d)))
-        (follows_map r (told s) (value_of u run (call_named p.host g (vs ++ ks) world3)) _ _ h3 (λ v world4 g3. move p f r s _ _ (v ∷ stack) world4 place g3))))))))))))
+        move context s _ _ (onto ks (onto vs stack)) world2 there
+        (subst (λ us. Go context s (pc + length (c ++ kc)) us world2) (onto_both vs ks stack)
+        (at context last s (pc + length (c ++ kc)) (onto (vs ++ ks) stack) world2 behind.0
+        (after_then context (told s) (tick world2) _ (bind_then context (told s) world2 (tick world2) _ _ _ (tick_gives world2) h2 (λ _ world3 k3 h3.
+        subst (λ t. Comes context (told s) (on_taken t world3 (λ xs rest. asked context.program (cfg s (pc + length (c ++ kc)) (onto (vs ++ ks) stack) world3) rest (call_named context.program.host g xs world3)))) (sym (taken_all (vs ++ ks) n stack long))
+        (asked_then run s (pc + length (c ++ kc)) stack (onto (vs ++ ks) stack) world3 world3 (call_named context.program.host g (vs ++ ks) world3) (named_asks context.program.host g (vs ++ ks) world3) (here_kept run s k3 (here_kept run s k2 (here_kept run s k d)))
+        (follows_map context (told s) (value_of u run (call_named context.program.host g (vs ++ ks) world3)) _ _ h3 (λ v world4 g3. move context s _ _ (v ∷ stack) world4 place g3))))))))))))
     expr_runs (unary op a) run s pc stack w d is h =
         let c = expr_code pc a in
-        let behind = has_behind (p.code s.run.stream) pc c (unary_code op ∷ []) is in
+        let behind = has_behind (context.program.code s.run.stream) pc c (unary_code op ∷ []) is in
         let place : pc + length c + 1 ≡ pc + length (c ++ unary_code op ∷ []) = omega (arith, length-append c (unary_code op ∷ [])) in
-        expr_runs a run s pc stack w d (has_front (p.code s.run.stream) pc c _ is)
-        (bind_then r (told s) w (eval u run a w) _ _ _ (eval_gives u nest_ends again_kept run a w) h (λ v world1 k h1.
+        expr_runs a run s pc stack w d (has_front (context.program.code s.run.stream) pc c _ is)
+        (bind_then context (told s) w (eval u run a w) _ _ _ (eval_gives u nest_ends again_kept run a w) h (λ v world1 k h1.
         unary_then op s (pc + length c) v stack world1 behind.0
-        (follows_map r (told s) (bind (tick world1) (λ _ world2. applied_unary p.host op v world2)) _ _ h1 (λ x world2 g. move p f r s _ _ (x ∷ stack) world2 place g))))
+        (follows_map context (told s) (bind (tick world1) (λ _ world2. applied_unary context.program.host op v world2)) _ _ h1 (λ x world2 g. move context s _ _ (x ∷ stack) world2 place g))))
     expr_runs (chained a _ ss) run s pc stack w d is h =
         let c = expr_code pc a in
         let rest = steps_code (pc + length c) ss in
         let place : pc + length c + length rest ≡ pc + length (c ++ rest) = omega (arith, length-append c rest) in
-        expr_runs a run s pc stack w d (has_front (p.code s.run.stream) pc c rest is)
-        (bind_then r (told s) w (eval u run a w) _ _ _ (eval_gives u nest_ends again_kept run a w) h (λ v world1 k h1.
-        steps_run ss run s (pc + length c) v stack world1 (here_kept run s k d) (has_behind (p.code s.run.stream) pc c rest is)
-        (follows_map r (told s) (eval_steps u run ss v world1) _ _ h1 (λ x world2 g. move p f r s _ _ (x ∷ stack) world2 place g))))
+        expr_runs a run s pc stack w d (has_front (context.program.code s.run.stream) pc c rest is)
+        (bind_then context (told s) w (eval u run a w) _ _ _ (eval_gives u nest_ends again_kept run a w) h (λ v world1 k h1.
+        steps_run ss run s (pc + length c) v stack world1 (here_kept run s k d) (has_behind (context.program.code s.run.stream) pc c rest is)
+        (follows_map context (told s) (eval_steps u run ss v world1) _ _ h1 (λ x world2 g. move context s _ _ (x ∷ stack) world2 place g))))
     expr_runs (conditional a _ cs) run s pc stack w d is h =
         conditions_run cs run (λ pc1. expr_code pc1 a) (λ world1. eval u run a world1) (λ world1. eval_gives u nest_ends again_kept run a world1)
         (λ s1 pc1 stack1 world1 deep1 is1 h1. expr_runs a run s1 pc1 stack1 world1 deep1 is1 h1) s pc stack w d is h
@@ -409,7 +449,7 @@ module _ (p : Program) (f : Base) (r : Final) (trees : Trees) (n : ℕ)
     condition_runs : (x : Condition) (run : Run) (code : ℕ → List Instruction) (guarded : World → Res Val) → ((w : World) → Gives w (guarded w)) → Runs run code guarded →
         Runs run (condition_code x code) (eval_condition u run x guarded)
     condition_runs (condition c e) run code guarded given part s pc stack w d is h =
-        let all = p.code s.run.stream in
+        let all = context.program.code s.run.stream in
         let test = expr_code pc c in
         let pc1 = pc + length test in
         let body = code (pc1 + 1) in
@@ -422,17 +462,17 @@ module _ (p : Program) (f : Base) (r : Final) (trees : Trees) (n : ℕ)
         let place : pc2 + 1 + length other ≡ pc + length (test ++ over_body ∷ (body ++ over_other ∷ other)) =
         omega (arith, length-append test (over_body ∷ (body ++ over_other ∷ other)), length-append body (over_other ∷ other)) in
         expr_runs c run s pc stack w d (has_front all pc test (over_body ∷ (body ++ over_other ∷ other)) is)
-        (bind_then r (told s) w (eval u run c w) _ _ _ (eval_gives u nest_ends again_kept run c w) h (λ v world1 k1 h1.
-        at p f r over_body s pc1 (v ∷ stack) world1 behind.0 (after_then p f r (told s) (tick world1) _ (bind_then r (told s) world1 (tick world1) _ _ _ (tick_gives world1) h1 (λ _ world2 k2 h2.
-        after_then p f r (told s) (truth p.host v world2) _ (bind_then r (told s) world2 (truth p.host v world2) _ _ _ (answered_gives _ world2) h2 (λ b world3 k3 h3.
+        (bind_then context (told s) w (eval u run c w) _ _ _ (eval_gives u nest_ends again_kept run c w) h (λ v world1 k1 h1.
+        at context over_body s pc1 (v ∷ stack) world1 behind.0 (after_then context (told s) (tick world1) _ (bind_then context (told s) world1 (tick world1) _ _ _ (tick_gives world1) h1 (λ _ world2 k2 h2.
+        after_then context (told s) (truth context.program.host v world2) _ (bind_then context (told s) world2 (truth context.program.host v world2) _ _ _ (answered_gives _ world2) h2 (λ b world3 k3 h3.
         let deep3 = here_kept run s k3 (here_kept run s k2 (here_kept run s k1 d)) in
-        choose_then p f r b (bind (guarded world3) (λ x world4. bind (tick world4) (λ _ world5. Good x world5))) (eval u run e world3) _ _ (told s) _ h3
-        (λ h4. silent p f r (told s) _ (part s (pc1 + 1) stack world3 deep3 (has_front all (pc1 + 1) body (over_other ∷ other) behind.1)
-        (bind_then r (told s) world3 (guarded world3) _ _ _ (given world3) h4 (λ x world4 k4 h5.
-        at p f r over_other s pc2 (x ∷ stack) world4 last.0 (after_then p f r (told s) (tick world4) _ (bind_then r (told s) world4 (tick world4) _ _ _ (tick_gives world4) h5 (λ _ world5 k5 g.
-        silent p f r (told s) _ (move p f r s _ _ (x ∷ stack) world5 place g))))))))
-        (λ h4. silent p f r (told s) _ (expr_runs e run s (pc2 + 1) stack world3 deep3 last.1
-        (follows_map r (told s) (eval u run e world3) _ _ h4 (λ y world4 g. move p f r s _ _ (y ∷ stack) world4 place g)))))))))))
+        choose_then context b (bind (guarded world3) (λ x world4. bind (tick world4) (λ _ world5. Good x world5))) (eval u run e world3) _ _ (told s) _ h3
+        (λ h4. silent context (told s) _ (part s (pc1 + 1) stack world3 deep3 (has_front all (pc1 + 1) body (over_other ∷ other) behind.1)
+        (bind_then context (told s) world3 (guarded world3) _ _ _ (given world3) h4 (λ x world4 k4 h5.
+        at context over_other s pc2 (x ∷ stack) world4 last.0 (after_then context (told s) (tick world4) _ (bind_then context (told s) world4 (tick world4) _ _ _ (tick_gives world4) h5 (λ _ world5 k5 g.
+        silent context (told s) _ (move context s _ _ (x ∷ stack) world5 place g))))))))
+        (λ h4. silent context (told s) _ (expr_runs e run s (pc2 + 1) stack world3 deep3 last.1
+        (follows_map context (told s) (eval u run e world3) _ _ h4 (λ y world4 g. move context s _ _ (y ∷ stack) world4 place g)))))))))))
 
     conditions_run : {m : _} → (cs : Row_of-Condition m) (run : Run) (code : ℕ → List Instruction) (guarded : World → Res Val) → ((w : World) → Gives w (guarded w)) → Runs run code guarded →
         Runs run (conditions_code cs code) (eval_conditions u run cs guarded)
@@ -441,92 +481,92 @@ module _ (p : Program) (f : Base) (r : Final) (trees : Trees) (n : ℕ)
         conditions_run more run (λ pc1. condition_code c code pc1) (λ world1. eval_condition u run c guarded world1) (λ world1. condition_gives u nest_ends again_kept run c guarded given world1)
         (λ s1 pc1 stack1 world1 deep1 is1 h1. condition_runs c run code guarded given part s1 pc1 stack1 world1 deep1 is1 h1) s pc stack w d is h
 
-    exprs_run : {m : _} → (es : Row_of-Expr m) (run : Run) (s : Spot) (pc : ℕ) (stack : List Val) (w : World) → Here run s w → HasAt (p.code s.run.stream) pc (exprs_code pc es) →
-        Follows r (told s) (eval_all u run es w) (λ vs world1. Go p f r s (pc + length (exprs_code pc es)) (onto vs stack) world1) → Go p f r s pc stack w
-    exprs_run no_expr run s pc stack w d is h = move p f r s pc (pc + 0) stack w (omega arith) h
+    exprs_run : {m : _} → (es : Row_of-Expr m) (run : Run) (s : Spot) (pc : ℕ) (stack : List Val) (w : World) → Here run s w → HasAt (context.program.code s.run.stream) pc (exprs_code pc es) →
+        Follows context (told s) (eval_all u run es w) (λ vs world1. Go context s (pc + length (exprs_code pc es)) (onto vs stack) world1) → Go context s pc stack w
+    exprs_run no_expr run s pc stack w d is h = move context s pc (pc + 0) stack w (omega arith) h
     exprs_run (expr e more) run s pc stack w d is h =
         let c = expr_code pc e in
         let rest = exprs_code (pc + length c) more in
         let place : pc + length c + length rest ≡ pc + length (c ++ rest) = omega (arith, length-append c rest) in
-        expr_runs e run s pc stack w d (has_front (p.code s.run.stream) pc c rest is)
-        (bind_then r (told s) w (eval u run e w) _ _ _ (eval_gives u nest_ends again_kept run e w) h (λ v world1 k h1.
-        exprs_run more run s (pc + length c) (v ∷ stack) world1 (here_kept run s k d) (has_behind (p.code s.run.stream) pc c rest is)
-        (bind_then r (told s) world1 (eval_all u run more world1) _ _ _ (all_give u nest_ends again_kept run more world1) h1 (λ vs world2 k2 g.
-        move p f r s _ _ (onto vs (v ∷ stack)) world2 place g))))
+        expr_runs e run s pc stack w d (has_front (context.program.code s.run.stream) pc c rest is)
+        (bind_then context (told s) w (eval u run e w) _ _ _ (eval_gives u nest_ends again_kept run e w) h (λ v world1 k h1.
+        exprs_run more run s (pc + length c) (v ∷ stack) world1 (here_kept run s k d) (has_behind (context.program.code s.run.stream) pc c rest is)
+        (bind_then context (told s) world1 (eval_all u run more world1) _ _ _ (all_give u nest_ends again_kept run more world1) h1 (λ vs world2 k2 g.
+        move context s _ _ (onto vs (v ∷ stack)) world2 place g))))
 
     -- A pair's code pushes its key and then its value.
-    pair_runs : (x : Pair) (run : Run) (s : Spot) (pc : ℕ) (stack : List Val) (w : World) → Here run s w → HasAt (p.code s.run.stream) pc (pair_code pc x) →
-        Follows r (told s) (eval_pair u run x w) (λ y world1. Go p f r s (pc + length (pair_code pc x)) (y.1 ∷ y.0 ∷ stack) world1) → Go p f r s pc stack w
+    pair_runs : (x : Pair) (run : Run) (s : Spot) (pc : ℕ) (stack : List Val) (w : World) → Here run s w → HasAt (context.program.code s.run.stream) pc (pair_code pc x) →
+        Follows context (told s) (eval_pair u run x w) (λ y world1. Go context s (pc + length (pair_code pc x)) (y.1 ∷ y.0 ∷ stack) world1) → Go context s pc stack w
     pair_runs (pair k v) run s pc stack w d is h =
         let c = expr_code pc k in
         let rest = expr_code (pc + length c) v in
         let place : pc + length c + length rest ≡ pc + length (c ++ rest) = omega (arith, length-append c rest) in
-        expr_runs k run s pc stack w d (has_front (p.code s.run.stream) pc c rest is)
-        (bind_then r (told s) w (eval u run k w) _ _ _ (eval_gives u nest_ends again_kept run k w) h (λ x world1 e h1.
-        expr_runs v run s (pc + length c) (x ∷ stack) world1 (here_kept run s e d) (has_behind (p.code s.run.stream) pc c rest is)
-        (bind_then r (told s) world1 (eval u run v world1) _ _ _ (eval_gives u nest_ends again_kept run v world1) h1 (λ y world2 e2 g.
-        move p f r s _ _ (y ∷ x ∷ stack) world2 place g))))
+        expr_runs k run s pc stack w d (has_front (context.program.code s.run.stream) pc c rest is)
+        (bind_then context (told s) w (eval u run k w) _ _ _ (eval_gives u nest_ends again_kept run k w) h (λ x world1 e h1.
+        expr_runs v run s (pc + length c) (x ∷ stack) world1 (here_kept run s e d) (has_behind (context.program.code s.run.stream) pc c rest is)
+        (bind_then context (told s) world1 (eval u run v world1) _ _ _ (eval_gives u nest_ends again_kept run v world1) h1 (λ y world2 e2 g.
+        move context s _ _ (y ∷ x ∷ stack) world2 place g))))
 
-    pairs_run : {m : _} → (ps : Row_of-Pair m) (run : Run) (s : Spot) (pc : ℕ) (stack : List Val) (w : World) → Here run s w → HasAt (p.code s.run.stream) pc (pairs_code pc ps) →
-        Follows r (told s) (eval_pairs u run ps w) (λ xs world1. Go p f r s (pc + length (pairs_code pc ps)) (onto (flat xs) stack) world1) → Go p f r s pc stack w
-    pairs_run no_pair run s pc stack w d is h = move p f r s pc (pc + 0) stack w (omega arith) h
+    pairs_run : {m : _} → (ps : Row_of-Pair m) (run : Run) (s : Spot) (pc : ℕ) (stack : List Val) (w : World) → Here run s w → HasAt (context.program.code s.run.stream) pc (pairs_code pc ps) →
+        Follows context (told s) (eval_pairs u run ps w) (λ xs world1. Go context s (pc + length (pairs_code pc ps)) (onto (flat xs) stack) world1) → Go context s pc stack w
+    pairs_run no_pair run s pc stack w d is h = move context s pc (pc + 0) stack w (omega arith) h
     pairs_run (with_pair x more) run s pc stack w d is h =
         let c = pair_code pc x in
         let rest = pairs_code (pc + length c) more in
         let place : pc + length c + length rest ≡ pc + length (c ++ rest) = omega (arith, length-append c rest) in
-        pair_runs x run s pc stack w d (has_front (p.code s.run.stream) pc c rest is)
-        (bind_then r (told s) w (eval_pair u run x w) _ _ _ (pair_gives u nest_ends again_kept run x w) h (λ y world1 k h1.
-        pairs_run more run s (pc + length c) (y.1 ∷ y.0 ∷ stack) world1 (here_kept run s k d) (has_behind (p.code s.run.stream) pc c rest is)
-        (bind_then r (told s) world1 (eval_pairs u run more world1) _ _ _ (pairs_give u nest_ends again_kept run more world1) h1 (λ ys world2 k2 g.
-        move p f r s _ _ (onto (flat ys) (y.1 ∷ y.0 ∷ stack)) world2 place g))))
+        pair_runs x run s pc stack w d (has_front (context.program.code s.run.stream) pc c rest is)
+        (bind_then context (told s) w (eval_pair u run x w) _ _ _ (pair_gives u nest_ends again_kept run x w) h (λ y world1 k h1.
+        pairs_run more run s (pc + length c) (y.1 ∷ y.0 ∷ stack) world1 (here_kept run s k d) (has_behind (context.program.code s.run.stream) pc c rest is)
+        (bind_then context (told s) world1 (eval_pairs u run more world1) _ _ _ (pairs_give u nest_ends again_kept run more world1) h1 (λ ys world2 k2 g.
+        move context s _ _ (onto (flat ys) (y.1 ∷ y.0 ∷ stack)) world2 place g))))
 
-    argument_runs : (a : Argument) (run : Run) (s : Spot) (pc : ℕ) (stack : List Val) (w : World) → Here run s w → HasAt (p.code s.run.stream) pc (argument_code pc a) →
-        Follows r (told s) (eval_argument u run a w) (λ v world1. Go p f r s (pc + length (argument_code pc a)) (v ∷ stack) world1) → Go p f r s pc stack w
+    argument_runs : (a : Argument) (run : Run) (s : Spot) (pc : ℕ) (stack : List Val) (w : World) → Here run s w → HasAt (context.program.code s.run.stream) pc (argument_code pc a) →
+        Follows context (told s) (eval_argument u run a w) (λ v world1. Go context s (pc + length (argument_code pc a)) (v ∷ stack) world1) → Go context s pc stack w
     argument_runs (plain a) run s pc stack w d is h = expr_runs a run s pc stack w d is h
 
-    arguments_run : {m : _} → (given : Row_of-Argument m) (run : Run) (s : Spot) (pc : ℕ) (stack : List Val) (w : World) → Here run s w → HasAt (p.code s.run.stream) pc (arguments_code pc given) →
-        Follows r (told s) (eval_arguments u run given w) (λ vs world1. Go p f r s (pc + length (arguments_code pc given)) (onto vs stack) world1) → Go p f r s pc stack w
-    arguments_run no_argument run s pc stack w d is h = move p f r s pc (pc + 0) stack w (omega arith) h
+    arguments_run : {m : _} → (given : Row_of-Argument m) (run : Run) (s : Spot) (pc : ℕ) (stack : List Val) (w : World) → Here run s w → HasAt (context.program.code s.run.stream) pc (arguments_code pc given) →
+        Follows context (told s) (eval_arguments u run given w) (λ vs world1. Go context s (pc + length (arguments_code pc given)) (onto vs stack) world1) → Go context s pc stack w
+    arguments_run no_argument run s pc stack w d is h = move context s pc (pc + 0) stack w (omega arith) h
     arguments_run (argument a more) run s pc stack w d is h =
         let c = argument_code pc a in
         let rest = arguments_code (pc + length c) more in
         let place : pc + length c + length rest ≡ pc + length (c ++ rest) = omega (arith, length-append c rest) in
-        argument_runs a run s pc stack w d (has_front (p.code s.run.stream) pc c rest is)
-        (bind_then r (told s) w (eval_argument u run a w) _ _ _ (argument_gives u nest_ends again_kept run a w) h (λ v world1 k h1.
-        arguments_run more run s (pc + length c) (v ∷ stack) world1 (here_kept run s k d) (has_behind (p.code s.run.stream) pc c rest is)
-        (bind_then r (told s) world1 (eval_arguments u run more world1) _ _ _ (arguments_give u nest_ends again_kept run more world1) h1 (λ vs world2 k2 g.
-        move p f r s _ _ (onto vs (v ∷ stack)) world2 place g))))
+        argument_runs a run s pc stack w d (has_front (context.program.code s.run.stream) pc c rest is)
+        (bind_then context (told s) w (eval_argument u run a w) _ _ _ (argument_gives u nest_ends again_kept run a w) h (λ v world1 k h1.
+        arguments_run more run s (pc + length c) (v ∷ stack) world1 (here_kept run s k d) (has_behind (context.program.code s.run.stream) pc c rest is)
+        (bind_then context (told s) world1 (eval_arguments u run more world1) _ _ _ (arguments_give u nest_ends again_kept run more world1) h1 (λ vs world2 k2 g.
+        move context s _ _ (onto vs (v ∷ stack)) world2 place g))))
 
     -- A keyword's code pushes its name and then its value.
-    keyword_runs : (x : Keyword) (run : Run) (s : Spot) (pc : ℕ) (stack : List Val) (w : World) → Here run s w → HasAt (p.code s.run.stream) pc (keyword_code pc x) →
-        Follows r (told s) (eval_keyword u run x w) (λ y world1. Go p f r s (pc + length (keyword_code pc x)) (y.1 ∷ y.0 ∷ stack) world1) → Go p f r s pc stack w
+    keyword_runs : (x : Keyword) (run : Run) (s : Spot) (pc : ℕ) (stack : List Val) (w : World) → Here run s w → HasAt (context.program.code s.run.stream) pc (keyword_code pc x) →
+        Follows context (told s) (eval_keyword u run x w) (λ y world1. Go context s (pc + length (keyword_code pc x)) (y.1 ∷ y.0 ∷ stack) world1) → Go context s pc stack w
     keyword_runs (keyword x a) run s pc stack w d is h =
         let place : pc + 1 + length (expr_code (pc + 1) a) ≡ pc + suc (length (expr_code (pc + 1) a)) = omega arith in
-        at p f r (i.LoadConst (text x false)) s pc stack w is.0 (after_then p f r (told s) (tick w) _ (bind_then r (told s) w (tick w) _ _ _ (tick_gives w) h (λ _ world1 k h1.
-        silent p f r (told s) _
+        at context (i.LoadConst (text x false)) s pc stack w is.0 (after_then context (told s) (tick w) _ (bind_then context (told s) w (tick w) _ _ _ (tick_gives w) h (λ _ world1 k h1.
+        silent context (told s) _
         (expr_runs a run s (pc + 1) (text x false ∷ stack) world1 (here_kept run s k d) is.1
-        (bind_then r (told s) world1 (eval u run a world1) _ _ _ (eval_gives u nest_ends again_kept run a world1) h1 (λ v world2 k2 g.
-        move p f r s _ _ (v ∷ text x false ∷ stack) world2 place g))))))
+        (bind_then context (told s) world1 (eval u run a world1) _ _ _ (eval_gives u nest_ends again_kept run a world1) h1 (λ v world2 k2 g.
+        move context s _ _ (v ∷ text x false ∷ stack) world2 place g))))))
 
-    keywords_run : {m : _} → (ks : Row_of-Keyword m) (run : Run) (s : Spot) (pc : ℕ) (stack : List Val) (w : World) → Here run s w → HasAt (p.code s.run.stream) pc (keywords_code pc ks) →
-        Follows r (told s) (eval_keywords u run ks w) (λ xs world1. Go p f r s (pc + length (keywords_code pc ks)) (onto (flat xs) stack) world1) → Go p f r s pc stack w
-    keywords_run no_keyword run s pc stack w d is h = move p f r s pc (pc + 0) stack w (omega arith) h
+    keywords_run : {m : _} → (ks : Row_of-Keyword m) (run : Run) (s : Spot) (pc : ℕ) (stack : List Val) (w : World) → Here run s w → HasAt (context.program.code s.run.stream) pc (keywords_code pc ks) →
+        Follows context (told s) (eval_keywords u run ks w) (λ xs world1. Go context s (pc + length (keywords_code pc ks)) (onto (flat xs) stack) world1) → Go context s pc stack w
+    keywords_run no_keyword run s pc stack w d is h = move context s pc (pc + 0) stack w (omega arith) h
     keywords_run (with_keyword x more) run s pc stack w d is h =
         let c = keyword_code pc x in
         let rest = keywords_code (pc + length c) more in
         let place : pc + length c + length rest ≡ pc + length (c ++ rest) = omega (arith, length-append c rest) in
-        keyword_runs x run s pc stack w d (has_front (p.code s.run.stream) pc c rest is)
-        (bind_then r (told s) w (eval_keyword u run x w) _ _ _ (keyword_gives u nest_ends again_kept run x w) h (λ y world1 k h1.
-        keywords_run more run s (pc + length c) (y.1 ∷ y.0 ∷ stack) world1 (here_kept run s k d) (has_behind (p.code s.run.stream) pc c rest is)
-        (bind_then r (told s) world1 (eval_keywords u run more world1) _ _ _ (keywords_give u nest_ends again_kept run more world1) h1 (λ ys world2 k2 g.
-        move p f r s _ _ (onto (flat ys) (y.1 ∷ y.0 ∷ stack)) world2 place g))))
+        keyword_runs x run s pc stack w d (has_front (context.program.code s.run.stream) pc c rest is)
+        (bind_then context (told s) w (eval_keyword u run x w) _ _ _ (keyword_gives u nest_ends again_kept run x w) h (λ y world1 k h1.
+        keywords_run more run s (pc + length c) (y.1 ∷ y.0 ∷ stack) world1 (here_kept run s k d) (has_behind (context.program.code s.run.stream) pc c rest is)
+        (bind_then context (told s) world1 (eval_keywords u run more world1) _ _ _ (keywords_give u nest_ends again_kept run more world1) h1 (λ ys world2 k2 g.
+        move context s _ _ (onto (flat ys) (y.1 ∷ y.0 ∷ stack)) world2 place g))))
 
     -- keywords become one argument
-    named_runs : {m : _} → (ks : Row_of-Keyword m) (run : Run) (s : Spot) (pc : ℕ) (stack : List Val) (w : World) → Here run s w → HasAt (p.code s.run.stream) pc (named_code pc ks) →
-        Follows r (told s) (eval_named u run ks w) (λ vs world1. Go p f r s (pc + length (named_code pc ks)) (onto vs stack) world1) → Go p f r s pc stack w
-    named_runs no_keyword run s pc stack w d is h = move p f r s pc (pc + 0) stack w (omega arith) h
+    named_runs : {m : _} → (ks : Row_of-Keyword m) (run : Run) (s : Spot) (pc : ℕ) (stack : List Val) (w : World) → Here run s w → HasAt (context.program.code s.run.stream) pc (named_code pc ks) →
+        Follows context (told s) (eval_named u run ks w) (λ vs world1. Go context s (pc + length (named_code pc ks)) (onto vs stack) world1) → Go context s pc stack w
+    named_runs no_keyword run s pc stack w d is h = move context s pc (pc + 0) stack w (omega arith) h
     named_runs (with_keyword x more) run s pc stack w d is h =
-        let all = p.code s.run.stream in
+        let all = context.program.code s.run.stream in
         let c = keyword_code pc x in
         let pc1 = pc + length c in
         let rest = keywords_code pc1 more in
@@ -536,24 +576,24 @@ module _ (p : Program) (f : Base) (r : Final) (trees : Trees) (n : ℕ)
         let behind = has_behind all pc1 rest (last ∷ []) from_rest in
         let place : pc1 + length rest + 1 ≡ pc + length (c ++ (rest ++ last ∷ [])) = omega (arith, length-append c (rest ++ last ∷ []), length-append rest (last ∷ [])) in
         keyword_runs x run s pc stack w d (has_front all pc c (rest ++ last ∷ []) is)
-        (bind_then r (told s) w (eval_keyword u run x w) _ _ _ (keyword_gives u nest_ends again_kept run x w) h (λ y world1 k h1.
+        (bind_then context (told s) w (eval_keyword u run x w) _ _ _ (keyword_gives u nest_ends again_kept run x w) h (λ y world1 k h1.
         keywords_run more run s pc1 (y.1 ∷ y.0 ∷ stack) world1 (here_kept run s k d) (has_front all pc1 rest (last ∷ []) from_rest)
-        (bind_long r (told s) world1 (count_keywords more) (eval_keywords u run more world1) _ _ _ (keywords_give u nest_ends again_kept run more world1) (keywords_long u run more world1) h1 (λ ys world2 k2 l h2.
+        (bind_long context (told s) world1 (count_keywords more) (eval_keywords u run more world1) _ _ _ (keywords_give u nest_ends again_kept run more world1) (keywords_long u run more world1) h1 (λ ys world2 k2 l h2.
         let xs = y ∷ ys in
         let long : length xs ≡ n = omega (arith, l) in
-        at p f r last s (pc1 + length rest) (onto (flat xs) stack) world2 behind.0
-        (after_then p f r (told s) (tick world2) _ (bind_then r (told s) world2 (tick world2) _ _ _ (tick_gives world2) h2 (λ _ world3 k3 h3.
+        at context last s (pc1 + length rest) (onto (flat xs) stack) world2 behind.0
+        (after_then context (told s) (tick world2) _ (bind_then context (told s) world2 (tick world2) _ _ _ (tick_gives world2) h2 (λ _ world3 k3 h3.
         built_then (λ vs. keyword_map (paired vs)) s (pc1 + length rest) (n + n) (flat xs) stack world3 (flat_long n xs long)
-        (subst (λ zs. Go p f r s (pc1 + length rest + 1) (keyword_map zs ∷ stack) world3) (sym (paired_flat xs)) (move p f r s _ _ (keyword_map xs ∷ stack) world3 place h3)))))))))
+        (subst (λ zs. Go context s (pc1 + length rest + 1) (keyword_map zs ∷ stack) world3) (sym (paired_flat xs)) (move context s _ _ (keyword_map xs ∷ stack) world3 place h3)))))))))
 
     -- A step's code replaces the value on top.
-    step_runs : (x : Step) (run : Run) (s : Spot) (pc : ℕ) (v : Val) (stack : List Val) (w : World) → Here run s w → HasAt (p.code s.run.stream) pc (step_code pc x) →
-        Follows r (told s) (eval_step u run x v w) (λ y world1. Go p f r s (pc + length (step_code pc x)) (y ∷ stack) world1) → Go p f r s pc (v ∷ stack) w
+    step_runs : (x : Step) (run : Run) (s : Spot) (pc : ℕ) (v : Val) (stack : List Val) (w : World) → Here run s w → HasAt (context.program.code s.run.stream) pc (step_code pc x) →
+        Follows context (told s) (eval_step u run x v w) (λ y world1. Go context s (pc + length (step_code pc x)) (y ∷ stack) world1) → Go context s pc (v ∷ stack) w
     step_runs (Attribute x) run s pc v stack w d is h =
-        at p f r (i.GetAttr x) s pc (v ∷ stack) w is.0 (after_then p f r (told s) (tick w) _ (bind_then r (told s) w (tick w) _ _ _ (tick_gives w) h (λ _ world1 k h1.
-        pushes p f r s pc stack (v ∷ stack) world1 (attribute p.host v x world1) h1)))
+        at context (i.GetAttr x) s pc (v ∷ stack) w is.0 (after_then context (told s) (tick w) _ (bind_then context (told s) w (tick w) _ _ _ (tick_gives w) h (λ _ world1 k h1.
+        pushes context s pc stack (v ∷ stack) world1 (attribute context.program.host v x world1) h1)))
     step_runs (Method' x _ given _ named) run s pc v stack w d is h =
-        let all = p.code s.run.stream in
+        let all = context.program.code s.run.stream in
         let c = arguments_code pc given in
         let kc = named_code (pc + length c) named in
         let n = count given + together named + 1 in
@@ -563,56 +603,56 @@ module _ (p : Program) (f : Base) (r : Final) (trees : Trees) (n : ℕ)
         let there : pc + length c + length kc ≡ pc + length (c ++ kc) = omega (arith, length-append c kc) in
         let place : pc + length (c ++ kc) + 1 ≡ pc + length ((c ++ kc) ++ last ∷ []) = omega (arith, length-append (c ++ kc) (last ∷ [])) in
         arguments_run given run s pc (v ∷ stack) w d (has_front all pc c kc front)
-        (bind_long r (told s) w (count given) (eval_arguments u run given w) _ _ _ (arguments_give u nest_ends again_kept run given w) (arguments_long u run given w) h (λ vs world1 k l h1.
+        (bind_long context (told s) w (count given) (eval_arguments u run given w) _ _ _ (arguments_give u nest_ends again_kept run given w) (arguments_long u run given w) h (λ vs world1 k l h1.
         named_runs named run s (pc + length c) (onto vs (v ∷ stack)) world1 (here_kept run s k d) (has_behind all pc c kc front)
-        (bind_long r (told s) world1 (together named) (eval_named u run named world1) _ _ _ (named_give u nest_ends again_kept run named world1) (named_long u run named world1) h1 (λ ks world2 k2 l2 h2.
+        (bind_long context (told s) world1 (together named) (eval_named u run named world1) _ _ _ (named_give u nest_ends again_kept run named world1) (named_long u run named world1) h1 (λ ks world2 k2 l2 h2.
         let long : length (v ∷ (vs ++ ks)) ≡ n = omega (arith, length-append vs ks, l, l2) in
-        move p f r s _ _ (onto ks (onto vs (v ∷ stack))) world2 there
-        (subst (λ us. Go p f r s (pc + length (c ++ kc)) us world2) (onto_both vs ks (v ∷ stack))
-        (at p f r last s (pc + length (c ++ kc)) (onto (v ∷ (vs ++ ks)) stack) world2 behind.0
-        (after_then p f r (told s) (tick world2) _ (bind_then r (told s) world2 (tick world2) _ _ _ (tick_gives world2) h2 (λ _ world3 k3 h3.
-        subst (λ t. Leads p f (told s) (on_taken t world3 (λ xs rest. asked p (cfg s (pc + length (c ++ kc)) (onto (v ∷ (vs ++ ks)) stack) world3) rest (call_first p.host x xs world3))) r) (sym (taken_all (v ∷ (vs ++ ks)) n stack long))
-        (asked_then run s (pc + length (c ++ kc)) stack (onto (v ∷ (vs ++ ks)) stack) world3 world3 (call_method p.host x v (vs ++ ks) world3) (method_asks p.host x v (vs ++ ks) world3) (here_kept run s k3 (here_kept run s k2 (here_kept run s k d)))
-        (follows_map r (told s) (value_of u run (call_method p.host x v (vs ++ ks) world3)) _ _ h3 (λ v1 world4 g3. move p f r s _ _ (v1 ∷ stack) world4 place g3))))))))))))
+        move context s _ _ (onto ks (onto vs (v ∷ stack))) world2 there
+        (subst (λ us. Go context s (pc + length (c ++ kc)) us world2) (onto_both vs ks (v ∷ stack))
+        (at context last s (pc + length (c ++ kc)) (onto (v ∷ (vs ++ ks)) stack) world2 behind.0
+        (after_then context (told s) (tick world2) _ (bind_then context (told s) world2 (tick world2) _ _ _ (tick_gives world2) h2 (λ _ world3 k3 h3.
+        subst (λ t. Comes context (told s) (on_taken t world3 (λ xs rest. asked context.program (cfg s (pc + length (c ++ kc)) (onto (v ∷ (vs ++ ks)) stack) world3) rest (call_first context.program.host x xs world3)))) (sym (taken_all (v ∷ (vs ++ ks)) n stack long))
+        (asked_then run s (pc + length (c ++ kc)) stack (onto (v ∷ (vs ++ ks)) stack) world3 world3 (call_method context.program.host x v (vs ++ ks) world3) (method_asks context.program.host x v (vs ++ ks) world3) (here_kept run s k3 (here_kept run s k2 (here_kept run s k d)))
+        (follows_map context (told s) (value_of u run (call_method context.program.host x v (vs ++ ks) world3)) _ _ h3 (λ v1 world4 g3. move context s _ _ (v1 ∷ stack) world4 place g3))))))))))))
     step_runs (item a) run s pc v stack w d is h =
         let c = expr_code pc a in
-        let behind = has_behind (p.code s.run.stream) pc c (i.GetItem ∷ []) is in
+        let behind = has_behind (context.program.code s.run.stream) pc c (i.GetItem ∷ []) is in
         let place : pc + length c + 1 ≡ pc + length (c ++ i.GetItem ∷ []) = omega (arith, length-append c (i.GetItem ∷ [])) in
-        expr_runs a run s pc (v ∷ stack) w d (has_front (p.code s.run.stream) pc c _ is)
-        (bind_then r (told s) w (eval u run a w) _ _ _ (eval_gives u nest_ends again_kept run a w) h (λ k world1 e h1.
-        at p f r i.GetItem s (pc + length c) (k ∷ v ∷ stack) world1 behind.0 (after_then p f r (told s) (tick world1) _ (bind_then r (told s) world1 (tick world1) _ _ _ (tick_gives world1) h1 (λ _ world2 e2 h2.
-        pushes p f r s (pc + length c) stack (k ∷ v ∷ stack) world2 (item_at p.host v k world2)
-        (follows_map r (told s) (item_at p.host v k world2) _ _ h2 (λ x world3 g. move p f r s _ _ (x ∷ stack) world3 place g)))))))
+        expr_runs a run s pc (v ∷ stack) w d (has_front (context.program.code s.run.stream) pc c _ is)
+        (bind_then context (told s) w (eval u run a w) _ _ _ (eval_gives u nest_ends again_kept run a w) h (λ k world1 e h1.
+        at context i.GetItem s (pc + length c) (k ∷ v ∷ stack) world1 behind.0 (after_then context (told s) (tick world1) _ (bind_then context (told s) world1 (tick world1) _ _ _ (tick_gives world1) h1 (λ _ world2 e2 h2.
+        pushes context s (pc + length c) stack (k ∷ v ∷ stack) world2 (item_at context.program.host v k world2)
+        (follows_map context (told s) (item_at context.program.host v k world2) _ _ h2 (λ x world3 g. move context s _ _ (x ∷ stack) world3 place g)))))))
     step_runs (slice a b c) run s pc v stack w d is h =
         let ac = expr_code pc a in
         let pc1 = pc + length ac in
         let bc = expr_code pc1 b in
         let pc2 = pc1 + length bc in
         let cc = expr_code pc2 c in
-        let all = p.code s.run.stream in
+        let all = context.program.code s.run.stream in
         let from_b = has_behind all pc ac (bc ++ (cc ++ i.Slice ∷ [])) is in
         let from_c = has_behind all pc1 bc (cc ++ i.Slice ∷ []) from_b in
         let last = has_behind all pc2 cc (i.Slice ∷ []) from_c in
         let place : pc2 + length cc + 1 ≡ pc + length (ac ++ (bc ++ (cc ++ i.Slice ∷ []))) =
         omega (arith, length-append ac (bc ++ (cc ++ i.Slice ∷ [])), length-append bc (cc ++ i.Slice ∷ []), length-append cc (i.Slice ∷ [])) in
         expr_runs a run s pc (v ∷ stack) w d (has_front all pc ac (bc ++ (cc ++ i.Slice ∷ [])) is)
-        (bind_then r (told s) w (eval u run a w) _ _ _ (eval_gives u nest_ends again_kept run a w) h (λ x world1 k1 h1.
+        (bind_then context (told s) w (eval u run a w) _ _ _ (eval_gives u nest_ends again_kept run a w) h (λ x world1 k1 h1.
         expr_runs b run s pc1 (x ∷ v ∷ stack) world1 (here_kept run s k1 d) (has_front all pc1 bc (cc ++ i.Slice ∷ []) from_b)
-        (bind_then r (told s) world1 (eval u run b world1) _ _ _ (eval_gives u nest_ends again_kept run b world1) h1 (λ y world2 k2 h2.
+        (bind_then context (told s) world1 (eval u run b world1) _ _ _ (eval_gives u nest_ends again_kept run b world1) h1 (λ y world2 k2 h2.
         expr_runs c run s pc2 (y ∷ x ∷ v ∷ stack) world2 (here_kept run s k2 (here_kept run s k1 d)) (has_front all pc2 cc (i.Slice ∷ []) from_c)
-        (bind_then r (told s) world2 (eval u run c world2) _ _ _ (eval_gives u nest_ends again_kept run c world2) h2 (λ z world3 k3 h3.
-        at p f r i.Slice s (pc2 + length cc) (z ∷ y ∷ x ∷ v ∷ stack) world3 last.0 (after_then p f r (told s) (tick world3) _ (bind_then r (told s) world3 (tick world3) _ _ _ (tick_gives world3) h3 (λ _ world4 k4 h4.
-        pushes p f r s (pc2 + length cc) stack (z ∷ y ∷ x ∷ v ∷ stack) world4 (slice_of p.host v x y z world4)
-        (follows_map r (told s) (slice_of p.host v x y z world4) _ _ h4 (λ q world5 g. move p f r s _ _ (q ∷ stack) world5 place g)))))))))))
+        (bind_then context (told s) world2 (eval u run c world2) _ _ _ (eval_gives u nest_ends again_kept run c world2) h2 (λ z world3 k3 h3.
+        at context i.Slice s (pc2 + length cc) (z ∷ y ∷ x ∷ v ∷ stack) world3 last.0 (after_then context (told s) (tick world3) _ (bind_then context (told s) world3 (tick world3) _ _ _ (tick_gives world3) h3 (λ _ world4 k4 h4.
+        pushes context s (pc2 + length cc) stack (z ∷ y ∷ x ∷ v ∷ stack) world4 (slice_of context.program.host v x y z world4)
+        (follows_map context (told s) (slice_of context.program.host v x y z world4) _ _ h4 (λ q world5 g. move context s _ _ (q ∷ stack) world5 place g)))))))))))
     step_runs (binary op a) run s pc v stack w d is h =
         let c = expr_code pc a in
         let place : pc + length c + length (binary_code op) ≡ pc + length (c ++ binary_code op) = omega (arith, length-append c (binary_code op)) in
-        expr_runs a run s pc (v ∷ stack) w d (has_front (p.code s.run.stream) pc c _ is)
-        (bind_then r (told s) w (eval u run a w) _ _ _ (eval_gives u nest_ends again_kept run a w) h (λ y world1 k h1.
-        binary_then op s (pc + length c) v y stack world1 (has_behind (p.code s.run.stream) pc c (binary_code op) is)
-        (follows_map r (told s) (bind (tick world1) (λ _ world2. applied p.host op v y world2)) _ _ h1 (λ x world2 g. move p f r s _ _ (x ∷ stack) world2 place g))))
+        expr_runs a run s pc (v ∷ stack) w d (has_front (context.program.code s.run.stream) pc c _ is)
+        (bind_then context (told s) w (eval u run a w) _ _ _ (eval_gives u nest_ends again_kept run a w) h (λ y world1 k h1.
+        binary_then op s (pc + length c) v y stack world1 (has_behind (context.program.code s.run.stream) pc c (binary_code op) is)
+        (follows_map context (told s) (bind (tick world1) (λ _ world2. applied context.program.host op v y world2)) _ _ h1 (λ x world2 g. move context s _ _ (x ∷ stack) world2 place g))))
     step_runs (compare op a _ cs) run s pc v stack w d is h =
-        let all = p.code s.run.stream in
+        let all = context.program.code s.run.stream in
         let c = expr_code pc a in
         let pc1 = pc + length c in
         let size = length (links_code 0 pc1 op cs) in
@@ -627,186 +667,185 @@ module _ (p : Program) (f : Base) (r : Final) (trees : Trees) (n : ℕ)
         let over_swap : end + 1 + 1 ≡ to = omega arith in
         let place : to ≡ pc + length (c ++ (links ++ last)) = omega (arith, length-append c (links ++ last), length-append links last, long) in
         expr_runs a run s pc (v ∷ stack) w d (has_front all pc c (links ++ last) is)
-        (bind_then r (told s) w (eval u run a w) _ _ _ (eval_gives u nest_ends again_kept run a w) h (λ y world1 k h1.
+        (bind_then context (told s) w (eval u run a w) _ _ _ (eval_gives u nest_ends again_kept run a w) h (λ y world1 k h1.
         links_run op cs run s end to (pc1 + length links) pc1 v y stack world1 (here_kept run s k d) (has_front all pc1 links last row) refl behind.0
         (subst (λ n. HasAt all n (i.Swap ∷ i.DiscardTop ∷ [])) swap behind.1) over_swap
-        (follows_map r (told s) (eval_links u run op cs v y world1) _ _ h1 (λ x world2 g. move p f r s _ _ (x ∷ stack) world2 place g))))
+        (follows_map context (told s) (eval_links u run op cs v y world1) _ _ h1 (λ x world2 g. move context s _ _ (x ∷ stack) world2 place g))))
     step_runs (and_then a) run s pc v stack w d is h =
         let c = expr_code (pc + 1) a in
         let place : pc + 1 + length c ≡ pc + suc (length c) = omega arith in
-        at p f r (i.JumpIfFalseOrPop (pc + 1 + length c)) s pc (v ∷ stack) w is.0
-        (after_then p f r (told s) (tick w) _ (bind_then r (told s) w (tick w) _ _ _ (tick_gives w) h (λ _ world1 k h1.
-        after_then p f r (told s) (truth p.host v world1) _ (bind_then r (told s) world1 (truth p.host v world1) _ _ _ (answered_gives _ world1) h1 (λ b world2 k2 h2.
-        choose_then p f r b (eval u run a world2) (Good v world2) _ _ (told s) _ h2
-        (λ h3. silent p f r (told s) _ (expr_runs a run s (pc + 1) stack world2 (here_kept run s k2 (here_kept run s k d)) is.1
-        (follows_map r (told s) (eval u run a world2) _ _ h3 (λ y world3 g. move p f r s _ _ (y ∷ stack) world3 place g))))
-        (λ g. silent p f r (told s) _ (move p f r s _ _ (v ∷ stack) world2 place g)))))))
+        at context (i.JumpIfFalseOrPop (pc + 1 + length c)) s pc (v ∷ stack) w is.0
+        (after_then context (told s) (tick w) _ (bind_then context (told s) w (tick w) _ _ _ (tick_gives w) h (λ _ world1 k h1.
+        after_then context (told s) (truth context.program.host v world1) _ (bind_then context (told s) world1 (truth context.program.host v world1) _ _ _ (answered_gives _ world1) h1 (λ b world2 k2 h2.
+        choose_then context b (eval u run a world2) (Good v world2) _ _ (told s) _ h2
+        (λ h3. silent context (told s) _ (expr_runs a run s (pc + 1) stack world2 (here_kept run s k2 (here_kept run s k d)) is.1
+        (follows_map context (told s) (eval u run a world2) _ _ h3 (λ y world3 g. move context s _ _ (y ∷ stack) world3 place g))))
+        (λ g. silent context (told s) _ (move context s _ _ (v ∷ stack) world2 place g)))))))
     step_runs (or_else a) run s pc v stack w d is h =
         let c = expr_code (pc + 1) a in
         let place : pc + 1 + length c ≡ pc + suc (length c) = omega arith in
-        at p f r (i.JumpIfTrueOrPop (pc + 1 + length c)) s pc (v ∷ stack) w is.0
-        (after_then p f r (told s) (tick w) _ (bind_then r (told s) w (tick w) _ _ _ (tick_gives w) h (λ _ world1 k h1.
-        after_then p f r (told s) (truth p.host v world1) _ (bind_then r (told s) world1 (truth p.host v world1) _ _ _ (answered_gives _ world1) h1 (λ b world2 k2 h2.
-        choose_then p f r b (Good v world2) (eval u run a world2) _ _ (told s) _ h2
-        (λ g. silent p f r (told s) _ (move p f r s _ _ (v ∷ stack) world2 place g))
-        (λ h3. silent p f r (told s) _ (expr_runs a run s (pc + 1) stack world2 (here_kept run s k2 (here_kept run s k d)) is.1
-        (follows_map r (told s) (eval u run a world2) _ _ h3 (λ y world3 g. move p f r s _ _ (y ∷ stack) world3 place g)))))))))
+        at context (i.JumpIfTrueOrPop (pc + 1 + length c)) s pc (v ∷ stack) w is.0
+        (after_then context (told s) (tick w) _ (bind_then context (told s) w (tick w) _ _ _ (tick_gives w) h (λ _ world1 k h1.
+        after_then context (told s) (truth context.program.host v world1) _ (bind_then context (told s) world1 (truth context.program.host v world1) _ _ _ (answered_gives _ world1) h1 (λ b world2 k2 h2.
+        choose_then context b (Good v world2) (eval u run a world2) _ _ (told s) _ h2
+        (λ g. silent context (told s) _ (move context s _ _ (v ∷ stack) world2 place g))
+        (λ h3. silent context (told s) _ (expr_runs a run s (pc + 1) stack world2 (here_kept run s k2 (here_kept run s k d)) is.1
+        (follows_map context (told s) (eval u run a world2) _ _ h3 (λ y world3 g. move context s _ _ (y ∷ stack) world3 place g)))))))))
 
     -- Comparisons in a row replace both sides of the first. Behind them stands a jump over the dropping of the right side of a false one.
     links_run : {m : _} → (op : BinaryOperator) (cs : Row_of-Comparison m) (run : Run) (s : Spot) (end to jump pc : ℕ) (x y : Val) (stack : List Val) (w : World) → Here run s w →
-        HasAt (p.code s.run.stream) pc (links_code end pc op cs) → pc + length (links_code end pc op cs) ≡ jump → slice_get (p.code s.run.stream) jump ≡ Some (i.Jump to) →
-        HasAt (p.code s.run.stream) end (i.Swap ∷ i.DiscardTop ∷ []) → end + 1 + 1 ≡ to →
-        Follows r (told s) (eval_links u run op cs x y w) (λ v world1. Go p f r s to (v ∷ stack) world1) → Go p f r s pc (y ∷ x ∷ stack) w
+        HasAt (context.program.code s.run.stream) pc (links_code end pc op cs) → pc + length (links_code end pc op cs) ≡ jump → slice_get (context.program.code s.run.stream) jump ≡ Some (i.Jump to) →
+        HasAt (context.program.code s.run.stream) end (i.Swap ∷ i.DiscardTop ∷ []) → end + 1 + 1 ≡ to →
+        Follows context (told s) (eval_links u run op cs x y w) (λ v world1. Go context s to (v ∷ stack) world1) → Go context s pc (y ∷ x ∷ stack) w
     links_run op no_comparison run s end to jump pc x y stack w d is place over_drop drop over_end h =
         binary_then op s pc x y stack w is
-        (follows_bind r (told s) (tick w) _ _ (bind_then r (told s) w (tick w) _ _ _ (tick_gives w) h (λ _ world1 k h1.
-        bind_then r (told s) world1 (applied p.host op x y world1) _ _ _ (binary_gives u nest_ends again_kept op x y world1) h1 (λ v world2 k2 h2.
-        move p f r s _ _ (v ∷ stack) world2 place
-        (at p f r (i.Jump to) s jump (v ∷ stack) world2 over_drop (after_then p f r (told s) (tick world2) _ (bind_then r (told s) world2 (tick world2) _ _ _ (tick_gives world2) h2 (λ _ world3 k3 g.
-        silent p f r (told s) _ g))))))))
+        (follows_bind context (told s) (tick w) _ _ (bind_then context (told s) w (tick w) _ _ _ (tick_gives w) h (λ _ world1 k h1.
+        bind_then context (told s) world1 (applied context.program.host op x y world1) _ _ _ (binary_gives u nest_ends again_kept op x y world1) h1 (λ v world2 k2 h2.
+        move context s _ _ (v ∷ stack) world2 place
+        (at context (i.Jump to) s jump (v ∷ stack) world2 over_drop (after_then context (told s) (tick world2) _ (bind_then context (told s) world2 (tick world2) _ _ _ (tick_gives world2) h2 (λ _ world3 k3 g.
+        silent context (told s) _ g))))))))
     links_run op (with_comparison (comparison op1 a) more) run s end to jump pc x y stack w d is place over_drop drop over_end h =
-        let all = p.code s.run.stream in
+        let all = context.program.code s.run.stream in
         let c = expr_code (pc + 2) a in
         let rest = links_code end (pc + 2 + length c) op1 more in
         let here : pc + 1 + 1 ≡ pc + 2 = omega arith in
         let right = subst (λ n. HasAt all n (c ++ rest)) here is.1.1 in
         let last : pc + 2 + length c + length rest ≡ jump = omega (arith, place, length-append c rest) in
-        at p f r (i.CompareAndPreserve op) s pc (y ∷ x ∷ stack) w is.0 (after_then p f r (told s) (tick w) _ (bind_then r (told s) w (tick w) _ _ _ (tick_gives w) h (λ _ world1 k1 h1.
-        after_then p f r (told s) (operated p.host op x y world1) _ (bind_then r (told s) world1 (operated p.host op x y world1) _ _ _ (answered_gives _ world1) h1 (λ v world2 k2 h2.
-        silent p f r (told s) _ (at p f r (i.JumpIfFalseOrPop end) s (pc + 1) (v ∷ y ∷ stack) world2 is.1.0
-        (after_then p f r (told s) (tick world2) _ (bind_then r (told s) world2 (tick world2) _ _ _ (tick_gives world2) h2 (λ _ world3 k3 h3.
-        after_then p f r (told s) (truth p.host v world3) _ (bind_then r (told s) world3 (truth p.host v world3) _ _ _ (answered_gives _ world3) h3 (λ b world4 k4 h4.
+        at context (i.CompareAndPreserve op) s pc (y ∷ x ∷ stack) w is.0 (after_then context (told s) (tick w) _ (bind_then context (told s) w (tick w) _ _ _ (tick_gives w) h (λ _ world1 k1 h1.
+        after_then context (told s) (operated context.program.host op x y world1) _ (bind_then context (told s) world1 (operated context.program.host op x y world1) _ _ _ (answered_gives _ world1) h1 (λ v world2 k2 h2.
+        silent context (told s) _ (at context (i.JumpIfFalseOrPop end) s (pc + 1) (v ∷ y ∷ stack) world2 is.1.0
+        (after_then context (told s) (tick world2) _ (bind_then context (told s) world2 (tick world2) _ _ _ (tick_gives world2) h2 (λ _ world3 k3 h3.
+        after_then context (told s) (truth context.program.host v world3) _ (bind_then context (told s) world3 (truth context.program.host v world3) _ _ _ (answered_gives _ world3) h3 (λ b world4 k4 h4.
         let deep4 = here_kept run s k4 (here_kept run s k3 (here_kept run s k2 (here_kept run s k1 d))) in
-        choose_then p f r b (bind (eval u run a world4) (λ z world5. eval_links u run op1 more y z world5)) (bind (tick world4) (λ _ world5. Good v world5)) _ _ (told s) _ h4
-        (λ h5. silent p f r (told s) _ (move p f r s _ _ (y ∷ stack) world4 here (expr_runs a run s (pc + 2) (y ∷ stack) world4 deep4 (has_front all (pc + 2) c rest right)
-        (bind_then r (told s) world4 (eval u run a world4) _ _ _ (eval_gives u nest_ends again_kept run a world4) h5 (λ z world5 k5 h6.
+        choose_then context b (bind (eval u run a world4) (λ z world5. eval_links u run op1 more y z world5)) (bind (tick world4) (λ _ world5. Good v world5)) _ _ (told s) _ h4
+        (λ h5. silent context (told s) _ (move context s _ _ (y ∷ stack) world4 here (expr_runs a run s (pc + 2) (y ∷ stack) world4 deep4 (has_front all (pc + 2) c rest right)
+        (bind_then context (told s) world4 (eval u run a world4) _ _ _ (eval_gives u nest_ends again_kept run a world4) h5 (λ z world5 k5 h6.
         links_run op1 more run s end to jump (pc + 2 + length c) y z stack world5 (here_kept run s k5 deep4) (has_behind all (pc + 2) c rest right) last over_drop drop over_end h6)))))
-        (λ h5. silent p f r (told s) _ (dropped_then s end to v y stack world4 drop over_end h5)))))))))))))
+        (λ h5. silent context (told s) _ (dropped_then s end to v y stack world4 drop over_end h5)))))))))))))
 
-    steps_run : {m : _} → (ss : Row_of-Step m) (run : Run) (s : Spot) (pc : ℕ) (v : Val) (stack : List Val) (w : World) → Here run s w → HasAt (p.code s.run.stream) pc (steps_code pc ss) →
-        Follows r (told s) (eval_steps u run ss v w) (λ y world1. Go p f r s (pc + length (steps_code pc ss)) (y ∷ stack) world1) → Go p f r s pc (v ∷ stack) w
-    steps_run no_step run s pc v stack w d is h = move p f r s pc (pc + 0) (v ∷ stack) w (omega arith) h
+    steps_run : {m : _} → (ss : Row_of-Step m) (run : Run) (s : Spot) (pc : ℕ) (v : Val) (stack : List Val) (w : World) → Here run s w → HasAt (context.program.code s.run.stream) pc (steps_code pc ss) →
+        Follows context (told s) (eval_steps u run ss v w) (λ y world1. Go context s (pc + length (steps_code pc ss)) (y ∷ stack) world1) → Go context s pc (v ∷ stack) w
+    steps_run no_step run s pc v stack w d is h = move context s pc (pc + 0) (v ∷ stack) w (omega arith) h
     steps_run (step_and x ss) run s pc v stack w d is h =
         let c = step_code pc x in
         let rest = steps_code (pc + length c) ss in
         let place : pc + length c + length rest ≡ pc + length (c ++ rest) = omega (arith, length-append c rest) in
-        step_runs x run s pc v stack w d (has_front (p.code s.run.stream) pc c rest is)
-        (bind_then r (told s) w (eval_step u run x v w) _ _ _ (step_gives u nest_ends again_kept run x v w) h (λ y world1 k h1.
-        steps_run ss run s (pc + length c) y stack world1 (here_kept run s k d) (has_behind (p.code s.run.stream) pc c rest is)
-        (follows_map r (told s) (eval_steps u run ss y world1) _ _ h1 (λ z world2 g. move p f r s _ _ (z ∷ stack) world2 place g))))
+        step_runs x run s pc v stack w d (has_front (context.program.code s.run.stream) pc c rest is)
+        (bind_then context (told s) w (eval_step u run x v w) _ _ _ (step_gives u nest_ends again_kept run x v w) h (λ y world1 k h1.
+        steps_run ss run s (pc + length c) y stack world1 (here_kept run s k d) (has_behind (context.program.code s.run.stream) pc c rest is)
+        (follows_map context (told s) (eval_steps u run ss y world1) _ _ h1 (λ z world2 g. move context s _ _ (z ∷ stack) world2 place g))))
 
   mutual
     -- A target's code takes the value on top.
-    target_runs : (t : Target) (run : Run) (s : Spot) (pc : ℕ) (v : Val) (stack : List Val) (w : World) → Here run s w → HasAt (p.code s.run.stream) pc (target_code pc t) →
-        Follows r (told s) (assign u run t v w) (λ _ world1. Go p f r s (pc + length (target_code pc t)) stack world1) → Go p f r s pc (v ∷ stack) w
+    target_runs : (t : Target) (run : Run) (s : Spot) (pc : ℕ) (v : Val) (stack : List Val) (w : World) → Here run s w → HasAt (context.program.code s.run.stream) pc (target_code pc t) →
+        Follows context (told s) (assign u run t v w) (λ _ world1. Go context s (pc + length (target_code pc t)) stack world1) → Go context s pc (v ∷ stack) w
     target_runs (To x) run s pc v stack w d is h =
-        at p f r (i.StoreLocal x) s pc (v ∷ stack) w is.0 (after_then p f r (told s) (tick w) _ (bind_then r (told s) w (tick w) _ _ _ (tick_gives w) h (λ _ world1 k h1.
-        silent p f r (told s) _ h1)))
+        at context (i.StoreLocal x) s pc (v ∷ stack) w is.0 (after_then context (told s) (tick w) _ (bind_then context (told s) w (tick w) _ _ _ (tick_gives w) h (λ _ world1 k h1.
+        silent context (told s) _ h1)))
     target_runs (Items _ ts) run s pc v stack w d is h =
         let n = count_targets ts in
         let c = targets_code (pc + 1) ts in
         let place : pc + 1 + length c ≡ pc + suc (length c) = omega arith in
-        at p f r (i.UnpackList n) s pc (v ∷ stack) w is.0 (after_then p f r (told s) (tick w) _ (bind_then r (told s) w (tick w) _ _ _ (tick_gives w) h (λ _ world1 k h1.
-        after_then p f r (told s) (items_of n v world1) _ (bind_long r (told s) world1 n (items_of n v world1) _ _ _ (answered_gives _ world1) (items_long n v world1) h1 (λ vs world2 k2 l h2.
-        silent p f r (told s) _ (targets_run ts run s (pc + 1) vs stack world2 l (here_kept run s k2 (here_kept run s k d)) is.1
-        (follows_map r (told s) (assign_all u run ts vs world2) _ _ h2 (λ _ world3 g. move p f r s _ _ stack world3 place g))))))))
+        at context (i.UnpackList n) s pc (v ∷ stack) w is.0 (after_then context (told s) (tick w) _ (bind_then context (told s) w (tick w) _ _ _ (tick_gives w) h (λ _ world1 k h1.
+        after_then context (told s) (items_of n v world1) _ (bind_long context (told s) world1 n (items_of n v world1) _ _ _ (answered_gives _ world1) (items_long n v world1) h1 (λ vs world2 k2 l h2.
+        silent context (told s) _ (targets_run ts run s (pc + 1) vs stack world2 l (here_kept run s k2 (here_kept run s k d)) is.1
+        (follows_map context (told s) (assign_all u run ts vs world2) _ _ h2 (λ _ world3 g. move context s _ _ stack world3 place g))))))))
     target_runs (Member e x) run s pc v stack w d is h =
         let c = expr_code pc e in
         let last = i.SetAttr x ∷ [] in
-        let behind = has_behind (p.code s.run.stream) pc c last is in
+        let behind = has_behind (context.program.code s.run.stream) pc c last is in
         let place : pc + length c + 1 ≡ pc + length (c ++ last) = omega (arith, length-append c last) in
-        expr_runs e run s pc (v ∷ stack) w d (has_front (p.code s.run.stream) pc c last is)
-        (bind_then r (told s) w (eval u run e w) _ _ _ (eval_gives u nest_ends again_kept run e w) h (λ o world1 k h1.
-        at p f r (i.SetAttr x) s (pc + length c) (o ∷ v ∷ stack) world1 behind.0 (after_then p f r (told s) (tick world1) _ (bind_then r (told s) world1 (tick world1) _ _ _ (tick_gives world1) h1 (λ _ world2 k2 h2.
-        after_then p f r (told s) (set_member x v o world2) _ (follows_map r (told s) (set_member x v o world2) _ _ h2 (λ _ world3 g.
-        silent p f r (told s) _ (move p f r s _ _ stack world3 place g))))))))
+        expr_runs e run s pc (v ∷ stack) w d (has_front (context.program.code s.run.stream) pc c last is)
+        (bind_then context (told s) w (eval u run e w) _ _ _ (eval_gives u nest_ends again_kept run e w) h (λ o world1 k h1.
+        at context (i.SetAttr x) s (pc + length c) (o ∷ v ∷ stack) world1 behind.0 (after_then context (told s) (tick world1) _ (bind_then context (told s) world1 (tick world1) _ _ _ (tick_gives world1) h1 (λ _ world2 k2 h2.
+        after_then context (told s) (set_member x v o world2) _ (follows_map context (told s) (set_member x v o world2) _ _ h2 (λ _ world3 g.
+        silent context (told s) _ (move context s _ _ stack world3 place g))))))))
 
     -- Targets take as many values, the first on top.
     targets_run : {m : _} → (ts : Row_of-Target m) (run : Run) (s : Spot) (pc : ℕ) (vs stack : List Val) (w : World) → length vs ≡ count_targets ts → Here run s w →
-        HasAt (p.code s.run.stream) pc (targets_code pc ts) →
-        Follows r (told s) (assign_all u run ts vs w) (λ _ world1. Go p f r s (pc + length (targets_code pc ts)) stack world1) → Go p f r s pc (vs ++ stack) w
-    targets_run no_target run s pc [] stack w l d is h = move p f r s pc (pc + 0) stack w (omega arith) h
+        HasAt (context.program.code s.run.stream) pc (targets_code pc ts) →
+        Follows context (told s) (assign_all u run ts vs w) (λ _ world1. Go context s (pc + length (targets_code pc ts)) stack world1) → Go context s pc (vs ++ stack) w
+    targets_run no_target run s pc [] stack w l d is h = move context s pc (pc + 0) stack w (omega arith) h
     targets_run no_target run s pc (v ∷ vs) stack w l d is h = absurd (omega (arith, l))
     targets_run (target t ts) run s pc [] stack w l d is h = absurd (omega (arith, l))
     targets_run (target t ts) run s pc (v ∷ vs) stack w l d is h =
         let c = target_code pc t in
         let rest = targets_code (pc + length c) ts in
         let place : pc + length c + length rest ≡ pc + length (c ++ rest) = omega (arith, length-append c rest) in
-        target_runs t run s pc v (vs ++ stack) w d (has_front (p.code s.run.stream) pc c rest is)
-        (bind_then r (told s) w (assign u run t v w) _ _ _ (assign_gives u nest_ends again_kept run t v w) h (λ _ world1 k h1.
-        targets_run ts run s (pc + length c) vs stack world1 (omega (arith, l)) (here_kept run s k d) (has_behind (p.code s.run.stream) pc c rest is)
-        (follows_map r (told s) (assign_all u run ts vs world1) _ _ h1 (λ _ world2 g. move p f r s _ _ stack world2 place g))))
+        target_runs t run s pc v (vs ++ stack) w d (has_front (context.program.code s.run.stream) pc c rest is)
+        (bind_then context (told s) w (assign u run t v w) _ _ _ (assign_gives u nest_ends again_kept run t v w) h (λ _ world1 k h1.
+        targets_run ts run s (pc + length c) vs stack world1 (omega (arith, l)) (here_kept run s k d) (has_behind (context.program.code s.run.stream) pc c rest is)
+        (follows_map context (told s) (assign_all u run ts vs world1) _ _ h1 (λ _ world2 g. move context s _ _ stack world2 place g))))
 
   -- A value's code, and then its target's, leave the operands as they were.
-  set_runs : (t : Target) (e : Expr) (run : Run) (s : Spot) (pc : ℕ) (stack : List Val) (w : World) → Here run s w → HasAt (p.code s.run.stream) pc (set_code pc t e) →
-      Follows r (told s) (set_to u run t e w) (λ _ world1. Go p f r s (pc + length (set_code pc t e)) stack world1) → Go p f r s pc stack w
+  set_runs : (t : Target) (e : Expr) (run : Run) (s : Spot) (pc : ℕ) (stack : List Val) (w : World) → Here run s w → HasAt (context.program.code s.run.stream) pc (set_code pc t e) →
+      Follows context (told s) (set_to u run t e w) (λ _ world1. Go context s (pc + length (set_code pc t e)) stack world1) → Go context s pc stack w
   set_runs t e run s pc stack w d is h =
       let c = expr_code pc e in
       let rest = target_code (pc + length c) t in
       let place : pc + length c + length rest ≡ pc + length (c ++ rest) = omega (arith, length-append c rest) in
-      expr_runs e run s pc stack w d (has_front (p.code s.run.stream) pc c rest is)
-      (bind_then r (told s) w (eval u run e w) _ _ _ (eval_gives u nest_ends again_kept run e w) h (λ v world1 k h1.
-      target_runs t run s (pc + length c) v stack world1 (here_kept run s k d) (has_behind (p.code s.run.stream) pc c rest is)
-      (follows_map r (told s) (assign u run t v world1) _ _ h1 (λ _ world2 g. move p f r s _ _ stack world2 place g))))
+      expr_runs e run s pc stack w d (has_front (context.program.code s.run.stream) pc c rest is)
+      (bind_then context (told s) w (eval u run e w) _ _ _ (eval_gives u nest_ends again_kept run e w) h (λ v world1 k h1.
+      target_runs t run s (pc + length c) v stack world1 (here_kept run s k d) (has_behind (context.program.code s.run.stream) pc c rest is)
+      (follows_map context (told s) (assign u run t v world1) _ _ h1 (λ _ world2 g. move context s _ _ stack world2 place g))))
 
-  sets_run : (given : List Assignment) (run : Run) (s : Spot) (pc : ℕ) (stack : List Val) (w : World) → Here run s w → HasAt (p.code s.run.stream) pc (assignments_code pc given) →
-      Follows r (told s) (set_each u run given w) (λ _ world1. Go p f r s (pc + length (assignments_code pc given)) stack world1) → Go p f r s pc stack w
-  sets_run [] run s pc stack w d is h = move p f r s pc (pc + 0) stack w (omega arith) h
+  sets_run : (given : List Assignment) (run : Run) (s : Spot) (pc : ℕ) (stack : List Val) (w : World) → Here run s w → HasAt (context.program.code s.run.stream) pc (assignments_code pc given) →
+      Follows context (told s) (set_each u run given w) (λ _ world1. Go context s (pc + length (assignments_code pc given)) stack world1) → Go context s pc stack w
+  sets_run [] run s pc stack w d is h = move context s pc (pc + 0) stack w (omega arith) h
   sets_run (Given t e ∷ more) run s pc stack w d is h =
       let c = set_code pc t e in
       let rest = assignments_code (pc + length c) more in
       let place : pc + length c + length rest ≡ pc + length (c ++ rest) = omega (arith, length-append c rest) in
-      set_runs t e run s pc stack w d (has_front (p.code s.run.stream) pc c rest is)
-      (bind_then r (told s) w (set_to u run t e w) _ _ _ (set_gives u nest_ends again_kept run t e w) h (λ _ world1 k h1.
-      sets_run more run s (pc + length c) stack world1 (here_kept run s k d) (has_behind (p.code s.run.stream) pc c rest is)
-      (follows_map r (told s) (set_each u run more world1) _ _ h1 (λ _ world2 g. move p f r s _ _ stack world2 place g))))
+      set_runs t e run s pc stack w d (has_front (context.program.code s.run.stream) pc c rest is)
+      (bind_then context (told s) w (set_to u run t e w) _ _ _ (set_gives u nest_ends again_kept run t e w) h (λ _ world1 k h1.
+      sets_run more run s (pc + length c) stack world1 (here_kept run s k d) (has_behind (context.program.code s.run.stream) pc c rest is)
+      (follows_map context (told s) (set_each u run more world1) _ _ h1 (λ _ world2 g. move context s _ _ stack world2 place g))))
 
   -- A scope of the run's own, which is no loop's, is left, which is free.
-  popped_then : (s : Spot) (pc : ℕ) (stack : List Val) (w : World) → f.scopes < length w.scopes.frames → top_mark w.scopes.frames ≡ None → slice_get (p.code s.run.stream) pc ≡ Some i.PopFrame →
-      Go p f r s (pc + 1) stack (pop w) → Go p f r s pc stack w
+  popped_then : (s : Spot) (pc : ℕ) (stack : List Val) (w : World) → context.base.scopes < length w.scopes.frames → top_mark w.scopes.frames ≡ None → slice_get (context.program.code s.run.stream) pc ≡ Some i.PopFrame →
+      Go context s (pc + 1) stack (pop w) → Go context s pc stack w
   popped_then s pc stack w stands no_loop e g =
-      let b : (nat_lt f.scopes (length w.scopes.frames) && is_no_loop (top_mark w.scopes.frames)) ≡ true = rw (lt-ltb f.scopes (length w.scopes.frames) stands, no_loop) refl in
-      at p f r i.PopFrame s pc stack w e
-      (subst (λ b. Leads p f (told s) (choose b (λ _. goes stack (pop w) (cfg s pc stack w)) (λ _. stuck w)) r)
-      (sym b) (silent p f r (told s) _ g))
+      let b : (nat_lt context.base.scopes (length w.scopes.frames) && is_no_loop (top_mark w.scopes.frames)) ≡ true = rw (lt-ltb context.base.scopes (length w.scopes.frames) stands, no_loop) refl in
+      at context i.PopFrame s pc stack w e
+      (subst (λ b. Comes context (told s) (choose b (λ _. goes stack (pop w) (cfg s pc stack w)) (λ _. stuck w)))
+      (sym b) (silent context (told s) _ g))
 
   -- A capture above the run's floor is ended, and its text pushed.
   ended_then : (s : Spot) (q : Option TemplateId) (x : List ℕ) (pc : ℕ) (stack : List Val) (w : World) → s.run.floor < suc (length (captures_of s.bed s.out)) →
-      Go p f r (later s q s.out) (pc + 1) (captured_text x w ∷ stack) w →
-      Leads p f (told s) (end_capture_of (cfg (later (record s { bed = captured_in s.bed s.out; out = [] }) q x) pc stack w)) r
+      Go context (later s q s.out) (pc + 1) (captured_text x w ∷ stack) w →
+      Comes context (told s) (end_capture_of (cfg (later (record s { bed = captured_in s.bed s.out; out = [] }) q x) pc stack w))
   ended_then s q x pc stack w stands g =
-      subst (λ b. Leads p f (told s) (choose b (λ _. goes (captured_text x w ∷ stack) w (cfg (later s q s.out) pc stack w)) (λ _. stuck w)) r)
-      (sym (lt-ltb s.run.floor (suc (length (captures_of s.bed s.out))) stands)) (silent p f r (told s) _ g)
+      subst (λ b. Comes context (told s) (choose b (λ _. goes (captured_text x w ∷ stack) w (cfg (later s q s.out) pc stack w)) (λ _. stuck w)))
+      (sym (lt-ltb s.run.floor (suc (length (captures_of s.bed s.out))) stands)) (silent context (told s) _ g)
 
   -- a run in a capture of its own
-  stands_captured : (run : Run) (s : Spot) → Stands f run s → Stands f (capturing true run) (record s { bed = captured_in s.bed s.out; out = [] })
-  stands_captured run s stands = (stands.0, omega (arith, stands.1), fits_captured f run s.bed s.out stands.2)
+  stands_captured : (run : Run) (s : Spot) → Stands context.base run s → Stands context.base (capturing true run) (record s { bed = captured_in s.bed s.out; out = [] })
+  stands_captured run s stands = (stands.0, omega (arith, stands.1), fits_captured context.base run s.bed s.out stands.2)
 
-  -- Where a run stands its text may grow.
   -- what is emitted
-  emit_then : (run : Run) (s : Spot) (pc : ℕ) (v : Val) (stack : List Val) (w : World) (D L N : Then) → Stands f run s → slice_get (p.code s.run.stream) pc ≡ Some i.Emit →
-      Ends r s.bed (emit u (as_at run s) s.out v w) D L N → ((out1 : List ℕ) (world1 : World) → D s.parent out1 world1 → Go p f r (later s s.parent out1) (pc + 1) stack world1) → Go p f r s pc (v ∷ stack) w
+  emit_then : (run : Run) (s : Spot) (pc : ℕ) (v : Val) (stack : List Val) (w : World) (D L N : Then) → Stands context.base run s → slice_get (context.program.code s.run.stream) pc ≡ Some i.Emit →
+      Ends context s.bed (emit u (as_at run s) s.out v w) D L N → ((out1 : List ℕ) (world1 : World) → D s.parent out1 world1 → Go context (later s s.parent out1) (pc + 1) stack world1) → Go context s pc (v ∷ stack) w
   emit_then run s pc v stack w D L N fits e h g =
-      at p f r i.Emit s pc (v ∷ stack) w e (after_then p f r (told s) (tick w) _ (use_then r s.bed w (tick w) (as_at run s) s.out _ D L N _ (tick_gives w) h (λ _ world1 k h1.
-      after_then p f r (told s) (emitted p.host v world1) _ (use_then r s.bed world1 (emitted p.host v world1) (as_at run s) s.out _ D L N _ (answered_gives _ world1) h1 (λ t world2 k2 h2.
-      writes_then p f r (as_at run s) t s (pc + 1) stack world2 refl fits.2 (g (say (as_at run s) t s.out) world2 (so_far_then r s.bed (as_at run s) (say (as_at run s) t s.out) world2 D L N h2)))))))
+      at context i.Emit s pc (v ∷ stack) w e (after_then context (told s) (tick w) _ (use_then context s.bed w (tick w) (as_at run s) s.out _ D L N _ (tick_gives w) h (λ _ world1 k h1.
+      after_then context (told s) (emitted context.program.host v world1) _ (use_then context s.bed world1 (emitted context.program.host v world1) (as_at run s) s.out _ D L N _ (answered_gives _ world1) h1 (λ t world2 k2 h2.
+      writes_then context (as_at run s) t s (pc + 1) stack world2 refl fits.2 (g (say (as_at run s) t s.out) world2 (so_far_then context s.bed (as_at run s) (say (as_at run s) t s.out) world2 D L N h2)))))))
 
   -- a block's tag: where it is heard the block is run in place, and else nothing is
-  tag_then : (run : Run) (s : Spot) (pc : ℕ) (b : List ℕ) (stack : List Val) (w : World) (D L N : Then) → Stands f run s → Deep run s w → slice_get (p.code s.run.stream) pc ≡ Some (i.CallBlock b) →
-      Ends r s.bed (use_it (tick w) (as_at run s) s.out (λ _ world1. block_tag u (as_at run s) b s.out world1)) D L N →
-      ((q1 : Option TemplateId) (out1 : List ℕ) (world1 : World) → D q1 out1 world1 → Go p f r (later s q1 out1) (pc + 1) stack world1) → Go p f r s pc stack w
+  tag_then : (run : Run) (s : Spot) (pc : ℕ) (b : List ℕ) (stack : List Val) (w : World) (D L N : Then) → Stands context.base run s → Deep run s w → slice_get (context.program.code s.run.stream) pc ≡ Some (i.CallBlock b) →
+      Ends context s.bed (use_it (tick w) (as_at run s) s.out (λ _ world1. block_tag u (as_at run s) b s.out world1)) D L N →
+      ((q1 : Option TemplateId) (out1 : List ℕ) (world1 : World) → D q1 out1 world1 → Go context (later s q1 out1) (pc + 1) stack world1) → Go context s pc stack w
   tag_then run s pc b stack w D L N fits d e h g =
-      at p f r (i.CallBlock b) s pc stack w e (after_then p f r (told s) (tick w) _ (use_then r s.bed w (tick w) (as_at run s) s.out _ D L N _ (tick_gives w) h (λ _ world1 k h1.
-      subst (λ x. Leads p f (told s) (choose (none_waits s.parent && x) (λ _. asked_in_place p f (cfg s pc stack world1) stack (enter_block p.host b world1)) (λ _. goes stack world1 (cfg s pc stack world1))) r)
-      (sym (audible_is f (as_at run s) s.run s.parent s.bed s.out pc stack world1 refl fits.2))
-      (choose_ends p f r (none_waits s.parent && heard_here (as_at run s)) (in_place_of u (as_at run s) s.out (enter_block p.host b world1)) (so_far (as_at run s) s.out world1) _ _ (told s) s.bed D L N h1
-      (λ h2. placed_then run s pc stack stack world1 world1 (enter_block p.host b world1) D L N fits.2 (block_asks p.host b world1) (deep_kept run s k d) h2 g)
-      (λ h2. silent p f r (told s) _ (g s.parent s.out world1 (so_far_then r s.bed (as_at run s) s.out world1 D L N h2)))))))
+      at context (i.CallBlock b) s pc stack w e (after_then context (told s) (tick w) _ (use_then context s.bed w (tick w) (as_at run s) s.out _ D L N _ (tick_gives w) h (λ _ world1 k h1.
+      subst (λ x. Comes context (told s) (choose (none_waits s.parent && x) (λ _. asked_in_place context.program context.base (cfg s pc stack world1) stack (enter_block context.program.host b world1)) (λ _. goes stack world1 (cfg s pc stack world1))))
+      (sym (audible_is context.base (as_at run s) s.run s.parent s.bed s.out pc stack world1 refl fits.2))
+      (choose_ends context (none_waits s.parent && heard_here (as_at run s)) (in_place_of u (as_at run s) s.out (enter_block context.program.host b world1)) (so_far (as_at run s) s.out world1) _ _ (told s) s.bed D L N h1
+      (λ h2. placed_then run s pc stack stack world1 world1 (enter_block context.program.host b world1) D L N fits.2 (block_asks context.program.host b world1) (deep_kept run s k d) h2 g)
+      (λ h2. silent context (told s) _ (g s.parent s.out world1 (so_far_then context s.bed (as_at run s) s.out world1 D L N h2)))))))
 
   -- What is open around a statement's code is closed, and the innermost loop left or gone on with: from here to where that goes on.
   abbrev Jumps : ℕ → List Opened → Spot → List Val → World → Then → Type 0
   Jumps to os s stack w L =
-      (q : Option TemplateId) (out : List ℕ) (v : World) (pc : ℕ) → Kept w v → HasAt (p.code s.run.stream) pc (close_all os ++ i.Jump to ∷ []) → L q out v → Go p f r (later s q out) pc stack v
+      (q : Option TemplateId) (out : List ℕ) (v : World) (pc : ℕ) → Kept w v → HasAt (context.program.code s.run.stream) pc (close_all os ++ i.Jump to ∷ []) → L q out v → Go context (later s q out) pc stack v
 
   abbrev Around : Inside → Spot → List Val → World → Then → Then → Type 0
   Around k s stack w L N = Jumps k.behind k.opened s stack w L × Jumps k.again k.opened s stack w N
@@ -814,14 +853,14 @@ module _ (p : Program) (f : Base) (r : Final) (trees : Trees) (n : ℕ)
   around_kept : (k : Inside) (s : Spot) (stack : List Val) (L N : Then) {w v : World} → Kept w v → Around k s stack w L N → Around k s stack v L N
   around_kept k s stack L N e j = (λ q out x pc h is l. j.0 q out x pc (kept_then e h) is l, λ q out x pc h is l. j.1 q out x pc (kept_then e h) is l)
 
-  jumps_scope : (to : ℕ) (os : List Opened) (s : Spot) (stack : List Val) (w v : World) (L : Then) → f.scopes ≤ length w.scopes.frames → Kept (within (plain_scope (undefined false)) w) v → Jumps to os s stack w L → Jumps to (a_scope ∷ os) s stack v (Closed pop L)
+  jumps_scope : (to : ℕ) (os : List Opened) (s : Spot) (stack : List Val) (w v : World) (L : Then) → context.base.scopes ≤ length w.scopes.frames → Kept (within (plain_scope (undefined false)) w) v → Jumps to os s stack w L → Jumps to (a_scope ∷ os) s stack v (Closed pop L)
   jumps_scope to os s stack w v L d k j q out x pc h is l =
       let a = plain_scope (undefined false) in
       let all = kept_then k h in
       popped_then (later s q out) pc stack x (omega (arith, kept_frames all, d)) (top_of_marks None (marks w.scopes.frames) x.scopes.frames all.same_marks) is.0
       (j q out (pop x) (pc + 1) (kept_popped a w x all) is.1 l)
 
-  around_scope : (k : Inside) (s : Spot) (stack : List Val) (w v : World) (L N : Then) → f.scopes ≤ length w.scopes.frames → Kept (within (plain_scope (undefined false)) w) v → Around k s stack w L N → Around (opening a_scope k) s stack v (Closed pop L) (Closed pop N)
+  around_scope : (k : Inside) (s : Spot) (stack : List Val) (w v : World) (L N : Then) → context.base.scopes ≤ length w.scopes.frames → Kept (within (plain_scope (undefined false)) w) v → Around k s stack w L N → Around (opening a_scope k) s stack v (Closed pop L) (Closed pop N)
   around_scope k s stack w v L N d e j = (jumps_scope k.behind k.opened s stack w v L d e j.0, jumps_scope k.again k.opened s stack w v N d e j.1)
 
   abbrev escaping : Spot → AutoEscape → Spot
@@ -830,31 +869,31 @@ module _ (p : Program) (f : Base) (r : Final) (trees : Trees) (n : ℕ)
   jumps_escape : (to : ℕ) (os : List Opened) (s : Spot) (stack : List Val) (w : World) (e : AutoEscape) (L : Then) → Jumps to os s stack w L →
       Jumps to (an_escape ∷ os) (escaping s w.escape) stack (with_escape e w) (Closed (with_escape w.escape) L)
   jumps_escape to os s stack w e L j q out x pc h is l =
-      at p f r i.PopAutoEscape (later (escaping s w.escape) q out) pc stack x is.0
-      (silent p f r (told_by s.bed out) _ (j q out (with_escape w.escape x) (pc + 1) (kept_then (kept_escaped e (kept_same w)) (kept_escaped w.escape h)) is.1 l))
+      at context i.PopAutoEscape (later (escaping s w.escape) q out) pc stack x is.0
+      (silent context (told_by s.bed out) _ (j q out (with_escape w.escape x) (pc + 1) (kept_unescaped e w x h) is.1 l))
 
   around_escape : (k : Inside) (s : Spot) (stack : List Val) (w : World) (e : AutoEscape) (L N : Then) → Around k s stack w L N →
       Around (opening an_escape k) (escaping s w.escape) stack (with_escape e w) (Closed (with_escape w.escape) L) (Closed (with_escape w.escape) N)
   around_escape k s stack w e L N j = (jumps_escape k.behind k.opened s stack w e L j.0, jumps_escape k.again k.opened s stack w e N j.1)
 
   jumps_capture : (to : ℕ) (os : List Opened) (s : Spot) (stack : List Val) (w : World) (L : Then) → s.run.floor < suc (length (captures_of s.bed s.out)) → Jumps to os s stack w L →
-      Jumps to (a_capture ∷ os) (record s { bed = captured_in s.bed s.out; out = [] }) stack w (Dropped r s.bed s.out L)
+      Jumps to (a_capture ∷ os) (record s { bed = captured_in s.bed s.out; out = [] }) stack w (Dropped context s.bed s.out L)
   jumps_capture to os s stack w L stands j q x v pc h is l =
-      at p f r i.EndCapture (later (record s { bed = captured_in s.bed s.out; out = [] }) q x) pc stack v is.0 (after_then p f r (told s) (tick v) _
-      (follows_map_kept r (told s) v (tick v) _ _ (tick_gives v) l (λ _ world1 k1 l1.
+      at context i.EndCapture (later (record s { bed = captured_in s.bed s.out; out = [] }) q x) pc stack v is.0 (after_then context (told s) (tick v) _
+      (follows_map_kept context (told s) v (tick v) _ _ (tick_gives v) l (λ _ world1 k1 l1.
       ended_then s q x pc stack world1 stands
-      (at p f r i.DiscardTop (later s q s.out) (pc + 1) (captured_text x world1 ∷ stack) world1 is.1.0
-      (silent p f r (told s) _ (j q s.out world1 (pc + 1 + 1) (kept_then h k1) is.1.1 l1))))))
+      (at context i.DiscardTop (later s q s.out) (pc + 1) (captured_text x world1 ∷ stack) world1 is.1.0
+      (silent context (told s) _ (j q s.out world1 (pc + 1 + 1) (kept_then h k1) is.1.1 l1))))))
 
   around_capture : (k : Inside) (s : Spot) (stack : List Val) (w : World) (L N : Then) → s.run.floor < suc (length (captures_of s.bed s.out)) → Around k s stack w L N →
-      Around (opening a_capture k) (record s { bed = captured_in s.bed s.out; out = [] }) stack w (Dropped r s.bed s.out L) (Dropped r s.bed s.out N)
+      Around (opening a_capture k) (record s { bed = captured_in s.bed s.out; out = [] }) stack w (Dropped context s.bed s.out L) (Dropped context s.bed s.out N)
   around_capture k s stack w L N stands j = (jumps_capture k.behind k.opened s stack w L stands j.0, jumps_capture k.again k.opened s stack w N stands j.1)
 
   -- The code of statements comes behind itself with what they mean, or to their fault.
   abbrev StmtsRun : {m : _} → ℕ → Inside → Row_of-Stmt m → Type 1
   StmtsRun loops k ss =
-      (run : Run) (s : Spot) (pc : ℕ) (stack : List Val) (w : World) (L N : Then) → Stands f run s → Deep run s w → Around k s stack w L N → HasAt (p.code s.run.stream) pc (statements_code k pc ss) → loops_before pc (p.code s.run.stream) ≡ loops →
-      Ends r s.bed (execs u loops ss (as_at run s) s.out w) (λ q out1 world1. Go p f r (later s q out1) (pc + length (statements_code k pc ss)) stack world1) L N → Go p f r s pc stack w
+      (run : Run) (s : Spot) (pc : ℕ) (stack : List Val) (w : World) (L N : Then) → Stands context.base run s → Deep run s w → Around k s stack w L N → HasAt (context.program.code s.run.stream) pc (statements_code k pc ss) → loops_before pc (context.program.code s.run.stream) ≡ loops →
+      Ends context s.bed (execs u loops ss (as_at run s) s.out w) (λ q out1 world1. Go context (later s q out1) (pc + length (statements_code k pc ss)) stack world1) L N → Go context s pc stack w
 
   -- ---------------------------------------------------------------- loops
   -- a run with a loop more open
@@ -862,16 +901,16 @@ module _ (p : Program) (f : Base) (r : Final) (trees : Trees) (n : ℕ)
   looped o s = record s { run = record s.run { loops = o ∷ s.run.loops } }
 
   -- a loop that wasn't called is left, which is free
-  left_loop_then : (g : LoopFlags) (s : Spot) (q : Option TemplateId) (out : List ℕ) (pc : ℕ) (stack : List Val) (w x : World) (l : Loop) → f.scopes ≤ length w.scopes.frames → Kept (in_loop_of g w) x → slice_get (shapes x.loops) (length w.loops) ≡ Some l →
-      slice_get (p.code s.run.stream) pc ≡ Some i.PopLoopFrame → Go p f r (later s q out) (pc + 1) stack (pop x) → Go p f r (later (looped None s) q out) pc stack x
+  left_loop_then : (g : LoopFlags) (s : Spot) (q : Option TemplateId) (out : List ℕ) (pc : ℕ) (stack : List Val) (w x : World) (l : Loop) → context.base.scopes ≤ length w.scopes.frames → Kept (in_loop_of g w) x → slice_get (shapes x.loops) (length w.loops) ≡ Some l →
+      slice_get (context.program.code s.run.stream) pc ≡ Some i.PopLoopFrame → Go context (later s q out) (pc + 1) stack (pop x) → Go context (later (looped None s) q out) pc stack x
   left_loop_then g s q out pc stack w x l d k e is z =
-      let stands : f.scopes < length x.scopes.frames = omega (arith, kept_frames k, d) in
+      let stands : context.base.scopes < length x.scopes.frames = omega (arith, kept_frames k, d) in
       let c = cfg (later (looped None s) q out) pc stack x in
-      at p f r i.PopLoopFrame (later (looped None s) q out) pc stack x is
-      (subst (λ b. Leads p f (told_by s.bed out) (choose b (λ _. on_loop (None ∷ s.run.loops) (top_loop x) x (λ m. pop_loop_with (None ∷ s.run.loops) c)) (λ _. stuck x)) r)
-      (sym (lt-ltb f.scopes (length x.scopes.frames) stands))
-      (subst (λ n. Leads p f (told_by s.bed out) n r)
-      (sym (on_top_loop g w x l k e None s.run.loops (λ items turns. pop_loop_with (None ∷ s.run.loops) c))) (silent p f r (told_by s.bed out) _ z)))
+      at context i.PopLoopFrame (later (looped None s) q out) pc stack x is
+      (subst (λ b. Comes context (told_by s.bed out) (choose b (λ _. on_loop (None ∷ s.run.loops) (top_loop x) x (λ m. pop_loop_with (None ∷ s.run.loops) c)) (λ _. stuck x)))
+      (sym (lt-ltb context.base.scopes (length x.scopes.frames) stands))
+      (subst (λ n. Comes context (told_by s.bed out) n)
+      (sym (on_top_loop g w x l k e None s.run.loops (λ items turns. pop_loop_with (None ∷ s.run.loops) c))) (silent context (told_by s.bed out) _ z)))
 
   did_not_is : (o : Option Return) (g : LoopFlags) (s : Spot) (q : Option TemplateId) (out : List ℕ) (pc : ℕ) (stack : List Val) (w x : World) (l : Loop) (vs : List Val) → Kept (in_loop_of g w) x → slice_get (shapes x.loops) (length w.loops) ≡ Some l → l.items ≡ vs →
       push_did_not_iterate_of (cfg (later (looped o s) q out) pc stack x) ≡ goes (boolean (has_none vs) ∷ stack) x (cfg (later (looped o s) q out) pc stack x)
@@ -908,29 +947,29 @@ module _ (p : Program) (f : Base) (r : Final) (trees : Trees) (n : ℕ)
   -- what follows once all rounds are over, at the place behind the jump back
   abbrev Rounded : Option Return → Spot → List Val → List Val → World → Then → ℕ → Type 0
   Rounded o s stack items w D end =
-      (q : Option TemplateId) (out : List ℕ) (x : World) (l : Loop) → Kept (in_loop_of (for_flags false) w) x → slice_get (shapes x.loops) (length w.loops) ≡ Some l → l.items ≡ items → D q out (pop x) → Go p f r (later (looped o s) q out) end stack x
+      (q : Option TemplateId) (out : List ℕ) (x : World) (l : Loop) → Kept (in_loop_of (for_flags false) w) x → slice_get (shapes x.loops) (length w.loops) ≡ Some l → l.items ≡ items → D q out (pop x) → Go context (later (looped o s) q out) end stack x
 
   -- A loop's rounds, from where the next item is asked for.
   rounds_run : {m : _} → (o : Option Return) (t : Target) (loops : ℕ) (body : Row_of-Stmt m) (again end : ℕ) → StmtsRun loops (record { again = again; behind = end; opened = [] }) body → (items vs : List Val) (run : Run) (s : Spot) (stack : List Val) (w x : World) (l : Loop) (D L N : Then) →
-      Stands f run s → Deep run s (in_loop_of (for_flags false) w) → Kept (in_loop_of (for_flags false) w) x → slice_get (shapes x.loops) (length w.loops) ≡ Some l → LeftOf l items vs →
-      HasAt (p.code s.run.stream) again (i.Iterate end ∷ (target_code (again + 1) t ++ (statements_code (record { again = again; behind = end; opened = [] }) (again + 1 + length (target_code (again + 1) t)) body ++ i.Jump again ∷ []))) →
-      loops_before (again + 1 + length (target_code (again + 1) t)) (p.code s.run.stream) ≡ loops → Rounded o s stack items w D end → Ends r s.bed (rounds (turn_of t loops body) vs (as_at run s) s.out x) D L N → Go p f r (looped o s) again stack x
+      Stands context.base run s → Deep run s (in_loop_of (for_flags false) w) → Kept (in_loop_of (for_flags false) w) x → slice_get (shapes x.loops) (length w.loops) ≡ Some l → LeftOf l items vs →
+      HasAt (context.program.code s.run.stream) again (i.Iterate end ∷ (target_code (again + 1) t ++ (statements_code (record { again = again; behind = end; opened = [] }) (again + 1 + length (target_code (again + 1) t)) body ++ i.Jump again ∷ []))) →
+      loops_before (again + 1 + length (target_code (again + 1) t)) (context.program.code s.run.stream) ≡ loops → Rounded o s stack items w D end → Ends context s.bed (rounds (turn_of t loops body) vs (as_at run s) s.out x) D L N → Go context (looped o s) again stack x
   rounds_run o t loops body again end part items [] run s stack w x l D L N fits d k e left is nth over_it h =
-      at p f r (i.Iterate end) (looped o s) again stack x is.0 (after_then p f r (told s) (tick x) _ (use_then r s.bed x (tick x) (as_at run s) s.out _ D L N _ (tick_gives x) h (λ _ world1 k1 h1.
+      at context (i.Iterate end) (looped o s) again stack x is.0 (after_then context (told s) (tick x) _ (use_then context s.bed x (tick x) (as_at run s) s.out _ D L N _ (tick_gives x) h (λ _ world1 k1 h1.
       let kept = kept_then k k1 in
       let record1 = kept_record k1 (length w.loops) l e in
-      subst (λ n. Leads p f (told s) n r) (sym (iterate_is o (for_flags false) s s.parent s.out again end stack w world1 l None kept record1 (no_item l items left)))
-      (silent p f r (told s) _ (over_it s.parent s.out (next_turn world1) (turned l) (kept_turned (for_flags false) w world1 kept) (next_record (for_flags false) w world1 l kept record1) (turned_items l items left)
-      (so_far_then r s.bed (as_at run s) s.out (pop (next_turn world1)) D L N h1))))))
+      subst (λ n. Comes context (told s) n) (sym (iterate_is o (for_flags false) s s.parent s.out again end stack w world1 l None kept record1 (no_item l items left)))
+      (silent context (told s) _ (over_it s.parent s.out (next_turn world1) (turned l) (kept_turned (for_flags false) w world1 kept) (next_record (for_flags false) w world1 l kept record1) (turned_items l items left)
+      (so_far_then context s.bed (as_at run s) s.out (pop (next_turn world1)) D L N h1))))))
   rounds_run o t loops body again end part items (v ∷ vs) run s stack w x l D L N fits d k e left is nth over_it h =
-      let all = p.code s.run.stream in
+      let all = context.program.code s.run.stream in
       let inner : Inside = record { again = again; behind = end; opened = [] } in
       let tc = target_code (again + 1) t in
       let start = again + 1 + length tc in
       let bc = statements_code inner start body in
       let from_body = has_behind all (again + 1) tc (bc ++ i.Jump again ∷ []) is.1 in
       let last = has_behind all start bc (i.Jump again ∷ []) from_body in
-      at p f r (i.Iterate end) (looped o s) again stack x is.0 (after_then p f r (told s) (tick x) _ (use_then r s.bed x (tick x) (as_at run s) s.out _ D L N _ (tick_gives x) h (λ _ world1 k1 h1.
+      at context (i.Iterate end) (looped o s) again stack x is.0 (after_then context (told s) (tick x) _ (use_then context s.bed x (tick x) (as_at run s) s.out _ D L N _ (tick_gives x) h (λ _ world1 k1 h1.
       let kept = kept_then k k1 in
       let record1 = kept_record k1 (length w.loops) l e in
       let y = cleared (next_turn world1) in
@@ -939,28 +978,28 @@ module _ (p : Program) (f : Base) (r : Final) (trees : Trees) (n : ℕ)
       let left_y = left_then l items v vs left in
       let turned_by = turn_of t loops body v (as_at run s) s.out y in
       let next_round : Run → List ℕ → World → Outcome = λ run1 out1 z. rounds (turn_of t loops body) vs run1 out1 z in
-      let D1 = Goes r s.bed (as_at run s) next_round D L N in
-      let L1 = Goes r s.bed (as_at run s) (λ run1 out1 z. so_far run1 out1 (pop z)) D L N in
-      let goes_on : (q : Option TemplateId) (out1 : List ℕ) (z : World) (pc : ℕ) → Kept y z → slice_get all pc ≡ Some (i.Jump again) → D1 q out1 z → Go p f r (later (looped o s) q out1) pc stack z =
+      let D1 = Goes context s.bed (as_at run s) next_round D L N in
+      let L1 = Goes context s.bed (as_at run s) (λ run1 out1 z. so_far run1 out1 (pop z)) D L N in
+      let goes_on : (q : Option TemplateId) (out1 : List ℕ) (z : World) (pc : ℕ) → Kept y z → slice_get all pc ≡ Some (i.Jump again) → D1 q out1 z → Go context (later (looped o s) q out1) pc stack z =
       λ q out1 z pc kz is1 g.
-      at p f r (i.Jump again) (later (looped o s) q out1) pc stack z is1 (after_then p f r (told_by s.bed out1) (tick z) _
-      (use_then r s.bed z (tick z) (record run { parent = q }) out1 _ D L N _ (tick_gives z) g (λ _ z1 kz1 g1.
-      silent p f r (told_by s.bed out1) _
-      (rounds_run o t loops body again end part items vs run (later s q out1) stack w z1 (turned l) D L N (stands_later f run s fits q out1) (deep_later run s (in_loop_of (for_flags false) w) q out1 d) (kept_then kept_y (kept_then kz kz1)) (kept_record (kept_then kz kz1) (length w.loops) (turned l) record_y) left_y is nth over_it g1)))) in
+      at context (i.Jump again) (later (looped o s) q out1) pc stack z is1 (after_then context (told_by s.bed out1) (tick z) _
+      (use_then context s.bed z (tick z) (record run { parent = q }) out1 _ D L N _ (tick_gives z) g (λ _ z1 kz1 g1.
+      silent context (told_by s.bed out1) _
+      (rounds_run o t loops body again end part items vs run (later s q out1) stack w z1 (turned l) D L N (stands_later context.base run s fits q out1) (deep_later run s (in_loop_of (for_flags false) w) q out1 d) (kept_then kept_y (kept_then kz kz1)) (kept_record (kept_then kz kz1) (length w.loops) (turned l) record_y) left_y is nth over_it g1)))) in
       let leaves : Jumps end [] (looped o s) stack y L1 =
       λ q out1 z pc kz is1 g.
-      at p f r (i.Jump end) (later (looped o s) q out1) pc stack z is1.0 (after_then p f r (told_by s.bed out1) (tick z) _
-      (use_then r s.bed z (tick z) (record run { parent = q }) out1 _ D L N _ (tick_gives z) g (λ _ z1 kz1 g1.
-      silent p f r (told_by s.bed out1) _
-      (over_it q out1 z1 (turned l) (kept_then kept_y (kept_then kz kz1)) (kept_record (kept_then kz kz1) (length w.loops) (turned l) record_y) left_y.same (so_far_then r s.bed (record run { parent = q }) out1 (pop z1) D L N g1))))) in
+      at context (i.Jump end) (later (looped o s) q out1) pc stack z is1.0 (after_then context (told_by s.bed out1) (tick z) _
+      (use_then context s.bed z (tick z) (record run { parent = q }) out1 _ D L N _ (tick_gives z) g (λ _ z1 kz1 g1.
+      silent context (told_by s.bed out1) _
+      (over_it q out1 z1 (turned l) (kept_then kept_y (kept_then kz kz1)) (kept_record (kept_then kz kz1) (length w.loops) (turned l) record_y) left_y.same (so_far_then context s.bed (record run { parent = q }) out1 (pop z1) D L N g1))))) in
       let nexts : Jumps again [] (looped o s) stack y D1 = λ q out1 z pc kz is1 g. goes_on q out1 z pc kz is1.0 g in
-      subst (λ n. Leads p f (told s) n r) (sym (iterate_is o (for_flags false) s s.parent s.out again end stack w world1 l (Some v) kept record1 (next_item l items v vs left)))
-      (silent p f r (told s) _
+      subst (λ n. Comes context (told s) n) (sym (iterate_is o (for_flags false) s s.parent s.out again end stack w world1 l (Some v) kept record1 (next_item l items v vs left)))
+      (silent context (told s) _
       (target_runs t (as_at run s) (looped o s) (again + 1) v stack y (here run s y (deep_kept run s kept_y d)) (has_front all (again + 1) tc (bc ++ i.Jump again ∷ []) is.1)
-      (use_then r s.bed y (assign u (as_at run s) t v y) (as_at run s) s.out (λ _ z. execs u loops body (as_at run s) s.out z) D1 L1 D1 _ (assign_gives u nest_ends again_kept (as_at run s) t v y)
-      (round_then r s.bed (as_at run s) turned_by next_round D L N h1) (λ _ z k2 h2.
+      (use_then context s.bed y (assign u (as_at run s) t v y) (as_at run s) s.out (λ _ z. execs u loops body (as_at run s) s.out z) D1 L1 D1 _ (assign_gives u nest_ends again_kept (as_at run s) t v y)
+      (round_then context s.bed (as_at run s) turned_by next_round D L N h1) (λ _ z k2 h2.
       part run (looped o s) start stack z L1 D1 fits (deep_kept run s (kept_then kept_y k2) d) (around_kept inner (looped o s) stack L1 D1 k2 (leaves, nexts)) (has_front all start bc (i.Jump again ∷ []) from_body) nth
-      (ends_map_kept r s.bed z (execs u loops body (as_at run s) s.out z) D1 _ L1 D1 (execs_end u nest_ends again_kept loops body (as_at run s) s.out z) h2 (λ q out1 z1 k3 g.
+      (ends_map_kept context s.bed z (execs u loops body (as_at run s) s.out z) D1 _ L1 D1 (execs_end u nest_ends again_kept loops body (as_at run s) s.out z) h2 (λ q out1 z1 k3 g.
       goes_on q out1 z1 (start + length bc) (kept_then k2 k3) last.0 g)))))))))
 
   -- ---------------------------------------------------------------- items under a condition
@@ -970,90 +1009,90 @@ module _ (p : Program) (f : Base) (r : Final) (trees : Trees) (n : ℕ)
 
   -- From where the next item is asked for the pass comes behind its loop, with what it takes below the count.
   filter_runs : (t : Target) (c : Expr) (again : ℕ) (items vs : List Val) (n : ℕ) (run : Run) (s : Spot) (below : List Val) (w x : World) (l : Loop) →
-      Here run s w → Kept (in_loop_of filter_flags w) x → slice_get (shapes x.loops) (length w.loops) ≡ Some l → LeftOf l items vs →
+      Here run s w → nat_lt (depth w.scopes) context.program.host.limit ≡ true → Kept (in_loop_of filter_flags w) x → slice_get (shapes x.loops) (length w.loops) ≡ Some l → LeftOf l items vs →
       (tc qc : List Instruction) → tc ≡ target_code (again + 1 + 1) t → qc ≡ expr_code (again + 1 + 1 + length tc) c → (end : ℕ) → end ≡ again + 1 + 1 + length tc + length qc →
-      HasAt (p.code s.run.stream) again (i.Iterate (end + 7) ∷ i.DupTop ∷ (tc ++ (qc
+      HasAt (context.program.code s.run.stream) again (i.Iterate (end + 7) ∷ i.DupTop ∷ (tc ++ (qc
       ++ i.JumpIfFalse (end + 5) ∷ i.Swap ∷ i.LoadConst (number (pos 1)) ∷ i.Add ∷ i.Jump again ∷ i.DiscardTop ∷ i.Jump again ∷ i.PopLoopFrame ∷ i.BuildList None ∷ []))) →
-      Follows r (told s) (kept p.host (test_of run t c) n vs x) (λ us y. (m : ℕ) → m ≡ n + length us → Go p f r s (end + 1 + 1 + 1 + 1 + 1 + 1 + 1 + 1) (number (pos m) ∷ onto us below) y) →
-      Go p f r (looped None s) again (number (pos n) ∷ below) x
-  filter_runs t c again items [] n run s below w x l d k e left tc qc et ec end ee is h =
-      let all = p.code s.run.stream in
+      Follows context (told s) (kept context.program.host (test_of run t c) n vs x) (λ us y. (m : ℕ) → m ≡ n + length us → Go context s (end + 1 + 1 + 1 + 1 + 1 + 1 + 1 + 1) (number (pos m) ∷ onto us below) y) →
+      Go context (looped None s) again (number (pos n) ∷ below) x
+  filter_runs t c again items [] n run s below w x l d room k e left tc qc et ec end ee is h =
+      let all = context.program.code s.run.stream in
       let from_test = has_behind all (again + 1 + 1) tc _ is.1.1 in
       let last = has_behind all (again + 1 + 1 + length tc) qc _ from_test in
       let here : again + 1 + 1 + length tc + length qc ≡ end = sym ee in
       let tail = subst (λ m. HasAt all m (i.JumpIfFalse (end + 5) ∷ i.Swap ∷ i.LoadConst (number (pos 1)) ∷ i.Add ∷ i.Jump again ∷ i.DiscardTop ∷ i.Jump again ∷ i.PopLoopFrame ∷ i.BuildList None ∷ [])) here last in
       let there : end + 7 ≡ end + 1 + 1 + 1 + 1 + 1 + 1 + 1 = omega arith in
-      at p f r (i.Iterate (end + 7)) (looped None s) again (number (pos n) ∷ below) x is.0 (after_then p f r (told s) (tick x) _ (bind_then r (told s) x (tick x) _ _ _ (tick_gives x) h (λ _ world1 k1 h1.
+      at context (i.Iterate (end + 7)) (looped None s) again (number (pos n) ∷ below) x is.0 (after_then context (told s) (tick x) _ (bind_then context (told s) x (tick x) _ _ _ (tick_gives x) h (λ _ world1 k1 h1.
       let all_kept = kept_then k k1 in
       let record1 = kept_record k1 (length w.loops) l e in
-      subst (λ a. Leads p f (told s) a r) (sym (iterate_is None filter_flags s s.parent s.out again (end + 7) (number (pos n) ∷ below) w world1 l None all_kept record1 (no_item l items left)))
-      (silent p f r (told s) _ (move p f r (looped None s) _ _ (number (pos n) ∷ below) (next_turn world1) there
-      (left_loop_then filter_flags s s.parent s.out _ (number (pos n) ∷ below) w (next_turn world1) (turned l) d.1 (kept_turned filter_flags w world1 all_kept) (next_record filter_flags w world1 l all_kept record1) tail.1.1.1.1.1.1.1.0
+      subst (λ a. Comes context (told s) a) (sym (iterate_is None filter_flags s s.parent s.out again (end + 7) (number (pos n) ∷ below) w world1 l None all_kept record1 (no_item l items left)))
+      (silent context (told s) _ (move context (looped None s) _ _ (number (pos n) ∷ below) (next_turn world1) there
+      (left_loop_then filter_flags s s.parent s.out _ (number (pos n) ∷ below) w (next_turn world1) (turned l) d.0.scopes (kept_turned filter_flags w world1 all_kept) (next_record filter_flags w world1 l all_kept record1) tail.1.1.1.1.1.1.1.0
       (h1 n (omega arith))))))))
-  filter_runs t c again items (v ∷ vs) n run s below w x l d k e left tc qc et ec end ee is h =
-      let all = p.code s.run.stream in
+  filter_runs t c again items (v ∷ vs) n run s below w x l d room k e left tc qc et ec end ee is h =
+      let all = context.program.code s.run.stream in
       let from_test = has_behind all (again + 1 + 1) tc _ is.1.1 in
       let last = has_behind all (again + 1 + 1 + length tc) qc _ from_test in
       let here : again + 1 + 1 + length tc + length qc ≡ end = sym ee in
       let tail = subst (λ m. HasAt all m (i.JumpIfFalse (end + 5) ∷ i.Swap ∷ i.LoadConst (number (pos 1)) ∷ i.Add ∷ i.Jump again ∷ i.DiscardTop ∷ i.Jump again ∷ i.PopLoopFrame ∷ i.BuildList None ∷ [])) here last in
       let no : end + 5 ≡ end + 1 + 1 + 1 + 1 + 1 = omega arith in
       let count = number (pos n) in
-      let deep = here_within run s (loop_scope (mark_behind filter_flags w)) w d in
+      let deep = here_within run s (loop_scope (mark_behind filter_flags w)) w room d in
       let q = looped None s in
-      at p f r (i.Iterate (end + 7)) q again (count ∷ below) x is.0 (after_then p f r (told s) (tick x) _ (bind_then r (told s) x (tick x) _ _ _ (tick_gives x) h (λ _ world1 k1 h1.
+      at context (i.Iterate (end + 7)) q again (count ∷ below) x is.0 (after_then context (told s) (tick x) _ (bind_then context (told s) x (tick x) _ _ _ (tick_gives x) h (λ _ world1 k1 h1.
       let all_kept = kept_then k k1 in
       let record1 = kept_record k1 (length w.loops) l e in
       let y = cleared (next_turn world1) in
       let kept_y : Kept (in_loop_of filter_flags w) y = kept_cleared (kept_turned filter_flags w world1 all_kept) in
       let record_y = next_record filter_flags w world1 l all_kept record1 in
       let left_y = left_then l items v vs left in
-      subst (λ a. Leads p f (told s) a r) (sym (iterate_is None filter_flags s s.parent s.out again (end + 7) (count ∷ below) w world1 l (Some v) all_kept record1 (next_item l items v vs left)))
-      (silent p f r (told s) _
-      (at p f r i.DupTop q (again + 1) (v ∷ count ∷ below) y is.1.0 (silent p f r (told s) _
+      subst (λ a. Comes context (told s) a) (sym (iterate_is None filter_flags s s.parent s.out again (end + 7) (count ∷ below) w world1 l (Some v) all_kept record1 (next_item l items v vs left)))
+      (silent context (told s) _
+      (at context i.DupTop q (again + 1) (v ∷ count ∷ below) y is.1.0 (silent context (told s) _
       (target_runs t run q (again + 1 + 1) v (v ∷ count ∷ below) y (here_kept run s kept_y deep) (subst (λ a. HasAt all (again + 1 + 1) a) et (has_front all (again + 1 + 1) tc _ is.1.1))
-      (bind_then r (told s) y (assign u run t v y) (λ _ z. eval u run c z) _ _ (assign_gives u nest_ends again_kept run t v y)
-      (bound_follows r (told s) (test_of run t c v y) _ _ h1) (λ _ world2 k2 h2.
-      move p f r q _ _ (v ∷ count ∷ below) world2 (ap (λ a. again + 1 + 1 + length a) (sym et))
+      (bind_then context (told s) y (assign u run t v y) (λ _ z. eval u run c z) _ _ (assign_gives u nest_ends again_kept run t v y)
+      (bound_follows context (told s) (test_of run t c v y) _ _ h1) (λ _ world2 k2 h2.
+      move context q _ _ (v ∷ count ∷ below) world2 (ap (λ a. again + 1 + 1 + length a) (sym et))
       (expr_runs c run q (again + 1 + 1 + length tc) (v ∷ count ∷ below) world2 (here_kept run s (kept_then kept_y k2) deep) (subst (λ a. HasAt all (again + 1 + 1 + length tc) a) ec (has_front all (again + 1 + 1 + length tc) qc _ from_test))
-      (follows_map_kept r (told s) world2 (eval u run c world2) _ _ (eval_gives u nest_ends again_kept run c world2) h2 (λ b world3 k3 h3.
-      move p f r q _ _ (b ∷ v ∷ count ∷ below) world3 (ap (λ a. again + 1 + 1 + length tc + length a) (sym ec) ∙ here)
-      (at p f r (i.JumpIfFalse (end + 5)) q end (b ∷ v ∷ count ∷ below) world3 tail.0 (after_then p f r (told s) (tick world3) _ (bind_then r (told s) world3 (tick world3) _ _ _ (tick_gives world3) h3 (λ _ world4 k4 h4.
-      after_then p f r (told s) (truth p.host b world4) _ (bind_then r (told s) world4 (truth p.host b world4) _ _ _ (answered_gives _ world4) h4 (λ yes world5 k5 h5.
+      (follows_map_kept context (told s) world2 (eval u run c world2) _ _ (eval_gives u nest_ends again_kept run c world2) h2 (λ b world3 k3 h3.
+      move context q _ _ (b ∷ v ∷ count ∷ below) world3 (ap (λ a. again + 1 + 1 + length tc + length a) (sym ec) ∙ here)
+      (at context (i.JumpIfFalse (end + 5)) q end (b ∷ v ∷ count ∷ below) world3 tail.0 (after_then context (told s) (tick world3) _ (bind_then context (told s) world3 (tick world3) _ _ _ (tick_gives world3) h3 (λ _ world4 k4 h4.
+      after_then context (told s) (truth context.program.host b world4) _ (bind_then context (told s) world4 (truth context.program.host b world4) _ _ _ (answered_gives _ world4) h4 (λ yes world5 k5 h5.
       let kept5 = kept_then kept_y (kept_then k2 (kept_then k3 (kept_then k4 k5))) in
       let record5 : (z : World) → Kept world5 z → slice_get (shapes z.loops) (length w.loops) ≡ Some (turned l) = λ z kz. kept_record (kept_then k2 (kept_then k3 (kept_then k4 (kept_then k5 kz)))) (length w.loops) (turned l) record_y in
-      choose_then p f r yes _ _ _ _ (told s) _ h5
-      (λ h6. silent p f r (told s) _
-      (at p f r i.Swap q (end + 1) (v ∷ count ∷ below) world5 tail.1.0 (after_then p f r (told s) (tick world5) _ (bind_then r (told s) world5 (tick world5) _ _ _ (tick_gives world5)
-      (follows_map_kept r (told s) world5 (one_counted n world5) _ (λ _ z. Kept world5 z × Follows r (told s) (bind (tick z) (λ _ z1. bind (kept p.host (test_of run t c) (n + 1) vs z1) (λ us z2. Good (v ∷ us) z2))) _) (one_counted_gives u nest_ends again_kept n world5)
-      (bound_follows r (told s) (one_counted n world5) _ _ h6) (λ _ z kz hz. (kz, hz))) (λ _ world6 k6 h7.
-      silent p f r (told s) _
-      (at p f r (i.LoadConst (number (pos 1))) q (end + 1 + 1) (count ∷ v ∷ below) world6 tail.1.1.0 (after_then p f r (told s) (tick world6) _ (bind_then r (told s) world6 (tick world6) _ _ _ (tick_gives world6) h7 (λ _ world7 k7 h8.
-      silent p f r (told s) _
-      (at p f r i.Add q (end + 1 + 1 + 1) (number (pos 1) ∷ count ∷ v ∷ below) world7 tail.1.1.1.0 (after_then p f r (told s) (tick world7) _ (bind_then r (told s) world7 (tick world7) _ _ _ (tick_gives world7) h8 (λ _ world8 k8 h9.
-      pushes p f r q (end + 1 + 1 + 1) (v ∷ below) (number (pos 1) ∷ count ∷ v ∷ below) world8 (operated p.host binaries.Add count (number (pos 1)) world8)
-      (one_more_then r (told s) n world8 _ (λ z world9. Go p f r q (end + 1 + 1 + 1 + 1) (z ∷ v ∷ below) world9) h9 (λ both.
-      at p f r (i.Jump again) q (end + 1 + 1 + 1 + 1) (number (pos (n + 1)) ∷ v ∷ below) world8 tail.1.1.1.1.0 (after_then p f r (told s) (tick world8) _ (bind_then r (told s) world8 (tick world8) _ _ _ (tick_gives world8) both.1 (λ _ world9 k9 h10.
-      silent p f r (told s) _
-      (filter_runs t c again items vs (n + 1) run s (v ∷ below) w world9 (turned l) d (kept_then kept5 (kept_then both.0 k9)) (record5 world9 (kept_then both.0 k9)) left_y tc qc et ec end ee is
-      (follows_map r (told s) (kept p.host (test_of run t c) (n + 1) vs world9) _ _ (bound_follows r (told s) (kept p.host (test_of run t c) (n + 1) vs world9) _ _ h10) (λ us z g m em. g m (omega (arith, em)))))))))))))))))))))))
-      (λ h6. silent p f r (told s) _ (move p f r q _ _ (v ∷ count ∷ below) world5 no
-      (at p f r i.DiscardTop q (end + 1 + 1 + 1 + 1 + 1) (v ∷ count ∷ below) world5 tail.1.1.1.1.1.0 (silent p f r (told s) _
-      (at p f r (i.Jump again) q (end + 1 + 1 + 1 + 1 + 1 + 1) (count ∷ below) world5 tail.1.1.1.1.1.1.0 (after_then p f r (told s) (tick world5) _ (bind_then r (told s) world5 (tick world5) _ _ _ (tick_gives world5) h6 (λ _ world6 k6 h7.
-      silent p f r (told s) _
-      (filter_runs t c again items vs n run s below w world6 (turned l) d (kept_then kept5 k6) (record5 world6 k6) left_y tc qc et ec end ee is h7)))))))))))))))))))))))))))
+      choose_then context yes _ _ _ _ (told s) _ h5
+      (λ h6. silent context (told s) _
+      (at context i.Swap q (end + 1) (v ∷ count ∷ below) world5 tail.1.0 (after_then context (told s) (tick world5) _ (bind_then context (told s) world5 (tick world5) _ _ _ (tick_gives world5)
+      (follows_map_kept context (told s) world5 (one_counted n world5) _ (λ _ z. Kept world5 z × Follows context (told s) (bind (tick z) (λ _ z1. bind (kept context.program.host (test_of run t c) (n + 1) vs z1) (λ us z2. Good (v ∷ us) z2))) _) (one_counted_gives u nest_ends again_kept n world5)
+      (bound_follows context (told s) (one_counted n world5) _ _ h6) (λ _ z kz hz. (kz, hz))) (λ _ world6 k6 h7.
+      silent context (told s) _
+      (at context (i.LoadConst (number (pos 1))) q (end + 1 + 1) (count ∷ v ∷ below) world6 tail.1.1.0 (after_then context (told s) (tick world6) _ (bind_then context (told s) world6 (tick world6) _ _ _ (tick_gives world6) h7 (λ _ world7 k7 h8.
+      silent context (told s) _
+      (at context i.Add q (end + 1 + 1 + 1) (number (pos 1) ∷ count ∷ v ∷ below) world7 tail.1.1.1.0 (after_then context (told s) (tick world7) _ (bind_then context (told s) world7 (tick world7) _ _ _ (tick_gives world7) h8 (λ _ world8 k8 h9.
+      pushes context q (end + 1 + 1 + 1) (v ∷ below) (number (pos 1) ∷ count ∷ v ∷ below) world8 (operated context.program.host binaries.Add count (number (pos 1)) world8)
+      (one_more_then context (told s) n world8 _ (λ z world9. Go context q (end + 1 + 1 + 1 + 1) (z ∷ v ∷ below) world9) h9 (λ both.
+      at context (i.Jump again) q (end + 1 + 1 + 1 + 1) (number (pos (n + 1)) ∷ v ∷ below) world8 tail.1.1.1.1.0 (after_then context (told s) (tick world8) _ (bind_then context (told s) world8 (tick world8) _ _ _ (tick_gives world8) both.1 (λ _ world9 k9 h10.
+      silent context (told s) _
+      (filter_runs t c again items vs (n + 1) run s (v ∷ below) w world9 (turned l) d room (kept_then kept5 (kept_then both.0 k9)) (record5 world9 (kept_then both.0 k9)) left_y tc qc et ec end ee is
+      (follows_map context (told s) (kept context.program.host (test_of run t c) (n + 1) vs world9) _ _ (bound_follows context (told s) (kept context.program.host (test_of run t c) (n + 1) vs world9) _ _ h10) (λ us z g m em. g m (omega (arith, em)))))))))))))))))))))))
+      (λ h6. silent context (told s) _ (move context q _ _ (v ∷ count ∷ below) world5 no
+      (at context i.DiscardTop q (end + 1 + 1 + 1 + 1 + 1) (v ∷ count ∷ below) world5 tail.1.1.1.1.1.0 (silent context (told s) _
+      (at context (i.Jump again) q (end + 1 + 1 + 1 + 1 + 1 + 1) (count ∷ below) world5 tail.1.1.1.1.1.1.0 (after_then context (told s) (tick world5) _ (bind_then context (told s) world5 (tick world5) _ _ _ (tick_gives world5) h6 (λ _ world6 k6 h7.
+      silent context (told s) _
+      (filter_runs t c again items vs n run s below w world6 (turned l) d room (kept_then kept5 k6) (record5 world6 k6) left_y tc qc et ec end ee is h7)))))))))))))))))))))))))))
 
   -- What is iterated, up to where its loop's scope is opened.
-  iterable_runs : (recursive : Bool) (loops : ℕ) (t : Target) (e : Expr) (c : Option Expr) (run : Run) (s : Spot) (pc : ℕ) (stack : List Val) (w : World) → Here run s w → HasAt (p.code s.run.stream) pc (iterable_code pc t e c) →
-      slice_get (p.code s.run.stream) (pc + length (iterable_code pc t e c)) ≡ Some (i.PushLoop (for_flags recursive)) → loops_before pc (p.code s.run.stream) ≡ loops →
-      Follows r (told s) (loop_items u loops run t e c w) (λ vs world1. (old : List Val) →
-      Leads p f (told s) (after (open_loop p.host vs (for_flags recursive) (loops_before (pc + length (iterable_code pc t e c)) (p.code s.run.stream)) world1) (λ _ y. goes stack y (looping (None ∷ s.run.loops) (cfg s (pc + length (iterable_code pc t e c)) old world1)))) r) → Go p f r s pc stack w
+  iterable_runs : (recursive : Bool) (loops : ℕ) (t : Target) (e : Expr) (c : Option Expr) (run : Run) (s : Spot) (pc : ℕ) (stack : List Val) (w : World) → Here run s w → HasAt (context.program.code s.run.stream) pc (iterable_code pc t e c) →
+      slice_get (context.program.code s.run.stream) (pc + length (iterable_code pc t e c)) ≡ Some (i.PushLoop (for_flags recursive)) → loops_before pc (context.program.code s.run.stream) ≡ loops →
+      Follows context (told s) (loop_items u loops run t e c w) (λ vs world1. (old : List Val) →
+      Comes context (told s) (after (open_loop context.program.host vs (for_flags recursive) (loops_before (pc + length (iterable_code pc t e c)) (context.program.code s.run.stream)) world1) (λ _ y. goes stack y (looping (None ∷ s.run.loops) (cfg s (pc + length (iterable_code pc t e c)) old world1))))) → Go context s pc stack w
   iterable_runs recursive loops t e None run s pc stack w d is there nth h =
       expr_runs e run s pc stack w d is
-      (bind_then r (told s) w (eval u run e w) _ _ _ (eval_gives u nest_ends again_kept run e w) h (λ v world1 k1 h1.
-      at p f r (i.PushLoop (for_flags recursive)) s (pc + length (expr_code pc e)) (v ∷ stack) world1 there (after_then p f r (told s) (items_over p.host v world1) _
-      (follows_map_kept r (told s) world1 (items_over p.host v world1) _ _ (answered_gives _ world1) h1 (λ vs world2 k2 g. g (v ∷ stack))))))
+      (bind_then context (told s) w (eval u run e w) _ _ _ (eval_gives u nest_ends again_kept run e w) h (λ v world1 k1 h1.
+      at context (i.PushLoop (for_flags recursive)) s (pc + length (expr_code pc e)) (v ∷ stack) world1 there (after_then context (told s) (items_over context.program.host v world1) _
+      (follows_map_kept context (told s) world1 (items_over context.program.host v world1) _ _ (answered_gives _ world1) h1 (λ vs world2 k2 g. g (v ∷ stack))))))
   iterable_runs recursive loops t e (Some c) run s pc stack w d is there nth h =
-      let all = p.code s.run.stream in
+      let all = context.program.code s.run.stream in
       let ec = expr_code (pc + 1) e in
       let pc1 = pc + 1 + length ec in
       let fc = filter_code pc1 t c in
@@ -1070,75 +1109,75 @@ module _ (p : Program) (f : Base) (r : Final) (trees : Trees) (n : ℕ)
       let here : pc + length (i.LoadConst (number (pos 0)) ∷ ec) ≡ pc1 = omega arith in
       let pass_number : loops_before pc1 all ≡ loops =
       ap (λ m. loops_before m all) (sym here) ∙ behind_code all pc (i.LoadConst (number (pos 0)) ∷ ec) (is.0, has_front all (pc + 1) ec fc is.1) ∙ omega (arith, nth, expr_none (pc + 1) e) in
-      at p f r (i.LoadConst (number (pos 0))) s pc stack w is.0 (after_then p f r (told s) (tick w) _ (bind_then r (told s) w (tick w) _ _ _ (tick_gives w) h (λ _ world1 k1 h1.
-      silent p f r (told s) _
+      at context (i.LoadConst (number (pos 0))) s pc stack w is.0 (after_then context (told s) (tick w) _ (bind_then context (told s) w (tick w) _ _ _ (tick_gives w) h (λ _ world1 k1 h1.
+      silent context (told s) _
       (expr_runs e run s (pc + 1) (number (pos 0) ∷ stack) world1 (here_kept run s k1 d) (has_front all (pc + 1) ec fc is.1)
-      (bind_then r (told s) world1 (eval u run e world1) _ _ _ (eval_gives u nest_ends again_kept run e world1) h1 (λ v world2 k2 h2.
-      at p f r (i.PushLoop filter_flags) s pc1 (v ∷ number (pos 0) ∷ stack) world2 behind.0 (after_then p f r (told s) (items_over p.host v world2) _
-      (bind_then r (told s) world2 (items_over p.host v world2) _ _ _ (answered_gives _ world2) h2 (λ vs world3 k3 h3.
+      (bind_then context (told s) world1 (eval u run e world1) _ _ _ (eval_gives u nest_ends again_kept run e world1) h1 (λ v world2 k2 h2.
+      at context (i.PushLoop filter_flags) s pc1 (v ∷ number (pos 0) ∷ stack) world2 behind.0 (after_then context (told s) (items_over context.program.host v world2) _
+      (bind_then context (told s) world2 (items_over context.program.host v world2) _ _ _ (answered_gives _ world2) h2 (λ vs world3 k3 h3.
       let d3 = here_kept run s k3 (here_kept run s k2 (here_kept run s k1 d)) in
-      subst (λ m. Leads p f (told s) (after (open_loop p.host vs filter_flags m world3) (λ _ y. goes (number (pos 0) ∷ stack) y (looping (None ∷ s.run.loops) (cfg s pc1 (v ∷ number (pos 0) ∷ stack) world3)))) r) (sym pass_number)
-      (after_then p f r (told s) (open_loop p.host vs filter_flags loops world3) _
-      (opened_follows r (told s) filter_flags loops world3 vs (nat_lt (depth world3.scopes) p.host.limit) _ _ (λ y. Leads p f (told s) (goes (number (pos 0) ∷ stack) y (looping (None ∷ s.run.loops) (cfg s pc1 (v ∷ number (pos 0) ∷ stack) world3))) r) h3 (λ h4.
-      silent p f r (told s) _
-      (filter_runs t c again vs vs 0 run s stack world3 (opened filter_flags loops world3 vs) (new_loop vs filter_flags loops world3) d3
+      subst (λ m. Comes context (told s) (after (open_loop context.program.host vs filter_flags m world3) (λ _ y. goes (number (pos 0) ∷ stack) y (looping (None ∷ s.run.loops) (cfg s pc1 (v ∷ number (pos 0) ∷ stack) world3))))) (sym pass_number)
+      (after_then context (told s) (open_loop context.program.host vs filter_flags loops world3) _
+      (opened_follows context (told s) filter_flags loops world3 vs (nat_lt (depth world3.scopes) context.program.host.limit) _ _ (λ y. Comes context (told s) (goes (number (pos 0) ∷ stack) y (looping (None ∷ s.run.loops) (cfg s pc1 (v ∷ number (pos 0) ∷ stack) world3)))) h3 (λ room h4.
+      silent context (told s) _
+      (filter_runs t c again vs vs 0 run s stack world3 (opened filter_flags loops world3 vs) (new_loop vs filter_flags loops world3) d3 room
       (opened_kept filter_flags loops world3 vs) (new_record filter_flags loops world3 vs) (record { before = []; same = refl; all = refl; turns = refl }) tc qc refl refl end refl behind.1
-      (follows_map r (told s) (kept p.host (test_of run t c) 0 vs (opened filter_flags loops world3 vs)) _ _ (bound_follows r (told s) (kept p.host (test_of run t c) 0 vs (opened filter_flags loops world3 vs)) _ _ h4) (λ us y h5 m em.
-      at p f r (i.BuildList None) s build (number (pos m) ∷ onto us stack) y tail.1.1.1.1.1.1.1.1.0 (after_then p f r (told s) (tick y) _ (bind_then r (told s) y (tick y) _ _ _ (tick_gives y) h5 (λ _ y1 k6 h6.
+      (follows_map context (told s) (kept context.program.host (test_of run t c) 0 vs (opened filter_flags loops world3 vs)) _ _ (bound_follows context (told s) (kept context.program.host (test_of run t c) 0 vs (opened filter_flags loops world3 vs)) _ _ h4) (λ us y h5 m em.
+      at context (i.BuildList None) s build (number (pos m) ∷ onto us stack) y tail.1.1.1.1.1.1.1.1.0 (after_then context (told s) (tick y) _ (bind_then context (told s) y (tick y) _ _ _ (tick_gives y) h5 (λ _ y1 k6 h6.
       built_then list_of_values s build m us stack y1 (omega (arith, em))
-      (move p f r s _ _ (list_of_values us ∷ stack) y1 place
-      (at p f r (i.PushLoop (for_flags recursive)) s (pc + suc (length (ec ++ fc))) (list_of_values us ∷ stack) y1 there
-      (subst (λ zs. Leads p f (told s) (after (open_loop p.host zs (for_flags recursive) (loops_before (pc + suc (length (ec ++ fc))) all) y1) (λ _ z. goes stack z (looping (None ∷ s.run.loops) (cfg s (pc + suc (length (ec ++ fc))) (list_of_values us ∷ stack) y1)))) r) (sym (items_back us))
+      (move context s _ _ (list_of_values us ∷ stack) y1 place
+      (at context (i.PushLoop (for_flags recursive)) s (pc + suc (length (ec ++ fc))) (list_of_values us ∷ stack) y1 there
+      (subst (λ zs. Comes context (told s) (after (open_loop context.program.host zs (for_flags recursive) (loops_before (pc + suc (length (ec ++ fc))) all) y1) (λ _ z. goes stack z (looping (None ∷ s.run.loops) (cfg s (pc + suc (length (ec ++ fc))) (list_of_values us ∷ stack) y1))))) (sym (items_back us))
       (h6 (list_of_values us ∷ stack)))))))))))))))))))))))
 
   -- the part that runs where the condition is true, and the jump over the other
-  first_runs : {m : _} → (k : Inside) (loops : ℕ) (body : Row_of-Stmt m) → StmtsRun loops k body → (other : Otherwise) (run : Run) (s : Spot) (pc end : ℕ) (stack : List Val) (w : World) (L N : Then) → Stands f run s → Deep run s w → Around k s stack w L N →
+  first_runs : {m : _} → (k : Inside) (loops : ℕ) (body : Row_of-Stmt m) → StmtsRun loops k body → (other : Otherwise) (run : Run) (s : Spot) (pc end : ℕ) (stack : List Val) (w : World) (L N : Then) → Stands context.base run s → Deep run s w → Around k s stack w L N →
       pc + length (statements_code k pc body) + length (otherwise_code k (pc + length (statements_code k pc body)) other) ≡ end →
-      HasAt (p.code s.run.stream) pc (statements_code k pc body ++ otherwise_code k (pc + length (statements_code k pc body)) other) → loops_before pc (p.code s.run.stream) ≡ loops →
-      Ends r s.bed (behind_first other (as_at run s) (execs u loops body (as_at run s) s.out w)) (λ q out1 world1. Go p f r (later s q out1) end stack world1) L N → Go p f r s pc stack w
+      HasAt (context.program.code s.run.stream) pc (statements_code k pc body ++ otherwise_code k (pc + length (statements_code k pc body)) other) → loops_before pc (context.program.code s.run.stream) ≡ loops →
+      Ends context s.bed (behind_first other (as_at run s) (execs u loops body (as_at run s) s.out w)) (λ q out1 world1. Go context (later s q out1) end stack world1) L N → Go context s pc stack w
   first_runs k loops body part no_else run s pc end stack w L N fits d j place is nth h =
       let bc = statements_code k pc body in
       let here : pc + length bc ≡ end = omega (arith, place) in
-      part run s pc stack w L N fits d j (has_front (p.code s.run.stream) pc bc [] is) nth
-      (ends_map r s.bed (execs u loops body (as_at run s) s.out w) _ _ L N h (λ q out1 world1 g. move p f r (later s q out1) _ _ stack world1 here g))
+      part run s pc stack w L N fits d j (has_front (context.program.code s.run.stream) pc bc [] is) nth
+      (ends_map context s.bed (execs u loops body (as_at run s) s.out w) _ _ L N h (λ q out1 world1 g. move context (later s q out1) _ _ stack world1 here g))
   first_runs k loops body part (otherwise _ eb) run s pc end stack w L N fits d j place is nth h =
       let bc = statements_code k pc body in
       let ec = statements_code k (pc + length bc + 1) eb in
       let to = pc + length bc + 1 + length ec in
       let jumped : to ≡ end = omega (arith, place) in
-      let behind = has_behind (p.code s.run.stream) pc bc (i.Jump to ∷ ec) is in
-      let D : Then = λ q out1 world1. Go p f r (later s q out1) end stack world1 in
-      part run s pc stack w L N fits d j (has_front (p.code s.run.stream) pc bc (i.Jump to ∷ ec) is) nth
-      (do_then r s.bed (as_at run s) w (execs u loops body (as_at run s) s.out w) (λ run1 out1 world1. use_it (tick world1) run1 out1 (λ _ world2. so_far run1 out1 world2)) D L N _
+      let behind = has_behind (context.program.code s.run.stream) pc bc (i.Jump to ∷ ec) is in
+      let D : Then = λ q out1 world1. Go context (later s q out1) end stack world1 in
+      part run s pc stack w L N fits d j (has_front (context.program.code s.run.stream) pc bc (i.Jump to ∷ ec) is) nth
+      (do_then context s.bed (as_at run s) w (execs u loops body (as_at run s) s.out w) (λ run1 out1 world1. use_it (tick world1) run1 out1 (λ _ world2. so_far run1 out1 world2)) D L N _
       (execs_end u nest_ends again_kept loops body (as_at run s) s.out w) h (λ q out1 world1 k1 h1.
-      at p f r (i.Jump to) (later s q out1) (pc + length bc) stack world1 behind.0 (after_then p f r (told (later s q out1)) (tick world1) _
-      (use_then r s.bed world1 (tick world1) (record run { parent = q }) out1 (λ _ world2. so_far (record run { parent = q }) out1 world2) D L N _ (tick_gives world1) h1 (λ _ world2 k2 h2.
-      silent p f r (told (later s q out1)) _ (move p f r (later s q out1) to end stack world2 jumped (so_far_then r s.bed (record run { parent = q }) out1 world2 D L N h2)))))))
+      at context (i.Jump to) (later s q out1) (pc + length bc) stack world1 behind.0 (after_then context (told (later s q out1)) (tick world1) _
+      (use_then context s.bed world1 (tick world1) (record run { parent = q }) out1 (λ _ world2. so_far (record run { parent = q }) out1 world2) D L N _ (tick_gives world1) h1 (λ _ world2 k2 h2.
+      silent context (told (later s q out1)) _ (move context (later s q out1) to end stack world2 jumped (so_far_then context s.bed (record run { parent = q }) out1 world2 D L N h2)))))))
 
   mutual
     -- A statement's code comes behind itself with what it means, or to its fault.
-    pub stmt_runs : (k : Inside) (loops : ℕ) (x : Stmt) (run : Run) (s : Spot) (pc : ℕ) (stack : List Val) (w : World) (L N : Then) → Stands f run s → Deep run s w → Around k s stack w L N → HasAt (p.code s.run.stream) pc (statement_code k pc x) → loops_before pc (p.code s.run.stream) ≡ loops →
-        Ends r s.bed (exec u loops x (as_at run s) s.out w) (λ q out1 world1. Go p f r (later s q out1) (pc + length (statement_code k pc x)) stack world1) L N → Go p f r s pc stack w
+    stmt_runs : (k : Inside) (loops : ℕ) (x : Stmt) (run : Run) (s : Spot) (pc : ℕ) (stack : List Val) (w : World) (L N : Then) → Stands context.base run s → Deep run s w → Around k s stack w L N → HasAt (context.program.code s.run.stream) pc (statement_code k pc x) → loops_before pc (context.program.code s.run.stream) ≡ loops →
+        Ends context s.bed (exec u loops x (as_at run s) s.out w) (λ q out1 world1. Go context (later s q out1) (pc + length (statement_code k pc x)) stack world1) L N → Go context s pc stack w
     stmt_runs k loops (EmitRaw t) run s pc stack w L N fits d j is nth h =
-        at p f r (i.EmitRaw t) s pc stack w is.0 (after_then p f r (told s) (tick w) _ (use_then r s.bed w (tick w) (as_at run s) s.out _ _ L N _ (tick_gives w) h (λ _ world1 k1 h1.
-        writes_then p f r (as_at run s) t s (pc + 1) stack world1 refl fits.2 (so_far_then r s.bed (as_at run s) (say (as_at run s) t s.out) world1 _ L N h1))))
+        at context (i.EmitRaw t) s pc stack w is.0 (after_then context (told s) (tick w) _ (use_then context s.bed w (tick w) (as_at run s) s.out _ _ L N _ (tick_gives w) h (λ _ world1 k1 h1.
+        writes_then context (as_at run s) t s (pc + 1) stack world1 refl fits.2 (so_far_then context s.bed (as_at run s) (say (as_at run s) t s.out) world1 _ L N h1))))
     stmt_runs k loops (EmitExpr e) run s pc stack w L N fits d j is nth h =
         let c = expr_code pc e in
-        let behind = has_behind (p.code s.run.stream) pc c (i.Emit ∷ []) is in
+        let behind = has_behind (context.program.code s.run.stream) pc c (i.Emit ∷ []) is in
         let place : pc + length c + 1 ≡ pc + length (c ++ i.Emit ∷ []) = omega (arith, length-append c (i.Emit ∷ [])) in
-        expr_runs e (as_at run s) s pc stack w (here run s w d) (has_front (p.code s.run.stream) pc c _ is)
-        (use_then r s.bed w (eval u (as_at run s) e w) (as_at run s) s.out _ _ L N _ (eval_gives u nest_ends again_kept (as_at run s) e w) h (λ v world1 k1 h1.
-        emit_then run s (pc + length c) v stack world1 _ L N fits behind.0 h1 (λ out1 world2 g. move p f r (later s s.parent out1) _ _ stack world2 place g)))
+        expr_runs e (as_at run s) s pc stack w (here run s w d) (has_front (context.program.code s.run.stream) pc c _ is)
+        (use_then context s.bed w (eval u (as_at run s) e w) (as_at run s) s.out _ _ L N _ (eval_gives u nest_ends again_kept (as_at run s) e w) h (λ v world1 k1 h1.
+        emit_then run s (pc + length c) v stack world1 _ L N fits behind.0 h1 (λ out1 world2 g. move context (later s s.parent out1) _ _ stack world2 place g)))
     stmt_runs k loops (EmitLoop e) run s pc stack w L N fits d j is nth h =
         let c = expr_code pc e in
-        let behind = has_behind (p.code s.run.stream) pc c (i.FastRecurse ∷ []) is in
+        let behind = has_behind (context.program.code s.run.stream) pc c (i.FastRecurse ∷ []) is in
         let place : pc + length c + 1 ≡ pc + length (c ++ i.FastRecurse ∷ []) = omega (arith, length-append c (i.FastRecurse ∷ [])) in
-        expr_runs e (as_at run s) s pc stack w (here run s w d) (has_front (p.code s.run.stream) pc c _ is)
-        (use_then r s.bed w (eval u (as_at run s) e w) (as_at run s) s.out _ _ L N _ (eval_gives u nest_ends again_kept (as_at run s) e w) h (λ v world1 k1 h1.
-        at p f r i.FastRecurse s (pc + length c) (v ∷ stack) world1 behind.0 (after_then p f r (told s) (tick world1) _
-        (use_then r s.bed world1 (tick world1) (as_at run s) s.out _ _ L N _ (tick_gives world1) h1 (λ _ world2 k2 h2.
-        placed_then run s (pc + length c) stack (v ∷ stack) world2 world2 (call_innermost p.host v world2) _ L N fits.2 (innermost_asks p.host v world2) (deep_kept run s k2 (deep_kept run s k1 d)) h2
-        (λ q1 out1 world3 g. move p f r (later s q1 out1) _ _ stack world3 place g))))))
+        expr_runs e (as_at run s) s pc stack w (here run s w d) (has_front (context.program.code s.run.stream) pc c _ is)
+        (use_then context s.bed w (eval u (as_at run s) e w) (as_at run s) s.out _ _ L N _ (eval_gives u nest_ends again_kept (as_at run s) e w) h (λ v world1 k1 h1.
+        at context i.FastRecurse s (pc + length c) (v ∷ stack) world1 behind.0 (after_then context (told s) (tick world1) _
+        (use_then context s.bed world1 (tick world1) (as_at run s) s.out _ _ L N _ (tick_gives world1) h1 (λ _ world2 k2 h2.
+        placed_then run s (pc + length c) stack (v ∷ stack) world2 world2 (call_innermost context.program.host v world2) _ L N fits.2 (innermost_asks context.program.host v world2) (deep_kept run s k2 (deep_kept run s k1 d)) h2
+        (λ q1 out1 world3 g. move context (later s q1 out1) _ _ stack world3 place g))))))
     stmt_runs k loops (If' c z body other) run s pc stack w L N fits d j is nth h =
         let test = expr_code pc c in
         let pc1 = pc + length test in
@@ -1147,21 +1186,21 @@ module _ (p : Program) (f : Base) (r : Final) (trees : Trees) (n : ℕ)
         let to = pc1 + 1 + length bc + jump_over other in
         let end = pc + length (statement_code k pc (If' c z body other)) in
         let place : pc1 + 1 + length bc + length oc ≡ end = omega (arith, length-append test (i.JumpIfFalse to ∷ (bc ++ oc)), length-append bc oc) in
-        let behind = has_behind (p.code s.run.stream) pc test (i.JumpIfFalse to ∷ (bc ++ oc)) is in
-        let first = behind_code (p.code s.run.stream) pc test (has_front (p.code s.run.stream) pc test (i.JumpIfFalse to ∷ (bc ++ oc)) is) in
-        let nth1 : loops_before (pc1 + 1) (p.code s.run.stream) ≡ loops = behind_code (p.code s.run.stream) pc1 (i.JumpIfFalse to ∷ []) (behind.0, tt) ∙ omega (arith, first, expr_none pc c, nth) in
-        expr_runs c (as_at run s) s pc stack w (here run s w d) (has_front (p.code s.run.stream) pc test (i.JumpIfFalse to ∷ (bc ++ oc)) is)
-        (use_then r s.bed w (eval u (as_at run s) c w) (as_at run s) s.out _ _ L N _ (eval_gives u nest_ends again_kept (as_at run s) c w) h (λ v world1 k1 h1.
-        at p f r (i.JumpIfFalse to) s pc1 (v ∷ stack) world1 behind.0 (after_then p f r (told s) (tick world1) _
-        (use_then r s.bed world1 (tick world1) (as_at run s) s.out _ _ L N _ (tick_gives world1) h1 (λ _ world2 k2 h2.
-        after_then p f r (told s) (truth p.host v world2) _ (use_then r s.bed world2 (truth p.host v world2) (as_at run s) s.out _ _ L N _ (answered_gives _ world2) h2 (λ b world3 k3 h3.
+        let behind = has_behind (context.program.code s.run.stream) pc test (i.JumpIfFalse to ∷ (bc ++ oc)) is in
+        let first = behind_code (context.program.code s.run.stream) pc test (has_front (context.program.code s.run.stream) pc test (i.JumpIfFalse to ∷ (bc ++ oc)) is) in
+        let nth1 : loops_before (pc1 + 1) (context.program.code s.run.stream) ≡ loops = behind_code (context.program.code s.run.stream) pc1 (i.JumpIfFalse to ∷ []) (behind.0, tt) ∙ omega (arith, first, expr_none pc c, nth) in
+        expr_runs c (as_at run s) s pc stack w (here run s w d) (has_front (context.program.code s.run.stream) pc test (i.JumpIfFalse to ∷ (bc ++ oc)) is)
+        (use_then context s.bed w (eval u (as_at run s) c w) (as_at run s) s.out _ _ L N _ (eval_gives u nest_ends again_kept (as_at run s) c w) h (λ v world1 k1 h1.
+        at context (i.JumpIfFalse to) s pc1 (v ∷ stack) world1 behind.0 (after_then context (told s) (tick world1) _
+        (use_then context s.bed world1 (tick world1) (as_at run s) s.out _ _ L N _ (tick_gives world1) h1 (λ _ world2 k2 h2.
+        after_then context (told s) (truth context.program.host v world2) _ (use_then context s.bed world2 (truth context.program.host v world2) (as_at run s) s.out _ _ L N _ (answered_gives _ world2) h2 (λ b world3 k3 h3.
         let deep3 = deep_kept run s k3 (deep_kept run s k2 (deep_kept run s k1 d)) in
         let around3 = around_kept k s stack L N (kept_then k1 (kept_then k2 k3)) j in
-        choose_ends p f r b (behind_first other (as_at run s) (execs u loops body (as_at run s) s.out world3)) (exec_else u (pasts loops body) other (as_at run s) s.out world3) _ _ (told s) s.bed _ L N h3
-        (λ h4. silent p f r (told s) _ (first_runs k loops body (stmts_run k loops body) other run s (pc1 + 1) end stack world3 L N fits deep3 around3 place behind.1 nth1 h4))
-        (λ h4. silent p f r (told s) _ (second_runs k loops body other run s (pc1 + 1) end stack world3 L N fits deep3 around3 place behind.1 nth1 h4)))))))))
+        choose_ends context b (behind_first other (as_at run s) (execs u loops body (as_at run s) s.out world3)) (exec_else u (pasts loops body) other (as_at run s) s.out world3) _ _ (told s) s.bed _ L N h3
+        (λ h4. silent context (told s) _ (first_runs k loops body (stmts_run k loops body) other run s (pc1 + 1) end stack world3 L N fits deep3 around3 place behind.1 nth1 h4))
+        (λ h4. silent context (told s) _ (second_runs k loops body other run s (pc1 + 1) end stack world3 L N fits deep3 around3 place behind.1 nth1 h4)))))))))
     stmt_runs k loops (For' t e c recursive _ body other) run s pc stack w L N fits d j is nth h =
-        let all = p.code s.run.stream in
+        let all = context.program.code s.run.stream in
         let ec = iterable_code pc t e c in
         let pc1 = pc + length ec in
         let tc = target_code (pc1 + 1 + 1) t in
@@ -1187,33 +1226,33 @@ module _ (p : Program) (f : Base) (r : Final) (trees : Trees) (n : ℕ)
         let body_number = behind_code all start bc (has_front all start bc (i.Jump (pc1 + 1) ∷ oc) from_body) in
         let number3 : loops_before end all ≡ pasts (within_loop c loops) body =
         ap (λ m. loops_before m all) (sym ended_at) ∙ behind_code all (start + length bc) (i.Jump (pc1 + 1) ∷ []) (last.0, tt) ∙ omega (arith, body_number, number2, statements_count inner start (within_loop c loops) body) in
-        let D0 : Then = λ q out1 v. Go p f r (later s q out1) (pc + length (ec ++ i.PushLoop (for_flags recursive) ∷ i.Iterate end ∷ rest)) stack v in
+        let D0 : Then = λ q out1 v. Go context (later s q out1) (pc + length (ec ++ i.PushLoop (for_flags recursive) ∷ i.Iterate end ∷ rest)) stack v in
         iterable_runs recursive loops t e c (as_at run s) s pc stack w (here run s w d) (has_front all pc ec (i.PushLoop (for_flags recursive) ∷ i.Iterate end ∷ rest) is) behind.0 nth
-        (use_then r s.bed w (loop_items u loops (as_at run s) t e c w) (as_at run s) s.out _ D0 L N _ (loop_items_give u nest_ends again_kept loops (as_at run s) t e c w) h (λ vs world1 k1 h1 old.
+        (use_then context s.bed w (loop_items u loops (as_at run s) t e c w) (as_at run s) s.out _ D0 L N _ (loop_items_give u nest_ends again_kept loops (as_at run s) t e c w) h (λ vs world1 k1 h1 old.
         let turn = turn_of t (within_loop c loops) body in
         let d1 = deep_kept run s k1 d in
         let j1 = around_kept k s stack L N k1 j in
-        let D1 : Then = λ q out1 x. Ends r s.bed (exec_behind_loop u (pasts (within_loop c loops) body) other (has_none vs) (record run { parent = q }) out1 x) D0 L N in
-        let over_it = do_then r s.bed (as_at run s) world1 (loop_over p.host (loops + passes c) recursive turn vs (as_at run s) s.out world1) (λ run1 out1 world2. exec_behind_loop u (pasts (within_loop c loops) body) other (has_none vs) run1 out1 world2) D0 L N D1
-        (loop_ends p.host (loops + passes c) recursive world1 turn (turn_ends t (within_loop c loops) body) vs (as_at run s) s.out) h1 (λ q out1 x k3 h3. h3) in
-        subst (λ m. Leads p f (told s) (after (open_loop p.host vs (for_flags recursive) m world1) (λ _ x. goes stack x (looping (None ∷ s.run.loops) (cfg s pc1 old world1)))) r) (sym number1)
-        (after_then p f r (told s) (open_loop p.host vs (for_flags recursive) (loops + passes c) world1) _
-        (opened_then r s.bed (for_flags recursive) (loops + passes c) world1 vs (nat_lt (depth world1.scopes) p.host.limit) (as_at run s) s.out (λ _ x. rounds turn vs (as_at run s) s.out x) D1 L N
-        (λ x. Leads p f (told s) (goes stack x (looping (None ∷ s.run.loops) (cfg s pc1 old world1))) r) over_it (λ h4.
-        silent p f r (told s) _
-        (rounds_run None t (within_loop c loops) body (pc1 + 1) end (stmts_run inner (within_loop c loops) body) vs vs run s stack world1 (opened (for_flags recursive) (loops + passes c) world1 vs) (new_loop vs (for_flags recursive) (loops + passes c) world1) D1 L N fits (deep_within run s (loop_scope (mark_behind (for_flags false) world1)) world1 d1)
+        let D1 : Then = λ q out1 x. Ends context s.bed (exec_behind_loop u (pasts (within_loop c loops) body) other (has_none vs) (record run { parent = q }) out1 x) D0 L N in
+        let over_it = do_then context s.bed (as_at run s) world1 (loop_over context.program.host (loops + passes c) recursive turn vs (as_at run s) s.out world1) (λ run1 out1 world2. exec_behind_loop u (pasts (within_loop c loops) body) other (has_none vs) run1 out1 world2) D0 L N D1
+        (loop_ends context.program.host (loops + passes c) recursive world1 turn (turn_ends t (within_loop c loops) body) vs (as_at run s) s.out) h1 (λ q out1 x k3 h3. h3) in
+        subst (λ m. Comes context (told s) (after (open_loop context.program.host vs (for_flags recursive) m world1) (λ _ x. goes stack x (looping (None ∷ s.run.loops) (cfg s pc1 old world1))))) (sym number1)
+        (after_then context (told s) (open_loop context.program.host vs (for_flags recursive) (loops + passes c) world1) _
+        (opened_then context s.bed (for_flags recursive) (loops + passes c) world1 vs (nat_lt (depth world1.scopes) context.program.host.limit) (as_at run s) s.out (λ _ x. rounds turn vs (as_at run s) s.out x) D1 L N
+        (λ x. Comes context (told s) (goes stack x (looping (None ∷ s.run.loops) (cfg s pc1 old world1)))) over_it (λ room h4.
+        silent context (told s) _
+        (rounds_run None t (within_loop c loops) body (pc1 + 1) end (stmts_run inner (within_loop c loops) body) vs vs run s stack world1 (opened (for_flags recursive) (loops + passes c) world1 vs) (new_loop vs (for_flags recursive) (loops + passes c) world1) D1 L N fits (deep_within run s (loop_scope (mark_behind (for_flags false) world1)) world1 room d1)
         (opened_kept (for_flags recursive) (loops + passes c) world1 vs) (new_record (for_flags recursive) (loops + passes c) world1 vs) (record { before = []; same = refl; all = refl; turns = refl })
         (has_loop all pc1 end tc bc oc behind.1) number2 (λ q out1 x l k3 e3 same d3.
         behind_loop_runs k (pasts (within_loop c loops) body) other vs run s pc1 end (pc + length (ec ++ i.PushLoop (for_flags recursive) ∷ i.Iterate end ∷ rest)) stack world1 x l L N fits d1 j1 k3 e3 same place at_end_of number3 q out1 d3) h4))))))
-    stmt_runs k loops Break run s pc stack w L N fits d j is nth h = j.0 s.parent s.out w pc (kept_same w) is (leave_then r s.bed (as_at run s) s.out w _ L N h)
-    stmt_runs k loops Continue run s pc stack w L N fits d j is nth h = j.1 s.parent s.out w pc (kept_same w) is (next_then r s.bed (as_at run s) s.out w _ L N h)
+    stmt_runs k loops Break run s pc stack w L N fits d j is nth h = j.0 s.parent s.out w pc (kept_same w) is (leave_then context s.bed (as_at run s) s.out w _ L N h)
+    stmt_runs k loops Continue run s pc stack w L N fits d j is nth h = j.1 s.parent s.out w pc (kept_same w) is (next_then context s.bed (as_at run s) s.out w _ L N h)
     stmt_runs k loops (Block' b _ body) run s pc stack w L N fits d j is nth h = tag_then run s pc b stack w _ L N fits d is.0 h (λ q1 out1 world1 g. g)
     stmt_runs k loops (Set t e) run s pc stack w L N fits d j is nth h =
         set_runs t e (as_at run s) s pc stack w (here run s w d) is
-        (use_then r s.bed w (set_to u (as_at run s) t e w) (as_at run s) s.out _ _ L N _ (set_gives u nest_ends again_kept (as_at run s) t e w) h (λ _ world1 k1 h1.
-        so_far_then r s.bed (as_at run s) s.out world1 _ L N h1))
+        (use_then context s.bed w (set_to u (as_at run s) t e w) (as_at run s) s.out _ _ L N _ (set_gives u nest_ends again_kept (as_at run s) t e w) h (λ _ world1 k1 h1.
+        so_far_then context s.bed (as_at run s) s.out world1 _ L N h1))
     stmt_runs k loops (With' given _ body) run s pc stack w L N fits d j is nth h =
-        let all = p.code s.run.stream in
+        let all = context.program.code s.run.stream in
         let gc = assignments_code (pc + 1) given in
         let pc1 = pc + 1 + length gc in
         let bc = statements_code (opening a_scope k) pc1 body in
@@ -1224,17 +1263,17 @@ module _ (p : Program) (f : Base) (r : Final) (trees : Trees) (n : ℕ)
         let a = plain_scope (undefined false) in
         let nth1 : loops_before (pc + 1) all ≡ loops = behind_code all pc (i.PushWith ∷ []) (is.0, tt) ∙ omega (arith, nth) in
         let nth2 : loops_before pc1 all ≡ loops = behind_code all (pc + 1) gc (has_front all (pc + 1) gc (bc ++ i.PopFrame ∷ []) is.1) ∙ omega (arith, nth1, assignments_none (pc + 1) given) in
-        let deep1 = deep_within run s a w d in
-        at p f r i.PushWith s pc stack w is.0 (after_then p f r (told s) (push p.host a w) _
-        (within_then r s.bed w a (nat_lt (depth w.scopes) p.host.limit) (as_at run s) s.out _ _ L N (λ world1. Leads p f (told s) (goes stack world1 (cfg s pc stack w)) r) h (λ h1.
-        silent p f r (told s) _ (sets_run given (as_at run s) s (pc + 1) stack (within a w) (here run s (within a w) deep1) (has_front all (pc + 1) gc (bc ++ i.PopFrame ∷ []) is.1)
-        (use_then r s.bed (within a w) (set_each u (as_at run s) given (within a w)) (as_at run s) s.out _ _ L N _ (set_each_gives u nest_ends again_kept (as_at run s) given (within a w)) h1 (λ _ world2 k2 h2.
-        stmts_run (opening a_scope k) loops body run s pc1 stack world2 (Closed pop L) (Closed pop N) fits (deep_kept run s k2 deep1) (around_scope k s stack w world2 L N d.1 k2 j) (has_front all pc1 bc (i.PopFrame ∷ []) from_body) nth2
-        (closed_then r s.bed world2 pop (execs u loops body (as_at run s) s.out world2) _ L N _ (execs_end u nest_ends again_kept loops body (as_at run s) s.out world2) h2 (λ q out1 world3 k3 g.
-        popped_then (later s q out1) (pc1 + length bc) stack world3 (omega (arith, kept_frames k3, kept_frames k2, d.1)) (top_of_marks None (marks w.scopes.frames) world3.scopes.frames (k3.same_marks ∙ k2.same_marks)) last.0
-        (move p f r (later s q out1) _ _ stack (pop world3) place g)))))))))
+        at context i.PushWith s pc stack w is.0 (after_then context (told s) (push context.program.host a w) _
+        (within_then context s.bed w a (nat_lt (depth w.scopes) context.program.host.limit) (as_at run s) s.out _ _ L N (λ world1. Comes context (told s) (goes stack world1 (cfg s pc stack w))) h (λ room h1.
+        let deep1 = deep_within run s a w room d in
+        silent context (told s) _ (sets_run given (as_at run s) s (pc + 1) stack (within a w) (here run s (within a w) deep1) (has_front all (pc + 1) gc (bc ++ i.PopFrame ∷ []) is.1)
+        (use_then context s.bed (within a w) (set_each u (as_at run s) given (within a w)) (as_at run s) s.out _ _ L N _ (set_each_gives u nest_ends again_kept (as_at run s) given (within a w)) h1 (λ _ world2 k2 h2.
+        stmts_run (opening a_scope k) loops body run s pc1 stack world2 (Closed pop L) (Closed pop N) fits (deep_kept run s k2 deep1) (around_scope k s stack w world2 L N d.0.scopes k2 j) (has_front all pc1 bc (i.PopFrame ∷ []) from_body) nth2
+        (closed_then context s.bed world2 pop (execs u loops body (as_at run s) s.out world2) _ L N _ (execs_end u nest_ends again_kept loops body (as_at run s) s.out world2) h2 (λ q out1 world3 k3 g.
+        popped_then (later s q out1) (pc1 + length bc) stack world3 (omega (arith, kept_frames k3, kept_frames k2, d.0.scopes)) (top_of_marks None (marks w.scopes.frames) world3.scopes.frames (k3.same_marks ∙ k2.same_marks)) last.0
+        (move context (later s q out1) _ _ stack (pop world3) place g)))))))))
     stmt_runs k loops (SetBlock' t _ body) run s pc stack w L N fits d j is nth h =
-        let all = p.code s.run.stream in
+        let all = context.program.code s.run.stream in
         let bc = statements_code (opening a_capture k) (pc + 1) body in
         let pc1 = pc + 1 + length bc in
         let tc = target_code (pc1 + 1) t in
@@ -1243,17 +1282,17 @@ module _ (p : Program) (f : Base) (r : Final) (trees : Trees) (n : ℕ)
         let inner : Spot = record s { bed = captured_in s.bed s.out; out = [] } in
         let o = execs u loops body (capturing true (as_at run s)) [] w in
         let nth1 : loops_before (pc + 1) all ≡ loops = behind_code all pc (i.BeginCapture Capture ∷ []) (is.0, tt) ∙ omega (arith, nth) in
-        at p f r (i.BeginCapture Capture) s pc stack w is.0 (silent p f r (told s) _
-        (stmts_run (opening a_capture k) loops body (capturing true run) inner (pc + 1) stack w (Dropped r s.bed s.out L) (Dropped r s.bed s.out N) (stands_captured run s fits) (d.0, d.1, stands_captured run s fits, d.3, d.4) (around_capture k s stack w L N (omega (arith, fits.1)) j) (has_front all (pc + 1) bc (i.EndCapture ∷ tc) is.1) nth1
-        (captured_then r s.bed (as_at run s) s.out w o _ _ L N _ (execs_end u nest_ends again_kept loops body (capturing true (as_at run s)) [] w) h (λ q x world1 k1 h1.
-        at p f r i.EndCapture (later inner q x) pc1 stack world1 behind.0 (after_then p f r (told s) (tick world1) _
-        (use_then r s.bed world1 (tick world1) (record run { parent = q }) s.out _ _ L N _ (tick_gives world1) h1 (λ _ world2 k2 h2.
+        at context (i.BeginCapture Capture) s pc stack w is.0 (silent context (told s) _
+        (stmts_run (opening a_capture k) loops body (capturing true run) inner (pc + 1) stack w (Dropped context s.bed s.out L) (Dropped context s.bed s.out N) (stands_captured run s fits) (d.0, stands_captured run s fits, d.2) (around_capture k s stack w L N (omega (arith, fits.1)) j) (has_front all (pc + 1) bc (i.EndCapture ∷ tc) is.1) nth1
+        (captured_then context s.bed (as_at run s) s.out w o _ _ L N _ (execs_end u nest_ends again_kept loops body (capturing true (as_at run s)) [] w) h (λ q x world1 k1 h1.
+        at context i.EndCapture (later inner q x) pc1 stack world1 behind.0 (after_then context (told s) (tick world1) _
+        (use_then context s.bed world1 (tick world1) (record run { parent = q }) s.out _ _ L N _ (tick_gives world1) h1 (λ _ world2 k2 h2.
         ended_then s q x pc1 stack world2 (omega (arith, fits.1))
         (target_runs t (record run { parent = q }) (later s q s.out) (pc1 + 1) (captured_text x world2) stack world2 (here run (later s q s.out) world2 (deep_later run s world2 q s.out (deep_kept run s k2 (deep_kept run s k1 d)))) behind.1
-        (use_then r s.bed world2 (assign u (record run { parent = q }) t (captured_text x world2) world2) (record run { parent = q }) s.out _ _ L N _ (assign_gives u nest_ends again_kept (record run { parent = q }) t (captured_text x world2) world2) h2 (λ _ world3 k3 h3.
-        move p f r (later s q s.out) _ _ stack world3 place (so_far_then r s.bed (record run { parent = q }) s.out world3 _ L N h3)))))))))))
+        (use_then context s.bed world2 (assign u (record run { parent = q }) t (captured_text x world2) world2) (record run { parent = q }) s.out _ _ L N _ (assign_gives u nest_ends again_kept (record run { parent = q }) t (captured_text x world2) world2) h2 (λ _ world3 k3 h3.
+        move context (later s q s.out) _ _ stack world3 place (so_far_then context s.bed (record run { parent = q }) s.out world3 _ L N h3)))))))))))
     stmt_runs k loops (AutoEscape' e _ body) run s pc stack w L N fits d j is nth h =
-        let all = p.code s.run.stream in
+        let all = context.program.code s.run.stream in
         let ec = expr_code pc e in
         let pc1 = pc + length ec in
         let bc = statements_code (opening an_escape k) (pc1 + 1) body in
@@ -1264,90 +1303,90 @@ module _ (p : Program) (f : Base) (r : Final) (trees : Trees) (n : ℕ)
         let place : pc1 + 1 + length bc + 1 ≡ pc + length (ec ++ i.PushAutoEscape ∷ (bc ++ i.PopAutoEscape ∷ [])) =
         omega (arith, length-append ec (i.PushAutoEscape ∷ (bc ++ i.PopAutoEscape ∷ [])), length-append bc (i.PopAutoEscape ∷ [])) in
         expr_runs e (as_at run s) s pc stack w (here run s w d) (has_front all pc ec (i.PushAutoEscape ∷ (bc ++ i.PopAutoEscape ∷ [])) is)
-        (use_then r s.bed w (eval u (as_at run s) e w) (as_at run s) s.out _ _ L N _ (eval_gives u nest_ends again_kept (as_at run s) e w) h (λ v world1 k1 h1.
-        at p f r i.PushAutoEscape s pc1 (v ∷ stack) world1 behind.0
-        (subst (λ first. Leads p f (told s) (after (answered (escape_for first v) world1) (λ x world2. goes stack (with_escape x world2) (replacing (world2.escape ∷ s.run.escapes) (cfg s pc1 (v ∷ stack) world1)))) r) fits.0
-        (after_then p f r (told s) (answered (escape_for run.first v) world1) _
-        (use_then r s.bed world1 (answered (escape_for run.first v) world1) (as_at run s) s.out _ _ L N _ (answered_gives _ world1) h1 (λ x world2 k2 h2.
+        (use_then context s.bed w (eval u (as_at run s) e w) (as_at run s) s.out _ _ L N _ (eval_gives u nest_ends again_kept (as_at run s) e w) h (λ v world1 k1 h1.
+        at context i.PushAutoEscape s pc1 (v ∷ stack) world1 behind.0
+        (subst (λ first. Comes context (told s) (after (answered (escape_for first v) world1) (λ x world2. goes stack (with_escape x world2) (replacing (world2.escape ∷ s.run.escapes) (cfg s pc1 (v ∷ stack) world1))))) fits.0
+        (after_then context (told s) (answered (escape_for run.first v) world1) _
+        (use_then context s.bed world1 (answered (escape_for run.first v) world1) (as_at run s) s.out _ _ L N _ (answered_gives _ world1) h1 (λ x world2 k2 h2.
         let inner : Spot = record s { run = record s.run { escapes = world2.escape ∷ s.run.escapes } } in
-        silent p f r (told s) _
+        silent context (told s) _
         (stmts_run (opening an_escape k) loops body run inner (pc1 + 1) stack (with_escape x world2) (Closed (with_escape world2.escape) L) (Closed (with_escape world2.escape) N) fits
-        (deep_kept run s (kept_escaped x (kept_same world2)) (deep_kept run s k2 (deep_kept run s k1 d))) (around_escape k s stack world2 x L N (around_kept k s stack L N (kept_then k1 k2) j)) (has_front all (pc1 + 1) bc (i.PopAutoEscape ∷ []) behind.1) nth2
-        (closed_then r s.bed (with_escape x world2) (with_escape world2.escape) (execs u loops body (as_at run s) s.out (with_escape x world2)) _ L N _ (execs_end u nest_ends again_kept loops body (as_at run s) s.out (with_escape x world2)) h2 (λ q out1 world3 k3 g.
-        at p f r i.PopAutoEscape (later inner q out1) (pc1 + 1 + length bc) stack world3 last.0
-        (silent p f r (told (later s q out1)) _ (move p f r (later s q out1) _ _ stack (with_escape world2.escape world3) place g)))))))))))
+        (deep_escaped run s x world2 (deep_kept run s k2 (deep_kept run s k1 d))) (around_escape k s stack world2 x L N (around_kept k s stack L N (kept_then k1 k2) j)) (has_front all (pc1 + 1) bc (i.PopAutoEscape ∷ []) behind.1) nth2
+        (closed_then context s.bed (with_escape x world2) (with_escape world2.escape) (execs u loops body (as_at run s) s.out (with_escape x world2)) _ L N _ (execs_end u nest_ends again_kept loops body (as_at run s) s.out (with_escape x world2)) h2 (λ q out1 world3 k3 g.
+        at context i.PopAutoEscape (later inner q out1) (pc1 + 1 + length bc) stack world3 last.0
+        (silent context (told (later s q out1)) _ (move context (later s q out1) _ _ stack (with_escape world2.escape world3) place g)))))))))))
     stmt_runs k loops (Do e) run s pc stack w L N fits d j is nth h =
         let c = expr_code pc e in
-        let behind = has_behind (p.code s.run.stream) pc c (i.DiscardTop ∷ []) is in
+        let behind = has_behind (context.program.code s.run.stream) pc c (i.DiscardTop ∷ []) is in
         let place : pc + length c + 1 ≡ pc + length (c ++ i.DiscardTop ∷ []) = omega (arith, length-append c (i.DiscardTop ∷ [])) in
-        expr_runs e (as_at run s) s pc stack w (here run s w d) (has_front (p.code s.run.stream) pc c (i.DiscardTop ∷ []) is)
-        (use_then r s.bed w (eval u (as_at run s) e w) (as_at run s) s.out _ _ L N _ (eval_gives u nest_ends again_kept (as_at run s) e w) h (λ v world1 k1 h1.
-        at p f r i.DiscardTop s (pc + length c) (v ∷ stack) world1 behind.0
-        (silent p f r (told s) _ (move p f r s _ _ stack world1 place (so_far_then r s.bed (as_at run s) s.out world1 _ L N h1)))))
+        expr_runs e (as_at run s) s pc stack w (here run s w d) (has_front (context.program.code s.run.stream) pc c (i.DiscardTop ∷ []) is)
+        (use_then context s.bed w (eval u (as_at run s) e w) (as_at run s) s.out _ _ L N _ (eval_gives u nest_ends again_kept (as_at run s) e w) h (λ v world1 k1 h1.
+        at context i.DiscardTop s (pc + length c) (v ∷ stack) world1 behind.0
+        (silent context (told s) _ (move context s _ _ stack world1 place (so_far_then context s.bed (as_at run s) s.out world1 _ L N h1)))))
 
-    pub stmts_run : {m : _} → (k : Inside) (loops : ℕ) (ss : Row_of-Stmt m) (run : Run) (s : Spot) (pc : ℕ) (stack : List Val) (w : World) (L N : Then) → Stands f run s → Deep run s w → Around k s stack w L N → HasAt (p.code s.run.stream) pc (statements_code k pc ss) → loops_before pc (p.code s.run.stream) ≡ loops →
-        Ends r s.bed (execs u loops ss (as_at run s) s.out w) (λ q out1 world1. Go p f r (later s q out1) (pc + length (statements_code k pc ss)) stack world1) L N → Go p f r s pc stack w
-    stmts_run k loops no_statement run s pc stack w L N fits d j is nth h = move p f r s pc (pc + 0) stack w (omega arith) (so_far_then r s.bed (as_at run s) s.out w _ L N h)
+    stmts_run : {m : _} → (k : Inside) (loops : ℕ) (ss : Row_of-Stmt m) (run : Run) (s : Spot) (pc : ℕ) (stack : List Val) (w : World) (L N : Then) → Stands context.base run s → Deep run s w → Around k s stack w L N → HasAt (context.program.code s.run.stream) pc (statements_code k pc ss) → loops_before pc (context.program.code s.run.stream) ≡ loops →
+        Ends context s.bed (execs u loops ss (as_at run s) s.out w) (λ q out1 world1. Go context (later s q out1) (pc + length (statements_code k pc ss)) stack world1) L N → Go context s pc stack w
+    stmts_run k loops no_statement run s pc stack w L N fits d j is nth h = move context s pc (pc + 0) stack w (omega arith) (so_far_then context s.bed (as_at run s) s.out w _ L N h)
     stmts_run k loops (statement x ss) run s pc stack w L N fits d j is nth h =
         let c = statement_code k pc x in
         let rest = statements_code k (pc + length c) ss in
         let place : pc + length c + length rest ≡ pc + length (c ++ rest) = omega (arith, length-append c rest) in
         let end = pc + length (c ++ rest) in
-        let D : Then = λ q out1 world1. Go p f r (later s q out1) end stack world1 in
-        let nth1 : loops_before (pc + length c) (p.code s.run.stream) ≡ past loops x = behind_code (p.code s.run.stream) pc c (has_front (p.code s.run.stream) pc c rest is) ∙ omega (arith, nth, statement_count k pc loops x) in
-        stmt_runs k loops x run s pc stack w L N fits d j (has_front (p.code s.run.stream) pc c rest is) nth
-        (do_then r s.bed (as_at run s) w (exec u loops x (as_at run s) s.out w) (λ run1 out1 world1. execs u (past loops x) ss run1 out1 world1) D L N _ (exec_ends u nest_ends again_kept loops x (as_at run s) s.out w) h (λ q out1 world1 k1 h1.
-        stmts_run k (past loops x) ss run (later s q out1) (pc + length c) stack world1 L N (stands_later f run s fits q out1) (deep_later run s world1 q out1 (deep_kept run s k1 d)) (around_kept k s stack L N k1 j) (has_behind (p.code s.run.stream) pc c rest is) nth1
-        (ends_map r s.bed (execs u (past loops x) ss (record run { parent = q }) out1 world1) D _ L N h1 (λ q2 out2 world2 g. move p f r (later s q2 out2) _ end stack world2 place g))))
+        let D : Then = λ q out1 world1. Go context (later s q out1) end stack world1 in
+        let nth1 : loops_before (pc + length c) (context.program.code s.run.stream) ≡ past loops x = behind_code (context.program.code s.run.stream) pc c (has_front (context.program.code s.run.stream) pc c rest is) ∙ omega (arith, nth, statement_count k pc loops x) in
+        stmt_runs k loops x run s pc stack w L N fits d j (has_front (context.program.code s.run.stream) pc c rest is) nth
+        (do_then context s.bed (as_at run s) w (exec u loops x (as_at run s) s.out w) (λ run1 out1 world1. execs u (past loops x) ss run1 out1 world1) D L N _ (exec_ends u nest_ends again_kept loops x (as_at run s) s.out w) h (λ q out1 world1 k1 h1.
+        stmts_run k (past loops x) ss run (later s q out1) (pc + length c) stack world1 L N (stands_later context.base run s fits q out1) (deep_later run s world1 q out1 (deep_kept run s k1 d)) (around_kept k s stack L N k1 j) (has_behind (context.program.code s.run.stream) pc c rest is) nth1
+        (ends_map context s.bed (execs u (past loops x) ss (record run { parent = q }) out1 world1) D _ L N h1 (λ q2 out2 world2 g. move context (later s q2 out2) _ end stack world2 place g))))
 
     -- the other part
-    second_runs : {m : _} → (k : Inside) (loops : ℕ) (body : Row_of-Stmt m) (other : Otherwise) (run : Run) (s : Spot) (pc end : ℕ) (stack : List Val) (w : World) (L N : Then) → Stands f run s → Deep run s w → Around k s stack w L N →
+    second_runs : {m : _} → (k : Inside) (loops : ℕ) (body : Row_of-Stmt m) (other : Otherwise) (run : Run) (s : Spot) (pc end : ℕ) (stack : List Val) (w : World) (L N : Then) → Stands context.base run s → Deep run s w → Around k s stack w L N →
         pc + length (statements_code k pc body) + length (otherwise_code k (pc + length (statements_code k pc body)) other) ≡ end →
-        HasAt (p.code s.run.stream) pc (statements_code k pc body ++ otherwise_code k (pc + length (statements_code k pc body)) other) → loops_before pc (p.code s.run.stream) ≡ loops →
-        Ends r s.bed (exec_else u (pasts loops body) other (as_at run s) s.out w) (λ q out1 world1. Go p f r (later s q out1) end stack world1) L N → Go p f r s (pc + length (statements_code k pc body) + jump_over other) stack w
+        HasAt (context.program.code s.run.stream) pc (statements_code k pc body ++ otherwise_code k (pc + length (statements_code k pc body)) other) → loops_before pc (context.program.code s.run.stream) ≡ loops →
+        Ends context s.bed (exec_else u (pasts loops body) other (as_at run s) s.out w) (λ q out1 world1. Go context (later s q out1) end stack world1) L N → Go context s (pc + length (statements_code k pc body) + jump_over other) stack w
     second_runs k loops body no_else run s pc end stack w L N fits d j place is nth h =
         let here : pc + length (statements_code k pc body) + 0 ≡ end = omega (arith, place) in
-        move p f r s _ _ stack w here (so_far_then r s.bed (as_at run s) s.out w _ L N h)
+        move context s _ _ stack w here (so_far_then context s.bed (as_at run s) s.out w _ L N h)
     second_runs k loops body (otherwise _ eb) run s pc end stack w L N fits d j place is nth h =
         let bc = statements_code k pc body in
         let ec = statements_code k (pc + length bc + 1) eb in
         let here : pc + length bc + 1 + length ec ≡ end = omega (arith, place) in
-        let behind = has_behind (p.code s.run.stream) pc bc (i.Jump (pc + length bc + 1 + length ec) ∷ ec) is in
-        let all = p.code s.run.stream in
+        let behind = has_behind (context.program.code s.run.stream) pc bc (i.Jump (pc + length bc + 1 + length ec) ∷ ec) is in
+        let all = context.program.code s.run.stream in
         let body_number = behind_code all pc bc (has_front all pc bc (i.Jump (pc + length bc + 1 + length ec) ∷ ec) is) in
         let nth1 : loops_before (pc + length bc + 1) all ≡ pasts loops body = behind_code all (pc + length bc) (i.Jump (pc + length bc + 1 + length ec) ∷ []) (behind.0, tt) ∙ omega (arith, body_number, nth, statements_count k pc loops body) in
         stmts_run k (pasts loops body) eb run s (pc + length bc + 1) stack w L N fits d j behind.1 nth1
-        (ends_map r s.bed (execs u (pasts loops body) eb (as_at run s) s.out w) _ _ L N h (λ q out1 world1 g. move p f r (later s q out1) _ _ stack world1 here g))
+        (ends_map context s.bed (execs u (pasts loops body) eb (as_at run s) s.out w) _ _ L N h (λ q out1 world1 g. move context (later s q out1) _ _ stack world1 here g))
 
     -- behind a loop's last round
-    behind_loop_runs : (k : Inside) (loops : ℕ) (other : Otherwise) (vs : List Val) (run : Run) (s : Spot) (pc end to : ℕ) (stack : List Val) (w x : World) (l : Loop) (L N : Then) → Stands f run s → Deep run s w → Around k s stack w L N →
-        Kept (in_loop_of (for_flags false) w) x → slice_get (shapes x.loops) (length w.loops) ≡ Some l → l.items ≡ vs → end + length (behind_loop_code k end other) ≡ to → HasAt (p.code s.run.stream) end (behind_loop_code k end other) → loops_before end (p.code s.run.stream) ≡ loops → (q : Option TemplateId) (out : List ℕ) →
-        Ends r s.bed (exec_behind_loop u loops other (has_none vs) (record run { parent = q }) out (pop x)) (λ q1 out1 v. Go p f r (later s q1 out1) to stack v) L N → Go p f r (later (looped None s) q out) end stack x
+    behind_loop_runs : (k : Inside) (loops : ℕ) (other : Otherwise) (vs : List Val) (run : Run) (s : Spot) (pc end to : ℕ) (stack : List Val) (w x : World) (l : Loop) (L N : Then) → Stands context.base run s → Deep run s w → Around k s stack w L N →
+        Kept (in_loop_of (for_flags false) w) x → slice_get (shapes x.loops) (length w.loops) ≡ Some l → l.items ≡ vs → end + length (behind_loop_code k end other) ≡ to → HasAt (context.program.code s.run.stream) end (behind_loop_code k end other) → loops_before end (context.program.code s.run.stream) ≡ loops → (q : Option TemplateId) (out : List ℕ) →
+        Ends context s.bed (exec_behind_loop u loops other (has_none vs) (record run { parent = q }) out (pop x)) (λ q1 out1 v. Go context (later s q1 out1) to stack v) L N → Go context (later (looped None s) q out) end stack x
     behind_loop_runs k loops no_else vs run s pc end to stack w x l L N fits d j kept e same place is nth q out h =
-        left_loop_then (for_flags false) s q out end stack w x l d.1 kept e is.0 (move p f r (later s q out) _ _ stack (pop x) place (so_far_then r s.bed (record run { parent = q }) out (pop x) _ L N h))
+        left_loop_then (for_flags false) s q out end stack w x l d.0.scopes kept e is.0 (move context (later s q out) _ _ stack (pop x) place (so_far_then context s.bed (record run { parent = q }) out (pop x) _ L N h))
     behind_loop_runs k loops (otherwise _ eb) vs run s pc end to stack w x l L N fits d j kept e same place is nth q out h =
-        let all = p.code s.run.stream in
+        let all = context.program.code s.run.stream in
         let ec = statements_code k (end + 3) eb in
         let test = i.JumpIfFalse (end + 3 + length ec) in
         let b = has_none vs in
-        let D0 : Then = λ q1 out1 v. Go p f r (later s q1 out1) to stack v in
+        let D0 : Then = λ q1 out1 v. Go context (later s q1 out1) to stack v in
         let here : end + 3 + length ec ≡ to = omega (arith, place) in
         let first : end + 1 + 1 + 1 ≡ end + 3 = omega arith in
         let three = i.PushDidNotIterate ∷ i.PopLoopFrame ∷ test ∷ [] in
         let nth1 : loops_before (end + 3) all ≡ loops = behind_code all end three (is.0, (is.1.0, (is.1.1.0, tt))) ∙ omega (arith, nth) in
         let popped = kept_popped (loop_scope (mark_behind (for_flags false) w)) w x kept in
-        at p f r i.PushDidNotIterate (later (looped None s) q out) end stack x is.0
-        (subst (λ n. Leads p f (told_by s.bed out) n r) (sym (did_not_is None (for_flags false) s q out end stack w x l vs kept e same))
-        (silent p f r (told_by s.bed out) _
-        (left_loop_then (for_flags false) s q out (end + 1) (boolean b ∷ stack) w x l d.1 kept e is.1.0
-        (at p f r test (later s q out) (end + 1 + 1) (boolean b ∷ stack) (pop x) is.1.1.0 (after_then p f r (told_by s.bed out) (tick (pop x)) _
-        (use_then r s.bed (pop x) (tick (pop x)) (record run { parent = q }) out _ D0 L N _ (tick_gives (pop x)) h (λ _ v k1 h1.
-        choose_ends p f r b (execs u loops eb (record run { parent = q }) out v) (so_far (record run { parent = q }) out v) _ _ (told_by s.bed out) s.bed D0 L N h1
-        (λ h2. silent p f r (told_by s.bed out) _ (move p f r (later s q out) _ _ stack v first
-        (stmts_run k loops eb run (later s q out) (end + 3) stack v L N (stands_later f run s fits q out) (deep_later run s v q out (deep_kept run s (kept_then popped k1) d)) (around_kept k s stack L N (kept_then popped k1) j)
+        at context i.PushDidNotIterate (later (looped None s) q out) end stack x is.0
+        (subst (λ n. Comes context (told_by s.bed out) n) (sym (did_not_is None (for_flags false) s q out end stack w x l vs kept e same))
+        (silent context (told_by s.bed out) _
+        (left_loop_then (for_flags false) s q out (end + 1) (boolean b ∷ stack) w x l d.0.scopes kept e is.1.0
+        (at context test (later s q out) (end + 1 + 1) (boolean b ∷ stack) (pop x) is.1.1.0 (after_then context (told_by s.bed out) (tick (pop x)) _
+        (use_then context s.bed (pop x) (tick (pop x)) (record run { parent = q }) out _ D0 L N _ (tick_gives (pop x)) h (λ _ v k1 h1.
+        choose_ends context b (execs u loops eb (record run { parent = q }) out v) (so_far (record run { parent = q }) out v) _ _ (told_by s.bed out) s.bed D0 L N h1
+        (λ h2. silent context (told_by s.bed out) _ (move context (later s q out) _ _ stack v first
+        (stmts_run k loops eb run (later s q out) (end + 3) stack v L N (stands_later context.base run s fits q out) (deep_later run s v q out (deep_kept run s (kept_then popped k1) d)) (around_kept k s stack L N (kept_then popped k1) j)
         (subst (λ n. HasAt all n ec) first is.1.1.1) nth1
-        (ends_map r s.bed (execs u loops eb (record run { parent = q }) out v) _ _ L N h2 (λ q1 out1 y g. move p f r (later s q1 out1) _ _ stack y here g)))))
-        (λ h2. silent p f r (told_by s.bed out) _ (move p f r (later s q out) _ _ stack v here (so_far_then r s.bed (record run { parent = q }) out v D0 L N h2))))))))))
+        (ends_map context s.bed (execs u loops eb (record run { parent = q }) out v) _ _ L N h2 (λ q1 out1 y g. move context (later s q1 out1) _ _ stack y here g)))))
+        (λ h2. silent context (told_by s.bed out) _ (move context (later s q out) _ _ stack v here (so_far_then context s.bed (record run { parent = q }) out v D0 L N h2))))))))))
 
   -- ---------------------------------------------------------------- loops that are called
   -- where a called loop's rounds stand
@@ -1362,105 +1401,105 @@ module _ (p : Program) (f : Base) (r : Final) (trees : Trees) (n : ℕ)
   apart s = record s { bed = captured_in s.bed s.out; out = [] }
 
   -- a called loop is left, which is free: the run goes on where it was called
-  called_exit : (o : Return) (s1 : Spot) (q : Option TemplateId) (out : List ℕ) (end : ℕ) (below : List Val) (w x : World) (l : Loop) → f.scopes ≤ length w.scopes.frames → Kept (in_loop_of (for_flags false) w) x → slice_get (shapes x.loops) (length w.loops) ≡ Some l →
-      slice_get (p.code s1.run.stream) end ≡ Some i.PopLoopFrame →
-      Leads p f (told_by s1.bed out) (returns o o.value (returned o s1.run.loops (cfg (later (looped (Some o) (in_call s1)) q out) end below x))) r →
-      Go p f r (later (looped (Some o) (in_call s1)) q out) end below x
+  called_exit : (o : Return) (s1 : Spot) (q : Option TemplateId) (out : List ℕ) (end : ℕ) (below : List Val) (w x : World) (l : Loop) → context.base.scopes ≤ length w.scopes.frames → Kept (in_loop_of (for_flags false) w) x → slice_get (shapes x.loops) (length w.loops) ≡ Some l →
+      slice_get (context.program.code s1.run.stream) end ≡ Some i.PopLoopFrame →
+      Comes context (told_by s1.bed out) (returns o o.value (returned o s1.run.loops (cfg (later (looped (Some o) (in_call s1)) q out) end below x))) →
+      Go context (later (looped (Some o) (in_call s1)) q out) end below x
   called_exit o s1 q out end below w x l d k e is z =
-      let stands : f.scopes < length x.scopes.frames = omega (arith, kept_frames k, d) in
+      let stands : context.base.scopes < length x.scopes.frames = omega (arith, kept_frames k, d) in
       let c = cfg (later (looped (Some o) (in_call s1)) q out) end below x in
-      at p f r i.PopLoopFrame (later (looped (Some o) (in_call s1)) q out) end below x is
-      (subst (λ b. Leads p f (told_by s1.bed out) (choose b (λ _. on_loop (Some o ∷ s1.run.loops) (top_loop x) x (λ m. pop_loop_with (Some o ∷ s1.run.loops) c)) (λ _. stuck x)) r)
-      (sym (lt-ltb f.scopes (length x.scopes.frames) stands))
-      (subst (λ a. Leads p f (told_by s1.bed out) a r)
+      at context i.PopLoopFrame (later (looped (Some o) (in_call s1)) q out) end below x is
+      (subst (λ b. Comes context (told_by s1.bed out) (choose b (λ _. on_loop (Some o ∷ s1.run.loops) (top_loop x) x (λ m. pop_loop_with (Some o ∷ s1.run.loops) c)) (λ _. stuck x)))
+      (sym (lt-ltb context.base.scopes (length x.scopes.frames) stands))
+      (subst (λ a. Comes context (told_by s1.bed out) a)
       (sym (on_top_loop (for_flags false) w x l k e (Some o) s1.run.loops (λ items turns. pop_loop_with (Some o ∷ s1.run.loops) c))) z))
 
-  called_over : (o : Return) (s1 : Spot) (q : Option TemplateId) (out : List ℕ) (end : ℕ) (w x : World) (l : Loop) (items : List Val) → f.scopes ≤ length w.scopes.frames → Kept (in_loop_of (for_flags false) w) x → slice_get (shapes x.loops) (length w.loops) ≡ Some l →
-      l.items ≡ items → HasAt (p.code s1.run.stream) end (i.PopLoopFrame ∷ []) ⊎ HasAt (p.code s1.run.stream) end (i.PushDidNotIterate ∷ i.PopLoopFrame ∷ []) →
-      ((place : ℕ) (below : List Val) → Leads p f (told_by s1.bed out) (returns o o.value (returned o s1.run.loops (cfg (later (looped (Some o) (in_call s1)) q out) place below x))) r) →
-      Go p f r (later (looped (Some o) (in_call s1)) q out) end [] x
+  called_over : (o : Return) (s1 : Spot) (q : Option TemplateId) (out : List ℕ) (end : ℕ) (w x : World) (l : Loop) (items : List Val) → context.base.scopes ≤ length w.scopes.frames → Kept (in_loop_of (for_flags false) w) x → slice_get (shapes x.loops) (length w.loops) ≡ Some l →
+      l.items ≡ items → HasAt (context.program.code s1.run.stream) end (i.PopLoopFrame ∷ []) ⊎ HasAt (context.program.code s1.run.stream) end (i.PushDidNotIterate ∷ i.PopLoopFrame ∷ []) →
+      ((place : ℕ) (below : List Val) → Comes context (told_by s1.bed out) (returns o o.value (returned o s1.run.loops (cfg (later (looped (Some o) (in_call s1)) q out) place below x)))) →
+      Go context (later (looped (Some o) (in_call s1)) q out) end [] x
   called_over o s1 q out end w x l items d k e same (inl h) z = called_exit o s1 q out end [] w x l d k e h.0 (z end [])
   called_over o s1 q out end w x l items d k e same (inr h) z =
-      at p f r i.PushDidNotIterate (later (looped (Some o) (in_call s1)) q out) end [] x h.0
-      (subst (λ a. Leads p f (told_by s1.bed out) a r) (sym (did_not_is (Some o) (for_flags false) (in_call s1) q out end [] w x l items k e same))
-      (silent p f r (told_by s1.bed out) _ (called_exit o s1 q out (end + 1) (boolean (has_none items) ∷ []) w x l d k e h.1.0 (z (end + 1) (boolean (has_none items) ∷ [])))))
+      at context i.PushDidNotIterate (later (looped (Some o) (in_call s1)) q out) end [] x h.0
+      (subst (λ a. Comes context (told_by s1.bed out) a) (sym (did_not_is (Some o) (for_flags false) (in_call s1) q out end [] w x l items k e same))
+      (silent context (told_by s1.bed out) _ (called_exit o s1 q out (end + 1) (boolean (has_none items) ∷ []) w x l d k e h.1.0 (z (end + 1) (boolean (has_none items) ∷ [])))))
 
   -- a called loop's rounds, from its place, over nothing
-  called_rounds : (l : FoundLoop) (place : ℕ) → Looped (p.code id) l place → (o : Return) (m : ℕ) (items : List Val) (run : Run) (s1 : Spot) (w : World) (D : Then) (L N : Then) → DeepIn p f n id (suc level) run s1 w →
+  called_rounds : (l : FoundLoop) (place : ℕ) → Looped (context.program.code id) l place → (o : Return) (m : ℕ) (items : List Val) (run : Run) (s1 : Spot) (w : World) (D : Then) (L N : Then) → DeepIn context n id (suc level) run s1 w → nat_lt (depth w.scopes) context.program.host.limit ≡ true →
       ((q : Option TemplateId) (out : List ℕ) (x : World) → D q out (pop x) → (at_place : ℕ) (below : List Val) →
-      Leads p f (told_by s1.bed out) (returns o o.value (returned o s1.run.loops (cfg (later (looped (Some o) (in_call s1)) q out) at_place below x))) r) →
-      Ends r s1.bed (rounds (turn_of l.target l.at l.body.row) items (as_at run s1) s1.out (opened (for_flags true) m w items)) D L N →
-      Go p f r (looped (Some o) (in_call s1)) (place + 1) [] (opened (for_flags true) m w items)
-  called_rounds l place lo o m items run s1 w D L N d goes_on h =
+      Comes context (told_by s1.bed out) (returns o o.value (returned o s1.run.loops (cfg (later (looped (Some o) (in_call s1)) q out) at_place below x)))) →
+      Ends context s1.bed (rounds (turn_of l.target l.at l.body.row) items (as_at run s1) s1.out (opened (for_flags true) m w items)) D L N →
+      Go context (looped (Some o) (in_call s1)) (place + 1) [] (opened (for_flags true) m w items)
+  called_rounds l place lo o m items run s1 w D L N d room goes_on h =
       let inner : Inside = record { again = place + 1; behind = lo.end; opened = [] } in
-      let all_is : p.code id ≡ p.code s1.run.stream = ap p.code (sym d.3) in
-      let fits : Stands f run (in_call s1) = (d.2.0, omega arith, d.2.2) in
+      let all_is : context.program.code id ≡ context.program.code s1.run.stream = ap context.program.code (sym d.2) in
+      let fits : Stands context.base run (in_call s1) = (d.1.0, omega arith, d.1.2) in
       rounds_run (Some o) l.target l.at l.body.row (place + 1) lo.end (stmts_run inner l.at l.body.row) items items run (in_call s1) [] w (opened (for_flags true) m w items) (new_loop items (for_flags true) m w) D L N fits
-      (omega (arith, d.0), omega (arith, d.1), fits, d.3, omega (arith, d.4))
+      (levels_called context n level (loop_scope (mark_behind (for_flags false) w)) w room d.0, fits, d.2)
       (opened_kept (for_flags true) m w items) (new_record (for_flags true) m w items) (record { before = []; same = refl; all = refl; turns = refl })
       (subst (λ c. HasAt c (place + 1) (i.Iterate lo.end ∷ (target_code (place + 1 + 1) l.target ++ (statements_code inner (place + 1 + 1 + length (target_code (place + 1 + 1) l.target)) l.body.row ++ i.Jump (place + 1) ∷ [])))) all_is lo.rounds)
       (subst (λ c. loops_before (place + 1 + 1 + length (target_code (place + 1 + 1) l.target)) c ≡ l.at) all_is lo.numbered)
-      (λ q out x l1 k e same g. called_over o s1 q out lo.end w x l1 items d.1 k e same
+      (λ q out x l1 k e same g. called_over o s1 q out lo.end w x l1 items d.0.scopes k e same
       (subst (λ c. HasAt c lo.end (i.PopLoopFrame ∷ []) ⊎ HasAt c lo.end (i.PushDidNotIterate ∷ i.PopLoopFrame ∷ [])) all_is lo.exit) (goes_on q out x g)) h
 
   -- a loop that can be called there, and one that can't
-  recursed_by : (b : Bool) (l : FoundLoop) (lp : LoopPlace) → (b ≡ true → (lp.flags ≡ for_flags true) × Looped (p.code id) l lp.place) → (value : Bool) (m : ℕ) (items : List Val) (run : Run) (s s1 : Spot) (pc : ℕ) (stack old : List Val) (w0 w : World) (D L N : Then) →
-      s1.run ≡ s.run → s1.parent ≡ s.parent → DeepIn p f n id (suc level) run s1 w →
+  recursed_by : (b : Bool) (l : FoundLoop) (lp : LoopPlace) → (b ≡ true → (lp.flags ≡ for_flags true) × Looped (context.program.code id) l lp.place) → (value : Bool) (m : ℕ) (items : List Val) (run : Run) (s s1 : Spot) (pc : ℕ) (stack old : List Val) (w0 w : World) (D L N : Then) →
+      s1.run ≡ s.run → s1.parent ≡ s.parent → DeepIn context n id (suc level) run s1 w →
       ((q : Option TemplateId) (out : List ℕ) (x : World) → D q out (pop x) → (at_place : ℕ) (below : List Val) →
-      Leads p f (told_by s1.bed out) (returns (from_call value s pc stack) value (returned (from_call value s pc stack) s1.run.loops (cfg (later (looped (Some (from_call value s pc stack)) (in_call s1)) q out) at_place below x))) r) →
-      Ends r s1.bed (choose b (λ _. loop_over p.host m true (turn_of l.target l.at l.body.row) items (as_at run s1) s1.out w) (λ _. ended (fault (InvalidOperation ∷ [])) (as_at run s1) s1.out w)) D L N →
-      Leads p f (told s1) (choose b
-      (λ _. after (open_loop p.host items lp.flags m w) (λ _ x. More [] (cfg (looped (Some (from_call value s pc stack)) (in_call s1)) (lp.place + 1) [] x)))
-      (λ _. Over (Failed (InvalidOperation ∷ []) w))) r
-  recursed_by false l lp found value m items run s s1 pc stack old w0 w D L N same_run same_parent d goes_on h = is_over refl (fault_then r s1.bed (as_at run s1) s1.out w (InvalidOperation ∷ []) D L N h)
+      Comes context (told_by s1.bed out) (returns (from_call value s pc stack) value (returned (from_call value s pc stack) s1.run.loops (cfg (later (looped (Some (from_call value s pc stack)) (in_call s1)) q out) at_place below x)))) →
+      Ends context s1.bed (choose b (λ _. loop_over context.program.host m true (turn_of l.target l.at l.body.row) items (as_at run s1) s1.out w) (λ _. ended (fault (InvalidOperation ∷ [])) (as_at run s1) s1.out w)) D L N →
+      Comes context (told s1) (choose b
+      (λ _. after (open_loop context.program.host items lp.flags m w) (λ _ x. More [] (cfg (looped (Some (from_call value s pc stack)) (in_call s1)) (lp.place + 1) [] x)))
+      (λ _. Over (Failed (InvalidOperation ∷ []) w)))
+  recursed_by false l lp found value m items run s s1 pc stack old w0 w D L N same_run same_parent d goes_on h = is_over refl (fault_then context s1.bed (as_at run s1) s1.out w (InvalidOperation ∷ []) D L N h)
   recursed_by true l lp found value m items run s s1 pc stack old w0 w D L N same_run same_parent d goes_on h =
       let o = from_call value s pc stack in
       let there = found refl in
-      subst (λ g. Leads p f (told s1) (after (open_loop p.host items g m w) (λ _ x. More [] (cfg (looped (Some o) (in_call s1)) (lp.place + 1) [] x))) r) (sym there.0)
-      (after_then p f r (told s1) (open_loop p.host items (for_flags true) m w) _
-      (opened_then r s1.bed (for_flags true) m w items (nat_lt (depth w.scopes) p.host.limit) (as_at run s1) s1.out (λ _ x. rounds (turn_of l.target l.at l.body.row) items (as_at run s1) s1.out x) D L N
-      (λ x. Leads p f (told s1) (More [] (cfg (looped (Some o) (in_call s1)) (lp.place + 1) [] x)) r) h (λ h1.
-      silent p f r (told s1) _ (called_rounds l lp.place there.1 o m items run s1 w D L N d goes_on h1))))
+      subst (λ g. Comes context (told s1) (after (open_loop context.program.host items g m w) (λ _ x. More [] (cfg (looped (Some o) (in_call s1)) (lp.place + 1) [] x)))) (sym there.0)
+      (after_then context (told s1) (open_loop context.program.host items (for_flags true) m w) _
+      (opened_then context s1.bed (for_flags true) m w items (nat_lt (depth w.scopes) context.program.host.limit) (as_at run s1) s1.out (λ _ x. rounds (turn_of l.target l.at l.body.row) items (as_at run s1) s1.out x) D L N
+      (λ x. Comes context (told s1) (More [] (cfg (looped (Some o) (in_call s1)) (lp.place + 1) [] x))) h (λ room h1.
+      silent context (told s1) _ (called_rounds l lp.place there.1 o m items run s1 w D L N d room goes_on h1))))
 
   -- in place: it is heard where it is called
-  recursed_in_place : (ol : Option FoundLoop) (op : Option LoopPlace) → Both (p.code id) ol op → (m : ℕ) (items : List Val) (run : Run) (s : Spot) (pc : ℕ) (stack old : List Val) (w0 w : World) (D L N : Then) → DeepIn p f n id (suc level) run s w →
-      Ends r s.bed (again_in u ol m items (as_at run s) s.out w) D L N → ((q : Option TemplateId) (out1 : List ℕ) (x : World) → D q out1 x → Go p f r (later s q out1) (pc + 1) stack x) →
-      Leads p f (told s) (recursion p (cfg s pc old w0) false stack (captures_of s.bed s.out) m op items w) r
-  recursed_in_place None None both m items run s pc stack old w0 w D L N d h g = is_over refl (fault_then r s.bed (as_at run s) s.out w (InvalidOperation ∷ []) D L N h)
+  recursed_in_place : (ol : Option FoundLoop) (op : Option LoopPlace) → Both (context.program.code id) ol op → (m : ℕ) (items : List Val) (run : Run) (s : Spot) (pc : ℕ) (stack old : List Val) (w0 w : World) (D L N : Then) → DeepIn context n id (suc level) run s w →
+      Ends context s.bed (again_in u ol m items (as_at run s) s.out w) D L N → ((q : Option TemplateId) (out1 : List ℕ) (x : World) → D q out1 x → Go context (later s q out1) (pc + 1) stack x) →
+      Comes context (told s) (recursion context.program (cfg s pc old w0) false stack (captures_of s.bed s.out) m op items w)
+  recursed_in_place None None both m items run s pc stack old w0 w D L N d h g = is_over refl (fault_then context s.bed (as_at run s) s.out w (InvalidOperation ∷ []) D L N h)
   recursed_in_place None (Some lp) both m items run s pc stack old w0 w D L N d h g = absurd both
   recursed_in_place (Some l) None both m items run s pc stack old w0 w D L N d h g = absurd both
   recursed_in_place (Some l) (Some lp) both m items run s pc stack old w0 w D L N d h g =
-      subst (λ b. Leads p f (told s) (choose b
-      (λ _. after (open_loop p.host items lp.flags m w) (λ _ x. More [] (cfg (looped (Some (from_call false s pc stack)) (in_call s)) (lp.place + 1) [] x)))
-      (λ _. Over (Failed (InvalidOperation ∷ []) w))) r) (sym both.0)
+      subst (λ b. Comes context (told s) (choose b
+      (λ _. after (open_loop context.program.host items lp.flags m w) (λ _ x. More [] (cfg (looped (Some (from_call false s pc stack)) (in_call s)) (lp.place + 1) [] x)))
+      (λ _. Over (Failed (InvalidOperation ∷ []) w)))) (sym both.0)
       (recursed_by l.recursive l lp both.1 false m items run s s pc stack old w0 w D L N refl refl d
-      (λ q out x e at_place below. silent p f r (told_by s.bed out) _ (g q out (pop x) e)) h)
+      (λ q out x e at_place below. silent context (told_by s.bed out) _ (g q out (pop x) e)) h)
 
   -- as a value: its text goes into a capture of its own
-  text_ends : (s : Spot) (e : Ending) (parent : Option TemplateId) (out : List ℕ) (w : World) (K : Val → World → Type 0) → Follows r (told s) (text_behind e (whole_of e parent out w)) K →
-      Ends r (captured_in s.bed s.out) (whole_of e parent out w) (λ q out1 x. K (captured_text out1 x) x) (λ q out1 x. K (captured_text out1 x) x) (λ q out1 x. K (captured_text out1 x) x)
+  text_ends : (s : Spot) (e : Ending) (parent : Option TemplateId) (out : List ℕ) (w : World) (K : Val → World → Type 0) → Follows context (told s) (text_behind e (whole_of e parent out w)) K →
+      Ends context (captured_in s.bed s.out) (whole_of e parent out w) (λ q out1 x. K (captured_text out1 x) x) (λ q out1 x. K (captured_text out1 x) x) (λ q out1 x. K (captured_text out1 x) x)
   unfolding Ends
   text_ends s done parent out w K h = h
   text_ends s leave parent out w K h = h
   text_ends s next parent out w K h = h
   text_ends s (fault chain) parent out w K h = h
 
-  recursed_as_value : (ol : Option FoundLoop) (op : Option LoopPlace) → Both (p.code id) ol op → (m : ℕ) (items : List Val) (run : Run) (s : Spot) (pc : ℕ) (stack old : List Val) (w0 w : World) (D : Then) → HereIn p f n id (suc level) run s w →
-      Ends r (captured_in s.bed s.out) (again_in u ol m items (capturing true run) [] w) D D D →
-      ((q : Option TemplateId) (out1 : List ℕ) (x : World) → D q out1 x → Go p f r s (pc + 1) (captured_text out1 x ∷ stack) x) →
-      Leads p f (told s) (recursion p (cfg s pc old w0) true stack (new_capture true ∷ captures_of s.bed s.out) m op items w) r
-  recursed_as_value None None both m items run s pc stack old w0 w D d h g = is_over refl (fault_then r (captured_in s.bed s.out) (capturing true run) [] w (InvalidOperation ∷ []) D D D h)
+  recursed_as_value : (ol : Option FoundLoop) (op : Option LoopPlace) → Both (context.program.code id) ol op → (m : ℕ) (items : List Val) (run : Run) (s : Spot) (pc : ℕ) (stack old : List Val) (w0 w : World) (D : Then) → HereIn context n id (suc level) run s w →
+      Ends context (captured_in s.bed s.out) (again_in u ol m items (capturing true run) [] w) D D D →
+      ((q : Option TemplateId) (out1 : List ℕ) (x : World) → D q out1 x → Go context s (pc + 1) (captured_text out1 x ∷ stack) x) →
+      Comes context (told s) (recursion context.program (cfg s pc old w0) true stack (new_capture true ∷ captures_of s.bed s.out) m op items w)
+  recursed_as_value None None both m items run s pc stack old w0 w D d h g = is_over refl (fault_then context (captured_in s.bed s.out) (capturing true run) [] w (InvalidOperation ∷ []) D D D h)
   recursed_as_value None (Some lp) both m items run s pc stack old w0 w D d h g = absurd both
   recursed_as_value (Some l) None both m items run s pc stack old w0 w D d h g = absurd both
   recursed_as_value (Some l) (Some lp) both m items run s pc stack old w0 w D d h g =
       let s1 = apart s in
-      let fits : Stands f (capturing true run) s1 = stands_captured run s d.2 in
-      let placed = subst (λ q. Ends r s1.bed (again_in u (Some l) m items (record (capturing true run) { parent = q }) [] w) D D D) d.5 h in
-      subst (λ b. Leads p f (told s) (choose b
-      (λ _. after (open_loop p.host items lp.flags m w) (λ _ x. More [] (cfg (looped (Some (from_call true s pc stack)) (in_call s1)) (lp.place + 1) [] x)))
-      (λ _. Over (Failed (InvalidOperation ∷ []) w))) r) (sym both.0)
-      (recursed_by l.recursive l lp both.1 true m items (capturing true run) s s1 pc stack old w0 w D D D refl refl (d.0, d.1, fits, d.3, d.4)
-      (λ q out x e at_place below. silent p f r (told s) _ (g q out (pop x) e)) placed)
+      let fits : Stands context.base (capturing true run) s1 = stands_captured run s d.1 in
+      let placed = subst (λ q. Ends context s1.bed (again_in u (Some l) m items (record (capturing true run) { parent = q }) [] w) D D D) d.3 h in
+      subst (λ b. Comes context (told s) (choose b
+      (λ _. after (open_loop context.program.host items lp.flags m w) (λ _ x. More [] (cfg (looped (Some (from_call true s pc stack)) (in_call s1)) (lp.place + 1) [] x)))
+      (λ _. Over (Failed (InvalidOperation ∷ []) w)))) (sym both.0)
+      (recursed_by l.recursive l lp both.1 true m items (capturing true run) s s1 pc stack old w0 w D D D refl refl (d.0, fits, d.2)
+      (λ q out x e at_place below. silent context (told s) _ (g q out (pop x) e)) placed)
 
 -- ---------------------------------------------------------------- streams
 -- where a stream's run stands
@@ -1475,11 +1514,18 @@ stands_start : (id : StreamId) (b : Bed) (out : List ℕ) (heard : Bool) (w : Wo
 stands_start id b out heard w = (refl, omega arith, fits_start b out heard w)
 
 module _ (p : Program) (trees : Trees) (compiled : IsCompiled trees p) where
+  abbrev in_program : Base → Final → Context
+  in_program f end = record { program = p; base = f; final = end }
+
+  -- a run from its start, up to an end
+  abbrev running : Bool → Bed → List ℕ → World → Final → Context
+  running heard b out w end = in_program (base_of heard (captures_of b out) w) end
+
   -- behind the last instruction all is closed, and the run is over
-  finishes : (id : StreamId) (heard : Bool) (b : Bed) (out : List ℕ) (w : World) (q : Option TemplateId) (x : List ℕ) (v : World) (r : Final) → Kept w v →
-      r ≡ final (told_by b x) (Finished (captures_of b x) v) →
-      Go p (base_of heard (captures_of b out) w) r (later (spot_of id b out) q x) (length (p.code id)) [] v
-  finishes id heard b out w q x v r k e =
+  finishes : (id : StreamId) (heard : Bool) (b : Bed) (out : List ℕ) (w : World) (q : Option TemplateId) (x : List ℕ) (v : World) (end : Final) → Kept w v →
+      end ≡ final (told_by b x) (Finished (captures_of b x) v) →
+      Go (running heard b out w end) (later (spot_of id b out) q x) (length (p.code id)) [] v
+  finishes id heard b out w q x v end k e =
       let f = base_of heard (captures_of b out) w in
       let s = later (spot_of id b out) q x in
       let c = cfg s (length (p.code id)) [] v in
@@ -1491,39 +1537,22 @@ module _ (p : Program) (trees : Trees) (compiled : IsCompiled trees p) where
       is_over (ap (λ o. act p f o c) past ∙ ends) e
 
   -- where a loop that isn't there is left, or goes on
-  abbrev Stops : Final → Bed → Then
-  Stops r b q x v = Follows r (told_by b x) (tick v) (λ _ world1. r ≡ final (told_by b x) (Finished (captures_of b x) world1))
+  abbrev Stops : Context → Bed → Then
+  Stops context b q x v = Follows context (told_by b x) (tick v) (λ _ world1. context.final ≡ final (told_by b x) (Finished (captures_of b x) world1))
 
-  stopped_by : (b : Bed) (q : Option TemplateId) (x : List ℕ) (v : World) (e : Ending) (m : Res (Unit {0})) →
-      Follows (end_of b (done_by m (whole_of e q x v))) (told_by b x) m (λ _ world1. end_of b (done_by m (whole_of e q x v)) ≡ final (told_by b x) (Finished (captures_of b x) world1))
-  stopped_by b q x v e (Good _ world1) = refl
-  stopped_by b q x v e (Bad chain world1) = refl
+  stopped_by : (context : Context) (b : Bed) (q : Option TemplateId) (x : List ℕ) (v : World) (e : Ending) (m : Res (Unit {0})) → context.final ≡ end_of b (done_by m (whole_of e q x v)) →
+      Follows context (told_by b x) m (λ _ world1. context.final ≡ final (told_by b x) (Finished (captures_of b x) world1))
+  stopped_by context b q x v e (Good _ world1) is = is
+  stopped_by context b q x v e (Bad chain world1) is = is
 
   end_then : (id : StreamId) (heard : Bool) (b : Bed) (out : List ℕ) (w : World) (e : Ending) (q : Option TemplateId) (x : List ℕ) (v : World) → EndsKept w e v →
-      Ends (end_of b (at_end e (whole_of e q x v))) b (whole_of e q x v)
-      (λ q1 x1 v1. Go p (base_of heard (captures_of b out) w) (end_of b (at_end e (whole_of e q x v))) (later (spot_of id b out) q1 x1) (length (p.code id)) [] v1)
-      (Stops (end_of b (at_end e (whole_of e q x v))) b) (Stops (end_of b (at_end e (whole_of e q x v))) b)
+      let context = running heard b out w (end_of b (at_end e (whole_of e q x v))) in
+      Ends context b (whole_of e q x v) (λ q1 x1 v1. Go context (later (spot_of id b out) q1 x1) (length (p.code id)) [] v1) (Stops context b) (Stops context b)
   unfolding Ends
   end_then id heard b out w done q x v k = finishes id heard b out w q x v _ k refl
-  end_then id heard b out w leave q x v k = stopped_by b q x v leave (tick v)
-  end_then id heard b out w next q x v k = stopped_by b q x v next (tick v)
+  end_then id heard b out w leave q x v k = stopped_by (running heard b out w (end_of b (at_end leave (whole_of leave q x v)))) b q x v leave (tick v) refl
+  end_then id heard b out w next q x v k = stopped_by (running heard b out w (end_of b (at_end next (whole_of next q x v)))) b q x v next (tick v) refl
   end_then id heard b out w (fault chain) q x v k = refl
-
-  -- Where no scope has room no loop is called.
-  no_room : (f : Base) (r : Final) (t : List ℕ) (g : LoopFlags) (m : ℕ) (items : List Val) (w : World) (room : Bool) (next_one : Unit {0} → World → Next) → room ≡ false → r ≡ final t (Failed (InvalidOperation ∷ []) w) →
-      Leads p f t (after (bind (one_more room (loop_scope (mark_behind g w)) w) (λ _ world1. recorded g m items w world1)) next_one) r
-  no_room f r t g m items w true next_one e is = absurd (cc e)
-  no_room f r t g m items w false next_one e is = is_over refl is
-
-  refused_by : (f : Base) (r : Final) (t : List ℕ) (b : Bool) (g : LoopFlags) (m : ℕ) (items : List Val) (w : World) (next_one : Unit {0} → World → Next) → nat_lt (depth w.scopes) p.host.limit ≡ false → r ≡ final t (Failed (InvalidOperation ∷ []) w) →
-      Leads p f t (choose b (λ _. after (open_loop p.host items g m w) next_one) (λ _. Over (Failed (InvalidOperation ∷ []) w))) r
-  refused_by f r t true g m items w next_one e is = no_room f r t g m items w (nat_lt (depth w.scopes) p.host.limit) next_one e is
-  refused_by f r t false g m items w next_one e is = is_over refl is
-
-  refused_call : (f : Base) (r : Final) (t : List ℕ) (c : Config) (value : Bool) (vs : List Val) (ks : List OpenCapture) (m : ℕ) (op : Option LoopPlace) (items : List Val) (w : World) → nat_lt (depth w.scopes) p.host.limit ≡ false →
-      r ≡ final t (Failed (InvalidOperation ∷ []) w) → Leads p f t (recursion p c value vs ks m op items w) r
-  refused_call f r t c value vs ks m None items w e is = is_over refl is
-  refused_call f r t c value vs ks m (Some lp) items w e is = refused_by f r t lp.flags.recursive lp.flags m items w _ e is
 
   -- the loops of a stream stand in its code
   all_match : (id : StreamId) (m : ℕ) → Both (p.code id) (slice_get (loops_in 0 (trees id).row) m) (slice_get (loop_places 0 (p.code id)) m)
@@ -1535,34 +1564,33 @@ module _ (p : Program) (trees : Trees) (compiled : IsCompiled trees p) where
       let stands : HasAt (p.code id) 0 code = subst (λ c. HasAt c 0 code) (sym (compiled id)) (has_whole code) in
       match_at (p.code id) _ _ m (subst (λ c. Match (p.code id) (loops_in 0 row) (loop_places 0 c)) (sym (compiled id)) (statements_match (p.code id) k 0 0 row stands refl))
 
-  -- Loops that are called come behind their calls, over as many levels as there are.
-  again_runs : (f : Base) (r : Final) (n : ℕ) →
-      ((k : Callee) (heard : Bool) (b : Bed) (out : List ℕ) (w : World) → p.host.limit + 1 ≤ n + depth w.scopes → depth w.scopes ≤ p.host.limit → Entered p k heard b out w (nests_of p.host trees n k heard out w)) →
-      (id : StreamId) (level : ℕ) → CalledInPlace p f r n id level (again_of p.host (nests_of p.host trees n) (trees id) level) × CalledAsValue p f r n id level (again_of p.host (nests_of p.host trees n) (trees id) level)
-  again_runs f r n below id zero = (
-    λ m items run s pc stack old w0 w D L N d h g.
-        refused_call f r (told s) (cfg s pc old w0) false stack (captures_of s.bed s.out) m (place_of_loop p (cfg s pc old w0) m) items w (le-ltb _ _ (omega (arith, d.4))) (fault_then r s.bed (as_at run s) s.out w (InvalidOperation ∷ []) D L N h),
-    λ m items run s pc stack old w0 w K d h g.
-        refused_call f r (told s) (cfg s pc old w0) true stack (new_capture true ∷ captures_of s.bed s.out) m (place_of_loop p (cfg s pc old w0) m) items w (le-ltb _ _ (omega (arith, d.4))) h,
+  -- Loops that are called come behind their calls. Level zero isn't reached: each call opens a scope within the limit, and there is one level more than the limit.
+  again_runs : (f : Base) (end : Final) (n : ℕ) →
+      AllNested p trees n →
+      (id : StreamId) (level : ℕ) → CalledInPlace (in_program f end) n id level (again_of p.host (nests_of p.host trees n) (trees id) level) × CalledAsValue (in_program f end) n id level (again_of p.host (nests_of p.host trees n) (trees id) level)
+  again_runs f end n below id zero = (
+    λ m items run s pc stack old w0 w D L N d h g. absurd (omega (arith, d.0.calls, d.0.within_call)),
+    λ m items run s pc stack old w0 w K d h g. absurd (omega (arith, d.0.calls, d.0.within_call)),
   )
-  again_runs f r n below id (suc level) =
-      let lower = again_runs f r n below id level in
+  again_runs f end n below id (suc level) =
+      let context = in_program f end in
+      let lower = again_runs f end n below id level in
       let nests = nests_of p.host trees n in
       let inner = again_of p.host nests (trees id) level in
       let kept = again_end p.host nests (nests_end p.host trees n) (trees id) level in (
         λ m items run s pc stack old w0 w D L N d h g.
-            subst (λ q. Leads p f (told s) (recursion p (cfg s pc old w0) false stack (captures_of s.bed s.out) m (slice_get (loop_places 0 (p.code q)) m) items w) r) (sym d.3)
-            (recursed_in_place p f r trees n below id level inner kept lower.0 lower.1 (slice_get (loops_in 0 (trees id).row) m) (slice_get (loop_places 0 (p.code id)) m) (all_match id m) m items run s pc stack old w0 w D L N d h g),
+            subst (λ q. Comes context (told s) (recursion p (cfg s pc old w0) false stack (captures_of s.bed s.out) m (slice_get (loop_places 0 (p.code q)) m) items w)) (sym d.2)
+            (recursed_in_place context trees n below id level inner kept lower.0 lower.1 (slice_get (loops_in 0 (trees id).row) m) (slice_get (loop_places 0 (p.code id)) m) (all_match id m) m items run s pc stack old w0 w D L N d h g),
         λ m items run s pc stack old w0 w K d h g.
             let o = again_of p.host nests (trees id) (suc level) m items (capturing true run) [] w in
-            subst (λ q. Leads p f (told s) (recursion p (cfg s pc old w0) true stack (new_capture true ∷ captures_of s.bed s.out) m (slice_get (loop_places 0 (p.code q)) m) items w) r) (sym d.3)
-            (recursed_as_value p f r trees n below id level inner kept lower.0 lower.1 (slice_get (loops_in 0 (trees id).row) m) (slice_get (loop_places 0 (p.code id)) m) (all_match id m) m items run s pc stack old w0 w
-            (λ q out1 x. K (captured_text out1 x) x) d (text_ends p f r trees n below id level inner kept lower.0 lower.1 s o.ending o.parent o.text o.world K h) (λ q out1 x e. g (captured_text out1 x) x e)),
+            subst (λ q. Comes context (told s) (recursion p (cfg s pc old w0) true stack (new_capture true ∷ captures_of s.bed s.out) m (slice_get (loop_places 0 (p.code q)) m) items w)) (sym d.2)
+            (recursed_as_value context trees n below id level inner kept lower.0 lower.1 (slice_get (loops_in 0 (trees id).row) m) (slice_get (loop_places 0 (p.code id)) m) (all_match id m) m items run s pc stack old w0 w
+            (λ q out1 x. K (captured_text out1 x) x) d (text_ends context trees n below id level inner kept lower.0 lower.1 s o.ending o.parent o.text o.world K h) (λ q out1 x e. g (captured_text out1 x) x e)),
       )
 
   -- A stream's run comes to what its tree means, where what nests does so a level below.
-  stream_runs : (n : ℕ) (id : StreamId) (heard : Bool) (b : Bed) (out : List ℕ) (w : World) → p.host.limit + 1 ≤ suc n + depth w.scopes →
-      ((k : Callee) (heard : Bool) (b : Bed) (out : List ℕ) (w : World) → p.host.limit + 1 ≤ n + depth w.scopes → depth w.scopes ≤ p.host.limit → Entered p k heard b out w (nests_of p.host trees n k heard out w)) →
+  stream_runs : (n : ℕ) (id : StreamId) (heard : Bool) (b : Bed) (out : List ℕ) (w : World) → HasLevels p.host (suc n) w →
+      AllNested p trees n →
       Entered p (whole id) heard b out w (nests_of p.host trees (suc n) (whole id) heard out w)
   stream_runs n id heard b out w deep below =
       let nests = nests_of p.host trees n in
@@ -1570,8 +1598,7 @@ module _ (p : Program) (trees : Trees) (compiled : IsCompiled trees p) where
       let kept_again = again_end p.host nests (nests_end p.host trees n) (trees id) (p.host.limit + 1) in
       let u : Under = under p.host nests (trees id) in
       let o = execs u 0 (trees id).row (new_run heard w) out w in
-      let r = end_of b (at_end o.ending o) in
-      let f = base_of heard (captures_of b out) w in
+      let context = running heard b out w (end_of b (at_end o.ending o)) in
       let s = spot_of id b out in
       let row = (trees id).row in
       let stop = length (statements_code outside 0 row) in
@@ -1580,45 +1607,68 @@ module _ (p : Program) (trees : Trees) (compiled : IsCompiled trees p) where
       let stands : HasAt (p.code id) 0 code = subst (λ c. HasAt c 0 code) (sym (compiled id)) (has_whole code) in
       let size : length (p.code id) ≡ 0 + length code = ap length (compiled id) ∙ omega arith in
       let ends = end_then id heard b out w o.ending o.parent o.text o.world (ends_as w o (execs_end u (nests_end p.host trees n) kept_again 0 (trees id).row (new_run heard w) out w)) in
-      let placed = ends_map r b o _ (λ q x v. Go p f r (later s q x) (0 + length code) [] v) (Stops r b) (Stops r b) ends (λ q x v g. move p f r (later s q x) _ _ [] v (sym size) g) in
+      let placed = ends_map context b o _ (λ q x v. Go context (later s q x) (0 + length code) [] v) (Stops context b) (Stops context b) ends (λ q x v g. move context (later s q x) _ _ [] v (sym size) g) in
       let end_of_code : stop ≡ length (p.code id) = statements_long 0 0 stop stop 0 [] row ∙ sym (size ∙ omega arith) in
-      let stops : (q : Option TemplateId) (x : List ℕ) (v : World) (pc : ℕ) → Kept w v → HasAt (p.code id) pc (i.Jump stop ∷ []) → Stops r b q x v → Go p f r (later s q x) pc [] v =
+      let stops : (q : Option TemplateId) (x : List ℕ) (v : World) (pc : ℕ) → Kept w v → HasAt (p.code id) pc (i.Jump stop ∷ []) → Stops context b q x v → Go context (later s q x) pc [] v =
       λ q x v pc kept is l.
-      at p f r (i.Jump stop) (later s q x) pc [] v is.0 (after_then p f r (told_by b x) (tick v) _
-      (follows_map_kept r (told_by b x) v (tick v) _ _ (tick_gives v) l (λ _ v1 k1 e.
-      silent p f r (told_by b x) _ (move p f r (later s q x) _ _ [] v1 end_of_code (finishes id heard b out w q x v1 r (kept_then kept k1) e))))) in
-      let calls = again_runs f r n below id (p.host.limit + 1) in
-      stmts_run p f r trees n below id (p.host.limit + 1) again kept_again calls.0 calls.1 k 0 row (new_run heard w) s 0 [] w (Stops r b) (Stops r b) (stands_start id b out heard w)
-      (deep, omega arith, stands_start id b out heard w, refl, omega arith) (stops, stops) stands refl placed
+      at context (i.Jump stop) (later s q x) pc [] v is.0 (after_then context (told_by b x) (tick v) _
+      (follows_map_kept context (told_by b x) v (tick v) _ _ (tick_gives v) l (λ _ v1 k1 e.
+      silent context (told_by b x) _ (move context (later s q x) _ _ [] v1 end_of_code (finishes id heard b out w q x v1 context.final (kept_then kept k1) e))))) in
+      let calls = again_runs context.base context.final n below id (p.host.limit + 1) in
+      stmts_run context trees n below id (p.host.limit + 1) again kept_again calls.0 calls.1 k 0 row (new_run heard w) s 0 [] w (Stops context b) (Stops context b) (stands_start id b out heard w)
+      (record { nests = deep; scopes = omega arith; calls = omega arith; within_call = λ called. absurd (omega (arith, called)) }, stands_start id b out heard w, refl)
+      (stops, stops) stands refl placed
 
   -- What nests comes to what it means. Level zero isn't reached, since a run stands one level deeper than the one that needs it, within the limit.
-  pub nests_run : (n : ℕ) (k : Callee) (heard : Bool) (b : Bed) (out : List ℕ) (w : World) → p.host.limit + 1 ≤ n + depth w.scopes → depth w.scopes ≤ p.host.limit →
-      Entered p k heard b out w (nests_of p.host trees n k heard out w)
+  nests_run : (n : ℕ) → AllNested p trees n
   nests_run zero k heard b out w deep within = absurd (omega (arith, deep, within))
   nests_run (suc n) (whole id) heard b out w deep within = stream_runs n id heard b out w deep (nests_run n)
 
-  -- A render's run comes to what its trees mean, from any world, heard by the writer or by captures.
+  -- And so does any run that has levels enough, from any world, heard or not.
+  level_runs : (n : ℕ) (k : Callee) (heard : Bool) (b : Bed) (out : List ℕ) (w : World) → HasLevels p.host (suc n) w → Entered p k heard b out w (nests_of p.host trees (suc n) k heard out w)
+  level_runs n (whole id) heard b out w deep = stream_runs n id heard b out w deep (nests_run n)
+
+  -- A render's run comes to what its trees mean, heard by the writer or by captures.
   pub render_runs : (b : Bed) (w : World) → Entered p (whole w.stream) true b [] w (rendered p.host trees w)
   render_runs b w =
       let e : suc p.host.limit ≡ p.host.limit + 1 = omega arith in
-      let run : Entered p (whole w.stream) true b [] w (nests_of p.host trees (suc p.host.limit) (whole w.stream) true [] w) =
-      stream_runs p.host.limit w.stream true b [] w (omega arith) (nests_run p.host.limit) in
-      subst (λ n. Entered p (whole w.stream) true b [] w (nests_of p.host trees n (whole w.stream) true [] w)) e run
+      subst (λ n. Entered p (whole w.stream) true b [] w (nests_of p.host trees n (whole w.stream) true [] w)) e (level_runs p.host.limit (whole w.stream) true b [] w (omega arith))
+
+-- ---------------------------------------------------------------- over any captures
+unheard_end : (e : Ending) (out : List ℕ) (w : World) → bed_end e air out w ≡ final out (end_by e [] w)
+unheard_end done out w = refl
+unheard_end leave out w = refl
+unheard_end next out w = refl
+unheard_end (fault chain) out w = refl
+
+captured_end : (e : Ending) (h : Bool) (told : List ℕ) (ks : List OpenCapture) (out : List ℕ) (w : World) → bed_end e (inside h told ks) out w ≡ final told (end_by e (record { heard = h; text = out } ∷ ks) w)
+captured_end done h told ks out w = refl
+captured_end leave h told ks out w = refl
+captured_end next h told ks out w = refl
+captured_end (fault chain) h told ks out w = refl
+
+pub nested_comes_to_meaning : (trees : Trees) (p : Program) (n : ℕ) (k : Callee) (heard : Bool) (captures : List OpenCapture) (told : List ℕ) (w : World) → IsCompiled trees p → HasLevels p.host (suc n) w →
+    RunsTo p k heard captures told w (final_in captures told (nests_of p.host trees (suc n) k heard (text_in captures told) w))
+nested_comes_to_meaning trees p n k heard [] told w compiled enough =
+    let o = nests_of p.host trees (suc n) k heard told w in
+    subst (λ e. RunsTo p k heard [] told w e) (unheard_end o.ending o.text o.world) (level_runs p trees compiled n k heard air told w enough)
+nested_comes_to_meaning trees p n k heard (c ∷ ks) told w compiled enough =
+    let o = nests_of p.host trees (suc n) k heard c.text w in
+    subst (λ e. RunsTo p k heard (c ∷ ks) told w e) (captured_end o.ending c.heard told ks o.text o.world) (level_runs p trees compiled n k heard (inside c.heard told ks) c.text w enough)
 
 -- ---------------------------------------------------------------- renders
-heard_out : (o : Outcome) → end_of air o ≡ final_of o
-heard_out o = elim o.ending as (λ e. end_by e air o.text o.world ≡ final_by e o.text o.world) [ done ↦ refl | leave ↦ refl | next ↦ refl | fault chain ↦ refl ]
-
 pub comes_to_meaning : (trees : Trees) (p : Program) (w : World) → IsCompiled trees p → Renders p w (final_of (rendered p.host trees w))
-comes_to_meaning trees p w compiled = subst (λ o. Renders p w o) (heard_out (rendered p.host trees w)) (render_runs p trees compiled air w)
+comes_to_meaning trees p w compiled =
+    let o = rendered p.host trees w in
+    subst (λ e. Renders p w e) (unheard_end o.ending o.text o.world) (render_runs p trees compiled air w)
 
-not_stuck_by : (e : Ending) (t got : List ℕ) (w left : World) → final_by e t w ≡ final got (Stuck left) → ⊥
-not_stuck_by done t got w left e = let ends : Finished [] w ≡ Stuck left = ap (λ (o : Final). o.end) e in absurd (cc)
-not_stuck_by leave t got w left e = let ends : Finished [] w ≡ Stuck left = ap (λ (o : Final). o.end) e in absurd (cc)
-not_stuck_by next t got w left e = let ends : Finished [] w ≡ Stuck left = ap (λ (o : Final). o.end) e in absurd (cc)
-not_stuck_by (fault chain) t got w left e = let ends : Failed chain w ≡ Stuck left = ap (λ (o : Final). o.end) e in absurd (cc)
+not_stuck_by : (e : Ending) (w left : World) → end_by e [] w ≡ Stuck left → ⊥
+not_stuck_by done w left e = cc
+not_stuck_by leave w left e = cc
+not_stuck_by next w left e = cc
+not_stuck_by (fault chain) w left e = cc
 
 pub never_stuck : (trees : Trees) (p : Program) (w left : World) (got : List ℕ) → IsCompiled trees p → Renders p w (final got (Stuck left)) → ⊥
 never_stuck trees p w left got compiled reached =
     let o = rendered p.host trees w in
-    not_stuck_by o.ending o.text got o.world left (one_end (comes_to_meaning trees p w compiled) reached)
+    not_stuck_by o.ending o.world left (ap (λ (f : Final). f.end) (one_end (comes_to_meaning trees p w compiled) reached))

@@ -1,20 +1,30 @@
 //! Proofs: the code of trees comes to what the trees mean. The functions here are laws: they run nothing, and their contracts say what is proved.
 #![tactic(auto)]
 
-ghost use Rattle.std.specs.Prelude.{ℕ, List};
+ghost use Rattle.std.specs.Prelude.{ℕ, suc, List, Bool};
 ghost use Rattle.tm_meaning.specs.World.{Host, World};
+ghost use Rattle.tm_meaning.specs.Calls.{Callee};
 ghost use Rattle.tm_meaning.specs.Tree.{Trees};
-ghost use Rattle.tm_meaning.specs.Meaning.{rendered};
-ghost use Rattle.tm_meaning.specs.Machine.{Program, Stuck};
+ghost use Rattle.tm_meaning.specs.Meaning.{nests_of, rendered};
+ghost use Rattle.tm_meaning.specs.Machine.{Program, Capture, Stuck};
 ghost use Rattle.tm_meaning.specs.Steps.{final};
 ghost use Rattle.tm_meaning.specs.Compiled.{IsCompiled};
-ghost use Rattle.tm_simulation.specs.Kept.{Keeps};
-ghost use Rattle.tm_simulation.specs.Reached.{final_of, Renders};
+ghost use Rattle.tm_simulation.specs.Kept.{Stays, Grows};
+ghost use Rattle.tm_simulation.specs.Reached.{RunsTo, Renders, text_in, final_in, final_of, HasLevels};
 
 /// The code of trees, from any world, comes to what the trees mean: its text, its world, and its end.
 pub fn code_comes_to_its_meaning()
     ensures { (trees : Trees) (p : Program) (w : World) → IsCompiled trees p →
         Renders p w (final_of (rendered p.host trees w)) }
+{}
+
+/// So does the code of a stream in any run of its own: heard or not, from any world, over any open captures and whatever the writer has got, where the levels are enough. Of the captures the innermost one's text alone changes.
+pub fn nested_code_comes_to_its_meaning()
+    ensures { (trees : Trees) (p : Program) (n : ℕ) (k : Callee) (heard : Bool)
+        (captures : List Capture) (told : List ℕ) (w : World) →
+        IsCompiled trees p → HasLevels p.host (suc n) w →
+        let meant = nests_of p.host trees (suc n) k heard (text_in captures told) w in
+        RunsTo p k heard captures told w (final_in captures told meant) }
 {}
 
 /// The code of trees is never stuck.
@@ -23,7 +33,12 @@ pub fn code_is_never_stuck()
         Renders p w (final got (Stuck left)) → ⊥ }
 {}
 
-/// A render that is no fault leaves the state's number, the fuel that was set, and scopes as deep.
+/// A render keeps its state: it is the same one, no fuel comes back, and where the render is no fault the scopes lie as deep.
 pub fn a_render_keeps_its_state()
-    ensures { (host : Host) (trees : Trees) (w : World) → Keeps w (rendered host trees w) }
+    ensures { (host : Host) (trees : Trees) (w : World) → Stays w (rendered host trees w) }
+{}
+
+/// A render loses nothing: no record, also where it ends in a fault; and where it doesn't, the stream, the block, the escape and the blocks are as they were.
+pub fn a_render_loses_nothing()
+    ensures { (host : Host) (trees : Trees) (w : World) → Grows w (rendered host trees w) }
 {}
