@@ -5,6 +5,8 @@
 #[cfg(test)]
 mod code;
 #[cfg(test)]
+mod errors;
+#[cfg(test)]
 mod flags;
 #[cfg(test)]
 mod output;

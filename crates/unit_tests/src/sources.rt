@@ -398,5 +398,6 @@ fn nestings_are_counted(rt: HostRuntime) -> Result<(), Fail> {
     check_joined(&rt, rt.alloc(), &NESTINGS, 150, true)?;
     check_joined(&rt, rt.alloc(), &NESTINGS, 151, false)?;
     check_joined(&rt, rt.alloc(), &LONG, 100000, true)?;
+    check_joined(&rt, rt.alloc(), &["{{ a|0*+ b|}}"], 1_000_000, true)?;
     Ok(())
 }

@@ -1,50 +1,8 @@
-//! Errors, and sizes.
+//! Sizes of values, and values that no template makes.
 use std::alloc::Global;
+use std::rc::RcStr;
 use std::test::Fail;
-use tm_values::{Error, ErrorKind, NoRecords, Records, Value, find_loop, find_namespace};
-
-fn is_bad_include(error: &Error) -> bool {
-    error.kind() == ErrorKind::BadInclude && error.detail() == Some("in \"page\"")
-}
-
-fn is_caused_by(error: &Error, kind: ErrorKind) -> bool {
-    match error.cause() {
-        Some(cause) => cause.kind() == kind && cause.detail().is_none(),
-        None => false,
-    }
-}
-
-fn bad_include(alloc: Global) -> Error {
-    Error::new(alloc, ErrorKind::BadInclude, "in \"page\"")
-}
-
-// Whether the later of two causes is the cause.
-fn takes_a_cause(alloc: Global, error: Error) -> Result<bool, Error> {
-    let error = error.with_source(alloc, Error::from(ErrorKind::UnknownTest))?;
-    let error = error.with_source(alloc, Error::from(ErrorKind::OutOfFuel))?;
-    Ok(
-        is_bad_include(&error)
-            && is_caused_by(&error, ErrorKind::OutOfFuel)
-            && prints(alloc, &error, "BadInclude")?,
-    )
-}
-
-fn prints(alloc: Global, error: &Error, wanted: &str) -> Result<bool, Error> {
-    let text = format!(in alloc; "{error}")?;
-    Ok(text.as_str() == wanted)
-}
-
-fn is_bare(error: &Error) -> bool {
-    is_bad_include(error) && error.cause().is_none()
-}
-
-#[test]
-fn errors_have_a_kind_a_detail_and_a_cause(rt: HostRuntime) -> Result<(), Fail> {
-    let alloc = rt.alloc();
-    assert!(rt; is_bare(&bad_include(alloc)));
-    assert!(rt; takes_a_cause(alloc, bad_include(alloc))?);
-    Ok(())
-}
+use tm_values::{Error, Macro, NoRecords, Records, Value, ValueMap, find_loop, find_namespace};
 
 fn has_no_records() -> bool {
     NoRecords.namespace_count() == 0
@@ -57,4 +15,29 @@ fn sizes_and_records(rt: HostRuntime) {
     assert!(rt; size_of::<Value>() <= 32);
     assert!(rt; size_of::<Result<Value, Error>>() <= 48);
     assert!(rt; has_no_records());
+}
+
+// Whether there is memory for a module, and it has what it exports.
+fn makes_a_module(alloc: Global) -> Result<bool, Error> {
+    let mut exports = ValueMap::new(alloc);
+    exports.insert(Value::text(alloc, "a")?, Value::number(1))?;
+    let module = Value::module(alloc, exports, RcStr::from_str(alloc, "x")?)?;
+    Ok(module.member("a") == Some(&Value::number(1)))
+}
+
+// Whether there is memory for a macro, which equals itself and none doesn't.
+fn makes_a_macro(alloc: Global) -> Result<bool, Error> {
+    let name = RcStr::from_str(alloc, "m")?;
+    let declared = Value::declared(
+        alloc,
+        Macro::new(name, Vec::new(alloc), false, 1, 2, 3, None),
+    )?;
+    Ok(declared == declared.share()? && declared != Value::none())
+}
+
+#[test]
+fn modules_and_macros_are_made(rt: HostRuntime) -> Result<(), Fail> {
+    assert!(rt; makes_a_module(rt.alloc())?);
+    assert!(rt; makes_a_macro(rt.alloc())?);
+    Ok(())
 }
