@@ -75,7 +75,7 @@ pub record Scopes : Type 0 where
   pub frames : List Scope
   pub outer : ℕ
 
--- A loop's record: its items, how often the next one was asked for, once more than there are at most, its depth, its number in its stream in source order, and the arguments of `changed`.
+-- A loop's record: its items, how often the next one was asked for, once more than there are at most, its depth, its number in its stream in source order, whether it can be called, its stream, and the arguments of `changed`.
 pub record Loop : Type 0 where
   pub items : List Val
   pub turns : ℕ

@@ -10,7 +10,7 @@ use tm_primitives::whole;
 use tm_values::{Error, ErrorKind, Node, Value, share_all};
 
 /// The sum of two numbers, truth values counted as 0 and 1; or two texts or two lists, one after
-/// another, not safe. InvalidOperation for other values and a sum out of range.
+/// another, not safe. InvalidOperation for other values and a sum out of range, or OutOfMemory.
 pub fn add(alloc: Global, left: &Value, right: &Value) -> Result<Value, Error>
     ensures { IsAnswer result (added left.now right.now) }
 {
@@ -24,7 +24,8 @@ pub fn add(alloc: Global, left: &Value, right: &Value) -> Result<Value, Error>
     }
 }
 
-/// The difference of two numbers; InvalidOperation for other values and a result out of range.
+/// The difference of two numbers; InvalidOperation for other values and a result out of range, or
+/// OutOfMemory.
 pub fn subtract(alloc: Global, left: &Value, right: &Value) -> Result<Value, Error>
     ensures { IsAnswer result (subtracted left.now right.now) }
 {
@@ -34,7 +35,8 @@ pub fn subtract(alloc: Global, left: &Value, right: &Value) -> Result<Value, Err
     }
 }
 
-/// The product of two numbers; InvalidOperation for other values and a result out of range.
+/// The product of two numbers; InvalidOperation for other values and a result out of range, or
+/// OutOfMemory.
 pub fn multiply(alloc: Global, left: &Value, right: &Value) -> Result<Value, Error>
     ensures { IsAnswer result (multiplied left.now right.now) }
 {
@@ -45,7 +47,7 @@ pub fn multiply(alloc: Global, left: &Value, right: &Value) -> Result<Value, Err
 }
 
 /// The quotient `//` of two numbers, whose remainder is not negative; InvalidOperation for other
-/// values, a zero divisor and a result out of range.
+/// values, a zero divisor and a result out of range, or OutOfMemory.
 pub fn floor_divide(alloc: Global, left: &Value, right: &Value) -> Result<Value, Error>
     ensures { IsAnswer result (floor_divided left.now right.now) }
 {
@@ -56,7 +58,7 @@ pub fn floor_divide(alloc: Global, left: &Value, right: &Value) -> Result<Value,
 }
 
 /// The remainder `%` of two numbers, which is not negative; InvalidOperation for other values and a
-/// zero divisor.
+/// zero divisor, or OutOfMemory.
 pub fn remainder(alloc: Global, left: &Value, right: &Value) -> Result<Value, Error>
     ensures { IsAnswer result (remaining left.now right.now) }
 {
@@ -67,7 +69,7 @@ pub fn remainder(alloc: Global, left: &Value, right: &Value) -> Result<Value, Er
 }
 
 /// A number raised to another; InvalidOperation for other values, a negative exponent and a result
-/// out of range.
+/// out of range, or OutOfMemory.
 pub fn power(alloc: Global, left: &Value, right: &Value) -> Result<Value, Error>
     ensures { IsAnswer result (raised left.now right.now) }
 {
@@ -77,7 +79,8 @@ pub fn power(alloc: Global, left: &Value, right: &Value) -> Result<Value, Error>
     }
 }
 
-/// The number with the other sign; InvalidOperation for other values and the least number.
+/// The number with the other sign; InvalidOperation for other values and the least number, or
+/// OutOfMemory.
 pub fn negate(alloc: Global, value: &Value) -> Result<Value, Error>
     ensures { IsAnswer result (negated value.now) }
 {
@@ -87,7 +90,7 @@ pub fn negate(alloc: Global, value: &Value) -> Result<Value, Error>
     }
 }
 
-/// `/` has no answer, since there are no fractions: always InvalidOperation.
+/// `/` has no answer, since there are no fractions: InvalidOperation, or OutOfMemory.
 pub fn divide(alloc: Global, _left: &Value, _right: &Value) -> Result<Value, Error>
     ensures { IsAnswer result (divided _left.now _right.now) }
 {

@@ -12,7 +12,7 @@ use tm_values::{
 /// Whether `item in container`: an item of a list, a key of a map, keyword map, module or
 /// namespace, a text inside a text. UndefinedError where a side is undefined and the behaviour
 /// refuses that, the right side asked first; nothing is in an undefined container.
-/// InvalidOperation for other pairs, and for a namespace whose record isn't there.
+/// InvalidOperation for other pairs, and for a namespace whose record isn't there, or OutOfMemory.
 pub fn contains<R: Records>(
     alloc: Global,
     container: &Value,

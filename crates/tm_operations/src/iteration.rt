@@ -18,7 +18,7 @@ use tm_values::{
 /// safe; the keys of a map, keyword map, module or namespace, in their order; the names of a loop's
 /// or a macro's attributes; nothing of undefined. UndefinedError where the value is undefined and
 /// the behaviour refuses that; InvalidOperation for other values, and for a namespace whose record
-/// isn't there.
+/// isn't there, or OutOfMemory.
 pub fn iterate<R: Records>(
     alloc: Global,
     value: &Value,
@@ -36,7 +36,7 @@ pub fn iterate<R: Records>(
 
 /// What unpacks into `count` targets: the items that `for` goes over, but no text's and none of
 /// undefined. CannotUnpack for other values, and where the items aren't exactly so many;
-/// InvalidOperation for a namespace whose record isn't there.
+/// InvalidOperation for a namespace whose record isn't there, or OutOfMemory.
 pub fn unpack<R: Records>(
     alloc: Global,
     value: &Value,

@@ -11,7 +11,7 @@ use tm_values::{Error, ErrorKind, Node, Records, Value, ValueMap, find_namespace
 /// The map that `dict` gives: that of the plain argument, with the keywords put into it. A keyword
 /// map is keywords where it stands last. Undefined, none and no plain argument are the empty map,
 /// a module and a namespace their own. InvalidOperation for a plain argument of another kind and a
-/// namespace whose record isn't there; TooManyArguments for a second plain one.
+/// namespace whose record isn't there; TooManyArguments for a second plain one, or OutOfMemory.
 pub fn dict<R: Records>(alloc: Global, arguments: &[Value], records: &R) -> Result<ValueMap, Error>
     ensures { IsAnswer result (dict_of (R.records records.now) arguments.now) }
 {

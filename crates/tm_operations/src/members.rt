@@ -19,7 +19,7 @@ use tm_values::{
 /// The attribute `value.name`: of a map, keyword map, module or namespace the value at the text, of
 /// a loop or a macro what it tells of itself; undefined where there is none. UndefinedError where
 /// the value is undefined and the behaviour refuses that; InvalidOperation for a loop or a
-/// namespace whose record isn't there.
+/// namespace whose record isn't there, or OutOfMemory.
 pub fn attribute<R: Records>(
     alloc: Global,
     value: &Value,
@@ -74,7 +74,7 @@ pub fn item<R: Records>(
 }
 
 /// The number of the namespace whose attributes may be set: InvalidOperation for every value but a
-/// namespace of this state.
+/// namespace of this state, or OutOfMemory.
 pub fn check_settable<R: Records>(alloc: Global, value: &Value, records: &R) -> Result<usize, Error>
     ensures { IsAnswer result (settable (R.records records.now) value.now) }
 {

@@ -15,7 +15,8 @@ const MOST: u64 = 100_000;
 /// second one, by steps of the third one, 1 where it is absent; where the second one is absent,
 /// from 0 to the first one. An argument is a whole number of 64 bits; a second or third one that
 /// is none or undefined is absent. MissingArgument without arguments; InvalidOperation for other
-/// values, a step 0 and more than 100000 numbers; TooManyArguments for a fourth argument.
+/// values, a step 0 and more than 100000 numbers; TooManyArguments for a fourth argument, or
+/// OutOfMemory.
 pub fn range(alloc: Global, arguments: &[Value]) -> Result<Value, Error>
     ensures { IsAnswer result (range_of arguments.now) }
 {

@@ -13,7 +13,8 @@ use tm_values::{Error, ErrorKind, Node, UndefinedBehavior, UndefinedUse, Value, 
 /// The slice `value[start:stop:step]`: of a list its items, of a text its characters, which aren't
 /// safe, and of undefined and none the empty list. Parts are whole numbers, or none where they are
 /// missing; negative bounds count from the end. UndefinedError where the value is undefined and the
-/// behaviour refuses that; InvalidOperation for other parts, a step 0 and other values.
+/// behaviour refuses that; InvalidOperation for other parts, a step 0 and other values, or
+/// OutOfMemory.
 pub fn slice(
     alloc: Global,
     value: &Value,

@@ -9,7 +9,7 @@ use tm_output::{Target, TargetFailed};
 use tm_values::{Node, Records, Value, find_namespace};
 
 /// Writes the value as `serde_json`'s compact text. Ask `check_json` first: what it refuses has no
-/// JSON.
+/// JSON. TargetFailed where the target fails.
 pub fn write_json<R: Records, T: Target>(
     value: &Value,
     records: &R,

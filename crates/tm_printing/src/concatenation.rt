@@ -11,7 +11,8 @@ use std::rc::RcStr;
 use tm_values::{Error, ErrorKind, Records, UndefinedBehavior, UndefinedUse, Value, check_defined};
 
 /// `left ~ right`: the two printed texts, one after the other, not safe. UndefinedError where a
-/// side is undefined and the behaviour refuses that; InvalidOperation where one can't be printed.
+/// side is undefined and the behaviour refuses that; InvalidOperation where one can't be printed,
+/// or OutOfMemory.
 pub fn concatenate<R: Records>(
     alloc: Global,
     left: &Value,

@@ -34,7 +34,7 @@ pub fn check_emission<R: Records>(
 
 /// Writes what is emitted for the value under the escape: a safe text as it is, and else what is
 /// printed, what is printed escaped for HTML, or JSON. Ask `check_emission` first: what is written
-/// of a value that it refuses stands for nothing.
+/// of a value that it refuses stands for nothing. TargetFailed where the target fails.
 pub fn emit<R: Records, T: Target>(
     value: &Value,
     escape: AutoEscape,

@@ -12,7 +12,7 @@ use tm_output::{Target, TargetFailed};
 use tm_values::{LoopPosition, Macro, Node, Records, Value, find_loop, find_namespace};
 
 /// Writes what the value is printed as. Ask `check_print` first: what it refuses has no text of its
-/// own.
+/// own. TargetFailed where the target fails.
 pub fn print<R: Records, T: Target>(
     value: &Value,
     records: &R,
@@ -25,6 +25,7 @@ pub fn print<R: Records, T: Target>(
 }
 
 /// Writes what the value is printed as, escaped for HTML as a whole. Ask `check_print` first.
+/// TargetFailed where the target fails.
 pub fn write_html<R: Records, T: Target>(
     value: &Value,
     records: &R,

@@ -76,7 +76,7 @@ impl Name {
         self.text.as_str()
     }
 
-    /// The text, shared.
+    /// The text, shared; AllocError where the owners can't be counted.
     pub fn text(&self) -> Result<RcStr, AllocError>
         ensures { IfOk result (λ text. rc_str_bytes text ≡ self.now) }
     {

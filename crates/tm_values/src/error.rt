@@ -141,6 +141,7 @@ impl From<AllocError> for Error {
 
     ghost from_gives = { λ _ e. e ≡ OutOfMemory ∷ [] };
 
+    /// OutOfMemory, without detail and cause.
     fn from(_error: AllocError) -> Error {
         Error::from(ErrorKind::OutOfMemory)
     }
@@ -152,6 +153,7 @@ impl<T: Drop> From<AllocFailed<T>> for Error {
 
     ghost from_gives = { λ _ e. e ≡ OutOfMemory ∷ [] };
 
+    /// OutOfMemory, without detail and cause; what was not stored is dropped.
     fn from(_error: AllocFailed<T>) -> Error {
         Error::from(ErrorKind::OutOfMemory)
     }
