@@ -32,14 +32,14 @@ use Rattle.tm_syntax.specs.Code.{expr_code, condition_code, conditions_code, exp
 use Rattle.tm_syntax.specs.declared.opened.Opened.{Opened}
 use Rattle.tm_syntax.specs.declared.opened.Opened.TheVariants.{Scope as a_scope, Escape as an_escape, Capture as a_capture}
 use Rattle.tm_syntax.proofs.Long.{statements_long}
-use Rattle.tm_meaning.specs.World.{choose, World, Scope, Loop, loop_scope, new_loop, open_loop, turned, next_turn, cleared, top_mark, top_loop, items_over, Res, Good, Bad, bind, tick, depth, push, pop, plain as plain_scope, items_of, set_member, answered, emitted, looked_up, escape_for, with_escape, captured_text}
+use Rattle.tm_meaning.specs.World.{Host, choose, World, Scope, Loop, loop_scope, new_loop, open_loop, turned, next_turn, cleared, top_mark, top_loop, items_over, Res, Good, Bad, bind, tick, depth, push, pop, plain as plain_scope, items_of, set_member, answered, emitted, looked_up, escape_for, with_escape, captured_text}
 use Rattle.tm_meaning.specs.Calls.{Callee, whole, Asked, has, refused, runs, recurs, enter_block, call_named, call_first, call_method, call_innermost}
 use Rattle.tm_meaning.specs.Tree.{Trees}
 use Rattle.tm_meaning.specs.Meaning.{Again, ended, over, under, again_in, again_of, text_behind, Run, Outcome, Ending, done, leave, next, fault, Under, so_far, say, use_it, value_of, in_place_of, block_tag, truth, applied_unary, operated, applied, attribute, item_at, slice_of, list_of_values, map_of_pairs, audible as heard_here, none_waits, eval, eval_all, eval_pair, eval_pairs, eval_argument, eval_arguments, eval_keyword, eval_keywords, eval_named, keyword_map, one_counted, kept, loop_items, eval_condition, eval_conditions, eval_step, eval_links, eval_steps, assign, assign_all, set_to, set_each, capturing, rounds, loop_over, has_none, exec_behind_loop, done_by, emit, behind_first, exec, execs, exec_else, new_run, at_end, nests_of, rendered}
 use Rattle.tm_meaning.specs.Machine.{Return, new_capture, recursion, place_of_loop, Capture as OpenCapture, Config, Finished, Failed, Stuck, More, Over, Program, after, goes, taken, on_taken, asked, asked_in_place, base_of, run_from, stuck, with_world}
 use Rattle.tm_meaning.specs.Instructions.{returned, returns, binary_of, paired, end_capture_of, replacing, is_no_loop, on_loop, iterate_of, iterate_with, push_did_not_iterate_of, pop_loop_with, looping}
 use Rattle.tm_meaning.specs.Steps.{act, finish, Final, final, over as is_over}
-use Rattle.tm_meaning.specs.Compiled.{IsCompiled}
+use Rattle.tm_meaning.specs.Compiled.{IsCompiled, code_of}
 use Rattle.tm_meaning.proofs.Ends.{one_end}
 use Rattle.tm_simulation.specs.Kept.{shapes}
 use Rattle.tm_simulation.specs.Reached.{RunsTo, Renders, text_in, end_by, final_in, final_of, HasLevels}
@@ -192,6 +192,10 @@ record Levels (context : Context) (n level : ℕ) (w : World) : Type 0 where
   scopes : context.base.scopes ≤ length w.scopes.frames
   calls : HasLevels context.program.host level w
   within_call : level ≤ context.program.host.limit → depth w.scopes ≤ context.program.host.limit
+
+-- Nothing stands where no level is left.
+none_left : (context : Context) (n : ℕ) (w : World) → Levels context n zero w → ⊥
+none_left context n w l = omega (arith, l.calls, l.within_call)
 
 -- So many levels are left, and the text goes where the meaning's does, in code of this stream.
 abbrev DeepIn : Context → ℕ → StreamId → ℕ → Run → Spot → World → Type 0
@@ -1569,8 +1573,8 @@ module _ (p : Program) (trees : Trees) (compiled : IsCompiled trees p) where
       AllNested p trees n →
       (id : StreamId) (level : ℕ) → CalledInPlace (in_program f end) n id level (again_of p.host (nests_of p.host trees n) (trees id) level) × CalledAsValue (in_program f end) n id level (again_of p.host (nests_of p.host trees n) (trees id) level)
   again_runs f end n below id zero = (
-    λ m items run s pc stack old w0 w D L N d h g. absurd (omega (arith, d.0.calls, d.0.within_call)),
-    λ m items run s pc stack old w0 w K d h g. absurd (omega (arith, d.0.calls, d.0.within_call)),
+    λ m items run s pc stack old w0 w D L N d h g. absurd (none_left (in_program f end) n w d.0),
+    λ m items run s pc stack old w0 w K d h g. absurd (none_left (in_program f end) n w d.0),
   )
   again_runs f end n below id (suc level) =
       let context = in_program f end in
@@ -1655,6 +1659,14 @@ nested_comes_to_meaning trees p n k heard [] told w compiled enough =
 nested_comes_to_meaning trees p n k heard (c ∷ ks) told w compiled enough =
     let o = nests_of p.host trees (suc n) k heard c.text w in
     subst (λ e. RunsTo p k heard (c ∷ ks) told w e) (captured_end o.ending c.heard told ks o.text o.world) (level_runs p trees compiled n k heard (inside c.heard told ks) c.text w enough)
+
+-- Code comes to one end, whatever the levels.
+pub same_with_levels : (host : Host) (trees : Trees) (n m : ℕ) (k : Callee) (heard : Bool) (out : List ℕ) (w : World) → HasLevels host (suc n) w → HasLevels host (suc m) w →
+    final_of (nests_of host trees (suc n) k heard out w) ≡ final_of (nests_of host trees (suc m) k heard out w)
+same_with_levels host trees n m k heard out w enough also =
+    let p : Program = record { host = host; code = λ s. code_of (trees s) } in
+    let compiled : IsCompiled trees p = λ s. refl in
+    one_end (nested_comes_to_meaning trees p n k heard [] out w compiled enough) (nested_comes_to_meaning trees p m k heard [] out w compiled also)
 
 -- ---------------------------------------------------------------- renders
 pub comes_to_meaning : (trees : Trees) (p : Program) (w : World) → IsCompiled trees p → Renders p w (final_of (rendered p.host trees w))

@@ -1,7 +1,7 @@
 //! Proofs: the code of trees comes to what the trees mean. The functions here are laws: they run nothing, and their contracts say what is proved.
 #![tactic(auto)]
 
-ghost use Rattle.std.specs.Prelude.{ℕ, suc, List, Bool};
+ghost use Rattle.std.specs.Prelude.{◌≡◌, ℕ, suc, List, Bool};
 ghost use Rattle.tm_meaning.specs.World.{Host, World};
 ghost use Rattle.tm_meaning.specs.Calls.{Callee};
 ghost use Rattle.tm_meaning.specs.Tree.{Trees};
@@ -10,7 +10,8 @@ ghost use Rattle.tm_meaning.specs.Machine.{Program, Capture, Stuck};
 ghost use Rattle.tm_meaning.specs.Steps.{final};
 ghost use Rattle.tm_meaning.specs.Compiled.{IsCompiled};
 ghost use Rattle.tm_simulation.specs.Kept.{Stays, Grows};
-ghost use Rattle.tm_simulation.specs.Reached.{RunsTo, Renders, text_in, final_in, final_of, HasLevels};
+ghost use Rattle.tm_simulation.specs.Reached.{RunsTo, Renders, HasLevels};
+ghost use Rattle.tm_simulation.specs.Reached.{text_in, final_in, final_of};
 
 /// The code of trees, from any world, comes to what the trees mean: its text, its world, and its end.
 pub fn code_comes_to_its_meaning()
@@ -25,6 +26,14 @@ pub fn nested_code_comes_to_its_meaning()
         IsCompiled trees p → HasLevels p.host (suc n) w →
         let meant = nests_of p.host trees (suc n) k heard (text_in captures told) w in
         RunsTo p k heard captures told w (final_in captures told meant) }
+{}
+
+/// What a run means is the same with any levels that are enough.
+pub fn levels_change_no_meaning()
+    ensures { (host : Host) (trees : Trees) (n m : ℕ) (k : Callee) (heard : Bool) (out : List ℕ)
+        (w : World) → HasLevels host (suc n) w → HasLevels host (suc m) w →
+        final_of (nests_of host trees (suc n) k heard out w) ≡
+        final_of (nests_of host trees (suc m) k heard out w) }
 {}
 
 /// The code of trees is never stuck.
