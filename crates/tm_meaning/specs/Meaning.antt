@@ -469,7 +469,7 @@ abbrev pub again_in : Under → Option FoundLoop → Again
 again_in u None n items run out w = failed InvalidOperation run out w
 again_in u (Some l) n items run out w = choose l.recursive (λ _. loop_over u.host n true (turn_of u l) items run out w) (λ _. failed InvalidOperation run out w)
 
--- the loops of a stream, over as many levels: level zero isn't reached, since each call opens a scope
+-- the loops of a stream, over as many levels: level zero isn't reached, since each call opens a scope within the limit, and there is one level more than the limit
 abbrev pub again_of : Host → Nests → Body → ℕ → Again
 again_of host nests body zero n items run out w = failed InvalidOperation run out w
 again_of host nests body (suc k) n items run out w =
@@ -478,7 +478,7 @@ again_of host nests body (suc k) n items run out w =
 abbrev pub under : Host → Nests → Body → Under
 under host nests body = over host nests (again_of host nests body (host.limit + 1))
 
--- what nests, over as many levels of depth: level zero isn't reached, since each stands at least one deeper
+-- what nests, over as many levels of depth: level zero isn't reached, since each run that nests stands at least one deeper, and within the limit
 abbrev pub nests_of : Host → Trees → ℕ → Nests
 nests_of host trees zero callee heard out w = failed InvalidOperation (new_run heard w) out w
 nests_of host trees (suc n) (whole s) heard out w =
