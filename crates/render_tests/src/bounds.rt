@@ -8,7 +8,7 @@ use std::test::Fail;
 /// Bounds of fuel, scopes and writers. No fuel is set behind them.
 pub(crate) const BOUNDS: &str = r#"Bounds of fuel, scopes and writers.
 - @fuel 5
-- Hello {{ w }}! => Hello World! => 4
+- Hello {{ w }}! => Hello World! => 4 => fuel 1
 - {{ w }}{{ t }} => Worldtrue => 4
 - @fuel 4
 - {{ w }}{{ t }} => World => OutOfFuel
@@ -19,9 +19,12 @@ pub(crate) const BOUNDS: &str = r#"Bounds of fuel, scopes and writers.
 - @fuel 0
 -  =>  => 0
 - @fuel 9
-- @width none
+- @room 0
 -  =>  => 0
 - Hello! =>  => WriteFailure
+- @room 3
+- Hello! => Hel => WriteFailure
+- @room none
 - @width 0
 - Hello! =>  => WriteFailure
 - @width 3
@@ -78,12 +81,12 @@ static LONG: &[Long] = &[
     },
     Long {
         start: "{{ 1",
-        count: 99_999,
+        count: 999_999,
         before: " + 1",
         middle: " }}",
         behind: "",
         end: "",
-        text: "100000",
+        text: "1000000",
         times: 1,
     },
     Long {

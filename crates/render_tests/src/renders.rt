@@ -6,20 +6,22 @@ use std::io::{self, Write};
 use std::test::Fail;
 use template_machine::*;
 
-/// A writer that takes so many bytes at a time; where no number is given, it fails.
+/// A writer that takes so many bytes at a time, and fails where it has no room for more.
 #[derive(Drop)]
 struct Narrow {
     bytes: Vec<u8>,
-    width: Option<usize>,
+    width: usize,
+    room: usize,
 }
 
 impl Write for Narrow {
     fn write(&mut self, bytes: &[u8]) -> io::Result<usize> {
-        let Some(width) = self.width else {
+        if self.room == 0 {
             return Err(io::Error::from(io::ErrorKind::BrokenPipe));
-        };
-        let taken = bytes.len().min(width);
+        }
+        let taken = bytes.len().min(self.width).min(self.room);
         self.bytes.extend_from_slice(&bytes[..taken])?;
+        self.room -= taken;
         Ok(taken)
     }
 
@@ -33,8 +35,10 @@ impl Write for Narrow {
 pub(crate) struct Setup<'a> {
     /// The name of their templates.
     pub(crate) name: &'a str,
-    /// How many bytes their writer takes at a time; where no number is given, it fails.
-    pub(crate) width: Option<usize>,
+    /// How many bytes their writer takes at a time.
+    pub(crate) width: usize,
+    /// How many bytes it takes before it fails.
+    pub(crate) room: usize,
     /// Their context value.
     pub(crate) given: Given,
 }
@@ -53,7 +57,8 @@ pub(crate) enum Given {
 pub(crate) fn usual<'a>() -> Setup<'a> {
     Setup {
         name: "<string>",
-        width: Some(usize::MAX),
+        width: usize::MAX,
+        room: usize::MAX,
         given: Given::Names,
     }
 }
@@ -116,12 +121,21 @@ fn keeps_apart(state: &Left<'_>, name: &str) -> Result<bool, Error> {
     Ok(is_kept && state.lookup(name)?.is_none() && state.exports()?.is_empty())
 }
 
+/// The fuel that is left, where fuel was set.
+fn remains(state: &Left<'_>) -> Option<u64> {
+    match state.fuel_levels() {
+        Some((_, remaining)) => Some(remaining),
+        None => None,
+    }
+}
+
 /// Whether a state is left as a row asks.
 fn is_left(state: &Left<'_>, wanted: &str) -> bool {
     match wanted.split_once(' ') {
         Some(("known", names)) => lists(&state.known_variables(), names),
         Some(("exports", names)) => lists(&state.exports(), names),
         Some(("keeps", name)) => keeps_apart(state, name).unwrap_or(false),
+        Some(("fuel", fuel)) => remains(state) == fuel.parse().ok(),
         Some(("name", name)) => state.name() == name && state.auto_escape() == AutoEscape::None,
         Some(("first", name)) => match state.lookup(name) {
             Ok(found) => found == Some(Value::function(3)),
@@ -207,6 +221,7 @@ pub(crate) fn expect_row(
     let mut writer = Counted::new(Narrow {
         bytes: Vec::new(alloc),
         width: setup.width,
+        room: setup.room,
     });
     let given = made(alloc, setup.given)?;
     let end = ended(environment, setup, row.source, row.left, given, &mut writer);
@@ -214,7 +229,8 @@ pub(crate) fn expect_row(
     let written = writer.inner().bytes.as_slice();
     // What stands before a use that is refused under some behaviors alone is none of the row's.
     let is_written = written == row.text.as_bytes() || end.is_err() && row.end.contains(' ');
-    let failures = (row.end == "WriteFailure" && setup.width.unwrap_or(0) == 0) as u64;
+    let fails = setup.width == 0 || setup.room < usize::MAX;
+    let failures = (row.end == "WriteFailure" && fails) as u64;
     if is_ended && is_written && writer.failures() == failures {
         return Ok(());
     }

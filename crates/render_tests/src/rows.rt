@@ -55,6 +55,7 @@ pub(crate) const CALLS: &str = r#"Functions of the language and of the caller.
 - {{ nope() }} =>  => UnknownFunction
 - {{ keep() }}{{ read() }} => 21 => 4 => keeps k
 - a{{ nope(second()) }} => a => UnknownFunction
+- a{{ nope(missing()) }} => a => MissingArgument
 - a{{ w() }} => a => InvalidOperation
 - a{{ missing() }} => a => MissingArgument
 - a{{ failing() }} => a => WriteFailure

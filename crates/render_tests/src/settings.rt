@@ -1,6 +1,6 @@
 //! Tables of rows, with settings between them.
 
-use crate::party::{Rows, add_functions};
+use crate::party::{Party, Rows, add_functions};
 use crate::renders::{Given, Setup, are, expect_row, row_of, usual};
 use crate::{bounds, loops, rows, values};
 use std::alloc::Global;
@@ -88,6 +88,7 @@ fn add<'source>(
     let (name, source) = rest.split_once(' ').unwrap_or((rest, ""));
     match word {
         "global" => environment.add_global(name, Value::number(source.parse().unwrap_or(0))),
+        "second" => environment.add_function(rest, Party::Second),
         "template" => environment.add_template(name, source),
         "owned" => environment.add_template_owned(name, String::from_str(alloc, source)?),
         _ => Ok(environment.set_syntax(angles(alloc)?)),
@@ -102,7 +103,7 @@ fn change<'source>(
     rest: &'source str,
 ) -> Result<bool, Error> {
     match word {
-        "global" | "template" | "owned" | "angles" => {
+        "global" | "second" | "template" | "owned" | "angles" => {
             add(alloc, environment, word, rest)?;
             Ok(true)
         }
@@ -116,7 +117,8 @@ fn change<'source>(
 fn change_setup<'source>(setup: &mut Setup<'source>, word: &str, rest: &'source str) -> bool {
     match word {
         "name" => setup.name = rest,
-        "width" => setup.width = rest.parse().ok(),
+        "width" => setup.width = rest.parse().unwrap_or(usize::MAX),
+        "room" => setup.room = rest.parse().unwrap_or(usize::MAX),
         "names" => setup.given = Given::Names,
         "undefined-names" => setup.given = Given::Undefined,
         "lost-names" => setup.given = Given::Lost,
@@ -170,7 +172,7 @@ static TABLES: [&str; 20] = [
     SETTINGS,
 ];
 
-/// Renders all tables, and long rows before the settings change.
+/// Renders all tables. A setting holds until the next one, also in the tables behind its own.
 fn expect_tables(alloc: Global, environment: &mut Rows<'_>) -> Result<(), Fail> {
     add_functions(environment)?;
     for table in TABLES {
@@ -229,7 +231,9 @@ const SETTINGS: &str =
 - @remove nope
 - [{{ g }}] => [] => 4
 - {{ second(1, 2) }} =>  => UnknownFunction
-- {{ f(2) }} => 2 => 3
+- {{ f(1, 2, 3) }} => 3 => 5
+- @second f
+- {{ f(1, 2, 3) }} => 2 => 5
 - @globals dict f failing hungry keep missing namespace range read seen stuck title
 - {% set b = 1 %}{% set a = 1 %}{% set _b = 2 %} =>  => 6 => known _b a b dict f failing hungry keep missing namespace range read seen stuck title
 - @names

@@ -4,7 +4,7 @@ ghost use Rattle.tm_values.specs.Val.{boolean};
 ghost use Rattle.tm_meaning.specs.declared.reply.Reply.TheVariants.{Value as gives};
 ghost use Rattle.tm_tables.specs.Stated.{just};
 
-use crate::party::{Left, Page, Rows};
+use crate::party::{Left, Page, Party, Rows};
 use std::alloc::Global;
 use std::test::Fail;
 use template_machine::*;
@@ -49,12 +49,12 @@ fn is_unnamed(template: &Page<'_, '_>) -> Result<bool, Error> {
     Ok(template.name() == "<string>" && template.source() == "x" && text.as_str() == "x")
 }
 
-/// Whether `x` is rendered at once, under a name and without one.
+/// Whether a source that tells its name is rendered at once, under a name and without one.
 fn renders_at_once(environment: &Rows<'_>) -> Result<bool, Error> {
-    let mut ids = StateIds::new();
-    let named = environment.render_named_str(&mut ids, "named", "x", Value::undefined())?;
-    let unnamed = environment.render_str(&mut ids, "x", Value::undefined())?;
-    Ok(named.as_str() == "x" && unnamed.as_str() == "x")
+    let (mut ids, source) = (StateIds::new(), "{{ title() }}");
+    let named = environment.render_named_str(&mut ids, "named", source, Value::undefined())?;
+    let unnamed = environment.render_str(&mut ids, source, Value::undefined())?;
+    Ok(named.as_str() == "named" && unnamed.as_str() == "<string>")
 }
 
 fn renders_otherwise(environment: &Rows<'_>) -> Result<bool, Error> {
@@ -62,14 +62,15 @@ fn renders_otherwise(environment: &Rows<'_>) -> Result<bool, Error> {
     Ok(is_unnamed(&template)? && keeps_the_last(&template)?)
 }
 
-fn is_well(environment: &Rows<'_>) -> Result<bool, Error> {
+fn is_well(environment: &mut Rows<'_>) -> Result<bool, Error> {
+    environment.add_function("title", Party::Title)?;
     Ok(renders_at_once(environment)? && renders_otherwise(environment)?)
 }
 
 #[test]
 fn states_keep(rt: HostRuntime) -> Result<(), Fail> {
-    let environment = Rows::new(rt.alloc())?;
-    assert!(rt; is_well(&environment)?);
+    let mut environment = Rows::new(rt.alloc())?;
+    assert!(rt; is_well(&mut environment)?);
     Ok(())
 }
 
