@@ -92,7 +92,8 @@ impl<'source, O: Drop> EnvironmentOf<'source, O> {
 
     /// Compiles a source of its own and puts it at a name, as `add_template` does.
     pub fn add_template_owned(&mut self, name: &str, source: String) -> Result<(), Error>
-        ensures ok { OnOk result ((t : Compiled) × IsTemplateOf self.old name.now (string_bytes source) t
+        ensures ok { OnOk result ((t : Compiled)
+            × IsTemplateOf self.old name.now (string_bytes source) t
             × (self.new ≡ record self.old { templates = put name.now t self.old.templates })) }
         ensures refused { IfErr result (IsRefused self.old.syntax (string_bytes source)) }
         ensures err { OnErr result (self.new ≡ self.old) }
@@ -123,7 +124,8 @@ impl<'source, O: Drop> EnvironmentOf<'source, O> {
     pub fn get_template(&self, name: &str) -> Result<TemplateOf<'_, 'source, O>, Error>
         ensures { MatchResult result
             (λ t. (t.environment ≡ self.now) × (find name.now self.now.templates ≡ Some t.template))
-            (λ e. (e ≡ ErrorKind.TemplateNotFound ∷ []) × (find name.now self.now.templates ≡ None)) }
+            (λ e. (e ≡ ErrorKind.TemplateNotFound ∷ [])
+            × (find name.now self.now.templates ≡ None)) }
     {
         match self.templates.get(name) {
             Some(compiled) => Ok(TemplateOf::new(self, Held::Lent(compiled))),

@@ -30,7 +30,8 @@ impl StateIds {
     pub fn next(&mut self) -> Result<u64, Error>
         ensures { MatchResult result
             (λ id. (id ≡ self.old) × (id < 2 ^ 64 - 1) × (self.new ≡ self.old + 1))
-            (λ e. (e ≡ ErrorKind.InvalidOperation ∷ []) × (self.old ≡ 2 ^ 64 - 1) × (self.new ≡ self.old)) }
+            (λ e. (e ≡ ErrorKind.InvalidOperation ∷ []) × (self.old ≡ 2 ^ 64 - 1)
+            × (self.new ≡ self.old)) }
     {
         if self.next == u64::MAX {
             return Err(Error::from(ErrorKind::InvalidOperation));

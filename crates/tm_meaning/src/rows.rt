@@ -147,7 +147,8 @@ pub fn filter_rows()
 /// `{{ range(3) }}`, `{{ range(a=3) }}`, `{{ dict(m, a=2, b=3) }}` of a constant map and `{% set ns = namespace(n=0) %}{% for x in [1,2] %}{% set ns.n = ns.n + x %}{% endfor %}{{ ns.n }}`.
 pub fn function_rows()
     ensures range { Charges range_of_three
-        (codes "[" ++ decimal 0 ++ codes ", " ++ decimal 1 ++ codes ", " ++ decimal 2 ++ codes "]") 3 }
+        (codes "[" ++ decimal 0 ++ codes ", " ++ decimal 1
+        ++ codes ", " ++ decimal 2 ++ codes "]") 3 }
     ensures by_name { Fails range_by_name [] (InvalidOperation ∷ []) }
     ensures dict { Charges dict_by_names
         (codes "{\"a\": " ++ decimal 2 ++ codes ", \"b\": " ++ decimal 3 ++ codes "}") 8 }
@@ -175,7 +176,8 @@ pub fn call_rows()
     ensures kept { Charges keep_and_read (decimal 2 ++ decimal 1) 4 }
     ensures left { Leaves keep_and_read ((codes "k", number (pos 1)) ∷ []) }
     ensures no_name { Lacks keep_and_read (codes "k") }
-    ensures arguments_first { Fails (unknown_behind (faulty (MissingArgument ∷ []))) (codes "a") (MissingArgument ∷ []) }
+    ensures arguments_first { Fails (unknown_behind (faulty (MissingArgument ∷ []))) (codes "a")
+        (MissingArgument ∷ []) }
     ensures not_found { Fails (unknown_behind last_function) (codes "a") (UnknownFunction ∷ []) }
 {}
 

@@ -93,8 +93,9 @@ impl Captures {
     /// Closes the innermost capture and gives its text, and what becomes of that, where one is
     /// open.
     pub fn end(&mut self) -> Option<(CaptureMode, String)>
-        ensures { MatchOption result ((self.old ≡ []) × (self.new ≡ [])) (λ ended.
-            self.old ≡ record { heard = is_heard ended.0; text = string_bytes ended.1 } ∷ self.new) }
+        ensures { MatchOption result ((self.old ≡ []) × (self.new ≡ []))
+            (λ ended. self.old ≡
+            record { heard = is_heard ended.0; text = string_bytes ended.1 } ∷ self.new) }
     {
         let Capture { mode, text } = self.open.pop()?;
         Some((mode, text))

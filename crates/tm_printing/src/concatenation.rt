@@ -49,7 +49,8 @@ fn join<R: Records>(alloc: Global, left: &Value, right: &Value, records: &R) -> 
 // Appends the printed text.
 fn print_behind<R: Records>(value: &Value, records: &R, text: &mut String) -> Result<(), Error>
     ensures { MatchResult result
-        (λ _. string_bytes text.new ≡ string_bytes text.old ++ printed (R.records records.now) value.now)
+        (λ _. string_bytes text.new ≡
+        string_bytes text.old ++ printed (R.records records.now) value.now)
         (λ e. e ≡ ErrorKind.OutOfMemory ∷ []) }
 {
     match print(value, records, text) {

@@ -311,7 +311,8 @@ impl<'env> StateData<'env> {
     ) -> Result<(StreamId, Saved), Error>
         ensures ok { IfOk result (λ r. (r.0 ≡ block_of TemplateId.Own name.now)
             × (r.1 ≡ saved_of self.old)
-            × (enter_block (H.meaning host.now) name.now self.old ≡ runs_block name.now self.old self.new)) }
+            × (enter_block (H.meaning host.now) name.now self.old ≡
+            runs_block name.now self.old self.new)) }
         ensures deeper { OnOk result
             ((length self.new.scopes.frames ≡ length self.old.scopes.frames + 1)
             × (self.new.scopes.outer ≡ self.old.scopes.outer)

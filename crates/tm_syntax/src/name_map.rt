@@ -38,7 +38,8 @@ impl<T> NameMap<T> {
 
     /// What a name stands for.
     pub fn get(&self, name: &str) -> Option<&T>
-        ensures { MatchOption result (find name.now self.now ≡ None) (λ x. find name.now self.now ≡ Some x.now) }
+        ensures { MatchOption result (find name.now self.now ≡ None)
+            (λ x. find name.now self.now ≡ Some x.now) }
     {
         self.by_name.get(name)
     }

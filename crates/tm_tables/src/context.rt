@@ -93,7 +93,8 @@ impl Frame {
 
     /// Whether its loop has a name here, and then the loop's number.
     fn named_loop(&self, name: &str) -> Option<usize>
-        ensures { (id : ℕ) → option_map (λ n. loop id n) result ≡ marked_loop id self.now.mark name.now }
+        ensures { (id : ℕ) →
+            option_map (λ n. loop id n) result ≡ marked_loop id self.now.mark name.now }
     {
         let mark = self.mark?;
         if mark.variable && name == "loop" {

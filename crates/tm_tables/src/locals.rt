@@ -75,7 +75,8 @@ impl Locals {
 
     /// What a name stands for.
     pub(crate) fn get(&self, name: &Name) -> Option<&Value>
-        ensures { MatchOption result (find name.now self.now ≡ None) (λ x. find name.now self.now ≡ Some x.now) }
+        ensures { MatchOption result (find name.now self.now ≡ None)
+            (λ x. find name.now self.now ≡ Some x.now) }
     {
         match place_of(&self.first, name) {
             Some(place) => Some(&self.first[place].1),

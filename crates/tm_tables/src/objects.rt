@@ -107,7 +107,8 @@ impl<C: Drop> Objects<C> {
 impl<C: Callable> Objects<C> {
     /// What the object of a place among the caller's answers; none where there is none.
     fn answer(&self, alloc: Global, place: usize, args: &[Value], view: &View<'_>) -> Option<Called>
-        ensures { MatchOption (slice_get (callables C.answers self.now.objects) place) (result ≡ None)
+        ensures { MatchOption (slice_get (callables C.answers self.now.objects) place)
+            (result ≡ None)
             (λ f. IsSomeAnd result (λ called. IsCalled called f args.now view.now)) }
     {
         match self.object(place) {

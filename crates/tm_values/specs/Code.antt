@@ -1,21 +1,29 @@
 -- A value as the steps that build it on stacks, so that values can be told apart.
-use Rattle.std.specs.Prelude.{◌≡◌, ◌==◌, cond, ℕ, ℤ, pos, Bool, false, List, [], ◌∷◌, refl}
+use Rattle.std.specs.Prelude.{◌≡◌, ◌==◌, cond, ℕ, ℤ, pos, Bool, false, List, [], ◌∷◌, Option, refl}
 use Rattle.std.proofs.Common.{◌∙◌}
-use Rattle.std.specs.Coded.{Coded, code_by, codes}
+use Rattle.std.specs.Coded.{Coded, code_by, coded×, coded_ℕ, coded_ℤ, coded_bool, coded_list, coded_option}
 use Rattle.tm_values.specs.Val.{MacroData, Val, undefined, none, boolean, number, text, list, map, keywords, exports, function, macro, loop, namespace, Vals, no_vals, val, Pairs, no_pairs, pair}
 
--- A step: its tag says what it builds, of the parts that it has and of what lies on the stacks.
-pub record Step : Type 0 where
-  pub tag : ℕ
-  pub flag : Bool
-  pub whole : ℤ
-  pub bytes : List ℕ
-  pub first : ℕ
-  pub second : ℕ
-  pub declared : List MacroData
+-- the parts of a macro, and the macro of its parts
+abbrev Parts : Type 0
+Parts = ℕ × (ℕ × (ℕ × (Option ℕ × (List ℕ × (List (List ℕ) × Bool)))))
+
+abbrev parts_of : MacroData → Parts
+parts_of m = (m.state, (m.stream, (m.entry, (m.closure, (m.name, (m.arguments, m.caller))))))
+
+abbrev macro_of : Parts → MacroData
+macro_of (state, (stream, (entry, (closure, (name, (arguments, caller)))))) =
+    record { state = state; stream = stream; entry = entry; closure = closure; name = name; arguments = arguments; caller = caller }
+
+-- A step: its tag, which says what it builds of a flag, a whole number, bytes, two numbers and a macro's parts, and of what lies on the stacks.
+abbrev Step : Type 0
+Step = ℕ × (Bool × (ℤ × (List ℕ × (ℕ × (ℕ × List Parts)))))
+
+abbrev step : ℕ → Bool → ℤ → List ℕ → ℕ → ℕ → List Parts → Step
+step tag flag whole bytes first second declared = (tag, (flag, (whole, (bytes, (first, (second, declared))))))
 
 abbrev plain : ℕ → Step
-plain tag = record { tag = tag; flag = false; whole = pos 0; bytes = []; first = 0; second = 0; declared = [] }
+plain tag = step tag false (pos 0) [] 0 0 []
 
 -- what was built and is not part of something yet, the last first
 pub record Stacks : Type 0 where
@@ -23,20 +31,20 @@ pub record Stacks : Type 0 where
   pub items : List Vals
   pub pairs : List Pairs
 
-abbrev macro_or_none : List MacroData → Val
+abbrev macro_or_none : List Parts → Val
 macro_or_none [] = none
-macro_or_none (m ∷ ms) = macro m
+macro_or_none (m ∷ ms) = macro (macro_of m)
 
 -- what a step without parts on the stacks builds
 abbrev leaf_of : Step → Val
-leaf_of s =
-    cond (s.tag == 0) (undefined s.flag)
-    (cond (s.tag == 1) none
-    (cond (s.tag == 2) (boolean s.flag)
-    (cond (s.tag == 3) (number s.whole)
-    (cond (s.tag == 4) (text s.bytes s.flag)
-    (cond (s.tag == 5) (function s.first)
-    (cond (s.tag == 6) (macro_or_none s.declared) (cond (s.tag == 7) (loop s.first s.second) (namespace s.first s.second))))))))
+leaf_of (tag, (flag, (whole, (bytes, (first, (second, declared)))))) =
+    cond (tag == 0) (undefined flag)
+    (cond (tag == 1) none
+    (cond (tag == 2) (boolean flag)
+    (cond (tag == 3) (number whole)
+    (cond (tag == 4) (text bytes flag)
+    (cond (tag == 5) (function first)
+    (cond (tag == 6) (macro_or_none declared) (cond (tag == 7) (loop first second) (namespace first second))))))))
 
 abbrev push : Val → Stacks → Stacks
 push v k = record k { values = v ∷ k.values }
@@ -62,14 +70,14 @@ pair_put (v ∷ w ∷ vs) (p ∷ ps) k = record { values = vs; items = k.items; 
 
 abbrev stepped : Step → Stacks → Stacks
 stepped s k =
-    cond (s.tag == 9) (record k { items = no_vals ∷ k.items })
-    (cond (s.tag == 10) (item_put k.values k.items k)
-    (cond (s.tag == 11) (items_closed k.items k)
-    (cond (s.tag == 12) (record k { pairs = no_pairs ∷ k.pairs })
-    (cond (s.tag == 13) (pair_put k.values k.pairs k)
-    (cond (s.tag == 14) (pairs_closed map k.pairs k)
-    (cond (s.tag == 15) (pairs_closed keywords k.pairs k)
-    (cond (s.tag == 16) (pairs_closed (λ ps. exports ps s.bytes) k.pairs k)
+    cond (s.0 == 9) (record k { items = no_vals ∷ k.items })
+    (cond (s.0 == 10) (item_put k.values k.items k)
+    (cond (s.0 == 11) (items_closed k.items k)
+    (cond (s.0 == 12) (record k { pairs = no_pairs ∷ k.pairs })
+    (cond (s.0 == 13) (pair_put k.values k.pairs k)
+    (cond (s.0 == 14) (pairs_closed map k.pairs k)
+    (cond (s.0 == 15) (pairs_closed keywords k.pairs k)
+    (cond (s.0 == 16) (pairs_closed (λ ps. exports ps s.1.1.1.0) k.pairs k)
     (push (leaf_of s) k))))))))
 
 abbrev pub built : List Step → Stacks → Stacks
@@ -78,19 +86,19 @@ built (s ∷ xs) k = built xs (stepped s k)
 
 abbrev mutual
   pub steps : Val → List Step → List Step
-  steps (undefined s) rest = record (plain 0) { flag = s } ∷ rest
+  steps (undefined s) rest = step 0 s (pos 0) [] 0 0 [] ∷ rest
   steps none rest = plain 1 ∷ rest
-  steps (boolean b) rest = record (plain 2) { flag = b } ∷ rest
-  steps (number z) rest = record (plain 3) { whole = z } ∷ rest
-  steps (text s m) rest = record (plain 4) { bytes = s; flag = m } ∷ rest
+  steps (boolean b) rest = step 2 b (pos 0) [] 0 0 [] ∷ rest
+  steps (number z) rest = step 3 false z [] 0 0 [] ∷ rest
+  steps (text s m) rest = step 4 m (pos 0) s 0 0 [] ∷ rest
   steps (list vs) rest = vals_steps vs (plain 11 ∷ rest)
   steps (map ps) rest = pairs_steps ps (plain 14 ∷ rest)
   steps (keywords ps) rest = pairs_steps ps (plain 15 ∷ rest)
-  steps (exports ps s) rest = pairs_steps ps (record (plain 16) { bytes = s } ∷ rest)
-  steps (function n) rest = record (plain 5) { first = n } ∷ rest
-  steps (macro m) rest = record (plain 6) { declared = m ∷ [] } ∷ rest
-  steps (loop i n) rest = record (plain 7) { first = i; second = n } ∷ rest
-  steps (namespace i n) rest = record (plain 8) { first = i; second = n } ∷ rest
+  steps (exports ps s) rest = pairs_steps ps (step 16 false (pos 0) s 0 0 [] ∷ rest)
+  steps (function n) rest = step 5 false (pos 0) [] n 0 [] ∷ rest
+  steps (macro m) rest = step 6 false (pos 0) [] 0 0 (parts_of m ∷ []) ∷ rest
+  steps (loop i n) rest = step 7 false (pos 0) [] i n [] ∷ rest
+  steps (namespace i n) rest = step 8 false (pos 0) [] i n [] ∷ rest
 
   pub vals_steps : Vals → List Step → List Step
   vals_steps no_vals rest = plain 9 ∷ rest
@@ -110,7 +118,7 @@ mutual
   built-steps (list vs) rest k = built-vals_steps vs (plain 11 ∷ rest) k
   built-steps (map ps) rest k = built-pairs_steps ps (plain 14 ∷ rest) k
   built-steps (keywords ps) rest k = built-pairs_steps ps (plain 15 ∷ rest) k
-  built-steps (exports ps s) rest k = built-pairs_steps ps (record (plain 16) { bytes = s } ∷ rest) k
+  built-steps (exports ps s) rest k = built-pairs_steps ps (step 16 false (pos 0) s 0 0 [] ∷ rest) k
   built-steps (function n) rest k = refl
   built-steps (macro m) rest k = refl
   built-steps (loop i n) rest k = refl
@@ -138,5 +146,11 @@ top (v ∷ vs) = v
 pub built-back : (v : Val) → top (built (steps v []) empty).values ≡ v
 built-back v = rw (built-steps v [] empty) refl
 
+abbrev coded_Parts : Coded Parts
+coded_Parts = coded× coded_ℕ (coded× coded_ℕ (coded× coded_ℕ (coded× (coded_option coded_ℕ) (coded× (coded_list coded_ℕ) (coded× (coded_list (coded_list coded_ℕ)) coded_bool)))))
+
+abbrev coded_Step : Coded Step
+coded_Step = coded× coded_ℕ (coded× coded_bool (coded× coded_ℤ (coded× (coded_list coded_ℕ) (coded× coded_ℕ (coded× coded_ℕ (coded_list coded_Parts))))))
+
 abbrev pub coded_Val : Coded Val
-coded_Val = code_by (List Step) (Prim.hlevel codes) (λ v. steps v []) (λ s. top (built s empty).values) built-back
+coded_Val = code_by (List Step) (coded_list coded_Step) (λ v. steps v []) (λ s. top (built s empty).values) built-back

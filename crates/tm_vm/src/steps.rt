@@ -30,7 +30,8 @@ impl Machine<'_> {
         requires in_place { CanGoOn self.old.run }
         requires its_code { code.now ≡ H.code host.now self.old.run.stream }
         ensures { Performs (H.meaning host.now).limit base.now
-            (effect (program (H.meaning host.now) (H.code host.now)) base.now instruction.now self.old)
+            (effect (program (H.meaning host.now) (H.code host.now)) base.now instruction.now
+            self.old)
             self.old self.new
             (W.told writer.old) (W.told writer.new)
             (W.faults writer.old) (W.faults writer.new) result }
