@@ -397,7 +397,6 @@ fn what_is_no_template_is_refused(rt: HostRuntime) -> Result<(), Fail> {
 fn nestings_are_counted(rt: HostRuntime) -> Result<(), Fail> {
     check_joined(&rt, rt.alloc(), &NESTINGS, 150, true)?;
     check_joined(&rt, rt.alloc(), &NESTINGS, 151, false)?;
-    check_joined(&rt, rt.alloc(), &LONG, 100000, true)?;
-    check_joined(&rt, rt.alloc(), &["{{ a|0*+ b|}}"], 1_000_000, true)?;
+    check_joined(&rt, rt.alloc(), &LONG, 1_000_000, true)?;
     Ok(())
 }

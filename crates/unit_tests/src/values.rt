@@ -25,7 +25,7 @@ fn makes_a_module(alloc: Global) -> Result<bool, Error> {
     Ok(module.member("a") == Some(&Value::number(1)))
 }
 
-// Whether there is memory for a macro, which equals itself and none doesn't.
+// Whether there is memory for a macro, which equals itself and isn't none.
 fn makes_a_macro(alloc: Global) -> Result<bool, Error> {
     let name = RcStr::from_str(alloc, "m")?;
     let declared = Value::declared(
