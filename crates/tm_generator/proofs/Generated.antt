@@ -93,8 +93,8 @@ made_map base c1 c2 n xs d k put2 = counted i.BuildMap base c1 c2 (pairs_code (l
 
 pub made_call : (base c1 c2 c3 : List Instruction) (n : ℕ) (f g : List ℕ) (xs : List Argument) (ks : List Keyword) → c1 ≡ base ++ arguments_code (length base) (arguments xs) → c2 ≡ c1 ++ named_code (length c1) (keywords ks) →
     (given named : ℕ) → given ≡ length xs → named ≡ length ks → n ≡ given + min named 1 → g ≡ f → c3 ≡ c2 ++ i.CallFunction g n ∷ [] → c3 ≡ base ++ expr_code (length base) (e.Call f xs ks)
-made_call base c1 c2 c3 n f g xs ks d d2 given named m m2 k same put2 =
-    let all = placed base c1 c2 (arguments_code (length base) (arguments xs)) (λ pc. named_code pc (keywords ks)) d d2 in
+made_call base c1 c2 c3 n f g xs ks d placed_last given named m m2 k same put2 =
+    let all = placed base c1 c2 (arguments_code (length base) (arguments xs)) (λ pc. named_code pc (keywords ks)) d placed_last in
     let count_is : n ≡ count (arguments xs) + together (keywords ks) =
     k ∙ ap (λ j. j + min named 1) (m ∙ sym (count-arguments xs)) ∙ ap (λ j. count (arguments xs) + j) (ap (λ j. min j 1) m2 ∙ sym (together-is ks)) in
     counted (i.CallFunction f) base c2 c3 (before (length base) (arguments_code (length base) (arguments xs)) (λ pc. named_code pc (keywords ks))) n (count (arguments xs) + together (keywords ks)) all count_is
@@ -102,8 +102,8 @@ made_call base c1 c2 c3 n f g xs ks d d2 given named m m2 k same put2 =
 
 pub made_method : (base c1 c2 c3 : List Instruction) (n : ℕ) (f g : List ℕ) (xs : List Argument) (ks : List Keyword) → c1 ≡ base ++ arguments_code (length base) (arguments xs) → c2 ≡ c1 ++ named_code (length c1) (keywords ks) →
     (given named : ℕ) → given ≡ length xs → named ≡ length ks → n ≡ given + min named 1 + 1 → g ≡ f → c3 ≡ c2 ++ i.CallMethod g n ∷ [] → c3 ≡ base ++ step_code (length base) (s.Method f xs ks)
-made_method base c1 c2 c3 n f g xs ks d d2 given named m m2 k same put2 =
-    let all = placed base c1 c2 (arguments_code (length base) (arguments xs)) (λ pc. named_code pc (keywords ks)) d d2 in
+made_method base c1 c2 c3 n f g xs ks d placed_last given named m m2 k same put2 =
+    let all = placed base c1 c2 (arguments_code (length base) (arguments xs)) (λ pc. named_code pc (keywords ks)) d placed_last in
     let count_is : n ≡ count (arguments xs) + together (keywords ks) + 1 =
     k ∙ ap (λ j. j + min named 1 + 1) (m ∙ sym (count-arguments xs)) ∙ ap (λ j. count (arguments xs) + j + 1) (ap (λ j. min j 1) m2 ∙ sym (together-is ks)) in
     counted (i.CallMethod f) base c2 c3 (before (length base) (arguments_code (length base) (arguments xs)) (λ pc. named_code pc (keywords ks))) n (count (arguments xs) + together (keywords ks) + 1) all count_is

@@ -420,8 +420,8 @@ module _ (context : Context) (trees : Trees) (n : ℕ)
         arguments_run given run s pc stack w d (has_front all pc c kc front)
         (bind_long context (told s) w (count given) (eval_arguments u run given w) _ _ _ (arguments_give u nest_ends again_kept run given w) (arguments_long u run given w) h (λ vs world1 k l h1.
         named_runs named run s (pc + length c) (onto vs stack) world1 (here_kept run s k d) (has_behind all pc c kc front)
-        (bind_long context (told s) world1 (together named) (eval_named u run named world1) _ _ _ (named_give u nest_ends again_kept run named world1) (named_long u run named world1) h1 (λ ks world2 k2 l2 h2.
-        let long : length (vs ++ ks) ≡ n = omega (arith, length-append vs ks, l, l2) in
+        (bind_long context (told s) world1 (together named) (eval_named u run named world1) _ _ _ (named_give u nest_ends again_kept run named world1) (named_long u run named world1) h1 (λ ks world2 k2 left_last h2.
+        let long : length (vs ++ ks) ≡ n = omega (arith, length-append vs ks, l, left_last) in
         move context s _ _ (onto ks (onto vs stack)) world2 there
         (subst (λ us. Go context s (pc + length (c ++ kc)) us world2) (onto_both vs ks stack)
         (at context last s (pc + length (c ++ kc)) (onto (vs ++ ks) stack) world2 behind.0
@@ -609,8 +609,8 @@ module _ (context : Context) (trees : Trees) (n : ℕ)
         arguments_run given run s pc (v ∷ stack) w d (has_front all pc c kc front)
         (bind_long context (told s) w (count given) (eval_arguments u run given w) _ _ _ (arguments_give u nest_ends again_kept run given w) (arguments_long u run given w) h (λ vs world1 k l h1.
         named_runs named run s (pc + length c) (onto vs (v ∷ stack)) world1 (here_kept run s k d) (has_behind all pc c kc front)
-        (bind_long context (told s) world1 (together named) (eval_named u run named world1) _ _ _ (named_give u nest_ends again_kept run named world1) (named_long u run named world1) h1 (λ ks world2 k2 l2 h2.
-        let long : length (v ∷ (vs ++ ks)) ≡ n = omega (arith, length-append vs ks, l, l2) in
+        (bind_long context (told s) world1 (together named) (eval_named u run named world1) _ _ _ (named_give u nest_ends again_kept run named world1) (named_long u run named world1) h1 (λ ks world2 k2 left_last h2.
+        let long : length (v ∷ (vs ++ ks)) ≡ n = omega (arith, length-append vs ks, l, left_last) in
         move context s _ _ (onto ks (onto vs (v ∷ stack))) world2 there
         (subst (λ us. Go context s (pc + length (c ++ kc)) us world2) (onto_both vs ks (v ∷ stack))
         (at context last s (pc + length (c ++ kc)) (onto (v ∷ (vs ++ ks)) stack) world2 behind.0
@@ -884,10 +884,10 @@ module _ (context : Context) (trees : Trees) (n : ℕ)
       Jumps to (a_capture ∷ os) (record s { bed = captured_in s.bed s.out; out = [] }) stack w (Dropped context s.bed s.out L)
   jumps_capture to os s stack w L stands j q x v pc h is l =
       at context i.EndCapture (later (record s { bed = captured_in s.bed s.out; out = [] }) q x) pc stack v is.0 (after_then context (told s) (tick v) _
-      (follows_map_kept context (told s) v (tick v) _ _ (tick_gives v) l (λ _ world1 k1 l1.
+      (follows_map_kept context (told s) v (tick v) _ _ (tick_gives v) l (λ _ world1 k1 left_first.
       ended_then s q x pc stack world1 stands
       (at context i.DiscardTop (later s q s.out) (pc + 1) (captured_text x world1 ∷ stack) world1 is.1.0
-      (silent context (told s) _ (j q s.out world1 (pc + 1 + 1) (kept_then h k1) is.1.1 l1))))))
+      (silent context (told s) _ (j q s.out world1 (pc + 1 + 1) (kept_then h k1) is.1.1 left_first))))))
 
   around_capture : (k : Inside) (s : Spot) (stack : List Val) (w : World) (L N : Then) → s.run.floor < suc (length (captures_of s.bed s.out)) → Around k s stack w L N →
       Around (opening a_capture k) (record s { bed = captured_in s.bed s.out; out = [] }) stack w (Dropped context s.bed s.out L) (Dropped context s.bed s.out N)
@@ -982,28 +982,28 @@ module _ (context : Context) (trees : Trees) (n : ℕ)
       let left_y = left_then l items v vs left in
       let turned_by = turn_of t loops body v (as_at run s) s.out y in
       let next_round : Run → List ℕ → World → Outcome = λ run1 out1 z. rounds (turn_of t loops body) vs run1 out1 z in
-      let D1 = Goes context s.bed (as_at run s) next_round D L N in
-      let L1 = Goes context s.bed (as_at run s) (λ run1 out1 z. so_far run1 out1 (pop z)) D L N in
-      let goes_on : (q : Option TemplateId) (out1 : List ℕ) (z : World) (pc : ℕ) → Kept y z → slice_get all pc ≡ Some (i.Jump again) → D1 q out1 z → Go context (later (looped o s) q out1) pc stack z =
+      let DoneThen = Goes context s.bed (as_at run s) next_round D L N in
+      let LeaveThen = Goes context s.bed (as_at run s) (λ run1 out1 z. so_far run1 out1 (pop z)) D L N in
+      let goes_on : (q : Option TemplateId) (out1 : List ℕ) (z : World) (pc : ℕ) → Kept y z → slice_get all pc ≡ Some (i.Jump again) → DoneThen q out1 z → Go context (later (looped o s) q out1) pc stack z =
       λ q out1 z pc kz is1 g.
       at context (i.Jump again) (later (looped o s) q out1) pc stack z is1 (after_then context (told_by s.bed out1) (tick z) _
       (use_then context s.bed z (tick z) (record run { parent = q }) out1 _ D L N _ (tick_gives z) g (λ _ z1 kz1 g1.
       silent context (told_by s.bed out1) _
       (rounds_run o t loops body again end part items vs run (later s q out1) stack w z1 (turned l) D L N (stands_later context.base run s fits q out1) (deep_later run s (in_loop_of (for_flags false) w) q out1 d) (kept_then kept_y (kept_then kz kz1)) (kept_record (kept_then kz kz1) (length w.loops) (turned l) record_y) left_y is nth over_it g1)))) in
-      let leaves : Jumps end [] (looped o s) stack y L1 =
+      let leaves : Jumps end [] (looped o s) stack y LeaveThen =
       λ q out1 z pc kz is1 g.
       at context (i.Jump end) (later (looped o s) q out1) pc stack z is1.0 (after_then context (told_by s.bed out1) (tick z) _
       (use_then context s.bed z (tick z) (record run { parent = q }) out1 _ D L N _ (tick_gives z) g (λ _ z1 kz1 g1.
       silent context (told_by s.bed out1) _
       (over_it q out1 z1 (turned l) (kept_then kept_y (kept_then kz kz1)) (kept_record (kept_then kz kz1) (length w.loops) (turned l) record_y) left_y.same (so_far_then context s.bed (record run { parent = q }) out1 (pop z1) D L N g1))))) in
-      let nexts : Jumps again [] (looped o s) stack y D1 = λ q out1 z pc kz is1 g. goes_on q out1 z pc kz is1.0 g in
+      let nexts : Jumps again [] (looped o s) stack y DoneThen = λ q out1 z pc kz is1 g. goes_on q out1 z pc kz is1.0 g in
       subst (λ n. Comes context (told s) n) (sym (iterate_is o (for_flags false) s s.parent s.out again end stack w world1 l (Some v) kept record1 (next_item l items v vs left)))
       (silent context (told s) _
       (target_runs t (as_at run s) (looped o s) (again + 1) v stack y (here run s y (deep_kept run s kept_y d)) (has_front all (again + 1) tc (bc ++ i.Jump again ∷ []) is.1)
-      (use_then context s.bed y (assign u (as_at run s) t v y) (as_at run s) s.out (λ _ z. execs u loops body (as_at run s) s.out z) D1 L1 D1 _ (assign_gives u nest_ends again_kept (as_at run s) t v y)
+      (use_then context s.bed y (assign u (as_at run s) t v y) (as_at run s) s.out (λ _ z. execs u loops body (as_at run s) s.out z) DoneThen LeaveThen DoneThen _ (assign_gives u nest_ends again_kept (as_at run s) t v y)
       (round_then context s.bed (as_at run s) turned_by next_round D L N h1) (λ _ z k2 h2.
-      part run (looped o s) start stack z L1 D1 fits (deep_kept run s (kept_then kept_y k2) d) (around_kept inner (looped o s) stack L1 D1 k2 (leaves, nexts)) (has_front all start bc (i.Jump again ∷ []) from_body) nth
-      (ends_map_kept context s.bed z (execs u loops body (as_at run s) s.out z) D1 _ L1 D1 (execs_end u nest_ends again_kept loops body (as_at run s) s.out z) h2 (λ q out1 z1 k3 g.
+      part run (looped o s) start stack z LeaveThen DoneThen fits (deep_kept run s (kept_then kept_y k2) d) (around_kept inner (looped o s) stack LeaveThen DoneThen k2 (leaves, nexts)) (has_front all start bc (i.Jump again ∷ []) from_body) nth
+      (ends_map_kept context s.bed z (execs u loops body (as_at run s) s.out z) DoneThen _ LeaveThen DoneThen (execs_end u nest_ends again_kept loops body (as_at run s) s.out z) h2 (λ q out1 z1 k3 g.
       goes_on q out1 z1 (start + length bc) (kept_then k2 k3) last.0 g)))))))))
 
   -- ---------------------------------------------------------------- items under a condition
@@ -1119,12 +1119,12 @@ module _ (context : Context) (trees : Trees) (n : ℕ)
       (bind_then context (told s) world1 (eval u run e world1) _ _ _ (eval_gives u nest_ends again_kept run e world1) h1 (λ v world2 k2 h2.
       at context (i.PushLoop filter_flags) s pc1 (v ∷ number (pos 0) ∷ stack) world2 behind.0 (after_then context (told s) (items_over context.program.host v world2) _
       (bind_then context (told s) world2 (items_over context.program.host v world2) _ _ _ (answered_gives _ world2) h2 (λ vs world3 k3 h3.
-      let d3 = here_kept run s k3 (here_kept run s k2 (here_kept run s k1 d)) in
+      let deep_last = here_kept run s k3 (here_kept run s k2 (here_kept run s k1 d)) in
       subst (λ m. Comes context (told s) (after (open_loop context.program.host vs filter_flags m world3) (λ _ y. goes (number (pos 0) ∷ stack) y (looping (None ∷ s.run.loops) (cfg s pc1 (v ∷ number (pos 0) ∷ stack) world3))))) (sym pass_number)
       (after_then context (told s) (open_loop context.program.host vs filter_flags loops world3) _
       (opened_follows context (told s) filter_flags loops world3 vs (nat_lt (depth world3.scopes) context.program.host.limit) _ _ (λ y. Comes context (told s) (goes (number (pos 0) ∷ stack) y (looping (None ∷ s.run.loops) (cfg s pc1 (v ∷ number (pos 0) ∷ stack) world3)))) h3 (λ room h4.
       silent context (told s) _
-      (filter_runs t c again vs vs 0 run s stack world3 (opened filter_flags loops world3 vs) (new_loop vs filter_flags loops world3) d3 room
+      (filter_runs t c again vs vs 0 run s stack world3 (opened filter_flags loops world3 vs) (new_loop vs filter_flags loops world3) deep_last room
       (opened_kept filter_flags loops world3 vs) (new_record filter_flags loops world3 vs) (record { before = []; same = refl; all = refl; turns = refl }) tc qc refl refl end refl behind.1
       (follows_map context (told s) (kept context.program.host (test_of run t c) 0 vs (opened filter_flags loops world3 vs)) _ _ (bound_follows context (told s) (kept context.program.host (test_of run t c) 0 vs (opened filter_flags loops world3 vs)) _ _ h4) (λ us y h5 m em.
       at context (i.BuildList None) s build (number (pos m) ∷ onto us stack) y tail.1.1.1.1.1.1.1.1.0 (after_then context (told s) (tick y) _ (bind_then context (told s) y (tick y) _ _ _ (tick_gives y) h5 (λ _ y1 k6 h6.
@@ -1234,20 +1234,20 @@ module _ (context : Context) (trees : Trees) (n : ℕ)
         iterable_runs recursive loops t e c (as_at run s) s pc stack w (here run s w d) (has_front all pc ec (i.PushLoop (for_flags recursive) ∷ i.Iterate end ∷ rest) is) behind.0 nth
         (use_then context s.bed w (loop_items u loops (as_at run s) t e c w) (as_at run s) s.out _ D0 L N _ (loop_items_give u nest_ends again_kept loops (as_at run s) t e c w) h (λ vs world1 k1 h1 old.
         let turn = turn_of t (within_loop c loops) body in
-        let d1 = deep_kept run s k1 d in
+        let deep_behind = deep_kept run s k1 d in
         let j1 = around_kept k s stack L N k1 j in
-        let D1 : Then = λ q out1 x. Ends context s.bed (exec_behind_loop u (pasts (within_loop c loops) body) other (has_none vs) (record run { parent = q }) out1 x) D0 L N in
-        let over_it = do_then context s.bed (as_at run s) world1 (loop_over context.program.host (loops + passes c) recursive turn vs (as_at run s) s.out world1) (λ run1 out1 world2. exec_behind_loop u (pasts (within_loop c loops) body) other (has_none vs) run1 out1 world2) D0 L N D1
+        let DoneThen : Then = λ q out1 x. Ends context s.bed (exec_behind_loop u (pasts (within_loop c loops) body) other (has_none vs) (record run { parent = q }) out1 x) D0 L N in
+        let over_it = do_then context s.bed (as_at run s) world1 (loop_over context.program.host (loops + passes c) recursive turn vs (as_at run s) s.out world1) (λ run1 out1 world2. exec_behind_loop u (pasts (within_loop c loops) body) other (has_none vs) run1 out1 world2) D0 L N DoneThen
         (loop_ends context.program.host (loops + passes c) recursive world1 turn (turn_ends t (within_loop c loops) body) vs (as_at run s) s.out) h1 (λ q out1 x k3 h3. h3) in
         subst (λ m. Comes context (told s) (after (open_loop context.program.host vs (for_flags recursive) m world1) (λ _ x. goes stack x (looping (None ∷ s.run.loops) (cfg s pc1 old world1))))) (sym number1)
         (after_then context (told s) (open_loop context.program.host vs (for_flags recursive) (loops + passes c) world1) _
-        (opened_then context s.bed (for_flags recursive) (loops + passes c) world1 vs (nat_lt (depth world1.scopes) context.program.host.limit) (as_at run s) s.out (λ _ x. rounds turn vs (as_at run s) s.out x) D1 L N
+        (opened_then context s.bed (for_flags recursive) (loops + passes c) world1 vs (nat_lt (depth world1.scopes) context.program.host.limit) (as_at run s) s.out (λ _ x. rounds turn vs (as_at run s) s.out x) DoneThen L N
         (λ x. Comes context (told s) (goes stack x (looping (None ∷ s.run.loops) (cfg s pc1 old world1)))) over_it (λ room h4.
         silent context (told s) _
-        (rounds_run None t (within_loop c loops) body (pc1 + 1) end (stmts_run inner (within_loop c loops) body) vs vs run s stack world1 (opened (for_flags recursive) (loops + passes c) world1 vs) (new_loop vs (for_flags recursive) (loops + passes c) world1) D1 L N fits (deep_within run s (loop_scope (mark_behind (for_flags false) world1)) world1 room d1)
+        (rounds_run None t (within_loop c loops) body (pc1 + 1) end (stmts_run inner (within_loop c loops) body) vs vs run s stack world1 (opened (for_flags recursive) (loops + passes c) world1 vs) (new_loop vs (for_flags recursive) (loops + passes c) world1) DoneThen L N fits (deep_within run s (loop_scope (mark_behind (for_flags false) world1)) world1 room deep_behind)
         (opened_kept (for_flags recursive) (loops + passes c) world1 vs) (new_record (for_flags recursive) (loops + passes c) world1 vs) (record { before = []; same = refl; all = refl; turns = refl })
-        (has_loop all pc1 end tc bc oc behind.1) number2 (λ q out1 x l k3 e3 same d3.
-        behind_loop_runs k (pasts (within_loop c loops) body) other vs run s pc1 end (pc + length (ec ++ i.PushLoop (for_flags recursive) ∷ i.Iterate end ∷ rest)) stack world1 x l L N fits d1 j1 k3 e3 same place at_end_of number3 q out1 d3) h4))))))
+        (has_loop all pc1 end tc bc oc behind.1) number2 (λ q out1 x l k3 e3 same deep_last.
+        behind_loop_runs k (pasts (within_loop c loops) body) other vs run s pc1 end (pc + length (ec ++ i.PushLoop (for_flags recursive) ∷ i.Iterate end ∷ rest)) stack world1 x l L N fits deep_behind j1 k3 e3 same place at_end_of number3 q out1 deep_last) h4))))))
     stmt_runs k loops Break run s pc stack w L N fits d j is nth h = j.0 s.parent s.out w pc (kept_same w) is (leave_then context s.bed (as_at run s) s.out w _ L N h)
     stmt_runs k loops Continue run s pc stack w L N fits d j is nth h = j.1 s.parent s.out w pc (kept_same w) is (next_then context s.bed (as_at run s) s.out w _ L N h)
     stmt_runs k loops (Block' b _ body) run s pc stack w L N fits d j is nth h = tag_then run s pc b stack w _ L N fits d is.0 h (λ q1 out1 world1 g. g)
@@ -1443,7 +1443,7 @@ module _ (context : Context) (trees : Trees) (n : ℕ)
       (opened_kept (for_flags true) m w items) (new_record (for_flags true) m w items) (record { before = []; same = refl; all = refl; turns = refl })
       (subst (λ c. HasAt c (place + 1) (i.Iterate lo.end ∷ (target_code (place + 1 + 1) l.target ++ (statements_code inner (place + 1 + 1 + length (target_code (place + 1 + 1) l.target)) l.body.row ++ i.Jump (place + 1) ∷ [])))) all_is lo.rounds)
       (subst (λ c. loops_before (place + 1 + 1 + length (target_code (place + 1 + 1) l.target)) c ≡ l.at) all_is lo.numbered)
-      (λ q out x l1 k e same g. called_over o s1 q out lo.end w x l1 items d.0.scopes k e same
+      (λ q out x left_first k e same g. called_over o s1 q out lo.end w x left_first items d.0.scopes k e same
       (subst (λ c. HasAt c lo.end (i.PopLoopFrame ∷ []) ⊎ HasAt c lo.end (i.PushDidNotIterate ∷ i.PopLoopFrame ∷ [])) all_is lo.exit) (goes_on q out x g)) h
 
   -- a loop that can be called there, and one that can't
