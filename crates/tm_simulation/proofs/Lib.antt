@@ -6,3 +6,5 @@ pub mod Forms
 pub mod Simulation
 mod Numbers
 mod Matches
+pub mod Faults
+pub mod Memory

@@ -1,15 +1,16 @@
 //! Proofs: the code of trees comes to what the trees mean. The functions here are laws: they run nothing, and their contracts say what is proved.
 #![tactic(auto)]
 
-ghost use Rattle.std.specs.Prelude.{◌≡◌, ℕ, suc, List, Bool};
+ghost use Rattle.std.specs.Prelude.{◌≡◌, ℕ, suc, List, Bool, false};
 ghost use Rattle.tm_meaning.specs.World.{Host, World};
 ghost use Rattle.tm_meaning.specs.Calls.{Callee};
 ghost use Rattle.tm_meaning.specs.Tree.{Trees};
-ghost use Rattle.tm_meaning.specs.Meaning.{nests_of, rendered};
+ghost use Rattle.tm_meaning.specs.Meaning.{chain_of, nests_of, rendered};
 ghost use Rattle.tm_meaning.specs.Machine.{Program, Capture, Stuck};
 ghost use Rattle.tm_meaning.specs.Steps.{final};
 ghost use Rattle.tm_meaning.specs.Compiled.{IsCompiled};
 ghost use Rattle.tm_simulation.specs.Kept.{Stays, Grows};
+ghost use Rattle.tm_simulation.specs.Memory.{StatesNoMemory, ends_in_memory};
 ghost use Rattle.tm_simulation.specs.Reached.{RunsTo, Renders, HasLevels};
 ghost use Rattle.tm_simulation.specs.Reached.{text_in, final_in, final_of};
 
@@ -50,4 +51,10 @@ pub fn a_render_keeps_its_state()
 /// A render loses nothing: no record, also where it ends in a fault; and where it doesn't, the stream, the block, the escape and the blocks are as they were.
 pub fn a_render_loses_nothing()
     ensures { (host : Host) (trees : Trees) (w : World) → Grows w (rendered host trees w) }
+{}
+
+/// A render's fault ends in OutOfMemory only where an object of the caller states one that does.
+pub fn want_of_memory_is_stated()
+    ensures { (host : Host) (trees : Trees) (w : World) → StatesNoMemory host →
+        ends_in_memory (chain_of (rendered host trees w)) ≡ false }
 {}
