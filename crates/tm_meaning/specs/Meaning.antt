@@ -400,42 +400,42 @@ abbrev mutual
       use_it (eval u run e w) run out (λ v world1. use_it (tick world1) run out (λ _ world2. in_place_of u run out (call_innermost u.host v world2)))
   exec u at (If' c _ body other) run out w =
       use_it (eval u run c w) run out (λ v world1. use_it (tick world1) run out (λ _ world2. use_it (truth u.host v world2) run out (λ b world3.
-      choose b (λ _. behind_first other run (execs u at body run out world3)) (λ _. exec_else u (pasts at body) other run out world3))))
+      choose b (λ _. behind_first other run (exec_all u at body run out world3)) (λ _. exec_else u (pasts at body) other run out world3))))
   exec u at (For' t e c recursive _ body other) run out w =
       use_it (loop_items u at run t e c w) run out (λ vs world1.
       then_do run
-      (loop_over u.host (at + passes c) recursive (λ item run1 out1 world2. use_it (assign u run1 t item world2) run1 out1 (λ _ world3. execs u (within_loop c at) body run1 out1 world3)) vs run out world1)
+      (loop_over u.host (at + passes c) recursive (λ item run1 out1 world2. use_it (assign u run1 t item world2) run1 out1 (λ _ world3. exec_all u (within_loop c at) body run1 out1 world3)) vs run out world1)
       (λ run1 out1 world2. exec_behind_loop u (pasts (within_loop c at) body) other (has_none vs) run1 out1 world2))
   exec u at Break run out w = ended leave run out w
   exec u at Continue run out w = ended next run out w
   exec u at (Block' b _ body) run out w = use_it (tick w) run out (λ _ world1. block_tag u run b out world1)
   exec u at (Set t e) run out w = use_it (set_to u run t e w) run out (λ _ world1. so_far run out world1)
   exec u at (SetBlock' t _ body) run out w =
-      captured (execs u at body (capturing true run) [] w) run out (λ run1 x world1.
+      captured (exec_all u at body (capturing true run) [] w) run out (λ run1 x world1.
       use_it (tick world1) run1 out (λ _ world2.
       use_it (assign u run1 t (captured_text x world2) world2) run1 out (λ _ world3. so_far run1 out world3)))
   exec u at (With' given _ body) run out w =
       use_it (push u.host (plain_scope (undefined false)) w) run out (λ _ world1.
-      use_it (set_each u run given world1) run out (λ _ world2. closing pop (execs u at body run out world2)))
+      use_it (set_each u run given world1) run out (λ _ world2. closing pop (exec_all u at body run out world2)))
   exec u at (Do e) run out w = use_it (eval u run e w) run out (λ _ world1. so_far run out world1)
   exec u at (AutoEscape' e _ body) run out w =
       use_it (eval u run e w) run out (λ v world1.
       use_it (answered (escape_for run.first v) world1) run out (λ x world2.
-      closing (with_escape world2.escape) (execs u at body run out (with_escape x world2))))
+      closing (with_escape world2.escape) (exec_all u at body run out (with_escape x world2))))
 
-  pub execs : {n : _} → Under → ℕ → Row_of-Stmt n → Run → List ℕ → World → Outcome
-  execs u at no_statement run out w = so_far run out w
-  execs u at (statement s ss) run out w = then_do run (exec u at s run out w) (λ run1 out1 world1. execs u (past at s) ss run1 out1 world1)
+  pub exec_all : {n : _} → Under → ℕ → Row_of-Stmt n → Run → List ℕ → World → Outcome
+  exec_all u at no_statement run out w = so_far run out w
+  exec_all u at (statement s ss) run out w = then_do run (exec u at s run out w) (λ run1 out1 world1. exec_all u (past at s) ss run1 out1 world1)
 
   pub exec_else : Under → ℕ → Otherwise → Run → List ℕ → World → Outcome
   exec_else u at no_else run out w = so_far run out w
-  exec_else u at (otherwise _ body) run out w = execs u at body run out w
+  exec_else u at (otherwise _ body) run out w = exec_all u at body run out w
 
   -- what runs where a loop had no items, behind its test, which is charged
   pub exec_behind_loop : Under → ℕ → Otherwise → Bool → Run → List ℕ → World → Outcome
   exec_behind_loop u at no_else none_taken run out w = so_far run out w
   exec_behind_loop u at (otherwise _ body) none_taken run out w =
-      use_it (tick w) run out (λ _ world1. choose none_taken (λ _. execs u at body run out world1) (λ _. so_far run out world1))
+      use_it (tick w) run out (λ _ world1. choose none_taken (λ _. exec_all u at body run out world1) (λ _. so_far run out world1))
 
 -- ---------------------------------------------------------------- runs
 abbrev pub failed : ErrorKind → Run → List ℕ → World → Outcome
@@ -456,14 +456,14 @@ at_end (fault chain) o = o
 at_end e o = done_by (tick o.world) o
 
 abbrev pub stream_run : Under → Body → Run → List ℕ → World → Outcome
-stream_run u body run out w = let o = execs u 0 body.row run out w in at_end o.ending o
+stream_run u body run out w = let o = exec_all u 0 body.row run out w in at_end o.ending o
 
 abbrev pub over : Host → Nests → Again → Under
 over host nests again = record { host = host; nests = nests; again = again }
 
 -- what a round of a loop does with its item
 abbrev pub turn_of : Under → FoundLoop → Val → Run → List ℕ → World → Outcome
-turn_of u l v run out w = use_it (assign u run l.target v w) run out (λ _ world1. execs u l.at l.body.row run out world1)
+turn_of u l v run out w = use_it (assign u run l.target v w) run out (λ _ world1. exec_all u l.at l.body.row run out world1)
 
 abbrev pub again_in : Under → Option FoundLoop → Again
 again_in u None n items run out w = failed InvalidOperation run out w

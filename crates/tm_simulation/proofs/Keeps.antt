@@ -35,7 +35,7 @@ use Rattle.tm_meaning.specs.Calls.{Callee, whole, Call, of_block, undone, wrappe
 use Rattle.tm_meaning.specs.declared.function.GlobalFunction.{GlobalFunction}
 use Rattle.tm_meaning.specs.declared.function.GlobalFunction.TheVariants as own
 use Rattle.tm_meaning.specs.declared.mark.LoopMark.{LoopMark}
-use Rattle.tm_meaning.specs.Meaning.{over, under, again_in, again_of, turn_of, text_behind, Run, Outcome, Ending, done, leave, next, fault, Nests, Under, use_it, then_do, so_far, ended, say, audible, value_of, value_behind, in_place_of, behind, block_tag, truth, applied_unary, operated, applied, eval, eval_all, eval_pair, eval_pairs, eval_argument, eval_arguments, eval_keyword, eval_keywords, eval_named, one_counted, kept, loop_items, eval_condition, eval_conditions, eval_step, eval_links, eval_steps, assign, assign_all, set_to, set_each, closing_by, closing, capturing, captured_by, captured, round_end, rounds, loop_over, has_none, exec_behind_loop, done_by, emit, behind_first, exec, execs, exec_else, at_end, new_run, nests_of, rendered}
+use Rattle.tm_meaning.specs.Meaning.{over, under, again_in, again_of, turn_of, text_behind, Run, Outcome, Ending, done, leave, next, fault, Nests, Under, use_it, then_do, so_far, ended, say, audible, value_of, value_behind, in_place_of, behind, block_tag, truth, applied_unary, operated, applied, eval, eval_all, eval_pair, eval_pairs, eval_argument, eval_arguments, eval_keyword, eval_keywords, eval_named, one_counted, kept, loop_items, eval_condition, eval_conditions, eval_step, eval_links, eval_steps, assign, assign_all, set_to, set_each, closing_by, closing, capturing, captured_by, captured, round_end, rounds, loop_over, has_none, exec_behind_loop, done_by, emit, behind_first, exec, exec_all, exec_else, at_end, new_run, nests_of, rendered}
 use Rattle.tm_simulation.specs.Kept.{UnlessFault, Stays, Grows, shape, shapes, GoesOn}
 use Rattle.tm_meaning.specs.declared.stream.StreamId.{StreamId}
 use Rattle.tm_meaning.specs.declared.wrapping.Wrapping.{Wrapping}
@@ -974,26 +974,26 @@ module _ (u : Under) (nest_ends : (k : Callee) (heard : Bool) (out : List ℕ) (
         let s = plain_scope (undefined false) in
         ends_within w s (nat_lt (depth w.scopes) u.host.limit) run out _
         (ends_kept w (within s w) (set_each u run given (within s w)) run out _ (advances_within s w) (set_each_gives run given (within s w)) (λ _ world2 k.
-        closing_ends w (within s w) pop (advances_within s w) (kept_popped s w) (execs u at body run out world2) (ends_then (within s w) world2 (execs u at body run out world2) k (execs_end at body run out world2))))
+        closing_ends w (within s w) pop (advances_within s w) (kept_popped s w) (exec_all u at body run out world2) (ends_then (within s w) world2 (exec_all u at body run out world2) k (execs_end at body run out world2))))
     exec_ends at (For' t e c recursive _ body other) run out w =
         ends_use w (loop_items u at run t e c w) run out _ (loop_items_give at run t e c w) (λ vs world1.
-        ends_do world1 run (loop_over u.host (at + passes c) recursive (λ item run1 out1 world2. use_it (assign u run1 t item world2) run1 out1 (λ _ world3. execs u (within_loop c at) body run1 out1 world3)) vs run out world1) _
+        ends_do world1 run (loop_over u.host (at + passes c) recursive (λ item run1 out1 world2. use_it (assign u run1 t item world2) run1 out1 (λ _ world3. exec_all u (within_loop c at) body run1 out1 world3)) vs run out world1) _
         (loop_ends u.host (at + passes c) recursive world1 _ (λ item run1 out1 world2. ends_use world2 (assign u run1 t item world2) run1 out1 _ (assign_gives run1 t item world2) (λ _ world3. execs_end (within_loop c at) body run1 out1 world3)) vs run out)
         (λ run1 out1 world2. behind_loop_ends (pasts (within_loop c at) body) other (has_none vs) run1 out1 world2))
     exec_ends at Break run out w = ends_leave w run out
     exec_ends at Continue run out w = ends_next w run out
     exec_ends at (SetBlock' t _ body) run out w =
-        captured_ends w run out (execs u at body (capturing true run) [] w) _ (execs_end at body (capturing true run) [] w) (λ run1 x world1.
+        captured_ends w run out (exec_all u at body (capturing true run) [] w) _ (execs_end at body (capturing true run) [] w) (λ run1 x world1.
         ends_use world1 (tick world1) run1 out _ (tick_gives world1) (λ _ world2.
         ends_use world2 (assign u run1 t (captured_text x world2) world2) run1 out _ (assign_gives run1 t (captured_text x world2) world2) (λ _ world3. ends_here world3 world3 run1 out (kept_same world3))))
     exec_ends at (AutoEscape' e _ body) run out w =
         ends_use w (eval u run e w) run out _ (eval_gives run e w) (λ v world1.
         ends_use world1 (answered (escape_for run.first v) world1) run out _ (answered_gives _ world1) (λ x world2.
         closing_ends world2 (with_escape x world2) (with_escape world2.escape) (advances_escaped x world2) (kept_unescaped x world2)
-        (execs u at body run out (with_escape x world2)) (execs_end at body run out (with_escape x world2))))
+        (exec_all u at body run out (with_escape x world2)) (execs_end at body run out (with_escape x world2))))
     exec_ends at (Do e) run out w = ends_use w (eval u run e w) run out _ (eval_gives run e w) (λ _ world1. ends_here world1 world1 run out (kept_same world1))
 
-    pub execs_end : {n : _} → (at : ℕ) (ss : Row_of-Stmt n) (run : Run) (out : List ℕ) (w : World) → Ends w (execs u at ss run out w)
+    pub execs_end : {n : _} → (at : ℕ) (ss : Row_of-Stmt n) (run : Run) (out : List ℕ) (w : World) → Ends w (exec_all u at ss run out w)
     execs_end at no_statement run out w = ends_here w w run out (kept_same w)
     execs_end at (statement s ss) run out w = ends_do w run (exec u at s run out w) _ (exec_ends at s run out w) (λ run1 out1 world1. execs_end (past at s) ss run1 out1 world1)
 
@@ -1044,7 +1044,7 @@ nests_end host trees zero k heard out w = ends_fault w w (new_run heard w) out (
 nests_end host trees (suc n) (whole s) heard out w =
     let nests = nests_of host trees n in
     let u : Under = under host nests (trees s) in
-    let o = execs u 0 (trees s).row (new_run heard w) out w in
+    let o = exec_all u 0 (trees s).row (new_run heard w) out w in
     at_end_ends w o.ending o.parent o.text o.world
     (ends_as w o (execs_end u (nests_end host trees n) (again_end host nests (nests_end host trees n) (trees s) (host.limit + 1)) 0 (trees s).row (new_run heard w) out w))
 

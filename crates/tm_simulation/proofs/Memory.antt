@@ -36,7 +36,7 @@ use Rattle.tm_meaning.specs.declared.reply.Reply.TheVariants.{Value as gives, Fa
 use Rattle.tm_meaning.specs.Tree.{Body, Trees}
 use Rattle.tm_meaning.specs.World.{Scope, World, Host, Loop, Function, callers, languages, choose, find, same_name, block_of, Res, Good, Bad, bind, need, check, answered, charged, with_fuel, tick, ticked, push, pop, depth, open_loop, next_turn, cleared, items_over, items_of, innermost, emitted, lookup, records_of, escape_for, with_escape, captured_text, view_of, plain as plain_scope}
 use Rattle.tm_meaning.specs.Calls.{Callee, whole, Call, wrapped, Asked, has, refused, runs, recurs, ask, same_stream, wrapped_as, call_loop, call_innermost, one_argument, call_found, enter_block, call_named, call_value, call_method, loop_method, method_in, of_loop, record_at, call_by, given_by, replied, required_alone}
-use Rattle.tm_meaning.specs.Meaning.{over, under, again_in, again_of, turn_of, text_behind, Run, Outcome, Ending, done, leave, next, fault, Nests, Under, use_it, then_do, on_done, so_far, ended, say, audible, none_waits, value_of, value_behind, in_place_of, behind, block_tag, truth, applied_unary, operated, applied, eval, eval_all, eval_pair, eval_pairs, eval_argument, eval_arguments, eval_keyword, eval_keywords, eval_named, one_counted, kept, loop_items, eval_condition, eval_conditions, eval_step, eval_links, eval_steps, assign, assign_all, set_to, set_each, closing_by, capturing, captured_by, captured, round_end, rounds, loop_over, has_none, exec_behind_loop, done_by, emit, behind_first, exec, execs, exec_else, at_end, new_run, nests_of, rendered, chain_in, chain_of}
+use Rattle.tm_meaning.specs.Meaning.{over, under, again_in, again_of, turn_of, text_behind, Run, Outcome, Ending, done, leave, next, fault, Nests, Under, use_it, then_do, on_done, so_far, ended, say, audible, none_waits, value_of, value_behind, in_place_of, behind, block_tag, truth, applied_unary, operated, applied, eval, eval_all, eval_pair, eval_pairs, eval_argument, eval_arguments, eval_keyword, eval_keywords, eval_named, one_counted, kept, loop_items, eval_condition, eval_conditions, eval_step, eval_links, eval_steps, assign, assign_all, set_to, set_each, closing_by, capturing, captured_by, captured, round_end, rounds, loop_over, has_none, exec_behind_loop, done_by, emit, behind_first, exec, exec_all, exec_else, at_end, new_run, nests_of, rendered, chain_in, chain_of}
 use Rattle.tm_simulation.specs.Memory.{ends_in_memory, FreeAnswer, FreeReply, FreeFunction, StatesNoMemory}
 use Rattle.tm_simulation.proofs.Faults.{added_free, truth_free, unary_free, binary_free, attribute_free, item_free, settable_free, sliced_free, iterated_free, unpacked_free, range_free, dict_free, namespace_free, name_free, method_free, escape_free, formatted_free, unless_free}
 
@@ -481,7 +481,7 @@ module _ (u : Under) (states : StatesNoMemory u.host) (nest_free : (k : Callee) 
         choose_outcome b _ _ (behind_first_free other run _ (execs_free at body run out w3)) (else_free (pasts at body) other run out w3))))
     exec_free at (For' t e c recursive _ body other) run out w =
         use_free (loop_items u at run t e c w) run out _ (loop_items_free at run t e c w) (λ vs w1.
-        do_free run (loop_over u.host (at + passes c) recursive (λ item run1 out1 world2. use_it (assign u run1 t item world2) run1 out1 (λ _ world3. execs u (within_loop c at) body run1 out1 world3)) vs run out w1) _
+        do_free run (loop_over u.host (at + passes c) recursive (λ item run1 out1 world2. use_it (assign u run1 t item world2) run1 out1 (λ _ world3. exec_all u (within_loop c at) body run1 out1 world3)) vs run out w1) _
         (loop_free u.host (at + passes c) recursive _ (λ item run1 out1 w2. use_free (assign u run1 t item w2) run1 out1 _ (assign_free run1 t item w2) (λ _ w3. execs_free (within_loop c at) body run1 out1 w3)) vs run out w1)
         (λ run1 out1 w2. behind_loop_free (pasts (within_loop c at) body) other (has_none vs) run1 out1 w2))
     exec_free at Break run out w = leave_free run out w
@@ -489,7 +489,7 @@ module _ (u : Under) (states : StatesNoMemory u.host) (nest_free : (k : Callee) 
     exec_free at (Block' b _ body) run out w = charge_free w run out _ (λ w1. tag_free run b out w1)
     exec_free at (Set t e) run out w = use_free (set_to u run t e w) run out _ (set_free run t e w) (λ _ w1. done_free run out w1)
     exec_free at (SetBlock' t _ body) run out w =
-        captured_free (execs u at body (capturing true run) [] w) run out _ (execs_free at body (capturing true run) [] w) (λ run1 x w1.
+        captured_free (exec_all u at body (capturing true run) [] w) run out _ (execs_free at body (capturing true run) [] w) (λ run1 x w1.
         charge_free w1 run1 out _ (λ w2. use_free (assign u run1 t (captured_text x w2) w2) run1 out _ (assign_free run1 t (captured_text x w2) w2) (λ _ w3. done_free run1 out w3)))
     exec_free at (With' given _ body) run out w =
         use_free (push u.host (plain_scope (undefined false)) w) run out _ (push_free u.host _ w) (λ _ w1.
@@ -500,7 +500,7 @@ module _ (u : Under) (states : StatesNoMemory u.host) (nest_free : (k : Callee) 
         use_free (answered (escape_for run.first v) w1) run out _ (answered_free _ w1 (escape_free run.first v)) (λ x w2.
         closing_by_free _ (with_escape w2.escape) _ (execs_free at body run out (with_escape x w2))))
 
-    execs_free : {n : _} → (at : ℕ) (ss : Row_of-Stmt n) (run : Run) (out : List ℕ) (w : World) → Free (execs u at ss run out w)
+    execs_free : {n : _} → (at : ℕ) (ss : Row_of-Stmt n) (run : Run) (out : List ℕ) (w : World) → Free (exec_all u at ss run out w)
     execs_free at no_statement run out w = done_free run out w
     execs_free at (statement s ss) run out w = do_free run (exec u at s run out w) _ (exec_free at s run out w) (λ run1 out1 w1. execs_free (past at s) ss run1 out1 w1)
 
@@ -544,7 +544,7 @@ nests_free host states trees zero k heard out w = fault_free _ (new_run heard w)
 nests_free host states trees (suc n) (whole s) heard out w =
     let nests = nests_of host trees n in
     let u : Under = under host nests (trees s) in
-    at_end_free _ (execs u 0 (trees s).row (new_run heard w) out w)
+    at_end_free _ (exec_all u 0 (trees s).row (new_run heard w) out w)
     (execs_free u states (nests_free host states trees n) (again_free host states nests (nests_free host states trees n) (trees s) (host.limit + 1)) 0 (trees s).row (new_run heard w) out w)
 
 chain_free : (e : Ending) → FreeEnding e → FreeChain (chain_in e)

@@ -35,7 +35,7 @@ use Rattle.tm_syntax.proofs.Long.{statements_long}
 use Rattle.tm_meaning.specs.World.{Host, choose, World, Scope, Loop, loop_scope, new_loop, open_loop, turned, next_turn, cleared, top_mark, top_loop, items_over, Res, Good, Bad, bind, tick, depth, push, pop, plain as plain_scope, items_of, set_member, answered, emitted, looked_up, escape_for, with_escape, captured_text}
 use Rattle.tm_meaning.specs.Calls.{Callee, whole, Asked, has, refused, runs, recurs, enter_block, call_named, call_first, call_method, call_innermost}
 use Rattle.tm_meaning.specs.Tree.{Trees}
-use Rattle.tm_meaning.specs.Meaning.{Again, ended, over, under, again_in, again_of, text_behind, Run, Outcome, Ending, done, leave, next, fault, Under, so_far, say, use_it, value_of, in_place_of, block_tag, truth, applied_unary, operated, applied, attribute, item_at, slice_of, list_of_values, map_of_pairs, audible as heard_here, none_waits, eval, eval_all, eval_pair, eval_pairs, eval_argument, eval_arguments, eval_keyword, eval_keywords, eval_named, keyword_map, one_counted, kept, loop_items, eval_condition, eval_conditions, eval_step, eval_links, eval_steps, assign, assign_all, set_to, set_each, capturing, rounds, loop_over, has_none, exec_behind_loop, done_by, emit, behind_first, exec, execs, exec_else, new_run, at_end, nests_of, rendered}
+use Rattle.tm_meaning.specs.Meaning.{Again, ended, over, under, again_in, again_of, text_behind, Run, Outcome, Ending, done, leave, next, fault, Under, so_far, say, use_it, value_of, in_place_of, block_tag, truth, applied_unary, operated, applied, attribute, item_at, slice_of, list_of_values, map_of_pairs, audible as heard_here, none_waits, eval, eval_all, eval_pair, eval_pairs, eval_argument, eval_arguments, eval_keyword, eval_keywords, eval_named, keyword_map, one_counted, kept, loop_items, eval_condition, eval_conditions, eval_step, eval_links, eval_steps, assign, assign_all, set_to, set_each, capturing, rounds, loop_over, has_none, exec_behind_loop, done_by, emit, behind_first, exec, exec_all, exec_else, new_run, at_end, nests_of, rendered}
 use Rattle.tm_meaning.specs.Machine.{Return, new_capture, recursion, place_of_loop, Capture as OpenCapture, Config, Finished, Failed, Stuck, More, Over, Program, after, goes, taken, on_taken, asked, asked_in_place, base_of, run_from, stuck, with_world}
 use Rattle.tm_meaning.specs.Instructions.{returned, returns, binary_of, paired, end_capture_of, replacing, is_no_loop, on_loop, iterate_of, iterate_with, push_did_not_iterate_of, pop_loop_with, looping}
 use Rattle.tm_meaning.specs.Steps.{act, finish, Final, final, over as is_over}
@@ -897,7 +897,7 @@ module _ (context : Context) (trees : Trees) (n : ℕ)
   abbrev StmtsRun : {m : _} → ℕ → Inside → Row_of-Stmt m → Type 1
   StmtsRun loops k ss =
       (run : Run) (s : Spot) (pc : ℕ) (stack : List Val) (w : World) (L N : Then) → Stands context.base run s → Deep run s w → Around k s stack w L N → HasAt (context.program.code s.run.stream) pc (statements_code k pc ss) → loops_before pc (context.program.code s.run.stream) ≡ loops →
-      Ends context s.bed (execs u loops ss (as_at run s) s.out w) (λ q out1 world1. Go context (later s q out1) (pc + length (statements_code k pc ss)) stack world1) L N → Go context s pc stack w
+      Ends context s.bed (exec_all u loops ss (as_at run s) s.out w) (λ q out1 world1. Go context (later s q out1) (pc + length (statements_code k pc ss)) stack world1) L N → Go context s pc stack w
 
   -- ---------------------------------------------------------------- loops
   -- a run with a loop more open
@@ -933,7 +933,7 @@ module _ (context : Context) (trees : Trees) (n : ℕ)
 
   -- what a round does with its item
   abbrev turn_of : {m : _} → Target → ℕ → Row_of-Stmt m → Val → Run → List ℕ → World → Outcome
-  turn_of t loops body v run out w = use_it (assign u run t v w) run out (λ _ world1. execs u loops body run out world1)
+  turn_of t loops body v run out w = use_it (assign u run t v w) run out (λ _ world1. exec_all u loops body run out world1)
 
   turn_ends : {m : _} → (t : Target) (loops : ℕ) (body : Row_of-Stmt m) (v : Val) (run : Run) (out : List ℕ) (w : World) → KeptEnds w (turn_of t loops body v run out w)
   turn_ends t loops body v run out w = ends_use w (assign u run t v w) run out _ (assign_gives u nest_ends again_kept run t v w) (λ _ world1. execs_end u nest_ends again_kept loops body run out world1)
@@ -1000,10 +1000,10 @@ module _ (context : Context) (trees : Trees) (n : ℕ)
       subst (λ n. Comes context (told s) n) (sym (iterate_is o (for_flags false) s s.parent s.out again end stack w world1 l (Some v) kept record1 (next_item l items v vs left)))
       (silent context (told s) _
       (target_runs t (as_at run s) (looped o s) (again + 1) v stack y (here run s y (deep_kept run s kept_y d)) (has_front all (again + 1) tc (bc ++ i.Jump again ∷ []) is.1)
-      (use_then context s.bed y (assign u (as_at run s) t v y) (as_at run s) s.out (λ _ z. execs u loops body (as_at run s) s.out z) DoneThen LeaveThen DoneThen _ (assign_gives u nest_ends again_kept (as_at run s) t v y)
+      (use_then context s.bed y (assign u (as_at run s) t v y) (as_at run s) s.out (λ _ z. exec_all u loops body (as_at run s) s.out z) DoneThen LeaveThen DoneThen _ (assign_gives u nest_ends again_kept (as_at run s) t v y)
       (round_then context s.bed (as_at run s) turned_by next_round D L N h1) (λ _ z k2 h2.
       part run (looped o s) start stack z LeaveThen DoneThen fits (deep_kept run s (kept_then kept_y k2) d) (around_kept inner (looped o s) stack LeaveThen DoneThen k2 (leaves, nexts)) (has_front all start bc (i.Jump again ∷ []) from_body) nth
-      (ends_map_kept context s.bed z (execs u loops body (as_at run s) s.out z) DoneThen _ LeaveThen DoneThen (execs_end u nest_ends again_kept loops body (as_at run s) s.out z) h2 (λ q out1 z1 k3 g.
+      (ends_map_kept context s.bed z (exec_all u loops body (as_at run s) s.out z) DoneThen _ LeaveThen DoneThen (execs_end u nest_ends again_kept loops body (as_at run s) s.out z) h2 (λ q out1 z1 k3 g.
       goes_on q out1 z1 (start + length bc) (kept_then k2 k3) last.0 g)))))))))
 
   -- ---------------------------------------------------------------- items under a condition
@@ -1138,12 +1138,12 @@ module _ (context : Context) (trees : Trees) (n : ℕ)
   first_runs : {m : _} → (k : Inside) (loops : ℕ) (body : Row_of-Stmt m) → StmtsRun loops k body → (other : Otherwise) (run : Run) (s : Spot) (pc end : ℕ) (stack : List Val) (w : World) (L N : Then) → Stands context.base run s → Deep run s w → Around k s stack w L N →
       pc + length (statements_code k pc body) + length (otherwise_code k (pc + length (statements_code k pc body)) other) ≡ end →
       HasAt (context.program.code s.run.stream) pc (statements_code k pc body ++ otherwise_code k (pc + length (statements_code k pc body)) other) → loops_before pc (context.program.code s.run.stream) ≡ loops →
-      Ends context s.bed (behind_first other (as_at run s) (execs u loops body (as_at run s) s.out w)) (λ q out1 world1. Go context (later s q out1) end stack world1) L N → Go context s pc stack w
+      Ends context s.bed (behind_first other (as_at run s) (exec_all u loops body (as_at run s) s.out w)) (λ q out1 world1. Go context (later s q out1) end stack world1) L N → Go context s pc stack w
   first_runs k loops body part no_else run s pc end stack w L N fits d j place is nth h =
       let bc = statements_code k pc body in
       let here : pc + length bc ≡ end = omega (arith, place) in
       part run s pc stack w L N fits d j (has_front (context.program.code s.run.stream) pc bc [] is) nth
-      (ends_map context s.bed (execs u loops body (as_at run s) s.out w) _ _ L N h (λ q out1 world1 g. move context (later s q out1) _ _ stack world1 here g))
+      (ends_map context s.bed (exec_all u loops body (as_at run s) s.out w) _ _ L N h (λ q out1 world1 g. move context (later s q out1) _ _ stack world1 here g))
   first_runs k loops body part (otherwise _ eb) run s pc end stack w L N fits d j place is nth h =
       let bc = statements_code k pc body in
       let ec = statements_code k (pc + length bc + 1) eb in
@@ -1152,7 +1152,7 @@ module _ (context : Context) (trees : Trees) (n : ℕ)
       let behind = has_behind (context.program.code s.run.stream) pc bc (i.Jump to ∷ ec) is in
       let D : Then = λ q out1 world1. Go context (later s q out1) end stack world1 in
       part run s pc stack w L N fits d j (has_front (context.program.code s.run.stream) pc bc (i.Jump to ∷ ec) is) nth
-      (do_then context s.bed (as_at run s) w (execs u loops body (as_at run s) s.out w) (λ run1 out1 world1. use_it (tick world1) run1 out1 (λ _ world2. so_far run1 out1 world2)) D L N _
+      (do_then context s.bed (as_at run s) w (exec_all u loops body (as_at run s) s.out w) (λ run1 out1 world1. use_it (tick world1) run1 out1 (λ _ world2. so_far run1 out1 world2)) D L N _
       (execs_end u nest_ends again_kept loops body (as_at run s) s.out w) h (λ q out1 world1 k1 h1.
       at context (i.Jump to) (later s q out1) (pc + length bc) stack world1 behind.0 (after_then context (told (later s q out1)) (tick world1) _
       (use_then context s.bed world1 (tick world1) (record run { parent = q }) out1 (λ _ world2. so_far (record run { parent = q }) out1 world2) D L N _ (tick_gives world1) h1 (λ _ world2 k2 h2.
@@ -1200,7 +1200,7 @@ module _ (context : Context) (trees : Trees) (n : ℕ)
         after_then context (told s) (truth context.program.host v world2) _ (use_then context s.bed world2 (truth context.program.host v world2) (as_at run s) s.out _ _ L N _ (answered_gives _ world2) h2 (λ b world3 k3 h3.
         let deep3 = deep_kept run s k3 (deep_kept run s k2 (deep_kept run s k1 d)) in
         let around3 = around_kept k s stack L N (kept_then k1 (kept_then k2 k3)) j in
-        choose_ends context b (behind_first other (as_at run s) (execs u loops body (as_at run s) s.out world3)) (exec_else u (pasts loops body) other (as_at run s) s.out world3) _ _ (told s) s.bed _ L N h3
+        choose_ends context b (behind_first other (as_at run s) (exec_all u loops body (as_at run s) s.out world3)) (exec_else u (pasts loops body) other (as_at run s) s.out world3) _ _ (told s) s.bed _ L N h3
         (λ h4. silent context (told s) _ (first_runs k loops body (stmts_run k loops body) other run s (pc1 + 1) end stack world3 L N fits deep3 around3 place behind.1 nth1 h4))
         (λ h4. silent context (told s) _ (second_runs k loops body other run s (pc1 + 1) end stack world3 L N fits deep3 around3 place behind.1 nth1 h4)))))))))
     stmt_runs k loops (For' t e c recursive _ body other) run s pc stack w L N fits d j is nth h =
@@ -1273,7 +1273,7 @@ module _ (context : Context) (trees : Trees) (n : ℕ)
         silent context (told s) _ (sets_run given (as_at run s) s (pc + 1) stack (within a w) (here run s (within a w) deep1) (has_front all (pc + 1) gc (bc ++ i.PopFrame ∷ []) is.1)
         (use_then context s.bed (within a w) (set_each u (as_at run s) given (within a w)) (as_at run s) s.out _ _ L N _ (set_each_gives u nest_ends again_kept (as_at run s) given (within a w)) h1 (λ _ world2 k2 h2.
         stmts_run (opening a_scope k) loops body run s pc1 stack world2 (Closed pop L) (Closed pop N) fits (deep_kept run s k2 deep1) (around_scope k s stack w world2 L N d.0.scopes k2 j) (has_front all pc1 bc (i.PopFrame ∷ []) from_body) nth2
-        (closed_then context s.bed world2 pop (execs u loops body (as_at run s) s.out world2) _ L N _ (execs_end u nest_ends again_kept loops body (as_at run s) s.out world2) h2 (λ q out1 world3 k3 g.
+        (closed_then context s.bed world2 pop (exec_all u loops body (as_at run s) s.out world2) _ L N _ (execs_end u nest_ends again_kept loops body (as_at run s) s.out world2) h2 (λ q out1 world3 k3 g.
         popped_then (later s q out1) (pc1 + length bc) stack world3 (omega (arith, kept_frames k3, kept_frames k2, d.0.scopes)) (top_of_marks None (marks w.scopes.frames) world3.scopes.frames (k3.same_marks ∙ k2.same_marks)) last.0
         (move context (later s q out1) _ _ stack (pop world3) place g)))))))))
     stmt_runs k loops (SetBlock' t _ body) run s pc stack w L N fits d j is nth h =
@@ -1284,7 +1284,7 @@ module _ (context : Context) (trees : Trees) (n : ℕ)
         let behind = has_behind all (pc + 1) bc (i.EndCapture ∷ tc) is.1 in
         let place : pc1 + 1 + length tc ≡ pc + suc (length (bc ++ i.EndCapture ∷ tc)) = omega (arith, length-append bc (i.EndCapture ∷ tc)) in
         let inner : Spot = record s { bed = captured_in s.bed s.out; out = [] } in
-        let o = execs u loops body (capturing true (as_at run s)) [] w in
+        let o = exec_all u loops body (capturing true (as_at run s)) [] w in
         let nth1 : loops_before (pc + 1) all ≡ loops = behind_code all pc (i.BeginCapture Capture ∷ []) (is.0, tt) ∙ omega (arith, nth) in
         at context (i.BeginCapture Capture) s pc stack w is.0 (silent context (told s) _
         (stmts_run (opening a_capture k) loops body (capturing true run) inner (pc + 1) stack w (Dropped context s.bed s.out L) (Dropped context s.bed s.out N) (stands_captured run s fits) (d.0, stands_captured run s fits, d.2) (around_capture k s stack w L N (omega (arith, fits.1)) j) (has_front all (pc + 1) bc (i.EndCapture ∷ tc) is.1) nth1
@@ -1316,7 +1316,7 @@ module _ (context : Context) (trees : Trees) (n : ℕ)
         silent context (told s) _
         (stmts_run (opening an_escape k) loops body run inner (pc1 + 1) stack (with_escape x world2) (Closed (with_escape world2.escape) L) (Closed (with_escape world2.escape) N) fits
         (deep_escaped run s x world2 (deep_kept run s k2 (deep_kept run s k1 d))) (around_escape k s stack world2 x L N (around_kept k s stack L N (kept_then k1 k2) j)) (has_front all (pc1 + 1) bc (i.PopAutoEscape ∷ []) behind.1) nth2
-        (closed_then context s.bed (with_escape x world2) (with_escape world2.escape) (execs u loops body (as_at run s) s.out (with_escape x world2)) _ L N _ (execs_end u nest_ends again_kept loops body (as_at run s) s.out (with_escape x world2)) h2 (λ q out1 world3 k3 g.
+        (closed_then context s.bed (with_escape x world2) (with_escape world2.escape) (exec_all u loops body (as_at run s) s.out (with_escape x world2)) _ L N _ (execs_end u nest_ends again_kept loops body (as_at run s) s.out (with_escape x world2)) h2 (λ q out1 world3 k3 g.
         at context i.PopAutoEscape (later inner q out1) (pc1 + 1 + length bc) stack world3 last.0
         (silent context (told (later s q out1)) _ (move context (later s q out1) _ _ stack (with_escape world2.escape world3) place g)))))))))))
     stmt_runs k loops (Do e) run s pc stack w L N fits d j is nth h =
@@ -1329,7 +1329,7 @@ module _ (context : Context) (trees : Trees) (n : ℕ)
         (silent context (told s) _ (move context s _ _ stack world1 place (so_far_then context s.bed (as_at run s) s.out world1 _ L N h1)))))
 
     stmts_run : {m : _} → (k : Inside) (loops : ℕ) (ss : Row_of-Stmt m) (run : Run) (s : Spot) (pc : ℕ) (stack : List Val) (w : World) (L N : Then) → Stands context.base run s → Deep run s w → Around k s stack w L N → HasAt (context.program.code s.run.stream) pc (statements_code k pc ss) → loops_before pc (context.program.code s.run.stream) ≡ loops →
-        Ends context s.bed (execs u loops ss (as_at run s) s.out w) (λ q out1 world1. Go context (later s q out1) (pc + length (statements_code k pc ss)) stack world1) L N → Go context s pc stack w
+        Ends context s.bed (exec_all u loops ss (as_at run s) s.out w) (λ q out1 world1. Go context (later s q out1) (pc + length (statements_code k pc ss)) stack world1) L N → Go context s pc stack w
     stmts_run k loops no_statement run s pc stack w L N fits d j is nth h = move context s pc (pc + 0) stack w (omega arith) (so_far_then context s.bed (as_at run s) s.out w _ L N h)
     stmts_run k loops (statement x ss) run s pc stack w L N fits d j is nth h =
         let c = statement_code k pc x in
@@ -1339,9 +1339,9 @@ module _ (context : Context) (trees : Trees) (n : ℕ)
         let D : Then = λ q out1 world1. Go context (later s q out1) end stack world1 in
         let nth1 : loops_before (pc + length c) (context.program.code s.run.stream) ≡ past loops x = behind_code (context.program.code s.run.stream) pc c (has_front (context.program.code s.run.stream) pc c rest is) ∙ omega (arith, nth, statement_count k pc loops x) in
         stmt_runs k loops x run s pc stack w L N fits d j (has_front (context.program.code s.run.stream) pc c rest is) nth
-        (do_then context s.bed (as_at run s) w (exec u loops x (as_at run s) s.out w) (λ run1 out1 world1. execs u (past loops x) ss run1 out1 world1) D L N _ (exec_ends u nest_ends again_kept loops x (as_at run s) s.out w) h (λ q out1 world1 k1 h1.
+        (do_then context s.bed (as_at run s) w (exec u loops x (as_at run s) s.out w) (λ run1 out1 world1. exec_all u (past loops x) ss run1 out1 world1) D L N _ (exec_ends u nest_ends again_kept loops x (as_at run s) s.out w) h (λ q out1 world1 k1 h1.
         stmts_run k (past loops x) ss run (later s q out1) (pc + length c) stack world1 L N (stands_later context.base run s fits q out1) (deep_later run s world1 q out1 (deep_kept run s k1 d)) (around_kept k s stack L N k1 j) (has_behind (context.program.code s.run.stream) pc c rest is) nth1
-        (ends_map context s.bed (execs u (past loops x) ss (record run { parent = q }) out1 world1) D _ L N h1 (λ q2 out2 world2 g. move context (later s q2 out2) _ end stack world2 place g))))
+        (ends_map context s.bed (exec_all u (past loops x) ss (record run { parent = q }) out1 world1) D _ L N h1 (λ q2 out2 world2 g. move context (later s q2 out2) _ end stack world2 place g))))
 
     -- the other part
     second_runs : {m : _} → (k : Inside) (loops : ℕ) (body : Row_of-Stmt m) (other : Otherwise) (run : Run) (s : Spot) (pc end : ℕ) (stack : List Val) (w : World) (L N : Then) → Stands context.base run s → Deep run s w → Around k s stack w L N →
@@ -1360,7 +1360,7 @@ module _ (context : Context) (trees : Trees) (n : ℕ)
         let body_number = behind_code all pc bc (has_front all pc bc (i.Jump (pc + length bc + 1 + length ec) ∷ ec) is) in
         let nth1 : loops_before (pc + length bc + 1) all ≡ pasts loops body = behind_code all (pc + length bc) (i.Jump (pc + length bc + 1 + length ec) ∷ []) (behind.0, tt) ∙ omega (arith, body_number, nth, statements_count k pc loops body) in
         stmts_run k (pasts loops body) eb run s (pc + length bc + 1) stack w L N fits d j behind.1 nth1
-        (ends_map context s.bed (execs u (pasts loops body) eb (as_at run s) s.out w) _ _ L N h (λ q out1 world1 g. move context (later s q out1) _ _ stack world1 here g))
+        (ends_map context s.bed (exec_all u (pasts loops body) eb (as_at run s) s.out w) _ _ L N h (λ q out1 world1 g. move context (later s q out1) _ _ stack world1 here g))
 
     -- behind a loop's last round
     behind_loop_runs : (k : Inside) (loops : ℕ) (other : Otherwise) (vs : List Val) (run : Run) (s : Spot) (pc end to : ℕ) (stack : List Val) (w x : World) (l : Loop) (L N : Then) → Stands context.base run s → Deep run s w → Around k s stack w L N →
@@ -1385,11 +1385,11 @@ module _ (context : Context) (trees : Trees) (n : ℕ)
         (left_loop_then (for_flags false) s q out (end + 1) (boolean b ∷ stack) w x l d.0.scopes kept e is.1.0
         (at context test (later s q out) (end + 1 + 1) (boolean b ∷ stack) (pop x) is.1.1.0 (after_then context (told_by s.bed out) (tick (pop x)) _
         (use_then context s.bed (pop x) (tick (pop x)) (record run { parent = q }) out _ D0 L N _ (tick_gives (pop x)) h (λ _ v k1 h1.
-        choose_ends context b (execs u loops eb (record run { parent = q }) out v) (so_far (record run { parent = q }) out v) _ _ (told_by s.bed out) s.bed D0 L N h1
+        choose_ends context b (exec_all u loops eb (record run { parent = q }) out v) (so_far (record run { parent = q }) out v) _ _ (told_by s.bed out) s.bed D0 L N h1
         (λ h2. silent context (told_by s.bed out) _ (move context (later s q out) _ _ stack v first
         (stmts_run k loops eb run (later s q out) (end + 3) stack v L N (stands_later context.base run s fits q out) (deep_later run s v q out (deep_kept run s (kept_then popped k1) d)) (around_kept k s stack L N (kept_then popped k1) j)
         (subst (λ n. HasAt all n ec) first is.1.1.1) nth1
-        (ends_map context s.bed (execs u loops eb (record run { parent = q }) out v) _ _ L N h2 (λ q1 out1 y g. move context (later s q1 out1) _ _ stack y here g)))))
+        (ends_map context s.bed (exec_all u loops eb (record run { parent = q }) out v) _ _ L N h2 (λ q1 out1 y g. move context (later s q1 out1) _ _ stack y here g)))))
         (λ h2. silent context (told_by s.bed out) _ (move context (later s q out) _ _ stack v here (so_far_then context s.bed (record run { parent = q }) out v D0 L N h2))))))))))
 
   -- ---------------------------------------------------------------- loops that are called
@@ -1601,7 +1601,7 @@ module _ (p : Program) (trees : Trees) (compiled : IsCompiled trees p) where
       let again = again_of p.host nests (trees id) (p.host.limit + 1) in
       let kept_again = again_end p.host nests (nests_end p.host trees n) (trees id) (p.host.limit + 1) in
       let u : Under = under p.host nests (trees id) in
-      let o = execs u 0 (trees id).row (new_run heard w) out w in
+      let o = exec_all u 0 (trees id).row (new_run heard w) out w in
       let context = running heard b out w (end_of b (at_end o.ending o)) in
       let s = spot_of id b out in
       let row = (trees id).row in
