@@ -110,9 +110,9 @@ needed (Ok flow.Done) s = absurd s.did
 needed {f = f} {old = old} {new = new} (Ok (flow.Enter e)) s = record { did = (s.did, refl); counted = refl; kept = s.kept; depths = s.deepens; same_stream = s.same_stream }
 needed (Err halt.Writer) s = absurd s.did
 needed {f = f} {n = n} {old = old} {new = new} {told = told} (Err halt.Stuck) s =
-    record { did = (s.did, beginning_nothing told (output n)); counted = refl; kept = s.kept; depths = stays_over f old.world new.world s.deepens; same_stream = s.same_stream }
+    record { did = (s.did, beginning_nothing told (output n)); counted = refl; kept = s.kept; depths = stays f old.world new.world s.deepens; same_stream = s.same_stream }
 needed {f = f} {n = n} {old = old} {new = new} {told = told} (Err (halt.Fault chain)) s =
-    record { did = (s.did, beginning_nothing told (output n)); counted = refl; kept = s.kept; depths = stays_over f old.world new.world s.deepens; same_stream = s.same_stream }
+    record { did = (s.did, beginning_nothing told (output n)); counted = refl; kept = s.kept; depths = stays_over f old.world new.world s.deepens.0; same_stream = s.same_stream }
 
 -- one that needs a run, which is boxed
 pub boxed : {limit : ℕ} {n : Next} {old new : Config} (e : Entry) (b : Box Entry) → b.value ≡ e → Enters e new n → Keeps old.world new.world → OneDeeper limit e old.world new.world

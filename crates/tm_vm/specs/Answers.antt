@@ -169,11 +169,13 @@ Needed (Err halt.Writer) c n = ⊥
 Needed (Err halt.Stuck) c n = n ≡ Over (Stuck c.world)
 Needed (Err (halt.Fault chain)) c n = is_want_of_memory chain ≡ false → n ≡ Over (Failed chain c.world)
 
--- how the scopes lie behind an instruction
+-- how the scopes lie behind an instruction; only where memory lacks for the run may its scope be left
 abbrev pub Deepens : ℕ → Result Flow Halt → World → World → Type 0
 Deepens limit (Ok (flow.Enter e)) old new = OneDeeper limit e.value old new
 Deepens limit (Ok _) old new = SameScopes old new
-Deepens limit (Err why) old new = NoFewer old new
+Deepens limit (Err halt.Writer) old new = SameScopes old new
+Deepens limit (Err halt.Stuck) old new = SameScopes old new
+Deepens limit (Err (halt.Fault chain)) old new = NoFewer old new × (is_want_of_memory chain ≡ false → SameScopes old new)
 
 pub record Needs (limit : ℕ) (n : Next) (old new : Config) (result : Result Flow Halt) : Type 0 where
   pub did : Needed result new n
