@@ -1,4 +1,3 @@
 pub mod Named
 pub mod Forms
-pub mod Long
 pub mod Places

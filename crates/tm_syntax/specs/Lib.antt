@@ -1,4 +1,5 @@
 pub mod Forms
+pub mod Fragments
 pub mod Code
 pub mod Named
 pub mod Hashed

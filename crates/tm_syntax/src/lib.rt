@@ -3,6 +3,7 @@
 
 mod code;
 mod instruction;
+mod jump;
 mod name;
 mod name_map;
 mod opened;
@@ -12,6 +13,7 @@ mod tree;
 
 pub use code::Code;
 pub use instruction::{CaptureMode, Instruction, LoopFlags, LoopPlace};
+pub use jump::JumpKind;
 pub use name::Name;
 pub use name_map::NameMap;
 pub use opened::Opened;

@@ -1,0 +1,97 @@
+-- Code without places, and the instructions of code that stands at a place.
+use Rattle.std.specs.Prelude.{ℕ, ◌+◌, List, [], ◌∷◌, ◌++◌}
+use Rattle.tm_syntax.specs.declared.instruction.LoopFlags.{LoopFlags}
+use Rattle.tm_syntax.specs.declared.instruction.Instruction.{Instruction}
+use Rattle.tm_syntax.specs.declared.instruction.Instruction.TheVariants as i
+use Rattle.tm_syntax.specs.declared.jump.JumpKind.{JumpKind}
+use Rattle.tm_syntax.specs.declared.jump.JumpKind.TheVariants as kinds
+
+infixr 60 ◌⨾◌
+
+pub data Fragment : Type 0 where
+  -- instructions that neither jump nor begin a loop
+  straight : List Instruction → Fragment
+  -- one, and then the other
+  ◌⨾◌ : Fragment → Fragment → Fragment
+  -- a jump out of the innermost of the next two
+  jump_out : JumpKind → Fragment
+  -- what jumps out of it goes on after it
+  bounded : Fragment → Fragment
+  -- What jumps out of the first goes on with the second, over which the first jumps at its end.
+  fork : Fragment → Fragment → Fragment
+  -- a loop: each round, and what stands after the last
+  looped : LoopFlags → Fragment → Fragment → Fragment
+  -- to what stands after the innermost loop's rounds, and to its next round
+  break_loop : Fragment
+  next_round : Fragment
+  -- What is jumped over, and entered by calls alone: neither loops nor jumps around it are seen in it.
+  aside : Fragment → Fragment
+
+-- a jump over code, and either of two
+abbrev pub over : JumpKind → Fragment → Fragment
+over j c = bounded (jump_out j ⨾ c)
+
+abbrev pub either : Fragment → Fragment → Fragment
+either c d = fork (jump_out kinds.IfFalse ⨾ c) d
+
+-- ---------------------------------------------------------------- places
+abbrev pub beyond_all : ℕ → List Instruction → ℕ
+beyond_all pc [] = pc
+beyond_all pc (x ∷ is) = beyond_all (pc + 1) is
+
+-- the place after code that stands at a place
+abbrev pub beyond : ℕ → Fragment → ℕ
+beyond pc (straight is) = beyond_all pc is
+beyond pc (c ⨾ d) = beyond (beyond pc c) d
+beyond pc (jump_out j) = pc + 1
+beyond pc (bounded c) = beyond pc c
+beyond pc (fork c d) = beyond (beyond pc c + 1) d
+beyond pc (looped g c d) = beyond (beyond (pc + 1 + 1) c + 1) d
+beyond pc break_loop = pc + 1
+beyond pc next_round = pc + 1
+beyond pc (aside c) = beyond (pc + 1) c
+
+-- where jumps out go, where the innermost loop's next item is asked for, and what stands after its rounds
+pub record Labels : Type 0 where
+  pub out : ℕ
+  pub again : ℕ
+  pub after : ℕ
+
+abbrev pub outward : ℕ → Labels → Labels
+outward out l = record l { out = out }
+
+abbrev pub inward : ℕ → ℕ → Labels → Labels
+inward again after l = record l { again = again; after = after }
+
+-- of code on its own: where a loop is left or goes on outside of one, which no source spells, it ends there
+abbrev pub ending_at : ℕ → Labels
+ending_at end = record { out = end; again = end; after = end }
+
+-- ---------------------------------------------------------------- instructions
+abbrev pub jump : JumpKind → ℕ → Instruction
+jump kinds.IfFalse to = i.JumpIfFalse to
+jump kinds.IfFalseOrPop to = i.JumpIfFalseOrPop to
+jump kinds.IfTrueOrPop to = i.JumpIfTrueOrPop to
+
+abbrev pub assemble : Labels → ℕ → Fragment → List Instruction
+assemble l pc (straight is) = is
+assemble l pc (c ⨾ d) = assemble l pc c ++ assemble l (beyond pc c) d
+assemble l pc (jump_out j) = jump j l.out ∷ []
+assemble l pc (bounded c) = assemble (outward (beyond pc c) l) pc c
+assemble l pc (fork c d) =
+    let second = beyond pc c + 1 in
+    assemble (outward second l) pc c ++ i.Jump (beyond second d) ∷ assemble l second d
+assemble l pc (looped g c d) =
+    let again = pc + 1 in
+    let after = beyond (again + 1) c + 1 in
+    i.PushLoop g ∷ i.Iterate after ∷ (assemble (inward again after l) (again + 1) c ++ i.Jump again ∷ assemble l after d)
+assemble l pc break_loop = i.Jump l.after ∷ []
+assemble l pc next_round = i.Jump l.again ∷ []
+assemble l pc (aside c) = let end = beyond (pc + 1) c in i.Jump end ∷ assemble (ending_at end) (pc + 1) c
+
+-- code on its own
+abbrev pub whole_labels : Fragment → Labels
+whole_labels c = ending_at (beyond 0 c)
+
+abbrev pub assembled : Fragment → List Instruction
+assembled c = assemble (whole_labels c) 0 c
