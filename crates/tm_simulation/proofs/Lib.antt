@@ -1,10 +1,9 @@
-pub mod Place
 pub mod Keeps
 pub mod Loops
 pub mod Follow
 pub mod Forms
 pub mod Simulation
-mod Numbers
-mod Matches
+mod Begins
+mod TreeLoops
 pub mod Faults
 pub mod Memory

@@ -1,5 +1,6 @@
 -- The code of trees comes to what the trees mean.
-use Rattle.std.proofs.Common.{◌≡◌, ℕ, zero, suc, ◌+◌, ◌<◌, ◌≤◌, ◌⊎◌, inl, inr, List, [], ◌∷◌, ◌++◌, length, Option, Some, None, Bool, true, false, refl, sym, ap, ◌∙◌, subst, arith, length-append, eq-eqb, lt-ltb, ltb-true, eqb-true}
+use Rattle.std.proofs.Common.{◌≡◌, ℕ, zero, suc, ◌+◌, ◌<◌, ◌≤◌, ◌⊎◌, inl, inr, List, [], ◌∷◌, ◌++◌, length, Option, Some, None, Bool}
+use Rattle.std.proofs.Common.{true, false, refl, sym, ap, ◌∙◌, subst, arith, length-append, eq-eqb, lt-ltb, ltb-true, eqb-true}
 use Rattle.std.specs.Prelude.{ℤ, pos, slice_get, ◌&&◌, nat_eq, nat_lt, ◌==◌, cond, Ok, Err}
 use Rattle.std.proofs.lemmas.List.{append-nil}
 use Rattle.std.proofs.lemmas.Option.{slice_get_past}
@@ -13,45 +14,87 @@ use Rattle.tm_syntax.specs.declared.tree.UnaryOperator.{UnaryOperator}
 use Rattle.tm_syntax.specs.declared.tree.UnaryOperator.TheVariants as unaries
 use Rattle.tm_syntax.specs.declared.tree.BinaryOperator.{BinaryOperator}
 use Rattle.tm_syntax.specs.declared.tree.BinaryOperator.TheVariants as binaries
-use Rattle.tm_syntax.specs.declared.tree.Expr.{Expr, Var, Const, List', Tuple', Map', Call', Row_of-Expr, end_of-Expr as no_expr, more_of-Expr as expr, Row_of-Pair, end_of-Pair as no_pair, more_of-Pair as with_pair, Row_of-Argument, end_of-Argument as no_argument, more_of-Argument as argument, Row_of-Keyword, end_of-Keyword as no_keyword, more_of-Keyword as with_keyword, Row_of-Step, end_of-Step as no_step, more_of-Step as step_and, Row_of-Condition, end_of-Condition as no_condition, more_of-Condition as with_condition}
+use Rattle.tm_syntax.specs.declared.tree.Expr.{Expr, Var, Const, List', Tuple', Map', Call', Row_of-Expr, end_of-Expr as no_expr}
+use Rattle.tm_syntax.specs.declared.tree.Expr.{more_of-Expr as expr, Row_of-Pair, end_of-Pair as no_pair, more_of-Pair as with_pair}
+use Rattle.tm_syntax.specs.declared.tree.Expr.{Row_of-Argument, end_of-Argument as no_argument, more_of-Argument as argument}
+use Rattle.tm_syntax.specs.declared.tree.Expr.{Row_of-Keyword, end_of-Keyword as no_keyword, more_of-Keyword as with_keyword, Row_of-Step}
+use Rattle.tm_syntax.specs.declared.tree.Expr.{end_of-Step as no_step, more_of-Step as step_and, Row_of-Condition}
+use Rattle.tm_syntax.specs.declared.tree.Expr.{end_of-Condition as no_condition, more_of-Condition as with_condition}
 use Rattle.tm_syntax.specs.declared.tree.Argument.{Argument}
 use Rattle.tm_syntax.specs.declared.tree.Keyword.{Keyword}
 use Rattle.tm_syntax.specs.declared.tree.Pair.{Pair}
 use Rattle.tm_syntax.specs.declared.tree.Condition.{Condition}
-use Rattle.tm_syntax.specs.declared.tree.Step.{Step, Attribute, Method', Row_of-Comparison, end_of-Comparison as no_comparison, more_of-Comparison as with_comparison}
-use Rattle.tm_syntax.specs.declared.tree.Target.{Target, Name as To, Unpack' as Items, Attribute as Member, Row_of-Target, end_of-Target as no_target, more_of-Target as target}
+use Rattle.tm_syntax.specs.declared.tree.Step.{Step, Attribute, Method', Row_of-Comparison, end_of-Comparison as no_comparison}
+use Rattle.tm_syntax.specs.declared.tree.Step.{more_of-Comparison as with_comparison}
+use Rattle.tm_syntax.specs.declared.tree.Target.{Target, Name as To, Unpack' as Items, Attribute as Member, Row_of-Target}
+use Rattle.tm_syntax.specs.declared.tree.Target.{end_of-Target as no_target, more_of-Target as target}
 use Rattle.tm_syntax.specs.declared.tree.Assignment.{Assignment}
 use Rattle.tm_syntax.specs.declared.tree.Assignment.TheVariants.{Assignment as Given}
-use Rattle.tm_syntax.specs.declared.tree.Stmt.{Stmt, EmitRaw, EmitExpr, EmitLoop, If', For', Break, Continue, Block', Set, SetBlock', With', Do, AutoEscape', Row_of-Stmt, end_of-Stmt as no_statement, more_of-Stmt as statement, Held-Stmt-If-2 as Otherwise, None' as no_else, Some' as otherwise}
+use Rattle.tm_syntax.specs.declared.tree.Stmt.{Stmt, EmitRaw, EmitExpr, EmitLoop, If', For', Break, Continue, Block', Set, SetBlock'}
+use Rattle.tm_syntax.specs.declared.tree.Stmt.{With', Do, AutoEscape', Row_of-Stmt, end_of-Stmt as no_statement}
+use Rattle.tm_syntax.specs.declared.tree.Stmt.{more_of-Stmt as statement, Held-Stmt-If-2 as Otherwise, None' as no_else}
+use Rattle.tm_syntax.specs.declared.tree.Stmt.{Some' as otherwise}
 use Rattle.tm_syntax.specs.declared.instruction.CaptureMode.TheVariants.{Capture}
 use Rattle.tm_syntax.specs.declared.instruction.LoopFlags.{LoopFlags}
 use Rattle.tm_syntax.specs.declared.instruction.Instruction.{Instruction}
 use Rattle.tm_syntax.specs.declared.instruction.Instruction.TheVariants as i
-use Rattle.tm_syntax.specs.Forms.{unary, chained, conditional, condition, comparison, pair, plain, keyword, item, slice, binary, compare, and_then, or_else}
-use Rattle.tm_syntax.specs.Code.{expr_code, condition_code, conditions_code, exprs_code, pair_code, pairs_code, argument_code, arguments_code, keyword_code, keywords_code, named_code, count_keywords, together, filter_code, iterable_code, filter_flags, step_code, links_code, steps_code, count, count_exprs, count_pairs, unary_code, binary_code, count_targets, target_code, targets_code, set_code, assignments_code, Inside, outside, opening, close_all, for_flags, statement_code, statements_code, otherwise_code, behind_loop_code, jump_over}
+use Rattle.tm_syntax.specs.Forms.{unary, chained, conditional, condition, comparison, pair, plain, keyword, item, slice, binary, compare}
+use Rattle.tm_syntax.specs.Forms.{and_then, or_else}
+use Rattle.tm_syntax.specs.Code.{count_keywords, together, filter_flags, count, count_exprs, count_pairs, unary_code, binary_code}
+use Rattle.tm_syntax.specs.Code.{count_targets, close_all, for_flags}
+use Rattle.tm_syntax.specs.Fragments.{Fragment, ◌⨾◌, straight, Labels, outward, inward, beyond_all, beyond, whole_labels, assembled}
+use Rattle.tm_syntax.specs.Fragments.{looped as a_loop}
+use Rattle.tm_syntax.specs.Code.{expr_code, condition_code, conditions_code, exprs_code, pair_code, pairs_code, argument_code}
+use Rattle.tm_syntax.specs.Code.{arguments_code, keyword_code, keywords_code, named_code, iterable_code, filter_round, step_code}
+use Rattle.tm_syntax.specs.Code.{links_code, steps_code, target_code, targets_code, set_code, assignments_code, statement_code}
+use Rattle.tm_syntax.specs.Code.{statements_code, branches_code, after_loop_code}
 use Rattle.tm_syntax.specs.declared.opened.Opened.{Opened}
 use Rattle.tm_syntax.specs.declared.opened.Opened.TheVariants.{Scope as a_scope, Escape as an_escape, Capture as a_capture}
-use Rattle.tm_syntax.proofs.Long.{statements_long}
-use Rattle.tm_meaning.specs.World.{Host, choose, World, Scope, Loop, loop_scope, new_loop, open_loop, turned, next_turn, cleared, top_mark, top_loop, items_over, Res, Good, Bad, bind, tick, depth, push, pop, plain as plain_scope, items_of, set_member, answered, emitted, looked_up, escape_for, with_escape, captured_text}
-use Rattle.tm_meaning.specs.Calls.{Callee, whole, Asked, has, refused, runs, recurs, enter_block, call_named, call_first, call_method, call_innermost}
+use Rattle.tm_meaning.specs.World.{Host, choose, World, Scope, Loop, loop_scope, new_loop, open_loop, turned, next_turn, cleared}
+use Rattle.tm_meaning.specs.World.{top_mark, top_loop, items_over, Res, Good, Bad, bind, tick, depth, push, pop, plain as plain_scope}
+use Rattle.tm_meaning.specs.World.{items_of, set_member, answered, emitted, looked_up, escape_for, with_escape, captured_text}
+use Rattle.tm_meaning.specs.Calls.{Callee, whole, Asked, has, refused, runs, recurs, enter_block, call_named, call_first, call_method}
+use Rattle.tm_meaning.specs.Calls.{call_innermost}
 use Rattle.tm_meaning.specs.Tree.{Trees}
-use Rattle.tm_meaning.specs.Meaning.{Again, ended, over, under, again_in, again_of, text_behind, Run, Outcome, Ending, done, leave, next, fault, Under, so_far, say, use_it, value_of, in_place_of, block_tag, truth, applied_unary, operated, applied, attribute, item_at, slice_of, list_of_values, map_of_pairs, audible as heard_here, none_waits, eval, eval_all, eval_pair, eval_pairs, eval_argument, eval_arguments, eval_keyword, eval_keywords, eval_named, keyword_map, one_counted, kept, loop_items, eval_condition, eval_conditions, eval_step, eval_links, eval_steps, assign, assign_all, set_to, set_each, capturing, rounds, loop_over, has_none, exec_behind_loop, done_by, emit, behind_first, exec, exec_all, exec_else, new_run, at_end, nests_of, rendered}
-use Rattle.tm_meaning.specs.Machine.{Return, new_capture, recursion, place_of_loop, Capture as OpenCapture, Config, Finished, Failed, Stuck, More, Over, Program, after, goes, taken, on_taken, asked, asked_in_place, base_of, run_from, stuck, with_world}
-use Rattle.tm_meaning.specs.Instructions.{returned, returns, binary_of, paired, end_capture_of, replacing, is_no_loop, on_loop, iterate_of, iterate_with, push_did_not_iterate_of, pop_loop_with, looping}
+use Rattle.tm_meaning.specs.Meaning.{Again, ended, over, under, again_in, again_of, text_behind, Run, Outcome, Ending, done, leave, next}
+use Rattle.tm_meaning.specs.Meaning.{fault, Under, so_far, say, use_it, value_of, in_place_of, block_tag, truth, applied_unary, operated}
+use Rattle.tm_meaning.specs.Meaning.{applied, attribute, item_at, slice_of, list_of_values, map_of_pairs, audible as heard_here}
+use Rattle.tm_meaning.specs.Meaning.{none_waits, eval, eval_all, eval_pair, eval_pairs, eval_argument, eval_arguments, eval_keyword}
+use Rattle.tm_meaning.specs.Meaning.{eval_keywords, eval_named, keyword_map, one_counted, kept, loop_items, eval_condition}
+use Rattle.tm_meaning.specs.Meaning.{eval_conditions, eval_step, eval_links, eval_steps, assign, assign_all, set_to, set_each, capturing}
+use Rattle.tm_meaning.specs.Meaning.{rounds, loop_over, has_none, exec_behind_loop, done_by, emit, behind_first, exec, exec_all}
+use Rattle.tm_meaning.specs.Meaning.{exec_else, new_run, at_end, nests_of, rendered}
+use Rattle.tm_meaning.specs.Machine.{Return, new_capture, recursion, place_of_loop, Capture as OpenCapture, Config, Finished, Failed}
+use Rattle.tm_meaning.specs.Machine.{Stuck, More, Over, Program, after, goes, taken, on_taken, asked, asked_in_place, base_of, run_from}
+use Rattle.tm_meaning.specs.Machine.{stuck, with_world}
+use Rattle.tm_meaning.specs.Instructions.{returned, returns, binary_of, paired, end_capture_of, replacing, is_no_loop, on_loop}
+use Rattle.tm_meaning.specs.Instructions.{iterate_of, iterate_with, push_did_not_iterate_of, pop_loop_with, looping}
 use Rattle.tm_meaning.specs.Steps.{act, finish, Final, final, over as is_over}
 use Rattle.tm_meaning.specs.Compiled.{IsCompiled, code_of}
 use Rattle.tm_meaning.proofs.Ends.{one_end}
 use Rattle.tm_simulation.specs.Kept.{shapes}
 use Rattle.tm_simulation.specs.Reached.{RunsTo, Renders, text_in, end_by, final_in, final_of, HasLevels}
-use Rattle.tm_simulation.proofs.Place.{HasAt, has_front, has_behind, has_both, has_whole}
+use Rattle.tm_syntax.proofs.Standing.{HasAt, At, beyond_is, stands_whole}
 use Rattle.tm_syntax.specs.declared.instruction.LoopPlace.{LoopPlace}
 use Rattle.tm_syntax.specs.Loops.{loops_before, passes, within_loop, past, pasts, FoundLoop, loops_in, loop_places}
-use Rattle.tm_simulation.proofs.Matches.{Both, Looped, Match, match_at, statements_match}
-use Rattle.tm_simulation.proofs.Numbers.{behind_code, expr_none, target_none, assignments_none, iterable_count, statement_count, statements_count}
+use Rattle.tm_simulation.proofs.Begins.{Both, Looped, Match, match_at, none_begin, after_one}
+use Rattle.tm_simulation.proofs.TreeLoops.{expr_loopless, target_loopless, assignments_loopless, found, iterable_begins, statement_begins}
+use Rattle.tm_simulation.proofs.TreeLoops.{statements_begin}
 use Rattle.tm_simulation.proofs.Loops.{LeftOf, next_item, no_item, left_then, turned_items, on_top_loop, next_record, new_record, none_is}
-use Rattle.tm_simulation.proofs.Keeps.{Kept, marks, kept_frames, kept_depth, kept_same, kept_then, kept_record, kept_popped, kept_cleared, kept_turned, top_of_marks, mark_behind, in_loop_of, opened, opened_kept, loop_ends, ends_use, Gives, EndsBy as EndsKept, Ends as KeptEnds, ends_as, tick_gives, answered_gives, Asks, block_asks, named_asks, method_asks, innermost_asks, again_end, eval_gives, condition_gives, all_give, pair_gives, pairs_give, argument_gives, arguments_give, keyword_gives, keywords_give, named_give, one_counted_gives, loop_items_give, step_gives, binary_gives, within, kept_unescaped, assign_gives, set_gives, set_each_gives, exec_ends, execs_end, nests_end}
-use Rattle.tm_simulation.proofs.Follow.{Context, Comes, follows_map_kept, bound_follows, ends_map_kept, leave_then, next_then, Goes, round_then, opened_then, opened_follows, Bed, air, inside, captures_of, told_by, Spot, told, cfg, later, Follows, Then, Ends, whole_of, follows_map, follows_bind, bind_then, use_then, so_far_then, fault_then, do_then, within_then, Closed, closed_then, captured_in, Dropped, captured_then, ends_map, Go, silent, at, after_then, move, pushes, choose_then, choose_ends}
-use Rattle.tm_simulation.proofs.Forms.{Fits, Stands, fits_captured, audible_is, writes_then, end_by as bed_end, end_of, Entered, call_in_place, call_as_value}
+use Rattle.tm_simulation.proofs.Keeps.{Kept, marks, kept_frames, kept_depth, kept_same, kept_then, kept_record, kept_popped, kept_cleared}
+use Rattle.tm_simulation.proofs.Keeps.{kept_turned, top_of_marks, mark_behind, in_loop_of, opened, opened_kept, loop_ends, ends_use}
+use Rattle.tm_simulation.proofs.Keeps.{Gives, EndsBy as EndsKept, Ends as KeptEnds, ends_as, tick_gives, answered_gives, Asks, block_asks}
+use Rattle.tm_simulation.proofs.Keeps.{named_asks, method_asks, innermost_asks, again_end, eval_gives, condition_gives, all_give}
+use Rattle.tm_simulation.proofs.Keeps.{pair_gives, pairs_give, argument_gives, arguments_give, keyword_gives, keywords_give, named_give}
+use Rattle.tm_simulation.proofs.Keeps.{one_counted_gives, loop_items_give, step_gives, binary_gives, within, kept_unescaped, assign_gives}
+use Rattle.tm_simulation.proofs.Keeps.{set_gives, set_each_gives, exec_ends, execs_end, nests_end}
+use Rattle.tm_simulation.proofs.Follow.{Context, Comes, follows_map_kept, bound_follows, ends_map_kept, leave_then, next_then, Goes}
+use Rattle.tm_simulation.proofs.Follow.{round_then, opened_then, opened_follows, Bed, air, inside, captures_of, told_by, Spot, told, cfg}
+use Rattle.tm_simulation.proofs.Follow.{later, Follows, Then, Ends, whole_of, follows_map, follows_bind, bind_then, use_then, so_far_then}
+use Rattle.tm_simulation.proofs.Follow.{fault_then, do_then, within_then, Closed, closed_then, captured_in, Dropped, captured_then}
+use Rattle.tm_simulation.proofs.Follow.{ends_map, Go, silent, at, after_then, move, pushes, choose_then, choose_ends}
+use Rattle.tm_simulation.proofs.Forms.{Fits, Stands, fits_captured, audible_is, writes_then, end_by as bed_end, end_of, Entered}
+use Rattle.tm_simulation.proofs.Forms.{call_in_place, call_as_value}
 use Rattle.tm_meaning.specs.declared.stream.TemplateId.{TemplateId}
 use Rattle.tm_meaning.specs.declared.stream.StreamId.{StreamId}
 use Rattle.tm_meaning.specs.declared.base.Base.{Base}
@@ -145,14 +188,6 @@ flat_long n (x ∷ xs) e = omega (arith, e, flat_long (length xs) xs refl)
 paired_flat : (xs : List (Val × Val)) → paired (flat xs) ≡ xs
 paired_flat [] = refl
 paired_flat ((k, v) ∷ xs) = ap (λ l. (k, v) ∷ l) (paired_flat xs)
-
--- Comparisons in a row are as long wherever they jump.
-links_long : {n : _} → (end to pc : ℕ) (op : BinaryOperator) (cs : Row_of-Comparison n) → length (links_code end pc op cs) ≡ length (links_code to pc op cs)
-links_long end to pc op no_comparison = refl
-links_long end to pc op (with_comparison (comparison op1 a) more) =
-    let c = expr_code (pc + 2) a in
-    let place = pc + 2 + length c in
-    omega (arith, length-append c (links_code end place op1 more), length-append c (links_code to place op1 more), links_long end to place op1 more)
 
 -- one more than a count, where that is a number still
 counted_by : (context : Context) (t : List ℕ) (z : ℤ) (fits : Bool) (w : World) (K L : Val → World → Type 0) → Follows context t (answered (number_answer (cond fits (Some z) None)) w) K → (K (number z) w → L (number z) w) →
@@ -323,7 +358,7 @@ module _ (context : Context) (trees : Trees) (n : ℕ)
       pushes context s pc stack (b ∷ a ∷ stack) world1 (operated context.program.host op a b world1) h1))))
 
   binary_then : (op : BinaryOperator) (s : Spot) (pc : ℕ) (a b : Val) (stack : List Val) (w : World) → HasAt (context.program.code s.run.stream) pc (binary_code op) →
-      Follows context (told s) (bind (tick w) (λ _ world1. applied context.program.host op a b world1)) (λ x world1. Go context s (pc + length (binary_code op)) (x ∷ stack) world1) → Go context s pc (b ∷ a ∷ stack) w
+      Follows context (told s) (bind (tick w) (λ _ world1. applied context.program.host op a b world1)) (λ x world1. Go context s (beyond_all pc (binary_code op)) (x ∷ stack) world1) → Go context s pc (b ∷ a ∷ stack) w
   binary_then binaries.Equal s pc a b stack w is h = operates binaries.Equal i.Eq (λ c. refl) s pc a b stack w is.0 h
   binary_then binaries.NotEqual s pc a b stack w is h = operates binaries.NotEqual i.Ne (λ c. refl) s pc a b stack w is.0 h
   binary_then binaries.Less s pc a b stack w is h = operates binaries.Less i.Lt (λ c. refl) s pc a b stack w is.0 h
@@ -332,11 +367,9 @@ module _ (context : Context) (trees : Trees) (n : ℕ)
   binary_then binaries.GreaterOrEqual s pc a b stack w is h = operates binaries.GreaterOrEqual i.Gte (λ c. refl) s pc a b stack w is.0 h
   binary_then binaries.In s pc a b stack w is h = operates binaries.In i.In (λ c. refl) s pc a b stack w is.0 h
   binary_then binaries.NotIn s pc a b stack w is h =
-      let place : pc + 1 + 1 ≡ pc + 2 = omega arith in
       at context i.In s pc (b ∷ a ∷ stack) w is.0 (after_then context (told s) (tick w) _ (bind_then context (told s) w (tick w) _ _ _ (tick_gives w) h (λ _ world1 k h1.
       pushes context s pc stack (b ∷ a ∷ stack) world1 (operated context.program.host binaries.In a b world1) (bind_then context (told s) world1 (operated context.program.host binaries.In a b world1) _ _ _ (answered_gives _ world1) h1 (λ v world2 k2 h2.
-      unary_then unaries.Not s (pc + 1) v stack world2 is.1.0
-      (follows_map context (told s) (bind (tick world2) (λ _ world3. applied_unary context.program.host unaries.Not v world3)) _ _ h2 (λ x world3 g. move context s _ _ (x ∷ stack) world3 place g)))))))
+      unary_then unaries.Not s (pc + 1) v stack world2 is.1.0 h2)))))
   binary_then binaries.Add s pc a b stack w is h = operates binaries.Add i.Add (λ c. refl) s pc a b stack w is.0 h
   binary_then binaries.Subtract s pc a b stack w is h = operates binaries.Subtract i.Sub (λ c. refl) s pc a b stack w is.0 h
   binary_then binaries.Concatenate s pc a b stack w is h = operates binaries.Concatenate i.StringConcat (λ c. refl) s pc a b stack w is.0 h
@@ -353,457 +386,295 @@ module _ (context : Context) (trees : Trees) (n : ℕ)
       subst (λ t. Comes context (told s) (on_taken t w (λ xs rest. goes (made xs ∷ rest) w (cfg s pc (onto vs stack) w)))) (sym (taken_all vs n stack l)) (silent context (told s) _ g)
 
   -- behind a false comparison its right side is dropped, which is free
-  dropped_then : (s : Spot) (end to : ℕ) (v y : Val) (stack : List Val) (w : World) → HasAt (context.program.code s.run.stream) end (i.Swap ∷ i.DiscardTop ∷ []) → end + 1 + 1 ≡ to →
-      Follows context (told s) (bind (tick w) (λ _ world1. Good v world1)) (λ x world1. Go context s to (x ∷ stack) world1) → Go context s end (v ∷ y ∷ stack) w
-  dropped_then s end to v y stack w is place h =
+  dropped_then : (s : Spot) (end : ℕ) (v y : Val) (stack : List Val) (w : World) → HasAt (context.program.code s.run.stream) end (i.Swap ∷ i.DiscardTop ∷ []) →
+      Follows context (told s) (bind (tick w) (λ _ world1. Good v world1)) (λ x world1. Go context s (end + 1 + 1) (x ∷ stack) world1) → Go context s end (v ∷ y ∷ stack) w
+  dropped_then s end v y stack w is h =
       at context i.Swap s end (v ∷ y ∷ stack) w is.0 (after_then context (told s) (tick w) _ (bind_then context (told s) w (tick w) _ _ _ (tick_gives w) h (λ _ world1 k g.
-      silent context (told s) _ (at context i.DiscardTop s (end + 1) (y ∷ v ∷ stack) world1 is.1.0 (silent context (told s) _ (move context s _ _ (v ∷ stack) world1 place g))))))
+      silent context (told s) _ (at context i.DiscardTop s (end + 1) (y ∷ v ∷ stack) world1 is.1.0 (silent context (told s) _ g)))))
+
+  -- code that stands in the stream of a spot
+  abbrev In : Spot → Labels → ℕ → Fragment → Type 0
+  In s l pc c = At (context.program.code s.run.stream) l pc c
 
   -- Wherever this code stands it pushes this value.
-  abbrev Runs : Run → (ℕ → List Instruction) → (World → Res Val) → Type 0
+  abbrev Runs : Run → Fragment → (World → Res Val) → Type 0
   Runs run code value =
-      (s : Spot) (pc : ℕ) (stack : List Val) (w : World) → Here run s w → HasAt (context.program.code s.run.stream) pc (code pc) →
-      Follows context (told s) (value w) (λ v world1. Go context s (pc + length (code pc)) (v ∷ stack) world1) → Go context s pc stack w
+      (s : Spot) (l : Labels) (pc : ℕ) (stack : List Val) (w : World) → Here run s w → In s l pc code →
+      Follows context (told s) (value w) (λ v world1. Go context s (beyond pc code) (v ∷ stack) world1) → Go context s pc stack w
 
   mutual
     -- An expression's code pushes what it means, over any operands.
-    expr_runs : (e : Expr) (run : Run) (s : Spot) (pc : ℕ) (stack : List Val) (w : World) → Here run s w → HasAt (context.program.code s.run.stream) pc (expr_code pc e) →
-        Follows context (told s) (eval u run e w) (λ v world1. Go context s (pc + length (expr_code pc e)) (v ∷ stack) world1) → Go context s pc stack w
-    expr_runs (Var x) run s pc stack w d is h =
+    expr_runs : (e : Expr) (run : Run) (s : Spot) (l : Labels) (pc : ℕ) (stack : List Val) (w : World) → Here run s w → In s l pc (expr_code e) →
+        Follows context (told s) (eval u run e w) (λ v world1. Go context s (beyond pc (expr_code e)) (v ∷ stack) world1) → Go context s pc stack w
+    expr_runs (Var x) run s l pc stack w d is h =
         at context (i.Lookup x) s pc stack w is.0 (after_then context (told s) (tick w) _ (bind_then context (told s) w (tick w) _ _ _ (tick_gives w) h (λ _ world1 k h1.
         pushes context s pc stack stack world1 (looked_up context.program.host x world1) h1)))
-    expr_runs (Const v) run s pc stack w d is h =
+    expr_runs (Const v) run s l pc stack w d is h =
         at context (i.LoadConst v) s pc stack w is.0 (after_then context (told s) (tick w) _ (bind_then context (told s) w (tick w) _ _ _ (tick_gives w) h (λ _ world1 k h1.
         silent context (told s) _ h1)))
-    expr_runs (List' _ es) run s pc stack w d is h =
-        let c = exprs_code pc es in
-        let last = i.BuildList (Some (count_exprs es)) in
-        let behind = has_behind (context.program.code s.run.stream) pc c (last ∷ []) is in
-        let place : pc + length c + 1 ≡ pc + length (c ++ last ∷ []) = omega (arith, length-append c (last ∷ [])) in
-        exprs_run es run s pc stack w d (has_front (context.program.code s.run.stream) pc c _ is)
-        (bind_long context (told s) w (count_exprs es) (eval_all u run es w) _ _ _ (all_give u nest_ends again_kept run es w) (all_long u run es w) h (λ vs world1 k l h1.
-        at context last s (pc + length c) (onto vs stack) world1 behind.0
-        (after_then context (told s) (tick world1) _ (bind_then context (told s) world1 (tick world1) _ _ _ (tick_gives world1) h1 (λ _ world2 k2 h2.
-        built_then list_of_values s (pc + length c) (count_exprs es) vs stack world2 l (move context s _ _ (list_of_values vs ∷ stack) world2 place h2))))))
-    expr_runs (Tuple' _ es) run s pc stack w d is h =
-        let c = exprs_code pc es in
-        let last = i.BuildTuple (count_exprs es) in
-        let behind = has_behind (context.program.code s.run.stream) pc c (last ∷ []) is in
-        let place : pc + length c + 1 ≡ pc + length (c ++ last ∷ []) = omega (arith, length-append c (last ∷ [])) in
-        exprs_run es run s pc stack w d (has_front (context.program.code s.run.stream) pc c _ is)
-        (bind_long context (told s) w (count_exprs es) (eval_all u run es w) _ _ _ (all_give u nest_ends again_kept run es w) (all_long u run es w) h (λ vs world1 k l h1.
-        at context last s (pc + length c) (onto vs stack) world1 behind.0
-        (after_then context (told s) (tick world1) _ (bind_then context (told s) world1 (tick world1) _ _ _ (tick_gives world1) h1 (λ _ world2 k2 h2.
-        built_then list_of_values s (pc + length c) (count_exprs es) vs stack world2 l (move context s _ _ (list_of_values vs ∷ stack) world2 place h2))))))
-    expr_runs (Map' _ ps) run s pc stack w d is h =
-        let c = pairs_code pc ps in
+    expr_runs (List' _ es) run s l pc stack w d is h =
+        exprs_run es run s l pc stack w d is.0
+        (bind_long context (told s) w (count_exprs es) (eval_all u run es w) _ _ _ (all_give u nest_ends again_kept run es w) (all_long u run es w) h (λ vs world1 k n h1.
+        at context _ s _ (onto vs stack) world1 is.1.0 (after_then context (told s) (tick world1) _ (bind_then context (told s) world1 (tick world1) _ _ _ (tick_gives world1) h1 (λ _ world2 k2 h2.
+        built_then list_of_values s _ (count_exprs es) vs stack world2 n h2)))))
+    expr_runs (Tuple' _ es) run s l pc stack w d is h =
+        exprs_run es run s l pc stack w d is.0
+        (bind_long context (told s) w (count_exprs es) (eval_all u run es w) _ _ _ (all_give u nest_ends again_kept run es w) (all_long u run es w) h (λ vs world1 k n h1.
+        at context _ s _ (onto vs stack) world1 is.1.0 (after_then context (told s) (tick world1) _ (bind_then context (told s) world1 (tick world1) _ _ _ (tick_gives world1) h1 (λ _ world2 k2 h2.
+        built_then list_of_values s _ (count_exprs es) vs stack world2 n h2)))))
+    expr_runs (Map' _ ps) run s l pc stack w d is h =
         let n = count_pairs ps in
-        let last = i.BuildMap n in
-        let behind = has_behind (context.program.code s.run.stream) pc c (last ∷ []) is in
-        let place : pc + length c + 1 ≡ pc + length (c ++ last ∷ []) = omega (arith, length-append c (last ∷ [])) in
-        pairs_run ps run s pc stack w d (has_front (context.program.code s.run.stream) pc c _ is)
-        (bind_long context (told s) w n (eval_pairs u run ps w) _ _ _ (pairs_give u nest_ends again_kept run ps w) (pairs_long u run ps w) h (λ xs world1 k l h1.
-        at context last s (pc + length c) (onto (flat xs) stack) world1 behind.0
-        (after_then context (told s) (tick world1) _ (bind_then context (told s) world1 (tick world1) _ _ _ (tick_gives world1) h1 (λ _ world2 k2 h2.
-        built_then (λ vs. map_of_pairs (paired vs)) s (pc + length c) (n + n) (flat xs) stack world2 (flat_long n xs l)
-        (subst (λ ys. Go context s (pc + length c + 1) (map_of_pairs ys ∷ stack) world2) (sym (paired_flat xs)) (move context s _ _ (map_of_pairs xs ∷ stack) world2 place h2)))))))
-    expr_runs (Call' g _ given _ named) run s pc stack w d is h =
-        let all = context.program.code s.run.stream in
-        let c = arguments_code pc given in
-        let kc = named_code (pc + length c) named in
+        let pc1 = beyond pc (pairs_code ps) in
+        pairs_run ps run s l pc stack w d is.0
+        (bind_long context (told s) w n (eval_pairs u run ps w) _ _ _ (pairs_give u nest_ends again_kept run ps w) (pairs_long u run ps w) h (λ xs world1 k m h1.
+        at context _ s _ (onto (flat xs) stack) world1 is.1.0 (after_then context (told s) (tick world1) _ (bind_then context (told s) world1 (tick world1) _ _ _ (tick_gives world1) h1 (λ _ world2 k2 h2.
+        built_then (λ vs. map_of_pairs (paired vs)) s pc1 (n + n) (flat xs) stack world2 (flat_long n xs m) (subst (λ ys. Go context s (pc1 + 1) (map_of_pairs ys ∷ stack) world2) (sym (paired_flat xs)) h2))))))
+    expr_runs (Call' g _ given _ named) run s l pc stack w d is h =
         let n = count given + together named in
-        let last = i.CallFunction g n in
-        let front = has_front all pc (c ++ kc) (last ∷ []) is in
-        let behind = has_behind all pc (c ++ kc) (last ∷ []) is in
-        let there : pc + length c + length kc ≡ pc + length (c ++ kc) = omega (arith, length-append c kc) in
-        let place : pc + length (c ++ kc) + 1 ≡ pc + length ((c ++ kc) ++ last ∷ []) = omega (arith, length-append (c ++ kc) (last ∷ [])) in
-        arguments_run given run s pc stack w d (has_front all pc c kc front)
-        (bind_long context (told s) w (count given) (eval_arguments u run given w) _ _ _ (arguments_give u nest_ends again_kept run given w) (arguments_long u run given w) h (λ vs world1 k l h1.
-        named_runs named run s (pc + length c) (onto vs stack) world1 (here_kept run s k d) (has_behind all pc c kc front)
+        let pc1 = beyond (beyond pc (arguments_code given)) (named_code named) in
+        arguments_run given run s l pc stack w d is.0
+        (bind_long context (told s) w (count given) (eval_arguments u run given w) _ _ _ (arguments_give u nest_ends again_kept run given w) (arguments_long u run given w) h (λ vs world1 k m h1.
+        named_runs named run s l _ (onto vs stack) world1 (here_kept run s k d) is.1.0
         (bind_long context (told s) world1 (together named) (eval_named u run named world1) _ _ _ (named_give u nest_ends again_kept run named world1) (named_long u run named world1) h1 (λ ks world2 k2 left_last h2.
-        let long : length (vs ++ ks) ≡ n = omega (arith, length-append vs ks, l, left_last) in
-        move context s _ _ (onto ks (onto vs stack)) world2 there
-        (subst (λ us. Go context s (pc + length (c ++ kc)) us world2) (onto_both vs ks stack)
-        (at context last s (pc + length (c ++ kc)) (onto (vs ++ ks) stack) world2 behind.0
+        let long : length (vs ++ ks) ≡ n = omega (arith, length-append vs ks, m, left_last) in
+        subst (λ us. Go context s pc1 us world2) (onto_both vs ks stack)
+        (at context (i.CallFunction g n) s pc1 (onto (vs ++ ks) stack) world2 is.1.1.0
         (after_then context (told s) (tick world2) _ (bind_then context (told s) world2 (tick world2) _ _ _ (tick_gives world2) h2 (λ _ world3 k3 h3.
-        subst (λ t. Comes context (told s) (on_taken t world3 (λ xs rest. asked context.program (cfg s (pc + length (c ++ kc)) (onto (vs ++ ks) stack) world3) rest (call_named context.program.host g xs world3)))) (sym (taken_all (vs ++ ks) n stack long))
-        (asked_then run s (pc + length (c ++ kc)) stack (onto (vs ++ ks) stack) world3 world3 (call_named context.program.host g (vs ++ ks) world3) (named_asks context.program.host g (vs ++ ks) world3) (here_kept run s k3 (here_kept run s k2 (here_kept run s k d)))
-        (follows_map context (told s) (value_of u run (call_named context.program.host g (vs ++ ks) world3)) _ _ h3 (λ v world4 g3. move context s _ _ (v ∷ stack) world4 place g3))))))))))))
-    expr_runs (unary op a) run s pc stack w d is h =
-        let c = expr_code pc a in
-        let behind = has_behind (context.program.code s.run.stream) pc c (unary_code op ∷ []) is in
-        let place : pc + length c + 1 ≡ pc + length (c ++ unary_code op ∷ []) = omega (arith, length-append c (unary_code op ∷ [])) in
-        expr_runs a run s pc stack w d (has_front (context.program.code s.run.stream) pc c _ is)
-        (bind_then context (told s) w (eval u run a w) _ _ _ (eval_gives u nest_ends again_kept run a w) h (λ v world1 k h1.
-        unary_then op s (pc + length c) v stack world1 behind.0
-        (follows_map context (told s) (bind (tick world1) (λ _ world2. applied_unary context.program.host op v world2)) _ _ h1 (λ x world2 g. move context s _ _ (x ∷ stack) world2 place g))))
-    expr_runs (chained a _ ss) run s pc stack w d is h =
-        let c = expr_code pc a in
-        let rest = steps_code (pc + length c) ss in
-        let place : pc + length c + length rest ≡ pc + length (c ++ rest) = omega (arith, length-append c rest) in
-        expr_runs a run s pc stack w d (has_front (context.program.code s.run.stream) pc c rest is)
-        (bind_then context (told s) w (eval u run a w) _ _ _ (eval_gives u nest_ends again_kept run a w) h (λ v world1 k h1.
-        steps_run ss run s (pc + length c) v stack world1 (here_kept run s k d) (has_behind (context.program.code s.run.stream) pc c rest is)
-        (follows_map context (told s) (eval_steps u run ss v world1) _ _ h1 (λ x world2 g. move context s _ _ (x ∷ stack) world2 place g))))
-    expr_runs (conditional a _ cs) run s pc stack w d is h =
-        conditions_run cs run (λ pc1. expr_code pc1 a) (λ world1. eval u run a world1) (λ world1. eval_gives u nest_ends again_kept run a world1)
-        (λ s1 pc1 stack1 world1 deep1 is1 h1. expr_runs a run s1 pc1 stack1 world1 deep1 is1 h1) s pc stack w d is h
+        subst (λ t. Comes context (told s) (on_taken t world3 (λ xs rest. asked context.program (cfg s pc1 (onto (vs ++ ks) stack) world3) rest (call_named context.program.host g xs world3)))) (sym (taken_all (vs ++ ks) n stack long))
+        (asked_then run s pc1 stack (onto (vs ++ ks) stack) world3 world3 (call_named context.program.host g (vs ++ ks) world3) (named_asks context.program.host g (vs ++ ks) world3) (here_kept run s k3 (here_kept run s k2 (here_kept run s k d))) h3)))))))))
+    expr_runs (unary op a) run s l pc stack w d is h =
+        expr_runs a run s l pc stack w d is.0
+        (bind_then context (told s) w (eval u run a w) _ _ _ (eval_gives u nest_ends again_kept run a w) h (λ v world1 k h1. unary_then op s _ v stack world1 is.1.0 h1))
+    expr_runs (chained a _ ss) run s l pc stack w d is h =
+        expr_runs a run s l pc stack w d is.0
+        (bind_then context (told s) w (eval u run a w) _ _ _ (eval_gives u nest_ends again_kept run a w) h (λ v world1 k h1. steps_run ss run s l _ v stack world1 (here_kept run s k d) is.1 h1))
+    expr_runs (conditional a _ cs) run s l pc stack w d is h =
+        conditions_run cs run (expr_code a) (λ world1. eval u run a world1) (λ world1. eval_gives u nest_ends again_kept run a world1)
+        (λ s1 l1 pc1 stack1 world1 deep1 is1 h1. expr_runs a run s1 l1 pc1 stack1 world1 deep1 is1 h1) s l pc stack w d is h
 
     -- a condition before code that pushes a value, and what stands for that behind it
-    condition_runs : (x : Condition) (run : Run) (code : ℕ → List Instruction) (guarded : World → Res Val) → ((w : World) → Gives w (guarded w)) → Runs run code guarded →
-        Runs run (condition_code x code) (eval_condition u run x guarded)
-    condition_runs (condition c e) run code guarded given part s pc stack w d is h =
-        let all = context.program.code s.run.stream in
-        let test = expr_code pc c in
-        let pc1 = pc + length test in
-        let body = code (pc1 + 1) in
-        let pc2 = pc1 + 1 + length body in
-        let other = expr_code (pc2 + 1) e in
-        let over_other = i.Jump (pc2 + 1 + length other) in
-        let over_body = i.JumpIfFalse (pc2 + 1) in
-        let behind = has_behind all pc test (over_body ∷ (body ++ over_other ∷ other)) is in
-        let last = has_behind all (pc1 + 1) body (over_other ∷ other) behind.1 in
-        let place : pc2 + 1 + length other ≡ pc + length (test ++ over_body ∷ (body ++ over_other ∷ other)) =
-        omega (arith, length-append test (over_body ∷ (body ++ over_other ∷ other)), length-append body (over_other ∷ other)) in
-        expr_runs c run s pc stack w d (has_front all pc test (over_body ∷ (body ++ over_other ∷ other)) is)
+    condition_runs : (x : Condition) (run : Run) (code : Fragment) (guarded : World → Res Val) → ((w : World) → Gives w (guarded w)) → Runs run code guarded → Runs run (condition_code x code) (eval_condition u run x guarded)
+    condition_runs (condition c e) run code guarded given part s l pc stack w d is h =
+        expr_runs c run s l pc stack w d is.0
         (bind_then context (told s) w (eval u run c w) _ _ _ (eval_gives u nest_ends again_kept run c w) h (λ v world1 k1 h1.
-        at context over_body s pc1 (v ∷ stack) world1 behind.0 (after_then context (told s) (tick world1) _ (bind_then context (told s) world1 (tick world1) _ _ _ (tick_gives world1) h1 (λ _ world2 k2 h2.
+        at context _ s _ (v ∷ stack) world1 is.1.0.0 (after_then context (told s) (tick world1) _ (bind_then context (told s) world1 (tick world1) _ _ _ (tick_gives world1) h1 (λ _ world2 k2 h2.
         after_then context (told s) (truth context.program.host v world2) _ (bind_then context (told s) world2 (truth context.program.host v world2) _ _ _ (answered_gives _ world2) h2 (λ b world3 k3 h3.
         let deep3 = here_kept run s k3 (here_kept run s k2 (here_kept run s k1 d)) in
         choose_then context b (bind (guarded world3) (λ x world4. bind (tick world4) (λ _ world5. Good x world5))) (eval u run e world3) _ _ (told s) _ h3
-        (λ h4. silent context (told s) _ (part s (pc1 + 1) stack world3 deep3 (has_front all (pc1 + 1) body (over_other ∷ other) behind.1)
+        (λ h4. silent context (told s) _ (part s _ _ stack world3 deep3 is.1.0.1
         (bind_then context (told s) world3 (guarded world3) _ _ _ (given world3) h4 (λ x world4 k4 h5.
-        at context over_other s pc2 (x ∷ stack) world4 last.0 (after_then context (told s) (tick world4) _ (bind_then context (told s) world4 (tick world4) _ _ _ (tick_gives world4) h5 (λ _ world5 k5 g.
-        silent context (told s) _ (move context s _ _ (x ∷ stack) world5 place g))))))))
-        (λ h4. silent context (told s) _ (expr_runs e run s (pc2 + 1) stack world3 deep3 last.1
-        (follows_map context (told s) (eval u run e world3) _ _ h4 (λ y world4 g. move context s _ _ (y ∷ stack) world4 place g)))))))))))
+        at context _ s _ (x ∷ stack) world4 is.1.1 (after_then context (told s) (tick world4) _ (bind_then context (told s) world4 (tick world4) _ _ _ (tick_gives world4) h5 (λ _ world5 k5 g. silent context (told s) _ g)))))))
+        (λ h4. silent context (told s) _ (expr_runs e run s l _ stack world3 deep3 is.1.2 h4)))))))))
 
-    conditions_run : {m : _} → (cs : Row_of-Condition m) (run : Run) (code : ℕ → List Instruction) (guarded : World → Res Val) → ((w : World) → Gives w (guarded w)) → Runs run code guarded →
-        Runs run (conditions_code cs code) (eval_conditions u run cs guarded)
-    conditions_run no_condition run code guarded given part s pc stack w d is h = part s pc stack w d is h
-    conditions_run (with_condition c more) run code guarded given part s pc stack w d is h =
-        conditions_run more run (λ pc1. condition_code c code pc1) (λ world1. eval_condition u run c guarded world1) (λ world1. condition_gives u nest_ends again_kept run c guarded given world1)
-        (λ s1 pc1 stack1 world1 deep1 is1 h1. condition_runs c run code guarded given part s1 pc1 stack1 world1 deep1 is1 h1) s pc stack w d is h
+    conditions_run : {m : _} → (cs : Row_of-Condition m) (run : Run) (code : Fragment) (guarded : World → Res Val) → ((w : World) → Gives w (guarded w)) → Runs run code guarded → Runs run (conditions_code cs code) (eval_conditions u run cs guarded)
+    conditions_run no_condition run code guarded given part s l pc stack w d is h = part s l pc stack w d is h
+    conditions_run (with_condition c more) run code guarded given part s l pc stack w d is h =
+        conditions_run more run (condition_code c code) (λ world1. eval_condition u run c guarded world1) (λ world1. condition_gives u nest_ends again_kept run c guarded given world1)
+        (λ s1 l1 pc1 stack1 world1 deep1 is1 h1. condition_runs c run code guarded given part s1 l1 pc1 stack1 world1 deep1 is1 h1) s l pc stack w d is h
 
-    exprs_run : {m : _} → (es : Row_of-Expr m) (run : Run) (s : Spot) (pc : ℕ) (stack : List Val) (w : World) → Here run s w → HasAt (context.program.code s.run.stream) pc (exprs_code pc es) →
-        Follows context (told s) (eval_all u run es w) (λ vs world1. Go context s (pc + length (exprs_code pc es)) (onto vs stack) world1) → Go context s pc stack w
-    exprs_run no_expr run s pc stack w d is h = move context s pc (pc + 0) stack w (omega arith) h
-    exprs_run (expr e more) run s pc stack w d is h =
-        let c = expr_code pc e in
-        let rest = exprs_code (pc + length c) more in
-        let place : pc + length c + length rest ≡ pc + length (c ++ rest) = omega (arith, length-append c rest) in
-        expr_runs e run s pc stack w d (has_front (context.program.code s.run.stream) pc c rest is)
+    exprs_run : {m : _} → (es : Row_of-Expr m) (run : Run) (s : Spot) (l : Labels) (pc : ℕ) (stack : List Val) (w : World) → Here run s w → In s l pc (exprs_code es) →
+        Follows context (told s) (eval_all u run es w) (λ vs world1. Go context s (beyond pc (exprs_code es)) (onto vs stack) world1) → Go context s pc stack w
+    exprs_run no_expr run s l pc stack w d is h = h
+    exprs_run (expr e more) run s l pc stack w d is h =
+        expr_runs e run s l pc stack w d is.0
         (bind_then context (told s) w (eval u run e w) _ _ _ (eval_gives u nest_ends again_kept run e w) h (λ v world1 k h1.
-        exprs_run more run s (pc + length c) (v ∷ stack) world1 (here_kept run s k d) (has_behind (context.program.code s.run.stream) pc c rest is)
-        (bind_then context (told s) world1 (eval_all u run more world1) _ _ _ (all_give u nest_ends again_kept run more world1) h1 (λ vs world2 k2 g.
-        move context s _ _ (onto vs (v ∷ stack)) world2 place g))))
+        exprs_run more run s l _ (v ∷ stack) world1 (here_kept run s k d) is.1
+        (bind_then context (told s) world1 (eval_all u run more world1) _ _ _ (all_give u nest_ends again_kept run more world1) h1 (λ vs world2 k2 g. g))))
 
     -- A pair's code pushes its key and then its value.
-    pair_runs : (x : Pair) (run : Run) (s : Spot) (pc : ℕ) (stack : List Val) (w : World) → Here run s w → HasAt (context.program.code s.run.stream) pc (pair_code pc x) →
-        Follows context (told s) (eval_pair u run x w) (λ y world1. Go context s (pc + length (pair_code pc x)) (y.1 ∷ y.0 ∷ stack) world1) → Go context s pc stack w
-    pair_runs (pair k v) run s pc stack w d is h =
-        let c = expr_code pc k in
-        let rest = expr_code (pc + length c) v in
-        let place : pc + length c + length rest ≡ pc + length (c ++ rest) = omega (arith, length-append c rest) in
-        expr_runs k run s pc stack w d (has_front (context.program.code s.run.stream) pc c rest is)
+    pair_runs : (x : Pair) (run : Run) (s : Spot) (l : Labels) (pc : ℕ) (stack : List Val) (w : World) → Here run s w → In s l pc (pair_code x) →
+        Follows context (told s) (eval_pair u run x w) (λ y world1. Go context s (beyond pc (pair_code x)) (y.1 ∷ y.0 ∷ stack) world1) → Go context s pc stack w
+    pair_runs (pair k v) run s l pc stack w d is h =
+        expr_runs k run s l pc stack w d is.0
         (bind_then context (told s) w (eval u run k w) _ _ _ (eval_gives u nest_ends again_kept run k w) h (λ x world1 e h1.
-        expr_runs v run s (pc + length c) (x ∷ stack) world1 (here_kept run s e d) (has_behind (context.program.code s.run.stream) pc c rest is)
-        (bind_then context (told s) world1 (eval u run v world1) _ _ _ (eval_gives u nest_ends again_kept run v world1) h1 (λ y world2 e2 g.
-        move context s _ _ (y ∷ x ∷ stack) world2 place g))))
+        expr_runs v run s l _ (x ∷ stack) world1 (here_kept run s e d) is.1
+        (bind_then context (told s) world1 (eval u run v world1) _ _ _ (eval_gives u nest_ends again_kept run v world1) h1 (λ y world2 e2 g. g))))
 
-    pairs_run : {m : _} → (ps : Row_of-Pair m) (run : Run) (s : Spot) (pc : ℕ) (stack : List Val) (w : World) → Here run s w → HasAt (context.program.code s.run.stream) pc (pairs_code pc ps) →
-        Follows context (told s) (eval_pairs u run ps w) (λ xs world1. Go context s (pc + length (pairs_code pc ps)) (onto (flat xs) stack) world1) → Go context s pc stack w
-    pairs_run no_pair run s pc stack w d is h = move context s pc (pc + 0) stack w (omega arith) h
-    pairs_run (with_pair x more) run s pc stack w d is h =
-        let c = pair_code pc x in
-        let rest = pairs_code (pc + length c) more in
-        let place : pc + length c + length rest ≡ pc + length (c ++ rest) = omega (arith, length-append c rest) in
-        pair_runs x run s pc stack w d (has_front (context.program.code s.run.stream) pc c rest is)
+    pairs_run : {m : _} → (ps : Row_of-Pair m) (run : Run) (s : Spot) (l : Labels) (pc : ℕ) (stack : List Val) (w : World) → Here run s w → In s l pc (pairs_code ps) →
+        Follows context (told s) (eval_pairs u run ps w) (λ xs world1. Go context s (beyond pc (pairs_code ps)) (onto (flat xs) stack) world1) → Go context s pc stack w
+    pairs_run no_pair run s l pc stack w d is h = h
+    pairs_run (with_pair x more) run s l pc stack w d is h =
+        pair_runs x run s l pc stack w d is.0
         (bind_then context (told s) w (eval_pair u run x w) _ _ _ (pair_gives u nest_ends again_kept run x w) h (λ y world1 k h1.
-        pairs_run more run s (pc + length c) (y.1 ∷ y.0 ∷ stack) world1 (here_kept run s k d) (has_behind (context.program.code s.run.stream) pc c rest is)
-        (bind_then context (told s) world1 (eval_pairs u run more world1) _ _ _ (pairs_give u nest_ends again_kept run more world1) h1 (λ ys world2 k2 g.
-        move context s _ _ (onto (flat ys) (y.1 ∷ y.0 ∷ stack)) world2 place g))))
+        pairs_run more run s l _ (y.1 ∷ y.0 ∷ stack) world1 (here_kept run s k d) is.1
+        (bind_then context (told s) world1 (eval_pairs u run more world1) _ _ _ (pairs_give u nest_ends again_kept run more world1) h1 (λ ys world2 k2 g. g))))
 
-    argument_runs : (a : Argument) (run : Run) (s : Spot) (pc : ℕ) (stack : List Val) (w : World) → Here run s w → HasAt (context.program.code s.run.stream) pc (argument_code pc a) →
-        Follows context (told s) (eval_argument u run a w) (λ v world1. Go context s (pc + length (argument_code pc a)) (v ∷ stack) world1) → Go context s pc stack w
-    argument_runs (plain a) run s pc stack w d is h = expr_runs a run s pc stack w d is h
+    argument_runs : (a : Argument) (run : Run) (s : Spot) (l : Labels) (pc : ℕ) (stack : List Val) (w : World) → Here run s w → In s l pc (argument_code a) →
+        Follows context (told s) (eval_argument u run a w) (λ v world1. Go context s (beyond pc (argument_code a)) (v ∷ stack) world1) → Go context s pc stack w
+    argument_runs (plain a) run s l pc stack w d is h = expr_runs a run s l pc stack w d is h
 
-    arguments_run : {m : _} → (given : Row_of-Argument m) (run : Run) (s : Spot) (pc : ℕ) (stack : List Val) (w : World) → Here run s w → HasAt (context.program.code s.run.stream) pc (arguments_code pc given) →
-        Follows context (told s) (eval_arguments u run given w) (λ vs world1. Go context s (pc + length (arguments_code pc given)) (onto vs stack) world1) → Go context s pc stack w
-    arguments_run no_argument run s pc stack w d is h = move context s pc (pc + 0) stack w (omega arith) h
-    arguments_run (argument a more) run s pc stack w d is h =
-        let c = argument_code pc a in
-        let rest = arguments_code (pc + length c) more in
-        let place : pc + length c + length rest ≡ pc + length (c ++ rest) = omega (arith, length-append c rest) in
-        argument_runs a run s pc stack w d (has_front (context.program.code s.run.stream) pc c rest is)
+    arguments_run : {m : _} → (given : Row_of-Argument m) (run : Run) (s : Spot) (l : Labels) (pc : ℕ) (stack : List Val) (w : World) → Here run s w → In s l pc (arguments_code given) →
+        Follows context (told s) (eval_arguments u run given w) (λ vs world1. Go context s (beyond pc (arguments_code given)) (onto vs stack) world1) → Go context s pc stack w
+    arguments_run no_argument run s l pc stack w d is h = h
+    arguments_run (argument a more) run s l pc stack w d is h =
+        argument_runs a run s l pc stack w d is.0
         (bind_then context (told s) w (eval_argument u run a w) _ _ _ (argument_gives u nest_ends again_kept run a w) h (λ v world1 k h1.
-        arguments_run more run s (pc + length c) (v ∷ stack) world1 (here_kept run s k d) (has_behind (context.program.code s.run.stream) pc c rest is)
-        (bind_then context (told s) world1 (eval_arguments u run more world1) _ _ _ (arguments_give u nest_ends again_kept run more world1) h1 (λ vs world2 k2 g.
-        move context s _ _ (onto vs (v ∷ stack)) world2 place g))))
+        arguments_run more run s l _ (v ∷ stack) world1 (here_kept run s k d) is.1
+        (bind_then context (told s) world1 (eval_arguments u run more world1) _ _ _ (arguments_give u nest_ends again_kept run more world1) h1 (λ vs world2 k2 g. g))))
 
     -- A keyword's code pushes its name and then its value.
-    keyword_runs : (x : Keyword) (run : Run) (s : Spot) (pc : ℕ) (stack : List Val) (w : World) → Here run s w → HasAt (context.program.code s.run.stream) pc (keyword_code pc x) →
-        Follows context (told s) (eval_keyword u run x w) (λ y world1. Go context s (pc + length (keyword_code pc x)) (y.1 ∷ y.0 ∷ stack) world1) → Go context s pc stack w
-    keyword_runs (keyword x a) run s pc stack w d is h =
-        let place : pc + 1 + length (expr_code (pc + 1) a) ≡ pc + suc (length (expr_code (pc + 1) a)) = omega arith in
-        at context (i.LoadConst (text x false)) s pc stack w is.0 (after_then context (told s) (tick w) _ (bind_then context (told s) w (tick w) _ _ _ (tick_gives w) h (λ _ world1 k h1.
+    keyword_runs : (x : Keyword) (run : Run) (s : Spot) (l : Labels) (pc : ℕ) (stack : List Val) (w : World) → Here run s w → In s l pc (keyword_code x) →
+        Follows context (told s) (eval_keyword u run x w) (λ y world1. Go context s (beyond pc (keyword_code x)) (y.1 ∷ y.0 ∷ stack) world1) → Go context s pc stack w
+    keyword_runs (keyword x a) run s l pc stack w d is h =
+        at context (i.LoadConst (text x false)) s pc stack w is.0.0 (after_then context (told s) (tick w) _ (bind_then context (told s) w (tick w) _ _ _ (tick_gives w) h (λ _ world1 k h1.
         silent context (told s) _
-        (expr_runs a run s (pc + 1) (text x false ∷ stack) world1 (here_kept run s k d) is.1
-        (bind_then context (told s) world1 (eval u run a world1) _ _ _ (eval_gives u nest_ends again_kept run a world1) h1 (λ v world2 k2 g.
-        move context s _ _ (v ∷ text x false ∷ stack) world2 place g))))))
+        (expr_runs a run s l (pc + 1) (text x false ∷ stack) world1 (here_kept run s k d) is.1
+        (bind_then context (told s) world1 (eval u run a world1) _ _ _ (eval_gives u nest_ends again_kept run a world1) h1 (λ v world2 k2 g. g))))))
 
-    keywords_run : {m : _} → (ks : Row_of-Keyword m) (run : Run) (s : Spot) (pc : ℕ) (stack : List Val) (w : World) → Here run s w → HasAt (context.program.code s.run.stream) pc (keywords_code pc ks) →
-        Follows context (told s) (eval_keywords u run ks w) (λ xs world1. Go context s (pc + length (keywords_code pc ks)) (onto (flat xs) stack) world1) → Go context s pc stack w
-    keywords_run no_keyword run s pc stack w d is h = move context s pc (pc + 0) stack w (omega arith) h
-    keywords_run (with_keyword x more) run s pc stack w d is h =
-        let c = keyword_code pc x in
-        let rest = keywords_code (pc + length c) more in
-        let place : pc + length c + length rest ≡ pc + length (c ++ rest) = omega (arith, length-append c rest) in
-        keyword_runs x run s pc stack w d (has_front (context.program.code s.run.stream) pc c rest is)
+    keywords_run : {m : _} → (ks : Row_of-Keyword m) (run : Run) (s : Spot) (l : Labels) (pc : ℕ) (stack : List Val) (w : World) → Here run s w → In s l pc (keywords_code ks) →
+        Follows context (told s) (eval_keywords u run ks w) (λ xs world1. Go context s (beyond pc (keywords_code ks)) (onto (flat xs) stack) world1) → Go context s pc stack w
+    keywords_run no_keyword run s l pc stack w d is h = h
+    keywords_run (with_keyword x more) run s l pc stack w d is h =
+        keyword_runs x run s l pc stack w d is.0
         (bind_then context (told s) w (eval_keyword u run x w) _ _ _ (keyword_gives u nest_ends again_kept run x w) h (λ y world1 k h1.
-        keywords_run more run s (pc + length c) (y.1 ∷ y.0 ∷ stack) world1 (here_kept run s k d) (has_behind (context.program.code s.run.stream) pc c rest is)
-        (bind_then context (told s) world1 (eval_keywords u run more world1) _ _ _ (keywords_give u nest_ends again_kept run more world1) h1 (λ ys world2 k2 g.
-        move context s _ _ (onto (flat ys) (y.1 ∷ y.0 ∷ stack)) world2 place g))))
+        keywords_run more run s l _ (y.1 ∷ y.0 ∷ stack) world1 (here_kept run s k d) is.1
+        (bind_then context (told s) world1 (eval_keywords u run more world1) _ _ _ (keywords_give u nest_ends again_kept run more world1) h1 (λ ys world2 k2 g. g))))
 
     -- keywords become one argument
-    named_runs : {m : _} → (ks : Row_of-Keyword m) (run : Run) (s : Spot) (pc : ℕ) (stack : List Val) (w : World) → Here run s w → HasAt (context.program.code s.run.stream) pc (named_code pc ks) →
-        Follows context (told s) (eval_named u run ks w) (λ vs world1. Go context s (pc + length (named_code pc ks)) (onto vs stack) world1) → Go context s pc stack w
-    named_runs no_keyword run s pc stack w d is h = move context s pc (pc + 0) stack w (omega arith) h
-    named_runs (with_keyword x more) run s pc stack w d is h =
-        let all = context.program.code s.run.stream in
-        let c = keyword_code pc x in
-        let pc1 = pc + length c in
-        let rest = keywords_code pc1 more in
+    named_runs : {m : _} → (ks : Row_of-Keyword m) (run : Run) (s : Spot) (l : Labels) (pc : ℕ) (stack : List Val) (w : World) → Here run s w → In s l pc (named_code ks) →
+        Follows context (told s) (eval_named u run ks w) (λ vs world1. Go context s (beyond pc (named_code ks)) (onto vs stack) world1) → Go context s pc stack w
+    named_runs no_keyword run s l pc stack w d is h = h
+    named_runs (with_keyword x more) run s l pc stack w d is h =
         let n = count_keywords more + 1 in
-        let last = i.BuildKwargs n in
-        let from_rest = has_behind all pc c (rest ++ last ∷ []) is in
-        let behind = has_behind all pc1 rest (last ∷ []) from_rest in
-        let place : pc1 + length rest + 1 ≡ pc + length (c ++ (rest ++ last ∷ [])) = omega (arith, length-append c (rest ++ last ∷ []), length-append rest (last ∷ [])) in
-        keyword_runs x run s pc stack w d (has_front all pc c (rest ++ last ∷ []) is)
+        let pc1 = beyond (beyond pc (keyword_code x)) (keywords_code more) in
+        keyword_runs x run s l pc stack w d is.0
         (bind_then context (told s) w (eval_keyword u run x w) _ _ _ (keyword_gives u nest_ends again_kept run x w) h (λ y world1 k h1.
-        keywords_run more run s pc1 (y.1 ∷ y.0 ∷ stack) world1 (here_kept run s k d) (has_front all pc1 rest (last ∷ []) from_rest)
-        (bind_long context (told s) world1 (count_keywords more) (eval_keywords u run more world1) _ _ _ (keywords_give u nest_ends again_kept run more world1) (keywords_long u run more world1) h1 (λ ys world2 k2 l h2.
+        keywords_run more run s l _ (y.1 ∷ y.0 ∷ stack) world1 (here_kept run s k d) is.1.0
+        (bind_long context (told s) world1 (count_keywords more) (eval_keywords u run more world1) _ _ _ (keywords_give u nest_ends again_kept run more world1) (keywords_long u run more world1) h1 (λ ys world2 k2 m h2.
         let xs = y ∷ ys in
-        let long : length xs ≡ n = omega (arith, l) in
-        at context last s (pc1 + length rest) (onto (flat xs) stack) world2 behind.0
+        let long : length xs ≡ n = omega (arith, m) in
+        at context (i.BuildKwargs n) s pc1 (onto (flat xs) stack) world2 is.1.1.0
         (after_then context (told s) (tick world2) _ (bind_then context (told s) world2 (tick world2) _ _ _ (tick_gives world2) h2 (λ _ world3 k3 h3.
-        built_then (λ vs. keyword_map (paired vs)) s (pc1 + length rest) (n + n) (flat xs) stack world3 (flat_long n xs long)
-        (subst (λ zs. Go context s (pc1 + length rest + 1) (keyword_map zs ∷ stack) world3) (sym (paired_flat xs)) (move context s _ _ (keyword_map xs ∷ stack) world3 place h3)))))))))
+        built_then (λ vs. keyword_map (paired vs)) s pc1 (n + n) (flat xs) stack world3 (flat_long n xs long) (subst (λ zs. Go context s (pc1 + 1) (keyword_map zs ∷ stack) world3) (sym (paired_flat xs)) h3))))))))
 
     -- A step's code replaces the value on top.
-    step_runs : (x : Step) (run : Run) (s : Spot) (pc : ℕ) (v : Val) (stack : List Val) (w : World) → Here run s w → HasAt (context.program.code s.run.stream) pc (step_code pc x) →
-        Follows context (told s) (eval_step u run x v w) (λ y world1. Go context s (pc + length (step_code pc x)) (y ∷ stack) world1) → Go context s pc (v ∷ stack) w
-    step_runs (Attribute x) run s pc v stack w d is h =
+    step_runs : (x : Step) (run : Run) (s : Spot) (l : Labels) (pc : ℕ) (v : Val) (stack : List Val) (w : World) → Here run s w → In s l pc (step_code x) →
+        Follows context (told s) (eval_step u run x v w) (λ y world1. Go context s (beyond pc (step_code x)) (y ∷ stack) world1) → Go context s pc (v ∷ stack) w
+    step_runs (Attribute x) run s l pc v stack w d is h =
         at context (i.GetAttr x) s pc (v ∷ stack) w is.0 (after_then context (told s) (tick w) _ (bind_then context (told s) w (tick w) _ _ _ (tick_gives w) h (λ _ world1 k h1.
         pushes context s pc stack (v ∷ stack) world1 (attribute context.program.host v x world1) h1)))
-    step_runs (Method' x _ given _ named) run s pc v stack w d is h =
-        let all = context.program.code s.run.stream in
-        let c = arguments_code pc given in
-        let kc = named_code (pc + length c) named in
+    step_runs (Method' x _ given _ named) run s l pc v stack w d is h =
         let n = count given + together named + 1 in
-        let last = i.CallMethod x n in
-        let front = has_front all pc (c ++ kc) (last ∷ []) is in
-        let behind = has_behind all pc (c ++ kc) (last ∷ []) is in
-        let there : pc + length c + length kc ≡ pc + length (c ++ kc) = omega (arith, length-append c kc) in
-        let place : pc + length (c ++ kc) + 1 ≡ pc + length ((c ++ kc) ++ last ∷ []) = omega (arith, length-append (c ++ kc) (last ∷ [])) in
-        arguments_run given run s pc (v ∷ stack) w d (has_front all pc c kc front)
-        (bind_long context (told s) w (count given) (eval_arguments u run given w) _ _ _ (arguments_give u nest_ends again_kept run given w) (arguments_long u run given w) h (λ vs world1 k l h1.
-        named_runs named run s (pc + length c) (onto vs (v ∷ stack)) world1 (here_kept run s k d) (has_behind all pc c kc front)
+        let pc1 = beyond (beyond pc (arguments_code given)) (named_code named) in
+        arguments_run given run s l pc (v ∷ stack) w d is.0
+        (bind_long context (told s) w (count given) (eval_arguments u run given w) _ _ _ (arguments_give u nest_ends again_kept run given w) (arguments_long u run given w) h (λ vs world1 k m h1.
+        named_runs named run s l _ (onto vs (v ∷ stack)) world1 (here_kept run s k d) is.1.0
         (bind_long context (told s) world1 (together named) (eval_named u run named world1) _ _ _ (named_give u nest_ends again_kept run named world1) (named_long u run named world1) h1 (λ ks world2 k2 left_last h2.
-        let long : length (v ∷ (vs ++ ks)) ≡ n = omega (arith, length-append vs ks, l, left_last) in
-        move context s _ _ (onto ks (onto vs (v ∷ stack))) world2 there
-        (subst (λ us. Go context s (pc + length (c ++ kc)) us world2) (onto_both vs ks (v ∷ stack))
-        (at context last s (pc + length (c ++ kc)) (onto (v ∷ (vs ++ ks)) stack) world2 behind.0
+        let long : length (v ∷ (vs ++ ks)) ≡ n = omega (arith, length-append vs ks, m, left_last) in
+        subst (λ us. Go context s pc1 us world2) (onto_both vs ks (v ∷ stack))
+        (at context (i.CallMethod x n) s pc1 (onto (v ∷ (vs ++ ks)) stack) world2 is.1.1.0
         (after_then context (told s) (tick world2) _ (bind_then context (told s) world2 (tick world2) _ _ _ (tick_gives world2) h2 (λ _ world3 k3 h3.
-        subst (λ t. Comes context (told s) (on_taken t world3 (λ xs rest. asked context.program (cfg s (pc + length (c ++ kc)) (onto (v ∷ (vs ++ ks)) stack) world3) rest (call_first context.program.host x xs world3)))) (sym (taken_all (v ∷ (vs ++ ks)) n stack long))
-        (asked_then run s (pc + length (c ++ kc)) stack (onto (v ∷ (vs ++ ks)) stack) world3 world3 (call_method context.program.host x v (vs ++ ks) world3) (method_asks context.program.host x v (vs ++ ks) world3) (here_kept run s k3 (here_kept run s k2 (here_kept run s k d)))
-        (follows_map context (told s) (value_of u run (call_method context.program.host x v (vs ++ ks) world3)) _ _ h3 (λ v1 world4 g3. move context s _ _ (v1 ∷ stack) world4 place g3))))))))))))
-    step_runs (item a) run s pc v stack w d is h =
-        let c = expr_code pc a in
-        let behind = has_behind (context.program.code s.run.stream) pc c (i.GetItem ∷ []) is in
-        let place : pc + length c + 1 ≡ pc + length (c ++ i.GetItem ∷ []) = omega (arith, length-append c (i.GetItem ∷ [])) in
-        expr_runs a run s pc (v ∷ stack) w d (has_front (context.program.code s.run.stream) pc c _ is)
+        subst (λ t. Comes context (told s) (on_taken t world3 (λ xs rest. asked context.program (cfg s pc1 (onto (v ∷ (vs ++ ks)) stack) world3) rest (call_first context.program.host x xs world3)))) (sym (taken_all (v ∷ (vs ++ ks)) n stack long))
+        (asked_then run s pc1 stack (onto (v ∷ (vs ++ ks)) stack) world3 world3 (call_method context.program.host x v (vs ++ ks) world3) (method_asks context.program.host x v (vs ++ ks) world3) (here_kept run s k3 (here_kept run s k2 (here_kept run s k d))) h3)))))))))
+    step_runs (item a) run s l pc v stack w d is h =
+        expr_runs a run s l pc (v ∷ stack) w d is.0
         (bind_then context (told s) w (eval u run a w) _ _ _ (eval_gives u nest_ends again_kept run a w) h (λ k world1 e h1.
-        at context i.GetItem s (pc + length c) (k ∷ v ∷ stack) world1 behind.0 (after_then context (told s) (tick world1) _ (bind_then context (told s) world1 (tick world1) _ _ _ (tick_gives world1) h1 (λ _ world2 e2 h2.
-        pushes context s (pc + length c) stack (k ∷ v ∷ stack) world2 (item_at context.program.host v k world2)
-        (follows_map context (told s) (item_at context.program.host v k world2) _ _ h2 (λ x world3 g. move context s _ _ (x ∷ stack) world3 place g)))))))
-    step_runs (slice a b c) run s pc v stack w d is h =
-        let ac = expr_code pc a in
-        let pc1 = pc + length ac in
-        let bc = expr_code pc1 b in
-        let pc2 = pc1 + length bc in
-        let cc = expr_code pc2 c in
-        let all = context.program.code s.run.stream in
-        let from_b = has_behind all pc ac (bc ++ (cc ++ i.Slice ∷ [])) is in
-        let from_c = has_behind all pc1 bc (cc ++ i.Slice ∷ []) from_b in
-        let last = has_behind all pc2 cc (i.Slice ∷ []) from_c in
-        let place : pc2 + length cc + 1 ≡ pc + length (ac ++ (bc ++ (cc ++ i.Slice ∷ []))) =
-        omega (arith, length-append ac (bc ++ (cc ++ i.Slice ∷ [])), length-append bc (cc ++ i.Slice ∷ []), length-append cc (i.Slice ∷ [])) in
-        expr_runs a run s pc (v ∷ stack) w d (has_front all pc ac (bc ++ (cc ++ i.Slice ∷ [])) is)
+        at context i.GetItem s _ (k ∷ v ∷ stack) world1 is.1.0 (after_then context (told s) (tick world1) _ (bind_then context (told s) world1 (tick world1) _ _ _ (tick_gives world1) h1 (λ _ world2 e2 h2.
+        pushes context s _ stack (k ∷ v ∷ stack) world2 (item_at context.program.host v k world2) h2)))))
+    step_runs (slice a b c) run s l pc v stack w d is h =
+        expr_runs a run s l pc (v ∷ stack) w d is.0
         (bind_then context (told s) w (eval u run a w) _ _ _ (eval_gives u nest_ends again_kept run a w) h (λ x world1 k1 h1.
-        expr_runs b run s pc1 (x ∷ v ∷ stack) world1 (here_kept run s k1 d) (has_front all pc1 bc (cc ++ i.Slice ∷ []) from_b)
+        expr_runs b run s l _ (x ∷ v ∷ stack) world1 (here_kept run s k1 d) is.1.0
         (bind_then context (told s) world1 (eval u run b world1) _ _ _ (eval_gives u nest_ends again_kept run b world1) h1 (λ y world2 k2 h2.
-        expr_runs c run s pc2 (y ∷ x ∷ v ∷ stack) world2 (here_kept run s k2 (here_kept run s k1 d)) (has_front all pc2 cc (i.Slice ∷ []) from_c)
+        expr_runs c run s l _ (y ∷ x ∷ v ∷ stack) world2 (here_kept run s k2 (here_kept run s k1 d)) is.1.1.0
         (bind_then context (told s) world2 (eval u run c world2) _ _ _ (eval_gives u nest_ends again_kept run c world2) h2 (λ z world3 k3 h3.
-        at context i.Slice s (pc2 + length cc) (z ∷ y ∷ x ∷ v ∷ stack) world3 last.0 (after_then context (told s) (tick world3) _ (bind_then context (told s) world3 (tick world3) _ _ _ (tick_gives world3) h3 (λ _ world4 k4 h4.
-        pushes context s (pc2 + length cc) stack (z ∷ y ∷ x ∷ v ∷ stack) world4 (slice_of context.program.host v x y z world4)
-        (follows_map context (told s) (slice_of context.program.host v x y z world4) _ _ h4 (λ q world5 g. move context s _ _ (q ∷ stack) world5 place g)))))))))))
-    step_runs (binary op a) run s pc v stack w d is h =
-        let c = expr_code pc a in
-        let place : pc + length c + length (binary_code op) ≡ pc + length (c ++ binary_code op) = omega (arith, length-append c (binary_code op)) in
-        expr_runs a run s pc (v ∷ stack) w d (has_front (context.program.code s.run.stream) pc c _ is)
+        at context i.Slice s _ (z ∷ y ∷ x ∷ v ∷ stack) world3 is.1.1.1.0 (after_then context (told s) (tick world3) _ (bind_then context (told s) world3 (tick world3) _ _ _ (tick_gives world3) h3 (λ _ world4 k4 h4.
+        pushes context s _ stack (z ∷ y ∷ x ∷ v ∷ stack) world4 (slice_of context.program.host v x y z world4) h4)))))))))
+    step_runs (binary op a) run s l pc v stack w d is h =
+        expr_runs a run s l pc (v ∷ stack) w d is.0
+        (bind_then context (told s) w (eval u run a w) _ _ _ (eval_gives u nest_ends again_kept run a w) h (λ y world1 k h1. binary_then op s _ v y stack world1 is.1 h1))
+    step_runs (compare op a _ cs) run s l pc v stack w d is h =
+        let pc1 = beyond pc (expr_code a) in
+        let jump = beyond pc1 (links_code op cs) in
+        expr_runs a run s l pc (v ∷ stack) w d is.0
         (bind_then context (told s) w (eval u run a w) _ _ _ (eval_gives u nest_ends again_kept run a w) h (λ y world1 k h1.
-        binary_then op s (pc + length c) v y stack world1 (has_behind (context.program.code s.run.stream) pc c (binary_code op) is)
-        (follows_map context (told s) (bind (tick world1) (λ _ world2. applied context.program.host op v y world2)) _ _ h1 (λ x world2 g. move context s _ _ (x ∷ stack) world2 place g))))
-    step_runs (compare op a _ cs) run s pc v stack w d is h =
-        let all = context.program.code s.run.stream in
-        let c = expr_code pc a in
-        let pc1 = pc + length c in
-        let size = length (links_code 0 pc1 op cs) in
-        let end = pc1 + size + 1 in
-        let links = links_code end pc1 op cs in
-        let long : length links ≡ size = links_long end 0 pc1 op cs in
-        let to = pc1 + size + 3 in
-        let last = i.Jump to ∷ i.Swap ∷ i.DiscardTop ∷ [] in
-        let row = has_behind all pc c (links ++ last) is in
-        let behind = has_behind all pc1 links last row in
-        let swap : pc1 + length links + 1 ≡ end = omega (arith, long) in
-        let over_swap : end + 1 + 1 ≡ to = omega arith in
-        let place : to ≡ pc + length (c ++ (links ++ last)) = omega (arith, length-append c (links ++ last), length-append links last, long) in
-        expr_runs a run s pc (v ∷ stack) w d (has_front all pc c (links ++ last) is)
-        (bind_then context (told s) w (eval u run a w) _ _ _ (eval_gives u nest_ends again_kept run a w) h (λ y world1 k h1.
-        links_run op cs run s end to (pc1 + length links) pc1 v y stack world1 (here_kept run s k d) (has_front all pc1 links last row) refl behind.0
-        (subst (λ n. HasAt all n (i.Swap ∷ i.DiscardTop ∷ [])) swap behind.1) over_swap
-        (follows_map context (told s) (eval_links u run op cs v y world1) _ _ h1 (λ x world2 g. move context s _ _ (x ∷ stack) world2 place g))))
-    step_runs (and_then a) run s pc v stack w d is h =
-        let c = expr_code (pc + 1) a in
-        let place : pc + 1 + length c ≡ pc + suc (length c) = omega arith in
-        at context (i.JumpIfFalseOrPop (pc + 1 + length c)) s pc (v ∷ stack) w is.0
+        links_run op cs run s (outward (jump + 1) l) pc1 jump v y stack world1 (here_kept run s k d) is.1.0 refl is.1.1 is.1.2 h1))
+    step_runs (and_then a) run s l pc v stack w d is h =
+        at context _ s pc (v ∷ stack) w is.0
         (after_then context (told s) (tick w) _ (bind_then context (told s) w (tick w) _ _ _ (tick_gives w) h (λ _ world1 k h1.
         after_then context (told s) (truth context.program.host v world1) _ (bind_then context (told s) world1 (truth context.program.host v world1) _ _ _ (answered_gives _ world1) h1 (λ b world2 k2 h2.
         choose_then context b (eval u run a world2) (Good v world2) _ _ (told s) _ h2
-        (λ h3. silent context (told s) _ (expr_runs a run s (pc + 1) stack world2 (here_kept run s k2 (here_kept run s k d)) is.1
-        (follows_map context (told s) (eval u run a world2) _ _ h3 (λ y world3 g. move context s _ _ (y ∷ stack) world3 place g))))
-        (λ g. silent context (told s) _ (move context s _ _ (v ∷ stack) world2 place g)))))))
-    step_runs (or_else a) run s pc v stack w d is h =
-        let c = expr_code (pc + 1) a in
-        let place : pc + 1 + length c ≡ pc + suc (length c) = omega arith in
-        at context (i.JumpIfTrueOrPop (pc + 1 + length c)) s pc (v ∷ stack) w is.0
+        (λ h3. silent context (told s) _ (expr_runs a run s _ (pc + 1) stack world2 (here_kept run s k2 (here_kept run s k d)) is.1 h3))
+        (λ g. silent context (told s) _ g))))))
+    step_runs (or_else a) run s l pc v stack w d is h =
+        at context _ s pc (v ∷ stack) w is.0
         (after_then context (told s) (tick w) _ (bind_then context (told s) w (tick w) _ _ _ (tick_gives w) h (λ _ world1 k h1.
         after_then context (told s) (truth context.program.host v world1) _ (bind_then context (told s) world1 (truth context.program.host v world1) _ _ _ (answered_gives _ world1) h1 (λ b world2 k2 h2.
         choose_then context b (Good v world2) (eval u run a world2) _ _ (told s) _ h2
-        (λ g. silent context (told s) _ (move context s _ _ (v ∷ stack) world2 place g))
-        (λ h3. silent context (told s) _ (expr_runs a run s (pc + 1) stack world2 (here_kept run s k2 (here_kept run s k d)) is.1
-        (follows_map context (told s) (eval u run a world2) _ _ h3 (λ y world3 g. move context s _ _ (y ∷ stack) world3 place g)))))))))
+        (λ g. silent context (told s) _ g)
+        (λ h3. silent context (told s) _ (expr_runs a run s _ (pc + 1) stack world2 (here_kept run s k2 (here_kept run s k d)) is.1 h3)))))))
 
     -- Comparisons in a row replace both sides of the first. Behind them stands a jump over the dropping of the right side of a false one.
-    links_run : {m : _} → (op : BinaryOperator) (cs : Row_of-Comparison m) (run : Run) (s : Spot) (end to jump pc : ℕ) (x y : Val) (stack : List Val) (w : World) → Here run s w →
-        HasAt (context.program.code s.run.stream) pc (links_code end pc op cs) → pc + length (links_code end pc op cs) ≡ jump → slice_get (context.program.code s.run.stream) jump ≡ Some (i.Jump to) →
-        HasAt (context.program.code s.run.stream) end (i.Swap ∷ i.DiscardTop ∷ []) → end + 1 + 1 ≡ to →
-        Follows context (told s) (eval_links u run op cs x y w) (λ v world1. Go context s to (v ∷ stack) world1) → Go context s pc (y ∷ x ∷ stack) w
-    links_run op no_comparison run s end to jump pc x y stack w d is place over_drop drop over_end h =
+    links_run : {m : _} → (op : BinaryOperator) (cs : Row_of-Comparison m) (run : Run) (s : Spot) (l : Labels) (pc jump : ℕ) (x y : Val) (stack : List Val) (w : World) → Here run s w → In s l pc (links_code op cs) → beyond pc (links_code op cs) ≡ jump →
+        slice_get (context.program.code s.run.stream) jump ≡ Some (i.Jump (l.out + 1 + 1)) → HasAt (context.program.code s.run.stream) l.out (i.Swap ∷ i.DiscardTop ∷ []) →
+        Follows context (told s) (eval_links u run op cs x y w) (λ v world1. Go context s (l.out + 1 + 1) (v ∷ stack) world1) → Go context s pc (y ∷ x ∷ stack) w
+    links_run op no_comparison run s l pc jump x y stack w d is place over_drop drop h =
         binary_then op s pc x y stack w is
         (follows_bind context (told s) (tick w) _ _ (bind_then context (told s) w (tick w) _ _ _ (tick_gives w) h (λ _ world1 k h1.
         bind_then context (told s) world1 (applied context.program.host op x y world1) _ _ _ (binary_gives u nest_ends again_kept op x y world1) h1 (λ v world2 k2 h2.
         move context s _ _ (v ∷ stack) world2 place
-        (at context (i.Jump to) s jump (v ∷ stack) world2 over_drop (after_then context (told s) (tick world2) _ (bind_then context (told s) world2 (tick world2) _ _ _ (tick_gives world2) h2 (λ _ world3 k3 g.
-        silent context (told s) _ g))))))))
-    links_run op (with_comparison (comparison op1 a) more) run s end to jump pc x y stack w d is place over_drop drop over_end h =
-        let all = context.program.code s.run.stream in
-        let c = expr_code (pc + 2) a in
-        let rest = links_code end (pc + 2 + length c) op1 more in
-        let here : pc + 1 + 1 ≡ pc + 2 = omega arith in
-        let right = subst (λ n. HasAt all n (c ++ rest)) here is.1.1 in
-        let last : pc + 2 + length c + length rest ≡ jump = omega (arith, place, length-append c rest) in
-        at context (i.CompareAndPreserve op) s pc (y ∷ x ∷ stack) w is.0 (after_then context (told s) (tick w) _ (bind_then context (told s) w (tick w) _ _ _ (tick_gives w) h (λ _ world1 k1 h1.
+        (at context _ s jump (v ∷ stack) world2 over_drop (after_then context (told s) (tick world2) _ (bind_then context (told s) world2 (tick world2) _ _ _ (tick_gives world2) h2 (λ _ world3 k3 g. silent context (told s) _ g))))))))
+    links_run op (with_comparison (comparison op1 a) more) run s l pc jump x y stack w d is place over_drop drop h =
+        at context (i.CompareAndPreserve op) s pc (y ∷ x ∷ stack) w is.0.0 (after_then context (told s) (tick w) _ (bind_then context (told s) w (tick w) _ _ _ (tick_gives w) h (λ _ world1 k1 h1.
         after_then context (told s) (operated context.program.host op x y world1) _ (bind_then context (told s) world1 (operated context.program.host op x y world1) _ _ _ (answered_gives _ world1) h1 (λ v world2 k2 h2.
-        silent context (told s) _ (at context (i.JumpIfFalseOrPop end) s (pc + 1) (v ∷ y ∷ stack) world2 is.1.0
+        silent context (told s) _ (at context _ s (pc + 1) (v ∷ y ∷ stack) world2 is.1.0
         (after_then context (told s) (tick world2) _ (bind_then context (told s) world2 (tick world2) _ _ _ (tick_gives world2) h2 (λ _ world3 k3 h3.
         after_then context (told s) (truth context.program.host v world3) _ (bind_then context (told s) world3 (truth context.program.host v world3) _ _ _ (answered_gives _ world3) h3 (λ b world4 k4 h4.
         let deep4 = here_kept run s k4 (here_kept run s k3 (here_kept run s k2 (here_kept run s k1 d))) in
         choose_then context b (bind (eval u run a world4) (λ z world5. eval_links u run op1 more y z world5)) (bind (tick world4) (λ _ world5. Good v world5)) _ _ (told s) _ h4
-        (λ h5. silent context (told s) _ (move context s _ _ (y ∷ stack) world4 here (expr_runs a run s (pc + 2) (y ∷ stack) world4 deep4 (has_front all (pc + 2) c rest right)
+        (λ h5. silent context (told s) _ (expr_runs a run s l (pc + 1 + 1) (y ∷ stack) world4 deep4 is.1.1.0
         (bind_then context (told s) world4 (eval u run a world4) _ _ _ (eval_gives u nest_ends again_kept run a world4) h5 (λ z world5 k5 h6.
-        links_run op1 more run s end to jump (pc + 2 + length c) y z stack world5 (here_kept run s k5 deep4) (has_behind all (pc + 2) c rest right) last over_drop drop over_end h6)))))
-        (λ h5. silent context (told s) _ (dropped_then s end to v y stack world4 drop over_end h5)))))))))))))
+        links_run op1 more run s l _ jump y z stack world5 (here_kept run s k5 deep4) is.1.1.1 place over_drop drop h6))))
+        (λ h5. silent context (told s) _ (dropped_then s l.out v y stack world4 drop h5)))))))))))))
 
-    steps_run : {m : _} → (ss : Row_of-Step m) (run : Run) (s : Spot) (pc : ℕ) (v : Val) (stack : List Val) (w : World) → Here run s w → HasAt (context.program.code s.run.stream) pc (steps_code pc ss) →
-        Follows context (told s) (eval_steps u run ss v w) (λ y world1. Go context s (pc + length (steps_code pc ss)) (y ∷ stack) world1) → Go context s pc (v ∷ stack) w
-    steps_run no_step run s pc v stack w d is h = move context s pc (pc + 0) (v ∷ stack) w (omega arith) h
-    steps_run (step_and x ss) run s pc v stack w d is h =
-        let c = step_code pc x in
-        let rest = steps_code (pc + length c) ss in
-        let place : pc + length c + length rest ≡ pc + length (c ++ rest) = omega (arith, length-append c rest) in
-        step_runs x run s pc v stack w d (has_front (context.program.code s.run.stream) pc c rest is)
-        (bind_then context (told s) w (eval_step u run x v w) _ _ _ (step_gives u nest_ends again_kept run x v w) h (λ y world1 k h1.
-        steps_run ss run s (pc + length c) y stack world1 (here_kept run s k d) (has_behind (context.program.code s.run.stream) pc c rest is)
-        (follows_map context (told s) (eval_steps u run ss y world1) _ _ h1 (λ z world2 g. move context s _ _ (z ∷ stack) world2 place g))))
+    steps_run : {m : _} → (ss : Row_of-Step m) (run : Run) (s : Spot) (l : Labels) (pc : ℕ) (v : Val) (stack : List Val) (w : World) → Here run s w → In s l pc (steps_code ss) →
+        Follows context (told s) (eval_steps u run ss v w) (λ y world1. Go context s (beyond pc (steps_code ss)) (y ∷ stack) world1) → Go context s pc (v ∷ stack) w
+    steps_run no_step run s l pc v stack w d is h = h
+    steps_run (step_and x ss) run s l pc v stack w d is h =
+        step_runs x run s l pc v stack w d is.0
+        (bind_then context (told s) w (eval_step u run x v w) _ _ _ (step_gives u nest_ends again_kept run x v w) h (λ y world1 k h1. steps_run ss run s l _ y stack world1 (here_kept run s k d) is.1 h1))
 
   mutual
     -- A target's code takes the value on top.
-    target_runs : (t : Target) (run : Run) (s : Spot) (pc : ℕ) (v : Val) (stack : List Val) (w : World) → Here run s w → HasAt (context.program.code s.run.stream) pc (target_code pc t) →
-        Follows context (told s) (assign u run t v w) (λ _ world1. Go context s (pc + length (target_code pc t)) stack world1) → Go context s pc (v ∷ stack) w
-    target_runs (To x) run s pc v stack w d is h =
+    target_runs : (t : Target) (run : Run) (s : Spot) (l : Labels) (pc : ℕ) (v : Val) (stack : List Val) (w : World) → Here run s w → In s l pc (target_code t) →
+        Follows context (told s) (assign u run t v w) (λ _ world1. Go context s (beyond pc (target_code t)) stack world1) → Go context s pc (v ∷ stack) w
+    target_runs (To x) run s l pc v stack w d is h =
         at context (i.StoreLocal x) s pc (v ∷ stack) w is.0 (after_then context (told s) (tick w) _ (bind_then context (told s) w (tick w) _ _ _ (tick_gives w) h (λ _ world1 k h1.
         silent context (told s) _ h1)))
-    target_runs (Items _ ts) run s pc v stack w d is h =
+    target_runs (Items _ ts) run s l pc v stack w d is h =
         let n = count_targets ts in
-        let c = targets_code (pc + 1) ts in
-        let place : pc + 1 + length c ≡ pc + suc (length c) = omega arith in
-        at context (i.UnpackList n) s pc (v ∷ stack) w is.0 (after_then context (told s) (tick w) _ (bind_then context (told s) w (tick w) _ _ _ (tick_gives w) h (λ _ world1 k h1.
-        after_then context (told s) (items_of n v world1) _ (bind_long context (told s) world1 n (items_of n v world1) _ _ _ (answered_gives _ world1) (items_long n v world1) h1 (λ vs world2 k2 l h2.
-        silent context (told s) _ (targets_run ts run s (pc + 1) vs stack world2 l (here_kept run s k2 (here_kept run s k d)) is.1
-        (follows_map context (told s) (assign_all u run ts vs world2) _ _ h2 (λ _ world3 g. move context s _ _ stack world3 place g))))))))
-    target_runs (Member e x) run s pc v stack w d is h =
-        let c = expr_code pc e in
-        let last = i.SetAttr x ∷ [] in
-        let behind = has_behind (context.program.code s.run.stream) pc c last is in
-        let place : pc + length c + 1 ≡ pc + length (c ++ last) = omega (arith, length-append c last) in
-        expr_runs e run s pc (v ∷ stack) w d (has_front (context.program.code s.run.stream) pc c last is)
+        at context (i.UnpackList n) s pc (v ∷ stack) w is.0.0 (after_then context (told s) (tick w) _ (bind_then context (told s) w (tick w) _ _ _ (tick_gives w) h (λ _ world1 k h1.
+        after_then context (told s) (items_of n v world1) _ (bind_long context (told s) world1 n (items_of n v world1) _ _ _ (answered_gives _ world1) (items_long n v world1) h1 (λ vs world2 k2 m h2.
+        silent context (told s) _ (targets_run ts run s l (pc + 1) vs stack world2 m (here_kept run s k2 (here_kept run s k d)) is.1 h2))))))
+    target_runs (Member e x) run s l pc v stack w d is h =
+        expr_runs e run s l pc (v ∷ stack) w d is.0
         (bind_then context (told s) w (eval u run e w) _ _ _ (eval_gives u nest_ends again_kept run e w) h (λ o world1 k h1.
-        at context (i.SetAttr x) s (pc + length c) (o ∷ v ∷ stack) world1 behind.0 (after_then context (told s) (tick world1) _ (bind_then context (told s) world1 (tick world1) _ _ _ (tick_gives world1) h1 (λ _ world2 k2 h2.
-        after_then context (told s) (set_member x v o world2) _ (follows_map context (told s) (set_member x v o world2) _ _ h2 (λ _ world3 g.
-        silent context (told s) _ (move context s _ _ stack world3 place g))))))))
+        at context (i.SetAttr x) s _ (o ∷ v ∷ stack) world1 is.1.0 (after_then context (told s) (tick world1) _ (bind_then context (told s) world1 (tick world1) _ _ _ (tick_gives world1) h1 (λ _ world2 k2 h2.
+        after_then context (told s) (set_member x v o world2) _ (follows_map context (told s) (set_member x v o world2) _ _ h2 (λ _ world3 g. silent context (told s) _ g)))))))
 
     -- Targets take as many values, the first on top.
-    targets_run : {m : _} → (ts : Row_of-Target m) (run : Run) (s : Spot) (pc : ℕ) (vs stack : List Val) (w : World) → length vs ≡ count_targets ts → Here run s w →
-        HasAt (context.program.code s.run.stream) pc (targets_code pc ts) →
-        Follows context (told s) (assign_all u run ts vs w) (λ _ world1. Go context s (pc + length (targets_code pc ts)) stack world1) → Go context s pc (vs ++ stack) w
-    targets_run no_target run s pc [] stack w l d is h = move context s pc (pc + 0) stack w (omega arith) h
-    targets_run no_target run s pc (v ∷ vs) stack w l d is h = absurd (omega (arith, l))
-    targets_run (target t ts) run s pc [] stack w l d is h = absurd (omega (arith, l))
-    targets_run (target t ts) run s pc (v ∷ vs) stack w l d is h =
-        let c = target_code pc t in
-        let rest = targets_code (pc + length c) ts in
-        let place : pc + length c + length rest ≡ pc + length (c ++ rest) = omega (arith, length-append c rest) in
-        target_runs t run s pc v (vs ++ stack) w d (has_front (context.program.code s.run.stream) pc c rest is)
-        (bind_then context (told s) w (assign u run t v w) _ _ _ (assign_gives u nest_ends again_kept run t v w) h (λ _ world1 k h1.
-        targets_run ts run s (pc + length c) vs stack world1 (omega (arith, l)) (here_kept run s k d) (has_behind (context.program.code s.run.stream) pc c rest is)
-        (follows_map context (told s) (assign_all u run ts vs world1) _ _ h1 (λ _ world2 g. move context s _ _ stack world2 place g))))
+    targets_run : {m : _} → (ts : Row_of-Target m) (run : Run) (s : Spot) (l : Labels) (pc : ℕ) (vs stack : List Val) (w : World) → length vs ≡ count_targets ts → Here run s w → In s l pc (targets_code ts) →
+        Follows context (told s) (assign_all u run ts vs w) (λ _ world1. Go context s (beyond pc (targets_code ts)) stack world1) → Go context s pc (vs ++ stack) w
+    targets_run no_target run s l pc [] stack w n d is h = h
+    targets_run no_target run s l pc (v ∷ vs) stack w n d is h = absurd (omega (arith, n))
+    targets_run (target t ts) run s l pc [] stack w n d is h = absurd (omega (arith, n))
+    targets_run (target t ts) run s l pc (v ∷ vs) stack w n d is h =
+        target_runs t run s l pc v (vs ++ stack) w d is.0
+        (bind_then context (told s) w (assign u run t v w) _ _ _ (assign_gives u nest_ends again_kept run t v w) h (λ _ world1 k h1. targets_run ts run s l _ vs stack world1 (omega (arith, n)) (here_kept run s k d) is.1 h1))
 
   -- A value's code, and then its target's, leave the operands as they were.
-  set_runs : (t : Target) (e : Expr) (run : Run) (s : Spot) (pc : ℕ) (stack : List Val) (w : World) → Here run s w → HasAt (context.program.code s.run.stream) pc (set_code pc t e) →
-      Follows context (told s) (set_to u run t e w) (λ _ world1. Go context s (pc + length (set_code pc t e)) stack world1) → Go context s pc stack w
-  set_runs t e run s pc stack w d is h =
-      let c = expr_code pc e in
-      let rest = target_code (pc + length c) t in
-      let place : pc + length c + length rest ≡ pc + length (c ++ rest) = omega (arith, length-append c rest) in
-      expr_runs e run s pc stack w d (has_front (context.program.code s.run.stream) pc c rest is)
-      (bind_then context (told s) w (eval u run e w) _ _ _ (eval_gives u nest_ends again_kept run e w) h (λ v world1 k h1.
-      target_runs t run s (pc + length c) v stack world1 (here_kept run s k d) (has_behind (context.program.code s.run.stream) pc c rest is)
-      (follows_map context (told s) (assign u run t v world1) _ _ h1 (λ _ world2 g. move context s _ _ stack world2 place g))))
+  set_runs : (t : Target) (e : Expr) (run : Run) (s : Spot) (l : Labels) (pc : ℕ) (stack : List Val) (w : World) → Here run s w → In s l pc (set_code t e) →
+      Follows context (told s) (set_to u run t e w) (λ _ world1. Go context s (beyond pc (set_code t e)) stack world1) → Go context s pc stack w
+  set_runs t e run s l pc stack w d is h =
+      expr_runs e run s l pc stack w d is.0
+      (bind_then context (told s) w (eval u run e w) _ _ _ (eval_gives u nest_ends again_kept run e w) h (λ v world1 k h1. target_runs t run s l _ v stack world1 (here_kept run s k d) is.1 h1))
 
-  sets_run : (given : List Assignment) (run : Run) (s : Spot) (pc : ℕ) (stack : List Val) (w : World) → Here run s w → HasAt (context.program.code s.run.stream) pc (assignments_code pc given) →
-      Follows context (told s) (set_each u run given w) (λ _ world1. Go context s (pc + length (assignments_code pc given)) stack world1) → Go context s pc stack w
-  sets_run [] run s pc stack w d is h = move context s pc (pc + 0) stack w (omega arith) h
-  sets_run (Given t e ∷ more) run s pc stack w d is h =
-      let c = set_code pc t e in
-      let rest = assignments_code (pc + length c) more in
-      let place : pc + length c + length rest ≡ pc + length (c ++ rest) = omega (arith, length-append c rest) in
-      set_runs t e run s pc stack w d (has_front (context.program.code s.run.stream) pc c rest is)
-      (bind_then context (told s) w (set_to u run t e w) _ _ _ (set_gives u nest_ends again_kept run t e w) h (λ _ world1 k h1.
-      sets_run more run s (pc + length c) stack world1 (here_kept run s k d) (has_behind (context.program.code s.run.stream) pc c rest is)
-      (follows_map context (told s) (set_each u run more world1) _ _ h1 (λ _ world2 g. move context s _ _ stack world2 place g))))
+  sets_run : (given : List Assignment) (run : Run) (s : Spot) (l : Labels) (pc : ℕ) (stack : List Val) (w : World) → Here run s w → In s l pc (assignments_code given) →
+      Follows context (told s) (set_each u run given w) (λ _ world1. Go context s (beyond pc (assignments_code given)) stack world1) → Go context s pc stack w
+  sets_run [] run s l pc stack w d is h = h
+  sets_run (Given t e ∷ more) run s l pc stack w d is h =
+      set_runs t e run s l pc stack w d is.0
+      (bind_then context (told s) w (set_to u run t e w) _ _ _ (set_gives u nest_ends again_kept run t e w) h (λ _ world1 k h1. sets_run more run s l _ stack world1 (here_kept run s k d) is.1 h1))
 
   -- A scope of the run's own, which is no loop's, is left, which is free.
   popped_then : (s : Spot) (pc : ℕ) (stack : List Val) (w : World) → context.base.scopes < length w.scopes.frames → top_mark w.scopes.frames ≡ None → slice_get (context.program.code s.run.stream) pc ≡ Some i.PopFrame →
@@ -846,58 +717,68 @@ module _ (context : Context) (trees : Trees) (n : ℕ)
       (λ h2. placed_then run s pc stack stack world1 world1 (enter_block context.program.host b world1) D L N fits.2 (block_asks context.program.host b world1) (deep_kept run s k d) h2 g)
       (λ h2. silent context (told s) _ (g s.parent s.out world1 (so_far_then context s.bed (as_at run s) s.out world1 D L N h2)))))))
 
+  -- A value's truth is asked, and what stands at the jump's place follows where it is false.
+  tested_then : (run : Run) (s : Spot) (pc to : ℕ) (v : Val) (stack : List Val) (w : World) (first second : World → Outcome) (D L N : Then) → slice_get (context.program.code s.run.stream) pc ≡ Some (i.JumpIfFalse to) →
+      Ends context s.bed (use_it (tick w) (as_at run s) s.out (λ _ world1. use_it (truth context.program.host v world1) (as_at run s) s.out (λ b world2. choose b (λ _. first world2) (λ _. second world2)))) D L N →
+      ((x : World) → Kept w x → Ends context s.bed (first x) D L N → Go context s (pc + 1) stack x) → ((x : World) → Kept w x → Ends context s.bed (second x) D L N → Go context s to stack x) → Go context s pc (v ∷ stack) w
+  tested_then run s pc to v stack w first second D L N e h f g =
+      at context (i.JumpIfFalse to) s pc (v ∷ stack) w e (after_then context (told s) (tick w) _
+      (use_then context s.bed w (tick w) (as_at run s) s.out _ D L N _ (tick_gives w) h (λ _ world1 k1 h1.
+      after_then context (told s) (truth context.program.host v world1) _ (use_then context s.bed world1 (truth context.program.host v world1) (as_at run s) s.out _ D L N _ (answered_gives _ world1) h1 (λ b world2 k2 h2.
+      choose_ends context b (first world2) (second world2) _ _ (told s) s.bed D L N h2 (λ h3. silent context (told s) _ (f world2 (kept_then k1 k2) h3)) (λ h3. silent context (told s) _ (g world2 (kept_then k1 k2) h3)))))))
+
   -- What is open around a statement's code is closed, and the innermost loop left or gone on with: from here to where that goes on.
   abbrev Jumps : ℕ → List Opened → Spot → List Val → World → Then → Type 0
   Jumps to os s stack w L =
-      (q : Option TemplateId) (out : List ℕ) (v : World) (pc : ℕ) → Kept w v → HasAt (context.program.code s.run.stream) pc (close_all os ++ i.Jump to ∷ []) → L q out v → Go context (later s q out) pc stack v
+      (q : Option TemplateId) (out : List ℕ) (v : World) (pc : ℕ) → Kept w v → HasAt (context.program.code s.run.stream) pc (close_all os) → slice_get (context.program.code s.run.stream) (beyond_all pc (close_all os)) ≡ Some (i.Jump to) → L q out v → Go context (later s q out) pc stack v
 
-  abbrev Around : Inside → Spot → List Val → World → Then → Then → Type 0
-  Around k s stack w L N = Jumps k.behind k.opened s stack w L × Jumps k.again k.opened s stack w N
+  abbrev Around : Labels → List Opened → Spot → List Val → World → Then → Then → Type 0
+  Around l os s stack w L N = Jumps l.after os s stack w L × Jumps l.again os s stack w N
 
-  around_kept : (k : Inside) (s : Spot) (stack : List Val) (L N : Then) {w v : World} → Kept w v → Around k s stack w L N → Around k s stack v L N
-  around_kept k s stack L N e j = (λ q out x pc h is l. j.0 q out x pc (kept_then e h) is l, λ q out x pc h is l. j.1 q out x pc (kept_then e h) is l)
+  around_kept : (l : Labels) (os : List Opened) (s : Spot) (stack : List Val) (L N : Then) {w v : World} → Kept w v → Around l os s stack w L N → Around l os s stack v L N
+  around_kept l os s stack L N e j = (λ q out x pc h is to k. j.0 q out x pc (kept_then e h) is to k, λ q out x pc h is to k. j.1 q out x pc (kept_then e h) is to k)
 
   jumps_scope : (to : ℕ) (os : List Opened) (s : Spot) (stack : List Val) (w v : World) (L : Then) → context.base.scopes ≤ length w.scopes.frames → Kept (within (plain_scope (undefined false)) w) v → Jumps to os s stack w L → Jumps to (a_scope ∷ os) s stack v (Closed pop L)
-  jumps_scope to os s stack w v L d k j q out x pc h is l =
+  jumps_scope to os s stack w v L d k j q out x pc h is there l =
       let a = plain_scope (undefined false) in
       let all = kept_then k h in
       popped_then (later s q out) pc stack x (omega (arith, kept_frames all, d)) (top_of_marks None (marks w.scopes.frames) x.scopes.frames all.same_marks) is.0
-      (j q out (pop x) (pc + 1) (kept_popped a w x all) is.1 l)
+      (j q out (pop x) (pc + 1) (kept_popped a w x all) is.1 there l)
 
-  around_scope : (k : Inside) (s : Spot) (stack : List Val) (w v : World) (L N : Then) → context.base.scopes ≤ length w.scopes.frames → Kept (within (plain_scope (undefined false)) w) v → Around k s stack w L N → Around (opening a_scope k) s stack v (Closed pop L) (Closed pop N)
-  around_scope k s stack w v L N d e j = (jumps_scope k.behind k.opened s stack w v L d e j.0, jumps_scope k.again k.opened s stack w v N d e j.1)
+  around_scope : (l : Labels) (os : List Opened) (s : Spot) (stack : List Val) (w v : World) (L N : Then) → context.base.scopes ≤ length w.scopes.frames → Kept (within (plain_scope (undefined false)) w) v → Around l os s stack w L N → Around l (a_scope ∷ os) s stack v (Closed pop L) (Closed pop N)
+  around_scope l os s stack w v L N d e j = (jumps_scope l.after os s stack w v L d e j.0, jumps_scope l.again os s stack w v N d e j.1)
 
   abbrev escaping : Spot → AutoEscape → Spot
   escaping s e = record s { run = record s.run { escapes = e ∷ s.run.escapes } }
 
   jumps_escape : (to : ℕ) (os : List Opened) (s : Spot) (stack : List Val) (w : World) (e : AutoEscape) (L : Then) → Jumps to os s stack w L →
       Jumps to (an_escape ∷ os) (escaping s w.escape) stack (with_escape e w) (Closed (with_escape w.escape) L)
-  jumps_escape to os s stack w e L j q out x pc h is l =
+  jumps_escape to os s stack w e L j q out x pc h is there l =
       at context i.PopAutoEscape (later (escaping s w.escape) q out) pc stack x is.0
-      (silent context (told_by s.bed out) _ (j q out (with_escape w.escape x) (pc + 1) (kept_unescaped e w x h) is.1 l))
+      (silent context (told_by s.bed out) _ (j q out (with_escape w.escape x) (pc + 1) (kept_unescaped e w x h) is.1 there l))
 
-  around_escape : (k : Inside) (s : Spot) (stack : List Val) (w : World) (e : AutoEscape) (L N : Then) → Around k s stack w L N →
-      Around (opening an_escape k) (escaping s w.escape) stack (with_escape e w) (Closed (with_escape w.escape) L) (Closed (with_escape w.escape) N)
-  around_escape k s stack w e L N j = (jumps_escape k.behind k.opened s stack w e L j.0, jumps_escape k.again k.opened s stack w e N j.1)
+  around_escape : (l : Labels) (os : List Opened) (s : Spot) (stack : List Val) (w : World) (e : AutoEscape) (L N : Then) → Around l os s stack w L N →
+      Around l (an_escape ∷ os) (escaping s w.escape) stack (with_escape e w) (Closed (with_escape w.escape) L) (Closed (with_escape w.escape) N)
+  around_escape l os s stack w e L N j = (jumps_escape l.after os s stack w e L j.0, jumps_escape l.again os s stack w e N j.1)
 
   jumps_capture : (to : ℕ) (os : List Opened) (s : Spot) (stack : List Val) (w : World) (L : Then) → s.run.floor < suc (length (captures_of s.bed s.out)) → Jumps to os s stack w L →
       Jumps to (a_capture ∷ os) (record s { bed = captured_in s.bed s.out; out = [] }) stack w (Dropped context s.bed s.out L)
-  jumps_capture to os s stack w L stands j q x v pc h is l =
+  jumps_capture to os s stack w L stands j q x v pc h is there l =
       at context i.EndCapture (later (record s { bed = captured_in s.bed s.out; out = [] }) q x) pc stack v is.0 (after_then context (told s) (tick v) _
       (follows_map_kept context (told s) v (tick v) _ _ (tick_gives v) l (λ _ world1 k1 left_first.
       ended_then s q x pc stack world1 stands
       (at context i.DiscardTop (later s q s.out) (pc + 1) (captured_text x world1 ∷ stack) world1 is.1.0
-      (silent context (told s) _ (j q s.out world1 (pc + 1 + 1) (kept_then h k1) is.1.1 left_first))))))
+      (silent context (told s) _ (j q s.out world1 (pc + 1 + 1) (kept_then h k1) is.1.1 there left_first))))))
 
-  around_capture : (k : Inside) (s : Spot) (stack : List Val) (w : World) (L N : Then) → s.run.floor < suc (length (captures_of s.bed s.out)) → Around k s stack w L N →
-      Around (opening a_capture k) (record s { bed = captured_in s.bed s.out; out = [] }) stack w (Dropped context s.bed s.out L) (Dropped context s.bed s.out N)
-  around_capture k s stack w L N stands j = (jumps_capture k.behind k.opened s stack w L stands j.0, jumps_capture k.again k.opened s stack w N stands j.1)
+  around_capture : (l : Labels) (os : List Opened) (s : Spot) (stack : List Val) (w : World) (L N : Then) → s.run.floor < suc (length (captures_of s.bed s.out)) → Around l os s stack w L N →
+      Around l (a_capture ∷ os) (record s { bed = captured_in s.bed s.out; out = [] }) stack w (Dropped context s.bed s.out L) (Dropped context s.bed s.out N)
+  around_capture l os s stack w L N stands j = (jumps_capture l.after os s stack w L stands j.0, jumps_capture l.again os s stack w N stands j.1)
 
   -- The code of statements comes behind itself with what they mean, or to their fault.
-  abbrev StmtsRun : {m : _} → ℕ → Inside → Row_of-Stmt m → Type 1
-  StmtsRun loops k ss =
-      (run : Run) (s : Spot) (pc : ℕ) (stack : List Val) (w : World) (L N : Then) → Stands context.base run s → Deep run s w → Around k s stack w L N → HasAt (context.program.code s.run.stream) pc (statements_code k pc ss) → loops_before pc (context.program.code s.run.stream) ≡ loops →
-      Ends context s.bed (exec_all u loops ss (as_at run s) s.out w) (λ q out1 world1. Go context (later s q out1) (pc + length (statements_code k pc ss)) stack world1) L N → Go context s pc stack w
+  abbrev StmtsRun : {m : _} → ℕ → Labels → List Opened → Row_of-Stmt m → Type 1
+  StmtsRun loops l os ss =
+      (run : Run) (s : Spot) (pc : ℕ) (stack : List Val) (w : World) (L N : Then) → Stands context.base run s → Deep run s w → Around l os s stack w L N → In s l pc (statements_code os ss) → loops_before pc (context.program.code s.run.stream) ≡ loops →
+      Ends context s.bed (exec_all u loops ss (as_at run s) s.out w) (λ q out1 world1. Go context (later s q out1) (beyond pc (statements_code os ss)) stack world1) L N → Go context s pc stack w
 
   -- ---------------------------------------------------------------- loops
   -- a run with a loop more open
@@ -938,304 +819,215 @@ module _ (context : Context) (trees : Trees) (n : ℕ)
   turn_ends : {m : _} → (t : Target) (loops : ℕ) (body : Row_of-Stmt m) (v : Val) (run : Run) (out : List ℕ) (w : World) → KeptEnds w (turn_of t loops body v run out w)
   turn_ends t loops body v run out w = ends_use w (assign u run t v w) run out _ (assign_gives u nest_ends again_kept run t v w) (λ _ world1. execs_end u nest_ends again_kept loops body run out world1)
 
-  -- a loop's instructions, where its jump back ends them
-  has_loop : (all : List Instruction) (pc end : ℕ) (tc bc oc : List Instruction) → HasAt all (pc + 1) (i.Iterate end ∷ (tc ++ (bc ++ i.Jump (pc + 1) ∷ oc))) → HasAt all (pc + 1) (i.Iterate end ∷ (tc ++ (bc ++ i.Jump (pc + 1) ∷ [])))
-  has_loop all pc end tc bc oc is =
-      let behind = has_behind all (pc + 1 + 1) tc (bc ++ i.Jump (pc + 1) ∷ oc) is.1 in
-      let last = has_behind all (pc + 1 + 1 + length tc) bc (i.Jump (pc + 1) ∷ oc) behind in (
-        is.0,
-        has_both all (pc + 1 + 1) tc (bc ++ i.Jump (pc + 1) ∷ []) (has_front all (pc + 1 + 1) tc _ is.1)
-            (has_both all (pc + 1 + 1 + length tc) bc (i.Jump (pc + 1) ∷ []) (has_front all (pc + 1 + 1 + length tc) bc _ behind) (last.0, tt)),
-      )
-
   -- what follows once all rounds are over, at the place behind the jump back
   abbrev Rounded : Option Return → Spot → List Val → List Val → World → Then → ℕ → Type 0
   Rounded o s stack items w D end =
       (q : Option TemplateId) (out : List ℕ) (x : World) (l : Loop) → Kept (in_loop_of (for_flags false) w) x → slice_get (shapes x.loops) (length w.loops) ≡ Some l → l.items ≡ items → D q out (pop x) → Go context (later (looped o s) q out) end stack x
 
+  -- the rounds of a loop at a place, their labels, and the place behind them
+  abbrev round_code : {m : _} → Target → Row_of-Stmt m → Fragment
+  round_code t body = target_code t ⨾ statements_code [] body
+
+  abbrev end_at : ℕ → Fragment → ℕ
+  end_at pc round = beyond (pc + 1 + 1) round + 1
+
+  abbrev round_labels : Labels → ℕ → Fragment → Labels
+  round_labels l pc round = inward (pc + 1) (end_at pc round) l
+
   -- A loop's rounds, from where the next item is asked for.
-  rounds_run : {m : _} → (o : Option Return) (t : Target) (loops : ℕ) (body : Row_of-Stmt m) (again end : ℕ) → StmtsRun loops (record { again = again; behind = end; opened = [] }) body → (items vs : List Val) (run : Run) (s : Spot) (stack : List Val) (w x : World) (l : Loop) (D L N : Then) →
-      Stands context.base run s → Deep run s (in_loop_of (for_flags false) w) → Kept (in_loop_of (for_flags false) w) x → slice_get (shapes x.loops) (length w.loops) ≡ Some l → LeftOf l items vs →
-      HasAt (context.program.code s.run.stream) again (i.Iterate end ∷ (target_code (again + 1) t ++ (statements_code (record { again = again; behind = end; opened = [] }) (again + 1 + length (target_code (again + 1) t)) body ++ i.Jump again ∷ []))) →
-      loops_before (again + 1 + length (target_code (again + 1) t)) (context.program.code s.run.stream) ≡ loops → Rounded o s stack items w D end → Ends context s.bed (rounds (turn_of t loops body) vs (as_at run s) s.out x) D L N → Go context (looped o s) again stack x
-  rounds_run o t loops body again end part items [] run s stack w x l D L N fits d k e left is nth over_it h =
-      at context (i.Iterate end) (looped o s) again stack x is.0 (after_then context (told s) (tick x) _ (use_then context s.bed x (tick x) (as_at run s) s.out _ D L N _ (tick_gives x) h (λ _ world1 k1 h1.
+  rounds_run : {m : _} → (o : Option Return) (g : LoopFlags) (t : Target) (loops : ℕ) (body : Row_of-Stmt m) (l : Labels) (pc : ℕ) (rest : Fragment) → StmtsRun loops (round_labels l pc (round_code t body)) [] body → (items vs : List Val) (run : Run) (s : Spot) (stack : List Val) (w x : World) (r : Loop) (D L N : Then) →
+      Stands context.base run s → Deep run s (in_loop_of (for_flags false) w) → Kept (in_loop_of (for_flags false) w) x → slice_get (shapes x.loops) (length w.loops) ≡ Some r → LeftOf r items vs → In s l pc (a_loop g (round_code t body) rest) →
+      loops_before (beyond (pc + 1 + 1) (target_code t)) (context.program.code s.run.stream) ≡ loops → Rounded o s stack items w D (end_at pc (round_code t body)) → Ends context s.bed (rounds (turn_of t loops body) vs (as_at run s) s.out x) D L N → Go context (looped o s) (pc + 1) stack x
+  rounds_run o g t loops body l pc rest part items [] run s stack w x r D L N fits d k e left is nth over_it h =
+      let end = end_at pc (round_code t body) in
+      at context (i.Iterate end) (looped o s) (pc + 1) stack x is.1 (after_then context (told s) (tick x) _ (use_then context s.bed x (tick x) (as_at run s) s.out _ D L N _ (tick_gives x) h (λ _ world1 k1 h1.
       let kept = kept_then k k1 in
-      let record1 = kept_record k1 (length w.loops) l e in
-      subst (λ n. Comes context (told s) n) (sym (iterate_is o (for_flags false) s s.parent s.out again end stack w world1 l None kept record1 (no_item l items left)))
-      (silent context (told s) _ (over_it s.parent s.out (next_turn world1) (turned l) (kept_turned (for_flags false) w world1 kept) (next_record (for_flags false) w world1 l kept record1) (turned_items l items left)
+      let record1 = kept_record k1 (length w.loops) r e in
+      subst (λ n. Comes context (told s) n) (sym (iterate_is o (for_flags false) s s.parent s.out (pc + 1) end stack w world1 r None kept record1 (no_item r items left)))
+      (silent context (told s) _ (over_it s.parent s.out (next_turn world1) (turned r) (kept_turned (for_flags false) w world1 kept) (next_record (for_flags false) w world1 r kept record1) (turned_items r items left)
       (so_far_then context s.bed (as_at run s) s.out (pop (next_turn world1)) D L N h1))))))
-  rounds_run o t loops body again end part items (v ∷ vs) run s stack w x l D L N fits d k e left is nth over_it h =
+  rounds_run o g t loops body l pc rest part items (v ∷ vs) run s stack w x r D L N fits d k e left is nth over_it h =
       let all = context.program.code s.run.stream in
-      let inner : Inside = record { again = again; behind = end; opened = [] } in
-      let tc = target_code (again + 1) t in
-      let start = again + 1 + length tc in
-      let bc = statements_code inner start body in
-      let from_body = has_behind all (again + 1) tc (bc ++ i.Jump again ∷ []) is.1 in
-      let last = has_behind all start bc (i.Jump again ∷ []) from_body in
-      at context (i.Iterate end) (looped o s) again stack x is.0 (after_then context (told s) (tick x) _ (use_then context s.bed x (tick x) (as_at run s) s.out _ D L N _ (tick_gives x) h (λ _ world1 k1 h1.
+      let again = pc + 1 in
+      let end = end_at pc (round_code t body) in
+      let inner = round_labels l pc (round_code t body) in
+      let start = beyond (pc + 1 + 1) (target_code t) in
+      at context (i.Iterate end) (looped o s) again stack x is.1 (after_then context (told s) (tick x) _ (use_then context s.bed x (tick x) (as_at run s) s.out _ D L N _ (tick_gives x) h (λ _ world1 k1 h1.
       let kept = kept_then k k1 in
-      let record1 = kept_record k1 (length w.loops) l e in
+      let record1 = kept_record k1 (length w.loops) r e in
       let y = cleared (next_turn world1) in
       let kept_y : Kept (in_loop_of (for_flags false) w) y = kept_cleared (kept_turned (for_flags false) w world1 kept) in
-      let record_y = next_record (for_flags false) w world1 l kept record1 in
-      let left_y = left_then l items v vs left in
+      let record_y = next_record (for_flags false) w world1 r kept record1 in
+      let left_y = left_then r items v vs left in
       let turned_by = turn_of t loops body v (as_at run s) s.out y in
       let next_round : Run → List ℕ → World → Outcome = λ run1 out1 z. rounds (turn_of t loops body) vs run1 out1 z in
       let DoneThen = Goes context s.bed (as_at run s) next_round D L N in
       let LeaveThen = Goes context s.bed (as_at run s) (λ run1 out1 z. so_far run1 out1 (pop z)) D L N in
-      let goes_on : (q : Option TemplateId) (out1 : List ℕ) (z : World) (pc : ℕ) → Kept y z → slice_get all pc ≡ Some (i.Jump again) → DoneThen q out1 z → Go context (later (looped o s) q out1) pc stack z =
-      λ q out1 z pc kz is1 g.
-      at context (i.Jump again) (later (looped o s) q out1) pc stack z is1 (after_then context (told_by s.bed out1) (tick z) _
-      (use_then context s.bed z (tick z) (record run { parent = q }) out1 _ D L N _ (tick_gives z) g (λ _ z1 kz1 g1.
+      let nexts : Jumps again [] (looped o s) stack y DoneThen =
+      λ q out1 z place kz none is1 g1.
+      at context (i.Jump again) (later (looped o s) q out1) place stack z is1 (after_then context (told_by s.bed out1) (tick z) _
+      (use_then context s.bed z (tick z) (record run { parent = q }) out1 _ D L N _ (tick_gives z) g1 (λ _ z1 kz1 g2.
       silent context (told_by s.bed out1) _
-      (rounds_run o t loops body again end part items vs run (later s q out1) stack w z1 (turned l) D L N (stands_later context.base run s fits q out1) (deep_later run s (in_loop_of (for_flags false) w) q out1 d) (kept_then kept_y (kept_then kz kz1)) (kept_record (kept_then kz kz1) (length w.loops) (turned l) record_y) left_y is nth over_it g1)))) in
+      (rounds_run o g t loops body l pc rest part items vs run (later s q out1) stack w z1 (turned r) D L N (stands_later context.base run s fits q out1) (deep_later run s (in_loop_of (for_flags false) w) q out1 d) (kept_then kept_y (kept_then kz kz1)) (kept_record (kept_then kz kz1) (length w.loops) (turned r) record_y) left_y is nth over_it g2)))) in
       let leaves : Jumps end [] (looped o s) stack y LeaveThen =
-      λ q out1 z pc kz is1 g.
-      at context (i.Jump end) (later (looped o s) q out1) pc stack z is1.0 (after_then context (told_by s.bed out1) (tick z) _
-      (use_then context s.bed z (tick z) (record run { parent = q }) out1 _ D L N _ (tick_gives z) g (λ _ z1 kz1 g1.
+      λ q out1 z place kz none is1 g1.
+      at context (i.Jump end) (later (looped o s) q out1) place stack z is1 (after_then context (told_by s.bed out1) (tick z) _
+      (use_then context s.bed z (tick z) (record run { parent = q }) out1 _ D L N _ (tick_gives z) g1 (λ _ z1 kz1 g2.
       silent context (told_by s.bed out1) _
-      (over_it q out1 z1 (turned l) (kept_then kept_y (kept_then kz kz1)) (kept_record (kept_then kz kz1) (length w.loops) (turned l) record_y) left_y.same (so_far_then context s.bed (record run { parent = q }) out1 (pop z1) D L N g1))))) in
-      let nexts : Jumps again [] (looped o s) stack y DoneThen = λ q out1 z pc kz is1 g. goes_on q out1 z pc kz is1.0 g in
-      subst (λ n. Comes context (told s) n) (sym (iterate_is o (for_flags false) s s.parent s.out again end stack w world1 l (Some v) kept record1 (next_item l items v vs left)))
+      (over_it q out1 z1 (turned r) (kept_then kept_y (kept_then kz kz1)) (kept_record (kept_then kz kz1) (length w.loops) (turned r) record_y) left_y.same (so_far_then context s.bed (record run { parent = q }) out1 (pop z1) D L N g2))))) in
+      subst (λ n. Comes context (told s) n) (sym (iterate_is o (for_flags false) s s.parent s.out again end stack w world1 r (Some v) kept record1 (next_item r items v vs left)))
       (silent context (told s) _
-      (target_runs t (as_at run s) (looped o s) (again + 1) v stack y (here run s y (deep_kept run s kept_y d)) (has_front all (again + 1) tc (bc ++ i.Jump again ∷ []) is.1)
+      (target_runs t (as_at run s) (looped o s) inner (again + 1) v stack y (here run s y (deep_kept run s kept_y d)) is.2.0
       (use_then context s.bed y (assign u (as_at run s) t v y) (as_at run s) s.out (λ _ z. exec_all u loops body (as_at run s) s.out z) DoneThen LeaveThen DoneThen _ (assign_gives u nest_ends again_kept (as_at run s) t v y)
       (round_then context s.bed (as_at run s) turned_by next_round D L N h1) (λ _ z k2 h2.
-      part run (looped o s) start stack z LeaveThen DoneThen fits (deep_kept run s (kept_then kept_y k2) d) (around_kept inner (looped o s) stack LeaveThen DoneThen k2 (leaves, nexts)) (has_front all start bc (i.Jump again ∷ []) from_body) nth
-      (ends_map_kept context s.bed z (exec_all u loops body (as_at run s) s.out z) DoneThen _ LeaveThen DoneThen (execs_end u nest_ends again_kept loops body (as_at run s) s.out z) h2 (λ q out1 z1 k3 g.
-      goes_on q out1 z1 (start + length bc) (kept_then k2 k3) last.0 g)))))))))
+      part run (looped o s) start stack z LeaveThen DoneThen fits (deep_kept run s (kept_then kept_y k2) d) (around_kept inner [] (looped o s) stack LeaveThen DoneThen k2 (leaves, nexts)) is.2.1 nth
+      (ends_map_kept context s.bed z (exec_all u loops body (as_at run s) s.out z) DoneThen _ LeaveThen DoneThen (execs_end u nest_ends again_kept loops body (as_at run s) s.out z) h2 (λ q out1 z1 k3 g1.
+      nexts q out1 z1 _ (kept_then k2 k3) tt is.3 g1)))))))))
 
   -- ---------------------------------------------------------------- items under a condition
   -- an item is stored, and its condition asked
   abbrev test_of : Run → Target → Expr → Val → World → Res Val
   test_of run t c v w = bind (assign u run t v w) (λ _ world1. eval u run c world1)
 
+  abbrev after_filter : Fragment
+  after_filter = straight (i.PopLoopFrame ∷ i.BuildList None ∷ [])
+
   -- From where the next item is asked for the pass comes behind its loop, with what it takes below the count.
-  filter_runs : (t : Target) (c : Expr) (again : ℕ) (items vs : List Val) (n : ℕ) (run : Run) (s : Spot) (below : List Val) (w x : World) (l : Loop) →
+  filter_runs : (t : Target) (c : Expr) (k : Labels) (pc : ℕ) (items vs : List Val) (n : ℕ) (run : Run) (s : Spot) (below : List Val) (w x : World) (l : Loop) →
       Here run s w → nat_lt (depth w.scopes) context.program.host.limit ≡ true → Kept (in_loop_of filter_flags w) x → slice_get (shapes x.loops) (length w.loops) ≡ Some l → LeftOf l items vs →
-      (tc qc : List Instruction) → tc ≡ target_code (again + 1 + 1) t → qc ≡ expr_code (again + 1 + 1 + length tc) c → (end : ℕ) → end ≡ again + 1 + 1 + length tc + length qc →
-      HasAt (context.program.code s.run.stream) again (i.Iterate (end + 7) ∷ i.DupTop ∷ (tc ++ (qc
-      ++ i.JumpIfFalse (end + 5) ∷ i.Swap ∷ i.LoadConst (number (pos 1)) ∷ i.Add ∷ i.Jump again ∷ i.DiscardTop ∷ i.Jump again ∷ i.PopLoopFrame ∷ i.BuildList None ∷ []))) →
-      Follows context (told s) (kept context.program.host (test_of run t c) n vs x) (λ us y. (m : ℕ) → m ≡ n + length us → Go context s (end + 1 + 1 + 1 + 1 + 1 + 1 + 1 + 1) (number (pos m) ∷ onto us below) y) →
-      Go context (looped None s) again (number (pos n) ∷ below) x
-  filter_runs t c again items [] n run s below w x l d room k e left tc qc et ec end ee is h =
-      let all = context.program.code s.run.stream in
-      let from_test = has_behind all (again + 1 + 1) tc _ is.1.1 in
-      let last = has_behind all (again + 1 + 1 + length tc) qc _ from_test in
-      let here : again + 1 + 1 + length tc + length qc ≡ end = sym ee in
-      let tail = subst (λ m. HasAt all m (i.JumpIfFalse (end + 5) ∷ i.Swap ∷ i.LoadConst (number (pos 1)) ∷ i.Add ∷ i.Jump again ∷ i.DiscardTop ∷ i.Jump again ∷ i.PopLoopFrame ∷ i.BuildList None ∷ [])) here last in
-      let there : end + 7 ≡ end + 1 + 1 + 1 + 1 + 1 + 1 + 1 = omega arith in
-      at context (i.Iterate (end + 7)) (looped None s) again (number (pos n) ∷ below) x is.0 (after_then context (told s) (tick x) _ (bind_then context (told s) x (tick x) _ _ _ (tick_gives x) h (λ _ world1 k1 h1.
+      In s k pc (a_loop filter_flags (filter_round t c) after_filter) →
+      Follows context (told s) (kept context.program.host (test_of run t c) n vs x) (λ us y. (m : ℕ) → m ≡ n + length us → Go context s (end_at pc (filter_round t c) + 1) (number (pos m) ∷ onto us below) y) →
+      Go context (looped None s) (pc + 1) (number (pos n) ∷ below) x
+  filter_runs t c labels pc items [] n run s below w x l d room k e left is h =
+      let again = pc + 1 in
+      let end = end_at pc (filter_round t c) in
+      at context (i.Iterate end) (looped None s) again (number (pos n) ∷ below) x is.1 (after_then context (told s) (tick x) _ (bind_then context (told s) x (tick x) _ _ _ (tick_gives x) h (λ _ world1 k1 h1.
       let all_kept = kept_then k k1 in
       let record1 = kept_record k1 (length w.loops) l e in
-      subst (λ a. Comes context (told s) a) (sym (iterate_is None filter_flags s s.parent s.out again (end + 7) (number (pos n) ∷ below) w world1 l None all_kept record1 (no_item l items left)))
-      (silent context (told s) _ (move context (looped None s) _ _ (number (pos n) ∷ below) (next_turn world1) there
-      (left_loop_then filter_flags s s.parent s.out _ (number (pos n) ∷ below) w (next_turn world1) (turned l) d.0.scopes (kept_turned filter_flags w world1 all_kept) (next_record filter_flags w world1 l all_kept record1) tail.1.1.1.1.1.1.1.0
-      (h1 n (omega arith))))))))
-  filter_runs t c again items (v ∷ vs) n run s below w x l d room k e left tc qc et ec end ee is h =
-      let all = context.program.code s.run.stream in
-      let from_test = has_behind all (again + 1 + 1) tc _ is.1.1 in
-      let last = has_behind all (again + 1 + 1 + length tc) qc _ from_test in
-      let here : again + 1 + 1 + length tc + length qc ≡ end = sym ee in
-      let tail = subst (λ m. HasAt all m (i.JumpIfFalse (end + 5) ∷ i.Swap ∷ i.LoadConst (number (pos 1)) ∷ i.Add ∷ i.Jump again ∷ i.DiscardTop ∷ i.Jump again ∷ i.PopLoopFrame ∷ i.BuildList None ∷ [])) here last in
-      let no : end + 5 ≡ end + 1 + 1 + 1 + 1 + 1 = omega arith in
+      subst (λ a. Comes context (told s) a) (sym (iterate_is None filter_flags s s.parent s.out again end (number (pos n) ∷ below) w world1 l None all_kept record1 (no_item l items left)))
+      (silent context (told s) _
+      (left_loop_then filter_flags s s.parent s.out _ (number (pos n) ∷ below) w (next_turn world1) (turned l) d.0.scopes (kept_turned filter_flags w world1 all_kept) (next_record filter_flags w world1 l all_kept record1) is.4.0
+      (h1 n (omega arith)))))))
+  filter_runs t c labels pc items (v ∷ vs) n run s below w x l d room k e left is h =
+      let again = pc + 1 in
+      let end = end_at pc (filter_round t c) in
+      let test = beyond (beyond (again + 1 + 1) (target_code t)) (expr_code c) in
+      let taken_at = is.2.1.1.1.0 in
       let count = number (pos n) in
       let deep = here_within run s (loop_scope (mark_behind filter_flags w)) w room d in
       let q = looped None s in
-      at context (i.Iterate (end + 7)) q again (count ∷ below) x is.0 (after_then context (told s) (tick x) _ (bind_then context (told s) x (tick x) _ _ _ (tick_gives x) h (λ _ world1 k1 h1.
+      at context (i.Iterate end) q again (count ∷ below) x is.1 (after_then context (told s) (tick x) _ (bind_then context (told s) x (tick x) _ _ _ (tick_gives x) h (λ _ world1 k1 h1.
       let all_kept = kept_then k k1 in
       let record1 = kept_record k1 (length w.loops) l e in
       let y = cleared (next_turn world1) in
       let kept_y : Kept (in_loop_of filter_flags w) y = kept_cleared (kept_turned filter_flags w world1 all_kept) in
       let record_y = next_record filter_flags w world1 l all_kept record1 in
       let left_y = left_then l items v vs left in
-      subst (λ a. Comes context (told s) a) (sym (iterate_is None filter_flags s s.parent s.out again (end + 7) (count ∷ below) w world1 l (Some v) all_kept record1 (next_item l items v vs left)))
+      subst (λ a. Comes context (told s) a) (sym (iterate_is None filter_flags s s.parent s.out again end (count ∷ below) w world1 l (Some v) all_kept record1 (next_item l items v vs left)))
       (silent context (told s) _
-      (at context i.DupTop q (again + 1) (v ∷ count ∷ below) y is.1.0 (silent context (told s) _
-      (target_runs t run q (again + 1 + 1) v (v ∷ count ∷ below) y (here_kept run s kept_y deep) (subst (λ a. HasAt all (again + 1 + 1) a) et (has_front all (again + 1 + 1) tc _ is.1.1))
+      (at context i.DupTop q (again + 1) (v ∷ count ∷ below) y is.2.0.0 (silent context (told s) _
+      (target_runs t run q _ (again + 1 + 1) v (v ∷ count ∷ below) y (here_kept run s kept_y deep) is.2.1.0
       (bind_then context (told s) y (assign u run t v y) (λ _ z. eval u run c z) _ _ (assign_gives u nest_ends again_kept run t v y)
       (bound_follows context (told s) (test_of run t c v y) _ _ h1) (λ _ world2 k2 h2.
-      move context q _ _ (v ∷ count ∷ below) world2 (ap (λ a. again + 1 + 1 + length a) (sym et))
-      (expr_runs c run q (again + 1 + 1 + length tc) (v ∷ count ∷ below) world2 (here_kept run s (kept_then kept_y k2) deep) (subst (λ a. HasAt all (again + 1 + 1 + length tc) a) ec (has_front all (again + 1 + 1 + length tc) qc _ from_test))
+      expr_runs c run q _ _ (v ∷ count ∷ below) world2 (here_kept run s (kept_then kept_y k2) deep) is.2.1.1.0
       (follows_map_kept context (told s) world2 (eval u run c world2) _ _ (eval_gives u nest_ends again_kept run c world2) h2 (λ b world3 k3 h3.
-      move context q _ _ (b ∷ v ∷ count ∷ below) world3 (ap (λ a. again + 1 + 1 + length tc + length a) (sym ec) ∙ here)
-      (at context (i.JumpIfFalse (end + 5)) q end (b ∷ v ∷ count ∷ below) world3 tail.0 (after_then context (told s) (tick world3) _ (bind_then context (told s) world3 (tick world3) _ _ _ (tick_gives world3) h3 (λ _ world4 k4 h4.
+      at context _ q test (b ∷ v ∷ count ∷ below) world3 taken_at.0 (after_then context (told s) (tick world3) _ (bind_then context (told s) world3 (tick world3) _ _ _ (tick_gives world3) h3 (λ _ world4 k4 h4.
       after_then context (told s) (truth context.program.host b world4) _ (bind_then context (told s) world4 (truth context.program.host b world4) _ _ _ (answered_gives _ world4) h4 (λ yes world5 k5 h5.
       let kept5 = kept_then kept_y (kept_then k2 (kept_then k3 (kept_then k4 k5))) in
       let record5 : (z : World) → Kept world5 z → slice_get (shapes z.loops) (length w.loops) ≡ Some (turned l) = λ z kz. kept_record (kept_then k2 (kept_then k3 (kept_then k4 (kept_then k5 kz)))) (length w.loops) (turned l) record_y in
       choose_then context yes _ _ _ _ (told s) _ h5
       (λ h6. silent context (told s) _
-      (at context i.Swap q (end + 1) (v ∷ count ∷ below) world5 tail.1.0 (after_then context (told s) (tick world5) _ (bind_then context (told s) world5 (tick world5) _ _ _ (tick_gives world5)
+      (at context i.Swap q (test + 1) (v ∷ count ∷ below) world5 taken_at.1.0.0 (after_then context (told s) (tick world5) _ (bind_then context (told s) world5 (tick world5) _ _ _ (tick_gives world5)
       (follows_map_kept context (told s) world5 (one_counted n world5) _ (λ _ z. Kept world5 z × Follows context (told s) (bind (tick z) (λ _ z1. bind (kept context.program.host (test_of run t c) (n + 1) vs z1) (λ us z2. Good (v ∷ us) z2))) _) (one_counted_gives u nest_ends again_kept n world5)
       (bound_follows context (told s) (one_counted n world5) _ _ h6) (λ _ z kz hz. (kz, hz))) (λ _ world6 k6 h7.
       silent context (told s) _
-      (at context (i.LoadConst (number (pos 1))) q (end + 1 + 1) (count ∷ v ∷ below) world6 tail.1.1.0 (after_then context (told s) (tick world6) _ (bind_then context (told s) world6 (tick world6) _ _ _ (tick_gives world6) h7 (λ _ world7 k7 h8.
+      (at context (i.LoadConst (number (pos 1))) q (test + 1 + 1) (count ∷ v ∷ below) world6 taken_at.1.0.1.0 (after_then context (told s) (tick world6) _ (bind_then context (told s) world6 (tick world6) _ _ _ (tick_gives world6) h7 (λ _ world7 k7 h8.
       silent context (told s) _
-      (at context i.Add q (end + 1 + 1 + 1) (number (pos 1) ∷ count ∷ v ∷ below) world7 tail.1.1.1.0 (after_then context (told s) (tick world7) _ (bind_then context (told s) world7 (tick world7) _ _ _ (tick_gives world7) h8 (λ _ world8 k8 h9.
-      pushes context q (end + 1 + 1 + 1) (v ∷ below) (number (pos 1) ∷ count ∷ v ∷ below) world8 (operated context.program.host binaries.Add count (number (pos 1)) world8)
-      (one_more_then context (told s) n world8 _ (λ z world9. Go context q (end + 1 + 1 + 1 + 1) (z ∷ v ∷ below) world9) h9 (λ both.
-      at context (i.Jump again) q (end + 1 + 1 + 1 + 1) (number (pos (n + 1)) ∷ v ∷ below) world8 tail.1.1.1.1.0 (after_then context (told s) (tick world8) _ (bind_then context (told s) world8 (tick world8) _ _ _ (tick_gives world8) both.1 (λ _ world9 k9 h10.
+      (at context i.Add q (test + 1 + 1 + 1) (number (pos 1) ∷ count ∷ v ∷ below) world7 taken_at.1.0.1.1.0 (after_then context (told s) (tick world7) _ (bind_then context (told s) world7 (tick world7) _ _ _ (tick_gives world7) h8 (λ _ world8 k8 h9.
+      pushes context q (test + 1 + 1 + 1) (v ∷ below) (number (pos 1) ∷ count ∷ v ∷ below) world8 (operated context.program.host binaries.Add count (number (pos 1)) world8)
+      (one_more_then context (told s) n world8 _ (λ z world9. Go context q (test + 1 + 1 + 1 + 1) (z ∷ v ∷ below) world9) h9 (λ both.
+      at context (i.Jump again) q (test + 1 + 1 + 1 + 1) (number (pos (n + 1)) ∷ v ∷ below) world8 taken_at.1.1 (after_then context (told s) (tick world8) _ (bind_then context (told s) world8 (tick world8) _ _ _ (tick_gives world8) both.1 (λ _ world9 k9 h10.
       silent context (told s) _
-      (filter_runs t c again items vs (n + 1) run s (v ∷ below) w world9 (turned l) d room (kept_then kept5 (kept_then both.0 k9)) (record5 world9 (kept_then both.0 k9)) left_y tc qc et ec end ee is
+      (filter_runs t c labels pc items vs (n + 1) run s (v ∷ below) w world9 (turned l) d room (kept_then kept5 (kept_then both.0 k9)) (record5 world9 (kept_then both.0 k9)) left_y is
       (follows_map context (told s) (kept context.program.host (test_of run t c) (n + 1) vs world9) _ _ (bound_follows context (told s) (kept context.program.host (test_of run t c) (n + 1) vs world9) _ _ h10) (λ us z g m em. g m (omega (arith, em)))))))))))))))))))))))
-      (λ h6. silent context (told s) _ (move context q _ _ (v ∷ count ∷ below) world5 no
-      (at context i.DiscardTop q (end + 1 + 1 + 1 + 1 + 1) (v ∷ count ∷ below) world5 tail.1.1.1.1.1.0 (silent context (told s) _
-      (at context (i.Jump again) q (end + 1 + 1 + 1 + 1 + 1 + 1) (count ∷ below) world5 tail.1.1.1.1.1.1.0 (after_then context (told s) (tick world5) _ (bind_then context (told s) world5 (tick world5) _ _ _ (tick_gives world5) h6 (λ _ world6 k6 h7.
+      (λ h6. silent context (told s) _
+      (at context i.DiscardTop q _ (v ∷ count ∷ below) world5 is.2.1.1.1.1.0 (silent context (told s) _
+      (at context (i.Jump again) q _ (count ∷ below) world5 is.3 (after_then context (told s) (tick world5) _ (bind_then context (told s) world5 (tick world5) _ _ _ (tick_gives world5) h6 (λ _ world6 k6 h7.
       silent context (told s) _
-      (filter_runs t c again items vs n run s below w world6 (turned l) d room (kept_then kept5 k6) (record5 world6 k6) left_y tc qc et ec end ee is h7)))))))))))))))))))))))))))
+      (filter_runs t c labels pc items vs n run s below w world6 (turned l) d room (kept_then kept5 k6) (record5 world6 k6) left_y is h7))))))))))))))))))))))))
 
   -- What is iterated, up to where its loop's scope is opened.
-  iterable_runs : (recursive : Bool) (loops : ℕ) (t : Target) (e : Expr) (c : Option Expr) (run : Run) (s : Spot) (pc : ℕ) (stack : List Val) (w : World) → Here run s w → HasAt (context.program.code s.run.stream) pc (iterable_code pc t e c) →
-      slice_get (context.program.code s.run.stream) (pc + length (iterable_code pc t e c)) ≡ Some (i.PushLoop (for_flags recursive)) → loops_before pc (context.program.code s.run.stream) ≡ loops →
+  iterable_runs : (recursive : Bool) (loops : ℕ) (t : Target) (e : Expr) (c : Option Expr) (run : Run) (s : Spot) (l : Labels) (pc : ℕ) (stack : List Val) (w : World) → Here run s w → In s l pc (iterable_code t e c) →
+      slice_get (context.program.code s.run.stream) (beyond pc (iterable_code t e c)) ≡ Some (i.PushLoop (for_flags recursive)) → loops_before pc (context.program.code s.run.stream) ≡ loops →
       Follows context (told s) (loop_items u loops run t e c w) (λ vs world1. (old : List Val) →
-      Comes context (told s) (after (open_loop context.program.host vs (for_flags recursive) (loops_before (pc + length (iterable_code pc t e c)) (context.program.code s.run.stream)) world1) (λ _ y. goes stack y (looping (None ∷ s.run.loops) (cfg s (pc + length (iterable_code pc t e c)) old world1))))) → Go context s pc stack w
-  iterable_runs recursive loops t e None run s pc stack w d is there nth h =
-      expr_runs e run s pc stack w d is
+      Comes context (told s) (after (open_loop context.program.host vs (for_flags recursive) (loops_before (beyond pc (iterable_code t e c)) (context.program.code s.run.stream)) world1) (λ _ y. goes stack y (looping (None ∷ s.run.loops) (cfg s (beyond pc (iterable_code t e c)) old world1))))) → Go context s pc stack w
+  iterable_runs recursive loops t e None run s l pc stack w d is there nth h =
+      expr_runs e run s l pc stack w d is
       (bind_then context (told s) w (eval u run e w) _ _ _ (eval_gives u nest_ends again_kept run e w) h (λ v world1 k1 h1.
-      at context (i.PushLoop (for_flags recursive)) s (pc + length (expr_code pc e)) (v ∷ stack) world1 there (after_then context (told s) (items_over context.program.host v world1) _
+      at context (i.PushLoop (for_flags recursive)) s _ (v ∷ stack) world1 there (after_then context (told s) (items_over context.program.host v world1) _
       (follows_map_kept context (told s) world1 (items_over context.program.host v world1) _ _ (answered_gives _ world1) h1 (λ vs world2 k2 g. g (v ∷ stack))))))
-  iterable_runs recursive loops t e (Some c) run s pc stack w d is there nth h =
+  iterable_runs recursive loops t e (Some c) run s l pc stack w d is there nth h =
       let all = context.program.code s.run.stream in
-      let ec = expr_code (pc + 1) e in
-      let pc1 = pc + 1 + length ec in
-      let fc = filter_code pc1 t c in
-      let again = pc1 + 1 in
-      let tc = target_code (again + 1 + 1) t in
-      let test = again + 1 + 1 + length tc in
-      let qc = expr_code test c in
-      let end = test + length qc in
-      let build = end + 1 + 1 + 1 + 1 + 1 + 1 + 1 + 1 in
-      let behind = has_behind all (pc + 1) ec fc is.1 in
-      let tail = has_behind all test qc _ (has_behind all (again + 1 + 1) tc _ behind.1.1.1) in
-      let tail_code = i.JumpIfFalse (end + 5) ∷ i.Swap ∷ i.LoadConst (number (pos 1)) ∷ i.Add ∷ i.Jump again ∷ i.DiscardTop ∷ i.Jump again ∷ i.PopLoopFrame ∷ i.BuildList None ∷ [] in
-      let place : build + 1 ≡ pc + suc (length (ec ++ fc)) = omega (arith, length-append ec fc, length-append tc (qc ++ tail_code), length-append qc tail_code) in
-      let here : pc + length (i.LoadConst (number (pos 0)) ∷ ec) ≡ pc1 = omega arith in
-      let pass_number : loops_before pc1 all ≡ loops =
-      ap (λ m. loops_before m all) (sym here) ∙ behind_code all pc (i.LoadConst (number (pos 0)) ∷ ec) (is.0, has_front all (pc + 1) ec fc is.1) ∙ omega (arith, nth, expr_none (pc + 1) e) in
-      at context (i.LoadConst (number (pos 0))) s pc stack w is.0 (after_then context (told s) (tick w) _ (bind_then context (told s) w (tick w) _ _ _ (tick_gives w) h (λ _ world1 k1 h1.
+      let pc1 = beyond (pc + 1) (expr_code e) in
+      let build = end_at pc1 (filter_round t c) + 1 in
+      let pass_number : loops_before pc1 all ≡ loops = (none_begin loops (straight (i.LoadConst (number (pos 0)) ∷ []) ⨾ expr_code e) ((refl, tt), expr_loopless e) all l pc (is.0, is.1.0) nth).number in
+      at context (i.LoadConst (number (pos 0))) s pc stack w is.0.0 (after_then context (told s) (tick w) _ (bind_then context (told s) w (tick w) _ _ _ (tick_gives w) h (λ _ world1 k1 h1.
       silent context (told s) _
-      (expr_runs e run s (pc + 1) (number (pos 0) ∷ stack) world1 (here_kept run s k1 d) (has_front all (pc + 1) ec fc is.1)
+      (expr_runs e run s l (pc + 1) (number (pos 0) ∷ stack) world1 (here_kept run s k1 d) is.1.0
       (bind_then context (told s) world1 (eval u run e world1) _ _ _ (eval_gives u nest_ends again_kept run e world1) h1 (λ v world2 k2 h2.
-      at context (i.PushLoop filter_flags) s pc1 (v ∷ number (pos 0) ∷ stack) world2 behind.0 (after_then context (told s) (items_over context.program.host v world2) _
+      at context (i.PushLoop filter_flags) s pc1 (v ∷ number (pos 0) ∷ stack) world2 is.1.1.0 (after_then context (told s) (items_over context.program.host v world2) _
       (bind_then context (told s) world2 (items_over context.program.host v world2) _ _ _ (answered_gives _ world2) h2 (λ vs world3 k3 h3.
       let deep_last = here_kept run s k3 (here_kept run s k2 (here_kept run s k1 d)) in
       subst (λ m. Comes context (told s) (after (open_loop context.program.host vs filter_flags m world3) (λ _ y. goes (number (pos 0) ∷ stack) y (looping (None ∷ s.run.loops) (cfg s pc1 (v ∷ number (pos 0) ∷ stack) world3))))) (sym pass_number)
       (after_then context (told s) (open_loop context.program.host vs filter_flags loops world3) _
       (opened_follows context (told s) filter_flags loops world3 vs (nat_lt (depth world3.scopes) context.program.host.limit) _ _ (λ y. Comes context (told s) (goes (number (pos 0) ∷ stack) y (looping (None ∷ s.run.loops) (cfg s pc1 (v ∷ number (pos 0) ∷ stack) world3)))) h3 (λ room h4.
       silent context (told s) _
-      (filter_runs t c again vs vs 0 run s stack world3 (opened filter_flags loops world3 vs) (new_loop vs filter_flags loops world3) deep_last room
-      (opened_kept filter_flags loops world3 vs) (new_record filter_flags loops world3 vs) (record { before = []; same = refl; all = refl; turns = refl }) tc qc refl refl end refl behind.1
+      (filter_runs t c l pc1 vs vs 0 run s stack world3 (opened filter_flags loops world3 vs) (new_loop vs filter_flags loops world3) deep_last room
+      (opened_kept filter_flags loops world3 vs) (new_record filter_flags loops world3 vs) (record { before = []; same = refl; all = refl; turns = refl }) is.1.1
       (follows_map context (told s) (kept context.program.host (test_of run t c) 0 vs (opened filter_flags loops world3 vs)) _ _ (bound_follows context (told s) (kept context.program.host (test_of run t c) 0 vs (opened filter_flags loops world3 vs)) _ _ h4) (λ us y h5 m em.
-      at context (i.BuildList None) s build (number (pos m) ∷ onto us stack) y tail.1.1.1.1.1.1.1.1.0 (after_then context (told s) (tick y) _ (bind_then context (told s) y (tick y) _ _ _ (tick_gives y) h5 (λ _ y1 k6 h6.
+      at context (i.BuildList None) s build (number (pos m) ∷ onto us stack) y is.1.1.4.1.0 (after_then context (told s) (tick y) _ (bind_then context (told s) y (tick y) _ _ _ (tick_gives y) h5 (λ _ y1 k6 h6.
       built_then list_of_values s build m us stack y1 (omega (arith, em))
-      (move context s _ _ (list_of_values us ∷ stack) y1 place
-      (at context (i.PushLoop (for_flags recursive)) s (pc + suc (length (ec ++ fc))) (list_of_values us ∷ stack) y1 there
-      (subst (λ zs. Comes context (told s) (after (open_loop context.program.host zs (for_flags recursive) (loops_before (pc + suc (length (ec ++ fc))) all) y1) (λ _ z. goes stack z (looping (None ∷ s.run.loops) (cfg s (pc + suc (length (ec ++ fc))) (list_of_values us ∷ stack) y1))))) (sym (items_back us))
-      (h6 (list_of_values us ∷ stack)))))))))))))))))))))))
-
-  -- the part that runs where the condition is true, and the jump over the other
-  first_runs : {m : _} → (k : Inside) (loops : ℕ) (body : Row_of-Stmt m) → StmtsRun loops k body → (other : Otherwise) (run : Run) (s : Spot) (pc end : ℕ) (stack : List Val) (w : World) (L N : Then) → Stands context.base run s → Deep run s w → Around k s stack w L N →
-      pc + length (statements_code k pc body) + length (otherwise_code k (pc + length (statements_code k pc body)) other) ≡ end →
-      HasAt (context.program.code s.run.stream) pc (statements_code k pc body ++ otherwise_code k (pc + length (statements_code k pc body)) other) → loops_before pc (context.program.code s.run.stream) ≡ loops →
-      Ends context s.bed (behind_first other (as_at run s) (exec_all u loops body (as_at run s) s.out w)) (λ q out1 world1. Go context (later s q out1) end stack world1) L N → Go context s pc stack w
-  first_runs k loops body part no_else run s pc end stack w L N fits d j place is nth h =
-      let bc = statements_code k pc body in
-      let here : pc + length bc ≡ end = omega (arith, place) in
-      part run s pc stack w L N fits d j (has_front (context.program.code s.run.stream) pc bc [] is) nth
-      (ends_map context s.bed (exec_all u loops body (as_at run s) s.out w) _ _ L N h (λ q out1 world1 g. move context (later s q out1) _ _ stack world1 here g))
-  first_runs k loops body part (otherwise _ eb) run s pc end stack w L N fits d j place is nth h =
-      let bc = statements_code k pc body in
-      let ec = statements_code k (pc + length bc + 1) eb in
-      let to = pc + length bc + 1 + length ec in
-      let jumped : to ≡ end = omega (arith, place) in
-      let behind = has_behind (context.program.code s.run.stream) pc bc (i.Jump to ∷ ec) is in
-      let D : Then = λ q out1 world1. Go context (later s q out1) end stack world1 in
-      part run s pc stack w L N fits d j (has_front (context.program.code s.run.stream) pc bc (i.Jump to ∷ ec) is) nth
-      (do_then context s.bed (as_at run s) w (exec_all u loops body (as_at run s) s.out w) (λ run1 out1 world1. use_it (tick world1) run1 out1 (λ _ world2. so_far run1 out1 world2)) D L N _
-      (execs_end u nest_ends again_kept loops body (as_at run s) s.out w) h (λ q out1 world1 k1 h1.
-      at context (i.Jump to) (later s q out1) (pc + length bc) stack world1 behind.0 (after_then context (told (later s q out1)) (tick world1) _
-      (use_then context s.bed world1 (tick world1) (record run { parent = q }) out1 (λ _ world2. so_far (record run { parent = q }) out1 world2) D L N _ (tick_gives world1) h1 (λ _ world2 k2 h2.
-      silent context (told (later s q out1)) _ (move context (later s q out1) to end stack world2 jumped (so_far_then context s.bed (record run { parent = q }) out1 world2 D L N h2)))))))
+      (at context (i.PushLoop (for_flags recursive)) s (build + 1) (list_of_values us ∷ stack) y1 there
+      (subst (λ zs. Comes context (told s) (after (open_loop context.program.host zs (for_flags recursive) (loops_before (build + 1) all) y1) (λ _ z. goes stack z (looping (None ∷ s.run.loops) (cfg s (build + 1) (list_of_values us ∷ stack) y1))))) (sym (items_back us))
+      (h6 (list_of_values us ∷ stack))))))))))))))))))))))
 
   mutual
     -- A statement's code comes behind itself with what it means, or to its fault.
-    stmt_runs : (k : Inside) (loops : ℕ) (x : Stmt) (run : Run) (s : Spot) (pc : ℕ) (stack : List Val) (w : World) (L N : Then) → Stands context.base run s → Deep run s w → Around k s stack w L N → HasAt (context.program.code s.run.stream) pc (statement_code k pc x) → loops_before pc (context.program.code s.run.stream) ≡ loops →
-        Ends context s.bed (exec u loops x (as_at run s) s.out w) (λ q out1 world1. Go context (later s q out1) (pc + length (statement_code k pc x)) stack world1) L N → Go context s pc stack w
-    stmt_runs k loops (EmitRaw t) run s pc stack w L N fits d j is nth h =
+    stmt_runs : (os : List Opened) (loops : ℕ) (x : Stmt) (run : Run) (s : Spot) (l : Labels) (pc : ℕ) (stack : List Val) (w : World) (L N : Then) → Stands context.base run s → Deep run s w → Around l os s stack w L N → In s l pc (statement_code os x) → loops_before pc (context.program.code s.run.stream) ≡ loops →
+        Ends context s.bed (exec u loops x (as_at run s) s.out w) (λ q out1 world1. Go context (later s q out1) (beyond pc (statement_code os x)) stack world1) L N → Go context s pc stack w
+    stmt_runs os loops (EmitRaw t) run s l pc stack w L N fits d j is nth h =
         at context (i.EmitRaw t) s pc stack w is.0 (after_then context (told s) (tick w) _ (use_then context s.bed w (tick w) (as_at run s) s.out _ _ L N _ (tick_gives w) h (λ _ world1 k1 h1.
         writes_then context (as_at run s) t s (pc + 1) stack world1 refl fits.2 (so_far_then context s.bed (as_at run s) (say (as_at run s) t s.out) world1 _ L N h1))))
-    stmt_runs k loops (EmitExpr e) run s pc stack w L N fits d j is nth h =
-        let c = expr_code pc e in
-        let behind = has_behind (context.program.code s.run.stream) pc c (i.Emit ∷ []) is in
-        let place : pc + length c + 1 ≡ pc + length (c ++ i.Emit ∷ []) = omega (arith, length-append c (i.Emit ∷ [])) in
-        expr_runs e (as_at run s) s pc stack w (here run s w d) (has_front (context.program.code s.run.stream) pc c _ is)
+    stmt_runs os loops (EmitExpr e) run s l pc stack w L N fits d j is nth h =
+        expr_runs e (as_at run s) s l pc stack w (here run s w d) is.0
         (use_then context s.bed w (eval u (as_at run s) e w) (as_at run s) s.out _ _ L N _ (eval_gives u nest_ends again_kept (as_at run s) e w) h (λ v world1 k1 h1.
-        emit_then run s (pc + length c) v stack world1 _ L N fits behind.0 h1 (λ out1 world2 g. move context (later s s.parent out1) _ _ stack world2 place g)))
-    stmt_runs k loops (EmitLoop e) run s pc stack w L N fits d j is nth h =
-        let c = expr_code pc e in
-        let behind = has_behind (context.program.code s.run.stream) pc c (i.FastRecurse ∷ []) is in
-        let place : pc + length c + 1 ≡ pc + length (c ++ i.FastRecurse ∷ []) = omega (arith, length-append c (i.FastRecurse ∷ [])) in
-        expr_runs e (as_at run s) s pc stack w (here run s w d) (has_front (context.program.code s.run.stream) pc c _ is)
+        emit_then run s _ v stack world1 _ L N fits is.1.0 h1 (λ out1 world2 g. g)))
+    stmt_runs os loops (EmitLoop e) run s l pc stack w L N fits d j is nth h =
+        expr_runs e (as_at run s) s l pc stack w (here run s w d) is.0
         (use_then context s.bed w (eval u (as_at run s) e w) (as_at run s) s.out _ _ L N _ (eval_gives u nest_ends again_kept (as_at run s) e w) h (λ v world1 k1 h1.
-        at context i.FastRecurse s (pc + length c) (v ∷ stack) world1 behind.0 (after_then context (told s) (tick world1) _
+        at context i.FastRecurse s _ (v ∷ stack) world1 is.1.0 (after_then context (told s) (tick world1) _
         (use_then context s.bed world1 (tick world1) (as_at run s) s.out _ _ L N _ (tick_gives world1) h1 (λ _ world2 k2 h2.
-        placed_then run s (pc + length c) stack (v ∷ stack) world2 world2 (call_innermost context.program.host v world2) _ L N fits.2 (innermost_asks context.program.host v world2) (deep_kept run s k2 (deep_kept run s k1 d)) h2
-        (λ q1 out1 world3 g. move context (later s q1 out1) _ _ stack world3 place g))))))
-    stmt_runs k loops (If' c z body other) run s pc stack w L N fits d j is nth h =
-        let test = expr_code pc c in
-        let pc1 = pc + length test in
-        let bc = statements_code k (pc1 + 1) body in
-        let oc = otherwise_code k (pc1 + 1 + length bc) other in
-        let to = pc1 + 1 + length bc + jump_over other in
-        let end = pc + length (statement_code k pc (If' c z body other)) in
-        let place : pc1 + 1 + length bc + length oc ≡ end = omega (arith, length-append test (i.JumpIfFalse to ∷ (bc ++ oc)), length-append bc oc) in
-        let behind = has_behind (context.program.code s.run.stream) pc test (i.JumpIfFalse to ∷ (bc ++ oc)) is in
-        let first = behind_code (context.program.code s.run.stream) pc test (has_front (context.program.code s.run.stream) pc test (i.JumpIfFalse to ∷ (bc ++ oc)) is) in
-        let nth1 : loops_before (pc1 + 1) (context.program.code s.run.stream) ≡ loops = behind_code (context.program.code s.run.stream) pc1 (i.JumpIfFalse to ∷ []) (behind.0, tt) ∙ omega (arith, first, expr_none pc c, nth) in
-        expr_runs c (as_at run s) s pc stack w (here run s w d) (has_front (context.program.code s.run.stream) pc test (i.JumpIfFalse to ∷ (bc ++ oc)) is)
+        placed_then run s _ stack (v ∷ stack) world2 world2 (call_innermost context.program.host v world2) _ L N fits.2 (innermost_asks context.program.host v world2) (deep_kept run s k2 (deep_kept run s k1 d)) h2 (λ q1 out1 world3 g. g))))))
+    stmt_runs os loops (If' c z body other) run s l pc stack w L N fits d j is nth h =
+        let nth1 = (none_begin loops (expr_code c) (expr_loopless c) (context.program.code s.run.stream) l pc is.0 nth).number in
+        expr_runs c (as_at run s) s l pc stack w (here run s w d) is.0
         (use_then context s.bed w (eval u (as_at run s) c w) (as_at run s) s.out _ _ L N _ (eval_gives u nest_ends again_kept (as_at run s) c w) h (λ v world1 k1 h1.
-        at context (i.JumpIfFalse to) s pc1 (v ∷ stack) world1 behind.0 (after_then context (told s) (tick world1) _
-        (use_then context s.bed world1 (tick world1) (as_at run s) s.out _ _ L N _ (tick_gives world1) h1 (λ _ world2 k2 h2.
-        after_then context (told s) (truth context.program.host v world2) _ (use_then context s.bed world2 (truth context.program.host v world2) (as_at run s) s.out _ _ L N _ (answered_gives _ world2) h2 (λ b world3 k3 h3.
-        let deep3 = deep_kept run s k3 (deep_kept run s k2 (deep_kept run s k1 d)) in
-        let around3 = around_kept k s stack L N (kept_then k1 (kept_then k2 k3)) j in
-        choose_ends context b (behind_first other (as_at run s) (exec_all u loops body (as_at run s) s.out world3)) (exec_else u (pasts loops body) other (as_at run s) s.out world3) _ _ (told s) s.bed _ L N h3
-        (λ h4. silent context (told s) _ (first_runs k loops body (stmts_run k loops body) other run s (pc1 + 1) end stack world3 L N fits deep3 around3 place behind.1 nth1 h4))
-        (λ h4. silent context (told s) _ (second_runs k loops body other run s (pc1 + 1) end stack world3 L N fits deep3 around3 place behind.1 nth1 h4)))))))))
-    stmt_runs k loops (For' t e c recursive _ body other) run s pc stack w L N fits d j is nth h =
+        branches_run os loops l body (λ x. stmts_run os loops (outward x l) body) other run s _ v stack world1 L N fits (deep_kept run s k1 d) (around_kept l os s stack L N k1 j) is.1 nth1 h1))
+    stmt_runs os loops (For' t e c recursive _ body other) run s l pc stack w L N fits d j is nth h =
         let all = context.program.code s.run.stream in
-        let ec = iterable_code pc t e c in
-        let pc1 = pc + length ec in
-        let tc = target_code (pc1 + 1 + 1) t in
-        let start = pc1 + 1 + 1 + length tc in
-        let end = start + length (statements_code outside start body) + 1 in
-        let inner : Inside = record { again = pc1 + 1; behind = end; opened = [] } in
-        let bc = statements_code inner start body in
-        let oc = behind_loop_code k end other in
-        let rest = tc ++ (bc ++ i.Jump (pc1 + 1) ∷ oc) in
-        let behind = has_behind all pc ec (i.PushLoop (for_flags recursive) ∷ i.Iterate end ∷ rest) is in
-        let from_body = has_behind all (pc1 + 1 + 1) tc (bc ++ i.Jump (pc1 + 1) ∷ oc) behind.1.1 in
-        let last = has_behind all start bc (i.Jump (pc1 + 1) ∷ oc) from_body in
-        let long : length bc ≡ length (statements_code outside start body) = statements_long (pc1 + 1) end 0 0 start [] body in
-        let ended_at : start + length bc + 1 ≡ end = omega (arith, long) in
-        let at_end_of : HasAt all end oc = subst (λ n. HasAt all n oc) ended_at last.1 in
-        let place : end + length oc ≡ pc + length (ec ++ i.PushLoop (for_flags recursive) ∷ i.Iterate end ∷ rest) =
-        omega (arith, long, length-append ec (i.PushLoop (for_flags recursive) ∷ i.Iterate end ∷ rest), length-append tc (bc ++ i.Jump (pc1 + 1) ∷ oc), length-append bc (i.Jump (pc1 + 1) ∷ oc)) in
-        let push = i.PushLoop (record { variable = true; recursive = recursive }) in
-        let number1 : loops_before pc1 all ≡ loops + passes c = behind_code all pc ec (has_front all pc ec (push ∷ i.Iterate end ∷ rest) is) ∙ omega (arith, nth, iterable_count pc t e c) in
-        let there : pc1 + length (push ∷ i.Iterate end ∷ tc) ≡ start = omega arith in
-        let number2 : loops_before start all ≡ within_loop c loops =
-        ap (λ m. loops_before m all) (sym there) ∙ behind_code all pc1 (push ∷ i.Iterate end ∷ tc) (behind.0, (behind.1.0, has_front all (pc1 + 1 + 1) tc _ behind.1.1)) ∙ omega (arith, number1, target_none (pc1 + 1 + 1) t) in
-        let body_number = behind_code all start bc (has_front all start bc (i.Jump (pc1 + 1) ∷ oc) from_body) in
-        let number3 : loops_before end all ≡ pasts (within_loop c loops) body =
-        ap (λ m. loops_before m all) (sym ended_at) ∙ behind_code all (start + length bc) (i.Jump (pc1 + 1) ∷ []) (last.0, tt) ∙ omega (arith, body_number, number2, statements_count inner start (within_loop c loops) body) in
-        let D0 : Then = λ q out1 v. Go context (later s q out1) (pc + length (ec ++ i.PushLoop (for_flags recursive) ∷ i.Iterate end ∷ rest)) stack v in
-        iterable_runs recursive loops t e c (as_at run s) s pc stack w (here run s w d) (has_front all pc ec (i.PushLoop (for_flags recursive) ∷ i.Iterate end ∷ rest) is) behind.0 nth
+        let pc1 = beyond pc (iterable_code t e c) in
+        let round = round_code t body in
+        let inner = round_labels l pc1 round in
+        let number1 : loops_before pc1 all ≡ loops + passes c = (iterable_begins loops t e c (found loops c recursive t body) all l pc is.0 nth).number in
+        let first : loops_before (pc1 + 1 + 1) all ≡ within_loop c loops = after_one (pc1 + 1) all _ is.1.1 ∙ after_one pc1 all _ is.1.0 ∙ ap (λ n. n + 1) number1 in
+        let number2 = (none_begin (within_loop c loops) (target_code t) (target_loopless t) all inner (pc1 + 1 + 1) is.1.2.0 first).number in
+        let number3 : loops_before (end_at pc1 round) all ≡ pasts (within_loop c loops) body = after_one _ all _ is.1.3 ∙ (statements_begin [] (within_loop c loops) body all inner _ is.1.2.1 number2).number in
+        let D0 : Then = λ q out1 v. Go context (later s q out1) (beyond (end_at pc1 round) (after_loop_code os other)) stack v in
+        iterable_runs recursive loops t e c (as_at run s) s l pc stack w (here run s w d) is.0 is.1.0 nth
         (use_then context s.bed w (loop_items u loops (as_at run s) t e c w) (as_at run s) s.out _ D0 L N _ (loop_items_give u nest_ends again_kept loops (as_at run s) t e c w) h (λ vs world1 k1 h1 old.
         let turn = turn_of t (within_loop c loops) body in
         let deep_behind = deep_kept run s k1 d in
-        let j1 = around_kept k s stack L N k1 j in
+        let j1 = around_kept l os s stack L N k1 j in
         let DoneThen : Then = λ q out1 x. Ends context s.bed (exec_behind_loop u (pasts (within_loop c loops) body) other (has_none vs) (record run { parent = q }) out1 x) D0 L N in
         let over_it = do_then context s.bed (as_at run s) world1 (loop_over context.program.host (loops + passes c) recursive turn vs (as_at run s) s.out world1) (λ run1 out1 world2. exec_behind_loop u (pasts (within_loop c loops) body) other (has_none vs) run1 out1 world2) D0 L N DoneThen
         (loop_ends context.program.host (loops + passes c) recursive world1 turn (turn_ends t (within_loop c loops) body) vs (as_at run s) s.out) h1 (λ q out1 x k3 h3. h3) in
@@ -1244,153 +1036,117 @@ module _ (context : Context) (trees : Trees) (n : ℕ)
         (opened_then context s.bed (for_flags recursive) (loops + passes c) world1 vs (nat_lt (depth world1.scopes) context.program.host.limit) (as_at run s) s.out (λ _ x. rounds turn vs (as_at run s) s.out x) DoneThen L N
         (λ x. Comes context (told s) (goes stack x (looping (None ∷ s.run.loops) (cfg s pc1 old world1)))) over_it (λ room h4.
         silent context (told s) _
-        (rounds_run None t (within_loop c loops) body (pc1 + 1) end (stmts_run inner (within_loop c loops) body) vs vs run s stack world1 (opened (for_flags recursive) (loops + passes c) world1 vs) (new_loop vs (for_flags recursive) (loops + passes c) world1) DoneThen L N fits (deep_within run s (loop_scope (mark_behind (for_flags false) world1)) world1 room deep_behind)
+        (rounds_run None (for_flags recursive) t (within_loop c loops) body l pc1 (after_loop_code os other) (stmts_run [] (within_loop c loops) inner body) vs vs run s stack world1 (opened (for_flags recursive) (loops + passes c) world1 vs) (new_loop vs (for_flags recursive) (loops + passes c) world1) DoneThen L N fits (deep_within run s (loop_scope (mark_behind (for_flags false) world1)) world1 room deep_behind)
         (opened_kept (for_flags recursive) (loops + passes c) world1 vs) (new_record (for_flags recursive) (loops + passes c) world1 vs) (record { before = []; same = refl; all = refl; turns = refl })
-        (has_loop all pc1 end tc bc oc behind.1) number2 (λ q out1 x l k3 e3 same deep_last.
-        behind_loop_runs k (pasts (within_loop c loops) body) other vs run s pc1 end (pc + length (ec ++ i.PushLoop (for_flags recursive) ∷ i.Iterate end ∷ rest)) stack world1 x l L N fits deep_behind j1 k3 e3 same place at_end_of number3 q out1 deep_last) h4))))))
-    stmt_runs k loops Break run s pc stack w L N fits d j is nth h = j.0 s.parent s.out w pc (kept_same w) is (leave_then context s.bed (as_at run s) s.out w _ L N h)
-    stmt_runs k loops Continue run s pc stack w L N fits d j is nth h = j.1 s.parent s.out w pc (kept_same w) is (next_then context s.bed (as_at run s) s.out w _ L N h)
-    stmt_runs k loops (Block' b _ body) run s pc stack w L N fits d j is nth h = tag_then run s pc b stack w _ L N fits d is.0 h (λ q1 out1 world1 g. g)
-    stmt_runs k loops (Set t e) run s pc stack w L N fits d j is nth h =
-        set_runs t e (as_at run s) s pc stack w (here run s w d) is
+        is.1 number2 (λ q out1 x r k3 e3 same deep_last.
+        behind_loop_runs os (pasts (within_loop c loops) body) other vs run s l (end_at pc1 round) stack world1 x r L N fits deep_behind j1 k3 e3 same is.1.4 number3 q out1 deep_last) h4))))))
+    stmt_runs os loops Break run s l pc stack w L N fits d j is nth h = j.0 s.parent s.out w pc (kept_same w) is.0 is.1 (leave_then context s.bed (as_at run s) s.out w _ L N h)
+    stmt_runs os loops Continue run s l pc stack w L N fits d j is nth h = j.1 s.parent s.out w pc (kept_same w) is.0 is.1 (next_then context s.bed (as_at run s) s.out w _ L N h)
+    stmt_runs os loops (Block' b _ body) run s l pc stack w L N fits d j is nth h = tag_then run s pc b stack w _ L N fits d is.0 h (λ q1 out1 world1 g. g)
+    stmt_runs os loops (Set t e) run s l pc stack w L N fits d j is nth h =
+        set_runs t e (as_at run s) s l pc stack w (here run s w d) is
         (use_then context s.bed w (set_to u (as_at run s) t e w) (as_at run s) s.out _ _ L N _ (set_gives u nest_ends again_kept (as_at run s) t e w) h (λ _ world1 k1 h1.
         so_far_then context s.bed (as_at run s) s.out world1 _ L N h1))
-    stmt_runs k loops (With' given _ body) run s pc stack w L N fits d j is nth h =
-        let all = context.program.code s.run.stream in
-        let gc = assignments_code (pc + 1) given in
-        let pc1 = pc + 1 + length gc in
-        let bc = statements_code (opening a_scope k) pc1 body in
-        let from_body = has_behind all (pc + 1) gc (bc ++ i.PopFrame ∷ []) is.1 in
-        let last = has_behind all pc1 bc (i.PopFrame ∷ []) from_body in
-        let place : pc1 + length bc + 1 ≡ pc + suc (length (gc ++ (bc ++ i.PopFrame ∷ []))) =
-        omega (arith, length-append gc (bc ++ i.PopFrame ∷ []), length-append bc (i.PopFrame ∷ [])) in
+    stmt_runs os loops (With' given _ body) run s l pc stack w L N fits d j is nth h =
         let a = plain_scope (undefined false) in
-        let nth1 : loops_before (pc + 1) all ≡ loops = behind_code all pc (i.PushWith ∷ []) (is.0, tt) ∙ omega (arith, nth) in
-        let nth2 : loops_before pc1 all ≡ loops = behind_code all (pc + 1) gc (has_front all (pc + 1) gc (bc ++ i.PopFrame ∷ []) is.1) ∙ omega (arith, nth1, assignments_none (pc + 1) given) in
-        at context i.PushWith s pc stack w is.0 (after_then context (told s) (push context.program.host a w) _
+        let nth1 = (none_begin loops (straight (i.PushWith ∷ []) ⨾ assignments_code given) ((refl, tt), assignments_loopless given) (context.program.code s.run.stream) l pc (is.0, is.1.0) nth).number in
+        at context i.PushWith s pc stack w is.0.0 (after_then context (told s) (push context.program.host a w) _
         (within_then context s.bed w a (nat_lt (depth w.scopes) context.program.host.limit) (as_at run s) s.out _ _ L N (λ world1. Comes context (told s) (goes stack world1 (cfg s pc stack w))) h (λ room h1.
         let deep1 = deep_within run s a w room d in
-        silent context (told s) _ (sets_run given (as_at run s) s (pc + 1) stack (within a w) (here run s (within a w) deep1) (has_front all (pc + 1) gc (bc ++ i.PopFrame ∷ []) is.1)
+        silent context (told s) _ (sets_run given (as_at run s) s l (pc + 1) stack (within a w) (here run s (within a w) deep1) is.1.0
         (use_then context s.bed (within a w) (set_each u (as_at run s) given (within a w)) (as_at run s) s.out _ _ L N _ (set_each_gives u nest_ends again_kept (as_at run s) given (within a w)) h1 (λ _ world2 k2 h2.
-        stmts_run (opening a_scope k) loops body run s pc1 stack world2 (Closed pop L) (Closed pop N) fits (deep_kept run s k2 deep1) (around_scope k s stack w world2 L N d.0.scopes k2 j) (has_front all pc1 bc (i.PopFrame ∷ []) from_body) nth2
+        stmts_run (a_scope ∷ os) loops l body run s _ stack world2 (Closed pop L) (Closed pop N) fits (deep_kept run s k2 deep1) (around_scope l os s stack w world2 L N d.0.scopes k2 j) is.1.1.0 nth1
         (closed_then context s.bed world2 pop (exec_all u loops body (as_at run s) s.out world2) _ L N _ (execs_end u nest_ends again_kept loops body (as_at run s) s.out world2) h2 (λ q out1 world3 k3 g.
-        popped_then (later s q out1) (pc1 + length bc) stack world3 (omega (arith, kept_frames k3, kept_frames k2, d.0.scopes)) (top_of_marks None (marks w.scopes.frames) world3.scopes.frames (k3.same_marks ∙ k2.same_marks)) last.0
-        (move context (later s q out1) _ _ stack (pop world3) place g)))))))))
-    stmt_runs k loops (SetBlock' t _ body) run s pc stack w L N fits d j is nth h =
-        let all = context.program.code s.run.stream in
-        let bc = statements_code (opening a_capture k) (pc + 1) body in
-        let pc1 = pc + 1 + length bc in
-        let tc = target_code (pc1 + 1) t in
-        let behind = has_behind all (pc + 1) bc (i.EndCapture ∷ tc) is.1 in
-        let place : pc1 + 1 + length tc ≡ pc + suc (length (bc ++ i.EndCapture ∷ tc)) = omega (arith, length-append bc (i.EndCapture ∷ tc)) in
+        popped_then (later s q out1) _ stack world3 (omega (arith, kept_frames k3, kept_frames k2, d.0.scopes)) (top_of_marks None (marks w.scopes.frames) world3.scopes.frames (k3.same_marks ∙ k2.same_marks)) is.1.1.1.0 g))))))))
+    stmt_runs os loops (SetBlock' t _ body) run s l pc stack w L N fits d j is nth h =
         let inner : Spot = record s { bed = captured_in s.bed s.out; out = [] } in
         let o = exec_all u loops body (capturing true (as_at run s)) [] w in
-        let nth1 : loops_before (pc + 1) all ≡ loops = behind_code all pc (i.BeginCapture Capture ∷ []) (is.0, tt) ∙ omega (arith, nth) in
-        at context (i.BeginCapture Capture) s pc stack w is.0 (silent context (told s) _
-        (stmts_run (opening a_capture k) loops body (capturing true run) inner (pc + 1) stack w (Dropped context s.bed s.out L) (Dropped context s.bed s.out N) (stands_captured run s fits) (d.0, stands_captured run s fits, d.2) (around_capture k s stack w L N (omega (arith, fits.1)) j) (has_front all (pc + 1) bc (i.EndCapture ∷ tc) is.1) nth1
+        let nth1 = after_one pc (context.program.code s.run.stream) _ is.0.0 ∙ nth in
+        at context (i.BeginCapture Capture) s pc stack w is.0.0 (silent context (told s) _
+        (stmts_run (a_capture ∷ os) loops l body (capturing true run) inner (pc + 1) stack w (Dropped context s.bed s.out L) (Dropped context s.bed s.out N) (stands_captured run s fits) (d.0, stands_captured run s fits, d.2) (around_capture l os s stack w L N (omega (arith, fits.1)) j) is.1.0 nth1
         (captured_then context s.bed (as_at run s) s.out w o _ _ L N _ (execs_end u nest_ends again_kept loops body (capturing true (as_at run s)) [] w) h (λ q x world1 k1 h1.
-        at context i.EndCapture (later inner q x) pc1 stack world1 behind.0 (after_then context (told s) (tick world1) _
+        at context i.EndCapture (later inner q x) _ stack world1 is.1.1.0.0 (after_then context (told s) (tick world1) _
         (use_then context s.bed world1 (tick world1) (record run { parent = q }) s.out _ _ L N _ (tick_gives world1) h1 (λ _ world2 k2 h2.
-        ended_then s q x pc1 stack world2 (omega (arith, fits.1))
-        (target_runs t (record run { parent = q }) (later s q s.out) (pc1 + 1) (captured_text x world2) stack world2 (here run (later s q s.out) world2 (deep_later run s world2 q s.out (deep_kept run s k2 (deep_kept run s k1 d)))) behind.1
+        ended_then s q x _ stack world2 (omega (arith, fits.1))
+        (target_runs t (record run { parent = q }) (later s q s.out) l _ (captured_text x world2) stack world2 (here run (later s q s.out) world2 (deep_later run s world2 q s.out (deep_kept run s k2 (deep_kept run s k1 d)))) is.1.1.1
         (use_then context s.bed world2 (assign u (record run { parent = q }) t (captured_text x world2) world2) (record run { parent = q }) s.out _ _ L N _ (assign_gives u nest_ends again_kept (record run { parent = q }) t (captured_text x world2) world2) h2 (λ _ world3 k3 h3.
-        move context (later s q s.out) _ _ stack world3 place (so_far_then context s.bed (record run { parent = q }) s.out world3 _ L N h3)))))))))))
-    stmt_runs k loops (AutoEscape' e _ body) run s pc stack w L N fits d j is nth h =
-        let all = context.program.code s.run.stream in
-        let ec = expr_code pc e in
-        let pc1 = pc + length ec in
-        let bc = statements_code (opening an_escape k) (pc1 + 1) body in
-        let behind = has_behind all pc ec (i.PushAutoEscape ∷ (bc ++ i.PopAutoEscape ∷ [])) is in
-        let last = has_behind all (pc1 + 1) bc (i.PopAutoEscape ∷ []) behind.1 in
-        let nth1 : loops_before pc1 all ≡ loops = behind_code all pc ec (has_front all pc ec (i.PushAutoEscape ∷ (bc ++ i.PopAutoEscape ∷ [])) is) ∙ omega (arith, nth, expr_none pc e) in
-        let nth2 : loops_before (pc1 + 1) all ≡ loops = behind_code all pc1 (i.PushAutoEscape ∷ []) (behind.0, tt) ∙ omega (arith, nth1) in
-        let place : pc1 + 1 + length bc + 1 ≡ pc + length (ec ++ i.PushAutoEscape ∷ (bc ++ i.PopAutoEscape ∷ [])) =
-        omega (arith, length-append ec (i.PushAutoEscape ∷ (bc ++ i.PopAutoEscape ∷ [])), length-append bc (i.PopAutoEscape ∷ [])) in
-        expr_runs e (as_at run s) s pc stack w (here run s w d) (has_front all pc ec (i.PushAutoEscape ∷ (bc ++ i.PopAutoEscape ∷ [])) is)
+        so_far_then context s.bed (record run { parent = q }) s.out world3 _ L N h3))))))))))
+    stmt_runs os loops (AutoEscape' e _ body) run s l pc stack w L N fits d j is nth h =
+        let nth1 = (none_begin loops (expr_code e ⨾ straight (i.PushAutoEscape ∷ [])) (expr_loopless e, (refl, tt)) (context.program.code s.run.stream) l pc (is.0, is.1.0) nth).number in
+        expr_runs e (as_at run s) s l pc stack w (here run s w d) is.0
         (use_then context s.bed w (eval u (as_at run s) e w) (as_at run s) s.out _ _ L N _ (eval_gives u nest_ends again_kept (as_at run s) e w) h (λ v world1 k1 h1.
-        at context i.PushAutoEscape s pc1 (v ∷ stack) world1 behind.0
-        (subst (λ first. Comes context (told s) (after (answered (escape_for first v) world1) (λ x world2. goes stack (with_escape x world2) (replacing (world2.escape ∷ s.run.escapes) (cfg s pc1 (v ∷ stack) world1))))) fits.0
+        at context i.PushAutoEscape s _ (v ∷ stack) world1 is.1.0.0
+        (subst (λ first. Comes context (told s) (after (answered (escape_for first v) world1) (λ x world2. goes stack (with_escape x world2) (replacing (world2.escape ∷ s.run.escapes) (cfg s (beyond pc (expr_code e)) (v ∷ stack) world1))))) fits.0
         (after_then context (told s) (answered (escape_for run.first v) world1) _
         (use_then context s.bed world1 (answered (escape_for run.first v) world1) (as_at run s) s.out _ _ L N _ (answered_gives _ world1) h1 (λ x world2 k2 h2.
         let inner : Spot = record s { run = record s.run { escapes = world2.escape ∷ s.run.escapes } } in
         silent context (told s) _
-        (stmts_run (opening an_escape k) loops body run inner (pc1 + 1) stack (with_escape x world2) (Closed (with_escape world2.escape) L) (Closed (with_escape world2.escape) N) fits
-        (deep_escaped run s x world2 (deep_kept run s k2 (deep_kept run s k1 d))) (around_escape k s stack world2 x L N (around_kept k s stack L N (kept_then k1 k2) j)) (has_front all (pc1 + 1) bc (i.PopAutoEscape ∷ []) behind.1) nth2
+        (stmts_run (an_escape ∷ os) loops l body run inner _ stack (with_escape x world2) (Closed (with_escape world2.escape) L) (Closed (with_escape world2.escape) N) fits
+        (deep_escaped run s x world2 (deep_kept run s k2 (deep_kept run s k1 d))) (around_escape l os s stack world2 x L N (around_kept l os s stack L N (kept_then k1 k2) j)) is.1.1.0 nth1
         (closed_then context s.bed (with_escape x world2) (with_escape world2.escape) (exec_all u loops body (as_at run s) s.out (with_escape x world2)) _ L N _ (execs_end u nest_ends again_kept loops body (as_at run s) s.out (with_escape x world2)) h2 (λ q out1 world3 k3 g.
-        at context i.PopAutoEscape (later inner q out1) (pc1 + 1 + length bc) stack world3 last.0
-        (silent context (told (later s q out1)) _ (move context (later s q out1) _ _ stack (with_escape world2.escape world3) place g)))))))))))
-    stmt_runs k loops (Do e) run s pc stack w L N fits d j is nth h =
-        let c = expr_code pc e in
-        let behind = has_behind (context.program.code s.run.stream) pc c (i.DiscardTop ∷ []) is in
-        let place : pc + length c + 1 ≡ pc + length (c ++ i.DiscardTop ∷ []) = omega (arith, length-append c (i.DiscardTop ∷ [])) in
-        expr_runs e (as_at run s) s pc stack w (here run s w d) (has_front (context.program.code s.run.stream) pc c (i.DiscardTop ∷ []) is)
+        at context i.PopAutoEscape (later inner q out1) _ stack world3 is.1.1.1.0 (silent context (told (later s q out1)) _ g))))))))))
+    stmt_runs os loops (Do e) run s l pc stack w L N fits d j is nth h =
+        expr_runs e (as_at run s) s l pc stack w (here run s w d) is.0
         (use_then context s.bed w (eval u (as_at run s) e w) (as_at run s) s.out _ _ L N _ (eval_gives u nest_ends again_kept (as_at run s) e w) h (λ v world1 k1 h1.
-        at context i.DiscardTop s (pc + length c) (v ∷ stack) world1 behind.0
-        (silent context (told s) _ (move context s _ _ stack world1 place (so_far_then context s.bed (as_at run s) s.out world1 _ L N h1)))))
+        at context i.DiscardTop s _ (v ∷ stack) world1 is.1.0 (silent context (told s) _ (so_far_then context s.bed (as_at run s) s.out world1 _ L N h1))))
 
-    stmts_run : {m : _} → (k : Inside) (loops : ℕ) (ss : Row_of-Stmt m) (run : Run) (s : Spot) (pc : ℕ) (stack : List Val) (w : World) (L N : Then) → Stands context.base run s → Deep run s w → Around k s stack w L N → HasAt (context.program.code s.run.stream) pc (statements_code k pc ss) → loops_before pc (context.program.code s.run.stream) ≡ loops →
-        Ends context s.bed (exec_all u loops ss (as_at run s) s.out w) (λ q out1 world1. Go context (later s q out1) (pc + length (statements_code k pc ss)) stack world1) L N → Go context s pc stack w
-    stmts_run k loops no_statement run s pc stack w L N fits d j is nth h = move context s pc (pc + 0) stack w (omega arith) (so_far_then context s.bed (as_at run s) s.out w _ L N h)
-    stmts_run k loops (statement x ss) run s pc stack w L N fits d j is nth h =
-        let c = statement_code k pc x in
-        let rest = statements_code k (pc + length c) ss in
-        let place : pc + length c + length rest ≡ pc + length (c ++ rest) = omega (arith, length-append c rest) in
-        let end = pc + length (c ++ rest) in
-        let D : Then = λ q out1 world1. Go context (later s q out1) end stack world1 in
-        let nth1 : loops_before (pc + length c) (context.program.code s.run.stream) ≡ past loops x = behind_code (context.program.code s.run.stream) pc c (has_front (context.program.code s.run.stream) pc c rest is) ∙ omega (arith, nth, statement_count k pc loops x) in
-        stmt_runs k loops x run s pc stack w L N fits d j (has_front (context.program.code s.run.stream) pc c rest is) nth
+    stmts_run : {m : _} → (os : List Opened) (loops : ℕ) (l : Labels) (ss : Row_of-Stmt m) (run : Run) (s : Spot) (pc : ℕ) (stack : List Val) (w : World) (L N : Then) → Stands context.base run s → Deep run s w → Around l os s stack w L N → In s l pc (statements_code os ss) → loops_before pc (context.program.code s.run.stream) ≡ loops →
+        Ends context s.bed (exec_all u loops ss (as_at run s) s.out w) (λ q out1 world1. Go context (later s q out1) (beyond pc (statements_code os ss)) stack world1) L N → Go context s pc stack w
+    stmts_run os loops l no_statement run s pc stack w L N fits d j is nth h = so_far_then context s.bed (as_at run s) s.out w _ L N h
+    stmts_run os loops l (statement x ss) run s pc stack w L N fits d j is nth h =
+        let D : Then = λ q out1 world1. Go context (later s q out1) (beyond (beyond pc (statement_code os x)) (statements_code os ss)) stack world1 in
+        let nth1 = (statement_begins os loops x (context.program.code s.run.stream) l pc is.0 nth).number in
+        stmt_runs os loops x run s l pc stack w L N fits d j is.0 nth
         (do_then context s.bed (as_at run s) w (exec u loops x (as_at run s) s.out w) (λ run1 out1 world1. exec_all u (past loops x) ss run1 out1 world1) D L N _ (exec_ends u nest_ends again_kept loops x (as_at run s) s.out w) h (λ q out1 world1 k1 h1.
-        stmts_run k (past loops x) ss run (later s q out1) (pc + length c) stack world1 L N (stands_later context.base run s fits q out1) (deep_later run s world1 q out1 (deep_kept run s k1 d)) (around_kept k s stack L N k1 j) (has_behind (context.program.code s.run.stream) pc c rest is) nth1
-        (ends_map context s.bed (exec_all u (past loops x) ss (record run { parent = q }) out1 world1) D _ L N h1 (λ q2 out2 world2 g. move context (later s q2 out2) _ end stack world2 place g))))
+        stmts_run os (past loops x) l ss run (later s q out1) _ stack world1 L N (stands_later context.base run s fits q out1) (deep_later run s world1 q out1 (deep_kept run s k1 d)) (around_kept l os s stack L N k1 j) is.1 nth1 h1))
 
-    -- the other part
-    second_runs : {m : _} → (k : Inside) (loops : ℕ) (body : Row_of-Stmt m) (other : Otherwise) (run : Run) (s : Spot) (pc end : ℕ) (stack : List Val) (w : World) (L N : Then) → Stands context.base run s → Deep run s w → Around k s stack w L N →
-        pc + length (statements_code k pc body) + length (otherwise_code k (pc + length (statements_code k pc body)) other) ≡ end →
-        HasAt (context.program.code s.run.stream) pc (statements_code k pc body ++ otherwise_code k (pc + length (statements_code k pc body)) other) → loops_before pc (context.program.code s.run.stream) ≡ loops →
-        Ends context s.bed (exec_else u (pasts loops body) other (as_at run s) s.out w) (λ q out1 world1. Go context (later s q out1) end stack world1) L N → Go context s (pc + length (statements_code k pc body) + jump_over other) stack w
-    second_runs k loops body no_else run s pc end stack w L N fits d j place is nth h =
-        let here : pc + length (statements_code k pc body) + 0 ≡ end = omega (arith, place) in
-        move context s _ _ stack w here (so_far_then context s.bed (as_at run s) s.out w _ L N h)
-    second_runs k loops body (otherwise _ eb) run s pc end stack w L N fits d j place is nth h =
-        let bc = statements_code k pc body in
-        let ec = statements_code k (pc + length bc + 1) eb in
-        let here : pc + length bc + 1 + length ec ≡ end = omega (arith, place) in
-        let behind = has_behind (context.program.code s.run.stream) pc bc (i.Jump (pc + length bc + 1 + length ec) ∷ ec) is in
+    -- where a condition is true, and the other
+    branches_run : {m : _} → (os : List Opened) (loops : ℕ) (l : Labels) (body : Row_of-Stmt m) → ((x : ℕ) → StmtsRun loops (outward x l) os body) → (other : Otherwise) (run : Run) (s : Spot) (pc : ℕ) (v : Val) (stack : List Val) (w : World) (L N : Then) → Stands context.base run s → Deep run s w → Around l os s stack w L N →
+        In s l pc (branches_code os (statements_code os body) other) → loops_before pc (context.program.code s.run.stream) ≡ loops →
+        Ends context s.bed (use_it (tick w) (as_at run s) s.out (λ _ world1. use_it (truth context.program.host v world1) (as_at run s) s.out (λ b world2. choose b (λ _. behind_first other (as_at run s) (exec_all u loops body (as_at run s) s.out world2)) (λ _. exec_else u (pasts loops body) other (as_at run s) s.out world2))))
+        (λ q out1 world1. Go context (later s q out1) (beyond pc (branches_code os (statements_code os body) other)) stack world1) L N → Go context s pc (v ∷ stack) w
+    branches_run os loops l body part no_else run s pc v stack w L N fits d j is nth h =
+        tested_then run s pc _ v stack w (λ x. exec_all u loops body (as_at run s) s.out x) (λ x. so_far (as_at run s) s.out x) _ L N is.0 h
+        (λ x k h1. part _ run s (pc + 1) stack x L N fits (deep_kept run s k d) (around_kept l os s stack L N k j) is.1 (after_one pc _ _ is.0 ∙ nth) h1)
+        (λ x k h1. so_far_then context s.bed (as_at run s) s.out x _ L N h1)
+    branches_run os loops l body part (otherwise _ eb) run s pc v stack w L N fits d j is nth h =
         let all = context.program.code s.run.stream in
-        let body_number = behind_code all pc bc (has_front all pc bc (i.Jump (pc + length bc + 1 + length ec) ∷ ec) is) in
-        let nth1 : loops_before (pc + length bc + 1) all ≡ pasts loops body = behind_code all (pc + length bc) (i.Jump (pc + length bc + 1 + length ec) ∷ []) (behind.0, tt) ∙ omega (arith, body_number, nth, statements_count k pc loops body) in
-        stmts_run k (pasts loops body) eb run s (pc + length bc + 1) stack w L N fits d j behind.1 nth1
-        (ends_map context s.bed (exec_all u (pasts loops body) eb (as_at run s) s.out w) _ _ L N h (λ q out1 world1 g. move context (later s q out1) _ _ stack world1 here g))
+        let bc = statements_code os body in
+        let second = beyond (pc + 1) bc + 1 in
+        let nth1 = after_one pc all _ is.0.0 ∙ nth in
+        let nth2 = after_one (beyond (pc + 1) bc) all _ is.1 ∙ (statements_begin os loops body all (outward second l) (pc + 1) is.0.1 nth1).number in
+        let D : Then = λ q out1 world1. Go context (later s q out1) (beyond second (statements_code os eb)) stack world1 in
+        tested_then run s pc _ v stack w (λ x. behind_first (otherwise _ eb) (as_at run s) (exec_all u loops body (as_at run s) s.out x)) (λ x. exec_all u (pasts loops body) eb (as_at run s) s.out x) D L N is.0.0 h
+        (λ x k h1. part second run s (pc + 1) stack x L N fits (deep_kept run s k d) (around_kept l os s stack L N k j) is.0.1 nth1
+        (do_then context s.bed (as_at run s) x (exec_all u loops body (as_at run s) s.out x) (λ run1 out1 world1. use_it (tick world1) run1 out1 (λ _ world2. so_far run1 out1 world2)) D L N _
+        (execs_end u nest_ends again_kept loops body (as_at run s) s.out x) h1 (λ q out1 world1 k1 h2.
+        at context _ (later s q out1) _ stack world1 is.1 (after_then context (told (later s q out1)) (tick world1) _
+        (use_then context s.bed world1 (tick world1) (record run { parent = q }) out1 (λ _ world2. so_far (record run { parent = q }) out1 world2) D L N _ (tick_gives world1) h2 (λ _ world2 k2 h3.
+        silent context (told (later s q out1)) _ (so_far_then context s.bed (record run { parent = q }) out1 world2 D L N h3)))))))
+        (λ x k h1. stmts_run os (pasts loops body) l eb run s second stack x L N fits (deep_kept run s k d) (around_kept l os s stack L N k j) is.2 nth2 h1)
 
     -- behind a loop's last round
-    behind_loop_runs : (k : Inside) (loops : ℕ) (other : Otherwise) (vs : List Val) (run : Run) (s : Spot) (pc end to : ℕ) (stack : List Val) (w x : World) (l : Loop) (L N : Then) → Stands context.base run s → Deep run s w → Around k s stack w L N →
-        Kept (in_loop_of (for_flags false) w) x → slice_get (shapes x.loops) (length w.loops) ≡ Some l → l.items ≡ vs → end + length (behind_loop_code k end other) ≡ to → HasAt (context.program.code s.run.stream) end (behind_loop_code k end other) → loops_before end (context.program.code s.run.stream) ≡ loops → (q : Option TemplateId) (out : List ℕ) →
-        Ends context s.bed (exec_behind_loop u loops other (has_none vs) (record run { parent = q }) out (pop x)) (λ q1 out1 v. Go context (later s q1 out1) to stack v) L N → Go context (later (looped None s) q out) end stack x
-    behind_loop_runs k loops no_else vs run s pc end to stack w x l L N fits d j kept e same place is nth q out h =
-        left_loop_then (for_flags false) s q out end stack w x l d.0.scopes kept e is.0 (move context (later s q out) _ _ stack (pop x) place (so_far_then context s.bed (record run { parent = q }) out (pop x) _ L N h))
-    behind_loop_runs k loops (otherwise _ eb) vs run s pc end to stack w x l L N fits d j kept e same place is nth q out h =
+    behind_loop_runs : (os : List Opened) (loops : ℕ) (other : Otherwise) (vs : List Val) (run : Run) (s : Spot) (l : Labels) (end : ℕ) (stack : List Val) (w x : World) (r : Loop) (L N : Then) → Stands context.base run s → Deep run s w → Around l os s stack w L N →
+        Kept (in_loop_of (for_flags false) w) x → slice_get (shapes x.loops) (length w.loops) ≡ Some r → r.items ≡ vs → In s l end (after_loop_code os other) → loops_before end (context.program.code s.run.stream) ≡ loops → (q : Option TemplateId) (out : List ℕ) →
+        Ends context s.bed (exec_behind_loop u loops other (has_none vs) (record run { parent = q }) out (pop x)) (λ q1 out1 v. Go context (later s q1 out1) (beyond end (after_loop_code os other)) stack v) L N → Go context (later (looped None s) q out) end stack x
+    behind_loop_runs os loops no_else vs run s l end stack w x r L N fits d j kept e same is nth q out h =
+        left_loop_then (for_flags false) s q out end stack w x r d.0.scopes kept e is.0 (so_far_then context s.bed (record run { parent = q }) out (pop x) _ L N h)
+    behind_loop_runs os loops (otherwise _ eb) vs run s l end stack w x r L N fits d j kept e same is nth q out h =
         let all = context.program.code s.run.stream in
-        let ec = statements_code k (end + 3) eb in
-        let test = i.JumpIfFalse (end + 3 + length ec) in
         let b = has_none vs in
-        let D0 : Then = λ q1 out1 v. Go context (later s q1 out1) to stack v in
-        let here : end + 3 + length ec ≡ to = omega (arith, place) in
-        let first : end + 1 + 1 + 1 ≡ end + 3 = omega arith in
-        let three = i.PushDidNotIterate ∷ i.PopLoopFrame ∷ test ∷ [] in
-        let nth1 : loops_before (end + 3) all ≡ loops = behind_code all end three (is.0, (is.1.0, (is.1.1.0, tt))) ∙ omega (arith, nth) in
+        let D0 : Then = λ q1 out1 v. Go context (later s q1 out1) (beyond (end + 1 + 1 + 1) (statements_code os eb)) stack v in
+        let nth1 = after_one (end + 1 + 1) all _ is.1.0 ∙ after_one (end + 1) all _ is.0.1.0 ∙ after_one end all _ is.0.0 ∙ nth in
         let popped = kept_popped (loop_scope (mark_behind (for_flags false) w)) w x kept in
-        at context i.PushDidNotIterate (later (looped None s) q out) end stack x is.0
-        (subst (λ n. Comes context (told_by s.bed out) n) (sym (did_not_is None (for_flags false) s q out end stack w x l vs kept e same))
+        at context i.PushDidNotIterate (later (looped None s) q out) end stack x is.0.0
+        (subst (λ n. Comes context (told_by s.bed out) n) (sym (did_not_is None (for_flags false) s q out end stack w x r vs kept e same))
         (silent context (told_by s.bed out) _
-        (left_loop_then (for_flags false) s q out (end + 1) (boolean b ∷ stack) w x l d.0.scopes kept e is.1.0
-        (at context test (later s q out) (end + 1 + 1) (boolean b ∷ stack) (pop x) is.1.1.0 (after_then context (told_by s.bed out) (tick (pop x)) _
+        (left_loop_then (for_flags false) s q out (end + 1) (boolean b ∷ stack) w x r d.0.scopes kept e is.0.1.0
+        (at context _ (later s q out) (end + 1 + 1) (boolean b ∷ stack) (pop x) is.1.0 (after_then context (told_by s.bed out) (tick (pop x)) _
         (use_then context s.bed (pop x) (tick (pop x)) (record run { parent = q }) out _ D0 L N _ (tick_gives (pop x)) h (λ _ v k1 h1.
         choose_ends context b (exec_all u loops eb (record run { parent = q }) out v) (so_far (record run { parent = q }) out v) _ _ (told_by s.bed out) s.bed D0 L N h1
-        (λ h2. silent context (told_by s.bed out) _ (move context (later s q out) _ _ stack v first
-        (stmts_run k loops eb run (later s q out) (end + 3) stack v L N (stands_later context.base run s fits q out) (deep_later run s v q out (deep_kept run s (kept_then popped k1) d)) (around_kept k s stack L N (kept_then popped k1) j)
-        (subst (λ n. HasAt all n ec) first is.1.1.1) nth1
-        (ends_map context s.bed (exec_all u loops eb (record run { parent = q }) out v) _ _ L N h2 (λ q1 out1 y g. move context (later s q1 out1) _ _ stack y here g)))))
-        (λ h2. silent context (told_by s.bed out) _ (move context (later s q out) _ _ stack v here (so_far_then context s.bed (record run { parent = q }) out v D0 L N h2))))))))))
+        (λ h2. silent context (told_by s.bed out) _
+        (stmts_run os loops _ eb run (later s q out) (end + 1 + 1 + 1) stack v L N (stands_later context.base run s fits q out) (deep_later run s v q out (deep_kept run s (kept_then popped k1) d)) (around_kept l os s stack L N (kept_then popped k1) j) is.1.1 nth1 h2))
+        (λ h2. silent context (told_by s.bed out) _ (so_far_then context s.bed (record run { parent = q }) out v D0 L N h2)))))))))
 
   -- ---------------------------------------------------------------- loops that are called
   -- where a called loop's rounds stand
@@ -1435,16 +1191,16 @@ module _ (context : Context) (trees : Trees) (n : ℕ)
       Ends context s1.bed (rounds (turn_of l.target l.at l.body.row) items (as_at run s1) s1.out (opened (for_flags true) m w items)) D L N →
       Go context (looped (Some o) (in_call s1)) (place + 1) [] (opened (for_flags true) m w items)
   called_rounds l place lo o m items run s1 w D L N d room goes_on h =
-      let inner : Inside = record { again = place + 1; behind = lo.end; opened = [] } in
+      let round = round_code l.target l.body.row in
+      let end = end_at place round in
       let all_is : context.program.code id ≡ context.program.code s1.run.stream = ap context.program.code (sym d.2) in
       let fits : Stands context.base run (in_call s1) = (d.1.0, omega arith, d.1.2) in
-      rounds_run (Some o) l.target l.at l.body.row (place + 1) lo.end (stmts_run inner l.at l.body.row) items items run (in_call s1) [] w (opened (for_flags true) m w items) (new_loop items (for_flags true) m w) D L N fits
+      rounds_run (Some o) (for_flags true) l.target l.at l.body.row lo.labels place lo.after (stmts_run [] l.at (round_labels lo.labels place round) l.body.row) items items run (in_call s1) [] w (opened (for_flags true) m w items) (new_loop items (for_flags true) m w) D L N fits
       (levels_called context n level (loop_scope (mark_behind (for_flags false) w)) w room d.0, fits, d.2)
       (opened_kept (for_flags true) m w items) (new_record (for_flags true) m w items) (record { before = []; same = refl; all = refl; turns = refl })
-      (subst (λ c. HasAt c (place + 1) (i.Iterate lo.end ∷ (target_code (place + 1 + 1) l.target ++ (statements_code inner (place + 1 + 1 + length (target_code (place + 1 + 1) l.target)) l.body.row ++ i.Jump (place + 1) ∷ [])))) all_is lo.rounds)
-      (subst (λ c. loops_before (place + 1 + 1 + length (target_code (place + 1 + 1) l.target)) c ≡ l.at) all_is lo.numbered)
-      (λ q out x left_first k e same g. called_over o s1 q out lo.end w x left_first items d.0.scopes k e same
-      (subst (λ c. HasAt c lo.end (i.PopLoopFrame ∷ []) ⊎ HasAt c lo.end (i.PushDidNotIterate ∷ i.PopLoopFrame ∷ [])) all_is lo.exit) (goes_on q out x g)) h
+      (subst (λ c. At c lo.labels place (a_loop (for_flags true) round lo.after)) all_is lo.code) (subst (λ c. loops_before (beyond (place + 1 + 1) (target_code l.target)) c ≡ l.at) all_is lo.numbered)
+      (λ q out x left_first k e same g. called_over o s1 q out end w x left_first items d.0.scopes k e same
+      (subst (λ c. HasAt c end (i.PopLoopFrame ∷ []) ⊎ HasAt c end (i.PushDidNotIterate ∷ i.PopLoopFrame ∷ [])) all_is lo.exit) (goes_on q out x g)) h
 
   -- a loop that can be called there, and one that can't
   recursed_by : (b : Bool) (l : FoundLoop) (lp : LoopPlace) → (b ≡ true → (lp.flags ≡ for_flags true) × Looped (context.program.code id) l lp.place) → (value : Bool) (m : ℕ) (items : List Val) (run : Run) (s s1 : Spot) (pc : ℕ) (stack old : List Val) (w0 w : World) (D L N : Then) →
@@ -1558,15 +1314,21 @@ module _ (p : Program) (trees : Trees) (compiled : IsCompiled trees p) where
   end_then id heard b out w next q x v k = stopped_by (running heard b out w (end_of b (at_end next (whole_of next q x v)))) b q x v next (tick v) refl
   end_then id heard b out w (fault chain) q x v k = refl
 
+  -- the code of a stream, and that it stands there
+  abbrev code_at : StreamId → Fragment
+  code_at id = statements_code [] (trees id).row
+
+  coded : (id : StreamId) → p.code id ≡ assembled (code_at id)
+  coded id = compiled id
+
+  stands_at : (id : StreamId) → At (p.code id) (whole_labels (code_at id)) 0 (code_at id)
+  stands_at id = subst (λ c. At c (whole_labels (code_at id)) 0 (code_at id)) (sym (coded id)) (stands_whole (code_at id))
+
   -- the loops of a stream stand in its code
   all_match : (id : StreamId) (m : ℕ) → Both (p.code id) (slice_get (loops_in 0 (trees id).row) m) (slice_get (loop_places 0 (p.code id)) m)
   all_match id m =
       let row = (trees id).row in
-      let stop = length (statements_code outside 0 row) in
-      let k : Inside = record { again = stop; behind = stop; opened = [] } in
-      let code = statements_code k 0 row in
-      let stands : HasAt (p.code id) 0 code = subst (λ c. HasAt c 0 code) (sym (compiled id)) (has_whole code) in
-      match_at (p.code id) _ _ m (subst (λ c. Match (p.code id) (loops_in 0 row) (loop_places 0 c)) (sym (compiled id)) (statements_match (p.code id) k 0 0 row stands refl))
+      match_at (p.code id) _ _ m (subst (λ c. Match (p.code id) (loops_in 0 row) (loop_places 0 c)) (sym (coded id)) (statements_begin [] 0 row (p.code id) (whole_labels (code_at id)) 0 (stands_at id) refl).found)
 
   -- Loops that are called come behind their calls. Level zero isn't reached: each call opens a scope within the limit, and there is one level more than the limit.
   again_runs : (f : Base) (end : Final) (n : ℕ) →
@@ -1605,23 +1367,20 @@ module _ (p : Program) (trees : Trees) (compiled : IsCompiled trees p) where
       let context = running heard b out w (end_of b (at_end o.ending o)) in
       let s = spot_of id b out in
       let row = (trees id).row in
-      let stop = length (statements_code outside 0 row) in
-      let k : Inside = record { again = stop; behind = stop; opened = [] } in
-      let code = statements_code k 0 row in
-      let stands : HasAt (p.code id) 0 code = subst (λ c. HasAt c 0 code) (sym (compiled id)) (has_whole code) in
-      let size : length (p.code id) ≡ 0 + length code = ap length (compiled id) ∙ omega arith in
+      let c = code_at id in
+      let stop = beyond 0 c in
+      let size : stop ≡ length (p.code id) = beyond_is (whole_labels c) 0 c ∙ ap (λ is. 0 + length is) (sym (coded id)) ∙ omega arith in
       let ends = end_then id heard b out w o.ending o.parent o.text o.world (ends_as w o (execs_end u (nests_end p.host trees n) kept_again 0 (trees id).row (new_run heard w) out w)) in
-      let placed = ends_map context b o _ (λ q x v. Go context (later s q x) (0 + length code) [] v) (Stops context b) (Stops context b) ends (λ q x v g. move context (later s q x) _ _ [] v (sym size) g) in
-      let end_of_code : stop ≡ length (p.code id) = statements_long 0 0 stop stop 0 [] row ∙ sym (size ∙ omega arith) in
-      let stops : (q : Option TemplateId) (x : List ℕ) (v : World) (pc : ℕ) → Kept w v → HasAt (p.code id) pc (i.Jump stop ∷ []) → Stops context b q x v → Go context (later s q x) pc [] v =
-      λ q x v pc kept is l.
-      at context (i.Jump stop) (later s q x) pc [] v is.0 (after_then context (told_by b x) (tick v) _
+      let placed = ends_map context b o _ (λ q x v. Go context (later s q x) stop [] v) (Stops context b) (Stops context b) ends (λ q x v g. move context (later s q x) _ _ [] v size g) in
+      let stops : (q : Option TemplateId) (x : List ℕ) (v : World) (pc : ℕ) → Kept w v → Unit {0} → slice_get (p.code id) pc ≡ Some (i.Jump stop) → Stops context b q x v → Go context (later s q x) pc [] v =
+      λ q x v pc kept none is l.
+      at context (i.Jump stop) (later s q x) pc [] v is (after_then context (told_by b x) (tick v) _
       (follows_map_kept context (told_by b x) v (tick v) _ _ (tick_gives v) l (λ _ v1 k1 e.
-      silent context (told_by b x) _ (move context (later s q x) _ _ [] v1 end_of_code (finishes id heard b out w q x v1 context.final (kept_then kept k1) e))))) in
+      silent context (told_by b x) _ (move context (later s q x) _ _ [] v1 size (finishes id heard b out w q x v1 context.final (kept_then kept k1) e))))) in
       let calls = again_runs context.base context.final n below id (p.host.limit + 1) in
-      stmts_run context trees n below id (p.host.limit + 1) again kept_again calls.0 calls.1 k 0 row (new_run heard w) s 0 [] w (Stops context b) (Stops context b) (stands_start id b out heard w)
+      stmts_run context trees n below id (p.host.limit + 1) again kept_again calls.0 calls.1 [] 0 (whole_labels c) row (new_run heard w) s 0 [] w (Stops context b) (Stops context b) (stands_start id b out heard w)
       (record { nests = deep; scopes = omega arith; calls = omega arith; within_call = λ called. absurd (omega (arith, called)) }, stands_start id b out heard w, refl)
-      (stops, stops) stands refl placed
+      (stops, stops) (stands_at id) refl placed
 
   -- What nests comes to what it means. Level zero isn't reached, since a run stands one level deeper than the one that needs it, within the limit.
   nests_run : (n : ℕ) → AllNested p trees n
@@ -1660,7 +1419,7 @@ nested_comes_to_meaning trees p n k heard (c ∷ ks) told w compiled enough =
     let o = nests_of p.host trees (suc n) k heard c.text w in
     subst (λ e. RunsTo p k heard (c ∷ ks) told w e) (captured_end o.ending c.heard told ks o.text o.world) (level_runs p trees compiled n k heard (inside c.heard told ks) c.text w enough)
 
--- Code comes to one end, whatever the levels.
+-- Fragment comes to one end, whatever the levels.
 pub same_with_levels : (host : Host) (trees : Trees) (n m : ℕ) (k : Callee) (heard : Bool) (out : List ℕ) (w : World) → HasLevels host (suc n) w → HasLevels host (suc m) w →
     final_of (nests_of host trees (suc n) k heard out w) ≡ final_of (nests_of host trees (suc m) k heard out w)
 same_with_levels host trees n m k heard out w enough also =

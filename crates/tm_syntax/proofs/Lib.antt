@@ -1,3 +1,4 @@
 pub mod Named
 pub mod Forms
 pub mod Places
+pub mod Standing

@@ -1,0 +1,236 @@
+-- The loops of a tree stand in its code, each at its number.
+use Rattle.std.proofs.Common.{◌≡◌, ℕ, ◌+◌, ◌⊎◌, inl, inr, List, [], ◌∷◌, Option, Some, None, Bool, false, ◌++◌, refl, sym, ap, subst}
+use Rattle.std.proofs.Common.{arith}
+use Rattle.std.proofs.lemmas.List.{append-nil}
+use Rattle.tm_syntax.specs.declared.instruction.Instruction.{Instruction}
+use Rattle.tm_syntax.specs.declared.instruction.Instruction.TheVariants as i
+use Rattle.tm_syntax.specs.declared.tree.UnaryOperator.{UnaryOperator}
+use Rattle.tm_syntax.specs.declared.tree.UnaryOperator.TheVariants as unaries
+use Rattle.tm_syntax.specs.declared.tree.BinaryOperator.{BinaryOperator}
+use Rattle.tm_syntax.specs.declared.tree.BinaryOperator.TheVariants as binaries
+use Rattle.tm_syntax.specs.declared.tree.Expr.{Expr, Var, Const, List', Tuple', Map', Call', Row_of-Expr, end_of-Expr as no_expr}
+use Rattle.tm_syntax.specs.declared.tree.Expr.{more_of-Expr as expr, Row_of-Pair, end_of-Pair as no_pair, more_of-Pair as with_pair}
+use Rattle.tm_syntax.specs.declared.tree.Expr.{Row_of-Argument, end_of-Argument as no_argument, more_of-Argument as argument}
+use Rattle.tm_syntax.specs.declared.tree.Expr.{Row_of-Keyword, end_of-Keyword as no_keyword, more_of-Keyword as with_keyword, Row_of-Step}
+use Rattle.tm_syntax.specs.declared.tree.Expr.{end_of-Step as no_step, more_of-Step as step, Row_of-Condition}
+use Rattle.tm_syntax.specs.declared.tree.Expr.{end_of-Condition as no_condition, more_of-Condition as with_condition}
+use Rattle.tm_syntax.specs.declared.tree.Argument.{Argument}
+use Rattle.tm_syntax.specs.declared.tree.Keyword.{Keyword}
+use Rattle.tm_syntax.specs.declared.tree.Pair.{Pair}
+use Rattle.tm_syntax.specs.declared.tree.Condition.{Condition}
+use Rattle.tm_syntax.specs.declared.tree.Step.{Step, Attribute, Method', Row_of-Comparison, end_of-Comparison as no_comparison}
+use Rattle.tm_syntax.specs.declared.tree.Step.{more_of-Comparison as with_comparison}
+use Rattle.tm_syntax.specs.declared.tree.Target.{Target, Name as To, Unpack' as Items, Attribute as Member, Row_of-Target}
+use Rattle.tm_syntax.specs.declared.tree.Target.{end_of-Target as no_target, more_of-Target as target}
+use Rattle.tm_syntax.specs.declared.tree.Assignment.{Assignment}
+use Rattle.tm_syntax.specs.declared.tree.Assignment.TheVariants.{Assignment as Given}
+use Rattle.tm_syntax.specs.declared.tree.Stmt.{Stmt, EmitRaw, EmitExpr, EmitLoop, If', For', Break, Continue, Block', Set, SetBlock'}
+use Rattle.tm_syntax.specs.declared.tree.Stmt.{With', Do, AutoEscape', Row_of-Stmt, end_of-Stmt as no_statement}
+use Rattle.tm_syntax.specs.declared.tree.Stmt.{more_of-Stmt as statement, Held-Stmt-If-2 as Otherwise, None' as no_else}
+use Rattle.tm_syntax.specs.declared.tree.Stmt.{Some' as otherwise}
+use Rattle.tm_syntax.specs.declared.opened.Opened.{Opened}
+use Rattle.tm_syntax.specs.declared.opened.Opened.TheVariants.{Scope as a_scope, Escape as an_escape, Capture as a_capture}
+use Rattle.tm_syntax.specs.Forms.{unary, chained, conditional, condition, comparison, pair, plain, keyword, item, slice, binary, compare}
+use Rattle.tm_syntax.specs.Forms.{and_then, or_else}
+use Rattle.tm_syntax.specs.Code.{unary_code, binary_code, close_all, for_flags}
+use Rattle.tm_syntax.specs.Blocks.{body_of}
+use Rattle.tm_syntax.specs.Loops.{FoundLoop, with_pass, within_loop, passes, past, pasts, past_else, loops_of, loops_in, loops_else}
+use Rattle.tm_syntax.specs.Fragments.{Fragment, straight, ◌⨾◌, looped, Labels}
+use Rattle.tm_syntax.specs.declared.jump.JumpKind.TheVariants.{IfFalse}
+use Rattle.tm_syntax.specs.Code.{expr_code, condition_code, conditions_code, exprs_code, pair_code, pairs_code, argument_code}
+use Rattle.tm_syntax.specs.Code.{arguments_code, keyword_code, keywords_code, named_code, step_code, links_code, steps_code, target_code}
+use Rattle.tm_syntax.specs.Code.{targets_code, set_code, assignments_code, iterable_code, filter_round, statement_code, statements_code}
+use Rattle.tm_syntax.specs.Code.{branches_code, after_loop_code}
+use Rattle.tm_syntax.proofs.Standing.{HasAt, At}
+use Rattle.tm_simulation.proofs.Begins.{Begins, IsLoop, NoneBegins, Loopless, both_begin, loop_begins, none_begin, after_none}
+use Rattle.tm_simulation.proofs.Begins.{before_none, over_begins, either_begins}
+
+-- ---------------------------------------------------------------- expressions begin none
+unary_loopless : (op : UnaryOperator) → NoneBegins (unary_code op ∷ [])
+unary_loopless unaries.Not = (refl, tt)
+unary_loopless unaries.Negate = (refl, tt)
+
+binary_loopless : (op : BinaryOperator) → NoneBegins (binary_code op)
+binary_loopless binaries.Equal = (refl, tt)
+binary_loopless binaries.NotEqual = (refl, tt)
+binary_loopless binaries.Less = (refl, tt)
+binary_loopless binaries.LessOrEqual = (refl, tt)
+binary_loopless binaries.Greater = (refl, tt)
+binary_loopless binaries.GreaterOrEqual = (refl, tt)
+binary_loopless binaries.In = (refl, tt)
+binary_loopless binaries.NotIn = (refl, (refl, tt))
+binary_loopless binaries.Add = (refl, tt)
+binary_loopless binaries.Subtract = (refl, tt)
+binary_loopless binaries.Concatenate = (refl, tt)
+binary_loopless binaries.Multiply = (refl, tt)
+binary_loopless binaries.Divide = (refl, tt)
+binary_loopless binaries.FloorDivide = (refl, tt)
+binary_loopless binaries.Remainder = (refl, tt)
+binary_loopless binaries.Power = (refl, tt)
+
+
+mutual
+  pub expr_loopless : (e : Expr) → Loopless (expr_code e)
+  expr_loopless (Var x) = (refl, tt)
+  expr_loopless (Const v) = (refl, tt)
+  expr_loopless (List' _ es) = (exprs_loopless es, (refl, tt))
+  expr_loopless (Tuple' _ es) = (exprs_loopless es, (refl, tt))
+  expr_loopless (Map' _ ps) = (pairs_loopless ps, (refl, tt))
+  expr_loopless (Call' f _ given _ named) = (arguments_loopless given, (named_loopless named, (refl, tt)))
+  expr_loopless (unary op a) = (expr_loopless a, unary_loopless op)
+  expr_loopless (chained a _ ss) = (expr_loopless a, steps_loopless ss)
+  expr_loopless (conditional a _ cs) = conditions_loopless cs (expr_code a) (expr_loopless a)
+
+  condition_loopless : (c : Condition) (value : Fragment) → Loopless value → Loopless (condition_code c value)
+  condition_loopless (condition c e) value h = (expr_loopless c, ((tt, h), expr_loopless e))
+
+  conditions_loopless : {n : _} → (cs : Row_of-Condition n) (value : Fragment) → Loopless value → Loopless (conditions_code cs value)
+  conditions_loopless no_condition value h = h
+  conditions_loopless (with_condition c more) value h = conditions_loopless more (condition_code c value) (condition_loopless c value h)
+
+  exprs_loopless : {n : _} → (es : Row_of-Expr n) → Loopless (exprs_code es)
+  exprs_loopless no_expr = tt
+  exprs_loopless (expr e more) = (expr_loopless e, exprs_loopless more)
+
+  pair_loopless : (x : Pair) → Loopless (pair_code x)
+  pair_loopless (pair k v) = (expr_loopless k, expr_loopless v)
+
+  pairs_loopless : {n : _} → (ps : Row_of-Pair n) → Loopless (pairs_code ps)
+  pairs_loopless no_pair = tt
+  pairs_loopless (with_pair x more) = (pair_loopless x, pairs_loopless more)
+
+  argument_loopless : (a : Argument) → Loopless (argument_code a)
+  argument_loopless (plain a) = expr_loopless a
+
+  arguments_loopless : {n : _} → (given : Row_of-Argument n) → Loopless (arguments_code given)
+  arguments_loopless no_argument = tt
+  arguments_loopless (argument a more) = (argument_loopless a, arguments_loopless more)
+
+  keyword_loopless : (k : Keyword) → Loopless (keyword_code k)
+  keyword_loopless (keyword x a) = ((refl, tt), expr_loopless a)
+
+  keywords_loopless : {n : _} → (ks : Row_of-Keyword n) → Loopless (keywords_code ks)
+  keywords_loopless no_keyword = tt
+  keywords_loopless (with_keyword k more) = (keyword_loopless k, keywords_loopless more)
+
+  named_loopless : {n : _} → (ks : Row_of-Keyword n) → Loopless (named_code ks)
+  named_loopless no_keyword = tt
+  named_loopless (with_keyword k more) = (keyword_loopless k, (keywords_loopless more, (refl, tt)))
+
+  step_loopless : (s : Step) → Loopless (step_code s)
+  step_loopless (Attribute x) = (refl, tt)
+  step_loopless (item a) = (expr_loopless a, (refl, tt))
+  step_loopless (Method' x _ given _ named) = (arguments_loopless given, (named_loopless named, (refl, tt)))
+  step_loopless (slice a b c) = (expr_loopless a, (expr_loopless b, (expr_loopless c, (refl, tt))))
+  step_loopless (binary op a) = (expr_loopless a, binary_loopless op)
+  step_loopless (compare op a _ cs) = (expr_loopless a, (links_loopless op cs, (refl, (refl, tt))))
+  step_loopless (and_then a) = (tt, expr_loopless a)
+  step_loopless (or_else a) = (tt, expr_loopless a)
+
+  links_loopless : {n : _} → (op : BinaryOperator) (cs : Row_of-Comparison n) → Loopless (links_code op cs)
+  links_loopless op no_comparison = binary_loopless op
+  links_loopless op (with_comparison (comparison op1 a) more) = ((refl, tt), (tt, (expr_loopless a, links_loopless op1 more)))
+
+  steps_loopless : {n : _} → (ss : Row_of-Step n) → Loopless (steps_code ss)
+  steps_loopless no_step = tt
+  steps_loopless (step s ss) = (step_loopless s, steps_loopless ss)
+
+-- ---------------------------------------------------------------- nor do targets
+mutual
+  pub target_loopless : (t : Target) → Loopless (target_code t)
+  target_loopless (To x) = (refl, tt)
+  target_loopless (Items _ ts) = ((refl, tt), targets_loopless ts)
+  target_loopless (Member e x) = (expr_loopless e, (refl, tt))
+
+  targets_loopless : {n : _} → (ts : Row_of-Target n) → Loopless (targets_code ts)
+  targets_loopless no_target = tt
+  targets_loopless (target t ts) = (target_loopless t, targets_loopless ts)
+
+pub assignments_loopless : (given : List Assignment) → Loopless (assignments_code given)
+assignments_loopless [] = tt
+assignments_loopless (Given t e ∷ more) = ((expr_loopless e, target_loopless t), assignments_loopless more)
+
+-- ---------------------------------------------------------------- statements begin their loops
+closed_loopless : (os : List Opened) → NoneBegins (close_all os)
+closed_loopless [] = tt
+closed_loopless (a_scope ∷ os) = (refl, closed_loopless os)
+closed_loopless (an_escape ∷ os) = (refl, closed_loopless os)
+closed_loopless (a_capture ∷ os) = (refl, (refl, closed_loopless os))
+
+-- what stands behind the rounds of a loop that is called
+behind_exit : (all : List Instruction) (l : Labels) (end : ℕ) (os : List Opened) (other : Otherwise) → At all l end (after_loop_code os other) → HasAt all end (i.PopLoopFrame ∷ []) ⊎ HasAt all end (i.PushDidNotIterate ∷ i.PopLoopFrame ∷ [])
+behind_exit all l end os no_else h = inl h
+behind_exit all l end os (otherwise _ body) h = inr h.0
+
+abbrev pub found : {n : _} → ℕ → Option Expr → Bool → Target → Row_of-Stmt n → FoundLoop
+found at c r t body = record { recursive = r; target = t; body = body_of body; at = within_loop c at }
+
+is_loop : {n : _} → (os : List Opened) (at : ℕ) (c : Option Expr) (r : Bool) (t : Target) (body : Row_of-Stmt n) (other : Otherwise) →
+    IsLoop (found at c r t body) (at + passes c) (for_flags r) (target_code t ⨾ statements_code [] body) (after_loop_code os other)
+is_loop os at c r t body other all l pc is first = (
+  refl,
+  λ yes. (
+    ap for_flags yes,
+    record {
+      labels = l;
+      after = after_loop_code os other;
+      code = subst (λ b. At all l pc (looped (for_flags b) (target_code t ⨾ statements_code [] body) (after_loop_code os other))) yes is;
+      exit = behind_exit all l _ os other is.4;
+      numbered = (none_begin (within_loop c at) (target_code t) (target_loopless t) all _ (pc + 1 + 1) is.2.0 first).number;
+    },
+  ),
+)
+
+filter_loopless : (t : Target) (c : Expr) → Loopless (filter_round t c)
+filter_loopless t c = ((refl, tt), (target_loopless t, (expr_loopless c, ((tt, ((refl, (refl, (refl, tt))), tt)), (refl, tt)))))
+
+-- the pass of a condition
+abbrev pass_of : Option Expr → FoundLoop → List FoundLoop
+pass_of None l = []
+pass_of (Some c) l = record l { recursive = false } ∷ []
+
+pub iterable_begins : (at : ℕ) (t : Target) (e : Expr) (c : Option Expr) (l : FoundLoop) → Begins at (iterable_code t e c) (pass_of c l) (at + passes c)
+iterable_begins at t e None l = let none : at ≡ at + 0 = omega arith in subst (λ n. Begins at (expr_code e) [] n) none (none_begin at (expr_code e) (expr_loopless e))
+iterable_begins at t e (Some c) l =
+    after_none (straight _) (refl, tt) (after_none (expr_code e) (expr_loopless e)
+    (loop_begins {f = record l { recursive = false }} (λ all k pc is first. (refl, λ never. absurd (cc never))) (none_begin (at + 1) (filter_round t c) (filter_loopless t c)) (none_begin (at + 1) (straight _) (refl, (refl, tt)))))
+
+with_pass_is : (c : Option Expr) (l : FoundLoop) (ls : List FoundLoop) → pass_of c l ++ l ∷ ls ≡ with_pass c l ls
+with_pass_is None l ls = refl
+with_pass_is (Some c) l ls = refl
+
+mutual
+  pub statement_begins : (os : List Opened) (at : ℕ) (s : Stmt) → Begins at (statement_code os s) (loops_of at s) (past at s)
+  statement_begins os at (EmitRaw t) = none_begin at (statement_code os (EmitRaw t)) (refl, tt)
+  statement_begins os at (EmitExpr e) = none_begin at (statement_code os (EmitExpr e)) (expr_loopless e, (refl, tt))
+  statement_begins os at (EmitLoop e) = none_begin at (statement_code os (EmitLoop e)) (expr_loopless e, (refl, tt))
+  statement_begins os at (If' c _ body other) = after_none (expr_code c) (expr_loopless c) (branches_begin os at (statements_code os body) (loops_in at body) (pasts at body) (statements_begin os at body) other)
+  statement_begins os at Break = none_begin at (statement_code os Break) (closed_loopless os, tt)
+  statement_begins os at Continue = none_begin at (statement_code os Continue) (closed_loopless os, tt)
+  statement_begins os at (Block' x _ body) = none_begin at (straight (i.CallBlock x ∷ [])) (refl, tt)
+  statement_begins os at (Set t e) = none_begin at (set_code t e) (expr_loopless e, target_loopless t)
+  statement_begins os at (SetBlock' t _ body) =
+      after_none (straight _) (refl, tt) (before_none (straight (i.EndCapture ∷ []) ⨾ target_code t) ((refl, tt), target_loopless t) (statements_begin (a_capture ∷ os) at body))
+  statement_begins os at (With' given _ body) =
+      after_none (straight _) (refl, tt) (after_none (assignments_code given) (assignments_loopless given) (before_none (straight (i.PopFrame ∷ [])) (refl, tt) (statements_begin (a_scope ∷ os) at body)))
+  statement_begins os at (Do e) = none_begin at (statement_code os (Do e)) (expr_loopless e, (refl, tt))
+  statement_begins os at (AutoEscape' e _ body) =
+      after_none (expr_code e) (expr_loopless e) (after_none (straight _) (refl, tt) (before_none (straight (i.PopAutoEscape ∷ [])) (refl, tt) (statements_begin (an_escape ∷ os) at body)))
+  statement_begins os at (For' t e c r n body other) =
+      let l = found at c r t body in
+      let m = within_loop c at in
+      let rounds = after_none (target_code t) (target_loopless t) (statements_begin [] m body) in
+      subst (λ ls. Begins at (statement_code os (For' t e c r n body other)) ls (past at (For' t e c r n body other))) (with_pass_is c l (loops_in m body ++ loops_else (pasts m body) other))
+      (both_begin (iterable_begins at t e c l) (loop_begins (is_loop os at c r t body other) rounds (behind_loop_begins os (pasts m body) other)))
+
+  pub statements_begin : {n : _} → (os : List Opened) (at : ℕ) (ss : Row_of-Stmt n) → Begins at (statements_code os ss) (loops_in at ss) (pasts at ss)
+  statements_begin os at no_statement = none_begin at (straight []) tt
+  statements_begin os at (statement s ss) = both_begin (statement_begins os at s) (statements_begin os (past at s) ss)
+
+  branches_begin : (os : List Opened) (at : ℕ) (first : Fragment) (ls : List FoundLoop) (m : ℕ) → Begins at first ls m → (other : Otherwise) → Begins at (branches_code os first other) (ls ++ loops_else m other) (past_else m other)
+  branches_begin os at first ls m f no_else = subst (λ ks. Begins at (branches_code os first no_else) ks m) (sym (append-nil ls)) (over_begins IfFalse f)
+  branches_begin os at first ls m f (otherwise _ eb) = either_begins f (statements_begin os m eb)
+
+  behind_loop_begins : (os : List Opened) (at : ℕ) (other : Otherwise) → Begins at (after_loop_code os other) (loops_else at other) (past_else at other)
+  behind_loop_begins os at no_else = none_begin at (straight (i.PopLoopFrame ∷ [])) (refl, tt)
+  behind_loop_begins os at (otherwise _ body) = after_none (straight _) (refl, (refl, tt)) (over_begins IfFalse (statements_begin os at body))
