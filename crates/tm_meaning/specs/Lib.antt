@@ -7,4 +7,9 @@ pub mod Machine
 pub mod Instructions
 pub mod Steps
 pub mod Rows
+pub mod LoopRows
+pub mod CallRows
+pub mod OperatorRows
+pub mod GuardRows
+pub mod LookUp
 pub mod Compiled

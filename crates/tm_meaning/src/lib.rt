@@ -1,13 +1,19 @@
 //! Definitions: what a state is, what trees mean, what the machine does. The functions here are laws: they run nothing, and their contracts say what is proved of the definitions.
 #![tactic(auto)]
 
-ghost use Rattle.std.specs.Prelude.{◌≡◌, ◌++◌, ℕ, List};
+ghost use Rattle.std.specs.Prelude.{◌≡◌, ◌++◌, ℕ, List, Option};
+ghost use Rattle.tm_values.specs.Answer.{Answer};
+ghost use Rattle.tm_values.specs.Val.{Val};
+ghost use Rattle.tm_meaning.specs.LookUp.{Finds};
 ghost use Rattle.tm_meaning.specs.Machine.{Program, Base, Next};
 ghost use Rattle.tm_meaning.specs.Steps.{Final, Leads};
+ghost use Rattle.tm_meaning.specs.World.{View, find_name};
 
 mod base;
 mod function;
+mod guards;
 mod mark;
+mod operators;
 mod reply;
 mod rows;
 mod stream;
@@ -15,7 +21,13 @@ mod wrapping;
 
 pub use base::Base;
 pub use function::GlobalFunction;
+pub use guards::{
+    block_guards, call_guards, look_up_guards, loop_guards, view_guards,
+};
 pub use mark::LoopMark;
+pub use operators::{
+    arithmetic_rows, comparison_rows, item_rows, membership_rows, slice_rows,
+};
 pub use reply::Reply;
 pub use rows::{
     attribute_rows, block_rows, call_rows, capture_rows, chain_rows, condition_rows,
@@ -35,4 +47,10 @@ pub fn one_end()
 pub fn text_grows()
     ensures { (p : Program) (f : Base) (t : List ℕ) (n : Next) (o : Final) →
         Leads p f t n o → (rest : List ℕ) × (o.text ≡ t ++ rest) }
+{}
+
+/// A look-up answers by what has the name first: from the innermost scope outward its locals, its loop, its closure and its context value, and then the globals.
+pub fn look_up_order()
+    ensures { (view : View) (x : List ℕ) (a : Answer (Option Val)) →
+        Finds view x view.frames a → find_name view x ≡ a }
 {}

@@ -3,7 +3,23 @@ ghost use Rattle.std.specs.Prelude.{[], ◌∷◌, ◌++◌, true, false, codes,
 ghost use Rattle.std.specs.Fmt.{decimal};
 ghost use Rattle.tm_values.specs.Val.{boolean, function, map, no_pairs, number};
 ghost use Rattle.tm_values.specs.declared.error.ErrorKind.TheVariants.{CannotUnpack, InvalidOperation, MissingArgument, UndefinedError, UnknownFunction, UnknownMethod, OutOfFuel, WriteFailure, BadStream, OutOfMemory};
-ghost use Rattle.tm_meaning.specs.Rows.{Says, Charges, Shows, Fails, Leaves, Lacks, empty, text_alone, two_names, one_name, nothing, with_value, hello, either_text, of_three, empty_condition, shown, a_and_b_c, a_or_x, not_equal, a_b, literal_number, three_in_a_row, false_before_fault, no_value, one_condition, two_conditions, in_block, block_not_reached, with_two, empty_with, set_two, set_two_of_one, set_attribute, literal, each_number, no_round, broken_round, break_in_capture, continue_in_scope, loop_members, set_in_round, chosen, chosen_alone, chosen_index, chosen_by_loop, changed_or_not, by_turns, by_no_turns, no_method_of_loops, method_of_map, method_of_undefined, called_in_place, called_over_a_number, not_recursive, no_loop_to_call, called_with_too_many, depth_inside_recursive, tree_in_place, tree_as_value, called_behind_its_end, range_of_three, range_by_name, dict_by_names, summed, over_a_number, set_block, set_under, escaped_by, fault_in_capture, set_block_of_two, literal_truth, do_call, last_function, faulty, calling, keep_and_read, unknown_behind};
+ghost use Rattle.tm_meaning.specs.Rows.{Says, Charges, Shows, Fails, Leaves, Lacks, empty, text_alone, two_names};
+ghost use Rattle.tm_meaning.specs.Rows.{one_name, nothing, with_value, hello, either_text, of_three, empty_condition};
+ghost use Rattle.tm_meaning.specs.Rows.{shown, a_and_b_c, a_or_x, not_equal, a_b, literal_number, three_in_a_row};
+ghost use Rattle.tm_meaning.specs.Rows.{false_before_fault, no_value, one_condition, two_conditions, in_block};
+ghost use Rattle.tm_meaning.specs.Rows.{block_not_reached, with_two, empty_with, set_two, set_two_of_one};
+ghost use Rattle.tm_meaning.specs.Rows.{set_attribute, literal, set_block, set_under, escaped_by, fault_in_capture};
+ghost use Rattle.tm_meaning.specs.Rows.{set_block_of_two, literal_truth};
+ghost use Rattle.tm_meaning.specs.LoopRows.{each_number, no_round, broken_round, break_in_capture, continue_in_scope};
+ghost use Rattle.tm_meaning.specs.LoopRows.{loop_members, set_in_round, chosen, chosen_alone, chosen_index};
+ghost use Rattle.tm_meaning.specs.LoopRows.{chosen_by_loop, over_a_number};
+ghost use Rattle.tm_meaning.specs.CallRows.{changed_or_not, by_turns, by_no_turns, no_method_of_loops, method_of_map};
+ghost use Rattle.tm_meaning.specs.CallRows.{method_of_undefined, called_in_place, called_over_a_number};
+ghost use Rattle.tm_meaning.specs.CallRows.{not_recursive, no_loop_to_call, called_with_too_many};
+ghost use Rattle.tm_meaning.specs.CallRows.{depth_inside_recursive, tree_in_place, tree_as_value};
+ghost use Rattle.tm_meaning.specs.CallRows.{called_behind_its_end, range_of_three, range_by_name, dict_by_names};
+ghost use Rattle.tm_meaning.specs.CallRows.{summed, do_call, last_function, faulty, calling, keep_and_read};
+ghost use Rattle.tm_meaning.specs.CallRows.{unknown_behind};
 
 /// `Hello {{ name }}!` with the name World takes 4 charges, so 5 units of fuel; with fewer it ends where the fuel does.
 pub fn hello_rows()
