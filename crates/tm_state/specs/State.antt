@@ -1,12 +1,13 @@
 -- What a state's fields stand for, and what is put back behind a block.
 use Rattle.std.specs.Prelude.{◌≡◌, ℕ, List, [], ◌∷◌, ◌++◌, length, map as each, Option, Some, None, Bool, true, false}
+use Rattle.tm_syntax.specs.Named.{find}
 use Rattle.tm_values.specs.Val.{Val, undefined}
 use Rattle.tm_values.specs.declared.escape.AutoEscape.{AutoEscape}
 use Rattle.tm_syntax.specs.declared.instruction.Instruction.{Instruction}
 use Rattle.tm_meaning.specs.World.{Named, World, Loop, loop_scope, new_loop, Layers, root_of, block_of, plain, with_frames, pop}
 use Rattle.tm_meaning.specs.Calls.{Asked, runs, whole, of_block, with_outer}
 use Rattle.tm_meaning.specs.Meaning.{first_fuel}
-use Rattle.tm_meaning.specs.declared.stream.TemplateId.TheVariants.{Own}
+use Rattle.tm_meaning.specs.declared.stream.TemplateId.{TemplateId}
 use Rattle.tm_meaning.specs.declared.stream.StreamId.{StreamId}
 use Rattle.tm_syntax.specs.declared.instruction.LoopFlags.{LoopFlags}
 use Rattle.tm_tables.specs.Fuel.{Fuel}
@@ -19,19 +20,19 @@ fuel_set_of true fuel = Some fuel.set
 fuel_set_of false fuel = None
 
 -- The layers of one template.
-abbrev pub alone : Layers
-alone = record { templates = Own ∷ []; place = 0 }
+abbrev pub alone : TemplateId → Layers
+alone t = record { templates = t ∷ []; place = 0 }
 
--- the blocks of the render's own template, each alone
-abbrev pub layered : List ℕ × List Instruction → List ℕ × Layers
-layered b = (b.0, alone)
+-- the blocks of a template, each alone
+abbrev pub layered : TemplateId → List ℕ × List Instruction → List ℕ × Layers
+layered t b = (b.0, alone t)
 
-abbrev pub layers_of : Named (List Instruction) → Named Layers
-layers_of bs = each layered bs
+abbrev pub layers_of : TemplateId → Named (List Instruction) → Named Layers
+layers_of t bs = each (layered t) bs
 
 -- What a render of a template starts from, whose blocks have this code.
-abbrev pub started : ℕ → Named (List Instruction) → AutoEscape → Option ℕ → Val → World
-started id blocks escape fuel context = record {
+abbrev pub started : ℕ → TemplateId → Named (List Instruction) → AutoEscape → Option ℕ → Val → World
+started id t blocks escape fuel context = record {
   id = id;
   scopes = record { frames = plain context ∷ []; outer = 0 };
   namespaces = [];
@@ -39,11 +40,11 @@ started id blocks escape fuel context = record {
   closures = [];
   streams = [];
   temps = [];
-  blocks = layers_of blocks;
+  blocks = layers_of t blocks;
   loaded = [];
   block = None;
   escape = escape;
-  stream = root_of Own;
+  stream = root_of t;
   fuel_set = fuel;
   fuel = first_fuel fuel;
 }
@@ -56,14 +57,13 @@ saved_of w = record { stream = w.stream; block = w.block; escape = w.escape; out
 abbrev pub put_back : Saved → World → World
 put_back saved w = record (with_outer saved.outer (pop w)) { stream = saved.stream; block = saved.block; escape = saved.escape }
 
--- the run of a block of the render's own template, from a world; the world before it was b
-abbrev pub runs_block : List ℕ → World → World → Asked
-runs_block x b w = runs (record { callee = whole (block_of Own x); undo = of_block b; wrap = None }) w
+-- the run of a block's stream, from a world; the world before it was b
+abbrev pub runs_block : StreamId → World → World → Asked
+runs_block s b w = runs (record { callee = whole s; undo = of_block b; wrap = None }) w
 
--- whether there is a block
-abbrev pub IsThere : Bool → Option Layers → Type 0
-IsThere true found = found ≡ Some alone
-IsThere false found = found ≡ None
+-- The stream is the block of this name of the one template that has it.
+abbrev pub IsBlockOf : StreamId → List ℕ → World → Type 0
+IsBlockOf s x w = (s ≡ block_of s.template x) × (find x w.blocks ≡ Some (alone s.template))
 
 -- one scope more, over no context
 abbrev pub scoped : World → World

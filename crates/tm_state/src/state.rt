@@ -11,7 +11,7 @@ ghost use Rattle.tm_definitions.specs.Emitted.{emitted_text};
 ghost use Rattle.tm_tables.specs.Known.{AreFound, NamingFails};
 ghost use Rattle.tm_tables.specs.Scopes.{PushFails};
 ghost use Rattle.tm_state.specs.Answers.{Keeps, CanBeEmitted, Comes, IsChangedAt};
-ghost use Rattle.tm_state.specs.State.{looped, loop_record, exported, started, put_back, saved_of, runs_block, IsThere, scoped};
+ghost use Rattle.tm_state.specs.State.{looped, loop_record, exported, started, put_back, saved_of, runs_block, IsBlockOf, scoped};
 
 use crate::saved::Saved;
 use std::alloc::Global;
@@ -39,6 +39,7 @@ pub struct StateData<'env> {
     namespaces: Vec<ValueMap>,
     loops: Vec<LoopState>,
     temps: NameMap<Value>,
+    template: TemplateId,
     blocks: &'env NameMap<Code>,
     block: Option<Name>,
     escape: AutoEscape,
@@ -66,7 +67,7 @@ impl<'env> Model for StateData<'env> {
       closures = [];
       streams = [];
       temps = s.temps;
-      blocks = layers_of s.blocks.now;
+      blocks = layers_of s.template s.blocks.now;
       loaded = [];
       block = s.block;
       escape = s.escape;
@@ -77,32 +78,35 @@ impl<'env> Model for StateData<'env> {
 }
 
 impl<'env> StateData<'env> {
-    /// The state that a render starts from: one scope over the context value, the blocks of the render's own template, and the fuel, or the greatest u64 where none is set. Fails by OutOfMemory alone.
+    /// The state that a render of a template starts from: one scope over the context value, the template's blocks, and the fuel, or the greatest u64 where none is set. Fails by OutOfMemory alone.
     pub fn new(
         alloc: Global,
         id: u64,
+        template: TemplateId,
         blocks: &'env NameMap<Code>,
         escape: AutoEscape,
         fuel: Option<u64>,
         context: Value,
     ) -> Result<StateData<'env>, Error>
         ensures { OkOrOutOfMemory result
-            (λ s. s ≡ started id blocks.entry.now escape fuel context) }
+            (λ s. s ≡ started id template blocks.entry.now escape fuel context) }
     {
         let context = match Context::new_with_frame(alloc, Frame::new(alloc, context)) {
             Ok(context) => context,
             Err(error) => return Err(error),
         };
+        let stream = StreamId::root(template.share()?);
         Ok(StateData {
             id,
             context,
             namespaces: Vec::new(alloc),
             loops: Vec::new(alloc),
             temps: NameMap::new(alloc),
+            template,
             blocks,
             block: None,
             escape,
-            stream: StreamId::root(TemplateId::Own),
+            stream,
             fuel: FuelTracker::new(fuel.unwrap_or(u64::MAX)),
             fuel_is_set: fuel.is_some(),
         })
@@ -309,10 +313,9 @@ impl<'env> StateData<'env> {
         host: &H,
         name: &Name,
     ) -> Result<(StreamId, Saved), Error>
-        ensures ok { IfOk result (λ r. (r.0 ≡ block_of TemplateId.Own name.now)
-            × (r.1 ≡ saved_of self.old)
+        ensures ok { IfOk result (λ r. (r.1 ≡ saved_of self.old)
             × (enter_block (H.meaning host.now) name.now self.old ≡
-            runs_block name.now self.old self.new)) }
+            runs_block r.0 self.old self.new)) }
         ensures deeper { OnOk result
             ((length self.new.scopes.frames ≡ length self.old.scopes.frames + 1)
             × (self.new.scopes.outer ≡ self.old.scopes.outer)
@@ -322,14 +325,14 @@ impl<'env> StateData<'env> {
         ensures unchanged { OnErr result (self.new ≡ self.old) }
         ensures kept { Keeps self.old self.new }
     {
-        if !self.has_block(name.as_str()) {
-            return Err(Error::from(ErrorKind::UnknownBlock));
-        }
-        let stream = StreamId::block(TemplateId::Own, name.share()?);
+        let stream = match self.block_stream(name) {
+            Ok(stream) => stream,
+            Err(error) => return Err(error),
+        };
         if host.is_required(&stream) {
             return Err(Error::from(ErrorKind::InvalidOperation));
         }
-        let running = StreamId::block(TemplateId::Own, name.share()?);
+        let running = stream.share()?;
         let block = name.share()?;
         if let Err(error) = self.push_scope(alloc, host.recursion_limit()) {
             return Err(error);
@@ -338,11 +341,16 @@ impl<'env> StateData<'env> {
         Ok((stream, saved))
     }
 
-    /// Whether the render's own template has a block of this name.
-    fn has_block(&self, name: &str) -> bool
-        ensures { IsThere result (find name.now self.now.blocks) }
+    /// The stream of the block of a name. UnknownBlock where there is none, OutOfMemory where the owners of a name can't be counted.
+    fn block_stream(&self, name: &Name) -> Result<StreamId, Error>
+        ensures ok { IfOk result (λ stream. IsBlockOf stream name.now self.now) }
+        ensures err { IfErr result (λ e. is_want_of_memory e ≡ false →
+            (e ≡ ErrorKind.UnknownBlock ∷ []) × (find name.now self.now.blocks ≡ None)) }
     {
-        self.blocks.get(name).is_some()
+        if self.blocks.get(name.as_str()).is_none() {
+            return Err(Error::from(ErrorKind::UnknownBlock));
+        }
+        Ok(StreamId::block(self.template.share()?, name.share()?))
     }
 
     /// One scope more, over no context. InvalidOperation where it would lie deeper than the limit, OutOfMemory where there is no memory; then the state stays as it was.

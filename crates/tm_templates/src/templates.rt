@@ -1,5 +1,5 @@
 //! Templates by name.
-ghost use Rattle.std.specs.Prelude.{◌≡◌, [], ◌∷◌, OnOk, OnErr, IfErr, MatchResult};
+ghost use Rattle.std.specs.Prelude.{◌≡◌, [], ◌∷◌, None, Some, OnOk, OnErr, IfErr, MatchOption, MatchResult};
 ghost use Rattle.tm_syntax.specs.Named.{find, put, name_cmp};
 ghost use Rattle.tm_values.specs.Answer.{IsLent};
 ghost use Rattle.tm_templates.specs.Places.{IsThere, IsGapFor};
@@ -50,6 +50,17 @@ impl<'source> Templates<'source> {
     {
         match self.place(name) {
             Ok(at) => Some(&self.entries[at].1),
+            Err(_) => None,
+        }
+    }
+
+    /// The template of a name, where there is one, with the name that it stands at.
+    pub fn entry(&self, name: &str) -> Option<(&Name, &CompiledTemplate<'source>)>
+        ensures { MatchOption result (find name.now self.now ≡ None)
+            (λ found. (found.0.now ≡ name.now) × (find name.now self.now ≡ Some found.1.now)) }
+    {
+        match self.place(name) {
+            Ok(at) => Some((&self.entries[at].0, &self.entries[at].1)),
             Err(_) => None,
         }
     }
