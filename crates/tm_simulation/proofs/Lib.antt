@@ -1,10 +1,15 @@
 pub mod Place
+pub mod Advances
+pub mod Raised
+pub mod Gives
+pub mod Asks
+pub mod Evaluates
+pub mod Executes
 pub mod Keeps
+pub mod Chains
 pub mod Loops
 pub mod Follow
 pub mod Forms
 pub mod Simulation
 mod Numbers
 mod Matches
-pub mod Faults
-pub mod Memory

@@ -49,7 +49,12 @@ use Rattle.tm_syntax.specs.Loops.{loops_before, passes, within_loop, past, pasts
 use Rattle.tm_simulation.proofs.Matches.{Both, Looped, Match, match_at, statements_match}
 use Rattle.tm_simulation.proofs.Numbers.{behind_code, expr_none, target_none, assignments_none, iterable_count, statement_count, statements_count}
 use Rattle.tm_simulation.proofs.Loops.{LeftOf, next_item, no_item, left_then, turned_items, on_top_loop, next_record, new_record, none_is}
-use Rattle.tm_simulation.proofs.Keeps.{Kept, marks, kept_frames, kept_depth, kept_same, kept_then, kept_record, kept_popped, kept_cleared, kept_turned, top_of_marks, mark_behind, in_loop_of, opened, opened_kept, loop_ends, ends_use, Gives, EndsBy as EndsKept, Ends as KeptEnds, ends_as, tick_gives, answered_gives, Asks, block_asks, named_asks, method_asks, innermost_asks, again_end, eval_gives, condition_gives, all_give, pair_gives, pairs_give, argument_gives, arguments_give, keyword_gives, keywords_give, named_give, one_counted_gives, loop_items_give, step_gives, binary_gives, within, kept_unescaped, assign_gives, set_gives, set_each_gives, exec_ends, execs_end, nests_end}
+use Rattle.tm_simulation.proofs.Advances.{Kept, marks, kept_frames, kept_depth, kept_same, kept_then, kept_record, kept_popped, kept_cleared, kept_turned, top_of_marks, mark_behind, in_loop_of, opened, opened_kept, within, kept_unescaped}
+use Rattle.tm_simulation.proofs.Gives.{loop_ends, ends_use, Gives, EndsBy as EndsKept, Ends as KeptEnds, ends_as, tick_gives}
+use Rattle.tm_simulation.proofs.Asks.{unpacked_gives, emitted_gives, escape_gives, Asks, block_asks, named_asks, method_asks, innermost_asks, items_give}
+use Rattle.tm_simulation.proofs.Evaluates.{eval_gives, condition_gives, all_give, pair_gives, pairs_give, argument_gives, arguments_give, keyword_gives, keywords_give, named_give, one_counted_gives, loop_items_give, step_gives, binary_gives, assign_gives, set_gives, set_each_gives, truth_gives, operated_gives}
+use Rattle.tm_simulation.proofs.Executes.{exec_ends, execs_end}
+use Rattle.tm_simulation.proofs.Keeps.{again_end, nests_end}
 use Rattle.tm_simulation.proofs.Follow.{Context, Comes, follows_map_kept, bound_follows, ends_map_kept, leave_then, next_then, Goes, round_then, opened_then, opened_follows, Bed, air, inside, captures_of, told_by, Spot, told, cfg, later, Follows, Then, Ends, whole_of, follows_map, follows_bind, bind_then, use_then, so_far_then, fault_then, do_then, within_then, Closed, closed_then, captured_in, Dropped, captured_then, ends_map, Go, silent, at, after_then, move, pushes, choose_then, choose_ends}
 use Rattle.tm_simulation.proofs.Forms.{Fits, Stands, fits_captured, audible_is, writes_then, end_by as bed_end, end_of, Entered, call_in_place, call_as_value}
 use Rattle.tm_meaning.specs.declared.stream.TemplateId.{TemplateId}
@@ -129,7 +134,7 @@ items_long n v w = exactly_long n _ w
 
 -- the same as `bind_then`, of as many as were asked for
 bind_long : {A B : Type 0} (context : Context) (t : List ℕ) (w : World) (n : ℕ) (m : Res (List A)) (g : List A → World → Res B) (K : B → World → Type 0) (L : List A → World → Type 0) →
-    Gives w m → IsLong n m → Follows context t (bind m g) K → ((xs : List A) (world1 : World) → Kept w world1 → length xs ≡ n → Follows context t (g xs world1) K → L xs world1) → Follows context t m L
+    Gives context.program.host w m → IsLong n m → Follows context t (bind m g) K → ((xs : List A) (world1 : World) → Kept w world1 → length xs ≡ n → Follows context t (g xs world1) K → L xs world1) → Follows context t m L
 bind_long context t w n (Good xs world1) g K L e l h k = k xs world1 e l h
 bind_long context t w n (Bad chain world1) g K L e l h k = h
 
@@ -246,12 +251,12 @@ levels_called context n level a w room l = record {
 
 module _ (context : Context) (trees : Trees) (n : ℕ)
     (entered : AllNested context.program trees n) (id : StreamId) (level : ℕ) (again : Again)
-    (again_kept : (m : ℕ) (items : List Val) (run : Run) (out : List ℕ) (w : World) → KeptEnds w (again m items run out w))
+    (again_kept : (m : ℕ) (items : List Val) (run : Run) (out : List ℕ) (w : World) → KeptEnds context.program.host w (again m items run out w))
     (called_in_place : CalledInPlace context n id level again) (called_as_value : CalledAsValue context n id level again) where
   abbrev u : Under
   u = over context.program.host (nests_of context.program.host trees n) again
 
-  nest_ends : (k : Callee) (heard : Bool) (out : List ℕ) (w : World) → KeptEnds w (nests_of context.program.host trees n k heard out w)
+  nest_ends : (k : Callee) (heard : Bool) (out : List ℕ) (w : World) → KeptEnds context.program.host w (nests_of context.program.host trees n k heard out w)
   nest_ends k heard out w = nests_end context.program.host trees n k heard out w
 
   abbrev Deep : Run → Spot → World → Type 0
@@ -284,7 +289,7 @@ module _ (context : Context) (trees : Trees) (n : ℕ)
   deep_later run s w q out d = (d.0, stands_later context.base run s d.1 q out, d.2)
 
   -- what a call comes to, as a value
-  asked_then : (run : Run) (s : Spot) (pc : ℕ) (stack old : List Val) (w world1 : World) (q : Asked) → Asks context.program.host.limit world1 q → Here run s world1 →
+  asked_then : (run : Run) (s : Spot) (pc : ℕ) (stack old : List Val) (w world1 : World) (q : Asked) → Asks context.program.host world1 q → Here run s world1 →
       Follows context (told s) (value_of u run q) (λ v world2. Go context s (pc + 1) (v ∷ stack) world2) → Comes context (told s) (asked context.program (cfg s pc old w) stack q)
   asked_then run s pc stack old w world1 (has v world2) e d h = silent context (told s) _ h
   asked_then run s pc stack old w world1 (refused chain world2) e d h = is_over refl h
@@ -294,7 +299,7 @@ module _ (context : Context) (trees : Trees) (n : ℕ)
       call_as_value context u run c s pc old stack w world2 _ (entered c.callee true (inside true (told s) (captures_of s.bed s.out)) [] world2 (omega (arith, e.0, d.0.nests)) e.1) h (λ x world3 g. g)
 
   -- and in place
-  placed_then : (run : Run) (s : Spot) (pc : ℕ) (stack old : List Val) (w world1 : World) (q : Asked) (D L N : Then) → Fits context.base run s.bed → Asks context.program.host.limit world1 q → Deep run s world1 →
+  placed_then : (run : Run) (s : Spot) (pc : ℕ) (stack old : List Val) (w world1 : World) (q : Asked) (D L N : Then) → Fits context.base run s.bed → Asks context.program.host world1 q → Deep run s world1 →
       Ends context s.bed (in_place_of u (as_at run s) s.out q) D L N → ((q1 : Option TemplateId) (out1 : List ℕ) (world2 : World) → D q1 out1 world2 → Go context (later s q1 out1) (pc + 1) stack world2) →
       Comes context (told s) (asked_in_place context.program context.base (cfg s pc old w) stack q)
   placed_then run s pc stack old w world1 (has v world2) D L N fits e d h g = silent context (told s) _ (g s.parent s.out world2 (so_far_then context s.bed (as_at run s) s.out world2 D L N h))
@@ -307,10 +312,10 @@ module _ (context : Context) (trees : Trees) (n : ℕ)
   unary_then : (op : UnaryOperator) (s : Spot) (pc : ℕ) (v : Val) (stack : List Val) (w : World) → slice_get (context.program.code s.run.stream) pc ≡ Some (unary_code op) →
       Follows context (told s) (bind (tick w) (λ _ world1. applied_unary context.program.host op v world1)) (λ x world1. Go context s (pc + 1) (x ∷ stack) world1) → Go context s pc (v ∷ stack) w
   unary_then unaries.Not s pc v stack w e h =
-      at context i.Not s pc (v ∷ stack) w e (after_then context (told s) (tick w) _ (bind_then context (told s) w (tick w) _ _ _ (tick_gives w) h (λ _ world1 k h1.
+      at context i.Not s pc (v ∷ stack) w e (after_then context (told s) (tick w) _ (bind_then context (told s) w (tick w) _ _ _ (tick_gives _ w) h (λ _ world1 k h1.
       pushes context s pc stack (v ∷ stack) world1 (applied_unary context.program.host unaries.Not v world1) h1)))
   unary_then unaries.Negate s pc v stack w e h =
-      at context i.Neg s pc (v ∷ stack) w e (after_then context (told s) (tick w) _ (bind_then context (told s) w (tick w) _ _ _ (tick_gives w) h (λ _ world1 k h1.
+      at context i.Neg s pc (v ∷ stack) w e (after_then context (told s) (tick w) _ (bind_then context (told s) w (tick w) _ _ _ (tick_gives _ w) h (λ _ world1 k h1.
       pushes context s pc stack (v ∷ stack) world1 (applied_unary context.program.host unaries.Negate v world1) h1)))
 
   -- an instruction that is an operator
@@ -319,7 +324,7 @@ module _ (context : Context) (trees : Trees) (n : ℕ)
       Follows context (told s) (bind (tick w) (λ _ world1. operated context.program.host op a b world1)) (λ y world1. Go context s (pc + 1) (y ∷ stack) world1) → Go context s pc (b ∷ a ∷ stack) w
   operates op x is s pc a b stack w e h =
       at context x s pc (b ∷ a ∷ stack) w e (subst (λ n. Comes context (told s) n) (sym (is (cfg s pc (b ∷ a ∷ stack) w)))
-      (after_then context (told s) (tick w) _ (bind_then context (told s) w (tick w) _ _ _ (tick_gives w) h (λ _ world1 k h1.
+      (after_then context (told s) (tick w) _ (bind_then context (told s) w (tick w) _ _ _ (tick_gives _ w) h (λ _ world1 k h1.
       pushes context s pc stack (b ∷ a ∷ stack) world1 (operated context.program.host op a b world1) h1))))
 
   binary_then : (op : BinaryOperator) (s : Spot) (pc : ℕ) (a b : Val) (stack : List Val) (w : World) → HasAt (context.program.code s.run.stream) pc (binary_code op) →
@@ -333,8 +338,8 @@ module _ (context : Context) (trees : Trees) (n : ℕ)
   binary_then binaries.In s pc a b stack w is h = operates binaries.In i.In (λ c. refl) s pc a b stack w is.0 h
   binary_then binaries.NotIn s pc a b stack w is h =
       let place : pc + 1 + 1 ≡ pc + 2 = omega arith in
-      at context i.In s pc (b ∷ a ∷ stack) w is.0 (after_then context (told s) (tick w) _ (bind_then context (told s) w (tick w) _ _ _ (tick_gives w) h (λ _ world1 k h1.
-      pushes context s pc stack (b ∷ a ∷ stack) world1 (operated context.program.host binaries.In a b world1) (bind_then context (told s) world1 (operated context.program.host binaries.In a b world1) _ _ _ (answered_gives _ world1) h1 (λ v world2 k2 h2.
+      at context i.In s pc (b ∷ a ∷ stack) w is.0 (after_then context (told s) (tick w) _ (bind_then context (told s) w (tick w) _ _ _ (tick_gives _ w) h (λ _ world1 k h1.
+      pushes context s pc stack (b ∷ a ∷ stack) world1 (operated context.program.host binaries.In a b world1) (bind_then context (told s) world1 (operated context.program.host binaries.In a b world1) _ _ _ (operated_gives context.program.host binaries.In a b world1) h1 (λ v world2 k2 h2.
       unary_then unaries.Not s (pc + 1) v stack world2 is.1.0
       (follows_map context (told s) (bind (tick world2) (λ _ world3. applied_unary context.program.host unaries.Not v world3)) _ _ h2 (λ x world3 g. move context s _ _ (x ∷ stack) world3 place g)))))))
   binary_then binaries.Add s pc a b stack w is h = operates binaries.Add i.Add (λ c. refl) s pc a b stack w is.0 h
@@ -356,7 +361,7 @@ module _ (context : Context) (trees : Trees) (n : ℕ)
   dropped_then : (s : Spot) (end to : ℕ) (v y : Val) (stack : List Val) (w : World) → HasAt (context.program.code s.run.stream) end (i.Swap ∷ i.DiscardTop ∷ []) → end + 1 + 1 ≡ to →
       Follows context (told s) (bind (tick w) (λ _ world1. Good v world1)) (λ x world1. Go context s to (x ∷ stack) world1) → Go context s end (v ∷ y ∷ stack) w
   dropped_then s end to v y stack w is place h =
-      at context i.Swap s end (v ∷ y ∷ stack) w is.0 (after_then context (told s) (tick w) _ (bind_then context (told s) w (tick w) _ _ _ (tick_gives w) h (λ _ world1 k g.
+      at context i.Swap s end (v ∷ y ∷ stack) w is.0 (after_then context (told s) (tick w) _ (bind_then context (told s) w (tick w) _ _ _ (tick_gives _ w) h (λ _ world1 k g.
       silent context (told s) _ (at context i.DiscardTop s (end + 1) (y ∷ v ∷ stack) world1 is.1.0 (silent context (told s) _ (move context s _ _ (v ∷ stack) world1 place g))))))
 
   -- Wherever this code stands it pushes this value.
@@ -370,10 +375,10 @@ module _ (context : Context) (trees : Trees) (n : ℕ)
     expr_runs : (e : Expr) (run : Run) (s : Spot) (pc : ℕ) (stack : List Val) (w : World) → Here run s w → HasAt (context.program.code s.run.stream) pc (expr_code pc e) →
         Follows context (told s) (eval u run e w) (λ v world1. Go context s (pc + length (expr_code pc e)) (v ∷ stack) world1) → Go context s pc stack w
     expr_runs (Var x) run s pc stack w d is h =
-        at context (i.Lookup x) s pc stack w is.0 (after_then context (told s) (tick w) _ (bind_then context (told s) w (tick w) _ _ _ (tick_gives w) h (λ _ world1 k h1.
+        at context (i.Lookup x) s pc stack w is.0 (after_then context (told s) (tick w) _ (bind_then context (told s) w (tick w) _ _ _ (tick_gives _ w) h (λ _ world1 k h1.
         pushes context s pc stack stack world1 (looked_up context.program.host x world1) h1)))
     expr_runs (Const v) run s pc stack w d is h =
-        at context (i.LoadConst v) s pc stack w is.0 (after_then context (told s) (tick w) _ (bind_then context (told s) w (tick w) _ _ _ (tick_gives w) h (λ _ world1 k h1.
+        at context (i.LoadConst v) s pc stack w is.0 (after_then context (told s) (tick w) _ (bind_then context (told s) w (tick w) _ _ _ (tick_gives _ w) h (λ _ world1 k h1.
         silent context (told s) _ h1)))
     expr_runs (List' _ es) run s pc stack w d is h =
         let c = exprs_code pc es in
@@ -383,7 +388,7 @@ module _ (context : Context) (trees : Trees) (n : ℕ)
         exprs_run es run s pc stack w d (has_front (context.program.code s.run.stream) pc c _ is)
         (bind_long context (told s) w (count_exprs es) (eval_all u run es w) _ _ _ (all_give u nest_ends again_kept run es w) (all_long u run es w) h (λ vs world1 k l h1.
         at context last s (pc + length c) (onto vs stack) world1 behind.0
-        (after_then context (told s) (tick world1) _ (bind_then context (told s) world1 (tick world1) _ _ _ (tick_gives world1) h1 (λ _ world2 k2 h2.
+        (after_then context (told s) (tick world1) _ (bind_then context (told s) world1 (tick world1) _ _ _ (tick_gives _ world1) h1 (λ _ world2 k2 h2.
         built_then list_of_values s (pc + length c) (count_exprs es) vs stack world2 l (move context s _ _ (list_of_values vs ∷ stack) world2 place h2))))))
     expr_runs (Tuple' _ es) run s pc stack w d is h =
         let c = exprs_code pc es in
@@ -393,7 +398,7 @@ module _ (context : Context) (trees : Trees) (n : ℕ)
         exprs_run es run s pc stack w d (has_front (context.program.code s.run.stream) pc c _ is)
         (bind_long context (told s) w (count_exprs es) (eval_all u run es w) _ _ _ (all_give u nest_ends again_kept run es w) (all_long u run es w) h (λ vs world1 k l h1.
         at context last s (pc + length c) (onto vs stack) world1 behind.0
-        (after_then context (told s) (tick world1) _ (bind_then context (told s) world1 (tick world1) _ _ _ (tick_gives world1) h1 (λ _ world2 k2 h2.
+        (after_then context (told s) (tick world1) _ (bind_then context (told s) world1 (tick world1) _ _ _ (tick_gives _ world1) h1 (λ _ world2 k2 h2.
         built_then list_of_values s (pc + length c) (count_exprs es) vs stack world2 l (move context s _ _ (list_of_values vs ∷ stack) world2 place h2))))))
     expr_runs (Map' _ ps) run s pc stack w d is h =
         let c = pairs_code pc ps in
@@ -404,7 +409,7 @@ module _ (context : Context) (trees : Trees) (n : ℕ)
         pairs_run ps run s pc stack w d (has_front (context.program.code s.run.stream) pc c _ is)
         (bind_long context (told s) w n (eval_pairs u run ps w) _ _ _ (pairs_give u nest_ends again_kept run ps w) (pairs_long u run ps w) h (λ xs world1 k l h1.
         at context last s (pc + length c) (onto (flat xs) stack) world1 behind.0
-        (after_then context (told s) (tick world1) _ (bind_then context (told s) world1 (tick world1) _ _ _ (tick_gives world1) h1 (λ _ world2 k2 h2.
+        (after_then context (told s) (tick world1) _ (bind_then context (told s) world1 (tick world1) _ _ _ (tick_gives _ world1) h1 (λ _ world2 k2 h2.
         built_then (λ vs. map_of_pairs (paired vs)) s (pc + length c) (n + n) (flat xs) stack world2 (flat_long n xs l)
         (subst (λ ys. Go context s (pc + length c + 1) (map_of_pairs ys ∷ stack) world2) (sym (paired_flat xs)) (move context s _ _ (map_of_pairs xs ∷ stack) world2 place h2)))))))
     expr_runs (Call' g _ given _ named) run s pc stack w d is h =
@@ -425,7 +430,7 @@ module _ (context : Context) (trees : Trees) (n : ℕ)
         move context s _ _ (onto ks (onto vs stack)) world2 there
         (subst (λ us. Go context s (pc + length (c ++ kc)) us world2) (onto_both vs ks stack)
         (at context last s (pc + length (c ++ kc)) (onto (vs ++ ks) stack) world2 behind.0
-        (after_then context (told s) (tick world2) _ (bind_then context (told s) world2 (tick world2) _ _ _ (tick_gives world2) h2 (λ _ world3 k3 h3.
+        (after_then context (told s) (tick world2) _ (bind_then context (told s) world2 (tick world2) _ _ _ (tick_gives _ world2) h2 (λ _ world3 k3 h3.
         subst (λ t. Comes context (told s) (on_taken t world3 (λ xs rest. asked context.program (cfg s (pc + length (c ++ kc)) (onto (vs ++ ks) stack) world3) rest (call_named context.program.host g xs world3)))) (sym (taken_all (vs ++ ks) n stack long))
         (asked_then run s (pc + length (c ++ kc)) stack (onto (vs ++ ks) stack) world3 world3 (call_named context.program.host g (vs ++ ks) world3) (named_asks context.program.host g (vs ++ ks) world3) (here_kept run s k3 (here_kept run s k2 (here_kept run s k d)))
         (follows_map context (told s) (value_of u run (call_named context.program.host g (vs ++ ks) world3)) _ _ h3 (λ v world4 g3. move context s _ _ (v ∷ stack) world4 place g3))))))))))))
@@ -450,7 +455,7 @@ module _ (context : Context) (trees : Trees) (n : ℕ)
         (λ s1 pc1 stack1 world1 deep1 is1 h1. expr_runs a run s1 pc1 stack1 world1 deep1 is1 h1) s pc stack w d is h
 
     -- a condition before code that pushes a value, and what stands for that behind it
-    condition_runs : (x : Condition) (run : Run) (code : ℕ → List Instruction) (guarded : World → Res Val) → ((w : World) → Gives w (guarded w)) → Runs run code guarded →
+    condition_runs : (x : Condition) (run : Run) (code : ℕ → List Instruction) (guarded : World → Res Val) → ((w : World) → Gives context.program.host w (guarded w)) → Runs run code guarded →
         Runs run (condition_code x code) (eval_condition u run x guarded)
     condition_runs (condition c e) run code guarded given part s pc stack w d is h =
         let all = context.program.code s.run.stream in
@@ -467,18 +472,18 @@ module _ (context : Context) (trees : Trees) (n : ℕ)
         omega (arith, length-append test (over_body ∷ (body ++ over_other ∷ other)), length-append body (over_other ∷ other)) in
         expr_runs c run s pc stack w d (has_front all pc test (over_body ∷ (body ++ over_other ∷ other)) is)
         (bind_then context (told s) w (eval u run c w) _ _ _ (eval_gives u nest_ends again_kept run c w) h (λ v world1 k1 h1.
-        at context over_body s pc1 (v ∷ stack) world1 behind.0 (after_then context (told s) (tick world1) _ (bind_then context (told s) world1 (tick world1) _ _ _ (tick_gives world1) h1 (λ _ world2 k2 h2.
-        after_then context (told s) (truth context.program.host v world2) _ (bind_then context (told s) world2 (truth context.program.host v world2) _ _ _ (answered_gives _ world2) h2 (λ b world3 k3 h3.
+        at context over_body s pc1 (v ∷ stack) world1 behind.0 (after_then context (told s) (tick world1) _ (bind_then context (told s) world1 (tick world1) _ _ _ (tick_gives _ world1) h1 (λ _ world2 k2 h2.
+        after_then context (told s) (truth context.program.host v world2) _ (bind_then context (told s) world2 (truth context.program.host v world2) _ _ _ (truth_gives context.program.host v world2) h2 (λ b world3 k3 h3.
         let deep3 = here_kept run s k3 (here_kept run s k2 (here_kept run s k1 d)) in
         choose_then context b (bind (guarded world3) (λ x world4. bind (tick world4) (λ _ world5. Good x world5))) (eval u run e world3) _ _ (told s) _ h3
         (λ h4. silent context (told s) _ (part s (pc1 + 1) stack world3 deep3 (has_front all (pc1 + 1) body (over_other ∷ other) behind.1)
         (bind_then context (told s) world3 (guarded world3) _ _ _ (given world3) h4 (λ x world4 k4 h5.
-        at context over_other s pc2 (x ∷ stack) world4 last.0 (after_then context (told s) (tick world4) _ (bind_then context (told s) world4 (tick world4) _ _ _ (tick_gives world4) h5 (λ _ world5 k5 g.
+        at context over_other s pc2 (x ∷ stack) world4 last.0 (after_then context (told s) (tick world4) _ (bind_then context (told s) world4 (tick world4) _ _ _ (tick_gives _ world4) h5 (λ _ world5 k5 g.
         silent context (told s) _ (move context s _ _ (x ∷ stack) world5 place g))))))))
         (λ h4. silent context (told s) _ (expr_runs e run s (pc2 + 1) stack world3 deep3 last.1
         (follows_map context (told s) (eval u run e world3) _ _ h4 (λ y world4 g. move context s _ _ (y ∷ stack) world4 place g)))))))))))
 
-    conditions_run : {m : _} → (cs : Row_of-Condition m) (run : Run) (code : ℕ → List Instruction) (guarded : World → Res Val) → ((w : World) → Gives w (guarded w)) → Runs run code guarded →
+    conditions_run : {m : _} → (cs : Row_of-Condition m) (run : Run) (code : ℕ → List Instruction) (guarded : World → Res Val) → ((w : World) → Gives context.program.host w (guarded w)) → Runs run code guarded →
         Runs run (conditions_code cs code) (eval_conditions u run cs guarded)
     conditions_run no_condition run code guarded given part s pc stack w d is h = part s pc stack w d is h
     conditions_run (with_condition c more) run code guarded given part s pc stack w d is h =
@@ -546,7 +551,7 @@ module _ (context : Context) (trees : Trees) (n : ℕ)
         Follows context (told s) (eval_keyword u run x w) (λ y world1. Go context s (pc + length (keyword_code pc x)) (y.1 ∷ y.0 ∷ stack) world1) → Go context s pc stack w
     keyword_runs (keyword x a) run s pc stack w d is h =
         let place : pc + 1 + length (expr_code (pc + 1) a) ≡ pc + suc (length (expr_code (pc + 1) a)) = omega arith in
-        at context (i.LoadConst (text x false)) s pc stack w is.0 (after_then context (told s) (tick w) _ (bind_then context (told s) w (tick w) _ _ _ (tick_gives w) h (λ _ world1 k h1.
+        at context (i.LoadConst (text x false)) s pc stack w is.0 (after_then context (told s) (tick w) _ (bind_then context (told s) w (tick w) _ _ _ (tick_gives _ w) h (λ _ world1 k h1.
         silent context (told s) _
         (expr_runs a run s (pc + 1) (text x false ∷ stack) world1 (here_kept run s k d) is.1
         (bind_then context (told s) world1 (eval u run a world1) _ _ _ (eval_gives u nest_ends again_kept run a world1) h1 (λ v world2 k2 g.
@@ -586,7 +591,7 @@ module _ (context : Context) (trees : Trees) (n : ℕ)
         let xs = y ∷ ys in
         let long : length xs ≡ n = omega (arith, l) in
         at context last s (pc1 + length rest) (onto (flat xs) stack) world2 behind.0
-        (after_then context (told s) (tick world2) _ (bind_then context (told s) world2 (tick world2) _ _ _ (tick_gives world2) h2 (λ _ world3 k3 h3.
+        (after_then context (told s) (tick world2) _ (bind_then context (told s) world2 (tick world2) _ _ _ (tick_gives _ world2) h2 (λ _ world3 k3 h3.
         built_then (λ vs. keyword_map (paired vs)) s (pc1 + length rest) (n + n) (flat xs) stack world3 (flat_long n xs long)
         (subst (λ zs. Go context s (pc1 + length rest + 1) (keyword_map zs ∷ stack) world3) (sym (paired_flat xs)) (move context s _ _ (keyword_map xs ∷ stack) world3 place h3)))))))))
 
@@ -594,7 +599,7 @@ module _ (context : Context) (trees : Trees) (n : ℕ)
     step_runs : (x : Step) (run : Run) (s : Spot) (pc : ℕ) (v : Val) (stack : List Val) (w : World) → Here run s w → HasAt (context.program.code s.run.stream) pc (step_code pc x) →
         Follows context (told s) (eval_step u run x v w) (λ y world1. Go context s (pc + length (step_code pc x)) (y ∷ stack) world1) → Go context s pc (v ∷ stack) w
     step_runs (Attribute x) run s pc v stack w d is h =
-        at context (i.GetAttr x) s pc (v ∷ stack) w is.0 (after_then context (told s) (tick w) _ (bind_then context (told s) w (tick w) _ _ _ (tick_gives w) h (λ _ world1 k h1.
+        at context (i.GetAttr x) s pc (v ∷ stack) w is.0 (after_then context (told s) (tick w) _ (bind_then context (told s) w (tick w) _ _ _ (tick_gives _ w) h (λ _ world1 k h1.
         pushes context s pc stack (v ∷ stack) world1 (attribute context.program.host v x world1) h1)))
     step_runs (Method' x _ given _ named) run s pc v stack w d is h =
         let all = context.program.code s.run.stream in
@@ -614,7 +619,7 @@ module _ (context : Context) (trees : Trees) (n : ℕ)
         move context s _ _ (onto ks (onto vs (v ∷ stack))) world2 there
         (subst (λ us. Go context s (pc + length (c ++ kc)) us world2) (onto_both vs ks (v ∷ stack))
         (at context last s (pc + length (c ++ kc)) (onto (v ∷ (vs ++ ks)) stack) world2 behind.0
-        (after_then context (told s) (tick world2) _ (bind_then context (told s) world2 (tick world2) _ _ _ (tick_gives world2) h2 (λ _ world3 k3 h3.
+        (after_then context (told s) (tick world2) _ (bind_then context (told s) world2 (tick world2) _ _ _ (tick_gives _ world2) h2 (λ _ world3 k3 h3.
         subst (λ t. Comes context (told s) (on_taken t world3 (λ xs rest. asked context.program (cfg s (pc + length (c ++ kc)) (onto (v ∷ (vs ++ ks)) stack) world3) rest (call_first context.program.host x xs world3)))) (sym (taken_all (v ∷ (vs ++ ks)) n stack long))
         (asked_then run s (pc + length (c ++ kc)) stack (onto (v ∷ (vs ++ ks)) stack) world3 world3 (call_method context.program.host x v (vs ++ ks) world3) (method_asks context.program.host x v (vs ++ ks) world3) (here_kept run s k3 (here_kept run s k2 (here_kept run s k d)))
         (follows_map context (told s) (value_of u run (call_method context.program.host x v (vs ++ ks) world3)) _ _ h3 (λ v1 world4 g3. move context s _ _ (v1 ∷ stack) world4 place g3))))))))))))
@@ -624,7 +629,7 @@ module _ (context : Context) (trees : Trees) (n : ℕ)
         let place : pc + length c + 1 ≡ pc + length (c ++ i.GetItem ∷ []) = omega (arith, length-append c (i.GetItem ∷ [])) in
         expr_runs a run s pc (v ∷ stack) w d (has_front (context.program.code s.run.stream) pc c _ is)
         (bind_then context (told s) w (eval u run a w) _ _ _ (eval_gives u nest_ends again_kept run a w) h (λ k world1 e h1.
-        at context i.GetItem s (pc + length c) (k ∷ v ∷ stack) world1 behind.0 (after_then context (told s) (tick world1) _ (bind_then context (told s) world1 (tick world1) _ _ _ (tick_gives world1) h1 (λ _ world2 e2 h2.
+        at context i.GetItem s (pc + length c) (k ∷ v ∷ stack) world1 behind.0 (after_then context (told s) (tick world1) _ (bind_then context (told s) world1 (tick world1) _ _ _ (tick_gives _ world1) h1 (λ _ world2 e2 h2.
         pushes context s (pc + length c) stack (k ∷ v ∷ stack) world2 (item_at context.program.host v k world2)
         (follows_map context (told s) (item_at context.program.host v k world2) _ _ h2 (λ x world3 g. move context s _ _ (x ∷ stack) world3 place g)))))))
     step_runs (slice a b c) run s pc v stack w d is h =
@@ -645,7 +650,7 @@ module _ (context : Context) (trees : Trees) (n : ℕ)
         (bind_then context (told s) world1 (eval u run b world1) _ _ _ (eval_gives u nest_ends again_kept run b world1) h1 (λ y world2 k2 h2.
         expr_runs c run s pc2 (y ∷ x ∷ v ∷ stack) world2 (here_kept run s k2 (here_kept run s k1 d)) (has_front all pc2 cc (i.Slice ∷ []) from_c)
         (bind_then context (told s) world2 (eval u run c world2) _ _ _ (eval_gives u nest_ends again_kept run c world2) h2 (λ z world3 k3 h3.
-        at context i.Slice s (pc2 + length cc) (z ∷ y ∷ x ∷ v ∷ stack) world3 last.0 (after_then context (told s) (tick world3) _ (bind_then context (told s) world3 (tick world3) _ _ _ (tick_gives world3) h3 (λ _ world4 k4 h4.
+        at context i.Slice s (pc2 + length cc) (z ∷ y ∷ x ∷ v ∷ stack) world3 last.0 (after_then context (told s) (tick world3) _ (bind_then context (told s) world3 (tick world3) _ _ _ (tick_gives _ world3) h3 (λ _ world4 k4 h4.
         pushes context s (pc2 + length cc) stack (z ∷ y ∷ x ∷ v ∷ stack) world4 (slice_of context.program.host v x y z world4)
         (follows_map context (told s) (slice_of context.program.host v x y z world4) _ _ h4 (λ q world5 g. move context s _ _ (q ∷ stack) world5 place g)))))))))))
     step_runs (binary op a) run s pc v stack w d is h =
@@ -679,8 +684,8 @@ module _ (context : Context) (trees : Trees) (n : ℕ)
         let c = expr_code (pc + 1) a in
         let place : pc + 1 + length c ≡ pc + suc (length c) = omega arith in
         at context (i.JumpIfFalseOrPop (pc + 1 + length c)) s pc (v ∷ stack) w is.0
-        (after_then context (told s) (tick w) _ (bind_then context (told s) w (tick w) _ _ _ (tick_gives w) h (λ _ world1 k h1.
-        after_then context (told s) (truth context.program.host v world1) _ (bind_then context (told s) world1 (truth context.program.host v world1) _ _ _ (answered_gives _ world1) h1 (λ b world2 k2 h2.
+        (after_then context (told s) (tick w) _ (bind_then context (told s) w (tick w) _ _ _ (tick_gives _ w) h (λ _ world1 k h1.
+        after_then context (told s) (truth context.program.host v world1) _ (bind_then context (told s) world1 (truth context.program.host v world1) _ _ _ (truth_gives context.program.host v world1) h1 (λ b world2 k2 h2.
         choose_then context b (eval u run a world2) (Good v world2) _ _ (told s) _ h2
         (λ h3. silent context (told s) _ (expr_runs a run s (pc + 1) stack world2 (here_kept run s k2 (here_kept run s k d)) is.1
         (follows_map context (told s) (eval u run a world2) _ _ h3 (λ y world3 g. move context s _ _ (y ∷ stack) world3 place g))))
@@ -689,8 +694,8 @@ module _ (context : Context) (trees : Trees) (n : ℕ)
         let c = expr_code (pc + 1) a in
         let place : pc + 1 + length c ≡ pc + suc (length c) = omega arith in
         at context (i.JumpIfTrueOrPop (pc + 1 + length c)) s pc (v ∷ stack) w is.0
-        (after_then context (told s) (tick w) _ (bind_then context (told s) w (tick w) _ _ _ (tick_gives w) h (λ _ world1 k h1.
-        after_then context (told s) (truth context.program.host v world1) _ (bind_then context (told s) world1 (truth context.program.host v world1) _ _ _ (answered_gives _ world1) h1 (λ b world2 k2 h2.
+        (after_then context (told s) (tick w) _ (bind_then context (told s) w (tick w) _ _ _ (tick_gives _ w) h (λ _ world1 k h1.
+        after_then context (told s) (truth context.program.host v world1) _ (bind_then context (told s) world1 (truth context.program.host v world1) _ _ _ (truth_gives context.program.host v world1) h1 (λ b world2 k2 h2.
         choose_then context b (Good v world2) (eval u run a world2) _ _ (told s) _ h2
         (λ g. silent context (told s) _ (move context s _ _ (v ∷ stack) world2 place g))
         (λ h3. silent context (told s) _ (expr_runs a run s (pc + 1) stack world2 (here_kept run s k2 (here_kept run s k d)) is.1
@@ -703,10 +708,10 @@ module _ (context : Context) (trees : Trees) (n : ℕ)
         Follows context (told s) (eval_links u run op cs x y w) (λ v world1. Go context s to (v ∷ stack) world1) → Go context s pc (y ∷ x ∷ stack) w
     links_run op no_comparison run s end to jump pc x y stack w d is place over_drop drop over_end h =
         binary_then op s pc x y stack w is
-        (follows_bind context (told s) (tick w) _ _ (bind_then context (told s) w (tick w) _ _ _ (tick_gives w) h (λ _ world1 k h1.
-        bind_then context (told s) world1 (applied context.program.host op x y world1) _ _ _ (binary_gives u nest_ends again_kept op x y world1) h1 (λ v world2 k2 h2.
+        (follows_bind context (told s) (tick w) _ _ (bind_then context (told s) w (tick w) _ _ _ (tick_gives _ w) h (λ _ world1 k h1.
+        bind_then context (told s) world1 (applied context.program.host op x y world1) _ _ _ (binary_gives context.program.host op x y world1) h1 (λ v world2 k2 h2.
         move context s _ _ (v ∷ stack) world2 place
-        (at context (i.Jump to) s jump (v ∷ stack) world2 over_drop (after_then context (told s) (tick world2) _ (bind_then context (told s) world2 (tick world2) _ _ _ (tick_gives world2) h2 (λ _ world3 k3 g.
+        (at context (i.Jump to) s jump (v ∷ stack) world2 over_drop (after_then context (told s) (tick world2) _ (bind_then context (told s) world2 (tick world2) _ _ _ (tick_gives _ world2) h2 (λ _ world3 k3 g.
         silent context (told s) _ g))))))))
     links_run op (with_comparison (comparison op1 a) more) run s end to jump pc x y stack w d is place over_drop drop over_end h =
         let all = context.program.code s.run.stream in
@@ -715,11 +720,11 @@ module _ (context : Context) (trees : Trees) (n : ℕ)
         let here : pc + 1 + 1 ≡ pc + 2 = omega arith in
         let right = subst (λ n. HasAt all n (c ++ rest)) here is.1.1 in
         let last : pc + 2 + length c + length rest ≡ jump = omega (arith, place, length-append c rest) in
-        at context (i.CompareAndPreserve op) s pc (y ∷ x ∷ stack) w is.0 (after_then context (told s) (tick w) _ (bind_then context (told s) w (tick w) _ _ _ (tick_gives w) h (λ _ world1 k1 h1.
-        after_then context (told s) (operated context.program.host op x y world1) _ (bind_then context (told s) world1 (operated context.program.host op x y world1) _ _ _ (answered_gives _ world1) h1 (λ v world2 k2 h2.
+        at context (i.CompareAndPreserve op) s pc (y ∷ x ∷ stack) w is.0 (after_then context (told s) (tick w) _ (bind_then context (told s) w (tick w) _ _ _ (tick_gives _ w) h (λ _ world1 k1 h1.
+        after_then context (told s) (operated context.program.host op x y world1) _ (bind_then context (told s) world1 (operated context.program.host op x y world1) _ _ _ (operated_gives context.program.host op x y world1) h1 (λ v world2 k2 h2.
         silent context (told s) _ (at context (i.JumpIfFalseOrPop end) s (pc + 1) (v ∷ y ∷ stack) world2 is.1.0
-        (after_then context (told s) (tick world2) _ (bind_then context (told s) world2 (tick world2) _ _ _ (tick_gives world2) h2 (λ _ world3 k3 h3.
-        after_then context (told s) (truth context.program.host v world3) _ (bind_then context (told s) world3 (truth context.program.host v world3) _ _ _ (answered_gives _ world3) h3 (λ b world4 k4 h4.
+        (after_then context (told s) (tick world2) _ (bind_then context (told s) world2 (tick world2) _ _ _ (tick_gives _ world2) h2 (λ _ world3 k3 h3.
+        after_then context (told s) (truth context.program.host v world3) _ (bind_then context (told s) world3 (truth context.program.host v world3) _ _ _ (truth_gives context.program.host v world3) h3 (λ b world4 k4 h4.
         let deep4 = here_kept run s k4 (here_kept run s k3 (here_kept run s k2 (here_kept run s k1 d))) in
         choose_then context b (bind (eval u run a world4) (λ z world5. eval_links u run op1 more y z world5)) (bind (tick world4) (λ _ world5. Good v world5)) _ _ (told s) _ h4
         (λ h5. silent context (told s) _ (move context s _ _ (y ∷ stack) world4 here (expr_runs a run s (pc + 2) (y ∷ stack) world4 deep4 (has_front all (pc + 2) c rest right)
@@ -744,14 +749,14 @@ module _ (context : Context) (trees : Trees) (n : ℕ)
     target_runs : (t : Target) (run : Run) (s : Spot) (pc : ℕ) (v : Val) (stack : List Val) (w : World) → Here run s w → HasAt (context.program.code s.run.stream) pc (target_code pc t) →
         Follows context (told s) (assign u run t v w) (λ _ world1. Go context s (pc + length (target_code pc t)) stack world1) → Go context s pc (v ∷ stack) w
     target_runs (To x) run s pc v stack w d is h =
-        at context (i.StoreLocal x) s pc (v ∷ stack) w is.0 (after_then context (told s) (tick w) _ (bind_then context (told s) w (tick w) _ _ _ (tick_gives w) h (λ _ world1 k h1.
+        at context (i.StoreLocal x) s pc (v ∷ stack) w is.0 (after_then context (told s) (tick w) _ (bind_then context (told s) w (tick w) _ _ _ (tick_gives _ w) h (λ _ world1 k h1.
         silent context (told s) _ h1)))
     target_runs (Items _ ts) run s pc v stack w d is h =
         let n = count_targets ts in
         let c = targets_code (pc + 1) ts in
         let place : pc + 1 + length c ≡ pc + suc (length c) = omega arith in
-        at context (i.UnpackList n) s pc (v ∷ stack) w is.0 (after_then context (told s) (tick w) _ (bind_then context (told s) w (tick w) _ _ _ (tick_gives w) h (λ _ world1 k h1.
-        after_then context (told s) (items_of n v world1) _ (bind_long context (told s) world1 n (items_of n v world1) _ _ _ (answered_gives _ world1) (items_long n v world1) h1 (λ vs world2 k2 l h2.
+        at context (i.UnpackList n) s pc (v ∷ stack) w is.0 (after_then context (told s) (tick w) _ (bind_then context (told s) w (tick w) _ _ _ (tick_gives _ w) h (λ _ world1 k h1.
+        after_then context (told s) (items_of n v world1) _ (bind_long context (told s) world1 n (items_of n v world1) _ _ _ (unpacked_gives _ n v world1) (items_long n v world1) h1 (λ vs world2 k2 l h2.
         silent context (told s) _ (targets_run ts run s (pc + 1) vs stack world2 l (here_kept run s k2 (here_kept run s k d)) is.1
         (follows_map context (told s) (assign_all u run ts vs world2) _ _ h2 (λ _ world3 g. move context s _ _ stack world3 place g))))))))
     target_runs (Member e x) run s pc v stack w d is h =
@@ -761,7 +766,7 @@ module _ (context : Context) (trees : Trees) (n : ℕ)
         let place : pc + length c + 1 ≡ pc + length (c ++ last) = omega (arith, length-append c last) in
         expr_runs e run s pc (v ∷ stack) w d (has_front (context.program.code s.run.stream) pc c last is)
         (bind_then context (told s) w (eval u run e w) _ _ _ (eval_gives u nest_ends again_kept run e w) h (λ o world1 k h1.
-        at context (i.SetAttr x) s (pc + length c) (o ∷ v ∷ stack) world1 behind.0 (after_then context (told s) (tick world1) _ (bind_then context (told s) world1 (tick world1) _ _ _ (tick_gives world1) h1 (λ _ world2 k2 h2.
+        at context (i.SetAttr x) s (pc + length c) (o ∷ v ∷ stack) world1 behind.0 (after_then context (told s) (tick world1) _ (bind_then context (told s) world1 (tick world1) _ _ _ (tick_gives _ world1) h1 (λ _ world2 k2 h2.
         after_then context (told s) (set_member x v o world2) _ (follows_map context (told s) (set_member x v o world2) _ _ h2 (λ _ world3 g.
         silent context (told s) _ (move context s _ _ stack world3 place g))))))))
 
@@ -830,8 +835,8 @@ module _ (context : Context) (trees : Trees) (n : ℕ)
   emit_then : (run : Run) (s : Spot) (pc : ℕ) (v : Val) (stack : List Val) (w : World) (D L N : Then) → Stands context.base run s → slice_get (context.program.code s.run.stream) pc ≡ Some i.Emit →
       Ends context s.bed (emit u (as_at run s) s.out v w) D L N → ((out1 : List ℕ) (world1 : World) → D s.parent out1 world1 → Go context (later s s.parent out1) (pc + 1) stack world1) → Go context s pc (v ∷ stack) w
   emit_then run s pc v stack w D L N fits e h g =
-      at context i.Emit s pc (v ∷ stack) w e (after_then context (told s) (tick w) _ (use_then context s.bed w (tick w) (as_at run s) s.out _ D L N _ (tick_gives w) h (λ _ world1 k h1.
-      after_then context (told s) (emitted context.program.host v world1) _ (use_then context s.bed world1 (emitted context.program.host v world1) (as_at run s) s.out _ D L N _ (answered_gives _ world1) h1 (λ t world2 k2 h2.
+      at context i.Emit s pc (v ∷ stack) w e (after_then context (told s) (tick w) _ (use_then context s.bed w (tick w) (as_at run s) s.out _ D L N _ (tick_gives _ w) h (λ _ world1 k h1.
+      after_then context (told s) (emitted context.program.host v world1) _ (use_then context s.bed world1 (emitted context.program.host v world1) (as_at run s) s.out _ D L N _ (emitted_gives context.program.host v world1) h1 (λ t world2 k2 h2.
       writes_then context (as_at run s) t s (pc + 1) stack world2 refl fits.2 (g (say (as_at run s) t s.out) world2 (so_far_then context s.bed (as_at run s) (say (as_at run s) t s.out) world2 D L N h2)))))))
 
   -- a block's tag: where it is heard the block is run in place, and else nothing is
@@ -839,7 +844,7 @@ module _ (context : Context) (trees : Trees) (n : ℕ)
       Ends context s.bed (use_it (tick w) (as_at run s) s.out (λ _ world1. block_tag u (as_at run s) b s.out world1)) D L N →
       ((q1 : Option TemplateId) (out1 : List ℕ) (world1 : World) → D q1 out1 world1 → Go context (later s q1 out1) (pc + 1) stack world1) → Go context s pc stack w
   tag_then run s pc b stack w D L N fits d e h g =
-      at context (i.CallBlock b) s pc stack w e (after_then context (told s) (tick w) _ (use_then context s.bed w (tick w) (as_at run s) s.out _ D L N _ (tick_gives w) h (λ _ world1 k h1.
+      at context (i.CallBlock b) s pc stack w e (after_then context (told s) (tick w) _ (use_then context s.bed w (tick w) (as_at run s) s.out _ D L N _ (tick_gives _ w) h (λ _ world1 k h1.
       subst (λ x. Comes context (told s) (choose (none_waits s.parent && x) (λ _. asked_in_place context.program context.base (cfg s pc stack world1) stack (enter_block context.program.host b world1)) (λ _. goes stack world1 (cfg s pc stack world1))))
       (sym (audible_is context.base (as_at run s) s.run s.parent s.bed s.out pc stack world1 refl fits.2))
       (choose_ends context (none_waits s.parent && heard_here (as_at run s)) (in_place_of u (as_at run s) s.out (enter_block context.program.host b world1)) (so_far (as_at run s) s.out world1) _ _ (told s) s.bed D L N h1
@@ -884,7 +889,7 @@ module _ (context : Context) (trees : Trees) (n : ℕ)
       Jumps to (a_capture ∷ os) (record s { bed = captured_in s.bed s.out; out = [] }) stack w (Dropped context s.bed s.out L)
   jumps_capture to os s stack w L stands j q x v pc h is l =
       at context i.EndCapture (later (record s { bed = captured_in s.bed s.out; out = [] }) q x) pc stack v is.0 (after_then context (told s) (tick v) _
-      (follows_map_kept context (told s) v (tick v) _ _ (tick_gives v) l (λ _ world1 k1 left_first.
+      (follows_map_kept context (told s) v (tick v) _ _ (tick_gives _ v) l (λ _ world1 k1 left_first.
       ended_then s q x pc stack world1 stands
       (at context i.DiscardTop (later s q s.out) (pc + 1) (captured_text x world1 ∷ stack) world1 is.1.0
       (silent context (told s) _ (j q s.out world1 (pc + 1 + 1) (kept_then h k1) is.1.1 left_first))))))
@@ -935,8 +940,8 @@ module _ (context : Context) (trees : Trees) (n : ℕ)
   abbrev turn_of : {m : _} → Target → ℕ → Row_of-Stmt m → Val → Run → List ℕ → World → Outcome
   turn_of t loops body v run out w = use_it (assign u run t v w) run out (λ _ world1. exec_all u loops body run out world1)
 
-  turn_ends : {m : _} → (t : Target) (loops : ℕ) (body : Row_of-Stmt m) (v : Val) (run : Run) (out : List ℕ) (w : World) → KeptEnds w (turn_of t loops body v run out w)
-  turn_ends t loops body v run out w = ends_use w (assign u run t v w) run out _ (assign_gives u nest_ends again_kept run t v w) (λ _ world1. execs_end u nest_ends again_kept loops body run out world1)
+  turn_ends : {m : _} → (t : Target) (loops : ℕ) (body : Row_of-Stmt m) (v : Val) (run : Run) (out : List ℕ) (w : World) → KeptEnds context.program.host w (turn_of t loops body v run out w)
+  turn_ends t loops body v run out w = ends_use _ w (assign u run t v w) run out _ (assign_gives u nest_ends again_kept run t v w) (λ _ world1. execs_end u nest_ends again_kept loops body run out world1)
 
   -- a loop's instructions, where its jump back ends them
   has_loop : (all : List Instruction) (pc end : ℕ) (tc bc oc : List Instruction) → HasAt all (pc + 1) (i.Iterate end ∷ (tc ++ (bc ++ i.Jump (pc + 1) ∷ oc))) → HasAt all (pc + 1) (i.Iterate end ∷ (tc ++ (bc ++ i.Jump (pc + 1) ∷ [])))
@@ -959,7 +964,7 @@ module _ (context : Context) (trees : Trees) (n : ℕ)
       HasAt (context.program.code s.run.stream) again (i.Iterate end ∷ (target_code (again + 1) t ++ (statements_code (record { again = again; behind = end; opened = [] }) (again + 1 + length (target_code (again + 1) t)) body ++ i.Jump again ∷ []))) →
       loops_before (again + 1 + length (target_code (again + 1) t)) (context.program.code s.run.stream) ≡ loops → Rounded o s stack items w D end → Ends context s.bed (rounds (turn_of t loops body) vs (as_at run s) s.out x) D L N → Go context (looped o s) again stack x
   rounds_run o t loops body again end part items [] run s stack w x l D L N fits d k e left is nth over_it h =
-      at context (i.Iterate end) (looped o s) again stack x is.0 (after_then context (told s) (tick x) _ (use_then context s.bed x (tick x) (as_at run s) s.out _ D L N _ (tick_gives x) h (λ _ world1 k1 h1.
+      at context (i.Iterate end) (looped o s) again stack x is.0 (after_then context (told s) (tick x) _ (use_then context s.bed x (tick x) (as_at run s) s.out _ D L N _ (tick_gives _ x) h (λ _ world1 k1 h1.
       let kept = kept_then k k1 in
       let record1 = kept_record k1 (length w.loops) l e in
       subst (λ n. Comes context (told s) n) (sym (iterate_is o (for_flags false) s s.parent s.out again end stack w world1 l None kept record1 (no_item l items left)))
@@ -973,7 +978,7 @@ module _ (context : Context) (trees : Trees) (n : ℕ)
       let bc = statements_code inner start body in
       let from_body = has_behind all (again + 1) tc (bc ++ i.Jump again ∷ []) is.1 in
       let last = has_behind all start bc (i.Jump again ∷ []) from_body in
-      at context (i.Iterate end) (looped o s) again stack x is.0 (after_then context (told s) (tick x) _ (use_then context s.bed x (tick x) (as_at run s) s.out _ D L N _ (tick_gives x) h (λ _ world1 k1 h1.
+      at context (i.Iterate end) (looped o s) again stack x is.0 (after_then context (told s) (tick x) _ (use_then context s.bed x (tick x) (as_at run s) s.out _ D L N _ (tick_gives _ x) h (λ _ world1 k1 h1.
       let kept = kept_then k k1 in
       let record1 = kept_record k1 (length w.loops) l e in
       let y = cleared (next_turn world1) in
@@ -987,13 +992,13 @@ module _ (context : Context) (trees : Trees) (n : ℕ)
       let goes_on : (q : Option TemplateId) (out1 : List ℕ) (z : World) (pc : ℕ) → Kept y z → slice_get all pc ≡ Some (i.Jump again) → DoneThen q out1 z → Go context (later (looped o s) q out1) pc stack z =
       λ q out1 z pc kz is1 g.
       at context (i.Jump again) (later (looped o s) q out1) pc stack z is1 (after_then context (told_by s.bed out1) (tick z) _
-      (use_then context s.bed z (tick z) (record run { parent = q }) out1 _ D L N _ (tick_gives z) g (λ _ z1 kz1 g1.
+      (use_then context s.bed z (tick z) (record run { parent = q }) out1 _ D L N _ (tick_gives _ z) g (λ _ z1 kz1 g1.
       silent context (told_by s.bed out1) _
       (rounds_run o t loops body again end part items vs run (later s q out1) stack w z1 (turned l) D L N (stands_later context.base run s fits q out1) (deep_later run s (in_loop_of (for_flags false) w) q out1 d) (kept_then kept_y (kept_then kz kz1)) (kept_record (kept_then kz kz1) (length w.loops) (turned l) record_y) left_y is nth over_it g1)))) in
       let leaves : Jumps end [] (looped o s) stack y LeaveThen =
       λ q out1 z pc kz is1 g.
       at context (i.Jump end) (later (looped o s) q out1) pc stack z is1.0 (after_then context (told_by s.bed out1) (tick z) _
-      (use_then context s.bed z (tick z) (record run { parent = q }) out1 _ D L N _ (tick_gives z) g (λ _ z1 kz1 g1.
+      (use_then context s.bed z (tick z) (record run { parent = q }) out1 _ D L N _ (tick_gives _ z) g (λ _ z1 kz1 g1.
       silent context (told_by s.bed out1) _
       (over_it q out1 z1 (turned l) (kept_then kept_y (kept_then kz kz1)) (kept_record (kept_then kz kz1) (length w.loops) (turned l) record_y) left_y.same (so_far_then context s.bed (record run { parent = q }) out1 (pop z1) D L N g1))))) in
       let nexts : Jumps again [] (looped o s) stack y DoneThen = λ q out1 z pc kz is1 g. goes_on q out1 z pc kz is1.0 g in
@@ -1026,7 +1031,7 @@ module _ (context : Context) (trees : Trees) (n : ℕ)
       let here : again + 1 + 1 + length tc + length qc ≡ end = sym ee in
       let tail = subst (λ m. HasAt all m (i.JumpIfFalse (end + 5) ∷ i.Swap ∷ i.LoadConst (number (pos 1)) ∷ i.Add ∷ i.Jump again ∷ i.DiscardTop ∷ i.Jump again ∷ i.PopLoopFrame ∷ i.BuildList None ∷ [])) here last in
       let there : end + 7 ≡ end + 1 + 1 + 1 + 1 + 1 + 1 + 1 = omega arith in
-      at context (i.Iterate (end + 7)) (looped None s) again (number (pos n) ∷ below) x is.0 (after_then context (told s) (tick x) _ (bind_then context (told s) x (tick x) _ _ _ (tick_gives x) h (λ _ world1 k1 h1.
+      at context (i.Iterate (end + 7)) (looped None s) again (number (pos n) ∷ below) x is.0 (after_then context (told s) (tick x) _ (bind_then context (told s) x (tick x) _ _ _ (tick_gives _ x) h (λ _ world1 k1 h1.
       let all_kept = kept_then k k1 in
       let record1 = kept_record k1 (length w.loops) l e in
       subst (λ a. Comes context (told s) a) (sym (iterate_is None filter_flags s s.parent s.out again (end + 7) (number (pos n) ∷ below) w world1 l None all_kept record1 (no_item l items left)))
@@ -1043,7 +1048,7 @@ module _ (context : Context) (trees : Trees) (n : ℕ)
       let count = number (pos n) in
       let deep = here_within run s (loop_scope (mark_behind filter_flags w)) w room d in
       let q = looped None s in
-      at context (i.Iterate (end + 7)) q again (count ∷ below) x is.0 (after_then context (told s) (tick x) _ (bind_then context (told s) x (tick x) _ _ _ (tick_gives x) h (λ _ world1 k1 h1.
+      at context (i.Iterate (end + 7)) q again (count ∷ below) x is.0 (after_then context (told s) (tick x) _ (bind_then context (told s) x (tick x) _ _ _ (tick_gives _ x) h (λ _ world1 k1 h1.
       let all_kept = kept_then k k1 in
       let record1 = kept_record k1 (length w.loops) l e in
       let y = cleared (next_turn world1) in
@@ -1060,28 +1065,28 @@ module _ (context : Context) (trees : Trees) (n : ℕ)
       (expr_runs c run q (again + 1 + 1 + length tc) (v ∷ count ∷ below) world2 (here_kept run s (kept_then kept_y k2) deep) (subst (λ a. HasAt all (again + 1 + 1 + length tc) a) ec (has_front all (again + 1 + 1 + length tc) qc _ from_test))
       (follows_map_kept context (told s) world2 (eval u run c world2) _ _ (eval_gives u nest_ends again_kept run c world2) h2 (λ b world3 k3 h3.
       move context q _ _ (b ∷ v ∷ count ∷ below) world3 (ap (λ a. again + 1 + 1 + length tc + length a) (sym ec) ∙ here)
-      (at context (i.JumpIfFalse (end + 5)) q end (b ∷ v ∷ count ∷ below) world3 tail.0 (after_then context (told s) (tick world3) _ (bind_then context (told s) world3 (tick world3) _ _ _ (tick_gives world3) h3 (λ _ world4 k4 h4.
-      after_then context (told s) (truth context.program.host b world4) _ (bind_then context (told s) world4 (truth context.program.host b world4) _ _ _ (answered_gives _ world4) h4 (λ yes world5 k5 h5.
+      (at context (i.JumpIfFalse (end + 5)) q end (b ∷ v ∷ count ∷ below) world3 tail.0 (after_then context (told s) (tick world3) _ (bind_then context (told s) world3 (tick world3) _ _ _ (tick_gives _ world3) h3 (λ _ world4 k4 h4.
+      after_then context (told s) (truth context.program.host b world4) _ (bind_then context (told s) world4 (truth context.program.host b world4) _ _ _ (truth_gives context.program.host b world4) h4 (λ yes world5 k5 h5.
       let kept5 = kept_then kept_y (kept_then k2 (kept_then k3 (kept_then k4 k5))) in
       let record5 : (z : World) → Kept world5 z → slice_get (shapes z.loops) (length w.loops) ≡ Some (turned l) = λ z kz. kept_record (kept_then k2 (kept_then k3 (kept_then k4 (kept_then k5 kz)))) (length w.loops) (turned l) record_y in
       choose_then context yes _ _ _ _ (told s) _ h5
       (λ h6. silent context (told s) _
-      (at context i.Swap q (end + 1) (v ∷ count ∷ below) world5 tail.1.0 (after_then context (told s) (tick world5) _ (bind_then context (told s) world5 (tick world5) _ _ _ (tick_gives world5)
-      (follows_map_kept context (told s) world5 (one_counted n world5) _ (λ _ z. Kept world5 z × Follows context (told s) (bind (tick z) (λ _ z1. bind (kept context.program.host (test_of run t c) (n + 1) vs z1) (λ us z2. Good (v ∷ us) z2))) _) (one_counted_gives u nest_ends again_kept n world5)
+      (at context i.Swap q (end + 1) (v ∷ count ∷ below) world5 tail.1.0 (after_then context (told s) (tick world5) _ (bind_then context (told s) world5 (tick world5) _ _ _ (tick_gives _ world5)
+      (follows_map_kept context (told s) world5 (one_counted n world5) _ (λ _ z. Kept world5 z × Follows context (told s) (bind (tick z) (λ _ z1. bind (kept context.program.host (test_of run t c) (n + 1) vs z1) (λ us z2. Good (v ∷ us) z2))) _) (one_counted_gives _ n world5)
       (bound_follows context (told s) (one_counted n world5) _ _ h6) (λ _ z kz hz. (kz, hz))) (λ _ world6 k6 h7.
       silent context (told s) _
-      (at context (i.LoadConst (number (pos 1))) q (end + 1 + 1) (count ∷ v ∷ below) world6 tail.1.1.0 (after_then context (told s) (tick world6) _ (bind_then context (told s) world6 (tick world6) _ _ _ (tick_gives world6) h7 (λ _ world7 k7 h8.
+      (at context (i.LoadConst (number (pos 1))) q (end + 1 + 1) (count ∷ v ∷ below) world6 tail.1.1.0 (after_then context (told s) (tick world6) _ (bind_then context (told s) world6 (tick world6) _ _ _ (tick_gives _ world6) h7 (λ _ world7 k7 h8.
       silent context (told s) _
-      (at context i.Add q (end + 1 + 1 + 1) (number (pos 1) ∷ count ∷ v ∷ below) world7 tail.1.1.1.0 (after_then context (told s) (tick world7) _ (bind_then context (told s) world7 (tick world7) _ _ _ (tick_gives world7) h8 (λ _ world8 k8 h9.
+      (at context i.Add q (end + 1 + 1 + 1) (number (pos 1) ∷ count ∷ v ∷ below) world7 tail.1.1.1.0 (after_then context (told s) (tick world7) _ (bind_then context (told s) world7 (tick world7) _ _ _ (tick_gives _ world7) h8 (λ _ world8 k8 h9.
       pushes context q (end + 1 + 1 + 1) (v ∷ below) (number (pos 1) ∷ count ∷ v ∷ below) world8 (operated context.program.host binaries.Add count (number (pos 1)) world8)
       (one_more_then context (told s) n world8 _ (λ z world9. Go context q (end + 1 + 1 + 1 + 1) (z ∷ v ∷ below) world9) h9 (λ both.
-      at context (i.Jump again) q (end + 1 + 1 + 1 + 1) (number (pos (n + 1)) ∷ v ∷ below) world8 tail.1.1.1.1.0 (after_then context (told s) (tick world8) _ (bind_then context (told s) world8 (tick world8) _ _ _ (tick_gives world8) both.1 (λ _ world9 k9 h10.
+      at context (i.Jump again) q (end + 1 + 1 + 1 + 1) (number (pos (n + 1)) ∷ v ∷ below) world8 tail.1.1.1.1.0 (after_then context (told s) (tick world8) _ (bind_then context (told s) world8 (tick world8) _ _ _ (tick_gives _ world8) both.1 (λ _ world9 k9 h10.
       silent context (told s) _
       (filter_runs t c again items vs (n + 1) run s (v ∷ below) w world9 (turned l) d room (kept_then kept5 (kept_then both.0 k9)) (record5 world9 (kept_then both.0 k9)) left_y tc qc et ec end ee is
       (follows_map context (told s) (kept context.program.host (test_of run t c) (n + 1) vs world9) _ _ (bound_follows context (told s) (kept context.program.host (test_of run t c) (n + 1) vs world9) _ _ h10) (λ us z g m em. g m (omega (arith, em)))))))))))))))))))))))
       (λ h6. silent context (told s) _ (move context q _ _ (v ∷ count ∷ below) world5 no
       (at context i.DiscardTop q (end + 1 + 1 + 1 + 1 + 1) (v ∷ count ∷ below) world5 tail.1.1.1.1.1.0 (silent context (told s) _
-      (at context (i.Jump again) q (end + 1 + 1 + 1 + 1 + 1 + 1) (count ∷ below) world5 tail.1.1.1.1.1.1.0 (after_then context (told s) (tick world5) _ (bind_then context (told s) world5 (tick world5) _ _ _ (tick_gives world5) h6 (λ _ world6 k6 h7.
+      (at context (i.Jump again) q (end + 1 + 1 + 1 + 1 + 1 + 1) (count ∷ below) world5 tail.1.1.1.1.1.1.0 (after_then context (told s) (tick world5) _ (bind_then context (told s) world5 (tick world5) _ _ _ (tick_gives _ world5) h6 (λ _ world6 k6 h7.
       silent context (told s) _
       (filter_runs t c again items vs n run s below w world6 (turned l) d room (kept_then kept5 k6) (record5 world6 k6) left_y tc qc et ec end ee is h7)))))))))))))))))))))))))))
 
@@ -1094,7 +1099,7 @@ module _ (context : Context) (trees : Trees) (n : ℕ)
       expr_runs e run s pc stack w d is
       (bind_then context (told s) w (eval u run e w) _ _ _ (eval_gives u nest_ends again_kept run e w) h (λ v world1 k1 h1.
       at context (i.PushLoop (for_flags recursive)) s (pc + length (expr_code pc e)) (v ∷ stack) world1 there (after_then context (told s) (items_over context.program.host v world1) _
-      (follows_map_kept context (told s) world1 (items_over context.program.host v world1) _ _ (answered_gives _ world1) h1 (λ vs world2 k2 g. g (v ∷ stack))))))
+      (follows_map_kept context (told s) world1 (items_over context.program.host v world1) _ _ (items_give context.program.host v world1) h1 (λ vs world2 k2 g. g (v ∷ stack))))))
   iterable_runs recursive loops t e (Some c) run s pc stack w d is there nth h =
       let all = context.program.code s.run.stream in
       let ec = expr_code (pc + 1) e in
@@ -1113,12 +1118,12 @@ module _ (context : Context) (trees : Trees) (n : ℕ)
       let here : pc + length (i.LoadConst (number (pos 0)) ∷ ec) ≡ pc1 = omega arith in
       let pass_number : loops_before pc1 all ≡ loops =
       ap (λ m. loops_before m all) (sym here) ∙ behind_code all pc (i.LoadConst (number (pos 0)) ∷ ec) (is.0, has_front all (pc + 1) ec fc is.1) ∙ omega (arith, nth, expr_none (pc + 1) e) in
-      at context (i.LoadConst (number (pos 0))) s pc stack w is.0 (after_then context (told s) (tick w) _ (bind_then context (told s) w (tick w) _ _ _ (tick_gives w) h (λ _ world1 k1 h1.
+      at context (i.LoadConst (number (pos 0))) s pc stack w is.0 (after_then context (told s) (tick w) _ (bind_then context (told s) w (tick w) _ _ _ (tick_gives _ w) h (λ _ world1 k1 h1.
       silent context (told s) _
       (expr_runs e run s (pc + 1) (number (pos 0) ∷ stack) world1 (here_kept run s k1 d) (has_front all (pc + 1) ec fc is.1)
       (bind_then context (told s) world1 (eval u run e world1) _ _ _ (eval_gives u nest_ends again_kept run e world1) h1 (λ v world2 k2 h2.
       at context (i.PushLoop filter_flags) s pc1 (v ∷ number (pos 0) ∷ stack) world2 behind.0 (after_then context (told s) (items_over context.program.host v world2) _
-      (bind_then context (told s) world2 (items_over context.program.host v world2) _ _ _ (answered_gives _ world2) h2 (λ vs world3 k3 h3.
+      (bind_then context (told s) world2 (items_over context.program.host v world2) _ _ _ (items_give context.program.host v world2) h2 (λ vs world3 k3 h3.
       let deep_last = here_kept run s k3 (here_kept run s k2 (here_kept run s k1 d)) in
       subst (λ m. Comes context (told s) (after (open_loop context.program.host vs filter_flags m world3) (λ _ y. goes (number (pos 0) ∷ stack) y (looping (None ∷ s.run.loops) (cfg s pc1 (v ∷ number (pos 0) ∷ stack) world3))))) (sym pass_number)
       (after_then context (told s) (open_loop context.program.host vs filter_flags loops world3) _
@@ -1127,7 +1132,7 @@ module _ (context : Context) (trees : Trees) (n : ℕ)
       (filter_runs t c again vs vs 0 run s stack world3 (opened filter_flags loops world3 vs) (new_loop vs filter_flags loops world3) deep_last room
       (opened_kept filter_flags loops world3 vs) (new_record filter_flags loops world3 vs) (record { before = []; same = refl; all = refl; turns = refl }) tc qc refl refl end refl behind.1
       (follows_map context (told s) (kept context.program.host (test_of run t c) 0 vs (opened filter_flags loops world3 vs)) _ _ (bound_follows context (told s) (kept context.program.host (test_of run t c) 0 vs (opened filter_flags loops world3 vs)) _ _ h4) (λ us y h5 m em.
-      at context (i.BuildList None) s build (number (pos m) ∷ onto us stack) y tail.1.1.1.1.1.1.1.1.0 (after_then context (told s) (tick y) _ (bind_then context (told s) y (tick y) _ _ _ (tick_gives y) h5 (λ _ y1 k6 h6.
+      at context (i.BuildList None) s build (number (pos m) ∷ onto us stack) y tail.1.1.1.1.1.1.1.1.0 (after_then context (told s) (tick y) _ (bind_then context (told s) y (tick y) _ _ _ (tick_gives _ y) h5 (λ _ y1 k6 h6.
       built_then list_of_values s build m us stack y1 (omega (arith, em))
       (move context s _ _ (list_of_values us ∷ stack) y1 place
       (at context (i.PushLoop (for_flags recursive)) s (pc + suc (length (ec ++ fc))) (list_of_values us ∷ stack) y1 there
@@ -1155,7 +1160,7 @@ module _ (context : Context) (trees : Trees) (n : ℕ)
       (do_then context s.bed (as_at run s) w (exec_all u loops body (as_at run s) s.out w) (λ run1 out1 world1. use_it (tick world1) run1 out1 (λ _ world2. so_far run1 out1 world2)) D L N _
       (execs_end u nest_ends again_kept loops body (as_at run s) s.out w) h (λ q out1 world1 k1 h1.
       at context (i.Jump to) (later s q out1) (pc + length bc) stack world1 behind.0 (after_then context (told (later s q out1)) (tick world1) _
-      (use_then context s.bed world1 (tick world1) (record run { parent = q }) out1 (λ _ world2. so_far (record run { parent = q }) out1 world2) D L N _ (tick_gives world1) h1 (λ _ world2 k2 h2.
+      (use_then context s.bed world1 (tick world1) (record run { parent = q }) out1 (λ _ world2. so_far (record run { parent = q }) out1 world2) D L N _ (tick_gives _ world1) h1 (λ _ world2 k2 h2.
       silent context (told (later s q out1)) _ (move context (later s q out1) to end stack world2 jumped (so_far_then context s.bed (record run { parent = q }) out1 world2 D L N h2)))))))
 
   mutual
@@ -1163,7 +1168,7 @@ module _ (context : Context) (trees : Trees) (n : ℕ)
     stmt_runs : (k : Inside) (loops : ℕ) (x : Stmt) (run : Run) (s : Spot) (pc : ℕ) (stack : List Val) (w : World) (L N : Then) → Stands context.base run s → Deep run s w → Around k s stack w L N → HasAt (context.program.code s.run.stream) pc (statement_code k pc x) → loops_before pc (context.program.code s.run.stream) ≡ loops →
         Ends context s.bed (exec u loops x (as_at run s) s.out w) (λ q out1 world1. Go context (later s q out1) (pc + length (statement_code k pc x)) stack world1) L N → Go context s pc stack w
     stmt_runs k loops (EmitRaw t) run s pc stack w L N fits d j is nth h =
-        at context (i.EmitRaw t) s pc stack w is.0 (after_then context (told s) (tick w) _ (use_then context s.bed w (tick w) (as_at run s) s.out _ _ L N _ (tick_gives w) h (λ _ world1 k1 h1.
+        at context (i.EmitRaw t) s pc stack w is.0 (after_then context (told s) (tick w) _ (use_then context s.bed w (tick w) (as_at run s) s.out _ _ L N _ (tick_gives _ w) h (λ _ world1 k1 h1.
         writes_then context (as_at run s) t s (pc + 1) stack world1 refl fits.2 (so_far_then context s.bed (as_at run s) (say (as_at run s) t s.out) world1 _ L N h1))))
     stmt_runs k loops (EmitExpr e) run s pc stack w L N fits d j is nth h =
         let c = expr_code pc e in
@@ -1179,7 +1184,7 @@ module _ (context : Context) (trees : Trees) (n : ℕ)
         expr_runs e (as_at run s) s pc stack w (here run s w d) (has_front (context.program.code s.run.stream) pc c _ is)
         (use_then context s.bed w (eval u (as_at run s) e w) (as_at run s) s.out _ _ L N _ (eval_gives u nest_ends again_kept (as_at run s) e w) h (λ v world1 k1 h1.
         at context i.FastRecurse s (pc + length c) (v ∷ stack) world1 behind.0 (after_then context (told s) (tick world1) _
-        (use_then context s.bed world1 (tick world1) (as_at run s) s.out _ _ L N _ (tick_gives world1) h1 (λ _ world2 k2 h2.
+        (use_then context s.bed world1 (tick world1) (as_at run s) s.out _ _ L N _ (tick_gives _ world1) h1 (λ _ world2 k2 h2.
         placed_then run s (pc + length c) stack (v ∷ stack) world2 world2 (call_innermost context.program.host v world2) _ L N fits.2 (innermost_asks context.program.host v world2) (deep_kept run s k2 (deep_kept run s k1 d)) h2
         (λ q1 out1 world3 g. move context (later s q1 out1) _ _ stack world3 place g))))))
     stmt_runs k loops (If' c z body other) run s pc stack w L N fits d j is nth h =
@@ -1196,8 +1201,8 @@ module _ (context : Context) (trees : Trees) (n : ℕ)
         expr_runs c (as_at run s) s pc stack w (here run s w d) (has_front (context.program.code s.run.stream) pc test (i.JumpIfFalse to ∷ (bc ++ oc)) is)
         (use_then context s.bed w (eval u (as_at run s) c w) (as_at run s) s.out _ _ L N _ (eval_gives u nest_ends again_kept (as_at run s) c w) h (λ v world1 k1 h1.
         at context (i.JumpIfFalse to) s pc1 (v ∷ stack) world1 behind.0 (after_then context (told s) (tick world1) _
-        (use_then context s.bed world1 (tick world1) (as_at run s) s.out _ _ L N _ (tick_gives world1) h1 (λ _ world2 k2 h2.
-        after_then context (told s) (truth context.program.host v world2) _ (use_then context s.bed world2 (truth context.program.host v world2) (as_at run s) s.out _ _ L N _ (answered_gives _ world2) h2 (λ b world3 k3 h3.
+        (use_then context s.bed world1 (tick world1) (as_at run s) s.out _ _ L N _ (tick_gives _ world1) h1 (λ _ world2 k2 h2.
+        after_then context (told s) (truth context.program.host v world2) _ (use_then context s.bed world2 (truth context.program.host v world2) (as_at run s) s.out _ _ L N _ (truth_gives context.program.host v world2) h2 (λ b world3 k3 h3.
         let deep3 = deep_kept run s k3 (deep_kept run s k2 (deep_kept run s k1 d)) in
         let around3 = around_kept k s stack L N (kept_then k1 (kept_then k2 k3)) j in
         choose_ends context b (behind_first other (as_at run s) (exec_all u loops body (as_at run s) s.out world3)) (exec_else u (pasts loops body) other (as_at run s) s.out world3) _ _ (told s) s.bed _ L N h3
@@ -1290,7 +1295,7 @@ module _ (context : Context) (trees : Trees) (n : ℕ)
         (stmts_run (opening a_capture k) loops body (capturing true run) inner (pc + 1) stack w (Dropped context s.bed s.out L) (Dropped context s.bed s.out N) (stands_captured run s fits) (d.0, stands_captured run s fits, d.2) (around_capture k s stack w L N (omega (arith, fits.1)) j) (has_front all (pc + 1) bc (i.EndCapture ∷ tc) is.1) nth1
         (captured_then context s.bed (as_at run s) s.out w o _ _ L N _ (execs_end u nest_ends again_kept loops body (capturing true (as_at run s)) [] w) h (λ q x world1 k1 h1.
         at context i.EndCapture (later inner q x) pc1 stack world1 behind.0 (after_then context (told s) (tick world1) _
-        (use_then context s.bed world1 (tick world1) (record run { parent = q }) s.out _ _ L N _ (tick_gives world1) h1 (λ _ world2 k2 h2.
+        (use_then context s.bed world1 (tick world1) (record run { parent = q }) s.out _ _ L N _ (tick_gives _ world1) h1 (λ _ world2 k2 h2.
         ended_then s q x pc1 stack world2 (omega (arith, fits.1))
         (target_runs t (record run { parent = q }) (later s q s.out) (pc1 + 1) (captured_text x world2) stack world2 (here run (later s q s.out) world2 (deep_later run s world2 q s.out (deep_kept run s k2 (deep_kept run s k1 d)))) behind.1
         (use_then context s.bed world2 (assign u (record run { parent = q }) t (captured_text x world2) world2) (record run { parent = q }) s.out _ _ L N _ (assign_gives u nest_ends again_kept (record run { parent = q }) t (captured_text x world2) world2) h2 (λ _ world3 k3 h3.
@@ -1311,7 +1316,7 @@ module _ (context : Context) (trees : Trees) (n : ℕ)
         at context i.PushAutoEscape s pc1 (v ∷ stack) world1 behind.0
         (subst (λ first. Comes context (told s) (after (answered (escape_for first v) world1) (λ x world2. goes stack (with_escape x world2) (replacing (world2.escape ∷ s.run.escapes) (cfg s pc1 (v ∷ stack) world1))))) fits.0
         (after_then context (told s) (answered (escape_for run.first v) world1) _
-        (use_then context s.bed world1 (answered (escape_for run.first v) world1) (as_at run s) s.out _ _ L N _ (answered_gives _ world1) h1 (λ x world2 k2 h2.
+        (use_then context s.bed world1 (answered (escape_for run.first v) world1) (as_at run s) s.out _ _ L N _ (escape_gives _ run.first v world1) h1 (λ x world2 k2 h2.
         let inner : Spot = record s { run = record s.run { escapes = world2.escape ∷ s.run.escapes } } in
         silent context (told s) _
         (stmts_run (opening an_escape k) loops body run inner (pc1 + 1) stack (with_escape x world2) (Closed (with_escape world2.escape) L) (Closed (with_escape world2.escape) N) fits
@@ -1384,7 +1389,7 @@ module _ (context : Context) (trees : Trees) (n : ℕ)
         (silent context (told_by s.bed out) _
         (left_loop_then (for_flags false) s q out (end + 1) (boolean b ∷ stack) w x l d.0.scopes kept e is.1.0
         (at context test (later s q out) (end + 1 + 1) (boolean b ∷ stack) (pop x) is.1.1.0 (after_then context (told_by s.bed out) (tick (pop x)) _
-        (use_then context s.bed (pop x) (tick (pop x)) (record run { parent = q }) out _ D0 L N _ (tick_gives (pop x)) h (λ _ v k1 h1.
+        (use_then context s.bed (pop x) (tick (pop x)) (record run { parent = q }) out _ D0 L N _ (tick_gives _ (pop x)) h (λ _ v k1 h1.
         choose_ends context b (exec_all u loops eb (record run { parent = q }) out v) (so_far (record run { parent = q }) out v) _ _ (told_by s.bed out) s.bed D0 L N h1
         (λ h2. silent context (told_by s.bed out) _ (move context (later s q out) _ _ stack v first
         (stmts_run k loops eb run (later s q out) (end + 3) stack v L N (stands_later context.base run s fits q out) (deep_later run s v q out (deep_kept run s (kept_then popped k1) d)) (around_kept k s stack L N (kept_then popped k1) j)
@@ -1549,7 +1554,7 @@ module _ (p : Program) (trees : Trees) (compiled : IsCompiled trees p) where
   stopped_by context b q x v e (Good _ world1) is = is
   stopped_by context b q x v e (Bad chain world1) is = is
 
-  end_then : (id : StreamId) (heard : Bool) (b : Bed) (out : List ℕ) (w : World) (e : Ending) (q : Option TemplateId) (x : List ℕ) (v : World) → EndsKept w e v →
+  end_then : (id : StreamId) (heard : Bool) (b : Bed) (out : List ℕ) (w : World) (e : Ending) (q : Option TemplateId) (x : List ℕ) (v : World) → EndsKept p.host w e v →
       let context = running heard b out w (end_of b (at_end e (whole_of e q x v))) in
       Ends context b (whole_of e q x v) (λ q1 x1 v1. Go context (later (spot_of id b out) q1 x1) (length (p.code id)) [] v1) (Stops context b) (Stops context b)
   unfolding Ends
@@ -1610,13 +1615,13 @@ module _ (p : Program) (trees : Trees) (compiled : IsCompiled trees p) where
       let code = statements_code k 0 row in
       let stands : HasAt (p.code id) 0 code = subst (λ c. HasAt c 0 code) (sym (compiled id)) (has_whole code) in
       let size : length (p.code id) ≡ 0 + length code = ap length (compiled id) ∙ omega arith in
-      let ends = end_then id heard b out w o.ending o.parent o.text o.world (ends_as w o (execs_end u (nests_end p.host trees n) kept_again 0 (trees id).row (new_run heard w) out w)) in
+      let ends = end_then id heard b out w o.ending o.parent o.text o.world (ends_as _ w o (execs_end u (nests_end p.host trees n) kept_again 0 (trees id).row (new_run heard w) out w)) in
       let placed = ends_map context b o _ (λ q x v. Go context (later s q x) (0 + length code) [] v) (Stops context b) (Stops context b) ends (λ q x v g. move context (later s q x) _ _ [] v (sym size) g) in
       let end_of_code : stop ≡ length (p.code id) = statements_long 0 0 stop stop 0 [] row ∙ sym (size ∙ omega arith) in
       let stops : (q : Option TemplateId) (x : List ℕ) (v : World) (pc : ℕ) → Kept w v → HasAt (p.code id) pc (i.Jump stop ∷ []) → Stops context b q x v → Go context (later s q x) pc [] v =
       λ q x v pc kept is l.
       at context (i.Jump stop) (later s q x) pc [] v is.0 (after_then context (told_by b x) (tick v) _
-      (follows_map_kept context (told_by b x) v (tick v) _ _ (tick_gives v) l (λ _ v1 k1 e.
+      (follows_map_kept context (told_by b x) v (tick v) _ _ (tick_gives _ v) l (λ _ v1 k1 e.
       silent context (told_by b x) _ (move context (later s q x) _ _ [] v1 end_of_code (finishes id heard b out w q x v1 context.final (kept_then kept k1) e))))) in
       let calls = again_runs context.base context.final n below id (p.host.limit + 1) in
       stmts_run context trees n below id (p.host.limit + 1) again kept_again calls.0 calls.1 k 0 row (new_run heard w) s 0 [] w (Stops context b) (Stops context b) (stands_start id b out heard w)
