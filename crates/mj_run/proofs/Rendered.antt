@@ -18,7 +18,9 @@ use Rattle.tm_output.specs.Counts.{Tally, AppendsBeginning}
 use Rattle.tm_templates.specs.Defaults.{escape_by_name, escape_of}
 use Rattle.tm_tables.specs.Stated.{Table, language_functions, functions_of, behind_language}
 use Rattle.tm_templates.specs.Templates.{Compiled, IsRefused}
-use Rattle.template_machine.specs.Environment.{EnvironmentValue, TemplateValue, IsTemplateOf, expected_environment, new_environment, greatest_limit}
+use Rattle.tm_meaning.specs.declared.stream.TemplateId.{TemplateId}
+use Rattle.tm_meaning.specs.declared.stream.TemplateId.TheVariants.{Entry}
+use Rattle.template_machine.specs.Environment.{EnvironmentValue, TemplateValue, IsTemplateOf, IsEntryOf, expected_environment, new_environment, greatest_limit}
 use Rattle.template_machine.specs.Renders.{CapturedValue, StateValue, answer_by, greatest, meaning, Rendered, as_meant, by_writer, by_memory}
 use Rattle.mj_words.specs.CommandLine.{Text, Asked}
 use Rattle.mj_run.specs.Program.{Input, context_of, limit_of, template_in, meaning_of, IsMeant, IsRendered, IsBegun, IsFault, no_memory, write_failed, flush_failed, no_tree, meant}
@@ -31,16 +33,17 @@ found_is_put : (name : Text) (t u : Compiled) → find name (put name t []) ≡ 
 found_is_put name t u e = let there : find name (put name t []) ≡ Some t = found_there name t in cc
 
 -- Objects that are no functions: a template means what it means where there are none.
-abbrev template_over : {O : Type 0} → O → Named Compiled → Option ℕ → ℕ → Compiled → TemplateValue O
-template_over objects templates fuel limit t = record {
+abbrev template_over : {O : Type 0} → O → Text → Named Compiled → Option ℕ → ℕ → Compiled → TemplateValue O
+template_over objects name templates fuel limit t = record {
   environment = record (expected_environment objects) { templates = templates; fuel = fuel; limit = limit };
+  id = Entry name;
   template = t;
 }
 
-means_same : {O P : Type 0} (fs gs : List Function) (o : O) (p : P) (templates : Named Compiled) (fuel : Option ℕ) (limit : ℕ) (t : Compiled) (id : ℕ) (context : Val) → fs ≡ gs →
-    meaning (λ _. fs) (template_over o templates fuel limit t) id context ≡ meaning (λ _. gs) (template_over p templates fuel limit t) id context
-means_same fs gs o p templates fuel limit t id context same =
-    ap (λ (hs : List Function). meaning (λ x. x) (template_over hs templates fuel limit t) id context) same
+means_same : {O P : Type 0} (fs gs : List Function) (o : O) (p : P) (name : Text) (templates : Named Compiled) (fuel : Option ℕ) (limit : ℕ) (t : Compiled) (id : ℕ) (context : Val) → fs ≡ gs →
+    meaning (λ _. fs) (template_over o name templates fuel limit t) id context ≡ meaning (λ _. gs) (template_over p name templates fuel limit t) id context
+means_same fs gs o p name templates fuel limit t id context same =
+    ap (λ (hs : List Function). meaning (λ x. x) (template_over hs name templates fuel limit t) id context) same
 
 -- without objects there are the functions of the language
 pub none_of : {C : Type 0} (answers : C → List Val → View → Stated) (objects : Table C) → objects ≡ language_functions → functions_of answers objects ≡ behind_language true []
@@ -69,7 +72,7 @@ module _ {C : Type 0} where
 
   -- another template of the environment in which one was put alone
   abbrev put_there_as : Asked → Compiled → Compiled → TemplateValue (Table C)
-  put_there_as a t u = template_over language_functions (put a.file t []) a.fuel (limit_of a.limit) u
+  put_there_as a t u = template_over language_functions a.file (put a.file t []) a.fuel (limit_of a.limit) u
 
   -- a template that was put alone
   abbrev put_alone : Asked → Compiled → TemplateValue (Table C)
@@ -78,16 +81,17 @@ module _ {C : Type 0} where
   -- The template that is found means what the words and a tree of the source mean.
   pub is_meant : (fs : List Function) (i : Input) (set added : EnvironmentValue (Table C)) (t : Compiled) (found : TemplateValue (Table C)) (context : Val) →
       (found.environment.objects ≡ language_functions → fs ≡ behind_language true []) → set ≡ settled i.asked → IsTemplateOf set i.asked.file i.source t → added ≡ record set { templates = put i.asked.file t set.templates } →
-      (found.environment ≡ added) × (find i.asked.file added.templates ≡ Some found.template) → context ≡ context_of i.members i.asked.texts →
+      IsEntryOf added i.asked.file found → context ≡ context_of i.members i.asked.texts →
       IsMeant (λ _. fs) found context i
-  is_meant fs i set added t found context none start is put_there (same, there) given =
+  is_meant fs i set added t found context none start is put_there (same, id, there) given =
       let a = i.asked in
       let source = i.source in
       let whole : added ≡ record (settled a) { templates = put a.file t [] } =
       put_there ∙ ap (λ (e : EnvironmentValue (Table C)). record e { templates = put a.file t e.templates }) start in
       let template : t ≡ found.template = found_is_put a.file t found.template (subst (λ (e : EnvironmentValue (Table C)). find a.file e.templates ≡ Some found.template) whole there) in
       let alone : found ≡ put_alone a t =
-      ap (λ (e : EnvironmentValue (Table C)). let v : TemplateValue (Table C) = record { environment = e; template = found.template } in v) (same ∙ whole)
+      ap (λ (e : EnvironmentValue (Table C)). let v : TemplateValue (Table C) = record { environment = e; id = found.id; template = found.template } in v) (same ∙ whole)
+      ∙ ap (λ (x : TemplateId). let v : TemplateValue (Table C) = record { environment = record (settled a) { templates = put a.file t [] }; id = x; template = found.template } in v) id
       ∙ ap (λ (u : Compiled). put_there_as a t u) (sym template) in
       let objects : found.environment.objects ≡ language_functions = ap (λ (e : EnvironmentValue (Table C)). e.objects) (same ∙ whole) in
       let escaped : t.escape ≡ escape_by_name a.file = is.escape_is ∙ ap (λ (e : EnvironmentValue (Table C)). escape_of e.escaping a.file) start in
@@ -97,7 +101,7 @@ module _ {C : Type 0} where
         subst (λ (e : EnvironmentValue (Table C)). Spells e.syntax source t.tree) start is.spelled,
         ap (λ (v : TemplateValue (Table C)). meaning (λ _. fs) v 0 context) alone
             ∙ (ap (λ v. meaning (λ _. fs) (put_alone a t) 0 v) given
-            ∙ (means_same {O = Table C} {P = List Function} fs (behind_language true []) language_functions (behind_language true []) (put a.file t []) a.fuel (limit_of a.limit) t 0 (context_of i.members a.texts) (none objects)
+            ∙ (means_same {O = Table C} {P = List Function} fs (behind_language true []) language_functions (behind_language true []) a.file (put a.file t []) a.fuel (limit_of a.limit) t 0 (context_of i.members a.texts) (none objects)
             ∙ ap (λ (u : Compiled). meaning (λ fs. fs) (template_in a u) 0 (context_of i.members a.texts)) named)),
       )
 

@@ -16,6 +16,7 @@ use Rattle.tm_meaning.specs.Meaning.{Outcome, chain_of}
 use Rattle.tm_output.specs.Counts.{Tally, one_more, AppendsBeginning}
 use Rattle.tm_templates.specs.Defaults.{escape_by_name}
 use Rattle.tm_templates.specs.Templates.{Compiled}
+use Rattle.tm_meaning.specs.declared.stream.TemplateId.TheVariants.{Entry}
 use Rattle.template_machine.specs.Environment.{TemplateValue, expected_environment, greatest_limit}
 use Rattle.tm_tables.specs.Stated.{behind_language}
 use Rattle.template_machine.specs.Renders.{meaning}
@@ -49,6 +50,7 @@ limit_of (Some n) = min n greatest_limit
 abbrev pub template_in : Asked → Compiled → TemplateValue (List Function)
 template_in a t = record {
   environment = record (expected_environment (behind_language true [])) { templates = put a.file t []; fuel = a.fuel; limit = limit_of a.limit };
+  id = Entry a.file;
   template = t;
 }
 

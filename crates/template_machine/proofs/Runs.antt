@@ -11,7 +11,8 @@ use Rattle.tm_parts.specs.Halts.{faults_after}
 use Rattle.tm_parts.specs.declared.halt.Halt.{Halt}
 use Rattle.tm_vm.specs.Answers.{program, HaltsAs, Comes}
 use Rattle.tm_vm.specs.Nested.{Begins}
-use Rattle.template_machine.specs.Environment.{IsTemplateOf, EnvironmentValue, TemplateValue, host_of, trees, code}
+use Rattle.tm_meaning.specs.declared.stream.TemplateId.TheVariants.{Own}
+use Rattle.template_machine.specs.Environment.{IsTemplateOf, IsMadeIn, EnvironmentValue, TemplateValue, host_of, trees, code}
 use Rattle.template_machine.specs.Renders.{meaning, meaning_from, IsFresh, Ran, RenderedText, RenderedSource, source_rendered, IsUnnumbered}
 use Rattle.template_machine.proofs.Answered.{run_done, run_halted}
 
@@ -37,12 +38,13 @@ module _ {O : Type 0} (functions : O → List Function) (t r : TemplateValue O) 
 
 -- a source that was rendered
 pub source_done : {O : Type 0} (functions : O → List Function) (e : EnvironmentValue O) (t : TemplateValue O) (name source : List ℕ) (old new : ℕ) (context : Val) (result : Result (String Global) (List ErrorKind)) →
-    (t.environment ≡ e) × IsTemplateOf e name source t.template → RenderedText (meaning functions t old context) result → new ≡ old + 1 → RenderedSource functions e name source old new context result
+    IsMadeIn e name source t → RenderedText (meaning functions t old context) result → new ≡ old + 1 → RenderedSource functions e name source old new context result
 source_done functions e t name source old new context result made text counted =
-    source_rendered t.template made.1 (subst (λ e. RenderedText (meaning functions (record { environment = e; template = t.template }) old context) result) made.0 text) counted
+    source_rendered t.template made.2 (subst (λ e. RenderedText (meaning functions (record { environment = e; id = Own; template = t.template }) old context) result) made.0
+    (subst (λ id. RenderedText (meaning functions (record { environment = t.environment; id = id; template = t.template }) old context) result) made.1 text)) counted
 
 -- one that spells a template, where the counter is full
 pub source_full : {O : Type 0} (e : EnvironmentValue O) (t : TemplateValue O) (name source : List ℕ) (result : Result (String Global) (List ErrorKind)) →
-    (t.environment ≡ e) × IsTemplateOf e name source t.template → result ≡ Err (InvalidOperation ∷ []) → IsUnnumbered e name source result
+    IsMadeIn e name source t → result ≡ Err (InvalidOperation ∷ []) → IsUnnumbered e name source result
 source_full e t name source result made is =
-    subst (IsUnnumbered e name source) (sym is) (inr (t.template, made.1, refl))
+    subst (IsUnnumbered e name source) (sym is) (inr (t.template, made.2, refl))

@@ -10,33 +10,50 @@ use Rattle.tm_syntax.specs.Named.{Named, by_name}
 use Rattle.tm_meaning.specs.World.{Function, World}
 use Rattle.tm_meaning.specs.Calls.{own_blocks}
 use Rattle.tm_meaning.specs.Tree.{carded}
-use Rattle.tm_meaning.specs.declared.stream.TemplateId.TheVariants.{Own}
+use Rattle.tm_meaning.specs.declared.stream.TemplateId.{TemplateId}
 use Rattle.tm_templates.specs.Templates.{Compiled, body, block_codes}
 use Rattle.tm_templates.proofs.Named.{turned, by_name-turned}
 use Rattle.tm_state.specs.State.{started, layers_of}
-use Rattle.template_machine.specs.Environment.{TemplateValue}
+use Rattle.tm_meaning.specs.World.{Template, template_at}
+use Rattle.tm_meaning.specs.Tree.{template_of}
+use Rattle.tm_templates.specs.Templates.{tree_of}
+use Rattle.template_machine.specs.Environment.{EnvironmentValue, TemplateValue, host_of, meant}
+use Rattle.template_machine.specs.Held.{held_id, held_template, IsHeldOf}
+use Rattle.template_machine.specs.declared.template.Held.{Held}
+use Rattle.template_machine.specs.declared.template.Held.TheVariants.{Lent, Owned}
+use Rattle.template_machine.proofs.Meant.{template_meant}
 use Rattle.template_machine.specs.Renders.{first}
 
-layered_each : (bs : Named Body) → layers_of (turned code_of bs) ≡ own_blocks Own (map carded bs)
-layered_each [] = refl
-layered_each (b ∷ bs) = ap (λ ls. (b.0, record { templates = Own ∷ []; place = 0 }) ∷ ls) (layered_each bs)
+layered_each : (t : TemplateId) (bs : Named Body) → layers_of t (turned code_of bs) ≡ own_blocks t (map carded bs)
+layered_each t [] = refl
+layered_each t (b ∷ bs) = ap (λ ls. (b.0, record { templates = t ∷ []; place = 0 }) ∷ ls) (layered_each t bs)
 
-pub first_is : {O : Type 0} (functions : O → List Function) (t : TemplateValue O) (id : ℕ) (context : Val) →
-    started id (block_codes t.template.tree) t.template.escape t.environment.fuel context ≡ first functions t id context
-first_is functions t id context =
+-- A template that is held is what its environment means by it.
+pub held_meant : {O : Type 0} (e : EnvironmentValue O) (h : Held) → IsHeldOf e.templates h →
+    meant (record { environment = e; id = held_id h; template = held_template h }) (held_id h) ≡ held_template h
+held_meant e (Lent x t) is = rw is refl
+held_meant e (Owned t) is = refl
+
+pub first_is : {O : Type 0} (functions : O → List Function) (t : TemplateValue O) (id : ℕ) (context : Val) → meant t t.id ≡ t.template →
+    started id t.id (block_codes t.template.tree) t.template.escape t.environment.fuel context ≡ first functions t id context
+first_is functions t id context is =
     let bs = blocks_in (body t.template.tree).row in
-    let same : layers_of (block_codes t.template.tree) ≡ own_blocks Own (map carded (by_name bs)) = ap layers_of (by_name-turned code_of bs) ∙ layered_each (by_name bs) in
-    ap (λ ls. record (first functions t id context) { blocks = ls }) same
+    let same : layers_of t.id (block_codes t.template.tree) ≡ own_blocks t.id (map carded (by_name bs)) = ap (layers_of t.id) (by_name-turned code_of bs) ∙ layered_each t.id (by_name bs) in
+    let there : template_of (tree_of t.template) ≡ template_at (host_of functions t) t.id =
+    sym (template_meant functions t t.id ∙ ap (λ (c : Compiled). template_of (tree_of c)) is) in
+    ap (λ ls. record (first functions t id context) { blocks = ls; escape = t.template.escape }) same
+    ∙ ap (λ (x : Template). record (first functions t id context) { blocks = own_blocks t.id x.blocks; escape = x.escape }) there
 
 -- the same of what was made
-pub first_at : {O : Type 0} (functions : O → List Function) (t : TemplateValue O) (own : Compiled) (blocks : Named (List Instruction)) (escape : AutoEscape) (fuel : Option ℕ) (id number : ℕ) (context : Val)
-    (made : Result World (List ErrorKind)) → own ≡ t.template → blocks ≡ block_codes own.tree → escape ≡ own.escape → fuel ≡ t.environment.fuel → id ≡ number →
-    OkOrOutOfMemory made (λ s. s ≡ started id blocks escape fuel context) → IfOk made (λ s. s ≡ first functions t number context)
-first_at functions t own blocks escape fuel id number context (Err e) own_is blocks_are escape_is fuel_is id_is made_is = tt
-first_at functions t own blocks escape fuel id number context (Ok s) own_is blocks_are escape_is fuel_is id_is made_is =
+pub first_at : {O : Type 0} (functions : O → List Function) (t : TemplateValue O) (root : TemplateId) (own : Compiled) (blocks : Named (List Instruction)) (escape : AutoEscape) (fuel : Option ℕ) (id number : ℕ) (context : Val)
+    (made : Result World (List ErrorKind)) → meant t t.id ≡ t.template → root ≡ t.id → own ≡ t.template → blocks ≡ block_codes own.tree → escape ≡ own.escape → fuel ≡ t.environment.fuel → id ≡ number →
+    OkOrOutOfMemory made (λ s. s ≡ started id root blocks escape fuel context) → IfOk made (λ s. s ≡ first functions t number context)
+first_at functions t root own blocks escape fuel id number context (Err e) is root_is own_is blocks_are escape_is fuel_is id_is made_is = tt
+first_at functions t root own blocks escape fuel id number context (Ok s) is root_is own_is blocks_are escape_is fuel_is id_is made_is =
     made_is
-    ∙ ap (λ n. started n blocks escape fuel context) id_is
-    ∙ ap (λ f. started number blocks escape f context) fuel_is
-    ∙ ap (λ e. started number blocks e t.environment.fuel context) (escape_is ∙ ap (λ (o : Compiled). o.escape) own_is)
-    ∙ ap (λ bs. started number bs t.template.escape t.environment.fuel context) (blocks_are ∙ ap (λ (o : Compiled). block_codes o.tree) own_is)
-    ∙ first_is functions t number context
+    ∙ ap (λ n. started n root blocks escape fuel context) id_is
+    ∙ ap (λ r. started number r blocks escape fuel context) root_is
+    ∙ ap (λ f. started number t.id blocks escape f context) fuel_is
+    ∙ ap (λ e. started number t.id blocks e t.environment.fuel context) (escape_is ∙ ap (λ (o : Compiled). o.escape) own_is)
+    ∙ ap (λ bs. started number t.id bs t.template.escape t.environment.fuel context) (blocks_are ∙ ap (λ (o : Compiled). block_codes o.tree) own_is)
+    ∙ first_is functions t number context is

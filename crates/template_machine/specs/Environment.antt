@@ -1,5 +1,5 @@
 -- Environments and templates as plain data, over all objects of the caller as one.
-use Rattle.std.specs.Prelude.{ℕ, List, [], codes, map as each, Ok, Option, Some, None}
+use Rattle.std.specs.Prelude.{◌≡◌, ℕ, List, [], codes, map as each, Ok, Option, Some, None}
 use Rattle.tm_values.specs.Val.{Val, function}
 use Rattle.tm_values.specs.declared.undefined.UndefinedBehavior.{UndefinedBehavior}
 use Rattle.tm_values.specs.declared.undefined.UndefinedBehavior.TheVariants.{Lenient}
@@ -28,9 +28,10 @@ pub record EnvironmentValue (O : Type 0) : Type 0 where
   pub fuel : Option ℕ
   pub limit : ℕ
 
--- a template, and the environment that it is of
+-- A template, the environment that it is of, and what it is there: the entry of a name, or none of its entries.
 pub record TemplateValue (O : Type 0) : Type 0 where
   pub environment : EnvironmentValue O
+  pub id : TemplateId
   pub template : Compiled
 
 -- the greatest depth of scopes that can be set
@@ -63,6 +64,14 @@ new_environment = expected_environment language_functions
 -- the template that a source is in an environment, under a name
 abbrev pub IsTemplateOf : {O : Type 0} → EnvironmentValue O → List ℕ → List ℕ → Compiled → Type 0
 IsTemplateOf e name source t = IsTemplate e.syntax e.escaping name source t
+
+-- The template is what the environment has at a name.
+abbrev pub IsEntryOf : {O : Type 0} → EnvironmentValue O → List ℕ → TemplateValue O → Type 0
+IsEntryOf e name t = (t.environment ≡ e) × (t.id ≡ Entry name) × (find name e.templates ≡ Some t.template)
+
+-- The template is what a source is in the environment, under a name, and none of its entries.
+abbrev pub IsMadeIn : {O : Type 0} → EnvironmentValue O → List ℕ → List ℕ → TemplateValue O → Type 0
+IsMadeIn e name source t = (t.environment ≡ e) × (t.id ≡ Own) × IsTemplateOf e name source t.template
 
 -- the value as the global of a name
 abbrev pub with_global : {O : Type 0} → List ℕ → Val → EnvironmentValue O → EnvironmentValue O

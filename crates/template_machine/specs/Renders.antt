@@ -39,7 +39,7 @@ greatest = 2 ^ 64 - 1
 -- ---------------------------------------------------------------- meanings
 -- the world that a render starts from, as the state of this number over this context value
 abbrev pub first : {O : Type 0} → (O → List Function) → TemplateValue O → ℕ → Val → World
-first functions t id context = first_world (host_of functions t) Own id t.environment.fuel context
+first functions t id context = first_world (host_of functions t) t.id id t.environment.fuel context
 
 -- what a template means from a world, where these are the functions of objects
 abbrev pub meaning_from : {O : Type 0} → (O → List Function) → TemplateValue O → World → Outcome
@@ -90,7 +90,7 @@ pub data RenderedText (m : Outcome) (result : Result (String Global) (List Error
 -- How a render of a source ended, whose template has this name: refused, since it spells no template or no memory was found, and no state was numbered; or rendered, as the template that it spells.
 pub data RenderedSource {O : Type 0} (functions : O → List Function) (e : EnvironmentValue O) (name source : List ℕ) (old new : ℕ) (context : Val) (result : Result (String Global) (List ErrorKind)) : Type 0 where
   source_refused : (chain : List ErrorKind) → result ≡ Err chain → IsRefused e.syntax source chain → new ≡ old → RenderedSource functions e name source old new context result
-  source_rendered : (t : Compiled) → IsTemplateOf e name source t → RenderedText (meaning functions (record { environment = e; template = t }) old context) result → new ≡ old + 1 →
+  source_rendered : (t : Compiled) → IsTemplateOf e name source t → RenderedText (meaning functions (record { environment = e; id = Own; template = t }) old context) result → new ≡ old + 1 →
       RenderedSource functions e name source old new context result
 
 -- What is answered to a source where the counter is full, whose template has this name: why it was refused, or InvalidOperation, since no state can be numbered.

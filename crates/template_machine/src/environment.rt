@@ -8,7 +8,7 @@ ghost use Rattle.tm_values.specs.Val.{function};
 ghost use Rattle.std.specs.Prelude.{string_bytes};
 ghost use Rattle.tm_templates.specs.Sources.{source_bytes};
 ghost use Rattle.template_machine.specs.Renders.{greatest, IsUnnumbered, RenderedSource};
-ghost use Rattle.template_machine.specs.Environment.{IsTemplateOf, empty_environment, new_environment, language_globals, with_function, with_global, greatest_limit};
+ghost use Rattle.template_machine.specs.Environment.{IsTemplateOf, IsEntryOf, IsMadeIn, empty_environment, new_environment, language_globals, with_function, with_global, greatest_limit};
 
 use crate::ids::StateIds;
 use crate::template::{Held, TemplateOf};
@@ -122,13 +122,12 @@ impl<'source, O: Drop> EnvironmentOf<'source, O> {
 
     /// The template of a name; TemplateNotFound where there is none.
     pub fn get_template(&self, name: &str) -> Result<TemplateOf<'_, 'source, O>, Error>
-        ensures { MatchResult result
-            (λ t. (t.environment ≡ self.now) × (find name.now self.now.templates ≡ Some t.template))
+        ensures { MatchResult result (IsEntryOf self.now name.now)
             (λ e. (e ≡ ErrorKind.TemplateNotFound ∷ [])
             × (find name.now self.now.templates ≡ None)) }
     {
-        match self.templates.get(name) {
-            Some(compiled) => Ok(TemplateOf::new(self, Held::Lent(compiled))),
+        match self.templates.entry(name) {
+            Some((name, compiled)) => Ok(TemplateOf::new(self, Held::Lent(name, compiled))),
             None => Err(Error::from(ErrorKind::TemplateNotFound)),
         }
     }
@@ -138,8 +137,7 @@ impl<'source, O: Drop> EnvironmentOf<'source, O> {
         &self,
         source: &'source str,
     ) -> Result<TemplateOf<'_, 'source, O>, Error>
-        ensures compiled { IfOk result (λ t. (t.environment ≡ self.now)
-            × IsTemplateOf self.now (codes "<string>") source.entry.now t.template) }
+        ensures compiled { IfOk result (IsMadeIn self.now (codes "<string>") source.entry.now) }
         ensures refused { IfErr result (IsRefused self.now.syntax source.entry.now) }
     {
         self.template_from_named_str(UNNAMED, source)
@@ -151,8 +149,7 @@ impl<'source, O: Drop> EnvironmentOf<'source, O> {
         name: &str,
         source: &'source str,
     ) -> Result<TemplateOf<'_, 'source, O>, Error>
-        ensures compiled { IfOk result (λ t. (t.environment ≡ self.now)
-            × IsTemplateOf self.now name.now source.entry.now t.template) }
+        ensures compiled { IfOk result (IsMadeIn self.now name.now source.entry.now) }
         ensures refused { IfErr result (IsRefused self.now.syntax source.entry.now) }
     {
         let source = Source::Lent(source);

@@ -1,12 +1,13 @@
 //! What a render runs under.
 ghost use Rattle.std.specs.Prelude.{◌≡◌};
 ghost use Rattle.template_machine.specs.Environment.{meant};
+ghost use Rattle.template_machine.specs.Held.{entry_id};
 
 use crate::environment::EnvironmentOf;
 use std::alloc::Global;
 use std::marker::Model;
 use tm_meaning::{StreamId, TemplateId};
-use tm_syntax::{Code, NameMap};
+use tm_syntax::{Code, Name, NameMap};
 use tm_tables::{Called, Host, Parties, View};
 use tm_templates::CompiledTemplate;
 use tm_values::{UndefinedBehavior, Value};
@@ -15,6 +16,7 @@ use tm_values::{UndefinedBehavior, Value};
 #[derive(Drop)]
 pub(crate) struct Rendering<'env, O: Drop> {
     environment: &'env EnvironmentOf<'env, O>,
+    name: Option<&'env Name>,
     own: &'env CompiledTemplate<'env>,
 }
 
@@ -28,21 +30,33 @@ impl<'env, O: Drop> Model for Rendering<'env, O> {
 
     ghost coded = { Prim.hlevel (codes, coded_Val, statement.the_row.coded, O.code) };
 
-    ghost view = { λ r. record { environment = r.environment.now; template = r.own.now } };
+    ghost use Rattle.template_machine.specs.Held.{entry_id};
+
+    ghost view = { λ r. record {
+      environment = r.environment.now;
+      id = entry_id r.name;
+      template = r.own.now;
+    } };
 }
 
 impl<'env, O: Drop> Rendering<'env, O> {
-    /// A template that is rendered under an environment.
+    /// A template that is rendered under an environment, and the name of the entry that it is there.
     pub(crate) fn new(
         environment: &'env EnvironmentOf<'env, O>,
+        name: Option<&'env Name>,
         own: &'env CompiledTemplate<'env>,
     ) -> Rendering<'env, O>
         ensures { result ≡ record {
           environment = environment.entry.now;
+          id = entry_id name.entry;
           template = own.entry.now;
         } }
     {
-        Rendering { environment, own }
+        Rendering {
+            environment,
+            name,
+            own,
+        }
     }
 
     /// The allocator of what the environment makes.

@@ -1,7 +1,7 @@
 //! Templates of an environment.
 ghost use Rattle.std.specs.Prelude.{◌≡◌, ◌+◌, ◌<◌, [], ◌∷◌, Err, IfOk, IfErr};
 ghost use Rattle.tm_meaning.specs.World.{root_of};
-ghost use Rattle.template_machine.specs.Held.{held_template};
+ghost use Rattle.template_machine.specs.Held.{entry_id, held_id, held_template, IsHeldOf};
 ghost use Rattle.template_machine.specs.Renders.{first, greatest, meaning, meaning_from, IsFresh, Ran, Rendered, RenderedText};
 
 use crate::environment::EnvironmentOf;
@@ -12,7 +12,7 @@ use std::marker::Model;
 use tm_meaning::{StreamId, TemplateId};
 use tm_parts::{Captures, Halt, NullWriter, Sink};
 use tm_state::StateData;
-use tm_syntax::CaptureMode;
+use tm_syntax::{CaptureMode, Name};
 use tm_tables::{Callable, Objects, Parties};
 use tm_templates::CompiledTemplate;
 use tm_values::{Error, ErrorKind, Value};
@@ -21,8 +21,8 @@ use tm_vm::Machine;
 /// A compiled template: the environment's, or one of its own.
 #[derive(Drop)]
 pub(crate) enum Held<'env, 'source> {
-    /// The environment's.
-    Lent(&'env CompiledTemplate<'source>),
+    /// The environment's entry of a name.
+    Lent(&'env Name, &'env CompiledTemplate<'source>),
     /// Its own, boxed: whoever owns a template would else have all of its layout in its proof.
     Owned(Box<CompiledTemplate<'source>>),
 }
@@ -56,9 +56,15 @@ impl<'env, 'source, O: Drop> Model for TemplateOf<'env, 'source, O> {
 
     ghost coded = { Prim.hlevel (codes, coded_Val, statement.the_row.coded, O.code) };
 
-    ghost use Rattle.template_machine.specs.Held.{held_template};
+    ghost use Rattle.template_machine.specs.Held.{held_id, held_template, IsHeldOf};
 
-    ghost view = { λ t. record { environment = t.environment.now; template = held_template t.held } };
+    ghost view = { λ t. record {
+      environment = t.environment.now;
+      id = held_id t.held;
+      template = held_template t.held;
+    } };
+
+    ghost invariant = { λ t. IsHeldOf t.environment.now.templates t.held };
 }
 
 impl<'env, 'source, O: Drop> TemplateOf<'env, 'source, O> {
@@ -67,8 +73,10 @@ impl<'env, 'source, O: Drop> TemplateOf<'env, 'source, O> {
         environment: &'env EnvironmentOf<'source, O>,
         held: Held<'env, 'source>,
     ) -> TemplateOf<'env, 'source, O>
+        requires { IsHeldOf environment.entry.now.templates held.entry }
         ensures { result ≡ record {
           environment = environment.entry.now;
+          id = held_id held.entry;
           template = held_template held.entry;
         } }
     {
@@ -94,8 +102,29 @@ impl<'env, 'source, O: Drop> TemplateOf<'env, 'source, O> {
         ensures { result.now ≡ self.now.template }
     {
         match &self.held {
-            Held::Lent(compiled) => compiled,
+            Held::Lent(_name, compiled) => compiled,
             Held::Owned(compiled) => &**compiled,
+        }
+    }
+
+    /// The name of the entry that it is, where it is one.
+    fn entry_name(&self) -> Option<&Name>
+        ensures { entry_id result ≡ self.now.id }
+    {
+        match &self.held {
+            Held::Lent(name, _compiled) => Some(name),
+            Held::Owned(_compiled) => None,
+        }
+    }
+
+    /// What it is in its environment. OutOfMemory where the owners of a name can't be counted.
+    fn id(&self) -> Result<TemplateId, Error>
+        ensures ok { IfOk result (λ id. id ≡ self.now.id) }
+        ensures memory { IfErr result (λ e. e ≡ ErrorKind.OutOfMemory ∷ []) }
+    {
+        match self.entry_name() {
+            Some(name) => Ok(TemplateId::Entry(name.share()?)),
+            None => Ok(TemplateId::Own),
         }
     }
 
@@ -103,7 +132,7 @@ impl<'env, 'source, O: Drop> TemplateOf<'env, 'source, O> {
     pub(crate) fn rendering(&self) -> Rendering<'_, O>
         ensures { result ≡ self.now }
     {
-        Rendering::new(self.environment, self.compiled())
+        Rendering::new(self.environment, self.entry_name(), self.compiled())
     }
 }
 
@@ -160,9 +189,11 @@ impl<'env, 'source, O: Parties> TemplateOf<'env, 'source, O> {
         let id = ids.next()?;
         let environment = self.environment;
         let compiled = self.compiled();
+        let template = self.id()?;
         StateData::new(
             environment.allocator(),
             id,
+            template,
             compiled.blocks(),
             compiled.escape(),
             environment.fuel(),
@@ -177,13 +208,17 @@ impl<'env, 'source, O: Parties> TemplateOf<'env, 'source, O> {
         captures: Captures,
         writer: &mut W,
     ) -> Result<(Captures, StateData<'state>), Halt>
-        requires own { state.stream ≡ root_of TemplateId.Own }
+        requires own { state.stream ≡ root_of self.now.id }
         requires fresh { IsFresh captures }
         ensures { Ran (meaning_from O.functions self.now state.entry) result captures
             (W.told writer.old) (W.told writer.new) (W.faults writer.old) (W.faults writer.new) }
     {
         let alloc = self.environment.allocator();
-        let stream = StreamId::root(TemplateId::Own);
+        let template = match self.id() {
+            Ok(template) => template,
+            Err(error) => return Err(Halt::Fault(error)),
+        };
+        let stream = StreamId::root(template);
         let mut machine = Machine::new(alloc, stream, captures, state);
         machine.run(alloc, &self.rendering(), true, writer)?;
         Ok(machine.into_parts())

@@ -1,19 +1,20 @@
 -- Pages for what the meaning and the machine share: no proof tells a wrong definition of that from a right one, a row does.
-use Rattle.std.specs.Prelude.{ℕ, ◌+◌, List, [], ◌∷◌, Option, Some, None, Bool, true, false, codes, pos, length}
-use Rattle.tm_values.specs.Val.{Val, boolean, number, text, map, function, pairs_of}
-use Rattle.tm_values.specs.declared.error.ErrorKind.{ErrorKind}
-use Rattle.tm_syntax.specs.declared.tree.Expr.{Expr, List', Call', end_of-Expr as no_expr, more_of-Expr as expr}
-use Rattle.tm_syntax.specs.declared.tree.Expr.{end_of-Argument as no_argument, end_of-Keyword as no_keyword}
+use Rattle.std.specs.Prelude.{ℕ, List, [], ◌∷◌, Some, None, Ok, true, false, codes, pos, length}
+use Rattle.tm_values.specs.Val.{Val, number, text, namespace, loop}
+use Rattle.tm_values.specs.declared.escape.AutoEscape.{AutoEscape}
+use Rattle.tm_values.specs.declared.escape.AutoEscape.TheVariants as escapes
+use Rattle.tm_values.specs.declared.undefined.UndefinedBehavior.{UndefinedBehavior}
+use Rattle.tm_syntax.specs.declared.tree.Expr.{Expr, List', end_of-Expr as no_expr}
 use Rattle.tm_syntax.specs.declared.tree.Step.{Attribute}
 use Rattle.tm_syntax.specs.declared.tree.Target.{Name as To}
 use Rattle.tm_syntax.specs.declared.tree.Stmt.{Stmt, EmitExpr, EmitLoop, For', Set, With', Block', AutoEscape', end_of-Stmt as no_statement}
 use Rattle.tm_syntax.specs.declared.tree.Stmt.{more_of-Stmt as statement, None' as no_else}
-use Rattle.tm_meaning.specs.World.{Function, View, Stated, callers}
-use Rattle.tm_meaning.specs.declared.reply.Reply.TheVariants.{Value as gives, Fault as faults}
+use Rattle.tm_meaning.specs.World.{Function, View, callers}
+use Rattle.tm_meaning.specs.declared.reply.Reply.TheVariants.{Value as gives}
 use Rattle.tm_meaning.specs.Tree.{body_of}
 use Rattle.tm_meaning.specs.Rows.{Page, page, nothing, with_value, named, one, two, literal, and_one, literal_number, x, raw}
 use Rattle.tm_meaning.specs.LoopRows.{numbers, alone_in_list, for_x}
-use Rattle.tm_meaning.specs.CallRows.{method_none, call_none, with_functions, with_languages, answers, recursive_one}
+use Rattle.tm_meaning.specs.CallRows.{method_none, call_none, with_functions, answers, recursive_one}
 
 abbrev of_loop : List ℕ → Expr
 of_loop attribute = and_one (named (codes "loop")) (Attribute attribute)
@@ -73,8 +74,43 @@ globals_seen view = number (pos (length view.globals))
 abbrev pub name_seen : View → Val
 name_seen view = text view.name false
 
--- {% for x in [1,2] recursive %}{{ loop }}{% endfor %} of a loop's call in a block, which is another stream:
--- {% for x in [[]] recursive %}{% block b %}{{ loop(x) }}{% endblock %}{% endfor %}
+abbrev shown_escape : AutoEscape → List ℕ
+shown_escape escapes.None = codes "none"
+shown_escape escapes.Html = codes "html"
+shown_escape escapes.Json = codes "json"
+shown_escape (escapes.Custom x) = codes "custom"
+
+abbrev pub escape_seen : View → Val
+escape_seen view = text (shown_escape view.escape) true
+
+-- {% autoescape e %}{{ f() }}{% endautoescape %}, where f answers the escape that it sees
+abbrev pub escape_seen_under : Expr → Page
+escape_seen_under e =
+    with_functions (seeing escape_seen) (seeing escape_seen)
+    (page (one (AutoEscape' e (tt ∷ []) (statement (EmitExpr (call_none (codes "f"))) no_statement))) nothing)
+
+-- {{ l.changed() }}, where l is a loop of another state
+abbrev pub foreign_changed : Page
+foreign_changed = page (one (EmitExpr (method_none (named (codes "l")) (codes "changed")))) (with_value (codes "l") (loop 5 0))
+
+-- {% for x in [[]] recursive %}{% for y in [1] %}{{ loop(x) }}{% endfor %}{% endfor %}
+abbrev pub plain_inside_called : Page
+plain_inside_called =
+    page (one (recursive_one (alone_in_list (List' [] no_expr)) (for_y (alone_in_list (literal_number 1)) (EmitLoop x)))) nothing
+
+-- {{ a }}, where the context is a namespace without a record
+abbrev pub lost_context : Page
+lost_context = page (one (EmitExpr (named (codes "a")))) (namespace 0 0)
+
+-- {{ a }} under this behavior, with a formatter that writes F
+abbrev pub undefined_under : UndefinedBehavior → Page
+undefined_under behavior = record (page (one (EmitExpr (named (codes "a")))) nothing) { undefined = behavior }
+
+abbrev pub formatted_under : UndefinedBehavior → Expr → Page
+formatted_under behavior e =
+    record (page (one (EmitExpr e)) nothing) { undefined = behavior; formatter = Some (λ v view. Ok (codes "F")) }
+
+-- {% for x in [[]] recursive %}{% block b %}{{ loop(x) }}{% endblock %}{% endfor %}: a block is another stream
 abbrev pub called_in_block : Page
 called_in_block =
     page (one (recursive_one (alone_in_list (List' [] no_expr)) (Block' (codes "b") (tt ∷ []) (statement (EmitLoop x) no_statement)))) nothing

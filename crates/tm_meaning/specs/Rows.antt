@@ -1,9 +1,11 @@
 -- Worked renders, through the meaning, and through the code and the machine.
 use Rattle.std.specs.Prelude.{◌≡◌, ℕ, ◌-◌, List, [], ◌∷◌, Option, Some, None, Bool, true, false, codes, pos, Ok}
+use Rattle.tm_values.specs.Answer.{Answer}
 use Rattle.tm_values.specs.Val.{Val, undefined, boolean, number, text, map, pairs_of}
 use Rattle.tm_values.specs.declared.error.ErrorKind.{ErrorKind}
 use Rattle.tm_values.specs.declared.error.ErrorKind.TheVariants as kind
 use Rattle.tm_values.specs.declared.escape.AutoEscape.TheVariants as escapes
+use Rattle.tm_values.specs.declared.undefined.UndefinedBehavior.{UndefinedBehavior}
 use Rattle.tm_values.specs.declared.undefined.UndefinedBehavior.TheVariants.{Lenient}
 use Rattle.tm_syntax.specs.declared.tree.UnaryOperator.TheVariants as unaries
 use Rattle.tm_syntax.specs.declared.tree.BinaryOperator.TheVariants as binaries
@@ -20,7 +22,7 @@ use Rattle.tm_syntax.specs.declared.tree.Stmt.{end_of-Stmt as no_statement, more
 use Rattle.tm_syntax.specs.declared.tree.Stmt.{None' as no_else, Some' as otherwise}
 use Rattle.tm_syntax.specs.Forms.{unary, chained, conditional, condition, comparison, binary, compare, and_then, or_else}
 use Rattle.tm_meaning.specs.Compiled.{code_of}
-use Rattle.tm_meaning.specs.World.{Bindings, find, find_name, view_of, own, World, Host, Function}
+use Rattle.tm_meaning.specs.World.{Bindings, find, find_name, view_of, own, World, Host, Function, View, fuel_levels}
 use Rattle.tm_meaning.specs.declared.reply.Reply.TheVariants.{Value as gives}
 use Rattle.tm_meaning.specs.Calls.{whole}
 use Rattle.tm_meaning.specs.Tree.{Body, body_of, TemplateTree, Trees, template_of, trees_of}
@@ -34,10 +36,12 @@ pub record Page : Type 0 where
   pub context : Val
   pub globals : Bindings
   pub functions : List Function
+  pub formatter : Option (Val → View → Answer (List ℕ))
+  pub undefined : UndefinedBehavior
   pub limit : ℕ
 
 abbrev pub page : Body → Val → Page
-page body context = record { body = body; context = context; globals = []; functions = []; limit = 500 }
+page body context = record { body = body; context = context; globals = []; functions = []; formatter = None; undefined = Lenient; limit = 500 }
 
 abbrev pub tree_of : Page → TemplateTree
 tree_of p = record { name = codes "page"; escape = escapes.None; root = p.body }
@@ -51,9 +55,9 @@ host_of p = record {
   filters = [];
   tests = [];
   join = λ x parent. Ok x;
-  formatter = None;
+  formatter = p.formatter;
   unknown_method = None;
-  undefined = Lenient;
+  undefined = p.undefined;
   limit = p.limit;
 }
 
@@ -128,6 +132,10 @@ Leaves p temps = Behind (λ w. w.temps ≡ temps) p
 -- a name that a look-up doesn't find behind it
 abbrev pub Lacks : Page → List ℕ → Type 0
 Lacks p x = Behind (λ w. find_name (view_of (host_of p) w) x ≡ Ok None) p
+
+-- the fuel consumed and the fuel left, of so much that was set
+abbrev pub Spends : Page → ℕ → Option (ℕ × ℕ) → Type 0
+Spends p fuel levels = fuel_levels (rendered (host_of p) (trees p) (world_of p (Some fuel))).world ≡ levels
 
 -- and where all is done
 abbrev pub Shows : Page → List ℕ → Type 0

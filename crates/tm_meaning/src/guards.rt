@@ -1,12 +1,15 @@
 //! Worked renders of what the meaning and the machine share.
-ghost use Rattle.std.specs.Prelude.{[], ◌∷◌, ◌++◌, codes};
+ghost use Rattle.std.specs.Prelude.{[], ◌∷◌, ◌++◌, Some, codes};
 ghost use Rattle.std.specs.Fmt.{decimal};
-ghost use Rattle.tm_values.specs.declared.error.ErrorKind.TheVariants.{InvalidOperation};
-ghost use Rattle.tm_meaning.specs.Rows.{Charges, Shows, Fails};
+ghost use Rattle.tm_values.specs.declared.error.ErrorKind.TheVariants.{InvalidOperation, UndefinedError};
+ghost use Rattle.tm_values.specs.declared.undefined.UndefinedBehavior.TheVariants.{Lenient, Strict};
+ghost use Rattle.tm_meaning.specs.Rows.{Shows, Fails, Spends, hello, literal, literal_number, named};
 ghost use Rattle.tm_meaning.specs.GuardRows.{depth_inside_plain, changed_without, named_loop, each_of_loop};
 ghost use Rattle.tm_meaning.specs.GuardRows.{inner_before_outer, context_before_globals, of_globals, in_scope};
 ghost use Rattle.tm_meaning.specs.GuardRows.{scopes_seen, globals_seen, name_seen, called_in_block};
-ghost use Rattle.tm_meaning.specs.GuardRows.{block_under_escape, stored_in_block};
+ghost use Rattle.tm_meaning.specs.GuardRows.{block_under_escape, stored_in_block, escape_seen_under};
+ghost use Rattle.tm_meaning.specs.GuardRows.{foreign_changed, plain_inside_called, lost_context};
+ghost use Rattle.tm_meaning.specs.GuardRows.{undefined_under, formatted_under};
 
 /// What `loop` has: its depth in a loop that can't be called, `changed()` of nothing, its name for a target, and its places.
 pub fn loop_guards()
@@ -27,6 +30,7 @@ pub fn look_up_guards()
     ensures inner { Shows inner_before_outer (decimal 1 ++ decimal 2) }
     ensures context { Shows context_before_globals (decimal 2) }
     ensures globals { Shows of_globals (decimal 3) }
+    ensures lost { Fails lost_context [] (InvalidOperation ∷ []) }
 {}
 
 /// What a function sees of the state that calls it.
@@ -34,10 +38,30 @@ pub fn view_guards()
     ensures scopes { Shows (in_scope scopes_seen) (decimal 2) }
     ensures globals { Shows (in_scope globals_seen) (decimal 2) }
     ensures name { Shows (in_scope name_seen) (codes "page") }
+    ensures html { Shows (escape_seen_under (literal (codes "html"))) (codes "html") }
+    ensures json { Shows (escape_seen_under (literal (codes "json"))) (codes "json") }
+    ensures none { Shows (escape_seen_under (literal (codes "none"))) (codes "none") }
 {}
 
-/// A loop is called in its own stream alone, and a block is another.
+/// What an undefined value is written as, and what is refused before any formatter is asked.
+pub fn emission_guards()
+    ensures lenient { Shows (undefined_under Lenient) [] }
+    ensures strict { Fails (undefined_under Strict) [] (UndefinedError ∷ []) }
+    ensures formatted { Shows (formatted_under Lenient (literal_number 1)) (codes "F") }
+    ensures refused_first { Fails (formatted_under Strict (named (codes "a"))) [] (UndefinedError ∷ []) }
+    ensures asked { Shows (formatted_under Lenient (named (codes "a"))) (codes "F") }
+{}
+
+/// `Hello {{ name }}!` takes 4 of 10 units; of 3 none is left.
+pub fn fuel_guards()
+    ensures levels { Spends hello 10 (Some (4, 6)) }
+    ensures none_left { Spends hello 3 (Some (3, 0)) }
+{}
+
+/// A loop is called in its own stream alone, and a block is another; the innermost loop is called, which has to be one that can be; a loop of another state has no methods.
 pub fn call_guards()
+    ensures innermost { Fails plain_inside_called [] (InvalidOperation ∷ []) }
+    ensures foreign { Fails foreign_changed [] (InvalidOperation ∷ []) }
     ensures in_block { Fails called_in_block [] (InvalidOperation ∷ []) }
 {}
 

@@ -22,7 +22,7 @@ mod wrapping;
 pub use base::Base;
 pub use function::GlobalFunction;
 pub use guards::{
-    block_guards, call_guards, look_up_guards, loop_guards, view_guards,
+    block_guards, call_guards, emission_guards, fuel_guards, look_up_guards, loop_guards, view_guards,
 };
 pub use mark::LoopMark;
 pub use operators::{

@@ -6,9 +6,10 @@ use Rattle.tm_values.specs.Val.{Val}
 use Rattle.tm_values.specs.declared.error.ErrorKind.{ErrorKind}
 use Rattle.tm_syntax.specs.declared.instruction.Instruction.{Instruction}
 use Rattle.tm_syntax.specs.declared.instruction.LoopFlags.{LoopFlags}
-use Rattle.tm_meaning.specs.World.{choose, World, Scope, Res, Good, Bad, bind, tick, pop, loop_scope}
+use Rattle.tm_meaning.specs.World.{choose, World, Host, Scope, Res, Good, Bad, bind, tick, pop, loop_scope}
 use Rattle.tm_meaning.specs.Meaning.{Run, Outcome, Ending, done, leave, next, fault, ended, so_far, use_it, then_do, closing_by, closing, captured_by, captured, round_end}
-use Rattle.tm_simulation.proofs.Keeps.{Kept, within, one_more, mark_behind, recorded, opened, Gives, EndsBy as EndsKept, Ends as KeptEnds}
+use Rattle.tm_simulation.proofs.Advances.{Kept, within, one_more, mark_behind, recorded, opened}
+use Rattle.tm_simulation.proofs.Gives.{Gives, EndsBy as EndsKept, Ends as KeptEnds}
 use Rattle.tm_meaning.specs.Machine.{Capture, Activation, Config, Failed, Next, More, Program, after, goes}
 use Rattle.tm_meaning.specs.Steps.{act, step, Final, final, Leads, over, more}
 use Rattle.tm_meaning.specs.declared.stream.TemplateId.{TemplateId}
@@ -82,7 +83,7 @@ follows_map context t (Good a w) K L h g = g a w h
 follows_map context t (Bad chain w) K L h g = h
 
 -- the same of what keeps the scopes
-pub follows_map_kept : {A : Type 0} (context : Context) (t : List ℕ) (w : World) (m : Res A) (K L : A → World → Type 0) → Gives w m → Follows context t m K → ((a : A) (world1 : World) → Kept w world1 → K a world1 → L a world1) → Follows context t m L
+pub follows_map_kept : {A : Type 0} (context : Context) (t : List ℕ) (w : World) (m : Res A) (K L : A → World → Type 0) → Gives context.program.host w m → Follows context t m K → ((a : A) (world1 : World) → Kept w world1 → K a world1 → L a world1) → Follows context t m L
 follows_map_kept context t w (Good a world1) K L e h g = g a world1 e h
 follows_map_kept context t w (Bad chain world1) K L e h g = h
 
@@ -98,12 +99,12 @@ bound_follows context t (Bad chain w) g K h = h
 
 -- the first part of what is bound, and what it keeps
 pub bind_then : {A B : Type 0} (context : Context) (t : List ℕ) (w : World) (m : Res A) (g : A → World → Res B) (K : B → World → Type 0) (L : A → World → Type 0) →
-    Gives w m → Follows context t (bind m g) K → ((a : A) (world1 : World) → Kept w world1 → Follows context t (g a world1) K → L a world1) → Follows context t m L
+    Gives context.program.host w m → Follows context t (bind m g) K → ((a : A) (world1 : World) → Kept w world1 → Follows context t (g a world1) K → L a world1) → Follows context t m L
 bind_then context t w (Good a world1) g K L e h k = k a world1 e h
 bind_then context t w (Bad chain world1) g K L e h k = h
 
 pub use_then : {A : Type 0} (context : Context) (b : Bed) (w : World) (m : Res A) (run : Run) (out : List ℕ) (g : A → World → Outcome) (D L N : Then) (K : A → World → Type 0) →
-    Gives w m → Ends context b (use_it m run out g) D L N → ((a : A) (world1 : World) → Kept w world1 → Ends context b (g a world1) D L N → K a world1) → Follows context (told_by b out) m K
+    Gives context.program.host w m → Ends context b (use_it m run out g) D L N → ((a : A) (world1 : World) → Kept w world1 → Ends context b (g a world1) D L N → K a world1) → Follows context (told_by b out) m K
 unfolding Ends
 use_then context b w (Good a world1) run out g D L N K e h k = k a world1 e h
 use_then context b w (Bad chain world1) run out g D L N K e h k = h
@@ -125,11 +126,11 @@ fault_then context b run out w chain D L N h = h
 abbrev pub whole_of : Ending → Option TemplateId → List ℕ → World → Outcome
 whole_of e parent out w = record { ending = e; parent = parent; text = out; world = w }
 
-kept_by : (w : World) (e : Ending) (parent : Option TemplateId) (out : List ℕ) (world1 : World) → KeptEnds w (whole_of e parent out world1) → EndsKept w e world1
+kept_by : (host : Host) (w : World) (e : Ending) (parent : Option TemplateId) (out : List ℕ) (world1 : World) → KeptEnds host w (whole_of e parent out world1) → EndsKept host w e world1
 unfolding KeptEnds
-kept_by w e parent out world1 h = h
+kept_by host w e parent out world1 h = h
 
-do_by : (context : Context) (b : Bed) (run : Run) (w : World) (e : Ending) (parent : Option TemplateId) (out : List ℕ) (world1 : World) (g : Run → List ℕ → World → Outcome) (D L N : Then) (K : Then) → EndsKept w e world1 →
+do_by : (context : Context) (b : Bed) (run : Run) (w : World) (e : Ending) (parent : Option TemplateId) (out : List ℕ) (world1 : World) (g : Run → List ℕ → World → Outcome) (D L N : Then) (K : Then) → EndsKept context.program.host w e world1 →
     Ends context b (then_do run (whole_of e parent out world1) g) D L N → (Kept w world1 → Ends context b (g (record run { parent = parent }) out world1) D L N → K parent out world1) → Ends context b (whole_of e parent out world1) K L N
 unfolding Ends
 do_by context b run w done parent out world1 g D L N K e h k = k e h
@@ -137,10 +138,10 @@ do_by context b run w leave parent out world1 g D L N K e h k = h
 do_by context b run w next parent out world1 g D L N K e h k = h
 do_by context b run w (fault chain) parent out world1 g D L N K e h k = h
 
-pub do_then : (context : Context) (b : Bed) (run : Run) (w : World) (o : Outcome) (g : Run → List ℕ → World → Outcome) (D L N : Then) (K : Then) → KeptEnds w o →
+pub do_then : (context : Context) (b : Bed) (run : Run) (w : World) (o : Outcome) (g : Run → List ℕ → World → Outcome) (D L N : Then) (K : Then) → KeptEnds context.program.host w o →
     Ends context b (then_do run o g) D L N → ((parent : Option TemplateId) (out : List ℕ) (world1 : World) → Kept w world1 → Ends context b (g (record run { parent = parent }) out world1) D L N → K parent out world1) → Ends context b o K L N
 do_then context b run w o g D L N K e h k =
-    do_by context b run w o.ending o.parent o.text o.world g D L N K (kept_by w o.ending o.parent o.text o.world e) h (k o.parent o.text o.world)
+    do_by context b run w o.ending o.parent o.text o.world g D L N K (kept_by context.program.host w o.ending o.parent o.text o.world e) h (k o.parent o.text o.world)
 
 -- what runs in a scope more, where there is room for it
 pub within_then : (context : Context) (b : Bed) (w : World) (s : Scope) (room : Bool) (run : Run) (out : List ℕ) (g : Unit {0} → World → Outcome) (D L N : Then) (K : World → Type 0) →
@@ -153,7 +154,7 @@ within_then context b w s false run out g D L N K h k = h
 abbrev pub Closed : (World → World) → Then → Then
 Closed close D parent out w = D parent out (close w)
 
-closed_then_by : (context : Context) (b : Bed) (w : World) (close : World → World) (e : Ending) (parent : Option TemplateId) (out : List ℕ) (world1 : World) (D L N K : Then) → EndsKept w e world1 →
+closed_then_by : (context : Context) (b : Bed) (w : World) (close : World → World) (e : Ending) (parent : Option TemplateId) (out : List ℕ) (world1 : World) (D L N K : Then) → EndsKept context.program.host w e world1 →
     Ends context b (closing_by e close (whole_of e parent out world1)) D L N → (Kept w world1 → Closed close D parent out world1 → K parent out world1) →
     Ends context b (whole_of e parent out world1) K (Closed close L) (Closed close N)
 unfolding Ends
@@ -162,11 +163,11 @@ closed_then_by context b w close leave parent out world1 D L N K e h k = h
 closed_then_by context b w close next parent out world1 D L N K e h k = h
 closed_then_by context b w close (fault chain) parent out world1 D L N K e h k = h
 
-pub closed_then : (context : Context) (b : Bed) (w : World) (close : World → World) (o : Outcome) (D L N K : Then) → KeptEnds w o → Ends context b (closing close o) D L N →
+pub closed_then : (context : Context) (b : Bed) (w : World) (close : World → World) (o : Outcome) (D L N K : Then) → KeptEnds context.program.host w o → Ends context b (closing close o) D L N →
     ((parent : Option TemplateId) (out : List ℕ) (world1 : World) → Kept w world1 → Closed close D parent out world1 → K parent out world1) →
     Ends context b o K (Closed close L) (Closed close N)
 closed_then context b w close o D L N K e h k =
-    closed_then_by context b w close o.ending o.parent o.text o.world D L N K (kept_by w o.ending o.parent o.text o.world e) h (k o.parent o.text o.world)
+    closed_then_by context b w close o.ending o.parent o.text o.world D L N K (kept_by context.program.host w o.ending o.parent o.text o.world e) h (k o.parent o.text o.world)
 
 -- the bed of what runs in a capture of its own
 abbrev pub captured_in : Bed → List ℕ → Bed
@@ -188,7 +189,7 @@ unfolding Ends
 skipped_by context b run out w (Good a world1) D L N h = h
 skipped_by context b run out w (Bad chain world1) D L N h = h
 
-captured_then_by : (context : Context) (b : Bed) (run : Run) (out : List ℕ) (w : World) (f : Run → List ℕ → World → Outcome) (e : Ending) (parent : Option TemplateId) (x : List ℕ) (world1 : World) (D L N K : Then) → EndsKept w e world1 →
+captured_then_by : (context : Context) (b : Bed) (run : Run) (out : List ℕ) (w : World) (f : Run → List ℕ → World → Outcome) (e : Ending) (parent : Option TemplateId) (x : List ℕ) (world1 : World) (D L N K : Then) → EndsKept context.program.host w e world1 →
     Ends context b (captured_by e (whole_of e parent x world1) (record run { parent = parent }) out f) D L N → (Kept w world1 → Ends context b (f (record run { parent = parent }) x world1) D L N → K parent x world1) →
     Ends context (captured_in b out) (whole_of e parent x world1) K (Dropped context b out L) (Dropped context b out N)
 unfolding Ends
@@ -197,11 +198,11 @@ captured_then_by context b run out w f leave parent x world1 D L N K e h k = dro
 captured_then_by context b run out w f next parent x world1 D L N K e h k = skipped_by context b (record run { parent = parent }) out world1 (tick world1) D L N h
 captured_then_by context b run out w f (fault chain) parent x world1 D L N K e h k = h
 
-pub captured_then : (context : Context) (b : Bed) (run : Run) (out : List ℕ) (w : World) (o : Outcome) (f : Run → List ℕ → World → Outcome) (D L N K : Then) → KeptEnds w o → Ends context b (captured o run out f) D L N →
+pub captured_then : (context : Context) (b : Bed) (run : Run) (out : List ℕ) (w : World) (o : Outcome) (f : Run → List ℕ → World → Outcome) (D L N K : Then) → KeptEnds context.program.host w o → Ends context b (captured o run out f) D L N →
     ((parent : Option TemplateId) (x : List ℕ) (world1 : World) → Kept w world1 → Ends context b (f (record run { parent = parent }) x world1) D L N → K parent x world1) →
     Ends context (captured_in b out) o K (Dropped context b out L) (Dropped context b out N)
 captured_then context b run out w o f D L N K e h k =
-    captured_then_by context b run out w f o.ending o.parent o.text o.world D L N K (kept_by w o.ending o.parent o.text o.world e) h (k o.parent o.text o.world)
+    captured_then_by context b run out w f o.ending o.parent o.text o.world D L N K (kept_by context.program.host w o.ending o.parent o.text o.world e) h (k o.parent o.text o.world)
 
 -- what follows, in other words
 ends_by_map : (context : Context) (b : Bed) (e : Ending) (parent : Option TemplateId) (out : List ℕ) (w : World) (D K L N : Then) → Ends context b (whole_of e parent out w) D L N →
@@ -216,7 +217,7 @@ pub ends_map : (context : Context) (b : Bed) (o : Outcome) (D K L N : Then) → 
 ends_map context b o D K L N h k = ends_by_map context b o.ending o.parent o.text o.world D K L N h (k o.parent o.text o.world)
 
 -- the same of what keeps the scopes
-ends_by_map_kept : (context : Context) (b : Bed) (w : World) (e : Ending) (parent : Option TemplateId) (out : List ℕ) (world1 : World) (D K L N : Then) → EndsKept w e world1 → Ends context b (whole_of e parent out world1) D L N →
+ends_by_map_kept : (context : Context) (b : Bed) (w : World) (e : Ending) (parent : Option TemplateId) (out : List ℕ) (world1 : World) (D K L N : Then) → EndsKept context.program.host w e world1 → Ends context b (whole_of e parent out world1) D L N →
     (Kept w world1 → D parent out world1 → K parent out world1) → Ends context b (whole_of e parent out world1) K L N
 unfolding Ends
 ends_by_map_kept context b w done parent out world1 D K L N e h k = k e h
@@ -224,10 +225,10 @@ ends_by_map_kept context b w leave parent out world1 D K L N e h k = h
 ends_by_map_kept context b w next parent out world1 D K L N e h k = h
 ends_by_map_kept context b w (fault chain) parent out world1 D K L N e h k = h
 
-pub ends_map_kept : (context : Context) (b : Bed) (w : World) (o : Outcome) (D K L N : Then) → KeptEnds w o → Ends context b o D L N →
+pub ends_map_kept : (context : Context) (b : Bed) (w : World) (o : Outcome) (D K L N : Then) → KeptEnds context.program.host w o → Ends context b o D L N →
     ((parent : Option TemplateId) (out : List ℕ) (world1 : World) → Kept w world1 → D parent out world1 → K parent out world1) → Ends context b o K L N
 ends_map_kept context b w o D K L N e h k =
-    ends_by_map_kept context b w o.ending o.parent o.text o.world D K L N (kept_by w o.ending o.parent o.text o.world e) h (k o.parent o.text o.world)
+    ends_by_map_kept context b w o.ending o.parent o.text o.world D K L N (kept_by context.program.host w o.ending o.parent o.text o.world e) h (k o.parent o.text o.world)
 
 pub leave_then : (context : Context) (b : Bed) (run : Run) (out : List ℕ) (w : World) (D L N : Then) → Ends context b (ended leave run out w) D L N → L run.parent out w
 unfolding Ends

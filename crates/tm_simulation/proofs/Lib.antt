@@ -1,9 +1,14 @@
+pub mod Advances
+pub mod Raised
+pub mod Gives
+pub mod Asks
+pub mod Evaluates
+pub mod Executes
 pub mod Keeps
+pub mod Chains
 pub mod Loops
 pub mod Follow
 pub mod Forms
 pub mod Simulation
 mod Begins
 mod TreeLoops
-pub mod Faults
-pub mod Memory

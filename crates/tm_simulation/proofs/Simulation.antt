@@ -81,13 +81,17 @@ use Rattle.tm_simulation.proofs.Begins.{Both, Looped, Match, match_at, none_begi
 use Rattle.tm_simulation.proofs.TreeLoops.{expr_loopless, target_loopless, assignments_loopless, found, iterable_begins, statement_begins}
 use Rattle.tm_simulation.proofs.TreeLoops.{statements_begin}
 use Rattle.tm_simulation.proofs.Loops.{LeftOf, next_item, no_item, left_then, turned_items, on_top_loop, next_record, new_record, none_is}
-use Rattle.tm_simulation.proofs.Keeps.{Kept, marks, kept_frames, kept_depth, kept_same, kept_then, kept_record, kept_popped, kept_cleared}
-use Rattle.tm_simulation.proofs.Keeps.{kept_turned, top_of_marks, mark_behind, in_loop_of, opened, opened_kept, loop_ends, ends_use}
-use Rattle.tm_simulation.proofs.Keeps.{Gives, EndsBy as EndsKept, Ends as KeptEnds, ends_as, tick_gives, answered_gives, Asks, block_asks}
-use Rattle.tm_simulation.proofs.Keeps.{named_asks, method_asks, innermost_asks, again_end, eval_gives, condition_gives, all_give}
-use Rattle.tm_simulation.proofs.Keeps.{pair_gives, pairs_give, argument_gives, arguments_give, keyword_gives, keywords_give, named_give}
-use Rattle.tm_simulation.proofs.Keeps.{one_counted_gives, loop_items_give, step_gives, binary_gives, within, kept_unescaped, assign_gives}
-use Rattle.tm_simulation.proofs.Keeps.{set_gives, set_each_gives, exec_ends, execs_end, nests_end}
+use Rattle.tm_simulation.proofs.Advances.{Kept, marks, kept_frames, kept_depth, kept_same, kept_then, kept_record, kept_popped}
+use Rattle.tm_simulation.proofs.Advances.{kept_cleared, kept_turned, top_of_marks, mark_behind, in_loop_of, opened, opened_kept, within}
+use Rattle.tm_simulation.proofs.Advances.{kept_unescaped}
+use Rattle.tm_simulation.proofs.Gives.{loop_ends, ends_use, Gives, EndsBy as EndsKept, Ends as KeptEnds, ends_as, tick_gives}
+use Rattle.tm_simulation.proofs.Asks.{unpacked_gives, emitted_gives, escape_gives, Asks, block_asks, named_asks, method_asks}
+use Rattle.tm_simulation.proofs.Asks.{innermost_asks, items_give}
+use Rattle.tm_simulation.proofs.Evaluates.{eval_gives, condition_gives, all_give, pair_gives, pairs_give, argument_gives, arguments_give}
+use Rattle.tm_simulation.proofs.Evaluates.{keyword_gives, keywords_give, named_give, one_counted_gives, loop_items_give, step_gives}
+use Rattle.tm_simulation.proofs.Evaluates.{binary_gives, assign_gives, set_gives, set_each_gives, truth_gives, operated_gives}
+use Rattle.tm_simulation.proofs.Executes.{exec_ends, execs_end}
+use Rattle.tm_simulation.proofs.Keeps.{again_end, nests_end}
 use Rattle.tm_simulation.proofs.Follow.{Context, Comes, follows_map_kept, bound_follows, ends_map_kept, leave_then, next_then, Goes}
 use Rattle.tm_simulation.proofs.Follow.{round_then, opened_then, opened_follows, Bed, air, inside, captures_of, told_by, Spot, told, cfg}
 use Rattle.tm_simulation.proofs.Follow.{later, Follows, Then, Ends, whole_of, follows_map, follows_bind, bind_then, use_then, so_far_then}
@@ -172,7 +176,7 @@ items_long n v w = exactly_long n _ w
 
 -- the same as `bind_then`, of as many as were asked for
 bind_long : {A B : Type 0} (context : Context) (t : List ℕ) (w : World) (n : ℕ) (m : Res (List A)) (g : List A → World → Res B) (K : B → World → Type 0) (L : List A → World → Type 0) →
-    Gives w m → IsLong n m → Follows context t (bind m g) K → ((xs : List A) (world1 : World) → Kept w world1 → length xs ≡ n → Follows context t (g xs world1) K → L xs world1) → Follows context t m L
+    Gives context.program.host w m → IsLong n m → Follows context t (bind m g) K → ((xs : List A) (world1 : World) → Kept w world1 → length xs ≡ n → Follows context t (g xs world1) K → L xs world1) → Follows context t m L
 bind_long context t w n (Good xs world1) g K L e l h k = k xs world1 e l h
 bind_long context t w n (Bad chain world1) g K L e l h k = h
 
@@ -281,12 +285,12 @@ levels_called context n level a w room l = record {
 
 module _ (context : Context) (trees : Trees) (n : ℕ)
     (entered : AllNested context.program trees n) (id : StreamId) (level : ℕ) (again : Again)
-    (again_kept : (m : ℕ) (items : List Val) (run : Run) (out : List ℕ) (w : World) → KeptEnds w (again m items run out w))
+    (again_kept : (m : ℕ) (items : List Val) (run : Run) (out : List ℕ) (w : World) → KeptEnds context.program.host w (again m items run out w))
     (called_in_place : CalledInPlace context n id level again) (called_as_value : CalledAsValue context n id level again) where
   abbrev u : Under
   u = over context.program.host (nests_of context.program.host trees n) again
 
-  nest_ends : (k : Callee) (heard : Bool) (out : List ℕ) (w : World) → KeptEnds w (nests_of context.program.host trees n k heard out w)
+  nest_ends : (k : Callee) (heard : Bool) (out : List ℕ) (w : World) → KeptEnds context.program.host w (nests_of context.program.host trees n k heard out w)
   nest_ends k heard out w = nests_end context.program.host trees n k heard out w
 
   abbrev Deep : Run → Spot → World → Type 0
@@ -319,7 +323,7 @@ module _ (context : Context) (trees : Trees) (n : ℕ)
   deep_later run s w q out d = (d.0, stands_later context.base run s d.1 q out, d.2)
 
   -- what a call comes to, as a value
-  asked_then : (run : Run) (s : Spot) (pc : ℕ) (stack old : List Val) (w world1 : World) (q : Asked) → Asks context.program.host.limit world1 q → Here run s world1 →
+  asked_then : (run : Run) (s : Spot) (pc : ℕ) (stack old : List Val) (w world1 : World) (q : Asked) → Asks context.program.host world1 q → Here run s world1 →
       Follows context (told s) (value_of u run q) (λ v world2. Go context s (pc + 1) (v ∷ stack) world2) → Comes context (told s) (asked context.program (cfg s pc old w) stack q)
   asked_then run s pc stack old w world1 (has v world2) e d h = silent context (told s) _ h
   asked_then run s pc stack old w world1 (refused chain world2) e d h = is_over refl h
@@ -329,7 +333,7 @@ module _ (context : Context) (trees : Trees) (n : ℕ)
       call_as_value context u run c s pc old stack w world2 _ (entered c.callee true (inside true (told s) (captures_of s.bed s.out)) [] world2 (omega (arith, e.0, d.0.nests)) e.1) h (λ x world3 g. g)
 
   -- and in place
-  placed_then : (run : Run) (s : Spot) (pc : ℕ) (stack old : List Val) (w world1 : World) (q : Asked) (D L N : Then) → Fits context.base run s.bed → Asks context.program.host.limit world1 q → Deep run s world1 →
+  placed_then : (run : Run) (s : Spot) (pc : ℕ) (stack old : List Val) (w world1 : World) (q : Asked) (D L N : Then) → Fits context.base run s.bed → Asks context.program.host world1 q → Deep run s world1 →
       Ends context s.bed (in_place_of u (as_at run s) s.out q) D L N → ((q1 : Option TemplateId) (out1 : List ℕ) (world2 : World) → D q1 out1 world2 → Go context (later s q1 out1) (pc + 1) stack world2) →
       Comes context (told s) (asked_in_place context.program context.base (cfg s pc old w) stack q)
   placed_then run s pc stack old w world1 (has v world2) D L N fits e d h g = silent context (told s) _ (g s.parent s.out world2 (so_far_then context s.bed (as_at run s) s.out world2 D L N h))
@@ -342,10 +346,10 @@ module _ (context : Context) (trees : Trees) (n : ℕ)
   unary_then : (op : UnaryOperator) (s : Spot) (pc : ℕ) (v : Val) (stack : List Val) (w : World) → slice_get (context.program.code s.run.stream) pc ≡ Some (unary_code op) →
       Follows context (told s) (bind (tick w) (λ _ world1. applied_unary context.program.host op v world1)) (λ x world1. Go context s (pc + 1) (x ∷ stack) world1) → Go context s pc (v ∷ stack) w
   unary_then unaries.Not s pc v stack w e h =
-      at context i.Not s pc (v ∷ stack) w e (after_then context (told s) (tick w) _ (bind_then context (told s) w (tick w) _ _ _ (tick_gives w) h (λ _ world1 k h1.
+      at context i.Not s pc (v ∷ stack) w e (after_then context (told s) (tick w) _ (bind_then context (told s) w (tick w) _ _ _ (tick_gives _ w) h (λ _ world1 k h1.
       pushes context s pc stack (v ∷ stack) world1 (applied_unary context.program.host unaries.Not v world1) h1)))
   unary_then unaries.Negate s pc v stack w e h =
-      at context i.Neg s pc (v ∷ stack) w e (after_then context (told s) (tick w) _ (bind_then context (told s) w (tick w) _ _ _ (tick_gives w) h (λ _ world1 k h1.
+      at context i.Neg s pc (v ∷ stack) w e (after_then context (told s) (tick w) _ (bind_then context (told s) w (tick w) _ _ _ (tick_gives _ w) h (λ _ world1 k h1.
       pushes context s pc stack (v ∷ stack) world1 (applied_unary context.program.host unaries.Negate v world1) h1)))
 
   -- an instruction that is an operator
@@ -354,7 +358,7 @@ module _ (context : Context) (trees : Trees) (n : ℕ)
       Follows context (told s) (bind (tick w) (λ _ world1. operated context.program.host op a b world1)) (λ y world1. Go context s (pc + 1) (y ∷ stack) world1) → Go context s pc (b ∷ a ∷ stack) w
   operates op x is s pc a b stack w e h =
       at context x s pc (b ∷ a ∷ stack) w e (subst (λ n. Comes context (told s) n) (sym (is (cfg s pc (b ∷ a ∷ stack) w)))
-      (after_then context (told s) (tick w) _ (bind_then context (told s) w (tick w) _ _ _ (tick_gives w) h (λ _ world1 k h1.
+      (after_then context (told s) (tick w) _ (bind_then context (told s) w (tick w) _ _ _ (tick_gives _ w) h (λ _ world1 k h1.
       pushes context s pc stack (b ∷ a ∷ stack) world1 (operated context.program.host op a b world1) h1))))
 
   binary_then : (op : BinaryOperator) (s : Spot) (pc : ℕ) (a b : Val) (stack : List Val) (w : World) → HasAt (context.program.code s.run.stream) pc (binary_code op) →
@@ -367,8 +371,8 @@ module _ (context : Context) (trees : Trees) (n : ℕ)
   binary_then binaries.GreaterOrEqual s pc a b stack w is h = operates binaries.GreaterOrEqual i.Gte (λ c. refl) s pc a b stack w is.0 h
   binary_then binaries.In s pc a b stack w is h = operates binaries.In i.In (λ c. refl) s pc a b stack w is.0 h
   binary_then binaries.NotIn s pc a b stack w is h =
-      at context i.In s pc (b ∷ a ∷ stack) w is.0 (after_then context (told s) (tick w) _ (bind_then context (told s) w (tick w) _ _ _ (tick_gives w) h (λ _ world1 k h1.
-      pushes context s pc stack (b ∷ a ∷ stack) world1 (operated context.program.host binaries.In a b world1) (bind_then context (told s) world1 (operated context.program.host binaries.In a b world1) _ _ _ (answered_gives _ world1) h1 (λ v world2 k2 h2.
+      at context i.In s pc (b ∷ a ∷ stack) w is.0 (after_then context (told s) (tick w) _ (bind_then context (told s) w (tick w) _ _ _ (tick_gives _ w) h (λ _ world1 k h1.
+      pushes context s pc stack (b ∷ a ∷ stack) world1 (operated context.program.host binaries.In a b world1) (bind_then context (told s) world1 (operated context.program.host binaries.In a b world1) _ _ _ (operated_gives context.program.host binaries.In a b world1) h1 (λ v world2 k2 h2.
       unary_then unaries.Not s (pc + 1) v stack world2 is.1.0 h2)))))
   binary_then binaries.Add s pc a b stack w is h = operates binaries.Add i.Add (λ c. refl) s pc a b stack w is.0 h
   binary_then binaries.Subtract s pc a b stack w is h = operates binaries.Subtract i.Sub (λ c. refl) s pc a b stack w is.0 h
@@ -389,7 +393,7 @@ module _ (context : Context) (trees : Trees) (n : ℕ)
   dropped_then : (s : Spot) (end : ℕ) (v y : Val) (stack : List Val) (w : World) → HasAt (context.program.code s.run.stream) end (i.Swap ∷ i.DiscardTop ∷ []) →
       Follows context (told s) (bind (tick w) (λ _ world1. Good v world1)) (λ x world1. Go context s (end + 1 + 1) (x ∷ stack) world1) → Go context s end (v ∷ y ∷ stack) w
   dropped_then s end v y stack w is h =
-      at context i.Swap s end (v ∷ y ∷ stack) w is.0 (after_then context (told s) (tick w) _ (bind_then context (told s) w (tick w) _ _ _ (tick_gives w) h (λ _ world1 k g.
+      at context i.Swap s end (v ∷ y ∷ stack) w is.0 (after_then context (told s) (tick w) _ (bind_then context (told s) w (tick w) _ _ _ (tick_gives _ w) h (λ _ world1 k g.
       silent context (told s) _ (at context i.DiscardTop s (end + 1) (y ∷ v ∷ stack) world1 is.1.0 (silent context (told s) _ g)))))
 
   -- code that stands in the stream of a spot
@@ -407,27 +411,27 @@ module _ (context : Context) (trees : Trees) (n : ℕ)
     expr_runs : (e : Expr) (run : Run) (s : Spot) (l : Labels) (pc : ℕ) (stack : List Val) (w : World) → Here run s w → In s l pc (expr_code e) →
         Follows context (told s) (eval u run e w) (λ v world1. Go context s (beyond pc (expr_code e)) (v ∷ stack) world1) → Go context s pc stack w
     expr_runs (Var x) run s l pc stack w d is h =
-        at context (i.Lookup x) s pc stack w is.0 (after_then context (told s) (tick w) _ (bind_then context (told s) w (tick w) _ _ _ (tick_gives w) h (λ _ world1 k h1.
+        at context (i.Lookup x) s pc stack w is.0 (after_then context (told s) (tick w) _ (bind_then context (told s) w (tick w) _ _ _ (tick_gives _ w) h (λ _ world1 k h1.
         pushes context s pc stack stack world1 (looked_up context.program.host x world1) h1)))
     expr_runs (Const v) run s l pc stack w d is h =
-        at context (i.LoadConst v) s pc stack w is.0 (after_then context (told s) (tick w) _ (bind_then context (told s) w (tick w) _ _ _ (tick_gives w) h (λ _ world1 k h1.
+        at context (i.LoadConst v) s pc stack w is.0 (after_then context (told s) (tick w) _ (bind_then context (told s) w (tick w) _ _ _ (tick_gives _ w) h (λ _ world1 k h1.
         silent context (told s) _ h1)))
     expr_runs (List' _ es) run s l pc stack w d is h =
         exprs_run es run s l pc stack w d is.0
         (bind_long context (told s) w (count_exprs es) (eval_all u run es w) _ _ _ (all_give u nest_ends again_kept run es w) (all_long u run es w) h (λ vs world1 k n h1.
-        at context _ s _ (onto vs stack) world1 is.1.0 (after_then context (told s) (tick world1) _ (bind_then context (told s) world1 (tick world1) _ _ _ (tick_gives world1) h1 (λ _ world2 k2 h2.
+        at context _ s _ (onto vs stack) world1 is.1.0 (after_then context (told s) (tick world1) _ (bind_then context (told s) world1 (tick world1) _ _ _ (tick_gives _ world1) h1 (λ _ world2 k2 h2.
         built_then list_of_values s _ (count_exprs es) vs stack world2 n h2)))))
     expr_runs (Tuple' _ es) run s l pc stack w d is h =
         exprs_run es run s l pc stack w d is.0
         (bind_long context (told s) w (count_exprs es) (eval_all u run es w) _ _ _ (all_give u nest_ends again_kept run es w) (all_long u run es w) h (λ vs world1 k n h1.
-        at context _ s _ (onto vs stack) world1 is.1.0 (after_then context (told s) (tick world1) _ (bind_then context (told s) world1 (tick world1) _ _ _ (tick_gives world1) h1 (λ _ world2 k2 h2.
+        at context _ s _ (onto vs stack) world1 is.1.0 (after_then context (told s) (tick world1) _ (bind_then context (told s) world1 (tick world1) _ _ _ (tick_gives _ world1) h1 (λ _ world2 k2 h2.
         built_then list_of_values s _ (count_exprs es) vs stack world2 n h2)))))
     expr_runs (Map' _ ps) run s l pc stack w d is h =
         let n = count_pairs ps in
         let pc1 = beyond pc (pairs_code ps) in
         pairs_run ps run s l pc stack w d is.0
         (bind_long context (told s) w n (eval_pairs u run ps w) _ _ _ (pairs_give u nest_ends again_kept run ps w) (pairs_long u run ps w) h (λ xs world1 k m h1.
-        at context _ s _ (onto (flat xs) stack) world1 is.1.0 (after_then context (told s) (tick world1) _ (bind_then context (told s) world1 (tick world1) _ _ _ (tick_gives world1) h1 (λ _ world2 k2 h2.
+        at context _ s _ (onto (flat xs) stack) world1 is.1.0 (after_then context (told s) (tick world1) _ (bind_then context (told s) world1 (tick world1) _ _ _ (tick_gives _ world1) h1 (λ _ world2 k2 h2.
         built_then (λ vs. map_of_pairs (paired vs)) s pc1 (n + n) (flat xs) stack world2 (flat_long n xs m) (subst (λ ys. Go context s (pc1 + 1) (map_of_pairs ys ∷ stack) world2) (sym (paired_flat xs)) h2))))))
     expr_runs (Call' g _ given _ named) run s l pc stack w d is h =
         let n = count given + together named in
@@ -439,7 +443,7 @@ module _ (context : Context) (trees : Trees) (n : ℕ)
         let long : length (vs ++ ks) ≡ n = omega (arith, length-append vs ks, m, left_last) in
         subst (λ us. Go context s pc1 us world2) (onto_both vs ks stack)
         (at context (i.CallFunction g n) s pc1 (onto (vs ++ ks) stack) world2 is.1.1.0
-        (after_then context (told s) (tick world2) _ (bind_then context (told s) world2 (tick world2) _ _ _ (tick_gives world2) h2 (λ _ world3 k3 h3.
+        (after_then context (told s) (tick world2) _ (bind_then context (told s) world2 (tick world2) _ _ _ (tick_gives _ world2) h2 (λ _ world3 k3 h3.
         subst (λ t. Comes context (told s) (on_taken t world3 (λ xs rest. asked context.program (cfg s pc1 (onto (vs ++ ks) stack) world3) rest (call_named context.program.host g xs world3)))) (sym (taken_all (vs ++ ks) n stack long))
         (asked_then run s pc1 stack (onto (vs ++ ks) stack) world3 world3 (call_named context.program.host g (vs ++ ks) world3) (named_asks context.program.host g (vs ++ ks) world3) (here_kept run s k3 (here_kept run s k2 (here_kept run s k d))) h3)))))))))
     expr_runs (unary op a) run s l pc stack w d is h =
@@ -453,20 +457,20 @@ module _ (context : Context) (trees : Trees) (n : ℕ)
         (λ s1 l1 pc1 stack1 world1 deep1 is1 h1. expr_runs a run s1 l1 pc1 stack1 world1 deep1 is1 h1) s l pc stack w d is h
 
     -- a condition before code that pushes a value, and what stands for that behind it
-    condition_runs : (x : Condition) (run : Run) (code : Fragment) (guarded : World → Res Val) → ((w : World) → Gives w (guarded w)) → Runs run code guarded → Runs run (condition_code x code) (eval_condition u run x guarded)
+    condition_runs : (x : Condition) (run : Run) (code : Fragment) (guarded : World → Res Val) → ((w : World) → Gives context.program.host w (guarded w)) → Runs run code guarded → Runs run (condition_code x code) (eval_condition u run x guarded)
     condition_runs (condition c e) run code guarded given part s l pc stack w d is h =
         expr_runs c run s l pc stack w d is.0
         (bind_then context (told s) w (eval u run c w) _ _ _ (eval_gives u nest_ends again_kept run c w) h (λ v world1 k1 h1.
-        at context _ s _ (v ∷ stack) world1 is.1.0.0 (after_then context (told s) (tick world1) _ (bind_then context (told s) world1 (tick world1) _ _ _ (tick_gives world1) h1 (λ _ world2 k2 h2.
-        after_then context (told s) (truth context.program.host v world2) _ (bind_then context (told s) world2 (truth context.program.host v world2) _ _ _ (answered_gives _ world2) h2 (λ b world3 k3 h3.
+        at context _ s _ (v ∷ stack) world1 is.1.0.0 (after_then context (told s) (tick world1) _ (bind_then context (told s) world1 (tick world1) _ _ _ (tick_gives _ world1) h1 (λ _ world2 k2 h2.
+        after_then context (told s) (truth context.program.host v world2) _ (bind_then context (told s) world2 (truth context.program.host v world2) _ _ _ (truth_gives context.program.host v world2) h2 (λ b world3 k3 h3.
         let deep3 = here_kept run s k3 (here_kept run s k2 (here_kept run s k1 d)) in
         choose_then context b (bind (guarded world3) (λ x world4. bind (tick world4) (λ _ world5. Good x world5))) (eval u run e world3) _ _ (told s) _ h3
         (λ h4. silent context (told s) _ (part s _ _ stack world3 deep3 is.1.0.1
         (bind_then context (told s) world3 (guarded world3) _ _ _ (given world3) h4 (λ x world4 k4 h5.
-        at context _ s _ (x ∷ stack) world4 is.1.1 (after_then context (told s) (tick world4) _ (bind_then context (told s) world4 (tick world4) _ _ _ (tick_gives world4) h5 (λ _ world5 k5 g. silent context (told s) _ g)))))))
+        at context _ s _ (x ∷ stack) world4 is.1.1 (after_then context (told s) (tick world4) _ (bind_then context (told s) world4 (tick world4) _ _ _ (tick_gives _ world4) h5 (λ _ world5 k5 g. silent context (told s) _ g)))))))
         (λ h4. silent context (told s) _ (expr_runs e run s l _ stack world3 deep3 is.1.2 h4)))))))))
 
-    conditions_run : {m : _} → (cs : Row_of-Condition m) (run : Run) (code : Fragment) (guarded : World → Res Val) → ((w : World) → Gives w (guarded w)) → Runs run code guarded → Runs run (conditions_code cs code) (eval_conditions u run cs guarded)
+    conditions_run : {m : _} → (cs : Row_of-Condition m) (run : Run) (code : Fragment) (guarded : World → Res Val) → ((w : World) → Gives context.program.host w (guarded w)) → Runs run code guarded → Runs run (conditions_code cs code) (eval_conditions u run cs guarded)
     conditions_run no_condition run code guarded given part s l pc stack w d is h = part s l pc stack w d is h
     conditions_run (with_condition c more) run code guarded given part s l pc stack w d is h =
         conditions_run more run (condition_code c code) (λ world1. eval_condition u run c guarded world1) (λ world1. condition_gives u nest_ends again_kept run c guarded given world1)
@@ -516,7 +520,7 @@ module _ (context : Context) (trees : Trees) (n : ℕ)
     keyword_runs : (x : Keyword) (run : Run) (s : Spot) (l : Labels) (pc : ℕ) (stack : List Val) (w : World) → Here run s w → In s l pc (keyword_code x) →
         Follows context (told s) (eval_keyword u run x w) (λ y world1. Go context s (beyond pc (keyword_code x)) (y.1 ∷ y.0 ∷ stack) world1) → Go context s pc stack w
     keyword_runs (keyword x a) run s l pc stack w d is h =
-        at context (i.LoadConst (text x false)) s pc stack w is.0.0 (after_then context (told s) (tick w) _ (bind_then context (told s) w (tick w) _ _ _ (tick_gives w) h (λ _ world1 k h1.
+        at context (i.LoadConst (text x false)) s pc stack w is.0.0 (after_then context (told s) (tick w) _ (bind_then context (told s) w (tick w) _ _ _ (tick_gives _ w) h (λ _ world1 k h1.
         silent context (told s) _
         (expr_runs a run s l (pc + 1) (text x false ∷ stack) world1 (here_kept run s k d) is.1
         (bind_then context (told s) world1 (eval u run a world1) _ _ _ (eval_gives u nest_ends again_kept run a world1) h1 (λ v world2 k2 g. g))))))
@@ -544,14 +548,14 @@ module _ (context : Context) (trees : Trees) (n : ℕ)
         let xs = y ∷ ys in
         let long : length xs ≡ n = omega (arith, m) in
         at context (i.BuildKwargs n) s pc1 (onto (flat xs) stack) world2 is.1.1.0
-        (after_then context (told s) (tick world2) _ (bind_then context (told s) world2 (tick world2) _ _ _ (tick_gives world2) h2 (λ _ world3 k3 h3.
+        (after_then context (told s) (tick world2) _ (bind_then context (told s) world2 (tick world2) _ _ _ (tick_gives _ world2) h2 (λ _ world3 k3 h3.
         built_then (λ vs. keyword_map (paired vs)) s pc1 (n + n) (flat xs) stack world3 (flat_long n xs long) (subst (λ zs. Go context s (pc1 + 1) (keyword_map zs ∷ stack) world3) (sym (paired_flat xs)) h3))))))))
 
     -- A step's code replaces the value on top.
     step_runs : (x : Step) (run : Run) (s : Spot) (l : Labels) (pc : ℕ) (v : Val) (stack : List Val) (w : World) → Here run s w → In s l pc (step_code x) →
         Follows context (told s) (eval_step u run x v w) (λ y world1. Go context s (beyond pc (step_code x)) (y ∷ stack) world1) → Go context s pc (v ∷ stack) w
     step_runs (Attribute x) run s l pc v stack w d is h =
-        at context (i.GetAttr x) s pc (v ∷ stack) w is.0 (after_then context (told s) (tick w) _ (bind_then context (told s) w (tick w) _ _ _ (tick_gives w) h (λ _ world1 k h1.
+        at context (i.GetAttr x) s pc (v ∷ stack) w is.0 (after_then context (told s) (tick w) _ (bind_then context (told s) w (tick w) _ _ _ (tick_gives _ w) h (λ _ world1 k h1.
         pushes context s pc stack (v ∷ stack) world1 (attribute context.program.host v x world1) h1)))
     step_runs (Method' x _ given _ named) run s l pc v stack w d is h =
         let n = count given + together named + 1 in
@@ -563,13 +567,13 @@ module _ (context : Context) (trees : Trees) (n : ℕ)
         let long : length (v ∷ (vs ++ ks)) ≡ n = omega (arith, length-append vs ks, m, left_last) in
         subst (λ us. Go context s pc1 us world2) (onto_both vs ks (v ∷ stack))
         (at context (i.CallMethod x n) s pc1 (onto (v ∷ (vs ++ ks)) stack) world2 is.1.1.0
-        (after_then context (told s) (tick world2) _ (bind_then context (told s) world2 (tick world2) _ _ _ (tick_gives world2) h2 (λ _ world3 k3 h3.
+        (after_then context (told s) (tick world2) _ (bind_then context (told s) world2 (tick world2) _ _ _ (tick_gives _ world2) h2 (λ _ world3 k3 h3.
         subst (λ t. Comes context (told s) (on_taken t world3 (λ xs rest. asked context.program (cfg s pc1 (onto (v ∷ (vs ++ ks)) stack) world3) rest (call_first context.program.host x xs world3)))) (sym (taken_all (v ∷ (vs ++ ks)) n stack long))
         (asked_then run s pc1 stack (onto (v ∷ (vs ++ ks)) stack) world3 world3 (call_method context.program.host x v (vs ++ ks) world3) (method_asks context.program.host x v (vs ++ ks) world3) (here_kept run s k3 (here_kept run s k2 (here_kept run s k d))) h3)))))))))
     step_runs (item a) run s l pc v stack w d is h =
         expr_runs a run s l pc (v ∷ stack) w d is.0
         (bind_then context (told s) w (eval u run a w) _ _ _ (eval_gives u nest_ends again_kept run a w) h (λ k world1 e h1.
-        at context i.GetItem s _ (k ∷ v ∷ stack) world1 is.1.0 (after_then context (told s) (tick world1) _ (bind_then context (told s) world1 (tick world1) _ _ _ (tick_gives world1) h1 (λ _ world2 e2 h2.
+        at context i.GetItem s _ (k ∷ v ∷ stack) world1 is.1.0 (after_then context (told s) (tick world1) _ (bind_then context (told s) world1 (tick world1) _ _ _ (tick_gives _ world1) h1 (λ _ world2 e2 h2.
         pushes context s _ stack (k ∷ v ∷ stack) world2 (item_at context.program.host v k world2) h2)))))
     step_runs (slice a b c) run s l pc v stack w d is h =
         expr_runs a run s l pc (v ∷ stack) w d is.0
@@ -578,7 +582,7 @@ module _ (context : Context) (trees : Trees) (n : ℕ)
         (bind_then context (told s) world1 (eval u run b world1) _ _ _ (eval_gives u nest_ends again_kept run b world1) h1 (λ y world2 k2 h2.
         expr_runs c run s l _ (y ∷ x ∷ v ∷ stack) world2 (here_kept run s k2 (here_kept run s k1 d)) is.1.1.0
         (bind_then context (told s) world2 (eval u run c world2) _ _ _ (eval_gives u nest_ends again_kept run c world2) h2 (λ z world3 k3 h3.
-        at context i.Slice s _ (z ∷ y ∷ x ∷ v ∷ stack) world3 is.1.1.1.0 (after_then context (told s) (tick world3) _ (bind_then context (told s) world3 (tick world3) _ _ _ (tick_gives world3) h3 (λ _ world4 k4 h4.
+        at context i.Slice s _ (z ∷ y ∷ x ∷ v ∷ stack) world3 is.1.1.1.0 (after_then context (told s) (tick world3) _ (bind_then context (told s) world3 (tick world3) _ _ _ (tick_gives _ world3) h3 (λ _ world4 k4 h4.
         pushes context s _ stack (z ∷ y ∷ x ∷ v ∷ stack) world4 (slice_of context.program.host v x y z world4) h4)))))))))
     step_runs (binary op a) run s l pc v stack w d is h =
         expr_runs a run s l pc (v ∷ stack) w d is.0
@@ -591,15 +595,15 @@ module _ (context : Context) (trees : Trees) (n : ℕ)
         links_run op cs run s (outward (jump + 1) l) pc1 jump v y stack world1 (here_kept run s k d) is.1.0 refl is.1.1 is.1.2 h1))
     step_runs (and_then a) run s l pc v stack w d is h =
         at context _ s pc (v ∷ stack) w is.0
-        (after_then context (told s) (tick w) _ (bind_then context (told s) w (tick w) _ _ _ (tick_gives w) h (λ _ world1 k h1.
-        after_then context (told s) (truth context.program.host v world1) _ (bind_then context (told s) world1 (truth context.program.host v world1) _ _ _ (answered_gives _ world1) h1 (λ b world2 k2 h2.
+        (after_then context (told s) (tick w) _ (bind_then context (told s) w (tick w) _ _ _ (tick_gives _ w) h (λ _ world1 k h1.
+        after_then context (told s) (truth context.program.host v world1) _ (bind_then context (told s) world1 (truth context.program.host v world1) _ _ _ (truth_gives context.program.host v world1) h1 (λ b world2 k2 h2.
         choose_then context b (eval u run a world2) (Good v world2) _ _ (told s) _ h2
         (λ h3. silent context (told s) _ (expr_runs a run s _ (pc + 1) stack world2 (here_kept run s k2 (here_kept run s k d)) is.1 h3))
         (λ g. silent context (told s) _ g))))))
     step_runs (or_else a) run s l pc v stack w d is h =
         at context _ s pc (v ∷ stack) w is.0
-        (after_then context (told s) (tick w) _ (bind_then context (told s) w (tick w) _ _ _ (tick_gives w) h (λ _ world1 k h1.
-        after_then context (told s) (truth context.program.host v world1) _ (bind_then context (told s) world1 (truth context.program.host v world1) _ _ _ (answered_gives _ world1) h1 (λ b world2 k2 h2.
+        (after_then context (told s) (tick w) _ (bind_then context (told s) w (tick w) _ _ _ (tick_gives _ w) h (λ _ world1 k h1.
+        after_then context (told s) (truth context.program.host v world1) _ (bind_then context (told s) world1 (truth context.program.host v world1) _ _ _ (truth_gives context.program.host v world1) h1 (λ b world2 k2 h2.
         choose_then context b (Good v world2) (eval u run a world2) _ _ (told s) _ h2
         (λ g. silent context (told s) _ g)
         (λ h3. silent context (told s) _ (expr_runs a run s _ (pc + 1) stack world2 (here_kept run s k2 (here_kept run s k d)) is.1 h3)))))))
@@ -610,16 +614,16 @@ module _ (context : Context) (trees : Trees) (n : ℕ)
         Follows context (told s) (eval_links u run op cs x y w) (λ v world1. Go context s (l.out + 1 + 1) (v ∷ stack) world1) → Go context s pc (y ∷ x ∷ stack) w
     links_run op no_comparison run s l pc jump x y stack w d is place over_drop drop h =
         binary_then op s pc x y stack w is
-        (follows_bind context (told s) (tick w) _ _ (bind_then context (told s) w (tick w) _ _ _ (tick_gives w) h (λ _ world1 k h1.
-        bind_then context (told s) world1 (applied context.program.host op x y world1) _ _ _ (binary_gives u nest_ends again_kept op x y world1) h1 (λ v world2 k2 h2.
+        (follows_bind context (told s) (tick w) _ _ (bind_then context (told s) w (tick w) _ _ _ (tick_gives _ w) h (λ _ world1 k h1.
+        bind_then context (told s) world1 (applied context.program.host op x y world1) _ _ _ (binary_gives context.program.host op x y world1) h1 (λ v world2 k2 h2.
         move context s _ _ (v ∷ stack) world2 place
-        (at context _ s jump (v ∷ stack) world2 over_drop (after_then context (told s) (tick world2) _ (bind_then context (told s) world2 (tick world2) _ _ _ (tick_gives world2) h2 (λ _ world3 k3 g. silent context (told s) _ g))))))))
+        (at context _ s jump (v ∷ stack) world2 over_drop (after_then context (told s) (tick world2) _ (bind_then context (told s) world2 (tick world2) _ _ _ (tick_gives _ world2) h2 (λ _ world3 k3 g. silent context (told s) _ g))))))))
     links_run op (with_comparison (comparison op1 a) more) run s l pc jump x y stack w d is place over_drop drop h =
-        at context (i.CompareAndPreserve op) s pc (y ∷ x ∷ stack) w is.0.0 (after_then context (told s) (tick w) _ (bind_then context (told s) w (tick w) _ _ _ (tick_gives w) h (λ _ world1 k1 h1.
-        after_then context (told s) (operated context.program.host op x y world1) _ (bind_then context (told s) world1 (operated context.program.host op x y world1) _ _ _ (answered_gives _ world1) h1 (λ v world2 k2 h2.
+        at context (i.CompareAndPreserve op) s pc (y ∷ x ∷ stack) w is.0.0 (after_then context (told s) (tick w) _ (bind_then context (told s) w (tick w) _ _ _ (tick_gives _ w) h (λ _ world1 k1 h1.
+        after_then context (told s) (operated context.program.host op x y world1) _ (bind_then context (told s) world1 (operated context.program.host op x y world1) _ _ _ (operated_gives context.program.host op x y world1) h1 (λ v world2 k2 h2.
         silent context (told s) _ (at context _ s (pc + 1) (v ∷ y ∷ stack) world2 is.1.0
-        (after_then context (told s) (tick world2) _ (bind_then context (told s) world2 (tick world2) _ _ _ (tick_gives world2) h2 (λ _ world3 k3 h3.
-        after_then context (told s) (truth context.program.host v world3) _ (bind_then context (told s) world3 (truth context.program.host v world3) _ _ _ (answered_gives _ world3) h3 (λ b world4 k4 h4.
+        (after_then context (told s) (tick world2) _ (bind_then context (told s) world2 (tick world2) _ _ _ (tick_gives _ world2) h2 (λ _ world3 k3 h3.
+        after_then context (told s) (truth context.program.host v world3) _ (bind_then context (told s) world3 (truth context.program.host v world3) _ _ _ (truth_gives context.program.host v world3) h3 (λ b world4 k4 h4.
         let deep4 = here_kept run s k4 (here_kept run s k3 (here_kept run s k2 (here_kept run s k1 d))) in
         choose_then context b (bind (eval u run a world4) (λ z world5. eval_links u run op1 more y z world5)) (bind (tick world4) (λ _ world5. Good v world5)) _ _ (told s) _ h4
         (λ h5. silent context (told s) _ (expr_runs a run s l (pc + 1 + 1) (y ∷ stack) world4 deep4 is.1.1.0
@@ -639,17 +643,17 @@ module _ (context : Context) (trees : Trees) (n : ℕ)
     target_runs : (t : Target) (run : Run) (s : Spot) (l : Labels) (pc : ℕ) (v : Val) (stack : List Val) (w : World) → Here run s w → In s l pc (target_code t) →
         Follows context (told s) (assign u run t v w) (λ _ world1. Go context s (beyond pc (target_code t)) stack world1) → Go context s pc (v ∷ stack) w
     target_runs (To x) run s l pc v stack w d is h =
-        at context (i.StoreLocal x) s pc (v ∷ stack) w is.0 (after_then context (told s) (tick w) _ (bind_then context (told s) w (tick w) _ _ _ (tick_gives w) h (λ _ world1 k h1.
+        at context (i.StoreLocal x) s pc (v ∷ stack) w is.0 (after_then context (told s) (tick w) _ (bind_then context (told s) w (tick w) _ _ _ (tick_gives _ w) h (λ _ world1 k h1.
         silent context (told s) _ h1)))
     target_runs (Items _ ts) run s l pc v stack w d is h =
         let n = count_targets ts in
-        at context (i.UnpackList n) s pc (v ∷ stack) w is.0.0 (after_then context (told s) (tick w) _ (bind_then context (told s) w (tick w) _ _ _ (tick_gives w) h (λ _ world1 k h1.
-        after_then context (told s) (items_of n v world1) _ (bind_long context (told s) world1 n (items_of n v world1) _ _ _ (answered_gives _ world1) (items_long n v world1) h1 (λ vs world2 k2 m h2.
+        at context (i.UnpackList n) s pc (v ∷ stack) w is.0.0 (after_then context (told s) (tick w) _ (bind_then context (told s) w (tick w) _ _ _ (tick_gives _ w) h (λ _ world1 k h1.
+        after_then context (told s) (items_of n v world1) _ (bind_long context (told s) world1 n (items_of n v world1) _ _ _ (unpacked_gives _ n v world1) (items_long n v world1) h1 (λ vs world2 k2 m h2.
         silent context (told s) _ (targets_run ts run s l (pc + 1) vs stack world2 m (here_kept run s k2 (here_kept run s k d)) is.1 h2))))))
     target_runs (Member e x) run s l pc v stack w d is h =
         expr_runs e run s l pc (v ∷ stack) w d is.0
         (bind_then context (told s) w (eval u run e w) _ _ _ (eval_gives u nest_ends again_kept run e w) h (λ o world1 k h1.
-        at context (i.SetAttr x) s _ (o ∷ v ∷ stack) world1 is.1.0 (after_then context (told s) (tick world1) _ (bind_then context (told s) world1 (tick world1) _ _ _ (tick_gives world1) h1 (λ _ world2 k2 h2.
+        at context (i.SetAttr x) s _ (o ∷ v ∷ stack) world1 is.1.0 (after_then context (told s) (tick world1) _ (bind_then context (told s) world1 (tick world1) _ _ _ (tick_gives _ world1) h1 (λ _ world2 k2 h2.
         after_then context (told s) (set_member x v o world2) _ (follows_map context (told s) (set_member x v o world2) _ _ h2 (λ _ world3 g. silent context (told s) _ g)))))))
 
     -- Targets take as many values, the first on top.
@@ -701,8 +705,8 @@ module _ (context : Context) (trees : Trees) (n : ℕ)
   emit_then : (run : Run) (s : Spot) (pc : ℕ) (v : Val) (stack : List Val) (w : World) (D L N : Then) → Stands context.base run s → slice_get (context.program.code s.run.stream) pc ≡ Some i.Emit →
       Ends context s.bed (emit u (as_at run s) s.out v w) D L N → ((out1 : List ℕ) (world1 : World) → D s.parent out1 world1 → Go context (later s s.parent out1) (pc + 1) stack world1) → Go context s pc (v ∷ stack) w
   emit_then run s pc v stack w D L N fits e h g =
-      at context i.Emit s pc (v ∷ stack) w e (after_then context (told s) (tick w) _ (use_then context s.bed w (tick w) (as_at run s) s.out _ D L N _ (tick_gives w) h (λ _ world1 k h1.
-      after_then context (told s) (emitted context.program.host v world1) _ (use_then context s.bed world1 (emitted context.program.host v world1) (as_at run s) s.out _ D L N _ (answered_gives _ world1) h1 (λ t world2 k2 h2.
+      at context i.Emit s pc (v ∷ stack) w e (after_then context (told s) (tick w) _ (use_then context s.bed w (tick w) (as_at run s) s.out _ D L N _ (tick_gives _ w) h (λ _ world1 k h1.
+      after_then context (told s) (emitted context.program.host v world1) _ (use_then context s.bed world1 (emitted context.program.host v world1) (as_at run s) s.out _ D L N _ (emitted_gives context.program.host v world1) h1 (λ t world2 k2 h2.
       writes_then context (as_at run s) t s (pc + 1) stack world2 refl fits.2 (g (say (as_at run s) t s.out) world2 (so_far_then context s.bed (as_at run s) (say (as_at run s) t s.out) world2 D L N h2)))))))
 
   -- a block's tag: where it is heard the block is run in place, and else nothing is
@@ -710,7 +714,7 @@ module _ (context : Context) (trees : Trees) (n : ℕ)
       Ends context s.bed (use_it (tick w) (as_at run s) s.out (λ _ world1. block_tag u (as_at run s) b s.out world1)) D L N →
       ((q1 : Option TemplateId) (out1 : List ℕ) (world1 : World) → D q1 out1 world1 → Go context (later s q1 out1) (pc + 1) stack world1) → Go context s pc stack w
   tag_then run s pc b stack w D L N fits d e h g =
-      at context (i.CallBlock b) s pc stack w e (after_then context (told s) (tick w) _ (use_then context s.bed w (tick w) (as_at run s) s.out _ D L N _ (tick_gives w) h (λ _ world1 k h1.
+      at context (i.CallBlock b) s pc stack w e (after_then context (told s) (tick w) _ (use_then context s.bed w (tick w) (as_at run s) s.out _ D L N _ (tick_gives _ w) h (λ _ world1 k h1.
       subst (λ x. Comes context (told s) (choose (none_waits s.parent && x) (λ _. asked_in_place context.program context.base (cfg s pc stack world1) stack (enter_block context.program.host b world1)) (λ _. goes stack world1 (cfg s pc stack world1))))
       (sym (audible_is context.base (as_at run s) s.run s.parent s.bed s.out pc stack world1 refl fits.2))
       (choose_ends context (none_waits s.parent && heard_here (as_at run s)) (in_place_of u (as_at run s) s.out (enter_block context.program.host b world1)) (so_far (as_at run s) s.out world1) _ _ (told s) s.bed D L N h1
@@ -723,8 +727,8 @@ module _ (context : Context) (trees : Trees) (n : ℕ)
       ((x : World) → Kept w x → Ends context s.bed (first x) D L N → Go context s (pc + 1) stack x) → ((x : World) → Kept w x → Ends context s.bed (second x) D L N → Go context s to stack x) → Go context s pc (v ∷ stack) w
   tested_then run s pc to v stack w first second D L N e h f g =
       at context (i.JumpIfFalse to) s pc (v ∷ stack) w e (after_then context (told s) (tick w) _
-      (use_then context s.bed w (tick w) (as_at run s) s.out _ D L N _ (tick_gives w) h (λ _ world1 k1 h1.
-      after_then context (told s) (truth context.program.host v world1) _ (use_then context s.bed world1 (truth context.program.host v world1) (as_at run s) s.out _ D L N _ (answered_gives _ world1) h1 (λ b world2 k2 h2.
+      (use_then context s.bed w (tick w) (as_at run s) s.out _ D L N _ (tick_gives _ w) h (λ _ world1 k1 h1.
+      after_then context (told s) (truth context.program.host v world1) _ (use_then context s.bed world1 (truth context.program.host v world1) (as_at run s) s.out _ D L N _ (truth_gives context.program.host v world1) h1 (λ b world2 k2 h2.
       choose_ends context b (first world2) (second world2) _ _ (told s) s.bed D L N h2 (λ h3. silent context (told s) _ (f world2 (kept_then k1 k2) h3)) (λ h3. silent context (told s) _ (g world2 (kept_then k1 k2) h3)))))))
 
   -- What is open around a statement's code is closed, and the innermost loop left or gone on with: from here to where that goes on.
@@ -765,7 +769,7 @@ module _ (context : Context) (trees : Trees) (n : ℕ)
       Jumps to (a_capture ∷ os) (record s { bed = captured_in s.bed s.out; out = [] }) stack w (Dropped context s.bed s.out L)
   jumps_capture to os s stack w L stands j q x v pc h is there l =
       at context i.EndCapture (later (record s { bed = captured_in s.bed s.out; out = [] }) q x) pc stack v is.0 (after_then context (told s) (tick v) _
-      (follows_map_kept context (told s) v (tick v) _ _ (tick_gives v) l (λ _ world1 k1 left_first.
+      (follows_map_kept context (told s) v (tick v) _ _ (tick_gives _ v) l (λ _ world1 k1 left_first.
       ended_then s q x pc stack world1 stands
       (at context i.DiscardTop (later s q s.out) (pc + 1) (captured_text x world1 ∷ stack) world1 is.1.0
       (silent context (told s) _ (j q s.out world1 (pc + 1 + 1) (kept_then h k1) is.1.1 there left_first))))))
@@ -816,8 +820,8 @@ module _ (context : Context) (trees : Trees) (n : ℕ)
   abbrev turn_of : {m : _} → Target → ℕ → Row_of-Stmt m → Val → Run → List ℕ → World → Outcome
   turn_of t loops body v run out w = use_it (assign u run t v w) run out (λ _ world1. exec_all u loops body run out world1)
 
-  turn_ends : {m : _} → (t : Target) (loops : ℕ) (body : Row_of-Stmt m) (v : Val) (run : Run) (out : List ℕ) (w : World) → KeptEnds w (turn_of t loops body v run out w)
-  turn_ends t loops body v run out w = ends_use w (assign u run t v w) run out _ (assign_gives u nest_ends again_kept run t v w) (λ _ world1. execs_end u nest_ends again_kept loops body run out world1)
+  turn_ends : {m : _} → (t : Target) (loops : ℕ) (body : Row_of-Stmt m) (v : Val) (run : Run) (out : List ℕ) (w : World) → KeptEnds context.program.host w (turn_of t loops body v run out w)
+  turn_ends t loops body v run out w = ends_use _ w (assign u run t v w) run out _ (assign_gives u nest_ends again_kept run t v w) (λ _ world1. execs_end u nest_ends again_kept loops body run out world1)
 
   -- what follows once all rounds are over, at the place behind the jump back
   abbrev Rounded : Option Return → Spot → List Val → List Val → World → Then → ℕ → Type 0
@@ -840,7 +844,7 @@ module _ (context : Context) (trees : Trees) (n : ℕ)
       loops_before (beyond (pc + 1 + 1) (target_code t)) (context.program.code s.run.stream) ≡ loops → Rounded o s stack items w D (end_at pc (round_code t body)) → Ends context s.bed (rounds (turn_of t loops body) vs (as_at run s) s.out x) D L N → Go context (looped o s) (pc + 1) stack x
   rounds_run o g t loops body l pc rest part items [] run s stack w x r D L N fits d k e left is nth over_it h =
       let end = end_at pc (round_code t body) in
-      at context (i.Iterate end) (looped o s) (pc + 1) stack x is.1 (after_then context (told s) (tick x) _ (use_then context s.bed x (tick x) (as_at run s) s.out _ D L N _ (tick_gives x) h (λ _ world1 k1 h1.
+      at context (i.Iterate end) (looped o s) (pc + 1) stack x is.1 (after_then context (told s) (tick x) _ (use_then context s.bed x (tick x) (as_at run s) s.out _ D L N _ (tick_gives _ x) h (λ _ world1 k1 h1.
       let kept = kept_then k k1 in
       let record1 = kept_record k1 (length w.loops) r e in
       subst (λ n. Comes context (told s) n) (sym (iterate_is o (for_flags false) s s.parent s.out (pc + 1) end stack w world1 r None kept record1 (no_item r items left)))
@@ -852,7 +856,7 @@ module _ (context : Context) (trees : Trees) (n : ℕ)
       let end = end_at pc (round_code t body) in
       let inner = round_labels l pc (round_code t body) in
       let start = beyond (pc + 1 + 1) (target_code t) in
-      at context (i.Iterate end) (looped o s) again stack x is.1 (after_then context (told s) (tick x) _ (use_then context s.bed x (tick x) (as_at run s) s.out _ D L N _ (tick_gives x) h (λ _ world1 k1 h1.
+      at context (i.Iterate end) (looped o s) again stack x is.1 (after_then context (told s) (tick x) _ (use_then context s.bed x (tick x) (as_at run s) s.out _ D L N _ (tick_gives _ x) h (λ _ world1 k1 h1.
       let kept = kept_then k k1 in
       let record1 = kept_record k1 (length w.loops) r e in
       let y = cleared (next_turn world1) in
@@ -866,13 +870,13 @@ module _ (context : Context) (trees : Trees) (n : ℕ)
       let nexts : Jumps again [] (looped o s) stack y DoneThen =
       λ q out1 z place kz none is1 g1.
       at context (i.Jump again) (later (looped o s) q out1) place stack z is1 (after_then context (told_by s.bed out1) (tick z) _
-      (use_then context s.bed z (tick z) (record run { parent = q }) out1 _ D L N _ (tick_gives z) g1 (λ _ z1 kz1 g2.
+      (use_then context s.bed z (tick z) (record run { parent = q }) out1 _ D L N _ (tick_gives _ z) g1 (λ _ z1 kz1 g2.
       silent context (told_by s.bed out1) _
       (rounds_run o g t loops body l pc rest part items vs run (later s q out1) stack w z1 (turned r) D L N (stands_later context.base run s fits q out1) (deep_later run s (in_loop_of (for_flags false) w) q out1 d) (kept_then kept_y (kept_then kz kz1)) (kept_record (kept_then kz kz1) (length w.loops) (turned r) record_y) left_y is nth over_it g2)))) in
       let leaves : Jumps end [] (looped o s) stack y LeaveThen =
       λ q out1 z place kz none is1 g1.
       at context (i.Jump end) (later (looped o s) q out1) place stack z is1 (after_then context (told_by s.bed out1) (tick z) _
-      (use_then context s.bed z (tick z) (record run { parent = q }) out1 _ D L N _ (tick_gives z) g1 (λ _ z1 kz1 g2.
+      (use_then context s.bed z (tick z) (record run { parent = q }) out1 _ D L N _ (tick_gives _ z) g1 (λ _ z1 kz1 g2.
       silent context (told_by s.bed out1) _
       (over_it q out1 z1 (turned r) (kept_then kept_y (kept_then kz kz1)) (kept_record (kept_then kz kz1) (length w.loops) (turned r) record_y) left_y.same (so_far_then context s.bed (record run { parent = q }) out1 (pop z1) D L N g2))))) in
       subst (λ n. Comes context (told s) n) (sym (iterate_is o (for_flags false) s s.parent s.out again end stack w world1 r (Some v) kept record1 (next_item r items v vs left)))
@@ -901,7 +905,7 @@ module _ (context : Context) (trees : Trees) (n : ℕ)
   filter_runs t c labels pc items [] n run s below w x l d room k e left is h =
       let again = pc + 1 in
       let end = end_at pc (filter_round t c) in
-      at context (i.Iterate end) (looped None s) again (number (pos n) ∷ below) x is.1 (after_then context (told s) (tick x) _ (bind_then context (told s) x (tick x) _ _ _ (tick_gives x) h (λ _ world1 k1 h1.
+      at context (i.Iterate end) (looped None s) again (number (pos n) ∷ below) x is.1 (after_then context (told s) (tick x) _ (bind_then context (told s) x (tick x) _ _ _ (tick_gives _ x) h (λ _ world1 k1 h1.
       let all_kept = kept_then k k1 in
       let record1 = kept_record k1 (length w.loops) l e in
       subst (λ a. Comes context (told s) a) (sym (iterate_is None filter_flags s s.parent s.out again end (number (pos n) ∷ below) w world1 l None all_kept record1 (no_item l items left)))
@@ -916,7 +920,7 @@ module _ (context : Context) (trees : Trees) (n : ℕ)
       let count = number (pos n) in
       let deep = here_within run s (loop_scope (mark_behind filter_flags w)) w room d in
       let q = looped None s in
-      at context (i.Iterate end) q again (count ∷ below) x is.1 (after_then context (told s) (tick x) _ (bind_then context (told s) x (tick x) _ _ _ (tick_gives x) h (λ _ world1 k1 h1.
+      at context (i.Iterate end) q again (count ∷ below) x is.1 (after_then context (told s) (tick x) _ (bind_then context (told s) x (tick x) _ _ _ (tick_gives _ x) h (λ _ world1 k1 h1.
       let all_kept = kept_then k k1 in
       let record1 = kept_record k1 (length w.loops) l e in
       let y = cleared (next_turn world1) in
@@ -931,28 +935,28 @@ module _ (context : Context) (trees : Trees) (n : ℕ)
       (bound_follows context (told s) (test_of run t c v y) _ _ h1) (λ _ world2 k2 h2.
       expr_runs c run q _ _ (v ∷ count ∷ below) world2 (here_kept run s (kept_then kept_y k2) deep) is.2.1.1.0
       (follows_map_kept context (told s) world2 (eval u run c world2) _ _ (eval_gives u nest_ends again_kept run c world2) h2 (λ b world3 k3 h3.
-      at context _ q test (b ∷ v ∷ count ∷ below) world3 taken_at.0 (after_then context (told s) (tick world3) _ (bind_then context (told s) world3 (tick world3) _ _ _ (tick_gives world3) h3 (λ _ world4 k4 h4.
-      after_then context (told s) (truth context.program.host b world4) _ (bind_then context (told s) world4 (truth context.program.host b world4) _ _ _ (answered_gives _ world4) h4 (λ yes world5 k5 h5.
+      at context _ q test (b ∷ v ∷ count ∷ below) world3 taken_at.0 (after_then context (told s) (tick world3) _ (bind_then context (told s) world3 (tick world3) _ _ _ (tick_gives _ world3) h3 (λ _ world4 k4 h4.
+      after_then context (told s) (truth context.program.host b world4) _ (bind_then context (told s) world4 (truth context.program.host b world4) _ _ _ (truth_gives context.program.host b world4) h4 (λ yes world5 k5 h5.
       let kept5 = kept_then kept_y (kept_then k2 (kept_then k3 (kept_then k4 k5))) in
       let record5 : (z : World) → Kept world5 z → slice_get (shapes z.loops) (length w.loops) ≡ Some (turned l) = λ z kz. kept_record (kept_then k2 (kept_then k3 (kept_then k4 (kept_then k5 kz)))) (length w.loops) (turned l) record_y in
       choose_then context yes _ _ _ _ (told s) _ h5
       (λ h6. silent context (told s) _
-      (at context i.Swap q (test + 1) (v ∷ count ∷ below) world5 taken_at.1.0.0 (after_then context (told s) (tick world5) _ (bind_then context (told s) world5 (tick world5) _ _ _ (tick_gives world5)
-      (follows_map_kept context (told s) world5 (one_counted n world5) _ (λ _ z. Kept world5 z × Follows context (told s) (bind (tick z) (λ _ z1. bind (kept context.program.host (test_of run t c) (n + 1) vs z1) (λ us z2. Good (v ∷ us) z2))) _) (one_counted_gives u nest_ends again_kept n world5)
+      (at context i.Swap q (test + 1) (v ∷ count ∷ below) world5 taken_at.1.0.0 (after_then context (told s) (tick world5) _ (bind_then context (told s) world5 (tick world5) _ _ _ (tick_gives _ world5)
+      (follows_map_kept context (told s) world5 (one_counted n world5) _ (λ _ z. Kept world5 z × Follows context (told s) (bind (tick z) (λ _ z1. bind (kept context.program.host (test_of run t c) (n + 1) vs z1) (λ us z2. Good (v ∷ us) z2))) _) (one_counted_gives _ n world5)
       (bound_follows context (told s) (one_counted n world5) _ _ h6) (λ _ z kz hz. (kz, hz))) (λ _ world6 k6 h7.
       silent context (told s) _
-      (at context (i.LoadConst (number (pos 1))) q (test + 1 + 1) (count ∷ v ∷ below) world6 taken_at.1.0.1.0 (after_then context (told s) (tick world6) _ (bind_then context (told s) world6 (tick world6) _ _ _ (tick_gives world6) h7 (λ _ world7 k7 h8.
+      (at context (i.LoadConst (number (pos 1))) q (test + 1 + 1) (count ∷ v ∷ below) world6 taken_at.1.0.1.0 (after_then context (told s) (tick world6) _ (bind_then context (told s) world6 (tick world6) _ _ _ (tick_gives _ world6) h7 (λ _ world7 k7 h8.
       silent context (told s) _
-      (at context i.Add q (test + 1 + 1 + 1) (number (pos 1) ∷ count ∷ v ∷ below) world7 taken_at.1.0.1.1.0 (after_then context (told s) (tick world7) _ (bind_then context (told s) world7 (tick world7) _ _ _ (tick_gives world7) h8 (λ _ world8 k8 h9.
+      (at context i.Add q (test + 1 + 1 + 1) (number (pos 1) ∷ count ∷ v ∷ below) world7 taken_at.1.0.1.1.0 (after_then context (told s) (tick world7) _ (bind_then context (told s) world7 (tick world7) _ _ _ (tick_gives _ world7) h8 (λ _ world8 k8 h9.
       pushes context q (test + 1 + 1 + 1) (v ∷ below) (number (pos 1) ∷ count ∷ v ∷ below) world8 (operated context.program.host binaries.Add count (number (pos 1)) world8)
       (one_more_then context (told s) n world8 _ (λ z world9. Go context q (test + 1 + 1 + 1 + 1) (z ∷ v ∷ below) world9) h9 (λ both.
-      at context (i.Jump again) q (test + 1 + 1 + 1 + 1) (number (pos (n + 1)) ∷ v ∷ below) world8 taken_at.1.1 (after_then context (told s) (tick world8) _ (bind_then context (told s) world8 (tick world8) _ _ _ (tick_gives world8) both.1 (λ _ world9 k9 h10.
+      at context (i.Jump again) q (test + 1 + 1 + 1 + 1) (number (pos (n + 1)) ∷ v ∷ below) world8 taken_at.1.1 (after_then context (told s) (tick world8) _ (bind_then context (told s) world8 (tick world8) _ _ _ (tick_gives _ world8) both.1 (λ _ world9 k9 h10.
       silent context (told s) _
       (filter_runs t c labels pc items vs (n + 1) run s (v ∷ below) w world9 (turned l) d room (kept_then kept5 (kept_then both.0 k9)) (record5 world9 (kept_then both.0 k9)) left_y is
       (follows_map context (told s) (kept context.program.host (test_of run t c) (n + 1) vs world9) _ _ (bound_follows context (told s) (kept context.program.host (test_of run t c) (n + 1) vs world9) _ _ h10) (λ us z g m em. g m (omega (arith, em)))))))))))))))))))))))
       (λ h6. silent context (told s) _
       (at context i.DiscardTop q _ (v ∷ count ∷ below) world5 is.2.1.1.1.1.0 (silent context (told s) _
-      (at context (i.Jump again) q _ (count ∷ below) world5 is.3 (after_then context (told s) (tick world5) _ (bind_then context (told s) world5 (tick world5) _ _ _ (tick_gives world5) h6 (λ _ world6 k6 h7.
+      (at context (i.Jump again) q _ (count ∷ below) world5 is.3 (after_then context (told s) (tick world5) _ (bind_then context (told s) world5 (tick world5) _ _ _ (tick_gives _ world5) h6 (λ _ world6 k6 h7.
       silent context (told s) _
       (filter_runs t c labels pc items vs n run s below w world6 (turned l) d room (kept_then kept5 k6) (record5 world6 k6) left_y is h7))))))))))))))))))))))))
 
@@ -965,18 +969,18 @@ module _ (context : Context) (trees : Trees) (n : ℕ)
       expr_runs e run s l pc stack w d is
       (bind_then context (told s) w (eval u run e w) _ _ _ (eval_gives u nest_ends again_kept run e w) h (λ v world1 k1 h1.
       at context (i.PushLoop (for_flags recursive)) s _ (v ∷ stack) world1 there (after_then context (told s) (items_over context.program.host v world1) _
-      (follows_map_kept context (told s) world1 (items_over context.program.host v world1) _ _ (answered_gives _ world1) h1 (λ vs world2 k2 g. g (v ∷ stack))))))
+      (follows_map_kept context (told s) world1 (items_over context.program.host v world1) _ _ (items_give context.program.host v world1) h1 (λ vs world2 k2 g. g (v ∷ stack))))))
   iterable_runs recursive loops t e (Some c) run s l pc stack w d is there nth h =
       let all = context.program.code s.run.stream in
       let pc1 = beyond (pc + 1) (expr_code e) in
       let build = end_at pc1 (filter_round t c) + 1 in
       let pass_number : loops_before pc1 all ≡ loops = (none_begin loops (straight (i.LoadConst (number (pos 0)) ∷ []) ⨾ expr_code e) ((refl, tt), expr_loopless e) all l pc (is.0, is.1.0) nth).number in
-      at context (i.LoadConst (number (pos 0))) s pc stack w is.0.0 (after_then context (told s) (tick w) _ (bind_then context (told s) w (tick w) _ _ _ (tick_gives w) h (λ _ world1 k1 h1.
+      at context (i.LoadConst (number (pos 0))) s pc stack w is.0.0 (after_then context (told s) (tick w) _ (bind_then context (told s) w (tick w) _ _ _ (tick_gives _ w) h (λ _ world1 k1 h1.
       silent context (told s) _
       (expr_runs e run s l (pc + 1) (number (pos 0) ∷ stack) world1 (here_kept run s k1 d) is.1.0
       (bind_then context (told s) world1 (eval u run e world1) _ _ _ (eval_gives u nest_ends again_kept run e world1) h1 (λ v world2 k2 h2.
       at context (i.PushLoop filter_flags) s pc1 (v ∷ number (pos 0) ∷ stack) world2 is.1.1.0 (after_then context (told s) (items_over context.program.host v world2) _
-      (bind_then context (told s) world2 (items_over context.program.host v world2) _ _ _ (answered_gives _ world2) h2 (λ vs world3 k3 h3.
+      (bind_then context (told s) world2 (items_over context.program.host v world2) _ _ _ (items_give context.program.host v world2) h2 (λ vs world3 k3 h3.
       let deep_last = here_kept run s k3 (here_kept run s k2 (here_kept run s k1 d)) in
       subst (λ m. Comes context (told s) (after (open_loop context.program.host vs filter_flags m world3) (λ _ y. goes (number (pos 0) ∷ stack) y (looping (None ∷ s.run.loops) (cfg s pc1 (v ∷ number (pos 0) ∷ stack) world3))))) (sym pass_number)
       (after_then context (told s) (open_loop context.program.host vs filter_flags loops world3) _
@@ -985,7 +989,7 @@ module _ (context : Context) (trees : Trees) (n : ℕ)
       (filter_runs t c l pc1 vs vs 0 run s stack world3 (opened filter_flags loops world3 vs) (new_loop vs filter_flags loops world3) deep_last room
       (opened_kept filter_flags loops world3 vs) (new_record filter_flags loops world3 vs) (record { before = []; same = refl; all = refl; turns = refl }) is.1.1
       (follows_map context (told s) (kept context.program.host (test_of run t c) 0 vs (opened filter_flags loops world3 vs)) _ _ (bound_follows context (told s) (kept context.program.host (test_of run t c) 0 vs (opened filter_flags loops world3 vs)) _ _ h4) (λ us y h5 m em.
-      at context (i.BuildList None) s build (number (pos m) ∷ onto us stack) y is.1.1.4.1.0 (after_then context (told s) (tick y) _ (bind_then context (told s) y (tick y) _ _ _ (tick_gives y) h5 (λ _ y1 k6 h6.
+      at context (i.BuildList None) s build (number (pos m) ∷ onto us stack) y is.1.1.4.1.0 (after_then context (told s) (tick y) _ (bind_then context (told s) y (tick y) _ _ _ (tick_gives _ y) h5 (λ _ y1 k6 h6.
       built_then list_of_values s build m us stack y1 (omega (arith, em))
       (at context (i.PushLoop (for_flags recursive)) s (build + 1) (list_of_values us ∷ stack) y1 there
       (subst (λ zs. Comes context (told s) (after (open_loop context.program.host zs (for_flags recursive) (loops_before (build + 1) all) y1) (λ _ z. goes stack z (looping (None ∷ s.run.loops) (cfg s (build + 1) (list_of_values us ∷ stack) y1))))) (sym (items_back us))
@@ -996,7 +1000,7 @@ module _ (context : Context) (trees : Trees) (n : ℕ)
     stmt_runs : (os : List Opened) (loops : ℕ) (x : Stmt) (run : Run) (s : Spot) (l : Labels) (pc : ℕ) (stack : List Val) (w : World) (L N : Then) → Stands context.base run s → Deep run s w → Around l os s stack w L N → In s l pc (statement_code os x) → loops_before pc (context.program.code s.run.stream) ≡ loops →
         Ends context s.bed (exec u loops x (as_at run s) s.out w) (λ q out1 world1. Go context (later s q out1) (beyond pc (statement_code os x)) stack world1) L N → Go context s pc stack w
     stmt_runs os loops (EmitRaw t) run s l pc stack w L N fits d j is nth h =
-        at context (i.EmitRaw t) s pc stack w is.0 (after_then context (told s) (tick w) _ (use_then context s.bed w (tick w) (as_at run s) s.out _ _ L N _ (tick_gives w) h (λ _ world1 k1 h1.
+        at context (i.EmitRaw t) s pc stack w is.0 (after_then context (told s) (tick w) _ (use_then context s.bed w (tick w) (as_at run s) s.out _ _ L N _ (tick_gives _ w) h (λ _ world1 k1 h1.
         writes_then context (as_at run s) t s (pc + 1) stack world1 refl fits.2 (so_far_then context s.bed (as_at run s) (say (as_at run s) t s.out) world1 _ L N h1))))
     stmt_runs os loops (EmitExpr e) run s l pc stack w L N fits d j is nth h =
         expr_runs e (as_at run s) s l pc stack w (here run s w d) is.0
@@ -1006,7 +1010,7 @@ module _ (context : Context) (trees : Trees) (n : ℕ)
         expr_runs e (as_at run s) s l pc stack w (here run s w d) is.0
         (use_then context s.bed w (eval u (as_at run s) e w) (as_at run s) s.out _ _ L N _ (eval_gives u nest_ends again_kept (as_at run s) e w) h (λ v world1 k1 h1.
         at context i.FastRecurse s _ (v ∷ stack) world1 is.1.0 (after_then context (told s) (tick world1) _
-        (use_then context s.bed world1 (tick world1) (as_at run s) s.out _ _ L N _ (tick_gives world1) h1 (λ _ world2 k2 h2.
+        (use_then context s.bed world1 (tick world1) (as_at run s) s.out _ _ L N _ (tick_gives _ world1) h1 (λ _ world2 k2 h2.
         placed_then run s _ stack (v ∷ stack) world2 world2 (call_innermost context.program.host v world2) _ L N fits.2 (innermost_asks context.program.host v world2) (deep_kept run s k2 (deep_kept run s k1 d)) h2 (λ q1 out1 world3 g. g))))))
     stmt_runs os loops (If' c z body other) run s l pc stack w L N fits d j is nth h =
         let nth1 = (none_begin loops (expr_code c) (expr_loopless c) (context.program.code s.run.stream) l pc is.0 nth).number in
@@ -1066,7 +1070,7 @@ module _ (context : Context) (trees : Trees) (n : ℕ)
         (stmts_run (a_capture ∷ os) loops l body (capturing true run) inner (pc + 1) stack w (Dropped context s.bed s.out L) (Dropped context s.bed s.out N) (stands_captured run s fits) (d.0, stands_captured run s fits, d.2) (around_capture l os s stack w L N (omega (arith, fits.1)) j) is.1.0 nth1
         (captured_then context s.bed (as_at run s) s.out w o _ _ L N _ (execs_end u nest_ends again_kept loops body (capturing true (as_at run s)) [] w) h (λ q x world1 k1 h1.
         at context i.EndCapture (later inner q x) _ stack world1 is.1.1.0.0 (after_then context (told s) (tick world1) _
-        (use_then context s.bed world1 (tick world1) (record run { parent = q }) s.out _ _ L N _ (tick_gives world1) h1 (λ _ world2 k2 h2.
+        (use_then context s.bed world1 (tick world1) (record run { parent = q }) s.out _ _ L N _ (tick_gives _ world1) h1 (λ _ world2 k2 h2.
         ended_then s q x _ stack world2 (omega (arith, fits.1))
         (target_runs t (record run { parent = q }) (later s q s.out) l _ (captured_text x world2) stack world2 (here run (later s q s.out) world2 (deep_later run s world2 q s.out (deep_kept run s k2 (deep_kept run s k1 d)))) is.1.1.1
         (use_then context s.bed world2 (assign u (record run { parent = q }) t (captured_text x world2) world2) (record run { parent = q }) s.out _ _ L N _ (assign_gives u nest_ends again_kept (record run { parent = q }) t (captured_text x world2) world2) h2 (λ _ world3 k3 h3.
@@ -1078,7 +1082,7 @@ module _ (context : Context) (trees : Trees) (n : ℕ)
         at context i.PushAutoEscape s _ (v ∷ stack) world1 is.1.0.0
         (subst (λ first. Comes context (told s) (after (answered (escape_for first v) world1) (λ x world2. goes stack (with_escape x world2) (replacing (world2.escape ∷ s.run.escapes) (cfg s (beyond pc (expr_code e)) (v ∷ stack) world1))))) fits.0
         (after_then context (told s) (answered (escape_for run.first v) world1) _
-        (use_then context s.bed world1 (answered (escape_for run.first v) world1) (as_at run s) s.out _ _ L N _ (answered_gives _ world1) h1 (λ x world2 k2 h2.
+        (use_then context s.bed world1 (answered (escape_for run.first v) world1) (as_at run s) s.out _ _ L N _ (escape_gives _ run.first v world1) h1 (λ x world2 k2 h2.
         let inner : Spot = record s { run = record s.run { escapes = world2.escape ∷ s.run.escapes } } in
         silent context (told s) _
         (stmts_run (an_escape ∷ os) loops l body run inner _ stack (with_escape x world2) (Closed (with_escape world2.escape) L) (Closed (with_escape world2.escape) N) fits
@@ -1121,7 +1125,7 @@ module _ (context : Context) (trees : Trees) (n : ℕ)
         (do_then context s.bed (as_at run s) x (exec_all u loops body (as_at run s) s.out x) (λ run1 out1 world1. use_it (tick world1) run1 out1 (λ _ world2. so_far run1 out1 world2)) D L N _
         (execs_end u nest_ends again_kept loops body (as_at run s) s.out x) h1 (λ q out1 world1 k1 h2.
         at context _ (later s q out1) _ stack world1 is.1 (after_then context (told (later s q out1)) (tick world1) _
-        (use_then context s.bed world1 (tick world1) (record run { parent = q }) out1 (λ _ world2. so_far (record run { parent = q }) out1 world2) D L N _ (tick_gives world1) h2 (λ _ world2 k2 h3.
+        (use_then context s.bed world1 (tick world1) (record run { parent = q }) out1 (λ _ world2. so_far (record run { parent = q }) out1 world2) D L N _ (tick_gives _ world1) h2 (λ _ world2 k2 h3.
         silent context (told (later s q out1)) _ (so_far_then context s.bed (record run { parent = q }) out1 world2 D L N h3)))))))
         (λ x k h1. stmts_run os (pasts loops body) l eb run s second stack x L N fits (deep_kept run s k d) (around_kept l os s stack L N k j) is.2 nth2 h1)
 
@@ -1142,7 +1146,7 @@ module _ (context : Context) (trees : Trees) (n : ℕ)
         (silent context (told_by s.bed out) _
         (left_loop_then (for_flags false) s q out (end + 1) (boolean b ∷ stack) w x r d.0.scopes kept e is.0.1.0
         (at context _ (later s q out) (end + 1 + 1) (boolean b ∷ stack) (pop x) is.1.0 (after_then context (told_by s.bed out) (tick (pop x)) _
-        (use_then context s.bed (pop x) (tick (pop x)) (record run { parent = q }) out _ D0 L N _ (tick_gives (pop x)) h (λ _ v k1 h1.
+        (use_then context s.bed (pop x) (tick (pop x)) (record run { parent = q }) out _ D0 L N _ (tick_gives _ (pop x)) h (λ _ v k1 h1.
         choose_ends context b (exec_all u loops eb (record run { parent = q }) out v) (so_far (record run { parent = q }) out v) _ _ (told_by s.bed out) s.bed D0 L N h1
         (λ h2. silent context (told_by s.bed out) _
         (stmts_run os loops _ eb run (later s q out) (end + 1 + 1 + 1) stack v L N (stands_later context.base run s fits q out) (deep_later run s v q out (deep_kept run s (kept_then popped k1) d)) (around_kept l os s stack L N (kept_then popped k1) j) is.1.1 nth1 h2))
@@ -1305,7 +1309,7 @@ module _ (p : Program) (trees : Trees) (compiled : IsCompiled trees p) where
   stopped_by context b q x v e (Good _ world1) is = is
   stopped_by context b q x v e (Bad chain world1) is = is
 
-  end_then : (id : StreamId) (heard : Bool) (b : Bed) (out : List ℕ) (w : World) (e : Ending) (q : Option TemplateId) (x : List ℕ) (v : World) → EndsKept w e v →
+  end_then : (id : StreamId) (heard : Bool) (b : Bed) (out : List ℕ) (w : World) (e : Ending) (q : Option TemplateId) (x : List ℕ) (v : World) → EndsKept p.host w e v →
       let context = running heard b out w (end_of b (at_end e (whole_of e q x v))) in
       Ends context b (whole_of e q x v) (λ q1 x1 v1. Go context (later (spot_of id b out) q1 x1) (length (p.code id)) [] v1) (Stops context b) (Stops context b)
   unfolding Ends
@@ -1370,12 +1374,12 @@ module _ (p : Program) (trees : Trees) (compiled : IsCompiled trees p) where
       let c = code_at id in
       let stop = beyond 0 c in
       let size : stop ≡ length (p.code id) = beyond_is (whole_labels c) 0 c ∙ ap (λ is. 0 + length is) (sym (coded id)) ∙ omega arith in
-      let ends = end_then id heard b out w o.ending o.parent o.text o.world (ends_as w o (execs_end u (nests_end p.host trees n) kept_again 0 (trees id).row (new_run heard w) out w)) in
+      let ends = end_then id heard b out w o.ending o.parent o.text o.world (ends_as _ w o (execs_end u (nests_end p.host trees n) kept_again 0 (trees id).row (new_run heard w) out w)) in
       let placed = ends_map context b o _ (λ q x v. Go context (later s q x) stop [] v) (Stops context b) (Stops context b) ends (λ q x v g. move context (later s q x) _ _ [] v size g) in
       let stops : (q : Option TemplateId) (x : List ℕ) (v : World) (pc : ℕ) → Kept w v → Unit {0} → slice_get (p.code id) pc ≡ Some (i.Jump stop) → Stops context b q x v → Go context (later s q x) pc [] v =
       λ q x v pc kept none is l.
       at context (i.Jump stop) (later s q x) pc [] v is (after_then context (told_by b x) (tick v) _
-      (follows_map_kept context (told_by b x) v (tick v) _ _ (tick_gives v) l (λ _ v1 k1 e.
+      (follows_map_kept context (told_by b x) v (tick v) _ _ (tick_gives _ v) l (λ _ v1 k1 e.
       silent context (told_by b x) _ (move context (later s q x) _ _ [] v1 size (finishes id heard b out w q x v1 context.final (kept_then kept k1) e))))) in
       let calls = again_runs context.base context.final n below id (p.host.limit + 1) in
       stmts_run context trees n below id (p.host.limit + 1) again kept_again calls.0 calls.1 [] 0 (whole_labels c) row (new_run heard w) s 0 [] w (Stops context b) (Stops context b) (stands_start id b out heard w)

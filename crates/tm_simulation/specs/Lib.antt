@@ -1,3 +1,3 @@
+pub mod Chains
 pub mod Kept
-pub mod Memory
 pub mod Reached

@@ -1,7 +1,11 @@
 //! Proofs: the code of trees comes to what the trees mean. The functions here are laws: they run nothing, and their contracts say what is proved.
 #![tactic(auto)]
 
-ghost use Rattle.std.specs.Prelude.{◌≡◌, ℕ, suc, List, Bool, false};
+ghost use Rattle.std.specs.Prelude.{◌≡◌, ◌++◌, ℕ, suc, List, [], ◌∷◌, Bool, true, false};
+ghost use Rattle.tm_values.specs.declared.error.ErrorKind.{ErrorKind};
+ghost use Rattle.tm_values.specs.declared.error.ErrorKind.TheVariants as kinds;
+ghost use Rattle.std.specs.List.{All};
+ghost use Rattle.tm_meaning.specs.Memory.{is_want_of_memory};
 ghost use Rattle.tm_meaning.specs.World.{Host, World};
 ghost use Rattle.tm_meaning.specs.Calls.{Callee};
 ghost use Rattle.tm_meaning.specs.Tree.{Trees};
@@ -10,7 +14,8 @@ ghost use Rattle.tm_meaning.specs.Machine.{Program, Capture, Stuck};
 ghost use Rattle.tm_meaning.specs.Steps.{final};
 ghost use Rattle.tm_meaning.specs.Compiled.{IsCompiled};
 ghost use Rattle.tm_simulation.specs.Kept.{Stays, Grows};
-ghost use Rattle.tm_simulation.specs.Memory.{StatesNoMemory, ends_in_memory};
+ghost use Rattle.tm_simulation.specs.Chains.{Arises, IfAny, HasRaised, StatesOnly};
+ghost use Rattle.tm_simulation.specs.Chains.{StatesNoMemory, ends_in_memory, MayWrap, HasNoForeign};
 ghost use Rattle.tm_simulation.specs.Reached.{RunsTo, Renders, HasLevels};
 ghost use Rattle.tm_simulation.specs.Reached.{text_in, final_in, final_of};
 
@@ -53,8 +58,41 @@ pub fn a_render_loses_nothing()
     ensures { (host : Host) (trees : Trees) (w : World) → Grows w (rendered host trees w) }
 {}
 
+/// The chain of a render's fault arises in it: what ends it is a kind that renders raise, or a chain that an object of the caller states, and before that stand kinds that wrap.
+pub fn a_fault_arises()
+    ensures { (host : Host) (trees : Trees) (w : World) →
+        IfAny (Arises host) (chain_of (rendered host trees w)) }
+{}
+
+/// So it has each property that the raised kinds have, that the kinds that wrap leave, and that the objects of the caller keep.
+pub fn a_fault_has_what_is_raised_or_stated()
+    ensures { (has : List ErrorKind → Bool) (host : Host) (trees : Trees) (w : World) →
+        HasRaised (λ chain. has chain ≡ true) → StatesOnly (λ chain. has chain ≡ true) host →
+        IfAny (λ chain. has chain ≡ true) (chain_of (rendered host trees w)) }
+{}
+
 /// A render's fault ends in OutOfMemory only where an object of the caller states one that does.
 pub fn want_of_memory_is_stated()
     ensures { (host : Host) (trees : Trees) (w : World) → StatesNoMemory host →
         ends_in_memory (chain_of (rendered host trees w)) ≡ false }
+{}
+
+/// A chain ends in OutOfMemory whatever stands before that, and no chain does that ends in another kind.
+pub fn the_last_kind_counts()
+    ensures memory { (ks : List ErrorKind) → ends_in_memory (ks ++ kinds.OutOfMemory ∷ []) ≡ true }
+    ensures other { (ks : List ErrorKind) (kind : ErrorKind) → (kind ≡ kinds.OutOfMemory → ⊥) →
+        ends_in_memory (ks ++ kind ∷ []) ≡ false }
+{}
+
+/// Want of memory, of which the public contracts speak, is OutOfMemory behind EvalBlock, BadInclude and InvalidOperation alone.
+pub fn want_of_memory_ends_in_memory()
+    ensures wrapped { (ks : List ErrorKind) → All MayWrap ks → is_want_of_memory (ks ++ kinds.OutOfMemory ∷ []) ≡ true }
+    ensures only { (ks : List ErrorKind) → is_want_of_memory (ks ++ kinds.OutOfMemory ∷ []) ≡ true → All MayWrap ks }
+    ensures ends { (chain : List ErrorKind) → is_want_of_memory chain ≡ true → ends_in_memory chain ≡ true }
+{}
+
+/// In a render's fault stand SyntaxError, InvalidDelimiter, WriteFailure and BadStream only where an object of the caller states a fault with one of them.
+pub fn foreign_kinds_are_stated()
+    ensures { (host : Host) (trees : Trees) (w : World) → StatesOnly HasNoForeign host →
+        HasNoForeign (chain_of (rendered host trees w)) }
 {}

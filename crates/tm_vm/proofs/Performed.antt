@@ -7,7 +7,7 @@ use Rattle.tm_meaning.specs.Calls.{Call, enter_block, of_block, whole}
 use Rattle.tm_meaning.specs.Instructions.{call_block_of}
 use Rattle.tm_meaning.specs.Machine.{Config, Next, More, Nest, Program, after, asked_in_place, audible, base_of, start, with_world}
 use Rattle.tm_meaning.specs.Meaning.{none_waits}
-use Rattle.tm_meaning.specs.declared.stream.TemplateId.TheVariants.{Own}
+use Rattle.tm_meaning.specs.declared.stream.StreamId.{StreamId}
 use Rattle.tm_meaning.specs.Steps.{act, effect, pay, step}
 use Rattle.tm_syntax.specs.declared.instruction.Instruction.{Instruction}
 use Rattle.tm_state.specs.Answers.{Keeps}
@@ -136,18 +136,18 @@ both : (a b : Bool) → a ≡ true → b ≡ true → a && b ≡ true
 both true b d e = e
 both false b d e = absurd cc
 
-pub block_entered : (p : Program) (f : Base) (old : Config) (x : List ℕ) (e : Entry) (new : Config) (w : World) → none_waits old.run.parent ≡ true → audible f old ≡ true
-    → enter_block p.host x old.world ≡ runs_block x old.world w → new ≡ record { run = record old.run { place = old.run.place + 1 }; captures = old.captures; world = w }
-    → e ≡ record { stream = block_of Own x; heard = true; value = false; wrap = None; saved = saved_of old.world }
+pub block_entered : (p : Program) (f : Base) (old : Config) (x : List ℕ) (s : StreamId) (e : Entry) (new : Config) (w : World) → none_waits old.run.parent ≡ true → audible f old ≡ true
+    → enter_block p.host x old.world ≡ runs_block s old.world w → new ≡ record { run = record old.run { place = old.run.place + 1 }; captures = old.captures; world = w }
+    → e ≡ record { stream = s; heard = true; value = false; wrap = None; saved = saved_of old.world }
     → Enters e new (call_block_of p f x old)
-block_entered p f old x e new w waits heard enters moved is =
-    let d : Entry = record { stream = block_of Own x; heard = true; value = false; wrap = None; saved = saved_of old.world } in
-    let call : Call = record { callee = whole (block_of Own x); undo = of_block old.world; wrap = None } in
+block_entered p f old x s e new w waits heard enters moved is =
+    let d : Entry = record { stream = s; heard = true; value = false; wrap = None; saved = saved_of old.world } in
+    let call : Call = record { callee = whole s; undo = of_block old.world; wrap = None } in
     let mid : Config = record { run = record old.run { place = old.run.place + 1 }; captures = old.captures; world = w } in
     let goes : call_block_of p f x old ≡ entered d old.world mid =
     chosen (none_waits old.run.parent && audible f old) _ _ (both _ _ waits heard)
     ∙ ap (asked_in_place p f old old.run.operands) enters
-    ∙ ap (λ h. Nest (base_of h old.captures w) (start (whole (block_of Own x)) old.captures w) (record { run = mid.run; call = call; value = false })) heard in
+    ∙ ap (λ h. Nest (base_of h old.captures w) (start (whole s) old.captures w) (record { run = mid.run; call = call; value = false })) heard in
     same_entry e d old.world new is refl (call_block_of p f x old) (goes ∙ ap (entered d old.world) (sym moved))
 
 pub ruleset kinds = (silent, opened, shifted, wrote, needed)

@@ -1,5 +1,5 @@
-use Rattle.tm_simulation.proofs.Memory.{render_free}
+use Rattle.tm_simulation.proofs.Chains.{render_no_memory}
 use Rattle.tm_simulation.proofs.want_of_memory_is_stated.Goals as goal
 
 pub returns : goal.returns
-returns c = render_free
+returns c = render_no_memory

@@ -1,5 +1,5 @@
 use Rattle.std.proofs.Common.{List, Result, Err, ap, sym, ◌∙◌}
-use Rattle.tm_meaning.specs.World.{World}
+use Rattle.tm_meaning.specs.World.{World, root_of}
 use Rattle.tm_meaning.specs.Calls.{whole}
 use Rattle.tm_meaning.specs.Machine.{Capture, start}
 use Rattle.tm_parts.specs.declared.halt.Halt.{Halt}
@@ -10,14 +10,14 @@ use Rattle.template_machine.proofs.template.TemplateOf.run_over.Goals as goal
 
 pub returns : goal.returns
 returns g c =
-    let begins = c.new-machine.ensures ∙ ap (λ s. start (whole s) c.args.captures c.args.state) (c.root-stream.ensures ∙ sym c.requires.own) in
+    let begins = c.new-machine.ensures ∙ ap (λ s. start (whole s) c.args.captures c.args.state) (c.root-stream.ensures ∙ ap root_of c.in-Ok.ensures.ok ∙ sym c.requires.own) in
     over_done g.O.Parties.functions c.args.self.now c.rendering.result c.rendering.ensures c.args.captures c.run.new.self.captures c.args.state c.run.new.self.world
     (g.W.Sink.told c.args.writer.now) (g.W.Sink.told c.run.new.writer) (g.W.Sink.faults c.args.writer.now) (g.W.Sink.faults c.run.new.writer)
     c.new-machine.result begins c.requires.fresh c.into_parts.result c.into_parts.ensures.captures c.into_parts.ensures.state c.in_ok-run.ensures.ended c.in_ok-run.ensures.faults
 
 pub returns-in_err-run : goal.returns-in_err-run
 returns-in_err-run g c =
-    let begins = c.new-machine.ensures ∙ ap (λ s. start (whole s) c.args.captures c.args.state) (c.root-stream.ensures ∙ sym c.requires.own) in
+    let begins = c.new-machine.ensures ∙ ap (λ s. start (whole s) c.args.captures c.args.state) (c.root-stream.ensures ∙ ap root_of c.in-Ok.ensures.ok ∙ sym c.requires.own) in
     let told = g.W.Sink.told c.args.writer.now in
     let now = g.W.Sink.told c.run.new.writer in
     let faults = g.W.Sink.faults c.args.writer.now in

@@ -1,0 +1,336 @@
+-- What expressions and targets keep, and of which kinds their faults are.
+use Rattle.std.proofs.Common.{◌≡◌, ℕ, zero, suc, ◌+◌, List, [], ◌∷◌, length, Option, Some, None, Bool, true, nat_lt, ◌++◌, refl, ap, arith}
+use Rattle.std.specs.Prelude.{pos}
+use Rattle.tm_values.specs.Val.{Val, number}
+use Rattle.tm_values.specs.declared.error.ErrorKind.{ErrorKind}
+use Rattle.tm_syntax.specs.declared.tree.UnaryOperator.{UnaryOperator}
+use Rattle.tm_syntax.specs.declared.tree.UnaryOperator.TheVariants as unaries
+use Rattle.tm_syntax.specs.declared.tree.BinaryOperator.{BinaryOperator}
+use Rattle.tm_syntax.specs.declared.tree.BinaryOperator.TheVariants as binaries
+use Rattle.tm_syntax.specs.declared.tree.Expr.{Expr, Var, Const, List', Tuple', Map', Call', Row_of-Expr, end_of-Expr as no_expr}
+use Rattle.tm_syntax.specs.declared.tree.Expr.{more_of-Expr as expr, Row_of-Pair, end_of-Pair as no_pair, more_of-Pair as with_pair}
+use Rattle.tm_syntax.specs.declared.tree.Expr.{Row_of-Argument, end_of-Argument as no_argument, more_of-Argument as argument}
+use Rattle.tm_syntax.specs.declared.tree.Expr.{Row_of-Keyword, end_of-Keyword as no_keyword, more_of-Keyword as with_keyword, Row_of-Step}
+use Rattle.tm_syntax.specs.declared.tree.Expr.{end_of-Step as no_step, more_of-Step as step, Row_of-Condition}
+use Rattle.tm_syntax.specs.declared.tree.Expr.{end_of-Condition as no_condition, more_of-Condition as with_condition}
+use Rattle.tm_syntax.specs.declared.tree.Argument.{Argument}
+use Rattle.tm_syntax.specs.declared.tree.Keyword.{Keyword}
+use Rattle.tm_syntax.specs.declared.tree.Pair.{Pair}
+use Rattle.tm_syntax.specs.declared.tree.Condition.{Condition}
+use Rattle.tm_syntax.specs.declared.tree.Step.{Step, Attribute, Method', Row_of-Comparison, end_of-Comparison as no_comparison}
+use Rattle.tm_syntax.specs.declared.tree.Step.{more_of-Comparison as with_comparison}
+use Rattle.tm_syntax.specs.declared.tree.Target.{Target, Name as To, Unpack' as Items, Attribute as Member, Row_of-Target}
+use Rattle.tm_syntax.specs.declared.tree.Target.{end_of-Target as no_target, more_of-Target as target}
+use Rattle.tm_syntax.specs.declared.tree.Assignment.{Assignment}
+use Rattle.tm_syntax.specs.declared.tree.Assignment.TheVariants.{Assignment as Given}
+use Rattle.tm_syntax.specs.Code.{filter_flags, count_targets}
+use Rattle.tm_syntax.specs.Forms.{unary, chained, conditional, condition, comparison, pair, plain, keyword, item, slice, binary, compare}
+use Rattle.tm_syntax.specs.Forms.{and_then, or_else}
+use Rattle.tm_definitions.specs.Members.{settable}
+use Rattle.tm_meaning.specs.World.{World, Host, loop_scope, next_turn, cleared, items_over, Res, bind, answered, tick, depth, looked_up}
+use Rattle.tm_meaning.specs.World.{lookup, records_of, with_member, set_member, items_of}
+use Rattle.tm_meaning.specs.Calls.{Callee, Call, undone, wrapped, Asked, has, refused, runs, recurs}
+use Rattle.tm_meaning.specs.Meaning.{text_behind, Run, Outcome, Ending, done, leave, next, fault, Under, audible, value_of, value_behind}
+use Rattle.tm_meaning.specs.Meaning.{in_place_of, behind, truth, applied_unary, operated, applied, eval, eval_all, eval_pair, eval_pairs}
+use Rattle.tm_meaning.specs.Meaning.{eval_argument, eval_arguments, eval_keyword, eval_keywords, eval_named, one_counted, kept, loop_items}
+use Rattle.tm_meaning.specs.Meaning.{eval_condition, eval_conditions, eval_step, eval_links, eval_steps, assign, assign_all, set_to}
+use Rattle.tm_meaning.specs.Meaning.{set_each, capturing}
+use Rattle.tm_meaning.specs.declared.wrapping.Wrapping.{Wrapping}
+use Rattle.tm_simulation.specs.Chains.{Arises, wrapped as wraps}
+use Rattle.tm_simulation.proofs.Raised.{truth_raises, unary_raises, binary_raises, attribute_raises, item_raises, settable_raises}
+use Rattle.tm_simulation.proofs.Raised.{sliced_raises, added_raises}
+use Rattle.tm_simulation.proofs.Advances.{Advances, Kept, advances_then, advances_by_namespaces, kept_same, kept_then, kept_advanced}
+use Rattle.tm_simulation.proofs.Advances.{store_kept, kept_popped, kept_cleared, mark_behind, in_loop_of, kept_turned, advances_around}
+use Rattle.tm_simulation.proofs.Advances.{opened, opened_kept}
+use Rattle.tm_simulation.proofs.Gives.{Gives, EndsBy, Ends, ends_as, gives_bind, gives_kept, choose_gives, tick_gives, ticked_gives}
+use Rattle.tm_simulation.proofs.Gives.{operation_gives, ends_here, ends_fault, ends_then, opened_gives}
+use Rattle.tm_simulation.proofs.Asks.{unpacked_gives, method_asks, Asks, lookup_gives, items_give, named_asks}
+use Rattle.tm_meaning.specs.declared.wrapping.Wrapping.TheVariants as wrapping
+
+-- ---------------------------------------------------------------- operators
+pub truth_gives : (host : Host) (v : Val) (w : World) → Gives host w (truth host v w)
+truth_gives host v w = operation_gives host _ w (truth_raises host.undefined v)
+
+pub unary_gives : (host : Host) (op : UnaryOperator) (v : Val) (w : World) → Gives host w (applied_unary host op v w)
+unary_gives host op v w = operation_gives host _ w (unary_raises op host.undefined v)
+
+pub operated_gives : (host : Host) (op : BinaryOperator) (x y : Val) (w : World) → Gives host w (operated host op x y w)
+operated_gives host op x y w = operation_gives host _ w (binary_raises op host.undefined (records_of w) x y)
+
+pub binary_gives : (host : Host) (op : BinaryOperator) (x y : Val) (w : World) → Gives host w (applied host op x y w)
+binary_gives host binaries.NotIn x y w =
+    gives_bind host w (operated host binaries.In x y w) _ (operated_gives host binaries.In x y w) (λ v world1.
+    ticked_gives host world1 _ (λ world2. unary_gives host unaries.Not v world2))
+binary_gives host op x y w = operated_gives host op x y w
+
+pub looked_up_gives : (host : Host) (x : List ℕ) (w : World) → Gives host w (looked_up host x w)
+looked_up_gives host x w = gives_bind host w (lookup host x w) _ (lookup_gives host x w) (λ found world1. kept_same world1)
+
+-- ---------------------------------------------------------------- members of namespaces
+member_long : (n : ℕ) (x : List ℕ) (v : Val) (ns : List (List (Val × Val))) → length (with_member n x v ns) ≡ length ns
+member_long n x v [] = refl
+member_long zero x v (ps ∷ more) = refl
+member_long (suc n) x v (ps ∷ more) = ap suc (member_long n x v more)
+
+pub member_gives : (host : Host) (x : List ℕ) (v o : Val) (w : World) → Gives host w (set_member x v o w)
+member_gives host x v o w =
+    gives_bind host w (answered (settable (records_of w) o) w) _ (operation_gives host _ w (settable_raises (records_of w) o)) (λ n world1.
+    kept_advanced (kept_same world1) (advances_by_namespaces world1 (with_member n x v world1.namespaces)
+    (omega (arith, member_long n x v world1.namespaces))) refl refl refl refl refl)
+
+-- ---------------------------------------------------------------- items under a condition
+-- ---------------------------------------------------------------- items under a condition
+pub one_counted_gives : (host : Host) (n : ℕ) (w : World) → Gives host w (one_counted n w)
+one_counted_gives host n w =
+    ticked_gives host w _ (λ world1. ticked_gives host world1 _
+    (λ world2. ticked_gives host world2 _ (λ world3. operation_gives host _ world3 (added_raises (number (pos n)) (number (pos 1))))))
+
+-- The pass over items leaves what lies around its loop.
+pub kept_gives : (host : Host) (w : World) (test : Val → World → Res Val) → ((v : Val) (x : World) → Gives host x (test v x)) →
+    (n : ℕ) (vs : List Val) (x : World) → Kept (in_loop_of filter_flags w) x →
+    Gives host w (kept host test n vs x)
+kept_gives host w test given n [] x i =
+    gives_kept host w x (tick x) _ (advances_around filter_flags w x i) (tick_gives host x) (λ _ world1 h.
+    kept_popped (loop_scope (mark_behind filter_flags w)) w (next_turn world1) (kept_turned filter_flags w world1 (kept_then i h)))
+kept_gives host w test given n (v ∷ vs) x i =
+    gives_kept host w x (tick x) _ (advances_around filter_flags w x i) (tick_gives host x) (λ _ world1 h1.
+    let y = cleared (next_turn world1) in
+    let kept_y : Kept (in_loop_of filter_flags w) y = kept_cleared (kept_turned filter_flags w world1 (kept_then i h1)) in
+    let around : (z : World) → Kept y z → Advances w z = λ z kz. advances_around filter_flags w z (kept_then kept_y kz) in
+    gives_kept host w y (test v y) _ (around y (kept_same y)) (given v y) (λ c world2 h2.
+    gives_kept host w world2 (tick world2) _ (around world2 h2) (tick_gives host world2) (λ _ world3 h3.
+    gives_kept host w world3 (truth host c world3) _ (around world3 (kept_then h2 h3)) (truth_gives host c world3) (λ b world4 h4.
+    let kept4 = kept_then kept_y (kept_then h2 (kept_then h3 h4)) in
+    let around4 = advances_around filter_flags w world4 kept4 in
+    choose_gives host w b _ _
+    (gives_kept host w world4 (one_counted n world4) _ around4 (one_counted_gives host n world4) (λ _ world5 h5.
+    gives_kept host w world5 (tick world5) _ (advances_then around4 h5.advances) (tick_gives host world5) (λ _ world6 h6.
+    gives_bind host w (kept host test (n + 1) vs world6) _
+    (kept_gives host w test given (n + 1) vs world6 (kept_then kept4 (kept_then h5 h6))) (λ us world7. kept_same world7))))
+    (gives_kept host w world4 (tick world4) _ around4 (tick_gives host world4)
+    (λ _ world5 h5. kept_gives host w test given n vs world5 (kept_then kept4 h5)))))))
+
+-- ---------------------------------------------------------------- behind a run
+wrap_arises : (host : Host) (wrap : Option Wrapping) (chain : List ErrorKind) → Arises host chain → Arises host (wrapped wrap chain)
+wrap_arises host None chain h = h
+wrap_arises host (Some wrapping.EvalBlock) chain h = wraps refl h
+wrap_arises host (Some wrapping.BadInclude) chain h = wraps refl h
+
+value_by : (host : Host) (w world1 : World) (c : Call) (e : Ending) (o : Outcome) → EndsBy host world1 e o.world → Advances w world1 →
+    ((world2 : World) → Kept world1 world2 → Kept w (undone c.undo world2)) → Gives host w (value_behind e c o)
+value_by host w world1 c done o h l k = k o.world h
+value_by host w world1 c leave o h l k = k o.world h
+value_by host w world1 c next o h l k = k o.world h
+value_by host w world1 c (fault chain) o h l k = (advances_then l h.0, wrap_arises host c.wrap chain h.1)
+
+text_by : (host : Host) (w world1 : World) (e : Ending) (o : Outcome) → Kept w world1 → EndsBy host world1 e o.world →
+    Gives host w (text_behind e o)
+text_by host w world1 done o h k = kept_then h k
+text_by host w world1 leave o h k = kept_then h k
+text_by host w world1 next o h k = kept_then h k
+text_by host w world1 (fault chain) o h k = (advances_then h.advances k.0, k.1)
+
+place_by : (host : Host) (w world1 : World) (c : Call) (run : Run) (e : Ending) (o : Outcome) → EndsBy host world1 e o.world →
+    Advances w world1 → ((world2 : World) → Kept world1 world2 → Kept w (undone c.undo world2)) → Ends host w (behind e c run o)
+place_by host w world1 c run done o h l k = ends_here host w _ run o.text (k o.world h)
+place_by host w world1 c run leave o h l k = ends_here host w _ run o.text (k o.world h)
+place_by host w world1 c run next o h l k = ends_here host w _ run o.text (k o.world h)
+place_by host w world1 c run (fault chain) o h l k =
+    ends_fault host w o.world run o.text (wrapped c.wrap chain) (advances_then l h.0) (wrap_arises host c.wrap chain h.1)
+
+-- ---------------------------------------------------------------- trees
+module _ (u : Under) (nest_ends : (k : Callee) (heard : Bool) (out : List ℕ) (w : World) → Ends u.host w (u.nests k heard out w))
+    (again_ends : (n : ℕ) (items : List Val) (run : Run) (out : List ℕ) (w : World) → Ends u.host w (u.again n items run out w)) where
+  value_gives : (w : World) (run : Run) (q : Asked) → Asks u.host w q → Gives u.host w (value_of u run q)
+  value_gives w run (has v world1) h = h
+  value_gives w run (refused chain world1) h = h
+  value_gives w run (recurs n items world1) h =
+      let o = u.again n items (capturing true run) [] world1 in
+      text_by u.host w world1 o.ending o h (ends_as u.host world1 o (again_ends n items (capturing true run) [] world1))
+  value_gives w run (runs c world1) h =
+      let o = u.nests c.callee true [] world1 in
+      value_by u.host w world1 c o.ending o (ends_as u.host world1 o (nest_ends c.callee true [] world1)) h.2 h.3
+
+  pub place_ends : (w : World) (run : Run) (out : List ℕ) (q : Asked) → Asks u.host w q → Ends u.host w (in_place_of u run out q)
+  place_ends w run out (has v world1) h = ends_here u.host w world1 run out h
+  place_ends w run out (refused chain world1) h = ends_fault u.host w world1 run out chain h.0 h.1
+  place_ends w run out (recurs n items world1) h =
+      ends_then u.host w world1 (u.again n items run out world1) h (again_ends n items run out world1)
+  place_ends w run out (runs c world1) h =
+      let o = u.nests c.callee (audible run) out world1 in
+      place_by u.host w world1 c run o.ending o (ends_as u.host world1 o (nest_ends c.callee (audible run) out world1)) h.2 h.3
+
+  mutual
+    pub eval_gives : (run : Run) (e : Expr) (w : World) → Gives u.host w (eval u run e w)
+    eval_gives run (Var x) w = ticked_gives u.host w _ (λ world1. looked_up_gives u.host x world1)
+    eval_gives run (Const v) w = ticked_gives u.host w _ (λ world1. kept_same world1)
+    eval_gives run (List' _ es) w =
+        gives_bind u.host w (eval_all u run es w) _ (all_give run es w)
+        (λ vs world1. ticked_gives u.host world1 _ (λ world2. kept_same world2))
+    eval_gives run (Tuple' _ es) w =
+        gives_bind u.host w (eval_all u run es w) _ (all_give run es w)
+        (λ vs world1. ticked_gives u.host world1 _ (λ world2. kept_same world2))
+    eval_gives run (Map' _ ps) w =
+        gives_bind u.host w (eval_pairs u run ps w) _ (pairs_give run ps w)
+        (λ xs world1. ticked_gives u.host world1 _ (λ world2. kept_same world2))
+    eval_gives run (Call' f _ given _ named) w =
+        gives_bind u.host w (eval_arguments u run given w) _ (arguments_give run given w) (λ vs world1.
+        gives_bind u.host world1 (eval_named u run named world1) _ (named_give run named world1) (λ ks world2.
+        ticked_gives u.host world2 _ (λ world3. value_gives world3 run _ (named_asks u.host f (vs ++ ks) world3))))
+    eval_gives run (unary op a) w =
+        gives_bind u.host w (eval u run a w) _ (eval_gives run a w)
+        (λ v world1. ticked_gives u.host world1 _ (λ world2. unary_gives u.host op v world2))
+    eval_gives run (chained a _ ss) w = gives_bind u.host w (eval u run a w) _ (eval_gives run a w) (λ v world1. steps_give run ss v world1)
+    eval_gives run (conditional a _ cs) w = conditions_give run cs (λ world1. eval u run a world1) (λ world1. eval_gives run a world1) w
+
+    -- where what is guarded does
+    pub condition_gives : (run : Run) (x : Condition) (guarded : World → Res Val) → ((w : World) → Gives u.host w (guarded w)) →
+        (w : World) → Gives u.host w (eval_condition u run x guarded w)
+    condition_gives run (condition c e) guarded given w =
+        gives_bind u.host w (eval u run c w) _ (eval_gives run c w) (λ v world1.
+        ticked_gives u.host world1 _ (λ world2.
+        gives_bind u.host world2 (truth u.host v world2) _ (truth_gives u.host v world2) (λ b world3.
+        choose_gives u.host world3 b _ _ (gives_bind u.host world3 (guarded world3) _ (given world3)
+        (λ x world4. ticked_gives u.host world4 _ (λ world5. kept_same world5))) (eval_gives run e world3))))
+
+    pub conditions_give : {n : _} → (run : Run) (cs : Row_of-Condition n) (guarded : World → Res Val) →
+        ((w : World) → Gives u.host w (guarded w)) → (w : World) → Gives u.host w (eval_conditions u run cs guarded w)
+    conditions_give run no_condition guarded given w = given w
+    conditions_give run (with_condition c more) guarded given w =
+        conditions_give run more (λ world1. eval_condition u run c guarded world1) (λ world1. condition_gives run c guarded given world1) w
+
+    pub all_give : {n : _} → (run : Run) (es : Row_of-Expr n) (w : World) → Gives u.host w (eval_all u run es w)
+    all_give run no_expr w = kept_same w
+    all_give run (expr e more) w =
+        gives_bind u.host w (eval u run e w) _ (eval_gives run e w)
+        (λ v world1. gives_bind u.host world1 (eval_all u run more world1) _ (all_give run more world1) (λ vs world2. kept_same world2))
+
+    pub pair_gives : (run : Run) (x : Pair) (w : World) → Gives u.host w (eval_pair u run x w)
+    pair_gives run (pair k v) w =
+        gives_bind u.host w (eval u run k w) _ (eval_gives run k w)
+        (λ x world1. gives_bind u.host world1 (eval u run v world1) _ (eval_gives run v world1) (λ y world2. kept_same world2))
+
+    pub pairs_give : {n : _} → (run : Run) (ps : Row_of-Pair n) (w : World) → Gives u.host w (eval_pairs u run ps w)
+    pairs_give run no_pair w = kept_same w
+    pairs_give run (with_pair x more) w =
+        gives_bind u.host w (eval_pair u run x w) _ (pair_gives run x w)
+        (λ y world1. gives_bind u.host world1 (eval_pairs u run more world1) _ (pairs_give run more world1) (λ ys world2. kept_same world2))
+
+    pub argument_gives : (run : Run) (a : Argument) (w : World) → Gives u.host w (eval_argument u run a w)
+    argument_gives run (plain a) w = eval_gives run a w
+
+    pub arguments_give : {n : _} → (run : Run) (given : Row_of-Argument n) (w : World) → Gives u.host w (eval_arguments u run given w)
+    arguments_give run no_argument w = kept_same w
+    arguments_give run (argument a more) w =
+        gives_bind u.host w (eval_argument u run a w) _ (argument_gives run a w) (λ v world1.
+        gives_bind u.host world1 (eval_arguments u run more world1) _ (arguments_give run more world1) (λ vs world2. kept_same world2))
+
+    pub keyword_gives : (run : Run) (k : Keyword) (w : World) → Gives u.host w (eval_keyword u run k w)
+    keyword_gives run (keyword x a) w =
+        ticked_gives u.host w _ (λ world1. gives_bind u.host world1 (eval u run a world1) _ (eval_gives run a world1)
+        (λ v world2. kept_same world2))
+
+    pub keywords_give : {n : _} → (run : Run) (ks : Row_of-Keyword n) (w : World) → Gives u.host w (eval_keywords u run ks w)
+    keywords_give run no_keyword w = kept_same w
+    keywords_give run (with_keyword k more) w =
+        gives_bind u.host w (eval_keyword u run k w) _ (keyword_gives run k w)
+        (λ x world1. gives_bind u.host world1 (eval_keywords u run more world1) _ (keywords_give run more world1)
+        (λ xs world2. kept_same world2))
+
+    pub named_give : {n : _} → (run : Run) (ks : Row_of-Keyword n) (w : World) → Gives u.host w (eval_named u run ks w)
+    named_give run no_keyword w = kept_same w
+    named_give run (with_keyword k more) w =
+        gives_bind u.host w (eval_keyword u run k w) _ (keyword_gives run k w) (λ x world1.
+        gives_bind u.host world1 (eval_keywords u run more world1) _ (keywords_give run more world1)
+        (λ xs world2. ticked_gives u.host world2 _ (λ world3. kept_same world3)))
+
+    pub step_gives : (run : Run) (s : Step) (v : Val) (w : World) → Gives u.host w (eval_step u run s v w)
+    step_gives run (Attribute x) v w = ticked_gives u.host w _
+        (λ world1. operation_gives u.host _ world1 (attribute_raises u.host.undefined (records_of world1) v x))
+    step_gives run (Method' x _ given _ named) v w =
+        gives_bind u.host w (eval_arguments u run given w) _ (arguments_give run given w) (λ vs world1.
+        gives_bind u.host world1 (eval_named u run named world1) _ (named_give run named world1) (λ ks world2.
+        ticked_gives u.host world2 _ (λ world3. value_gives world3 run _ (method_asks u.host x v (vs ++ ks) world3))))
+    step_gives run (item a) v w =
+        gives_bind u.host w (eval u run a w) _ (eval_gives run a w) (λ k world1. ticked_gives u.host world1 _ (λ world2.
+        operation_gives u.host _ world2 (item_raises u.host.undefined (records_of world2) v k)))
+    step_gives run (slice a b c) v w =
+        gives_bind u.host w (eval u run a w) _ (eval_gives run a w) (λ x world1.
+        gives_bind u.host world1 (eval u run b world1) _ (eval_gives run b world1) (λ y world2.
+        gives_bind u.host world2 (eval u run c world2) _ (eval_gives run c world2) (λ z world3. ticked_gives u.host world3 _ (λ world4.
+        operation_gives u.host _ world4 (sliced_raises u.host.undefined v x y z)))))
+    step_gives run (binary op a) v w =
+        gives_bind u.host w (eval u run a w) _ (eval_gives run a w)
+        (λ y world1. ticked_gives u.host world1 _ (λ world2. binary_gives u.host op v y world2))
+    step_gives run (compare op a _ cs) v w = gives_bind u.host w (eval u run a w) _ (eval_gives run a w)
+        (λ y world1. links_give run op cs v y world1)
+    step_gives run (and_then a) v w =
+        ticked_gives u.host w _ (λ world1. gives_bind u.host world1 (truth u.host v world1) _ (truth_gives u.host v world1)
+        (λ b world2. choose_gives u.host world2 b _ _ (eval_gives run a world2) (kept_same world2)))
+    step_gives run (or_else a) v w =
+        ticked_gives u.host w _ (λ world1. gives_bind u.host world1 (truth u.host v world1) _ (truth_gives u.host v world1)
+        (λ b world2. choose_gives u.host world2 b _ _ (kept_same world2) (eval_gives run a world2)))
+
+    pub links_give : {n : _} → (run : Run) (op : BinaryOperator) (cs : Row_of-Comparison n) (x y : Val) (w : World) →
+        Gives u.host w (eval_links u run op cs x y w)
+    links_give run op no_comparison x y w =
+        ticked_gives u.host w _ (λ world1.
+        gives_bind u.host world1 (applied u.host op x y world1) _ (binary_gives u.host op x y world1)
+        (λ v world2. ticked_gives u.host world2 _ (λ world3. kept_same world3)))
+    links_give run op (with_comparison (comparison op1 a) more) x y w =
+        ticked_gives u.host w _ (λ world1.
+        gives_bind u.host world1 (operated u.host op x y world1) _ (operated_gives u.host op x y world1) (λ v world2.
+        ticked_gives u.host world2 _ (λ world3.
+        gives_bind u.host world3 (truth u.host v world3) _ (truth_gives u.host v world3) (λ b world4.
+        choose_gives u.host world4 b _ _
+        (gives_bind u.host world4 (eval u run a world4) _ (eval_gives run a world4) (λ z world5. links_give run op1 more y z world5))
+        (ticked_gives u.host world4 _ (λ world5. kept_same world5))))))
+
+    pub steps_give : {n : _} → (run : Run) (ss : Row_of-Step n) (v : Val) (w : World) → Gives u.host w (eval_steps u run ss v w)
+    steps_give run no_step v w = kept_same w
+    steps_give run (step s ss) v w = gives_bind u.host w (eval_step u run s v w) _ (step_gives run s v w)
+        (λ x world1. steps_give run ss x world1)
+
+  mutual
+    pub assign_gives : (run : Run) (t : Target) (v : Val) (w : World) → Gives u.host w (assign u run t v w)
+    assign_gives run (To x) v w = ticked_gives u.host w _ (λ world1. store_kept x v world1)
+    assign_gives run (Items _ ts) v w =
+        ticked_gives u.host w _ (λ world1. gives_bind u.host world1 (items_of (count_targets ts) v world1) _
+        (unpacked_gives u.host (count_targets ts) v world1)
+        (λ vs world2. assign_all_gives run ts vs world2))
+    assign_gives run (Member e x) v w =
+        gives_bind u.host w (eval u run e w) _ (eval_gives run e w)
+        (λ o world1. ticked_gives u.host world1 _ (λ world2. member_gives u.host x v o world2))
+
+    pub assign_all_gives : {n : _} → (run : Run) (ts : Row_of-Target n) (vs : List Val) (w : World) →
+        Gives u.host w (assign_all u run ts vs w)
+    assign_all_gives run no_target vs w = kept_same w
+    assign_all_gives run (target t ts) [] w = kept_same w
+    assign_all_gives run (target t ts) (v ∷ vs) w = gives_bind u.host w (assign u run t v w) _ (assign_gives run t v w)
+        (λ _ world1. assign_all_gives run ts vs world1)
+
+  pub set_gives : (run : Run) (t : Target) (e : Expr) (w : World) → Gives u.host w (set_to u run t e w)
+  set_gives run t e w = gives_bind u.host w (eval u run e w) _ (eval_gives run e w) (λ v world1. assign_gives run t v world1)
+
+  pub set_each_gives : (run : Run) (given : List Assignment) (w : World) → Gives u.host w (set_each u run given w)
+  set_each_gives run [] w = kept_same w
+  set_each_gives run (Given t e ∷ more) w = gives_bind u.host w (set_to u run t e w) _ (set_gives run t e w)
+      (λ _ world1. set_each_gives run more world1)
+
+  pub test_gives : (run : Run) (t : Target) (c : Expr) (v : Val) (w : World) →
+      Gives u.host w (bind (assign u run t v w) (λ _ world1. eval u run c world1))
+  test_gives run t c v w = gives_bind u.host w (assign u run t v w) _ (assign_gives run t v w) (λ _ world1. eval_gives run c world1)
+
+  pub loop_items_give : (at : ℕ) (run : Run) (t : Target) (e : Expr) (c : Option Expr) (w : World) →
+      Gives u.host w (loop_items u at run t e c w)
+  loop_items_give at run t e None w = gives_bind u.host w (eval u run e w) _ (eval_gives run e w) (λ v world1. items_give u.host v world1)
+  loop_items_give at run t e (Some c) w =
+      ticked_gives u.host w _ (λ world1.
+      gives_bind u.host world1 (eval u run e world1) _ (eval_gives run e world1) (λ v world2.
+      gives_bind u.host world2 (items_over u.host v world2) _ (items_give u.host v world2) (λ vs world3.
+      opened_gives u.host filter_flags at world3 vs (nat_lt (depth world3.scopes) u.host.limit) _
+      (gives_bind u.host world3 (kept u.host (λ x world5. bind (assign u run t x world5) (λ _ world6. eval u run c world6)) 0 vs
+      (opened filter_flags at world3 vs)) _
+      (kept_gives u.host world3 _ (λ x world5. test_gives run t c x world5) 0 vs (opened filter_flags at world3 vs)
+      (opened_kept filter_flags at world3 vs)) (λ us world5.
+      ticked_gives u.host world5 _ (λ world6. kept_same world6))))))

@@ -1,0 +1,123 @@
+-- What statements keep, whatever they do, and of which kinds their faults are.
+use Rattle.std.proofs.Common.{ℕ, ◌+◌, List, [], Option, Some, None, Bool, true, false, nat_lt, refl}
+use Rattle.tm_values.specs.Val.{Val, undefined}
+use Rattle.tm_values.specs.declared.error.ErrorKind.TheVariants.{InvalidOperation}
+use Rattle.tm_syntax.specs.declared.tree.Stmt.{Stmt, EmitRaw, EmitExpr, EmitLoop, If', For', Break, Continue, Block', Set, SetBlock', With'}
+use Rattle.tm_syntax.specs.declared.tree.Stmt.{Do, AutoEscape', Row_of-Stmt, end_of-Stmt as no_statement, more_of-Stmt as statement}
+use Rattle.tm_syntax.specs.declared.tree.Stmt.{Held-Stmt-If-2 as Otherwise, None' as no_else, Some' as otherwise}
+use Rattle.tm_syntax.specs.Loops.{passes, within_loop, past, pasts, FoundLoop}
+use Rattle.tm_meaning.specs.World.{World, answered, tick, pop, depth, emitted, escape_for, with_escape, captured_text}
+use Rattle.tm_meaning.specs.World.{plain as plain_scope}
+use Rattle.tm_meaning.specs.Calls.{Callee}
+use Rattle.tm_meaning.specs.Meaning.{again_in, turn_of, Run, Outcome, Under, use_it, say, block_tag, truth, eval, loop_items, assign}
+use Rattle.tm_meaning.specs.Meaning.{set_to, set_each, capturing, loop_over, has_none, exec_behind_loop, emit, behind_first, exec, exec_all}
+use Rattle.tm_meaning.specs.Meaning.{exec_else}
+use Rattle.tm_simulation.proofs.Advances.{kept_same, within, advances_within, kept_popped, advances_escaped, kept_unescaped}
+use Rattle.tm_simulation.proofs.Gives.{Ends, tick_gives, ends_here, ends_refused, ends_then, ends_use}
+use Rattle.tm_simulation.proofs.Gives.{ends_do, ends_leave, ends_next, choose_ends, ends_kept, ends_within, closing_ends, captured_ends}
+use Rattle.tm_simulation.proofs.Gives.{loop_ends}
+use Rattle.tm_simulation.proofs.Asks.{emitted_gives, escape_gives, block_asks, innermost_asks}
+use Rattle.tm_simulation.proofs.Evaluates.{place_ends, loop_items_give, assign_gives, set_each_gives, set_gives, eval_gives, truth_gives}
+
+-- ---------------------------------------------------------------- statements
+module _ (u : Under) (nest_ends : (k : Callee) (heard : Bool) (out : List ℕ) (w : World) → Ends u.host w (u.nests k heard out w))
+    (again_ends : (n : ℕ) (items : List Val) (run : Run) (out : List ℕ) (w : World) → Ends u.host w (u.again n items run out w)) where
+  emit_ends : (run : Run) (out : List ℕ) (v : Val) (w : World) → Ends u.host w (emit u run out v w)
+  emit_ends run out v w =
+      ends_use u.host w (tick w) run out _ (tick_gives u.host w) (λ _ world1. ends_use u.host world1 (emitted u.host v world1) run out _
+      (emitted_gives u.host v world1)
+      (λ t world2. ends_here u.host world2 world2 run (say run t out) (kept_same world2)))
+
+  behind_first_ends : (other : Otherwise) (run : Run) (w : World) (o : Outcome) → Ends u.host w o → Ends u.host w (behind_first other run o)
+  behind_first_ends no_else run w o h = h
+  behind_first_ends (otherwise _ body) run w o h =
+      ends_do u.host w run o _ h (λ run1 out1 world1. ends_use u.host world1 (tick world1) run1 out1 _ (tick_gives u.host world1)
+      (λ _ world2. ends_here u.host world2 world2 run1 out1 (kept_same world2)))
+
+  tag_ends : (run : Run) (b : List ℕ) (out : List ℕ) (w : World) → Ends u.host w (block_tag u run b out w)
+  tag_ends run b out w = choose_ends u.host w _ _ _ (place_ends u nest_ends again_ends w run out _ (block_asks u.host b w))
+      (ends_here u.host w w run out (kept_same w))
+
+  mutual
+    pub exec_ends : (at : ℕ) (s : Stmt) (run : Run) (out : List ℕ) (w : World) → Ends u.host w (exec u at s run out w)
+    exec_ends at (EmitRaw t) run out w = ends_use u.host w (tick w) run out _ (tick_gives u.host w)
+        (λ _ world1. ends_here u.host world1 world1 run (say run t out) (kept_same world1))
+    exec_ends at (EmitExpr e) run out w = ends_use u.host w (eval u run e w) run out _ (eval_gives u nest_ends again_ends run e w)
+        (λ v world1. emit_ends run out v world1)
+    exec_ends at (EmitLoop e) run out w =
+        ends_use u.host w (eval u run e w) run out _ (eval_gives u nest_ends again_ends run e w)
+        (λ v world1. ends_use u.host world1 (tick world1) run out _ (tick_gives u.host world1)
+        (λ _ world2. place_ends u nest_ends again_ends world2 run out _ (innermost_asks u.host v world2)))
+    exec_ends at (If' c _ body other) run out w =
+        ends_use u.host w (eval u run c w) run out _ (eval_gives u nest_ends again_ends run c w) (λ v world1.
+        ends_use u.host world1 (tick world1) run out _ (tick_gives u.host world1) (λ _ world2.
+        ends_use u.host world2 (truth u.host v world2) run out _ (truth_gives u.host v world2) (λ b world3.
+        choose_ends u.host world3 b _ _ (behind_first_ends other run world3 _ (execs_end at body run out world3))
+        (else_ends (pasts at body) other run out world3))))
+    exec_ends at (Block' b _ body) run out w = ends_use u.host w (tick w) run out _ (tick_gives u.host w)
+        (λ _ world1. tag_ends run b out world1)
+    exec_ends at (Set t e) run out w = ends_use u.host w (set_to u run t e w) run out _ (set_gives u nest_ends again_ends run t e w)
+        (λ _ world1. ends_here u.host world1 world1 run out (kept_same world1))
+    exec_ends at (With' given _ body) run out w =
+        let s = plain_scope (undefined false) in
+        ends_within u.host w s (nat_lt (depth w.scopes) u.host.limit) run out _
+        (ends_kept u.host w (within s w) (set_each u run given (within s w)) run out _ (advances_within s w)
+        (set_each_gives u nest_ends again_ends run given (within s w)) (λ _ world2 k.
+        closing_ends u.host w (within s w) pop (advances_within s w) (kept_popped s w) (exec_all u at body run out world2)
+        (ends_then u.host (within s w) world2 (exec_all u at body run out world2) k (execs_end at body run out world2))))
+    exec_ends at (For' t e c recursive _ body other) run out w =
+        ends_use u.host w (loop_items u at run t e c w) run out _ (loop_items_give u nest_ends again_ends at run t e c w) (λ vs world1.
+        ends_do u.host world1 run (loop_over u.host (at + passes c) recursive
+        (λ item run1 out1 world2. use_it (assign u run1 t item world2) run1 out1
+        (λ _ world3. exec_all u (within_loop c at) body run1 out1 world3)) vs run out world1) _
+        (loop_ends u.host (at + passes c) recursive world1 _
+        (λ item run1 out1 world2. ends_use u.host world2 (assign u run1 t item world2) run1 out1 _
+        (assign_gives u nest_ends again_ends run1 t item world2) (λ _ world3. execs_end (within_loop c at) body run1 out1 world3)) vs run
+        out)
+        (λ run1 out1 world2. behind_loop_ends (pasts (within_loop c at) body) other (has_none vs) run1 out1 world2))
+    exec_ends at Break run out w = ends_leave u.host w run out
+    exec_ends at Continue run out w = ends_next u.host w run out
+    exec_ends at (SetBlock' t _ body) run out w =
+        captured_ends u.host w run out (exec_all u at body (capturing true run) [] w) _ (execs_end at body (capturing true run) [] w)
+        (λ run1 x world1.
+        ends_use u.host world1 (tick world1) run1 out _ (tick_gives u.host world1) (λ _ world2.
+        ends_use u.host world2 (assign u run1 t (captured_text x world2) world2) run1 out _
+        (assign_gives u nest_ends again_ends run1 t (captured_text x world2) world2)
+        (λ _ world3. ends_here u.host world3 world3 run1 out (kept_same world3))))
+    exec_ends at (AutoEscape' e _ body) run out w =
+        ends_use u.host w (eval u run e w) run out _ (eval_gives u nest_ends again_ends run e w) (λ v world1.
+        ends_use u.host world1 (answered (escape_for run.first v) world1) run out _
+        (escape_gives u.host run.first v world1) (λ x world2.
+        closing_ends u.host world2 (with_escape x world2) (with_escape world2.escape) (advances_escaped x world2) (kept_unescaped x world2)
+        (exec_all u at body run out (with_escape x world2)) (execs_end at body run out (with_escape x world2))))
+    exec_ends at (Do e) run out w = ends_use u.host w (eval u run e w) run out _ (eval_gives u nest_ends again_ends run e w)
+        (λ _ world1. ends_here u.host world1 world1 run out (kept_same world1))
+
+    pub execs_end : {n : _} → (at : ℕ) (ss : Row_of-Stmt n) (run : Run) (out : List ℕ) (w : World) →
+        Ends u.host w (exec_all u at ss run out w)
+    execs_end at no_statement run out w = ends_here u.host w w run out (kept_same w)
+    execs_end at (statement s ss) run out w = ends_do u.host w run (exec u at s run out w) _ (exec_ends at s run out w)
+        (λ run1 out1 world1. execs_end (past at s) ss run1 out1 world1)
+
+    else_ends : (at : ℕ) (other : Otherwise) (run : Run) (out : List ℕ) (w : World) → Ends u.host w (exec_else u at other run out w)
+    else_ends at no_else run out w = ends_here u.host w w run out (kept_same w)
+    else_ends at (otherwise _ body) run out w = execs_end at body run out w
+
+    pub behind_loop_ends : (at : ℕ) (other : Otherwise) (none_taken : Bool) (run : Run) (out : List ℕ) (w : World) →
+        Ends u.host w (exec_behind_loop u at other none_taken run out w)
+    behind_loop_ends at no_else none_taken run out w = ends_here u.host w w run out (kept_same w)
+    behind_loop_ends at (otherwise _ body) none_taken run out w =
+        ends_use u.host w (tick w) run out _ (tick_gives u.host w)
+        (λ _ world1. choose_ends u.host world1 none_taken _ _ (execs_end at body run out world1)
+        (ends_here u.host world1 world1 run out (kept_same world1)))
+
+  -- a loop that is called
+  pub called_end : (l : Option FoundLoop) (n : ℕ) (items : List Val) (run : Run) (out : List ℕ) (w : World) →
+      Ends u.host w (again_in u l n items run out w)
+  called_end None n items run out w = ends_refused u.host w run out InvalidOperation refl
+  called_end (Some l) n items run out w =
+      choose_ends u.host w l.recursive _ _
+      (loop_ends u.host n true w (turn_of u l)
+      (λ v run1 out1 world1. ends_use u.host world1 (assign u run1 l.target v world1) run1 out1 _
+      (assign_gives u nest_ends again_ends run1 l.target v world1) (λ _ world2. execs_end l.at l.body.row run1 out1 world2)) items run out)
+      (ends_refused u.host w run out InvalidOperation refl)

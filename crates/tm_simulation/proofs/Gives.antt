@@ -1,0 +1,248 @@
+-- What results and outcomes keep, and of which kinds their faults are.
+use Rattle.std.proofs.Common.{◌≡◌, ℕ, List, [], ◌∷◌, Option, Some, None, Bool, true, false, Ok, Err, nat_lt, refl, arith}
+use Rattle.tm_values.specs.Answer.{Answer}
+use Rattle.tm_values.specs.Val.{Val}
+use Rattle.tm_values.specs.declared.error.ErrorKind.{ErrorKind}
+use Rattle.tm_values.specs.declared.error.ErrorKind.TheVariants.{InvalidOperation}
+use Rattle.tm_syntax.specs.declared.instruction.LoopFlags.{LoopFlags}
+use Rattle.tm_syntax.specs.Code.{for_flags}
+use Rattle.tm_meaning.specs.World.{choose, World, Host, Scope, loop_scope, next_turn, cleared, Res, Good, Bad, bind, answered, charged}
+use Rattle.tm_meaning.specs.World.{with_fuel, tick, pop, depth, ticked}
+use Rattle.tm_meaning.specs.Meaning.{Run, Outcome, Ending, done, leave, next, fault, use_it, then_do, so_far, ended}
+use Rattle.tm_meaning.specs.Meaning.{closing_by, closing, captured_by, captured, round_end, rounds, loop_over}
+use Rattle.tm_meaning.specs.declared.stream.TemplateId.{TemplateId}
+use Rattle.tm_simulation.specs.Chains.{is_raised, Arises, raised, AnswersOnly}
+use Rattle.tm_simulation.proofs.Raised.{Raises, raised_arise}
+use Rattle.tm_simulation.proofs.Advances.{Advances, Kept, advances_then, advances_by_fuel, advances_same, kept_same, kept_then}
+use Rattle.tm_simulation.proofs.Advances.{kept_advanced, within, one_more, kept_popped, kept_cleared, mark_behind, in_loop_of, kept_turned}
+use Rattle.tm_simulation.proofs.Advances.{advances_around, opened, opened_kept, recorded, NoMore, charged_by}
+
+-- Where evaluation gives a value the world is kept, and where it ends in a fault that advances it, by a chain that arises.
+abbrev pub Gives : {A : Type 0} → Host → World → Res A → Type 0
+Gives host w (Good a world1) = Kept w world1
+Gives host w (Bad chain world1) = Advances w world1 × Arises host chain
+
+-- So do statements, by their ending.
+abbrev pub EndsBy : Host → World → Ending → World → Type 0
+EndsBy host w done world1 = Kept w world1
+EndsBy host w leave world1 = Kept w world1
+EndsBy host w next world1 = Kept w world1
+EndsBy host w (fault chain) world1 = Advances w world1 × Arises host chain
+
+-- sealed, so that a proof needs no outcome spelled out
+unfoldable pub Ends : Host → World → Outcome → Type 0
+Ends host w o = EndsBy host w o.ending o.world
+
+pub ends_as : (host : Host) (w : World) (o : Outcome) → Ends host w o → EndsBy host w o.ending o.world
+unfolding Ends
+ends_as host w o h = h
+
+-- ---------------------------------------------------------------- results
+module _ (host : Host) where
+  pub refused_arises : (w : World) (kind : ErrorKind) → is_raised kind ≡ true → Advances w w × Arises host (kind ∷ [])
+  refused_arises w kind e = (advances_same w, raised e)
+
+  gives_then : {A : Type 0} (w world1 : World) (m : Res A) → Kept w world1 → Gives host world1 m → Gives host w m
+  gives_then w world1 (Good a world2) h k = kept_then h k
+  gives_then w world1 (Bad chain world2) h k = (advances_then h.advances k.0, k.1)
+
+  pub gives_bind : {A B : Type 0} (w : World) (m : Res A) (g : A → World → Res B) → Gives host w m →
+      ((a : A) (world1 : World) → Gives host world1 (g a world1)) → Gives host w (bind m g)
+  gives_bind w (Good a world1) g h k = gives_then w world1 (g a world1) h (k a world1)
+  gives_bind w (Bad chain world1) g h k = h
+
+  -- the same, given what the first part keeps
+  pub gives_kept : {A B : Type 0} (w world1 : World) (m : Res A) (g : A → World → Res B) → Advances w world1 → Gives host world1 m →
+      ((a : A) (world2 : World) → Kept world1 world2 → Gives host w (g a world2)) → Gives host w (bind m g)
+  gives_kept w world1 (Good a world2) g l h k = k a world2 h
+  gives_kept w world1 (Bad chain world2) g l h k = (advances_then l h.0, h.1)
+
+  pub choose_gives : {A : Type 0} (w : World) (b : Bool) (m n : Res A) → Gives host w m → Gives host w n →
+      Gives host w (choose b (λ _. m) (λ _. n))
+  choose_gives w true m n h k = h
+  choose_gives w false m n h k = k
+
+  fuel_gives : (left : Option ℕ) (w : World) → NoMore left w.fuel → Gives host w (with_fuel left w)
+  fuel_gives (Some left) w less = kept_advanced (kept_same w) (advances_by_fuel w left less) refl refl refl refl refl
+  fuel_gives None w less = (advances_by_fuel w 0 (omega arith), raised refl)
+
+  pub tick_gives : (w : World) → Gives host w (tick w)
+  tick_gives w = fuel_gives (charged 1 w.fuel) w (charged_by false (nat_lt 1 w.fuel) 1 w.fuel)
+
+  pub ticked_gives : {A : Type 0} (w : World) (f : World → Res A) → ((world1 : World) → Gives host world1 (f world1)) →
+      Gives host w (ticked w f)
+  ticked_gives w f k = gives_bind w (tick w) (λ _ world1. f world1) (tick_gives w) (λ _ world1. k world1)
+
+  -- what an operation answers, where each fault of it arises, as each that it raises does
+  pub answered_gives : {A : Type 0} (answer : Answer A) (w : World) → AnswersOnly (Arises host) answer → Gives host w (answered answer w)
+  answered_gives (Ok a) w h = kept_same w
+  answered_gives (Err chain) w h = (advances_same w, h)
+
+  pub operation_gives : {A : Type 0} (answer : Answer A) (w : World) → Raises answer → Gives host w (answered answer w)
+  operation_gives answer w h = answered_gives answer w (raised_arise host answer h)
+
+  -- ---------------------------------------------------------------- outcomes
+  ends_by_then : (w world1 : World) (e : Ending) (world2 : World) → Kept w world1 → EndsBy host world1 e world2 → EndsBy host w e world2
+  ends_by_then w world1 done world2 h k = kept_then h k
+  ends_by_then w world1 leave world2 h k = kept_then h k
+  ends_by_then w world1 next world2 h k = kept_then h k
+  ends_by_then w world1 (fault chain) world2 h k = (advances_then h.advances k.0, k.1)
+
+  pub ends_here : (w world1 : World) (run : Run) (out : List ℕ) → Kept w world1 → Ends host w (so_far run out world1)
+  unfolding Ends
+  ends_here w world1 run out h = h
+
+  pub ends_fault : (w world1 : World) (run : Run) (out : List ℕ) (chain : List ErrorKind) → Advances w world1 → Arises host chain →
+      Ends host w (ended (fault chain) run out world1)
+  unfolding Ends
+  ends_fault w world1 run out chain h a = (h, a)
+
+  pub ends_refused : (w : World) (run : Run) (out : List ℕ) (kind : ErrorKind) → is_raised kind ≡ true →
+      Ends host w (ended (fault (kind ∷ [])) run out w)
+  ends_refused w run out kind e = ends_fault w w run out (kind ∷ []) (advances_same w) (raised e)
+
+  pub ends_then : (w world1 : World) (o : Outcome) → Kept w world1 → Ends host world1 o → Ends host w o
+  unfolding Ends
+  ends_then w world1 o h k = ends_by_then w world1 o.ending o.world h k
+
+  pub ends_use : {A : Type 0} (w : World) (m : Res A) (run : Run) (out : List ℕ) (g : A → World → Outcome) → Gives host w m →
+      ((a : A) (world1 : World) → Ends host world1 (g a world1)) → Ends host w (use_it m run out g)
+  ends_use w (Good a world1) run out g h k = ends_then w world1 (g a world1) h (k a world1)
+  ends_use w (Bad chain world1) run out g h k = ends_fault w world1 run out chain h.0 h.1
+
+  ends_on_done : (w : World) (run : Run) (e : Ending) (parent : Option TemplateId) (out : List ℕ) (world1 : World)
+      (g : Run → List ℕ → World → Outcome) → EndsBy host w e world1 →
+      ((run1 : Run) (out1 : List ℕ) (world2 : World) → Ends host world2 (g run1 out1 world2)) →
+      Ends host w (then_do run (record { ending = e; parent = parent; text = out; world = world1 }) g)
+  unfolding Ends
+  ends_on_done w run done parent out world1 g h k =
+      ends_then w world1 (g (record run { parent = parent }) out world1) h (k (record run { parent = parent }) out world1)
+  ends_on_done w run leave parent out world1 g h k = h
+  ends_on_done w run next parent out world1 g h k = h
+  ends_on_done w run (fault chain) parent out world1 g h k = h
+
+  pub ends_do : (w : World) (run : Run) (o : Outcome) (g : Run → List ℕ → World → Outcome) → Ends host w o →
+      ((run1 : Run) (out1 : List ℕ) (world2 : World) → Ends host world2 (g run1 out1 world2)) → Ends host w (then_do run o g)
+  unfolding Ends
+  ends_do w run o g h k = ends_on_done w run o.ending o.parent o.text o.world g h k
+
+  pub ends_leave : (w : World) (run : Run) (out : List ℕ) → Ends host w (ended leave run out w)
+  unfolding Ends
+  ends_leave w run out = kept_same w
+
+  pub ends_next : (w : World) (run : Run) (out : List ℕ) → Ends host w (ended next run out w)
+  unfolding Ends
+  ends_next w run out = kept_same w
+
+  pub choose_ends : (w : World) (b : Bool) (o q : Outcome) → Ends host w o → Ends host w q → Ends host w (choose b (λ _. o) (λ _. q))
+  choose_ends w true o q h k = h
+  choose_ends w false o q h k = k
+
+  -- what follows from what is kept
+  pub ends_kept : {A : Type 0} (w world1 : World) (m : Res A) (run : Run) (out : List ℕ) (g : A → World → Outcome) →
+      Advances w world1 → Gives host world1 m → ((a : A) (world2 : World) → Kept world1 world2 → Ends host w (g a world2)) →
+      Ends host w (use_it m run out g)
+  ends_kept w world1 (Good a world2) run out g l h k = k a world2 h
+  ends_kept w world1 (Bad chain world2) run out g l h k = ends_fault w world2 run out chain (advances_then l h.0) h.1
+
+  -- in a scope more, where there is room for it
+  pub ends_within : (w : World) (s : Scope) (room : Bool) (run : Run) (out : List ℕ) (g : Unit {0} → World → Outcome) →
+      Ends host w (g tt (within s w)) → Ends host w (use_it (one_more room s w) run out g)
+  ends_within w s true run out g h = h
+  ends_within w s false run out g h = ends_refused w run out InvalidOperation refl
+
+  -- and behind it, whatever the ending
+  closing_by_ends : (w v : World) (close : World → World) → Advances w v → ((x : World) → Kept v x → Kept w (close x)) →
+      (e : Ending) (parent : Option TemplateId) (out : List ℕ) (world1 : World) → EndsBy host v e world1 →
+      Ends host w (closing_by e close (record { ending = e; parent = parent; text = out; world = world1 }))
+  unfolding Ends
+  closing_by_ends w v close l k done parent out world1 h = k world1 h
+  closing_by_ends w v close l k leave parent out world1 h = k world1 h
+  closing_by_ends w v close l k next parent out world1 h = k world1 h
+  closing_by_ends w v close l k (fault chain) parent out world1 h = (advances_then l h.0, h.1)
+
+  pub closing_ends : (w v : World) (close : World → World) → Advances w v → ((x : World) → Kept v x → Kept w (close x)) →
+      (o : Outcome) → Ends host v o → Ends host w (closing close o)
+  unfolding Ends
+  closing_ends w v close l k o h = closing_by_ends w v close l k o.ending o.parent o.text o.world h
+
+  -- behind a capture
+  captured_by_ends : (w : World) (run : Run) (out : List ℕ) (f : Run → List ℕ → World → Outcome) →
+      ((run1 : Run) (x : List ℕ) (world1 : World) → Ends host world1 (f run1 x world1)) →
+      (e : Ending) (parent : Option TemplateId) (x : List ℕ) (world1 : World) → EndsBy host w e world1 →
+      Ends host w (captured_by e (record { ending = e; parent = parent; text = x; world = world1 }) run out f)
+  unfolding Ends
+  captured_by_ends w run out f k done parent x world1 h = ends_then w world1 (f run x world1) h (k run x world1)
+  captured_by_ends w run out f k leave parent x world1 h =
+      ends_kept w world1 (tick world1) run out _ h.advances (tick_gives world1) (λ _ world2 h2. kept_then h h2)
+  captured_by_ends w run out f k next parent x world1 h =
+      ends_kept w world1 (tick world1) run out _ h.advances (tick_gives world1) (λ _ world2 h2. kept_then h h2)
+  captured_by_ends w run out f k (fault chain) parent x world1 h = h
+
+  pub captured_ends : (w : World) (run : Run) (out : List ℕ) (o : Outcome) (f : Run → List ℕ → World → Outcome) → Ends host w o →
+      ((run1 : Run) (x : List ℕ) (world1 : World) → Ends host world1 (f run1 x world1)) → Ends host w (captured o run out f)
+  unfolding Ends
+  captured_ends w run out o f h k = captured_by_ends w (record run { parent = o.parent }) out f k o.ending o.parent o.text o.world h
+
+  -- ---------------------------------------------------------------- loops
+  -- a round's end
+  round_end_ends : (w x : World) (run : Run) (f : Run → List ℕ → World → Outcome) →
+      ((run1 : Run) (out1 : List ℕ) (world1 : World) → Kept (in_loop_of (for_flags false) w) world1 → Ends host w (f run1 out1 world1)) →
+      (e : Ending) (parent : Option TemplateId) (out : List ℕ) (world1 : World) → Kept (in_loop_of (for_flags false) w) x →
+      EndsBy host x e world1 → Ends host w (round_end e run (record { ending = e; parent = parent; text = out; world = world1 }) f)
+  unfolding Ends
+  round_end_ends w x run f k done parent out world1 i h =
+      ends_kept w world1 (tick world1) run out _ (advances_around (for_flags false) w world1 (kept_then i h)) (tick_gives world1)
+      (λ _ world2 h2. k run out world2 (kept_then i (kept_then h h2)))
+  round_end_ends w x run f k leave parent out world1 i h =
+      ends_kept w world1 (tick world1) run out _ (advances_around (for_flags false) w world1 (kept_then i h)) (tick_gives world1)
+      (λ _ world2 h2. kept_popped (loop_scope (mark_behind (for_flags false) w)) w world2 (kept_then i (kept_then h h2)))
+  round_end_ends w x run f k next parent out world1 i h =
+      ends_kept w world1 (tick world1) run out _ (advances_around (for_flags false) w world1 (kept_then i h)) (tick_gives world1)
+      (λ _ world2 h2. k run out world2 (kept_then i (kept_then h h2)))
+  round_end_ends w x run f k (fault chain) parent out world1 i h =
+      (advances_then (advances_around (for_flags false) w x i) h.0, h.1)
+
+  round_end_of : (w x : World) (run : Run) (f : Run → List ℕ → World → Outcome) →
+      ((run1 : Run) (out1 : List ℕ) (world1 : World) → Kept (in_loop_of (for_flags false) w) world1 → Ends host w (f run1 out1 world1)) →
+      (o : Outcome) → Kept (in_loop_of (for_flags false) w) x → Ends host x o → Ends host w (round_end o.ending run o f)
+  unfolding Ends
+  round_end_of w x run f k o i h = round_end_ends w x run f k o.ending o.parent o.text o.world i h
+
+  -- A loop's rounds leave what lies around it.
+  rounds_end : (w : World) (turn : Val → Run → List ℕ → World → Outcome) →
+      ((v : Val) (run : Run) (out : List ℕ) (x : World) → Ends host x (turn v run out x)) →
+      (vs : List Val) (run : Run) (out : List ℕ) (world1 : World) → Kept (in_loop_of (for_flags false) w) world1 →
+      Ends host w (rounds turn vs run out world1)
+  rounds_end w turn k [] run out world1 i =
+      ends_kept w world1 (tick world1) run out _ (advances_around (for_flags false) w world1 i) (tick_gives world1) (λ _ world2 h.
+      ends_here w (pop (next_turn world2)) run out
+      (kept_popped (loop_scope (mark_behind (for_flags false) w)) w (next_turn world2)
+      (kept_turned (for_flags false) w world2 (kept_then i h))))
+  rounds_end w turn k (v ∷ vs) run out world1 i =
+      ends_kept w world1 (tick world1) run out _ (advances_around (for_flags false) w world1 i) (tick_gives world1) (λ _ world2 h.
+      let x = cleared (next_turn world2) in
+      let o = turn v run out x in
+      round_end_of w x (record run { parent = o.parent }) _ (λ run1 out1 world3 j. rounds_end w turn k vs run1 out1 world3 j) o
+      (kept_cleared (kept_turned (for_flags false) w world2 (kept_then i h))) (k v run out x))
+
+  opened_ends : (n : ℕ) (recursive : Bool) (w : World) (vs : List Val) (turn : Val → Run → List ℕ → World → Outcome) →
+      ((v : Val) (run : Run) (out : List ℕ) (x : World) → Ends host x (turn v run out x)) → (run : Run) (out : List ℕ) (room : Bool) →
+      let opening = one_more room (loop_scope (mark_behind (for_flags false) w)) w in
+      Ends host w (use_it (bind opening (λ _ world1. recorded (for_flags recursive) n vs w world1)) run out
+      (λ _ world1. rounds turn vs run out world1))
+  opened_ends n recursive w vs turn k run out true = rounds_end w turn k vs run out _ (opened_kept (for_flags recursive) n w vs)
+  opened_ends n recursive w vs turn k run out false = ends_refused w run out InvalidOperation refl
+
+  -- what stands in a loop that was opened, where there is room for it
+  pub opened_gives : {A : Type 0} (g : LoopFlags) (n : ℕ) (w : World) (vs : List Val) (room : Bool) (rest : World → Res A) →
+      Gives host w (rest (opened g n w vs)) →
+      let opening = one_more room (loop_scope (mark_behind g w)) w in
+      Gives host w (bind (bind opening (λ _ world1. recorded g n vs w world1)) (λ _ x. rest x))
+  opened_gives g n w vs true rest k = k
+  opened_gives g n w vs false rest k = refused_arises w InvalidOperation refl
+
+pub loop_ends : (host : Host) (n : ℕ) (recursive : Bool) (w : World) (turn : Val → Run → List ℕ → World → Outcome) →
+    ((v : Val) (run : Run) (out : List ℕ) (x : World) → Ends host x (turn v run out x)) →
+    (vs : List Val) (run : Run) (out : List ℕ) → Ends host w (loop_over host n recursive turn vs run out w)
+loop_ends host n recursive w turn k vs run out = opened_ends host n recursive w vs turn k run out (nat_lt (depth w.scopes) host.limit)

@@ -1,0 +1,95 @@
+-- How chains of kinds arise, and environments whose objects state only some of them.
+use Rattle.std.specs.Prelude.{◌≡◌, ◌⊎◌, ℕ, Bool, true, false, List, [], ◌∷◌, Option, None, Some, Ok, Err, slice_get}
+use Rattle.std.specs.List.{All}
+use Rattle.tm_values.specs.Answer.{Answer}
+use Rattle.tm_values.specs.Chain.{is_memory}
+use Rattle.tm_values.specs.Val.{Val}
+use Rattle.tm_values.specs.declared.error.ErrorKind.{ErrorKind}
+use Rattle.tm_values.specs.declared.error.ErrorKind.TheVariants as kinds
+use Rattle.tm_meaning.specs.Memory.{is_wrapping}
+use Rattle.tm_meaning.specs.World.{Host, View, Stated, Function, callers, languages}
+use Rattle.tm_meaning.specs.declared.reply.Reply.{Reply}
+use Rattle.tm_meaning.specs.declared.reply.Reply.TheVariants.{Value as gives, Fault as faults}
+
+-- the kinds that a render raises by itself
+abbrev pub is_raised : ErrorKind → Bool
+is_raised kinds.InvalidOperation = true
+is_raised kinds.TooManyArguments = true
+is_raised kinds.MissingArgument = true
+is_raised kinds.UnknownFunction = true
+is_raised kinds.UnknownMethod = true
+is_raised kinds.UnknownBlock = true
+is_raised kinds.UndefinedError = true
+is_raised kinds.CannotUnpack = true
+is_raised kinds.BadSerialization = true
+is_raised kinds.OutOfFuel = true
+is_raised _ = false
+
+-- A chain arises in a render: it raises a kind, a kind wraps a chain that arises, or an object of the caller states it.
+pub data Arises (host : Host) : List ErrorKind → Type 0 where
+  raised : {kind : ErrorKind} → is_raised kind ≡ true → Arises host (kind ∷ [])
+  wrapped : {kind : ErrorKind} {chain : List ErrorKind} → is_wrapping kind ≡ true → Arises host chain → Arises host (kind ∷ chain)
+  by_function : {chain : List ErrorKind} (n : ℕ) (f : List Val → View → Stated) (args : List Val) (view : View) →
+      slice_get host.functions n ≡ Some (callers f) → (f args view).reply ≡ faults chain → Arises host chain
+  by_formatter : {chain : List ErrorKind} (f : Val → View → Answer (List ℕ)) (v : Val) (view : View) →
+      host.formatter ≡ Some f → f v view ≡ Err chain → Arises host chain
+
+-- a property of a chain, where there is one
+abbrev pub IfAny : (List ErrorKind → Type 0) → List ErrorKind → Type 0
+IfAny Has [] = Unit {0}
+IfAny Has (k ∷ ks) = Has (k ∷ ks)
+
+-- Each chain of one kind that a render raises has the property, and so has what wraps a chain that has it.
+pub record HasRaised (Has : List ErrorKind → Type 0) : Type 0 where
+  pub raised : (kind : ErrorKind) → is_raised kind ≡ true → Has (kind ∷ [])
+  pub wrapped : (kind : ErrorKind) (chain : List ErrorKind) → is_wrapping kind ≡ true → Has chain → Has (kind ∷ chain)
+
+-- a fault alone that has the property
+abbrev pub AnswersOnly : {A : Type 0} → (List ErrorKind → Type 0) → Answer A → Type 0
+AnswersOnly Has (Ok a) = Unit {0}
+AnswersOnly Has (Err chain) = Has chain
+
+abbrev pub RepliesOnly : (List ErrorKind → Type 0) → Reply → Type 0
+RepliesOnly Has (gives v) = Unit {0}
+RepliesOnly Has (faults chain) = Has chain
+
+-- Whatever it is called with, and whatever it sees, an object of the caller replies so. Of the language's own functions nothing is asked.
+abbrev pub FunctionStates : (List ErrorKind → Type 0) → Function → Type 0
+FunctionStates Has (callers f) = (args : List Val) (view : View) → RepliesOnly Has (f args view).reply
+FunctionStates Has (languages g) = Unit {0}
+
+abbrev pub FormatterStates : (List ErrorKind → Type 0) → Option (Val → View → Answer (List ℕ)) → Type 0
+FormatterStates Has None = Unit {0}
+FormatterStates Has (Some f) = (v : Val) (view : View) → AnswersOnly Has (f v view)
+
+-- The functions and the formatter of the caller state only faults that have the property.
+pub record StatesOnly (Has : List ErrorKind → Type 0) (host : Host) : Type 0 where
+  pub functions : All (FunctionStates Has) host.functions
+  pub formatter : FormatterStates Has host.formatter
+
+-- ---------------------------------------------------------------- out of memory
+-- the last kind is OutOfMemory
+abbrev pub ends_in_memory : List ErrorKind → Bool
+ends_in_memory [] = false
+ends_in_memory (k ∷ []) = is_memory k
+ends_in_memory (k ∷ c ∷ cs) = ends_in_memory (c ∷ cs)
+
+-- a kind that may stand before the fault of something else
+abbrev pub MayWrap : ErrorKind → Type 0
+MayWrap kind = (kind ≡ kinds.EvalBlock) ⊎ (kind ≡ kinds.BadInclude) ⊎ (kind ≡ kinds.InvalidOperation)
+
+-- No function and no formatter of the caller states a fault that ends in OutOfMemory.
+abbrev pub StatesNoMemory : Host → Type 0
+StatesNoMemory host = StatesOnly (λ chain. ends_in_memory chain ≡ false) host
+
+-- ---------------------------------------------------------------- kinds of other things
+-- the kinds of faults of sources, delimiters, writers and streams of instructions, which no render raises
+abbrev pub is_foreign : ErrorKind → Bool
+is_foreign kinds.SyntaxError = true
+is_foreign kinds.InvalidDelimiter = true
+is_foreign kinds.WriteFailure = true
+is_foreign kinds.BadStream = true
+is_foreign _ = false
+
+abbrev pub HasNoForeign : List ErrorKind → Type 0
+HasNoForeign chain = All (λ kind. is_foreign kind ≡ false) chain
