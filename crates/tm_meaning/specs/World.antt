@@ -1,5 +1,5 @@
 -- What a state is to the meaning and to the machine, and what both do to it.
-use Rattle.std.specs.Prelude.{ℕ, zero, suc, ◌+◌, ◌-◌, ◌^◌, min, List, [], ◌∷◌, ◌++◌, length, map as each, Option, Some, None, option_and_then, Bool, true, false, ◌&&◌, nat_lt, nat_eq, if◌then◌else◌, Ok, Err, slice_get, codes}
+use Rattle.std.specs.Prelude.{ℕ, zero, suc, ◌+◌, ◌-◌, List, [], ◌∷◌, ◌++◌, length, map as each, Option, Some, None, option_and_then, Bool, true, false, ◌&&◌, nat_lt, nat_eq, if◌then◌else◌, Ok, Err, slice_get, codes}
 use Rattle.tm_syntax.specs.declared.instruction.LoopFlags.{LoopFlags}
 pub use Rattle.tm_syntax.specs.Named.{Named, same_name, find, put, put_each}
 use Rattle.tm_values.specs.Answer.{Answer, invalid}
@@ -337,10 +337,10 @@ abbrev pub innermost : List Scope → Option ℕ
 innermost [] = None
 innermost (s ∷ ss) = or_else (number_of s.mark) (innermost ss)
 
--- one deeper in a loop that can be called, as far as numbers of the machine go, and else outermost
+-- one deeper in a loop that can be called, and else outermost
 abbrev pub depth_inside : Option Loop → ℕ
 depth_inside None = 0
-depth_inside (Some l) = if l.recursive then min (l.depth + 1) (2 ^ 64 - 1) else 0
+depth_inside (Some l) = if l.recursive then l.depth + 1 else 0
 
 abbrev pub loop_depth : World → ℕ
 loop_depth w = depth_inside (option_and_then (slice_get w.loops) (innermost w.scopes.frames))

@@ -384,30 +384,33 @@ impl<'env> StateData<'env> {
             variable: flags.variable,
         };
         self.context.push_frame(Frame::of_loop(alloc, mark), limit)?;
-        let added = add_loop(
-            &mut self.loops,
-            &self.stream,
-            items,
-            depth,
-            number,
-            flags.recursive,
-        );
+        let added = match depth {
+            Some(depth) => add_loop(
+                &mut self.loops,
+                &self.stream,
+                items,
+                depth,
+                number,
+                flags.recursive,
+            ),
+            None => Err(Error::from(ErrorKind::OutOfMemory)),
+        };
         if added.is_err() {
             self.pop_scope();
         }
         added
     }
 
-    /// How deep a loop stands that is opened now.
-    fn loop_depth(&self) -> usize
-        ensures { result ≡ loop_depth self.now }
+    /// How deep a loop stands that is opened now. None where that is beyond the machine's numbers.
+    fn loop_depth(&self) -> Option<usize>
+        ensures { IfSome result (λ depth. depth ≡ loop_depth self.now) }
     {
         match self.context.innermost_loop() {
             Some(number) => match self.loops.get(number) {
                 Some(state) => state.depth_inside(),
-                None => 0,
+                None => Some(0),
             },
-            None => 0,
+            None => Some(0),
         }
     }
 

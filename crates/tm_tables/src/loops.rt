@@ -1,5 +1,5 @@
 //! The records of loops.
-ghost use Rattle.std.specs.Prelude.{◌≡◌, ◌∷◌, ◌&&◌, [], None, Some, IfErr, IfOk, OnErr, OnOk, length, map, nat_eq, option_and_then, option_map, slice_get};
+ghost use Rattle.std.specs.Prelude.{◌≡◌, ◌∷◌, ◌&&◌, [], None, Some, IfErr, IfOk, IfSome, OnErr, OnOk, length, map, nat_eq, option_and_then, option_map, slice_get};
 ghost use Rattle.tm_values.specs.Answer.{IsLent, OkOrOutOfMemory};
 ghost use Rattle.tm_values.specs.Position.{position_of};
 ghost use Rattle.tm_meaning.specs.World.{turned, loop_data, depth_inside, place_of};
@@ -113,14 +113,14 @@ impl LoopState {
         self.recursive && self.stream.is(stream)
     }
 
-    /// How deep a loop in it stands: one deeper where it can be called, and else outermost.
-    pub fn depth_inside(&self) -> usize
-        ensures { result ≡ depth_inside (Some self.now) }
+    /// How deep a loop in it stands: one deeper where it can be called, and else outermost. None where that is beyond the machine's numbers.
+    pub fn depth_inside(&self) -> Option<usize>
+        ensures { IfSome result (λ depth. depth ≡ depth_inside (Some self.now)) }
     {
         if self.recursive {
-            self.depth.saturating_add(1)
+            self.depth.checked_add(1)
         } else {
-            0
+            Some(0)
         }
     }
 

@@ -1,22 +1,27 @@
-use Rattle.std.proofs.Common.{rules, ◌≡◌, ◌+◌, ◌≤◌, ◌<◌, List, [], ◌∷◌, ◌++◌, Some, None, false, true, is_some, length, nat_lt, slice_get, OnOk, OnErr, IfErr, IfOk, IfSome, MatchOption, MatchResult, ℕ, ◌-◌, ◌*◌, ◌/◌, ◌%◌, Bool, nat_eq, slice_index_or, slice_set, bit_and, bit_or, Fits, w8, w32, w64, Bor, MutBor}
-use Rattle.std.specs.List.Sorted.{IsStrictlySortedBy}
-use Rattle.tm_values.specs.Answer.{IsAnswer, OkOrOutOfMemory, IsLent}
-use Rattle.tm_meaning.specs.Memory.{is_want_of_memory}
-use Rattle.tm_syntax.specs.Named.{find, name_cmp, put, put_each, texts_of}
-use Rattle.tm_meaning.specs.World.{depth, with_escape, innermost, loop_depth, top_loop, top_mark, next_turn, turned_at, cleared, pop, store, set_member, with_member, make_namespace, emitted, records_of, fuel_levels, find_name, view_of, name_of, Good, Bad, block_of}
-use Rattle.tm_meaning.specs.Calls.{enter_block, given_by, refused, of_loop, keeping_at, told_changed, told_turn}
-use Rattle.tm_meaning.specs.Steps.{charge_of, pay}
-use Rattle.tm_definitions.specs.Emitted.{emitted_text}
-use Rattle.tm_tables.specs.Known.{AreFound, NamingFails}
-use Rattle.tm_tables.specs.Scopes.{PushFails}
-use Rattle.tm_state.specs.Answers.{Keeps, CanBeEmitted, Comes, IsChangedAt}
-use Rattle.tm_state.specs.State.{looped, loop_record, exported, started, put_back, saved_of, runs_block, IsBlockOf, scoped}
+use Rattle.std.proofs.Common.{◌≡◌, ◌∙◌, ap, sym, subst, refl, Option, None, Some, Bool, true, false, is_some, not}
+use Rattle.tm_syntax.specs.Named.{find}
+use Rattle.tm_meaning.specs.World.{World, block_of}
+use Rattle.tm_state.proofs.Blocks.{is_block, no_code, lent}
 use Rattle.tm_state.proofs.state.StateData.block_stream.Goals as goal
 
--- src/state.rt:351:13
-pub returns-then-is_none-clause-err : goal.returns-then-is_none-clause-err
-returns-then-is_none-clause-err c = ?
+none_there : {A : Type 0} (found : Option A) → is_some found ≡ false → found ≡ None
+none_there None e = refl
+none_there (Some x) e = absurd cc
 
--- src/state.rt:345:5
+pub returns-then-is_none-clause-err : goal.returns-then-is_none-clause-err
+returns-then-is_none-clause-err c = λ fault.
+    let x = c.as_str.result.now in
+    let bs = c.self.inside.blocks.now in
+    let known : is_some (find x bs) ≡ false = lent (λ b. b.now) c.get.result (find x bs) c.get.ensures ∙ c.is_none.ensures ∙ ap not c.if-is_none.true in
+    (c.from.ensures, subst (λ y. find y c.args.self.now.blocks ≡ None) c.as_str.ensures
+    (no_code c.self.inside.template x bs c.args.self.now (none_there (find x bs) known) (ap (λ (w : World). w.blocks) c.self.view_is)))
+
 pub returns-clause-ok : goal.returns-clause-ok
-returns-clause-ok c = ?
+returns-clause-ok c =
+    let x = c.as_str.result.now in
+    let bs = c.self.inside.blocks.now in
+    let known : is_some (find x bs) ≡ true = lent (λ b. b.now) c.get.result (find x bs) c.get.ensures ∙ c.is_none.ensures ∙ ap not c.if-is_none.false in
+    is_block c.self.inside.template c.block.result c.args.name.now bs c.args.self.now
+    (subst (λ y. is_some (find y bs) ≡ true) c.as_str.ensures known)
+    (c.block.ensures ∙ ap (λ t. block_of t c.in_ok-share-2.field-0) c.in_ok-share.ensures ∙ ap (block_of c.self.inside.template) c.in_ok-share-2.ensures)
+    (ap (λ (w : World). w.blocks) c.self.view_is)
