@@ -1,7 +1,7 @@
 -- What trees mean. No stream's place and no operand stands here.
-use Rattle.std.specs.Prelude.{ℕ, zero, suc, ◌+◌, ◌^◌, ◌-◌, pos, List, [], ◌∷◌, ◌++◌, Option, Some, None, Bool, true, false, not, ◌&&◌, Ok, Err, slice_get}
+use Rattle.std.specs.Prelude.{ℕ, zero, suc, ◌+◌, ◌^◌, ◌-◌, pos, List, [], ◌∷◌, ◌++◌, Option, Some, None, Bool, true, false, not, ◌&&◌, nat_lt, if◌then◌else◌, Ok, Err, slice_get}
 use Rattle.std.specs.Result.{result_map_both}
-use Rattle.tm_values.specs.Answer.{Answer}
+use Rattle.tm_values.specs.Answer.{Answer, invalid}
 use Rattle.tm_values.specs.Map.{put_all}
 use Rattle.tm_values.specs.Records.{RecordData}
 use Rattle.tm_values.specs.Val.{Val, undefined, boolean, number, text, list, map, keywords, vals_of, pairs_of}
@@ -364,10 +364,14 @@ rounds turn (v ∷ vs) run out w =
 abbrev pub loop_over : Host → ℕ → Bool → (Val → Run → List ℕ → World → Outcome) → List Val → Run → List ℕ → World → Outcome
 loop_over host n recursive turn vs run out w = use_it (open_loop host vs (for_flags recursive) n w) run out (λ _ world1. rounds turn vs run out world1)
 
--- The count of what is taken, one more as numbers are added, behind three charges.
+-- A count as a value, one more than it was: InvalidOperation beyond the whole numbers.
+abbrev pub one_more : ℕ → Answer Val
+one_more n = if nat_lt (n + 1) (2 ^ 127) then Ok (number (pos (n + 1))) else invalid
+
+-- The count of what is taken, one more, after three charges.
 abbrev pub one_counted : ℕ → World → Res Val
 one_counted n w =
-    ticked w (λ world1. ticked world1 (λ world2. ticked world2 (λ world3. answered (arithmetic.added (number (pos n)) (number (pos 1))) world3)))
+    ticked w (λ world1. ticked world1 (λ world2. ticked world2 (λ world3. answered (one_more n) world3)))
 
 -- Of items those whose condition is true, of which so many are taken already: the next item is asked for, charged, the scope loses its names, the condition is tested, charged,
 -- and what is taken is counted; then the jump back is charged. Where no item is left the loop is.

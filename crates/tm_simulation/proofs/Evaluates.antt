@@ -1,7 +1,8 @@
 -- What expressions and targets keep, and of which kinds their faults are.
-use Rattle.std.proofs.Common.{◌≡◌, ℕ, zero, suc, ◌+◌, List, [], ◌∷◌, length, Option, Some, None, Bool, true, nat_lt, ◌++◌, refl, ap, arith}
-use Rattle.std.specs.Prelude.{pos}
-use Rattle.tm_values.specs.Val.{Val, number}
+use Rattle.std.proofs.Common.{◌≡◌, ℕ, zero, suc, ◌+◌, List, [], ◌∷◌, length, Option, Some, None, Bool, true, false, Ok, nat_lt, ◌++◌, refl, ap, arith}
+use Rattle.std.specs.Prelude.{if◌then◌else◌}
+use Rattle.tm_values.specs.Answer.{invalid}
+use Rattle.tm_values.specs.Val.{Val}
 use Rattle.tm_values.specs.declared.error.ErrorKind.{ErrorKind}
 use Rattle.tm_syntax.specs.declared.tree.UnaryOperator.{UnaryOperator}
 use Rattle.tm_syntax.specs.declared.tree.UnaryOperator.TheVariants as unaries
@@ -38,7 +39,7 @@ use Rattle.tm_meaning.specs.Meaning.{set_each, capturing}
 use Rattle.tm_meaning.specs.declared.wrapping.Wrapping.{Wrapping}
 use Rattle.tm_simulation.specs.Chains.{Arises, wrapped as wraps}
 use Rattle.tm_simulation.proofs.Raised.{truth_raises, unary_raises, binary_raises, attribute_raises, item_raises, settable_raises}
-use Rattle.tm_simulation.proofs.Raised.{sliced_raises, added_raises}
+use Rattle.tm_simulation.proofs.Raised.{Raises, sliced_raises}
 use Rattle.tm_simulation.proofs.Advances.{Advances, Kept, advances_then, advances_by_namespaces, kept_same, kept_then, kept_advanced}
 use Rattle.tm_simulation.proofs.Advances.{store_kept, kept_popped, kept_cleared, mark_behind, in_loop_of, kept_turned, advances_around}
 use Rattle.tm_simulation.proofs.Advances.{opened, opened_kept}
@@ -80,10 +81,14 @@ member_gives host x v o w =
 
 -- ---------------------------------------------------------------- items under a condition
 -- ---------------------------------------------------------------- items under a condition
+one_more_raises : (fits : Bool) (v : Val) → Raises (if fits then Ok v else invalid)
+one_more_raises true v = tt
+one_more_raises false v = refl
+
 pub one_counted_gives : (host : Host) (n : ℕ) (w : World) → Gives host w (one_counted n w)
 one_counted_gives host n w =
     ticked_gives host w _ (λ world1. ticked_gives host world1 _
-    (λ world2. ticked_gives host world2 _ (λ world3. operation_gives host _ world3 (added_raises (number (pos n)) (number (pos 1))))))
+    (λ world2. ticked_gives host world2 _ (λ world3. operation_gives host _ world3 (one_more_raises _ _))))
 
 -- The pass over items leaves what lies around its loop.
 pub kept_gives : (host : Host) (w : World) (test : Val → World → Res Val) → ((v : Val) (x : World) → Gives host x (test v x)) →

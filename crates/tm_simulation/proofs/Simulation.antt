@@ -1,10 +1,10 @@
 -- The code of trees comes to what the trees mean.
 use Rattle.std.proofs.Common.{◌≡◌, ℕ, zero, suc, ◌+◌, ◌<◌, ◌≤◌, ◌⊎◌, inl, inr, List, [], ◌∷◌, ◌++◌, length, Option, Some, None, Bool}
 use Rattle.std.proofs.Common.{true, false, refl, sym, ap, ◌∙◌, subst, arith, length-append, eq-eqb, lt-ltb, ltb-true, eqb-true}
-use Rattle.std.specs.Prelude.{ℤ, pos, slice_get, ◌&&◌, nat_eq, nat_lt, ◌==◌, cond, Ok, Err}
+use Rattle.std.specs.Prelude.{ℤ, pos, slice_get, ◌&&◌, nat_eq, nat_lt, ◌==◌, cond, if◌then◌else◌, Ok, Err}
 use Rattle.std.proofs.lemmas.List.{append-nil}
 use Rattle.std.proofs.lemmas.Option.{slice_get_past}
-use Rattle.tm_values.specs.Answer.{Answer}
+use Rattle.tm_values.specs.Answer.{Answer, invalid}
 use Rattle.tm_values.specs.Val.{Val, undefined, boolean, number, text, vals_of, list_of}
 use Rattle.tm_values.specs.declared.escape.AutoEscape.{AutoEscape}
 use Rattle.tm_values.specs.declared.error.ErrorKind.TheVariants.{CannotUnpack, InvalidOperation}
@@ -60,7 +60,7 @@ use Rattle.tm_meaning.specs.Meaning.{Again, ended, over, under, again_in, again_
 use Rattle.tm_meaning.specs.Meaning.{fault, Under, so_far, say, use_it, value_of, in_place_of, block_tag, truth, applied_unary, operated}
 use Rattle.tm_meaning.specs.Meaning.{applied, attribute, item_at, slice_of, list_of_values, map_of_pairs, audible as heard_here}
 use Rattle.tm_meaning.specs.Meaning.{none_waits, eval, eval_all, eval_pair, eval_pairs, eval_argument, eval_arguments, eval_keyword}
-use Rattle.tm_meaning.specs.Meaning.{eval_keywords, eval_named, keyword_map, one_counted, kept, loop_items, eval_condition}
+use Rattle.tm_meaning.specs.Meaning.{eval_keywords, eval_named, keyword_map, one_counted, one_more, kept, loop_items, eval_condition}
 use Rattle.tm_meaning.specs.Meaning.{eval_conditions, eval_step, eval_links, eval_steps, assign, assign_all, set_to, set_each, capturing}
 use Rattle.tm_meaning.specs.Meaning.{rounds, loop_over, has_none, exec_behind_loop, done_by, emit, behind_first, exec, exec_all}
 use Rattle.tm_meaning.specs.Meaning.{exec_else, new_run, at_end, nests_of, rendered}
@@ -194,12 +194,12 @@ paired_flat [] = refl
 paired_flat ((k, v) ∷ xs) = ap (λ l. (k, v) ∷ l) (paired_flat xs)
 
 -- one more than a count, where that is a number still
-counted_by : (context : Context) (t : List ℕ) (z : ℤ) (fits : Bool) (w : World) (K L : Val → World → Type 0) → Follows context t (answered (number_answer (cond fits (Some z) None)) w) K → (K (number z) w → L (number z) w) →
+counted_by : (context : Context) (t : List ℕ) (z : ℤ) (fits : Bool) (w : World) (K L : Val → World → Type 0) → Follows context t (answered (if fits then Ok (number z) else invalid) w) K → (K (number z) w → L (number z) w) →
     Follows context t (answered (number_answer (cond fits (Some z) None)) w) L
 counted_by context t z true w K L h k = k h
 counted_by context t z false w K L h k = h
 
-one_more_then : (context : Context) (t : List ℕ) (n : ℕ) (w : World) (K L : Val → World → Type 0) → Follows context t (answered (added (number (pos n)) (number (pos 1))) w) K → (K (number (pos (n + 1))) w → L (number (pos (n + 1))) w) →
+one_more_then : (context : Context) (t : List ℕ) (n : ℕ) (w : World) (K L : Val → World → Type 0) → Follows context t (answered (one_more n) w) K → (K (number (pos (n + 1))) w → L (number (pos (n + 1))) w) →
     Follows context t (answered (added (number (pos n)) (number (pos 1))) w) L
 one_more_then context t n w K L h k = counted_by context t (pos (n + 1)) _ w K L h k
 
