@@ -127,6 +127,12 @@ Leaves p temps = Behind (λ w. w.temps ≡ temps) p
 abbrev pub Lacks : Page → List ℕ → Type 0
 Lacks p x = Behind (λ w. find_name (view_of (host_of p) w) x ≡ Ok None) p
 
+-- a state whose scopes, stream, block and escape are behind it those before it
+abbrev pub Restores : Page → Type 0
+Restores p =
+    let old = world_of p None in
+    Behind (λ w. (w.scopes ≡ old.scopes) × (w.stream ≡ old.stream) × (w.block ≡ old.block) × (w.escape ≡ old.escape)) p
+
 -- and where all is done
 abbrev pub Shows : Page → List ℕ → Type 0
 Shows p t = Fails p t []
@@ -267,6 +273,14 @@ in_block limit = record (page (two block_of_two (raw (codes "y"))) nothing) { li
 -- {% if a %}{% block b %}x{% endblock %}{% endif %}[
 abbrev pub block_not_reached : Page
 block_not_reached = page (two (if_one a (Block' (codes "b") (tt ∷ []) (statement (raw (codes "x")) no_statement)) no_else) (raw (codes "["))) nothing
+
+-- x{% block b %}{% autoescape "html" %}{% with a = 1 %}{{ nope() }}{% endwith %}{% endautoescape %}{% endblock %}
+abbrev pub fault_in_block : Page
+fault_in_block =
+    let fault = statement (EmitExpr (Call' (codes "nope") [] no_argument [] no_keyword)) no_statement in
+    let scoped = With' (Given (To (codes "a")) (literal_number 1) ∷ []) (tt ∷ []) fault in
+    let escaped = AutoEscape' (literal (codes "html")) (tt ∷ []) (statement scoped no_statement) in
+    page (two (raw (codes "x")) (Block' (codes "b") (tt ∷ []) (statement escaped no_statement))) nothing
 
 -- {% with a = 1, b = a %}{{ b }}{% endwith %}{{ b }}
 abbrev pub with_two : Page

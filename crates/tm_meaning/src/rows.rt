@@ -3,7 +3,18 @@ ghost use Rattle.std.specs.Prelude.{[], ◌∷◌, ◌++◌, true, false, codes,
 ghost use Rattle.std.specs.Fmt.{decimal};
 ghost use Rattle.tm_values.specs.Val.{boolean, function, map, no_pairs, number};
 ghost use Rattle.tm_values.specs.declared.error.ErrorKind.TheVariants.{CannotUnpack, InvalidOperation, MissingArgument, UndefinedError, UnknownFunction, UnknownMethod, OutOfFuel, WriteFailure, BadStream, OutOfMemory};
-ghost use Rattle.tm_meaning.specs.Rows.{Says, Charges, Shows, Fails, Leaves, Lacks, empty, text_alone, two_names, one_name, nothing, with_value, hello, either_text, of_three, empty_condition, shown, a_and_b_c, a_or_x, not_equal, a_b, literal_number, three_in_a_row, false_before_fault, no_value, one_condition, two_conditions, in_block, block_not_reached, with_two, empty_with, set_two, set_two_of_one, set_attribute, literal, each_number, no_round, broken_round, break_in_capture, continue_in_scope, loop_members, set_in_round, chosen, chosen_alone, chosen_index, chosen_by_loop, changed_or_not, by_turns, by_no_turns, no_method_of_loops, method_of_map, method_of_undefined, called_in_place, called_over_a_number, not_recursive, no_loop_to_call, called_with_too_many, depth_inside_recursive, tree_in_place, tree_as_value, called_behind_its_end, range_of_three, range_by_name, dict_by_names, summed, over_a_number, set_block, set_under, escaped_by, fault_in_capture, set_block_of_two, literal_truth, do_call, last_function, faulty, calling, keep_and_read, unknown_behind};
+ghost use Rattle.tm_meaning.specs.Rows.{Says, Charges, Shows, Fails, Leaves, Lacks, Restores, empty, text_alone, two_names, one_name};
+ghost use Rattle.tm_meaning.specs.Rows.{nothing, with_value, hello, either_text, of_three, empty_condition, shown, a_and_b_c, a_or_x};
+ghost use Rattle.tm_meaning.specs.Rows.{not_equal, a_b, literal_number, three_in_a_row, false_before_fault, no_value, one_condition};
+ghost use Rattle.tm_meaning.specs.Rows.{two_conditions, in_block, block_not_reached, fault_in_block, with_two, empty_with, set_two};
+ghost use Rattle.tm_meaning.specs.Rows.{set_two_of_one, set_attribute, literal, each_number, no_round, broken_round, break_in_capture};
+ghost use Rattle.tm_meaning.specs.Rows.{continue_in_scope, loop_members, set_in_round, chosen, chosen_alone, chosen_index, chosen_by_loop};
+ghost use Rattle.tm_meaning.specs.Rows.{changed_or_not, by_turns, by_no_turns, no_method_of_loops, method_of_map, method_of_undefined};
+ghost use Rattle.tm_meaning.specs.Rows.{called_in_place, called_over_a_number, not_recursive, no_loop_to_call, called_with_too_many};
+ghost use Rattle.tm_meaning.specs.Rows.{depth_inside_recursive, tree_in_place, tree_as_value, called_behind_its_end, range_of_three};
+ghost use Rattle.tm_meaning.specs.Rows.{range_by_name, dict_by_names, summed, over_a_number, set_block, set_under, escaped_by};
+ghost use Rattle.tm_meaning.specs.Rows.{fault_in_capture, set_block_of_two, literal_truth, do_call, last_function, faulty, calling};
+ghost use Rattle.tm_meaning.specs.Rows.{keep_and_read, unknown_behind};
 
 /// `Hello {{ name }}!` with the name World takes 4 charges, so 5 units of fuel; with fewer it ends where the fuel does.
 pub fn hello_rows()
@@ -72,13 +83,16 @@ pub fn conditional_rows()
     ensures first_false { Charges (shown (two_conditions false true) nothing) [] 7 }
 {}
 
-/// `{% block b %}x{{ a }}{% endblock %}y`, and a block that isn't reached.
+/// `{% block b %}x{{ a }}{% endblock %}y`, a block that isn't reached, and one whose run ends in a fault within an escape and a scope,
+/// behind which all that the run replaced is put back.
 pub fn block_rows()
     ensures charges { Charges (in_block 500) (codes "xy") 5 }
     ensures deep_enough { Charges (in_block 2) (codes "xy") 5 }
     ensures too_deep { Fails (in_block 1) [] (InvalidOperation ∷ []) }
     ensures out_of_fuel { Says (in_block 500) 3 (codes "x") 0 (OutOfFuel ∷ []) }
     ensures not_reached { Charges block_not_reached (codes "[") 3 }
+    ensures fault { Fails fault_in_block (codes "x") (UnknownFunction ∷ []) }
+    ensures restores { Restores fault_in_block }
 {}
 
 /// `{% with a = 1, b = a %}{{ b }}{% endwith %}{{ b }}`, `{% with %}{% endwith %}`, `{% set a, b = 1, 2 %}{{ a }}{{ b }}`, `{% set a, b = [1] %}`, `{% set a.b = 1 %}` and `{% do f() %}x`.

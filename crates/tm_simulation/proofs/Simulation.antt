@@ -49,8 +49,8 @@ use Rattle.tm_syntax.specs.Loops.{loops_before, passes, within_loop, past, pasts
 use Rattle.tm_simulation.proofs.Matches.{Both, Looped, Match, match_at, statements_match}
 use Rattle.tm_simulation.proofs.Numbers.{behind_code, expr_none, target_none, assignments_none, iterable_count, statement_count, statements_count}
 use Rattle.tm_simulation.proofs.Loops.{LeftOf, next_item, no_item, left_then, turned_items, on_top_loop, next_record, new_record, none_is}
-use Rattle.tm_simulation.proofs.Advances.{Kept, marks, kept_frames, kept_depth, kept_same, kept_then, kept_record, kept_popped, kept_cleared, kept_turned, top_of_marks, mark_behind, in_loop_of, opened, opened_kept, within, kept_unescaped}
-use Rattle.tm_simulation.proofs.Gives.{loop_ends, ends_use, Gives, EndsBy as EndsKept, Ends as KeptEnds, ends_as, tick_gives}
+use Rattle.tm_simulation.proofs.Advances.{Kept, kept_top, kept_frames, kept_depth, kept_same, kept_then, kept_record, kept_popped, kept_cleared, kept_turned, mark_behind, in_loop_of, opened, opened_kept, within, kept_unescaped}
+use Rattle.tm_simulation.proofs.Gives.{RunEnds, loop_ends, ends_use, Gives, EndsBy as EndsKept, Ends as KeptEnds, ends_as, tick_gives}
 use Rattle.tm_simulation.proofs.Asks.{unpacked_gives, emitted_gives, escape_gives, Asks, block_asks, named_asks, method_asks, innermost_asks, items_give}
 use Rattle.tm_simulation.proofs.Evaluates.{eval_gives, condition_gives, all_give, pair_gives, pairs_give, argument_gives, arguments_give, keyword_gives, keywords_give, named_give, one_counted_gives, loop_items_give, step_gives, binary_gives, assign_gives, set_gives, set_each_gives, truth_gives, operated_gives}
 use Rattle.tm_simulation.proofs.Executes.{exec_ends, execs_end}
@@ -256,7 +256,7 @@ module _ (context : Context) (trees : Trees) (n : ℕ)
   abbrev u : Under
   u = over context.program.host (nests_of context.program.host trees n) again
 
-  nest_ends : (k : Callee) (heard : Bool) (out : List ℕ) (w : World) → KeptEnds context.program.host w (nests_of context.program.host trees n k heard out w)
+  nest_ends : (k : Callee) (heard : Bool) (out : List ℕ) (w : World) → RunEnds context.program.host w (nests_of context.program.host trees n k heard out w)
   nest_ends k heard out w = nests_end context.program.host trees n k heard out w
 
   abbrev Deep : Run → Spot → World → Type 0
@@ -866,7 +866,7 @@ module _ (context : Context) (trees : Trees) (n : ℕ)
   jumps_scope to os s stack w v L d k j q out x pc h is l =
       let a = plain_scope (undefined false) in
       let all = kept_then k h in
-      popped_then (later s q out) pc stack x (omega (arith, kept_frames all, d)) (top_of_marks None (marks w.scopes.frames) x.scopes.frames all.same_marks) is.0
+      popped_then (later s q out) pc stack x (omega (arith, kept_frames all, d)) (kept_top all) is.0
       (j q out (pop x) (pc + 1) (kept_popped a w x all) is.1 l)
 
   around_scope : (k : Inside) (s : Spot) (stack : List Val) (w v : World) (L N : Then) → context.base.scopes ≤ length w.scopes.frames → Kept (within (plain_scope (undefined false)) w) v → Around k s stack w L N → Around (opening a_scope k) s stack v (Closed pop L) (Closed pop N)
@@ -1279,7 +1279,7 @@ module _ (context : Context) (trees : Trees) (n : ℕ)
         (use_then context s.bed (within a w) (set_each u (as_at run s) given (within a w)) (as_at run s) s.out _ _ L N _ (set_each_gives u nest_ends again_kept (as_at run s) given (within a w)) h1 (λ _ world2 k2 h2.
         stmts_run (opening a_scope k) loops body run s pc1 stack world2 (Closed pop L) (Closed pop N) fits (deep_kept run s k2 deep1) (around_scope k s stack w world2 L N d.0.scopes k2 j) (has_front all pc1 bc (i.PopFrame ∷ []) from_body) nth2
         (closed_then context s.bed world2 pop (exec_all u loops body (as_at run s) s.out world2) _ L N _ (execs_end u nest_ends again_kept loops body (as_at run s) s.out world2) h2 (λ q out1 world3 k3 g.
-        popped_then (later s q out1) (pc1 + length bc) stack world3 (omega (arith, kept_frames k3, kept_frames k2, d.0.scopes)) (top_of_marks None (marks w.scopes.frames) world3.scopes.frames (k3.same_marks ∙ k2.same_marks)) last.0
+        popped_then (later s q out1) (pc1 + length bc) stack world3 (omega (arith, kept_frames k3, kept_frames k2, d.0.scopes)) (kept_top (kept_then k2 k3)) last.0
         (move context (later s q out1) _ _ stack (pop world3) place g)))))))))
     stmt_runs k loops (SetBlock' t _ body) run s pc stack w L N fits d j is nth h =
         let all = context.program.code s.run.stream in
