@@ -1,5 +1,6 @@
 -- What a call comes to, up to the run that it needs: the meaning and the machine share it. Neither trees nor instructions stand here.
-use Rattle.std.specs.Prelude.{ℕ, zero, suc, ◌%◌, List, [], ◌∷◌, length, map as each, Option, Some, None, Ok, Bool, true, false, not, nat_eq, ◌&&◌, ◌||◌, slice_get, codes, if◌then◌else◌}
+use Rattle.std.specs.Prelude.{ℕ, zero, suc, ◌-◌, ◌%◌, drop, List, [], ◌∷◌, length, map as each, Option, Some, None, Ok, Bool, true, false}
+use Rattle.std.specs.Prelude.{not, nat_eq, ◌&&◌, ◌||◌, slice_get, codes, if◌then◌else◌}
 use Rattle.std.specs.Ordering.{is_eq}
 use Rattle.tm_definitions.specs.Maps.{dict_of, namespace_of}
 use Rattle.tm_definitions.specs.Ranges.{range_of}
@@ -14,7 +15,10 @@ use Rattle.tm_meaning.specs.declared.function.GlobalFunction.{GlobalFunction}
 use Rattle.tm_meaning.specs.declared.wrapping.Wrapping.{Wrapping}
 use Rattle.tm_meaning.specs.Memory.{kind_of_wrapping}
 use Rattle.tm_meaning.specs.declared.function.GlobalFunction.TheVariants as own
-use Rattle.tm_meaning.specs.World.{TemplateId, own, entry, StreamId, block_of, Named, find, put_each, same_name, Card, Layers, Loop, World, Host, View, Stated, Function, callers, languages, Res, Good, Bad, bind, bad, answered, items_over, innermost, records_of, make_namespace, need, check, card_at, view_of, lookup, context_member, or_undefined, place_of, plain, push, pop}
+use Rattle.tm_meaning.specs.World.{TemplateId, own, entry, StreamId, block_of, Named, find, put_each, same_name, Card, Layers, Loop, World}
+use Rattle.tm_meaning.specs.World.{Host, View, Scope, Stated, Function, callers, languages, Res, Good, Bad, bind, bad, answered}
+use Rattle.tm_meaning.specs.World.{items_over, innermost, records_of, make_namespace, need, check, card_at, view_of, lookup}
+use Rattle.tm_meaning.specs.World.{context_member, or_undefined, place_of, plain, push}
 use Rattle.tm_meaning.specs.declared.reply.Reply.{Reply}
 use Rattle.tm_meaning.specs.declared.reply.Reply.TheVariants.{Value as gives, Fault as faults}
 
@@ -44,11 +48,18 @@ ask (Good a w) f = f a w
 ask (Bad chain w) f = refused chain w
 
 -- ---------------------------------------------------------------- behind a run
-abbrev pub with_outer : ℕ → World → World
-with_outer n w = record w { scopes = record w.scopes { outer = n } }
+-- so many of the outermost scopes
+abbrev pub outermost : ℕ → List Scope → List Scope
+outermost n frames = drop (length frames - n) frames
 
+-- a state with so many of its outermost scopes, which stand at a depth
+abbrev pub cut_to : ℕ → ℕ → World → World
+cut_to n outer w = record w { scopes = record { frames = outermost n w.scopes.frames; outer = outer } }
+
+-- However the run ended, only the scopes stay that stood before it, and stream, block, escape and outer depth are those before it.
+-- Records, kept values and fuel go on.
 abbrev pub undone : Undo → World → World
-undone (of_block b) w = record (with_outer b.scopes.outer (pop w)) { stream = b.stream; block = b.block; escape = b.escape }
+undone (of_block b) w = record (cut_to (length b.scopes.frames) b.scopes.outer w) { stream = b.stream; block = b.block; escape = b.escape }
 
 abbrev pub wrapped : Option Wrapping → List ErrorKind → List ErrorKind
 wrapped None chain = chain

@@ -167,7 +167,7 @@ nested_as_value vs c k w =
 abbrev pub pushed : Val → Activation → Activation
 pushed v r = record r { operands = v ∷ r.operands }
 
--- what the end of a nested run leads to
+-- what the end of a nested run leads to, behind what is put back
 abbrev pub back_with : Bool → Activation → List Capture → World → Next
 back_with false r ks w = More [] (record { run = r; captures = ks; world = w })
 back_with true r [] w = stuck w
@@ -175,8 +175,8 @@ back_with true r (k ∷ ks) w = More [] (record { run = pushed (captured_text k.
 
 abbrev pub back_to : Back → End → Next
 back_to back (Finished ks w) = back_with back.value back.run ks (undone back.call.undo w)
-back_to back (Failed chain w) = Over (Failed (wrapped back.call.wrap chain) w)
-back_to back (Stuck w) = stuck w
+back_to back (Failed chain w) = Over (Failed (wrapped back.call.wrap chain) (undone back.call.undo w))
+back_to back (Stuck w) = stuck (undone back.call.undo w)
 
 -- A loop is called over items: it begins at its place, over no operands, and goes on here behind it. One that can't be called there isn't.
 abbrev pub recursion : Program → Config → Bool → List Val → List Capture → ℕ → Option LoopPlace → List Val → World → Next

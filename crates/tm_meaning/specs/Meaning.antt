@@ -105,9 +105,9 @@ abbrev pub say : Run → List ℕ → List ℕ → List ℕ
 say run t out = choose (audible run) (λ _. out ++ t) (λ _. out)
 
 -- ---------------------------------------------------------------- calls
--- a run that was needed, as a value
+-- a run that was needed, as a value; what it replaced is put back, also where it ended in a fault
 abbrev pub value_behind : Ending → Call → Outcome → Res Val
-value_behind (fault chain) c o = Bad (wrapped c.wrap chain) o.world
+value_behind (fault chain) c o = Bad (wrapped c.wrap chain) (undone c.undo o.world)
 value_behind e c o = Good (captured_text o.text (undone c.undo o.world)) (undone c.undo o.world)
 
 -- a run inside a capture of its own, which takes what is written or not
@@ -127,7 +127,7 @@ value_of u run (recurs n items w) = let o = u.again n items (capturing true run)
 
 -- a run that was needed, in place
 abbrev pub behind : Ending → Call → Run → Outcome → Outcome
-behind (fault chain) c run o = ended (fault (wrapped c.wrap chain)) run o.text o.world
+behind (fault chain) c run o = ended (fault (wrapped c.wrap chain)) run o.text (undone c.undo o.world)
 behind e c run o = so_far run o.text (undone c.undo o.world)
 
 abbrev pub in_place_of : Under → Run → List ℕ → Asked → Outcome

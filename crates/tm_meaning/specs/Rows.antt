@@ -137,6 +137,12 @@ Lacks p x = Behind (λ w. find_name (view_of (host_of p) w) x ≡ Ok None) p
 abbrev pub Spends : Page → ℕ → Option (ℕ × ℕ) → Type 0
 Spends p fuel levels = fuel_levels (rendered (host_of p) (trees p) (world_of p (Some fuel))).world ≡ levels
 
+-- a state whose scopes, stream, block and escape are behind it those before it
+abbrev pub Restores : Page → Type 0
+Restores p =
+    let old = world_of p None in
+    Behind (λ w. (w.scopes ≡ old.scopes) × (w.stream ≡ old.stream) × (w.block ≡ old.block) × (w.escape ≡ old.escape)) p
+
 -- and where all is done
 abbrev pub Shows : Page → List ℕ → Type 0
 Shows p t = Fails p t []
@@ -277,6 +283,14 @@ in_block limit = record (page (two block_of_two (raw (codes "y"))) nothing) { li
 -- {% if a %}{% block b %}x{% endblock %}{% endif %}[
 abbrev pub block_not_reached : Page
 block_not_reached = page (two (if_one a (Block' (codes "b") (tt ∷ []) (statement (raw (codes "x")) no_statement)) no_else) (raw (codes "["))) nothing
+
+-- x{% block b %}{% autoescape "html" %}{% with a = 1 %}{{ nope() }}{% endwith %}{% endautoescape %}{% endblock %}
+abbrev pub fault_in_block : Page
+fault_in_block =
+    let fault = statement (EmitExpr (Call' (codes "nope") [] no_argument [] no_keyword)) no_statement in
+    let scoped = With' (Given (To (codes "a")) (literal_number 1) ∷ []) (tt ∷ []) fault in
+    let escaped = AutoEscape' (literal (codes "html")) (tt ∷ []) (statement scoped no_statement) in
+    page (two (raw (codes "x")) (Block' (codes "b") (tt ∷ []) (statement escaped no_statement))) nothing
 
 -- {% with a = 1, b = a %}{{ b }}{% endwith %}{{ b }}
 abbrev pub with_two : Page

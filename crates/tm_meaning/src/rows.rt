@@ -3,11 +3,11 @@ ghost use Rattle.std.specs.Prelude.{[], ◌∷◌, ◌++◌, true, false, codes,
 ghost use Rattle.std.specs.Fmt.{decimal};
 ghost use Rattle.tm_values.specs.Val.{boolean, function, map, no_pairs, number};
 ghost use Rattle.tm_values.specs.declared.error.ErrorKind.TheVariants.{CannotUnpack, InvalidOperation, MissingArgument, UndefinedError, UnknownFunction, UnknownMethod, OutOfFuel, WriteFailure, BadStream, OutOfMemory};
-ghost use Rattle.tm_meaning.specs.Rows.{Says, Charges, Shows, Fails, Leaves, Lacks, empty, text_alone, two_names};
+ghost use Rattle.tm_meaning.specs.Rows.{Says, Charges, Shows, Fails, Leaves, Lacks, Restores, empty, text_alone, two_names};
 ghost use Rattle.tm_meaning.specs.Rows.{one_name, nothing, with_value, hello, either_text, of_three, empty_condition};
 ghost use Rattle.tm_meaning.specs.Rows.{shown, a_and_b_c, a_or_x, not_equal, a_b, literal_number, three_in_a_row};
 ghost use Rattle.tm_meaning.specs.Rows.{false_before_fault, no_value, one_condition, two_conditions, in_block};
-ghost use Rattle.tm_meaning.specs.Rows.{block_not_reached, with_two, empty_with, set_two, set_two_of_one};
+ghost use Rattle.tm_meaning.specs.Rows.{block_not_reached, fault_in_block, with_two, empty_with, set_two, set_two_of_one};
 ghost use Rattle.tm_meaning.specs.Rows.{set_attribute, literal, set_block, set_under, escaped_by, fault_in_capture};
 ghost use Rattle.tm_meaning.specs.Rows.{set_block_of_two, literal_truth};
 ghost use Rattle.tm_meaning.specs.LoopRows.{each_number, no_round, broken_round, break_in_capture, continue_in_scope};
@@ -88,13 +88,16 @@ pub fn conditional_rows()
     ensures first_false { Charges (shown (two_conditions false true) nothing) [] 7 }
 {}
 
-/// `{% block b %}x{{ a }}{% endblock %}y`, and a block that isn't reached.
+/// `{% block b %}x{{ a }}{% endblock %}y`, a block that isn't reached, and one whose run ends in a fault within an escape and a scope,
+/// behind which all that the run replaced is put back.
 pub fn block_rows()
     ensures charges { Charges (in_block 500) (codes "xy") 5 }
     ensures deep_enough { Charges (in_block 2) (codes "xy") 5 }
     ensures too_deep { Fails (in_block 1) [] (InvalidOperation ∷ []) }
     ensures out_of_fuel { Says (in_block 500) 3 (codes "x") 0 (OutOfFuel ∷ []) }
     ensures not_reached { Charges block_not_reached (codes "[") 3 }
+    ensures fault { Fails fault_in_block (codes "x") (UnknownFunction ∷ []) }
+    ensures restores { Restores fault_in_block }
 {}
 
 /// `{% with a = 1, b = a %}{{ b }}{% endwith %}{{ b }}`, `{% with %}{% endwith %}`, `{% set a, b = 1, 2 %}{{ a }}{{ b }}`, `{% set a, b = [1] %}`, `{% set a.b = 1 %}` and `{% do f() %}x`.

@@ -1,33 +1,26 @@
 -- What a world keeps: one part however statements end (`Advances`), and more where that is no fault (`Kept`).
 use Rattle.std.proofs.Common.{◌≡◌, ℕ, zero, suc, ◌+◌, List, [], ◌∷◌, length, Option, Some, None, Bool, true, false, nat_lt, ◌++◌, refl, sym}
 use Rattle.std.proofs.Common.{subst, ap, ◌∙◌, arith, append_assoc, ◌≤◌}
-use Rattle.std.specs.Prelude.{◌-◌, slice_get, if◌then◌else◌}
-use Rattle.std.proofs.lemmas.List.{append-nil}
+use Rattle.std.specs.Prelude.{◌-◌, drop, slice_get, if◌then◌else◌}
+use Rattle.std.proofs.lemmas.List.{append-nil, length-append}
+use Rattle.std.proofs.Math.Seq.{drop-append_seam}
 use Rattle.tm_values.specs.Val.{Val}
 use Rattle.tm_values.specs.declared.escape.AutoEscape.{AutoEscape}
 use Rattle.tm_values.specs.declared.error.ErrorKind.TheVariants.{InvalidOperation}
 use Rattle.tm_syntax.specs.declared.instruction.LoopFlags.{LoopFlags}
 use Rattle.tm_meaning.specs.World.{Bindings, choose, with_frames, World, Scopes, Scope, Loop, loop_scope, new_loop, turned_at, turned_of}
 use Rattle.tm_meaning.specs.World.{top_mark, next_turn, without_locals, cleared, Res, Good, Bad, pop, depth, without_first, stored_in}
-use Rattle.tm_meaning.specs.World.{store, with_escape}
-use Rattle.tm_meaning.specs.Calls.{keeping_at, is_changed}
+use Rattle.tm_meaning.specs.World.{store, with_escape, Named, Layers}
+use Rattle.tm_meaning.specs.Calls.{keeping_at, is_changed, outermost, undone, of_block}
 use Rattle.tm_meaning.specs.declared.mark.LoopMark.{LoopMark}
-use Rattle.tm_simulation.specs.Kept.{shape, shapes, GoesOn}
+use Rattle.tm_simulation.specs.Kept.{shape, shapes, GoesOn, LieOver, BlocksGrow}
 use Rattle.tm_meaning.specs.declared.stream.StreamId.{StreamId}
 use Rattle.tm_syntax.specs.Named.{name_cmp, put, put_each}
 use Rattle.std.specs.Ordering.{match_ordering}
 use Rattle.std.specs.declared.cmp.Ordering.{Ordering}
 use Rattle.std.specs.declared.cmp.Ordering.TheVariants.{Less, Equal, Greater}
 
--- the loops of scopes
-abbrev pub marks : List Scope → List (Option LoopMark)
-marks [] = []
-marks (s ∷ ss) = s.mark ∷ marks ss
-
-marks_long : (ss : List Scope) → length (marks ss) ≡ length ss
-marks_long [] = refl
-marks_long (s ∷ ss) = ap suc (marks_long ss)
-
+-- ---------------------------------------------------------------- records
 pub shapes_long : (ls : List Loop) → length (shapes ls) ≡ length ls
 shapes_long [] = refl
 shapes_long (l ∷ ls) = ap suc (shapes_long ls)
@@ -47,8 +40,61 @@ front_record [] b n l e = absurd (cc e)
 front_record (x ∷ a) b zero l e = e
 front_record (x ∷ a) b (suc n) l e = front_record a b n l e
 
--- However statements end the state is the same one, no fuel comes back, and what it has is never less.
-pub record Advances (old new : World) : Type 0 where
+-- ---------------------------------------------------------------- scopes that lie over others
+-- as many but for the names of the innermost one
+bare_long : (ss : List Scope) → length (without_locals ss) ≡ length ss
+bare_long [] = refl
+bare_long (s ∷ ss) = refl
+
+top_of_bare : (ss : List Scope) → top_mark (without_locals ss) ≡ top_mark ss
+top_of_bare [] = refl
+top_of_bare (s ∷ ss) = refl
+
+bare_twice : (ss : List Scope) → without_locals (without_locals ss) ≡ without_locals ss
+bare_twice [] = refl
+bare_twice (s ∷ ss) = refl
+
+-- below the innermost scope they are the same
+below_bare : (s : Scope) (ss there : List Scope) → without_locals there ≡ without_locals (s ∷ ss) → (t : Scope) × (there ≡ t ∷ ss)
+below_bare s ss [] e = absurd (cc e)
+below_bare s ss (t ∷ ts) e = (t, cc e)
+
+lie_same : (old new : List Scope) → without_locals new ≡ without_locals old → LieOver old new
+lie_same old new e = ([], new, refl, e)
+
+lie_then : (a b c : List Scope) → LieOver a b → LieOver b c → LieOver a c
+lie_then a b c ([], there, is, same) (more, last, at, e) = (more, last, at, e ∙ ap without_locals is ∙ same)
+lie_then a b c (s ∷ ss, there, is, same) (more, last, at, e) =
+    let below = below_bare s (ss ++ there) last (e ∙ ap without_locals is) in
+    (more ++ below.0 ∷ ss, there, at ∙ ap (λ l. more ++ l) below.1 ∙ sym (append_assoc more (below.0 ∷ ss) there), same)
+
+-- of scopes that lie over these the outermost, as many as these, are these
+outermost_there : (more ss : List Scope) → outermost (length ss) (more ++ ss) ≡ ss
+outermost_there more ss =
+    let many : length (more ++ ss) - length ss ≡ length more = omega (arith, length-append more ss) in
+    ap (λ n. drop n (more ++ ss)) many ∙ drop-append_seam more ss
+
+pub outermost_below : (s : Scope) (ss new : List Scope) → LieOver (s ∷ ss) new → outermost (length ss) new ≡ ss
+outermost_below s ss new (more, there, is, same) =
+    let below = below_bare s ss there same in
+    let all : new ≡ (more ++ below.0 ∷ []) ++ ss =
+    is ∙ ap (λ l. more ++ l) below.1 ∙ sym (append_assoc more (below.0 ∷ []) ss) in
+    ap (outermost (length ss)) all ∙ outermost_there (more ++ below.0 ∷ []) ss
+
+-- ---------------------------------------------------------------- lists of blocks
+blocks_same : (bs : Named Layers) → BlocksGrow bs bs
+blocks_same bs = λ x l found. ([], found ∙ ap (λ ts. Some (record l { templates = ts })) (sym (append-nil l.templates)))
+
+blocks_then : (a b c : Named Layers) → BlocksGrow a b → BlocksGrow b c → BlocksGrow a c
+blocks_then a b c h k = λ x l found.
+    let first = h x l found in
+    let last = k x (record l { templates = l.templates ++ first.0 }) first.1 in
+    (first.0 ++ last.0, last.1 ∙ ap (λ ts. Some (record l { templates = ts })) (append_assoc l.templates first.0 last.0))
+
+-- ---------------------------------------------------------------- what is kept
+-- However statements end, and whichever stream, block and scopes are there then: the state is the same one, no fuel comes back, and what
+-- it has is never less.
+pub record Lasts (old new : World) : Type 0 where
   pub same_id : new.id ≡ old.id
   pub same_fuel_set : new.fuel_set ≡ old.fuel_set
   pub fuel : new.fuel ≤ old.fuel
@@ -58,19 +104,25 @@ pub record Advances (old new : World) : Type 0 where
   pub streams : length old.streams ≤ length new.streams
   pub temps : length old.temps ≤ length new.temps
   pub loaded : length old.loaded ≤ length new.loaded
+  pub blocks : BlocksGrow old.blocks new.blocks
 
--- Where they end with no fault, the loops of the scopes, how deep the outermost scope lies, and what stands beside the scopes are as before.
-pub record Kept (old new : World) : Type 0 where
-  pub advances : Advances old new
-  pub same_marks : marks new.scopes.frames ≡ marks old.scopes.frames
+-- However they end: what was there lasts, the scopes that stood are there, but for the names of the innermost one, and stream and block
+-- are as before.
+pub record Advances (old new : World) : Type 0 where
+  pub lasts : Lasts old new
+  pub scopes : LieOver old.scopes.frames new.scopes.frames
   pub outer : new.scopes.outer ≡ old.scopes.outer
   pub same_stream : new.stream ≡ old.stream
   pub same_block : new.block ≡ old.block
-  pub same_escape : new.escape ≡ old.escape
-  pub same_blocks : new.blocks ≡ old.blocks
 
-pub advances_then : {a b c : World} → Advances a b → Advances b c → Advances a c
-advances_then {a = a} {b = b} {c = c} h k = record {
+-- Where that is no fault, no other scopes are there, and the escape is as before.
+pub record Kept (old new : World) : Type 0 where
+  pub advances : Advances old new
+  pub same_scopes : without_locals new.scopes.frames ≡ without_locals old.scopes.frames
+  pub same_escape : new.escape ≡ old.escape
+
+lasts_then : {a b c : World} → Lasts a b → Lasts b c → Lasts a c
+lasts_then {a = a} {b = b} {c = c} h k = record {
   same_id = k.same_id ∙ h.same_id;
   same_fuel_set = k.same_fuel_set ∙ h.same_fuel_set;
   fuel = omega (arith, h.fuel, k.fuel);
@@ -80,24 +132,42 @@ advances_then {a = a} {b = b} {c = c} h k = record {
   streams = omega (arith, h.streams, k.streams);
   temps = omega (arith, h.temps, k.temps);
   loaded = omega (arith, h.loaded, k.loaded);
+  blocks = blocks_then a.blocks b.blocks c.blocks h.blocks k.blocks;
+}
+
+pub advances_then : {a b c : World} → Advances a b → Advances b c → Advances a c
+advances_then {a = a} {b = b} {c = c} h k = record {
+  lasts = lasts_then h.lasts k.lasts;
+  scopes = lie_then a.scopes.frames b.scopes.frames c.scopes.frames h.scopes k.scopes;
+  outer = k.outer ∙ h.outer;
+  same_stream = k.same_stream ∙ h.same_stream;
+  same_block = k.same_block ∙ h.same_block;
+}
+
+pub kept_then : {a b c : World} → Kept a b → Kept b c → Kept a c
+kept_then h k = record {
+  advances = advances_then h.advances k.advances;
+  same_scopes = k.same_scopes ∙ h.same_scopes;
+  same_escape = k.same_escape ∙ h.same_escape;
 }
 
 -- less fuel, more records and kept values, and whatever becomes of the scopes, the stream, the block and the escape
-advances_to : (left : ℕ) (loops : List Loop) (namespaces : List (List (Val × Val))) (temps : Bindings) (scopes : Scopes)
+lasts_to : (left : ℕ) (loops : List Loop) (namespaces : List (List (Val × Val))) (temps : Bindings) (scopes : Scopes)
     (stream : StreamId) (block : Option (List ℕ)) (escape : AutoEscape) (w : World) →
     left ≤ w.fuel → GoesOn w.loops loops → length w.namespaces ≤ length namespaces → length w.temps ≤ length temps →
-    Advances w (record w {
+    let new =
+    record w {
       fuel = left;
       loops = loops;
       namespaces = namespaces;
       temps = temps;
       scopes = scopes;
       stream = stream;
-      block =
-          block;
+      block = block;
       escape = escape;
-    })
-advances_to left loops namespaces temps scopes stream block escape w less more_loops more_namespaces more_temps = record {
+    } in
+    Lasts w new
+lasts_to left loops namespaces temps scopes stream block escape w less more_loops more_namespaces more_temps = record {
   same_id = refl;
   same_fuel_set = refl;
   fuel = less;
@@ -107,105 +177,101 @@ advances_to left loops namespaces temps scopes stream block escape w less more_l
   streams = omega arith;
   temps = more_temps;
   loaded = omega arith;
+  blocks = blocks_same w.blocks;
 }
 
-pub advances_anywhere : (scopes : Scopes) (stream : StreamId) (block : Option (List ℕ)) (escape : AutoEscape) (w : World) →
-    Advances w (record w { scopes = scopes; stream = stream; block = block; escape = escape })
-advances_anywhere scopes stream block escape w = advances_to w.fuel w.loops w.namespaces w.temps scopes stream block escape w (omega arith)
-    (goes_on_same w.loops) (omega arith) (omega arith)
+lasts_anywhere : (scopes : Scopes) (stream : StreamId) (block : Option (List ℕ)) (escape : AutoEscape) (w : World) →
+    Lasts w (record w { scopes = scopes; stream = stream; block = block; escape = escape })
+lasts_anywhere scopes stream block escape w =
+    lasts_to w.fuel w.loops w.namespaces w.temps scopes stream block escape w (omega arith) (goes_on_same w.loops) (omega arith)
+    (omega arith)
 
-advances_by_loops : (w : World) (ls : List Loop) → GoesOn w.loops ls → Advances w (record w { loops = ls })
-advances_by_loops w ls more = advances_to w.fuel ls w.namespaces w.temps w.scopes w.stream w.block w.escape w (omega arith) more
-    (omega arith) (omega arith)
+pub lasts_by_loops : (w : World) (ls : List Loop) → GoesOn w.loops ls → Lasts w (record w { loops = ls })
+lasts_by_loops w ls more =
+    lasts_to w.fuel ls w.namespaces w.temps w.scopes w.stream w.block w.escape w (omega arith) more (omega arith) (omega arith)
 
-pub advances_by_fuel : (w : World) (left : ℕ) → left ≤ w.fuel → Advances w (record w { fuel = left })
-advances_by_fuel w left less = advances_to left w.loops w.namespaces w.temps w.scopes w.stream w.block w.escape w less
-    (goes_on_same w.loops) (omega arith) (omega arith)
+pub lasts_by_fuel : (w : World) (left : ℕ) → left ≤ w.fuel → Lasts w (record w { fuel = left })
+lasts_by_fuel w left less =
+    lasts_to left w.loops w.namespaces w.temps w.scopes w.stream w.block w.escape w less (goes_on_same w.loops) (omega arith) (omega arith)
 
-pub advances_by_namespaces : (w : World) (ns : List (List (Val × Val))) → length w.namespaces ≤ length ns →
-    Advances w (record w { namespaces = ns })
-advances_by_namespaces w ns more = advances_to w.fuel w.loops ns w.temps w.scopes w.stream w.block w.escape w (omega arith)
-    (goes_on_same w.loops) more (omega arith)
+pub lasts_by_namespaces : (w : World) (ns : List (List (Val × Val))) → length w.namespaces ≤ length ns →
+    Lasts w (record w { namespaces = ns })
+lasts_by_namespaces w ns more =
+    lasts_to w.fuel w.loops ns w.temps w.scopes w.stream w.block w.escape w (omega arith) (goes_on_same w.loops) more (omega arith)
 
-pub advances_by_temps : (w : World) (temps : Bindings) → length w.temps ≤ length temps → Advances w (record w { temps = temps })
-advances_by_temps w temps more = advances_to w.fuel w.loops w.namespaces temps w.scopes w.stream w.block w.escape w (omega arith)
-    (goes_on_same w.loops) (omega arith) more
+pub lasts_by_temps : (w : World) (temps : Bindings) → length w.temps ≤ length temps → Lasts w (record w { temps = temps })
+lasts_by_temps w temps more =
+    lasts_to w.fuel w.loops w.namespaces temps w.scopes w.stream w.block w.escape w (omega arith) (goes_on_same w.loops) (omega arith) more
 
-pub advances_same : (w : World) → Advances w w
-advances_same w = advances_anywhere w.scopes w.stream w.block w.escape w
+-- what lasts, with scopes, stream, block and escape as they are
+pub kept_lasting : {w x : World} → Lasts w x → x.scopes ≡ w.scopes → x.stream ≡ w.stream → x.block ≡ w.block → x.escape ≡ w.escape →
+    Kept w x
+kept_lasting {w = w} {x = x} l scopes stream block escape =
+    let frames : without_locals x.scopes.frames ≡ without_locals w.scopes.frames = ap (λ (s : Scopes). without_locals s.frames) scopes in
+    record {
+      advances = record {
+        lasts = l;
+        scopes = lie_same w.scopes.frames x.scopes.frames frames;
+        outer = ap (λ (s : Scopes). s.outer) scopes;
+        same_stream = stream;
+        same_block = block;
+      };
+      same_scopes = frames;
+      same_escape = escape;
+    }
 
 pub kept_same : (w : World) → Kept w w
-kept_same w = record {
-  advances = advances_same w;
-  same_marks = refl;
+kept_same w = kept_lasting (lasts_anywhere w.scopes w.stream w.block w.escape w) refl refl refl refl
+
+pub advances_same : (w : World) → Advances w w
+advances_same w = (kept_same w).advances
+
+-- scopes that lie over those that stood
+advances_frames : (frames : List Scope) (w : World) → LieOver w.scopes.frames frames → Advances w (with_frames frames w)
+advances_frames frames w lie = record {
+  lasts = lasts_anywhere (record w.scopes { frames = frames }) w.stream w.block w.escape w;
+  scopes = lie;
   outer = refl;
   same_stream = refl;
   same_block = refl;
-  same_escape =
-      refl;
-  same_blocks = refl;
 }
 
-pub kept_then : {a b c : World} → Kept a b → Kept b c → Kept a c
-kept_then h k = record {
-  advances = advances_then h.advances k.advances;
-  same_marks = k.same_marks ∙ h.same_marks;
-  outer = k.outer ∙ h.outer;
-  same_stream = k.same_stream ∙ h.same_stream;
-  same_block = k.same_block ∙ h.same_block;
-  same_escape = k.same_escape ∙ h.same_escape;
-  same_blocks = k.same_blocks ∙ h.same_blocks;
-}
-
--- what only advances, with all else as it is
-pub kept_advanced : {w v x : World} → Kept w v → Advances v x → x.scopes ≡ v.scopes → x.stream ≡ v.stream → x.block ≡ v.block →
-    x.escape ≡ v.escape → x.blocks ≡ v.blocks → Kept w x
-kept_advanced k l scopes stream block escape blocks = record {
-  advances = advances_then k.advances l;
-  same_marks = ap (λ (s : Scopes). marks s.frames) scopes ∙ k.same_marks;
-  outer = ap (λ (s : Scopes). s.outer) scopes ∙ k.outer;
-  same_stream = stream ∙ k.same_stream;
-  same_block = block ∙ k.same_block;
-  same_escape = escape ∙ k.same_escape;
-  same_blocks = blocks ∙ k.same_blocks;
-}
-
--- other scopes with the same loops
-pub kept_frames_as : {w v : World} → Kept w v → (frames : List Scope) → marks frames ≡ marks v.scopes.frames → Kept w (with_frames frames v)
-kept_frames_as {v = v} k frames same = record {
-  advances = advances_then k.advances (advances_anywhere (record v.scopes { frames = frames }) v.stream v.block v.escape v);
-  same_marks = same ∙ k.same_marks;
-  outer = k.outer;
-  same_stream = k.same_stream;
-  same_block = k.same_block;
-  same_escape = k.same_escape;
-  same_blocks = k.same_blocks;
+-- scopes that differ in the names of the innermost one
+kept_named : (frames : List Scope) (w : World) → without_locals frames ≡ without_locals w.scopes.frames → Kept w (with_frames frames w)
+kept_named frames w same = record {
+  advances = advances_frames frames w (lie_same w.scopes.frames frames same);
+  same_scopes = same;
+  same_escape = refl;
 }
 
 -- as many scopes
 pub kept_frames : {a b : World} → Kept a b → length b.scopes.frames ≡ length a.scopes.frames
-kept_frames {a = a} {b = b} h = sym (marks_long b.scopes.frames) ∙ ap length h.same_marks ∙ marks_long a.scopes.frames
+kept_frames {a = a} {b = b} h = sym (bare_long b.scopes.frames) ∙ ap length h.same_scopes ∙ bare_long a.scopes.frames
 
 pub kept_depth : {a b : World} → Kept a b → depth b.scopes ≡ depth a.scopes
-kept_depth h = omega (arith, kept_frames h, h.outer)
+kept_depth h = omega (arith, kept_frames h, h.advances.outer)
+
+-- the innermost scope's loop
+pub kept_top : {a b : World} → Kept a b → top_mark b.scopes.frames ≡ top_mark a.scopes.frames
+kept_top {a = a} {b = b} h = sym (top_of_bare b.scopes.frames) ∙ ap top_mark h.same_scopes ∙ top_of_bare a.scopes.frames
 
 -- the record of a number
 pub kept_record : {a b : World} → Kept a b → (n : ℕ) (l : Loop) → slice_get (shapes a.loops) n ≡ Some l →
     slice_get (shapes b.loops) n ≡ Some l
-kept_record {a = a} {b = b} h n l e = ap (λ ls. slice_get ls n) h.advances.loops.1 ∙ front_record (shapes a.loops) h.advances.loops.0 n l e
+kept_record {a = a} {b = b} h n l e =
+    let loops = h.advances.lasts.loops in ap (λ ls. slice_get ls n) loops.1 ∙ front_record (shapes a.loops) loops.0 n l e
 
 -- ---------------------------------------------------------------- scopes
-stored_marks : (x : List ℕ) (v : Val) (frames : List Scope) → marks (stored_in x v frames) ≡ marks frames
-stored_marks x v [] = refl
-stored_marks x v (s ∷ ss) = refl
+stored_bare : (x : List ℕ) (v : Val) (frames : List Scope) → without_locals (stored_in x v frames) ≡ without_locals frames
+stored_bare x v [] = refl
+stored_bare x v (s ∷ ss) = refl
 
 pub store_kept : (x : List ℕ) (v : Val) (w : World) → Kept w (store x v w)
-store_kept x v w = kept_frames_as (kept_same w) (stored_in x v w.scopes.frames) (stored_marks x v w.scopes.frames)
+store_kept x v w = kept_named (stored_in x v w.scopes.frames) w (stored_bare x v w.scopes.frames)
 
-pub without_first_marks : (m : Option LoopMark) (ms : List (Option LoopMark)) (frames : List Scope) → marks frames ≡ m ∷ ms →
-    marks (without_first frames) ≡ ms
-without_first_marks m ms [] e = absurd (cc e)
-without_first_marks m ms (s ∷ ss) e = ap without_first e
+pub kept_cleared : {w world1 : World} → Kept w world1 → Kept w (cleared world1)
+kept_cleared {world1 = world1} k =
+    kept_then k (kept_named (without_locals world1.scopes.frames) world1 (bare_twice world1.scopes.frames))
 
 -- a world with one scope more
 abbrev pub within : Scope → World → World
@@ -216,45 +282,68 @@ abbrev pub one_more : Bool → Scope → World → Res (Unit {0})
 one_more room s w = choose room (λ _. Good tt (within s w)) (λ _. Bad (InvalidOperation ∷ []) w)
 
 pub advances_within : (s : Scope) (w : World) → Advances w (within s w)
-advances_within s w = advances_anywhere (record w.scopes { frames = s ∷ w.scopes.frames }) w.stream w.block w.escape w
+advances_within s w = advances_frames (s ∷ w.scopes.frames) w (s ∷ [], w.scopes.frames, refl, refl)
 
 -- without it, behind what keeps it
 pub kept_popped : (s : Scope) (w world1 : World) → Kept (within s w) world1 → Kept w (pop world1)
-kept_popped s w world1 k = record {
-  advances = advances_then (advances_within s w)
-      (advances_then k.advances (advances_anywhere (record world1.scopes { frames = without_first world1.scopes.frames }) world1.stream
-      world1.block world1.escape world1));
-  same_marks = without_first_marks s.mark (marks w.scopes.frames) world1.scopes.frames k.same_marks;
-  outer = k.outer;
-  same_stream = k.same_stream;
-  same_block = k.same_block;
-  same_escape = k.same_escape;
-  same_blocks = k.same_blocks;
-}
+kept_popped s w world1 k =
+    let below = below_bare s w.scopes.frames world1.scopes.frames k.same_scopes in
+    let frames : without_first world1.scopes.frames ≡ w.scopes.frames = ap without_first below.1 in
+    let same = ap without_locals frames in
+    let l = k.advances in
+    record {
+      advances = record {
+        lasts =
+            lasts_then (lasts_then (advances_within s w).lasts l.lasts)
+            (lasts_anywhere (record world1.scopes { frames = without_first world1.scopes.frames }) world1.stream world1.block world1.escape
+            world1);
+        scopes = lie_same w.scopes.frames (without_first world1.scopes.frames) same;
+        outer = l.outer;
+        same_stream = l.same_stream;
+        same_block = l.same_block;
+      };
+      same_scopes = same;
+      same_escape = k.same_escape;
+    }
 
 pub advances_escaped : (e : AutoEscape) (w : World) → Advances w (with_escape e w)
-advances_escaped e w = advances_anywhere w.scopes w.stream w.block e w
+advances_escaped e w = record {
+  lasts = lasts_anywhere w.scopes w.stream w.block e w;
+  scopes = lie_same w.scopes.frames w.scopes.frames refl;
+  outer = refl;
+  same_stream = refl;
+  same_block = refl;
+}
 
 -- the escape put back, behind what keeps another
 pub kept_unescaped : (e : AutoEscape) (w world1 : World) → Kept (with_escape e w) world1 → Kept w (with_escape w.escape world1)
 kept_unescaped e w world1 k = record {
   advances = advances_then (advances_escaped e w) (advances_then k.advances (advances_escaped w.escape world1));
-  same_marks = k.same_marks;
-  outer = k.outer;
-  same_stream = k.same_stream;
-  same_block = k.same_block;
+  same_scopes = k.same_scopes;
   same_escape = refl;
-  same_blocks = k.same_blocks;
 }
 
+-- ---------------------------------------------------------------- runs
+-- a world in another stream
+abbrev pub in_stream : StreamId → World → World
+in_stream s w = record w { stream = s }
+
+-- A block's run, in whichever stream it ended: what is put back behind it gives the very scopes before it, and all is kept.
+pub undone_scopes : (s : Scope) (stream : StreamId) (block : Option (List ℕ)) (w v : World) →
+    Advances (in_stream v.stream (record (within s w) { stream = stream; block = block })) v → (undone (of_block w) v).scopes ≡ w.scopes
+undone_scopes s stream block w v l =
+    ap (λ frames. record { frames = frames; outer = w.scopes.outer }) (outermost_below s w.scopes.frames v.scopes.frames l.scopes)
+
+pub undone_kept : (s : Scope) (stream : StreamId) (block : Option (List ℕ)) (w v : World) →
+    Advances (in_stream v.stream (record (within s w) { stream = stream; block = block })) v → Kept w (undone (of_block w) v)
+undone_kept s stream block w v l =
+    let inner : Scopes = record w.scopes { frames = s ∷ w.scopes.frames } in
+    let back : Scopes = record { frames = outermost (length w.scopes.frames) v.scopes.frames; outer = w.scopes.outer } in
+    kept_lasting
+    (lasts_then (lasts_then (lasts_anywhere inner v.stream block w.escape w) l.lasts) (lasts_anywhere back w.stream w.block w.escape v))
+    (undone_scopes s stream block w v l) refl refl refl
+
 -- ---------------------------------------------------------------- loops
-without_locals_marks : (frames : List Scope) → marks (without_locals frames) ≡ marks frames
-without_locals_marks [] = refl
-without_locals_marks (s ∷ ss) = refl
-
-pub kept_cleared : {w world1 : World} → Kept w world1 → Kept w (cleared world1)
-kept_cleared {world1 = world1} k = kept_frames_as k (without_locals world1.scopes.frames) (without_locals_marks world1.scopes.frames)
-
 -- the record that is asked for its next item
 pub turned_behind : (a b : List Loop) → turned_at (length a) (a ++ b) ≡ a ++ turned_at 0 b
 turned_behind [] b = refl
@@ -278,38 +367,37 @@ mark_behind g w = record { number = length w.loops; variable = g.variable }
 abbrev pub in_loop_of : LoopFlags → World → World
 in_loop_of g w = within (loop_scope (mark_behind g w)) w
 
-pub top_of_marks : (m : Option LoopMark) (ms : List (Option LoopMark)) (frames : List Scope) → marks frames ≡ m ∷ ms → top_mark frames ≡ m
-top_of_marks m ms [] e = absurd (cc e)
-top_of_marks m ms (s ∷ ss) e = cc e
-
 pub kept_turned : (g : LoopFlags) (w world1 : World) → Kept (in_loop_of g w) world1 → Kept (in_loop_of g w) (next_turn world1)
 kept_turned g w world1 k =
-    let top : top_mark world1.scopes.frames ≡ Some (mark_behind g w) =
-    top_of_marks (Some (mark_behind g w)) (marks w.scopes.frames) world1.scopes.frames k.same_marks in
+    let top : top_mark world1.scopes.frames ≡ Some (mark_behind g w) = kept_top k in
     let is : next_turn world1 ≡ record world1 { loops = turned_at (length w.loops) world1.loops } = ap (λ m. turned_of m world1) top in
-    let l = k.advances in
+    let a = k.advances in
+    let l = a.lasts in
+    let long = ap (λ n. turned_at n (shapes w.loops ++ l.loops.0)) (sym (shapes_long w.loops)) in
     let loops : shapes (turned_at (length w.loops) world1.loops) ≡ shapes w.loops ++ turned_at 0 l.loops.0 =
-    turned_shapes (length w.loops) world1.loops ∙ ap (turned_at (length w.loops)) l.loops.1 ∙ ap
-    (λ n. turned_at n (shapes w.loops ++ l.loops.0)) (sym (shapes_long w.loops))
-    ∙ turned_behind (shapes w.loops) l.loops.0 in
+    turned_shapes (length w.loops) world1.loops ∙ ap (turned_at (length w.loops)) l.loops.1 ∙ long ∙ turned_behind
+    (shapes w.loops) l.loops.0 in
     subst (λ x. Kept (in_loop_of g w) x) (sym is) (record {
       advances = record {
-        same_id = l.same_id;
-        same_fuel_set = l.same_fuel_set;
-        fuel = l.fuel;
-        loops = (turned_at 0 l.loops.0, loops);
-        namespaces = l.namespaces;
-        closures = l.closures;
-        streams = l.streams;
-        temps = l.temps;
-        loaded = l.loaded;
+        lasts = record {
+          same_id = l.same_id;
+          same_fuel_set = l.same_fuel_set;
+          fuel = l.fuel;
+          loops = (turned_at 0 l.loops.0, loops);
+          namespaces = l.namespaces;
+          closures = l.closures;
+          streams = l.streams;
+          temps = l.temps;
+          loaded = l.loaded;
+          blocks = l.blocks;
+        };
+        scopes = a.scopes;
+        outer = a.outer;
+        same_stream = a.same_stream;
+        same_block = a.same_block;
       };
-      same_marks = k.same_marks;
-      outer = k.outer;
-      same_stream = k.same_stream;
-      same_block = k.same_block;
+      same_scopes = k.same_scopes;
       same_escape = k.same_escape;
-      same_blocks = k.same_blocks;
     })
 
 -- what is so in a loop's scope is so around it
@@ -322,9 +410,8 @@ opened g n w vs = record (in_loop_of g w) { loops = w.loops ++ new_loop vs g n w
 
 pub opened_kept : (g : LoopFlags) (n : ℕ) (w : World) (vs : List Val) → Kept (in_loop_of g w) (opened g n w vs)
 opened_kept g n w vs =
-    kept_advanced (kept_same (in_loop_of g w))
-    (advances_by_loops (in_loop_of g w) (w.loops ++ new_loop vs g n w ∷ [])
-    (new_loop vs g n w ∷ [], shapes_behind w.loops (new_loop vs g n w ∷ []))) refl refl refl refl refl
+    let one = new_loop vs g n w ∷ [] in
+    kept_lasting (lasts_by_loops (in_loop_of g w) (w.loops ++ one) (one, shapes_behind w.loops one)) refl refl refl refl
 
 keeping_shape : (b : Bool) (args : List Val) (l : Loop) → shape (if b then record l { kept = Some args } else l) ≡ shape l
 keeping_shape true args l = refl
@@ -337,8 +424,8 @@ keeping_shapes (suc n) args (l ∷ ls) = ap (λ m. shape l ∷ m) (keeping_shape
 
 pub keeping_kept : (n : ℕ) (args : List Val) (w : World) → Kept w (record w { loops = keeping_at n args w.loops })
 keeping_kept n args w =
-    kept_advanced (kept_same w) (advances_by_loops w (keeping_at n args w.loops)
-    ([], keeping_shapes n args w.loops ∙ sym (append-nil (shapes w.loops)))) refl refl refl refl refl
+    kept_lasting (lasts_by_loops w (keeping_at n args w.loops) ([], keeping_shapes n args w.loops ∙ sym (append-nil (shapes w.loops))))
+    refl refl refl refl
 
 abbrev pub recorded : LoopFlags → ℕ → List Val → World → World → Res (Unit {0})
 recorded g n vs w world1 = Good tt (record world1 { loops = world1.loops ++ new_loop vs g n w ∷ [] })

@@ -9,44 +9,42 @@ use Rattle.tm_values.specs.declared.error.ErrorKind.TheVariants.{InvalidOperatio
 use Rattle.tm_definitions.specs.Maps.{dict_of, namespace_of}
 use Rattle.tm_meaning.specs.World.{items_of, emitted, escape_for, view_of, find, same_name, block_of, World, Host, Scope, Loop, innermost}
 use Rattle.tm_meaning.specs.World.{items_over, Res, Good, Bad}
-use Rattle.tm_meaning.specs.World.{need, check, answered, depth, without_first, lookup, Function, callers, languages, records_of}
+use Rattle.tm_meaning.specs.World.{need, check, answered, depth, lookup, Function, callers, languages, records_of}
 use Rattle.tm_meaning.specs.World.{plain as plain_scope, Stated, View}
 use Rattle.tm_meaning.specs.declared.reply.Reply.{Reply}
 use Rattle.tm_meaning.specs.declared.reply.Reply.TheVariants.{Value as gives, Fault as faults}
-use Rattle.tm_meaning.specs.Calls.{Callee, whole, of_block, undone, Asked, has, refused, runs, recurs, ask, same_stream, wrapped_as}
+use Rattle.tm_meaning.specs.Calls.{whole, of_block, undone, Asked, has, refused, runs, recurs, ask, same_stream, wrapped_as}
 use Rattle.tm_meaning.specs.Calls.{call_loop, call_innermost, one_argument, call_found, enter_block, call_named, call_value, call_method}
 use Rattle.tm_meaning.specs.Calls.{loop_method, method_in, of_loop, record_at, call_by, given_by, replied, required_alone}
 use Rattle.tm_meaning.specs.declared.function.GlobalFunction.{GlobalFunction}
 use Rattle.tm_meaning.specs.declared.function.GlobalFunction.TheVariants as own
 use Rattle.tm_meaning.specs.declared.stream.StreamId.{StreamId}
-use Rattle.tm_meaning.specs.declared.wrapping.Wrapping.{Wrapping}
 use Rattle.tm_syntax.specs.Named.{put_each}
-use Rattle.tm_simulation.specs.Chains.{is_raised, Arises, raised, wrapped as wraps, by_function}
+use Rattle.tm_simulation.specs.Chains.{is_raised, Arises, wrapped as wraps, by_function}
 use Rattle.tm_simulation.proofs.Raised.{unpacked_raises, escape_raises, emitted_arises, iterated_raises, range_raises, dict_raises}
 use Rattle.tm_simulation.proofs.Raised.{namespace_raises, name_raises, method_raises}
-use Rattle.tm_simulation.proofs.Advances.{Advances, Kept, advances_then, advances_by_namespaces, advances_by_temps, advances_same}
-use Rattle.tm_simulation.proofs.Advances.{kept_same, kept_then, kept_advanced, kept_depth, within, one_more, put_each_long, keeping_kept}
-use Rattle.tm_simulation.proofs.Advances.{without_first_marks, marks, advances_anywhere}
+use Rattle.tm_simulation.proofs.Advances.{Advances, Kept, advances_then, lasts_by_namespaces, lasts_by_temps, advances_same}
+use Rattle.tm_simulation.proofs.Advances.{kept_same, kept_then, kept_lasting, undone_kept, in_stream, kept_depth, within, one_more}
+use Rattle.tm_simulation.proofs.Advances.{put_each_long, keeping_kept}
 use Rattle.tm_simulation.proofs.Gives.{answered_gives, Gives, refused_arises, gives_bind, operation_gives}
 
--- A value keeps the world; a run starts one level deeper, within the limit, and what is put back behind one that keeps its world gives this one back.
+-- A value keeps the world; a run starts one level deeper, within the limit, and however it ends what is put back behind it keeps the world.
 abbrev pub Asks : Host → World → Asked → Type 0
 Asks host w (has v world1) = Kept w world1
 Asks host w (refused chain world1) = Advances w world1 × Arises host chain
 Asks host w (recurs n items world1) = Kept w world1
 Asks host w (runs c world1) =
-    (depth world1.scopes ≡ depth w.scopes + 1) × (depth world1.scopes ≤ host.limit) × Advances w world1 ×
-    ((world2 : World) → Kept world1 world2 → Kept w (undone c.undo world2))
+    (depth world1.scopes ≡ depth w.scopes + 1) × (depth world1.scopes ≤ host.limit) ×
+    ((world2 : World) → Advances (in_stream world2.stream world1) world2 → Kept w (undone c.undo world2))
 
 asks_then : (host : Host) (w world1 : World) (q : Asked) → Kept w world1 → Asks host world1 q → Asks host w q
 asks_then host w world1 (has v world2) h k = kept_then h k
 asks_then host w world1 (refused chain world2) h k = (advances_then h.advances k.0, k.1)
 asks_then host w world1 (recurs n items world2) h k = kept_then h k
-asks_then host w world1 (runs c world2) h k =
-    (k.0 ∙ ap (λ n. n + 1) (kept_depth h), k.1, advances_then h.advances k.2, λ world3 l. kept_then h (k.3 world3 l))
+asks_then host w world1 (runs c world2) h k = (k.0 ∙ ap (λ n. n + 1) (kept_depth h), k.1, λ world3 l. kept_then h (k.2 world3 l))
 
 asks_refused : (host : Host) (w : World) (kind : ErrorKind) → is_raised kind ≡ true → Asks host w (refused (kind ∷ []) w)
-asks_refused host w kind e = (advances_same w, raised e)
+asks_refused host w kind e = refused_arises host w kind e
 
 ask_then : {A : Type 0} (host : Host) (w : World) (m : Res A) (g : A → World → Asked) → Gives host w m →
     ((a : A) (world1 : World) → Asks host world1 (g a world1)) → Asks host w (ask m g)
@@ -54,53 +52,50 @@ ask_then host w (Good a world1) g h k = asks_then host w world1 (g a world1) h (
 ask_then host w (Bad chain world1) g h k = h
 
 -- where something is there, the world is as it was
+need_asks : {A : Type 0} (Holds : Asked → Type 0) (w : World) (found : Option A) (kind : ErrorKind) (g : A → World → Asked) →
+    Holds (refused (kind ∷ []) w) → ((a : A) → found ≡ Some a → Holds (g a w)) → Holds (ask (need found kind w) g)
+need_asks Holds w (Some a) kind g h k = k a refl
+need_asks Holds w None kind g h k = h
+
 ask_need : {A : Type 0} (host : Host) (w : World) (found : Option A) (kind : ErrorKind) (g : A → World → Asked) → is_raised kind ≡ true →
     ((a : A) → found ≡ Some a → Asks host w (g a w)) → Asks host w (ask (need found kind w) g)
-ask_need host w (Some a) kind g e k = k a refl
-ask_need host w None kind g e k = asks_refused host w kind e
+ask_need host w found kind g e k = need_asks (Asks host w) w found kind g (asks_refused host w kind e) k
 
-ask_check : (host : Host) (w : World) (b : Bool) (kind : ErrorKind) (g : Unit {0} → World → Asked) → is_raised kind ≡ true →
-    Asks host w (g tt w) → Asks host w (ask (check b kind w) g)
-ask_check host w true kind g e k = k
-ask_check host w false kind g e k = asks_refused host w kind e
+check_asks : (Holds : Asked → Type 0) (w : World) (b : Bool) (kind : ErrorKind) (g : Unit {0} → World → Asked) →
+    Holds (refused (kind ∷ []) w) → Holds (g tt w) → Holds (ask (check b kind w) g)
+check_asks Holds w true kind g h k = k
+check_asks Holds w false kind g h k = h
 
-ask_push : (host : Host) (w : World) (s : Scope) (room : Bool) (g : Unit {0} → World → Asked) →
-    (room ≡ true → Asks host w (g tt (within s w))) → Asks host w (ask (one_more room s w) g)
-ask_push host w s true g k = k refl
-ask_push host w s false g k = asks_refused host w InvalidOperation refl
+push_asks : (Holds : Asked → Type 0) (w : World) (s : Scope) (room : Bool) (g : Unit {0} → World → Asked) →
+    Holds (refused (InvalidOperation ∷ []) w) → (room ≡ true → Holds (g tt (within s w))) → Holds (ask (one_more room s w) g)
+push_asks Holds w s true g h k = k refl
+push_asks Holds w s false g h k = h
 
--- a scope more, and a stream and a block in it, is one level deeper
-entered_asks : (host : Host) (callee : Callee) (wrap : Option Wrapping) (s : Scope) (stream : StreamId) (block : Option (List ℕ))
-    (w : World) → nat_lt (depth w.scopes) host.limit ≡ true →
-    Asks host w (runs (record { callee = callee; undo = of_block w; wrap = wrap }) (record (within s w) { stream = stream; block = block }))
-entered_asks host callee wrap s stream block w room =
-    let inner = record w.scopes { frames = s ∷ w.scopes.frames } in
-    let l : Advances w (record w { scopes = inner; stream = stream; block = block; escape = w.escape }) =
-    advances_anywhere inner stream block w.escape w in (
-      omega arith,
-      omega (arith, ltb-true (depth w.scopes) host.limit room),
-      l,
-      λ world2 k. record {
-        advances =
-            advances_then l (advances_then k.advances
-            (advances_anywhere (record { frames = without_first world2.scopes.frames; outer = w.scopes.outer }) w.stream w.block w.escape
-            world2));
-        same_marks = without_first_marks s.mark (marks w.scopes.frames) world2.scopes.frames k.same_marks;
-        outer = refl;
-        same_stream = refl;
-        same_block = refl;
-        same_escape = refl;
-        same_blocks = k.same_blocks;
-      },
-    )
+-- ---------------------------------------------------------------- blocks
+-- a world in which a block was entered
+abbrev pub in_block : StreamId → List ℕ → World → World
+in_block stream b w = record (within (plain_scope (undefined false)) w) { stream = stream; block = Some b }
+
+-- A block's tag is refused, or asks for a run of its own.
+pub block_asks_by : (Holds : Asked → Type 0) (host : Host) (b : List ℕ) (w : World) →
+    ((kind : ErrorKind) → is_raised kind ≡ true → Holds (refused (kind ∷ []) w)) →
+    ((stream : StreamId) → nat_lt (depth w.scopes) host.limit ≡ true →
+    Holds (runs (record { callee = whole stream; undo = of_block w; wrap = None }) (in_block stream b w))) →
+    Holds (enter_block host b w)
+block_asks_by Holds host b w refuses enters =
+    need_asks Holds w (find b w.blocks) UnknownBlock _ (refuses UnknownBlock refl) (λ l _.
+    need_asks Holds w (slice_get l.templates l.place) UnknownBlock _ (refuses UnknownBlock refl) (λ t _.
+    check_asks Holds w (not (required_alone host (block_of t b) l)) InvalidOperation _ (refuses InvalidOperation refl)
+    (push_asks Holds w (plain_scope (undefined false)) (nat_lt (depth w.scopes) host.limit) _ (refuses InvalidOperation refl)
+    (λ room. enters (block_of t b) room))))
 
 pub block_asks : (host : Host) (b : List ℕ) (w : World) → Asks host w (enter_block host b w)
 block_asks host b w =
-    ask_need host w (find b w.blocks) UnknownBlock _ refl (λ l _.
-    ask_need host w (slice_get l.templates l.place) UnknownBlock _ refl (λ t _.
-    ask_check host w (not (required_alone host (block_of t b) l)) InvalidOperation _ refl (
-    ask_push host w (plain_scope (undefined false)) (nat_lt (depth w.scopes) host.limit) _ (λ room.
-    entered_asks host (whole (block_of t b)) None (plain_scope (undefined false)) (block_of t b) (Some b) w room))))
+    block_asks_by (Asks host w) host b w (λ kind e. asks_refused host w kind e) (λ stream room. (
+      omega arith,
+      omega (arith, ltb-true (depth w.scopes) host.limit room),
+      λ world2 l. undone_kept (plain_scope (undefined false)) stream (Some b) w world2 l,
+    ))
 
 -- ---------------------------------------------------------------- functions
 given_gives : (host : Host) (g : GlobalFunction) (args : List Val) (w : World) → Gives host w (given_by g args w)
@@ -111,9 +106,8 @@ given_gives host own.Dict args w =
 given_gives host own.Namespace args w =
     gives_bind host w (answered (namespace_of (records_of w) args) w) _ (operation_gives host _ w (namespace_raises (records_of w) args))
     (λ ps world1.
-    kept_advanced (kept_same world1)
-    (advances_by_namespaces world1 (world1.namespaces ++ ps ∷ []) (omega (arith, length-append world1.namespaces (ps ∷ []))))
-    refl refl refl refl refl)
+    kept_lasting (lasts_by_namespaces world1 (world1.namespaces ++ ps ∷ []) (omega (arith, length-append world1.namespaces (ps ∷ []))))
+    refl refl refl refl)
 
 -- values that are kept are kept first, also where the rest is a fault
 replied_asks : (host : Host) (n : ℕ) (f : List Val → View → Stated) (args : List Val) (view : View) (w : World) (reply : Reply) →
@@ -127,7 +121,7 @@ by_asks host n (callers f) args w e =
     let stated = f args (view_of host w) in
     let temps = put_each stated.temps w.temps in
     asks_then host w (record w { temps = temps }) (replied stated.reply (record w { temps = temps }))
-    (kept_advanced (kept_same w) (advances_by_temps w temps (put_each_long stated.temps w.temps)) refl refl refl refl refl)
+    (kept_lasting (lasts_by_temps w temps (put_each_long stated.temps w.temps)) refl refl refl refl)
     (replied_asks host n f args (view_of host w) _ stated.reply e refl)
 by_asks host n (languages g) args w e = ask_then host w (given_by g args w) has (given_gives host g args w) (λ v world1. kept_same world1)
 
@@ -185,7 +179,7 @@ wrapped_gives host w (Bad chain world1) h = (h.0, wraps refl h.1)
 
 loop_call_asks : (host : Host) (l : Loop) (v : Val) (w : World) → Asks host w (call_loop host l v w)
 loop_call_asks host l v w =
-    ask_check host w (l.recursive && same_stream l.stream w.stream) InvalidOperation _ refl
+    check_asks (Asks host w) w (l.recursive && same_stream l.stream w.stream) InvalidOperation _ (asks_refused host w InvalidOperation refl)
     (ask_then host w (wrapped_as InvalidOperation (items_over host v w)) _
     (wrapped_gives host w (items_over host v w) (items_give host v w))
     (λ items world1. kept_same world1))

@@ -40,10 +40,11 @@ use Rattle.tm_meaning.specs.declared.wrapping.Wrapping.{Wrapping}
 use Rattle.tm_simulation.specs.Chains.{Arises, wrapped as wraps}
 use Rattle.tm_simulation.proofs.Raised.{truth_raises, unary_raises, binary_raises, attribute_raises, item_raises, settable_raises}
 use Rattle.tm_simulation.proofs.Raised.{Raises, sliced_raises}
-use Rattle.tm_simulation.proofs.Advances.{Advances, Kept, advances_then, advances_by_namespaces, kept_same, kept_then, kept_advanced}
+use Rattle.tm_simulation.proofs.Advances.{Advances, Kept, advances_then, lasts_by_namespaces, kept_same, kept_then, kept_lasting, in_stream}
 use Rattle.tm_simulation.proofs.Advances.{store_kept, kept_popped, kept_cleared, mark_behind, in_loop_of, kept_turned, advances_around}
 use Rattle.tm_simulation.proofs.Advances.{opened, opened_kept}
-use Rattle.tm_simulation.proofs.Gives.{Gives, EndsBy, Ends, ends_as, gives_bind, gives_kept, choose_gives, tick_gives, ticked_gives}
+use Rattle.tm_simulation.proofs.Gives.{Gives, RunEnds, run_ends_as, EndsBy, Ends, ends_as, gives_bind, gives_kept, choose_gives, tick_gives}
+use Rattle.tm_simulation.proofs.Gives.{ticked_gives}
 use Rattle.tm_simulation.proofs.Gives.{operation_gives, ends_here, ends_fault, ends_then, opened_gives}
 use Rattle.tm_simulation.proofs.Asks.{unpacked_gives, method_asks, Asks, lookup_gives, items_give, named_asks}
 use Rattle.tm_meaning.specs.declared.wrapping.Wrapping.TheVariants as wrapping
@@ -76,8 +77,8 @@ member_long (suc n) x v (ps ∷ more) = ap suc (member_long n x v more)
 pub member_gives : (host : Host) (x : List ℕ) (v o : Val) (w : World) → Gives host w (set_member x v o w)
 member_gives host x v o w =
     gives_bind host w (answered (settable (records_of w) o) w) _ (operation_gives host _ w (settable_raises (records_of w) o)) (λ n world1.
-    kept_advanced (kept_same world1) (advances_by_namespaces world1 (with_member n x v world1.namespaces)
-    (omega (arith, member_long n x v world1.namespaces))) refl refl refl refl refl)
+    kept_lasting (lasts_by_namespaces world1 (with_member n x v world1.namespaces) (omega (arith, member_long n x v world1.namespaces)))
+    refl refl refl refl)
 
 -- ---------------------------------------------------------------- items under a condition
 -- ---------------------------------------------------------------- items under a condition
@@ -121,12 +122,14 @@ wrap_arises host None chain h = h
 wrap_arises host (Some wrapping.EvalBlock) chain h = wraps refl h
 wrap_arises host (Some wrapping.BadInclude) chain h = wraps refl h
 
-value_by : (host : Host) (w world1 : World) (c : Call) (e : Ending) (o : Outcome) → EndsBy host world1 e o.world → Advances w world1 →
-    ((world2 : World) → Kept world1 world2 → Kept w (undone c.undo world2)) → Gives host w (value_behind e c o)
-value_by host w world1 c done o h l k = k o.world h
-value_by host w world1 c leave o h l k = k o.world h
-value_by host w world1 c next o h l k = k o.world h
-value_by host w world1 c (fault chain) o h l k = (advances_then l h.0, wrap_arises host c.wrap chain h.1)
+value_by : (host : Host) (w world1 : World) (c : Call) (e : Ending) (o : Outcome) →
+    EndsBy host (in_stream o.world.stream world1) e o.world →
+    ((world2 : World) → Advances (in_stream world2.stream world1) world2 → Kept w (undone c.undo world2)) →
+    Gives host w (value_behind e c o)
+value_by host w world1 c done o h k = k o.world h.advances
+value_by host w world1 c leave o h k = k o.world h.advances
+value_by host w world1 c next o h k = k o.world h.advances
+value_by host w world1 c (fault chain) o h k = ((k o.world h.0).advances, wrap_arises host c.wrap chain h.1)
 
 text_by : (host : Host) (w world1 : World) (e : Ending) (o : Outcome) → Kept w world1 → EndsBy host world1 e o.world →
     Gives host w (text_behind e o)
@@ -135,16 +138,17 @@ text_by host w world1 leave o h k = kept_then h k
 text_by host w world1 next o h k = kept_then h k
 text_by host w world1 (fault chain) o h k = (advances_then h.advances k.0, k.1)
 
-place_by : (host : Host) (w world1 : World) (c : Call) (run : Run) (e : Ending) (o : Outcome) → EndsBy host world1 e o.world →
-    Advances w world1 → ((world2 : World) → Kept world1 world2 → Kept w (undone c.undo world2)) → Ends host w (behind e c run o)
-place_by host w world1 c run done o h l k = ends_here host w _ run o.text (k o.world h)
-place_by host w world1 c run leave o h l k = ends_here host w _ run o.text (k o.world h)
-place_by host w world1 c run next o h l k = ends_here host w _ run o.text (k o.world h)
-place_by host w world1 c run (fault chain) o h l k =
-    ends_fault host w o.world run o.text (wrapped c.wrap chain) (advances_then l h.0) (wrap_arises host c.wrap chain h.1)
+place_by : (host : Host) (w world1 : World) (c : Call) (run : Run) (e : Ending) (o : Outcome) →
+    EndsBy host (in_stream o.world.stream world1) e o.world →
+    ((world2 : World) → Advances (in_stream world2.stream world1) world2 → Kept w (undone c.undo world2)) → Ends host w (behind e c run o)
+place_by host w world1 c run done o h k = ends_here host w _ run o.text (k o.world h.advances)
+place_by host w world1 c run leave o h k = ends_here host w _ run o.text (k o.world h.advances)
+place_by host w world1 c run next o h k = ends_here host w _ run o.text (k o.world h.advances)
+place_by host w world1 c run (fault chain) o h k =
+    ends_fault host w _ run o.text (wrapped c.wrap chain) (k o.world h.0).advances (wrap_arises host c.wrap chain h.1)
 
 -- ---------------------------------------------------------------- trees
-module _ (u : Under) (nest_ends : (k : Callee) (heard : Bool) (out : List ℕ) (w : World) → Ends u.host w (u.nests k heard out w))
+module _ (u : Under) (nest_ends : (k : Callee) (heard : Bool) (out : List ℕ) (w : World) → RunEnds u.host w (u.nests k heard out w))
     (again_ends : (n : ℕ) (items : List Val) (run : Run) (out : List ℕ) (w : World) → Ends u.host w (u.again n items run out w)) where
   value_gives : (w : World) (run : Run) (q : Asked) → Asks u.host w q → Gives u.host w (value_of u run q)
   value_gives w run (has v world1) h = h
@@ -154,7 +158,7 @@ module _ (u : Under) (nest_ends : (k : Callee) (heard : Bool) (out : List ℕ) (
       text_by u.host w world1 o.ending o h (ends_as u.host world1 o (again_ends n items (capturing true run) [] world1))
   value_gives w run (runs c world1) h =
       let o = u.nests c.callee true [] world1 in
-      value_by u.host w world1 c o.ending o (ends_as u.host world1 o (nest_ends c.callee true [] world1)) h.2 h.3
+      value_by u.host w world1 c o.ending o (run_ends_as u.host world1 o (nest_ends c.callee true [] world1)) h.2
 
   pub place_ends : (w : World) (run : Run) (out : List ℕ) (q : Asked) → Asks u.host w q → Ends u.host w (in_place_of u run out q)
   place_ends w run out (has v world1) h = ends_here u.host w world1 run out h
@@ -163,7 +167,7 @@ module _ (u : Under) (nest_ends : (k : Callee) (heard : Bool) (out : List ℕ) (
       ends_then u.host w world1 (u.again n items run out world1) h (again_ends n items run out world1)
   place_ends w run out (runs c world1) h =
       let o = u.nests c.callee (audible run) out world1 in
-      place_by u.host w world1 c run o.ending o (ends_as u.host world1 o (nest_ends c.callee (audible run) out world1)) h.2 h.3
+      place_by u.host w world1 c run o.ending o (run_ends_as u.host world1 o (nest_ends c.callee (audible run) out world1)) h.2
 
   mutual
     pub eval_gives : (run : Run) (e : Expr) (w : World) → Gives u.host w (eval u run e w)

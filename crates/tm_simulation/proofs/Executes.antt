@@ -13,14 +13,14 @@ use Rattle.tm_meaning.specs.Meaning.{again_in, turn_of, Run, Outcome, Under, use
 use Rattle.tm_meaning.specs.Meaning.{set_to, set_each, capturing, loop_over, has_none, exec_behind_loop, emit, behind_first, exec, exec_all}
 use Rattle.tm_meaning.specs.Meaning.{exec_else}
 use Rattle.tm_simulation.proofs.Advances.{kept_same, within, advances_within, kept_popped, advances_escaped, kept_unescaped}
-use Rattle.tm_simulation.proofs.Gives.{Ends, tick_gives, ends_here, ends_refused, ends_then, ends_use}
+use Rattle.tm_simulation.proofs.Gives.{Ends, RunEnds, tick_gives, ends_here, ends_refused, ends_then, ends_use}
 use Rattle.tm_simulation.proofs.Gives.{ends_do, ends_leave, ends_next, choose_ends, ends_kept, ends_within, closing_ends, captured_ends}
 use Rattle.tm_simulation.proofs.Gives.{loop_ends}
 use Rattle.tm_simulation.proofs.Asks.{emitted_gives, escape_gives, block_asks, innermost_asks}
 use Rattle.tm_simulation.proofs.Evaluates.{place_ends, loop_items_give, assign_gives, set_each_gives, set_gives, eval_gives, truth_gives}
 
 -- ---------------------------------------------------------------- statements
-module _ (u : Under) (nest_ends : (k : Callee) (heard : Bool) (out : List ℕ) (w : World) → Ends u.host w (u.nests k heard out w))
+module _ (u : Under) (nest_ends : (k : Callee) (heard : Bool) (out : List ℕ) (w : World) → RunEnds u.host w (u.nests k heard out w))
     (again_ends : (n : ℕ) (items : List Val) (run : Run) (out : List ℕ) (w : World) → Ends u.host w (u.again n items run out w)) where
   emit_ends : (run : Run) (out : List ℕ) (v : Val) (w : World) → Ends u.host w (emit u run out v w)
   emit_ends run out v w =

@@ -78,7 +78,7 @@ module _ (context : Context) where
   in_place_by k run a b done parent out w D L N h g = g (so_far_then context b run out _ D L N h)
   in_place_by k run a b leave parent out w D L N h g = g (so_far_then context b run out _ D L N h)
   in_place_by k run a b next parent out w D L N h g = g (so_far_then context b run out _ D L N h)
-  in_place_by k run a b (fault chain) parent out w D L N h g = over refl (fault_then context b run out w (wrapped k.wrap chain) D L N h)
+  in_place_by k run a b (fault chain) parent out w D L N h g = over refl (fault_then context b run out (undone k.undo w) (wrapped k.wrap chain) D L N h)
 
   -- a call in place: its text is heard where the call is
   pub call_in_place : (u : Under) (k : Call) (run : Run) (s : Spot) (pc : ℕ) (stack vs : List Val) (w v : World) (D L N : Then) → s.parent ≡ run.parent → Fits context.base run s.bed →

@@ -1,5 +1,5 @@
 -- What results and outcomes keep, and of which kinds their faults are.
-use Rattle.std.proofs.Common.{◌≡◌, ℕ, List, [], ◌∷◌, Option, Some, None, Bool, true, false, Ok, Err, nat_lt, refl, arith}
+use Rattle.std.proofs.Common.{◌≡◌, ℕ, List, [], ◌∷◌, Option, Some, None, Bool, true, false, Ok, Err, nat_lt, refl, sym, subst, arith}
 use Rattle.tm_values.specs.Answer.{Answer}
 use Rattle.tm_values.specs.Val.{Val}
 use Rattle.tm_values.specs.declared.error.ErrorKind.{ErrorKind}
@@ -13,8 +13,9 @@ use Rattle.tm_meaning.specs.Meaning.{closing_by, closing, captured_by, captured,
 use Rattle.tm_meaning.specs.declared.stream.TemplateId.{TemplateId}
 use Rattle.tm_simulation.specs.Chains.{is_raised, Arises, raised, AnswersOnly}
 use Rattle.tm_simulation.proofs.Raised.{Raises, raised_arise}
-use Rattle.tm_simulation.proofs.Advances.{Advances, Kept, advances_then, advances_by_fuel, advances_same, kept_same, kept_then}
-use Rattle.tm_simulation.proofs.Advances.{kept_advanced, within, one_more, kept_popped, kept_cleared, mark_behind, in_loop_of, kept_turned}
+use Rattle.tm_simulation.proofs.Advances.{Advances, Kept, advances_then, lasts_by_fuel, advances_same, kept_same, kept_then}
+use Rattle.tm_simulation.proofs.Advances.{kept_lasting, in_stream, within, one_more, kept_popped, kept_cleared, mark_behind, in_loop_of}
+use Rattle.tm_simulation.proofs.Advances.{kept_turned}
 use Rattle.tm_simulation.proofs.Advances.{advances_around, opened, opened_kept, recorded, NoMore, charged_by}
 
 -- Where evaluation gives a value the world is kept, and where it ends in a fault that advances it, by a chain that arises.
@@ -36,6 +37,28 @@ Ends host w o = EndsBy host w o.ending o.world
 pub ends_as : (host : Host) (w : World) (o : Outcome) → Ends host w o → EndsBy host w o.ending o.world
 unfolding Ends
 ends_as host w o h = h
+
+pub ends_advance : (host : Host) (w : World) (e : Ending) (world1 : World) → EndsBy host w e world1 → Advances w world1
+ends_advance host w done world1 h = h.advances
+ends_advance host w leave world1 h = h.advances
+ends_advance host w next world1 h = h.advances
+ends_advance host w (fault chain) world1 h = h.0
+
+-- A run ends so too, but for the stream in which it ends.
+unfoldable pub RunEnds : Host → World → Outcome → Type 0
+RunEnds host w o = EndsBy host (in_stream o.world.stream w) o.ending o.world
+
+pub run_ends_as : (host : Host) (w : World) (o : Outcome) → RunEnds host w o → EndsBy host (in_stream o.world.stream w) o.ending o.world
+unfolding RunEnds
+run_ends_as host w o h = h
+
+run_ends_by : (host : Host) (w : World) (o : Outcome) → EndsBy host w o.ending o.world → RunEnds host w o
+unfolding RunEnds
+run_ends_by host w o h =
+    subst (λ s. EndsBy host (in_stream s w) o.ending o.world) (sym (ends_advance host w o.ending o.world h).same_stream) h
+
+pub run_ends : (host : Host) (w : World) (o : Outcome) → Ends host w o → RunEnds host w o
+run_ends host w o h = run_ends_by host w o (ends_as host w o h)
 
 -- ---------------------------------------------------------------- results
 module _ (host : Host) where
@@ -63,8 +86,8 @@ module _ (host : Host) where
   choose_gives w false m n h k = k
 
   fuel_gives : (left : Option ℕ) (w : World) → NoMore left w.fuel → Gives host w (with_fuel left w)
-  fuel_gives (Some left) w less = kept_advanced (kept_same w) (advances_by_fuel w left less) refl refl refl refl refl
-  fuel_gives None w less = (advances_by_fuel w 0 (omega arith), raised refl)
+  fuel_gives (Some left) w less = kept_lasting (lasts_by_fuel w left less) refl refl refl refl
+  fuel_gives None w less = ((kept_lasting (lasts_by_fuel w 0 (omega arith)) refl refl refl refl).advances, raised refl)
 
   pub tick_gives : (w : World) → Gives host w (tick w)
   tick_gives w = fuel_gives (charged 1 w.fuel) w (charged_by false (nat_lt 1 w.fuel) 1 w.fuel)

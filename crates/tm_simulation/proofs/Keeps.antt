@@ -1,20 +1,23 @@
 -- What runs keep, and of which kinds their faults are.
-use Rattle.std.proofs.Common.{ℕ, zero, suc, ◌+◌, List, [], ◌∷◌, Option, Bool, true, refl}
-use Rattle.std.specs.Prelude.{slice_get}
-use Rattle.tm_values.specs.Val.{Val}
+use Rattle.std.proofs.Common.{ℕ, zero, suc, ◌+◌, List, [], ◌∷◌, Option, None, Some, Bool, true, false, ◌≡◌, refl, sym, subst}
+use Rattle.std.specs.Prelude.{slice_get, ◌&&◌}
+use Rattle.tm_values.specs.Val.{Val, undefined}
 use Rattle.tm_values.specs.declared.error.ErrorKind.{ErrorKind}
 use Rattle.tm_values.specs.declared.error.ErrorKind.TheVariants.{InvalidOperation}
 use Rattle.tm_syntax.specs.Loops.{loops_in}
 use Rattle.tm_meaning.specs.Tree.{Body, Trees}
-use Rattle.tm_meaning.specs.World.{World, Host, Res, Good, Bad, tick}
-use Rattle.tm_meaning.specs.Calls.{Callee, whole}
+use Rattle.tm_meaning.specs.World.{choose, World, Host, Res, Good, Bad, tick, plain as plain_scope}
+use Rattle.tm_meaning.specs.Calls.{Callee, whole, Call, of_block, undone, runs}
 use Rattle.tm_meaning.specs.Meaning.{over, under, again_of, Run, Outcome, Ending, done, leave, next, fault, Nests, Under, done_by, exec_all}
-use Rattle.tm_meaning.specs.Meaning.{at_end, new_run, nests_of, rendered, chain_in, chain_of}
-use Rattle.tm_simulation.specs.Kept.{UnlessFault, Stays, Grows}
+use Rattle.tm_meaning.specs.Meaning.{behind, in_place_of, block_tag, audible, none_waits, at_end, new_run, nests_of, rendered, chain_in}
+use Rattle.tm_meaning.specs.Meaning.{chain_of}
+use Rattle.tm_simulation.specs.Kept.{UnlessFault, Stays, Grows, PutsBack}
 use Rattle.tm_meaning.specs.declared.stream.TemplateId.{TemplateId}
+use Rattle.tm_meaning.specs.declared.stream.StreamId.{StreamId}
 use Rattle.tm_simulation.specs.Chains.{Arises, IfAny}
-use Rattle.tm_simulation.proofs.Advances.{Advances, Kept, advances_then, kept_then, kept_depth}
-use Rattle.tm_simulation.proofs.Gives.{Gives, EndsBy, Ends, ends_as, tick_gives, ends_refused}
+use Rattle.tm_simulation.proofs.Advances.{Kept, advances_then, kept_then, in_stream, undone_scopes}
+use Rattle.tm_simulation.proofs.Gives.{Gives, RunEnds, run_ends, run_ends_as, ends_advance, EndsBy, Ends, ends_as, tick_gives, ends_refused}
+use Rattle.tm_simulation.proofs.Asks.{in_block, block_asks_by}
 use Rattle.tm_simulation.proofs.Executes.{execs_end, called_end}
 
 done_by_ends : (host : Host) (w world1 : World) (m : Res (Unit {0})) (o : Outcome) → Kept w world1 → Gives host world1 m →
@@ -37,7 +40,7 @@ at_end_ends host w (fault chain) parent out world1 h = h
 
 -- Loops that are called end so, where what nests does.
 pub again_end : (host : Host) (nests : Nests)
-    (nest_ends : (k : Callee) (heard : Bool) (out : List ℕ) (w : World) → Ends host w (nests k heard out w))
+    (nest_ends : (k : Callee) (heard : Bool) (out : List ℕ) (w : World) → RunEnds host w (nests k heard out w))
     (body : Body) (level n : ℕ) (items : List Val) (run : Run) (out : List ℕ) (w : World) →
     Ends host w (again_of host nests body level n items run out w)
 again_end host nests nest_ends body zero n items run out w = ends_refused host w run out InvalidOperation refl
@@ -45,61 +48,112 @@ again_end host nests nest_ends body (suc k) n items run out w =
     called_end (over host nests (again_of host nests body k)) nest_ends (again_end host nests nest_ends body k)
     (slice_get (loops_in 0 body.row) n) n items run out w
 
--- So does what nests.
-pub nests_end : (host : Host) (trees : Trees) (n : ℕ) (k : Callee) (heard : Bool) (out : List ℕ) (w : World) →
+-- So does what nests, today also in the stream in which it began.
+nest_ends_there : (host : Host) (trees : Trees) (n : ℕ) (k : Callee) (heard : Bool) (out : List ℕ) (w : World) →
     Ends host w (nests_of host trees n k heard out w)
-nests_end host trees zero k heard out w = ends_refused host w (new_run heard w) out InvalidOperation refl
-nests_end host trees (suc n) (whole s) heard out w =
+nest_ends_there host trees zero k heard out w = ends_refused host w (new_run heard w) out InvalidOperation refl
+nest_ends_there host trees (suc n) (whole s) heard out w =
     let nests = nests_of host trees n in
+    let nest_ends : (k : Callee) (heard : Bool) (out : List ℕ) (w : World) → RunEnds host w (nests k heard out w) =
+    λ k1 heard1 out1 w1. run_ends host w1 (nests k1 heard1 out1 w1) (nest_ends_there host trees n k1 heard1 out1 w1) in
     let u : Under = under host nests (trees s) in
     let o = exec_all u 0 (trees s).row (new_run heard w) out w in
-    let again_ends = again_end host nests (nests_end host trees n) (trees s) (host.limit + 1) in
+    let again_ends = again_end host nests nest_ends (trees s) (host.limit + 1) in
     at_end_ends host w o.ending o.parent o.text o.world
-    (ends_as host w o (execs_end u (nests_end host trees n) again_ends 0 (trees s).row (new_run heard w) out w))
+    (ends_as host w o (execs_end u nest_ends again_ends 0 (trees s).row (new_run heard w) out w))
 
-render_ends : (host : Host) (trees : Trees) (w : World) → EndsBy host w (rendered host trees w).ending (rendered host trees w).world
-render_ends host trees w = ends_as host w (rendered host trees w) (nests_end host trees (host.limit + 1) (whole w.stream) true [] w)
+pub nests_end : (host : Host) (trees : Trees) (n : ℕ) (k : Callee) (heard : Bool) (out : List ℕ) (w : World) →
+    RunEnds host w (nests_of host trees n k heard out w)
+nests_end host trees n k heard out w = run_ends host w (nests_of host trees n k heard out w) (nest_ends_there host trees n k heard out w)
 
--- ---------------------------------------------------------------- what a render keeps
+-- ---------------------------------------------------------------- what runs keep
 unless_fault : (host : Host) (e : Ending) (w world1 : World) (A : Type 0) → EndsBy host w e world1 → (Kept w world1 → A) → UnlessFault e A
 unless_fault host done w world1 A h k = k h
 unless_fault host leave w world1 A h k = k h
 unless_fault host next w world1 A h k = k h
 unless_fault host (fault chain) w world1 A h k = tt
 
-ends_advance : (host : Host) (e : Ending) (w world1 : World) → EndsBy host w e world1 → Advances w world1
-ends_advance host done w world1 h = h.advances
-ends_advance host leave w world1 h = h.advances
-ends_advance host next w world1 h = h.advances
-ends_advance host (fault chain) w world1 h = h.0
+pub run_stays : (host : Host) (trees : Trees) (n : ℕ) (k : Callee) (heard : Bool) (out : List ℕ) (w : World) →
+    Stays w (nests_of host trees n k heard out w)
+run_stays host trees n k heard out w =
+    let o = nests_of host trees n k heard out w in
+    let h = run_ends_as host w o (nests_end host trees n k heard out w) in
+    let l = ends_advance host (in_stream o.world.stream w) o.ending o.world h in record {
+      same_id = l.lasts.same_id;
+      same_fuel_set = l.lasts.same_fuel_set;
+      no_more_fuel = l.lasts.fuel;
+      same_outer = l.outer;
+      lie_over = l.scopes;
+      same_scopes = unless_fault host o.ending (in_stream o.world.stream w) o.world _ h (λ k. k.same_scopes);
+    }
+
+pub run_grows : (host : Host) (trees : Trees) (n : ℕ) (k : Callee) (heard : Bool) (out : List ℕ) (w : World) →
+    Grows w (nests_of host trees n k heard out w)
+run_grows host trees n k heard out w =
+    let o = nests_of host trees n k heard out w in
+    let h = run_ends_as host w o (nests_end host trees n k heard out w) in
+    let l = ends_advance host (in_stream o.world.stream w) o.ending o.world h in record {
+      loops = l.lasts.loops;
+      namespaces = l.lasts.namespaces;
+      closures = l.lasts.closures;
+      streams = l.lasts.streams;
+      temps = l.lasts.temps;
+      loaded = l.lasts.loaded;
+      blocks = l.lasts.blocks;
+      same_block = l.same_block;
+      same_escape = unless_fault host o.ending (in_stream o.world.stream w) o.world _ h (λ k. k.same_escape);
+    }
 
 pub render_stays : (host : Host) (trees : Trees) (w : World) → Stays w (rendered host trees w)
-render_stays host trees w =
-    let o = rendered host trees w in
-    let h = render_ends host trees w in
-    let l = ends_advance host o.ending w o.world h in record {
-      same_id = l.same_id;
-      same_fuel_set = l.same_fuel_set;
-      no_more_fuel = l.fuel;
-      as_deep = unless_fault host o.ending w o.world _ h (λ k. kept_depth k);
-    }
+render_stays host trees w = run_stays host trees (host.limit + 1) (whole w.stream) true [] w
 
 pub render_grows : (host : Host) (trees : Trees) (w : World) → Grows w (rendered host trees w)
-render_grows host trees w =
+render_grows host trees w = run_grows host trees (host.limit + 1) (whole w.stream) true [] w
+
+pub render_ends_there : (host : Host) (trees : Trees) (w : World) → (rendered host trees w).world.stream ≡ w.stream
+render_ends_there host trees w =
     let o = rendered host trees w in
-    let h = render_ends host trees w in
-    let l = ends_advance host o.ending w o.world h in record {
-      loops = l.loops;
-      namespaces = l.namespaces;
-      closures = l.closures;
-      streams = l.streams;
-      temps = l.temps;
-      loaded = l.loaded;
-      same_stream = unless_fault host o.ending w o.world _ h (λ k. k.same_stream);
-      same_block = unless_fault host o.ending w o.world _ h (λ k. k.same_block);
-      same_escape = unless_fault host o.ending w o.world _ h (λ k. k.same_escape);
-      same_blocks = unless_fault host o.ending w o.world _ h (λ k. k.same_blocks);
-    }
+    (ends_advance host w o.ending o.world (ends_as host w o
+    (nest_ends_there host trees (host.limit + 1) (whole w.stream) true [] w))).same_stream
+
+-- ---------------------------------------------------------------- what a block's tag puts back
+behind_world : (e : Ending) (c : Call) (run : Run) (o : Outcome) → (behind e c run o).world ≡ undone c.undo o.world
+behind_world done c run o = refl
+behind_world leave c run o = refl
+behind_world next c run o = refl
+behind_world (fault chain) c run o = refl
+
+choose_puts_back : (w : World) (b : Bool) (o q : Outcome) → PutsBack w o.world → PutsBack w q.world →
+    PutsBack w (choose b (λ _. o) (λ _. q)).world
+choose_puts_back w true o q h k = h
+choose_puts_back w false o q h k = k
+
+puts_back_same : (w : World) → PutsBack w w
+puts_back_same w = record { same_scopes = refl; same_stream = refl; same_block = refl; same_escape = refl }
+
+entered_puts_back : (u : Under) (run : Run) (b : List ℕ) (out : List ℕ) (w : World) (stream : StreamId) →
+    RunEnds u.host (in_block stream b w) (u.nests (whole stream) (audible run) out (in_block stream b w)) →
+    PutsBack w (in_place_of u run out (runs (record { callee = whole stream; undo = of_block w; wrap = None }) (in_block stream b w))).world
+entered_puts_back u run b out w stream ends =
+    let c : Call = record { callee = whole stream; undo = of_block w; wrap = None } in
+    let o = u.nests (whole stream) (audible run) out (in_block stream b w) in
+    let began = in_stream o.world.stream (in_block stream b w) in
+    let l = ends_advance u.host began o.ending o.world (run_ends_as u.host (in_block stream b w) o ends) in
+    subst (PutsBack w) (sym (behind_world o.ending c run o)) (record {
+      same_scopes = undone_scopes (plain_scope (undefined false)) stream (Some b) w o.world l;
+      same_stream = refl;
+      same_block = refl;
+      same_escape = refl;
+    })
+
+pub tag_puts_back : (host : Host) (trees : Trees) (n : ℕ) (body : Body) (run : Run) (b : List ℕ) (out : List ℕ) (w : World) →
+    PutsBack w (block_tag (under host (nests_of host trees n) body) run b out w).world
+tag_puts_back host trees n body run b out w =
+    let u : Under = under host (nests_of host trees n) body in
+    choose_puts_back w (none_waits run.parent && audible run) _ _
+    (block_asks_by (λ q. PutsBack w (in_place_of u run out q).world) host b w (λ kind e. puts_back_same w) (λ stream room.
+    entered_puts_back u run b out w stream (nests_end host trees n (whole stream) (audible run) out (in_block stream b w))))
+    (puts_back_same w)
 
 -- ---------------------------------------------------------------- of which kinds its fault is
 if_any : (Has : List ErrorKind → Type 0) (chain : List ErrorKind) → Has chain → IfAny Has chain
@@ -113,4 +167,7 @@ ending_arises host next w world1 h = tt
 ending_arises host (fault chain) w world1 h = if_any (Arises host) chain h.1
 
 pub render_arises : (host : Host) (trees : Trees) (w : World) → IfAny (Arises host) (chain_of (rendered host trees w))
-render_arises host trees w = ending_arises host (rendered host trees w).ending w (rendered host trees w).world (render_ends host trees w)
+render_arises host trees w =
+    let o = rendered host trees w in
+    let h = run_ends_as host w o (nests_end host trees (host.limit + 1) (whole w.stream) true [] w) in
+    ending_arises host o.ending (in_stream o.world.stream w) o.world h

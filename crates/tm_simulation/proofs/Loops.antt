@@ -9,7 +9,7 @@ use Rattle.tm_syntax.specs.declared.instruction.LoopFlags.{LoopFlags}
 use Rattle.tm_meaning.specs.declared.mark.LoopMark.{LoopMark}
 use Rattle.tm_meaning.specs.Meaning.{has_none}
 use Rattle.tm_simulation.specs.Kept.{shape, shapes}
-use Rattle.tm_simulation.proofs.Advances.{Kept, shapes_long, shapes_behind, turned_shapes, opened, marks, mark_behind, in_loop_of, top_of_marks}
+use Rattle.tm_simulation.proofs.Advances.{Kept, shapes_long, shapes_behind, turned_shapes, opened, mark_behind, in_loop_of, kept_top}
 
 pub seam_some : {A : Type 0} (a b : List A) (v : A) → slice_get (a ++ v ∷ b) (length a) ≡ Some v
 seam_some [] b v = refl
@@ -60,7 +60,7 @@ turned_record zero (x ∷ ls) l e = let same : x ≡ l = cc e in ap (λ m. Some 
 turned_record (suc n) (x ∷ ls) l e = turned_record n ls l e
 
 top_is : (g : LoopFlags) (w0 w : World) → Kept (in_loop_of g w0) w → top_mark w.scopes.frames ≡ Some (mark_behind g w0)
-top_is g w0 w k = top_of_marks (Some (mark_behind g w0)) (marks w0.scopes.frames) w.scopes.frames k.same_marks
+top_is g w0 w k = kept_top k
 
 -- what is asked of a record of its items and turns
 of_record : (n : ℕ) (ls : List Loop) (l : Loop) → slice_get (shapes ls) n ≡ Some l → (o : Option Return) (rs : List (Option Return)) (w : World) (f : List Val → ℕ → Next) →

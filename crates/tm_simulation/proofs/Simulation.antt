@@ -81,10 +81,10 @@ use Rattle.tm_simulation.proofs.Begins.{Both, Looped, Match, match_at, none_begi
 use Rattle.tm_simulation.proofs.TreeLoops.{expr_loopless, target_loopless, assignments_loopless, found, iterable_begins, statement_begins}
 use Rattle.tm_simulation.proofs.TreeLoops.{statements_begin}
 use Rattle.tm_simulation.proofs.Loops.{LeftOf, next_item, no_item, left_then, turned_items, on_top_loop, next_record, new_record, none_is}
-use Rattle.tm_simulation.proofs.Advances.{Kept, marks, kept_frames, kept_depth, kept_same, kept_then, kept_record, kept_popped}
-use Rattle.tm_simulation.proofs.Advances.{kept_cleared, kept_turned, top_of_marks, mark_behind, in_loop_of, opened, opened_kept, within}
+use Rattle.tm_simulation.proofs.Advances.{Kept, kept_top, kept_frames, kept_depth, kept_same, kept_then, kept_record, kept_popped}
+use Rattle.tm_simulation.proofs.Advances.{kept_cleared, kept_turned, mark_behind, in_loop_of, opened, opened_kept, within}
 use Rattle.tm_simulation.proofs.Advances.{kept_unescaped}
-use Rattle.tm_simulation.proofs.Gives.{loop_ends, ends_use, Gives, EndsBy as EndsKept, Ends as KeptEnds, ends_as, tick_gives}
+use Rattle.tm_simulation.proofs.Gives.{RunEnds, loop_ends, ends_use, Gives, EndsBy as EndsKept, Ends as KeptEnds, ends_as, tick_gives}
 use Rattle.tm_simulation.proofs.Asks.{unpacked_gives, emitted_gives, escape_gives, Asks, block_asks, named_asks, method_asks}
 use Rattle.tm_simulation.proofs.Asks.{innermost_asks, items_give}
 use Rattle.tm_simulation.proofs.Evaluates.{eval_gives, condition_gives, all_give, pair_gives, pairs_give, argument_gives, arguments_give}
@@ -290,7 +290,7 @@ module _ (context : Context) (trees : Trees) (n : ℕ)
   abbrev u : Under
   u = over context.program.host (nests_of context.program.host trees n) again
 
-  nest_ends : (k : Callee) (heard : Bool) (out : List ℕ) (w : World) → KeptEnds context.program.host w (nests_of context.program.host trees n k heard out w)
+  nest_ends : (k : Callee) (heard : Bool) (out : List ℕ) (w : World) → RunEnds context.program.host w (nests_of context.program.host trees n k heard out w)
   nest_ends k heard out w = nests_end context.program.host trees n k heard out w
 
   abbrev Deep : Run → Spot → World → Type 0
@@ -746,7 +746,7 @@ module _ (context : Context) (trees : Trees) (n : ℕ)
   jumps_scope to os s stack w v L d k j q out x pc h is there l =
       let a = plain_scope (undefined false) in
       let all = kept_then k h in
-      popped_then (later s q out) pc stack x (omega (arith, kept_frames all, d)) (top_of_marks None (marks w.scopes.frames) x.scopes.frames all.same_marks) is.0
+      popped_then (later s q out) pc stack x (omega (arith, kept_frames all, d)) (kept_top all) is.0
       (j q out (pop x) (pc + 1) (kept_popped a w x all) is.1 there l)
 
   around_scope : (l : Labels) (os : List Opened) (s : Spot) (stack : List Val) (w v : World) (L N : Then) → context.base.scopes ≤ length w.scopes.frames → Kept (within (plain_scope (undefined false)) w) v → Around l os s stack w L N → Around l (a_scope ∷ os) s stack v (Closed pop L) (Closed pop N)
@@ -1061,7 +1061,7 @@ module _ (context : Context) (trees : Trees) (n : ℕ)
         (use_then context s.bed (within a w) (set_each u (as_at run s) given (within a w)) (as_at run s) s.out _ _ L N _ (set_each_gives u nest_ends again_kept (as_at run s) given (within a w)) h1 (λ _ world2 k2 h2.
         stmts_run (a_scope ∷ os) loops l body run s _ stack world2 (Closed pop L) (Closed pop N) fits (deep_kept run s k2 deep1) (around_scope l os s stack w world2 L N d.0.scopes k2 j) is.1.1.0 nth1
         (closed_then context s.bed world2 pop (exec_all u loops body (as_at run s) s.out world2) _ L N _ (execs_end u nest_ends again_kept loops body (as_at run s) s.out world2) h2 (λ q out1 world3 k3 g.
-        popped_then (later s q out1) _ stack world3 (omega (arith, kept_frames k3, kept_frames k2, d.0.scopes)) (top_of_marks None (marks w.scopes.frames) world3.scopes.frames (k3.same_marks ∙ k2.same_marks)) is.1.1.1.0 g))))))))
+        popped_then (later s q out1) _ stack world3 (omega (arith, kept_frames k3, kept_frames k2, d.0.scopes)) (kept_top (kept_then k2 k3)) is.1.1.1.0 g))))))))
     stmt_runs os loops (SetBlock' t _ body) run s l pc stack w L N fits d j is nth h =
         let inner : Spot = record s { bed = captured_in s.bed s.out; out = [] } in
         let o = exec_all u loops body (capturing true (as_at run s)) [] w in

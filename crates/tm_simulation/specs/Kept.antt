@@ -1,19 +1,13 @@
--- What a render keeps of its world.
-use Rattle.std.specs.Prelude.{◌≡◌, ◌≤◌, List, [], ◌∷◌, ◌++◌, length, None}
-use Rattle.tm_meaning.specs.World.{World, Loop, depth}
+-- What runs keep of their world.
+use Rattle.std.specs.Prelude.{◌≡◌, ◌≤◌, List, [], ◌∷◌, ◌++◌, length, None, Some, ℕ}
+use Rattle.tm_meaning.specs.World.{World, Loop, Scope, Named, Layers, find, without_locals}
+use Rattle.tm_meaning.specs.declared.stream.TemplateId.{TemplateId}
 use Rattle.tm_meaning.specs.Meaning.{Ending, fault, Outcome}
 
 -- what is so where the ending is no fault
 abbrev pub UnlessFault : Ending → Type 0 → Type 0
 UnlessFault (fault chain) A = Unit {0}
 UnlessFault e A = A
-
--- The state is the same one, with the fuel that was set, and no fuel comes back, however the render ends. Where that is no fault its scopes lie as deep.
-pub record Stays (old : World) (o : Outcome) : Type 0 where
-  pub same_id : o.world.id ≡ old.id
-  pub same_fuel_set : o.world.fuel_set ≡ old.fuel_set
-  pub no_more_fuel : o.world.fuel ≤ old.fuel
-  pub as_deep : UnlessFault o.ending (depth o.world.scopes ≡ depth old.scopes)
 
 -- a loop's record without the arguments that it keeps, which any expression may change
 abbrev pub shape : Loop → Loop
@@ -27,8 +21,30 @@ shapes (l ∷ ls) = shape l ∷ shapes ls
 abbrev pub GoesOn : List Loop → List Loop → Type 0
 GoesOn old new = (more : List Loop) × (shapes new ≡ shapes old ++ more)
 
--- A state's records, the values that objects keep and the names loaded are never fewer, however the render ends.
--- Where that is no fault the stream that runs, its block, the escape and the blocks are as they were.
+-- Scopes lie over those that stood: these are there still, but for the names of the innermost one, and perhaps more over them.
+abbrev pub LieOver : List Scope → List Scope → Type 0
+LieOver old new = (more : List Scope) × (there : List Scope) × (new ≡ more ++ there) × (without_locals there ≡ without_locals old)
+
+-- The list of each block that was there has its templates still, and perhaps more behind them, and its place is the same.
+abbrev pub BlocksGrow : Named Layers → Named Layers → Type 0
+BlocksGrow old new =
+    (x : List ℕ) (l : Layers) → find x old ≡ Some l →
+    (more : List TemplateId) × (find x new ≡ Some (record l { templates = l.templates ++ more }))
+
+-- The state is the same one, with the fuel that was set, and no fuel comes back, and its scopes lie over those that stood, however the
+-- run ends.
+-- Where that is no fault they are those that stood, but for the names of the innermost one.
+pub record Stays (old : World) (o : Outcome) : Type 0 where
+  pub same_id : o.world.id ≡ old.id
+  pub same_fuel_set : o.world.fuel_set ≡ old.fuel_set
+  pub no_more_fuel : o.world.fuel ≤ old.fuel
+  pub same_outer : o.world.scopes.outer ≡ old.scopes.outer
+  pub lie_over : LieOver old.scopes.frames o.world.scopes.frames
+  pub same_scopes : UnlessFault o.ending (without_locals o.world.scopes.frames ≡ without_locals old.scopes.frames)
+
+-- A state's records, the values that objects keep, the names loaded and the lists of blocks are never fewer, and the block is as it was,
+-- however the run ends.
+-- Where that is no fault so is the escape.
 pub record Grows (old : World) (o : Outcome) : Type 0 where
   pub loops : GoesOn old.loops o.world.loops
   pub namespaces : length old.namespaces ≤ length o.world.namespaces
@@ -36,7 +52,13 @@ pub record Grows (old : World) (o : Outcome) : Type 0 where
   pub streams : length old.streams ≤ length o.world.streams
   pub temps : length old.temps ≤ length o.world.temps
   pub loaded : length old.loaded ≤ length o.world.loaded
-  pub same_stream : UnlessFault o.ending (o.world.stream ≡ old.stream)
-  pub same_block : UnlessFault o.ending (o.world.block ≡ old.block)
+  pub blocks : BlocksGrow old.blocks o.world.blocks
+  pub same_block : o.world.block ≡ old.block
   pub same_escape : UnlessFault o.ending (o.world.escape ≡ old.escape)
-  pub same_blocks : UnlessFault o.ending (o.world.blocks ≡ old.blocks)
+
+-- What a call replaced is put back: the scopes, the stream, the block and the escape.
+pub record PutsBack (old new : World) : Type 0 where
+  pub same_scopes : new.scopes ≡ old.scopes
+  pub same_stream : new.stream ≡ old.stream
+  pub same_block : new.block ≡ old.block
+  pub same_escape : new.escape ≡ old.escape

@@ -8,12 +8,12 @@ ghost use Rattle.std.specs.List.{All};
 ghost use Rattle.tm_meaning.specs.Memory.{is_want_of_memory};
 ghost use Rattle.tm_meaning.specs.World.{Host, World};
 ghost use Rattle.tm_meaning.specs.Calls.{Callee};
-ghost use Rattle.tm_meaning.specs.Tree.{Trees};
-ghost use Rattle.tm_meaning.specs.Meaning.{chain_of, nests_of, rendered};
+ghost use Rattle.tm_meaning.specs.Tree.{Body, Trees};
+ghost use Rattle.tm_meaning.specs.Meaning.{Run, block_tag, chain_of, nests_of, rendered, under};
 ghost use Rattle.tm_meaning.specs.Machine.{Program, Capture, Stuck};
 ghost use Rattle.tm_meaning.specs.Steps.{final};
 ghost use Rattle.tm_meaning.specs.Compiled.{IsCompiled};
-ghost use Rattle.tm_simulation.specs.Kept.{Stays, Grows};
+ghost use Rattle.tm_simulation.specs.Kept.{Stays, Grows, PutsBack};
 ghost use Rattle.tm_simulation.specs.Chains.{Arises, IfAny, HasRaised, StatesOnly};
 ghost use Rattle.tm_simulation.specs.Chains.{StatesNoMemory, ends_in_memory, MayWrap, HasNoForeign};
 ghost use Rattle.tm_simulation.specs.Reached.{RunsTo, Renders, HasLevels};
@@ -48,17 +48,39 @@ pub fn code_is_never_stuck()
         Renders p w (final got (Stuck left)) → ⊥ }
 {}
 
-/// A render keeps its state: it is the same one, no fuel comes back, and where the render is no fault the scopes lie as deep.
+/// A render keeps its state: it is the same one, no fuel comes back, and the scopes that stood are there; where the render is no fault
+/// there are no others, and only the names of the innermost one may differ.
 pub fn a_render_keeps_its_state()
     ensures { (host : Host) (trees : Trees) (w : World) → Stays w (rendered host trees w) }
 {}
 
-/// A render loses nothing: no record, also where it ends in a fault; and where it doesn't, the stream, the block, the escape and the blocks are as they were.
+/// So does any run: the scopes below its own are the very same ones.
+pub fn a_run_keeps_its_state()
+    ensures { (host : Host) (trees : Trees) (n : ℕ) (k : Callee) (heard : Bool) (out : List ℕ)
+        (w : World) → Stays w (nests_of host trees n k heard out w) }
+{}
+
+/// A render loses nothing, also where it ends in a fault: no record, no kept value, no name loaded, and no template of a block's list;
+/// the block is as it was, and where it ends in no fault so is the escape.
 pub fn a_render_loses_nothing()
     ensures { (host : Host) (trees : Trees) (w : World) → Grows w (rendered host trees w) }
 {}
 
-/// The chain of a render's fault arises in it: what ends it is a kind that renders raise, or a chain that an object of the caller states, and before that stand kinds that wrap.
+/// A render ends in the stream in which it began, also where it ends in a fault.
+pub fn a_render_ends_in_its_stream()
+    ensures { (host : Host) (trees : Trees) (w : World) →
+        (rendered host trees w).world.stream ≡ w.stream }
+{}
+
+/// Whatever its run comes to, also a fault, a block's tag leaves the scopes, the stream, the block and the escape as they were before it.
+pub fn a_block_puts_back_what_it_replaced()
+    ensures { (host : Host) (trees : Trees) (n : ℕ) (body : Body) (run : Run) (b : List ℕ)
+        (out : List ℕ) (w : World) →
+        PutsBack w (block_tag (under host (nests_of host trees n) body) run b out w).world }
+{}
+
+/// The chain of a render's fault arises in it: what ends it is a kind that renders raise, or a chain that an object of the caller states,
+/// and before that stand kinds that wrap.
 pub fn a_fault_arises()
     ensures { (host : Host) (trees : Trees) (w : World) →
         IfAny (Arises host) (chain_of (rendered host trees w)) }
@@ -91,7 +113,8 @@ pub fn want_of_memory_ends_in_memory()
     ensures ends { (chain : List ErrorKind) → is_want_of_memory chain ≡ true → ends_in_memory chain ≡ true }
 {}
 
-/// In a render's fault stand SyntaxError, InvalidDelimiter, WriteFailure and BadStream only where an object of the caller states a fault with one of them.
+/// In a render's fault stand SyntaxError, InvalidDelimiter, WriteFailure and BadStream only where an object of the caller states a fault
+/// with one of them.
 pub fn foreign_kinds_are_stated()
     ensures { (host : Host) (trees : Trees) (w : World) → StatesOnly HasNoForeign host →
         HasNoForeign (chain_of (rendered host trees w)) }
