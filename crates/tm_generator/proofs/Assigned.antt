@@ -6,7 +6,8 @@ use Rattle.tm_syntax.specs.declared.tree.Target.TheVariants as t
 use Rattle.tm_syntax.specs.declared.tree.Target.TheBlock.{hidden-the_row-Target-0 as targets}
 use Rattle.tm_syntax.specs.declared.instruction.Instruction.{Instruction}
 use Rattle.tm_syntax.specs.declared.instruction.Instruction.TheVariants as i
-use Rattle.tm_syntax.specs.Code.{target_code, targets_code, count_targets}
+use Rattle.tm_generator.specs.Placed.{target_code, targets_code}
+use Rattle.tm_syntax.specs.Code.{count_targets}
 use Rattle.tm_generator.proofs.Generated.{placed}
 use Rattle.tm_generator.proofs.Rows.{count-targets}
 

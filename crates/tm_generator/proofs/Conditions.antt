@@ -13,7 +13,7 @@ use Rattle.tm_syntax.specs.declared.tree.Argument.TheBlock.{shown-the_row-Expr-0
 use Rattle.tm_syntax.specs.declared.tree.Argument.TheViews.{out-Condition}
 use Rattle.tm_syntax.specs.declared.instruction.Instruction.{Instruction}
 use Rattle.tm_syntax.specs.declared.instruction.Instruction.TheVariants as i
-use Rattle.tm_syntax.specs.Code.{expr_code, condition_code, conditions_code}
+use Rattle.tm_generator.specs.Placed.{expr_code, condition_code, conditions_code}
 use Rattle.tm_syntax.specs.Forms.{condition}
 use Rattle.tm_syntax.specs.contracts.tree.Condition.{enum as the_condition}
 use Rattle.tm_generator.specs.Jumps.{asked, asked_places, answered, all_answered}

@@ -8,10 +8,11 @@ use Rattle.tm_syntax.specs.declared.tree.Stmt.{Stmt, EmitRaw, EmitExpr, EmitLoop
 use Rattle.tm_syntax.specs.declared.instruction.CaptureMode.TheVariants.{Capture}
 use Rattle.tm_syntax.specs.declared.instruction.Instruction.{Instruction}
 use Rattle.tm_syntax.specs.declared.instruction.Instruction.TheVariants as i
-use Rattle.tm_syntax.specs.Code.{close_all, expr_code, iterable_code, target_code, assignments_code, statement_code, statements_code, otherwise_code, behind_loop_code, jump_over, outside, for_flags}
+use Rattle.tm_generator.specs.Placed.{expr_code, iterable_code, target_code, assignments_code, statement_code, statements_code, otherwise_code, behind_loop_code, jump_over, outside}
+use Rattle.tm_syntax.specs.Code.{close_all, for_flags}
 use Rattle.tm_syntax.specs.declared.opened.Opened.{Opened}
 use Rattle.tm_syntax.specs.declared.opened.Opened.TheVariants.{Scope as a_scope, Escape as an_escape, Capture as a_capture}
-use Rattle.tm_syntax.proofs.Long.{in_loop, statement_long, statements_long}
+use Rattle.tm_generator.proofs.Long.{in_loop, statement_long, statements_long}
 use Rattle.tm_generator.specs.declared.loops.Exit.{Exit}
 use Rattle.tm_generator.specs.declared.loops.Exit.TheVariants.{Leave, Next}
 use Rattle.tm_generator.specs.Exits.{unset, loop_end, exits_of, exits_in, exits_else, exits_behind, place_of, led}

@@ -7,7 +7,8 @@ use Rattle.tm_syntax.specs.declared.tree.Expr.{Expr}
 use Rattle.tm_syntax.specs.declared.tree.Target.{Target}
 use Rattle.tm_syntax.specs.declared.instruction.Instruction.{Instruction}
 use Rattle.tm_syntax.specs.declared.instruction.Instruction.TheVariants as i
-use Rattle.tm_syntax.specs.Code.{expr_code, target_code, filter_flags, filter_code, iterable_code}
+use Rattle.tm_generator.specs.Placed.{expr_code, target_code, filter_code, iterable_code}
+use Rattle.tm_syntax.specs.Code.{filter_flags}
 use Rattle.tm_generator.specs.Filters.{taken_code, dropped_code, left_code}
 use Rattle.tm_generator.proofs.Generated.{placed}
 

@@ -18,7 +18,8 @@ use Rattle.tm_syntax.specs.declared.tree.Step.{Step}
 use Rattle.tm_syntax.specs.declared.tree.Step.TheVariants as s
 use Rattle.tm_syntax.specs.declared.instruction.Instruction.{Instruction}
 use Rattle.tm_syntax.specs.declared.instruction.Instruction.TheVariants as i
-use Rattle.tm_syntax.specs.Code.{unary_code, binary_code, expr_code, exprs_code, pair_code, pairs_code, argument_code, arguments_code, keyword_code, named_code, step_code, steps_code, before, count, together, count_exprs, count_pairs}
+use Rattle.tm_generator.specs.Placed.{expr_code, exprs_code, pair_code, pairs_code, argument_code, arguments_code, keyword_code, named_code, step_code, steps_code, before}
+use Rattle.tm_syntax.specs.Code.{unary_code, binary_code, count, together, count_exprs, count_pairs}
 use Rattle.tm_syntax.specs.Forms.{pair, keyword}
 use Rattle.tm_syntax.specs.contracts.tree.Argument.{enum as the_enum}
 use Rattle.tm_syntax.specs.contracts.tree.Keyword.{enum as the_keyword}

@@ -1,3 +1,5 @@
+pub mod Long
+pub mod Same
 pub mod Rows
 pub mod Generated
 pub mod Links

@@ -14,7 +14,8 @@ use Rattle.tm_syntax.specs.declared.tree.Argument.TheViews.{out-Comparison}
 use Rattle.tm_syntax.specs.declared.tree.Step.TheVariants as s
 use Rattle.tm_syntax.specs.declared.instruction.Instruction.{Instruction}
 use Rattle.tm_syntax.specs.declared.instruction.Instruction.TheVariants as i
-use Rattle.tm_syntax.specs.Code.{binary_code, expr_code, links_code, step_code, in_a_row, before}
+use Rattle.tm_generator.specs.Placed.{expr_code, links_code, step_code, in_a_row, before}
+use Rattle.tm_syntax.specs.Code.{binary_code}
 use Rattle.tm_syntax.specs.Forms.{comparison}
 use Rattle.tm_syntax.specs.contracts.tree.Comparison.{enum as the_comparison}
 use Rattle.tm_generator.specs.Jumps.{link_places, ended}

@@ -11,9 +11,10 @@ use Rattle.tm_syntax.specs.declared.tree.Stmt.TheVariants as st
 use Rattle.tm_syntax.specs.declared.tree.Stmt.TheBlock.{hidden-the_row-Stmt-0 as statements}
 use Rattle.tm_syntax.specs.declared.instruction.Instruction.{Instruction}
 use Rattle.tm_syntax.specs.declared.instruction.Instruction.TheVariants as i
-use Rattle.tm_syntax.specs.Code.{Inside, iterable_code, target_code, statement_code, statements_code, stream_code, for_flags}
+use Rattle.tm_generator.specs.Placed.{Inside, iterable_code, target_code, statement_code, statements_code, stream_code}
+use Rattle.tm_syntax.specs.Code.{for_flags}
 use Rattle.tm_syntax.specs.declared.opened.Opened.{Opened}
-use Rattle.tm_syntax.proofs.Long.{in_loop, statements_long}
+use Rattle.tm_generator.proofs.Long.{in_loop, statements_long}
 use Rattle.tm_generator.specs.Exits.{Around, with_exits, unset, loop_end, rounds_code, no_round_code, exits_of, exits_in, place_of, led}
 use Rattle.tm_generator.proofs.Exits.{statements_led, within-more}
 use Rattle.tm_generator.proofs.Generated.{patched}

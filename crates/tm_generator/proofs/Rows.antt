@@ -15,7 +15,8 @@ use Rattle.tm_syntax.specs.declared.tree.Stmt.{Stmt}
 use Rattle.tm_syntax.specs.declared.tree.Stmt.TheBlock.{shape-the_row-Stmt-0, hidden-the_row-Stmt-0 as statements}
 use Rattle.tm_syntax.specs.declared.instruction.Instruction.{Instruction}
 use Rattle.tm_syntax.specs.declared.instruction.Instruction.TheVariants as i
-use Rattle.tm_syntax.specs.Code.{Inside, expr_code, exprs_code, pair_code, pairs_code, argument_code, arguments_code, keyword_code, keywords_code, named_code, step_code, steps_code, target_code, targets_code, statement_code, statements_code, count, count_keywords, together, count_exprs, count_pairs, count_targets}
+use Rattle.tm_generator.specs.Placed.{Inside, expr_code, exprs_code, pair_code, pairs_code, argument_code, arguments_code, keyword_code, keywords_code, named_code, step_code, steps_code, target_code, targets_code, statement_code, statements_code}
+use Rattle.tm_syntax.specs.Code.{count, count_keywords, together, count_exprs, count_pairs, count_targets}
 use Rattle.tm_syntax.specs.declared.opened.Opened.{Opened}
 use Rattle.tm_syntax.specs.Blocks.{blocks_of, blocks_in}
 use Rattle.tm_generator.specs.Exits.{unset, exits_of, exits_in}

@@ -12,7 +12,8 @@ use Rattle.tm_syntax.specs.declared.tree.Stmt.TheBlock.{hidden-the_row-Stmt-0 as
 use Rattle.tm_syntax.specs.declared.instruction.Instruction.{Instruction}
 use Rattle.tm_syntax.specs.declared.instruction.Instruction.TheVariants as i
 use Rattle.tm_syntax.specs.Blocks.{Body, body_of, blocks_of, blocks_in, compiled, compiled_blocks}
-use Rattle.tm_syntax.specs.Code.{Inside, expr_code, statement_code, statements_code, stream_code}
+use Rattle.tm_generator.specs.Placed.{Inside, expr_code, statement_code, statements_code}
+use Rattle.tm_syntax.specs.Code.{stream_code}
 use Rattle.tm_syntax.specs.declared.opened.Opened.{Opened}
 use Rattle.tm_syntax.specs.Named.{Named, put, put_each}
 use Rattle.tm_generator.specs.Exits.{Around, with_exits, unset, exits_of, exits_in, rest_of}

@@ -4,7 +4,8 @@ use Rattle.tm_syntax.specs.declared.tree.Stmt.{Stmt, If', For', Break, Continue,
 use Rattle.tm_syntax.specs.declared.tree.Target.{Target}
 use Rattle.tm_syntax.specs.declared.instruction.Instruction.{Instruction}
 use Rattle.tm_syntax.specs.declared.instruction.Instruction.TheVariants as i
-use Rattle.tm_syntax.specs.Code.{Inside, close_all, expr_code, iterable_code, target_code, assignments_code, statement_code, statements_code, outside, for_flags}
+use Rattle.tm_generator.specs.Placed.{Inside, expr_code, iterable_code, target_code, assignments_code, statement_code, statements_code, outside}
+use Rattle.tm_syntax.specs.Code.{close_all, for_flags}
 use Rattle.tm_syntax.specs.declared.opened.Opened.{Opened}
 use Rattle.tm_syntax.specs.declared.opened.Opened.TheVariants.{Scope as a_scope, Escape as an_escape, Capture as a_capture}
 use Rattle.tm_generator.specs.declared.loops.Exit.{Exit}

@@ -4,7 +4,7 @@ use Rattle.tm_syntax.specs.declared.tree.Condition.{Condition}
 use Rattle.tm_syntax.specs.declared.tree.Comparison.{Comparison}
 use Rattle.tm_syntax.specs.declared.instruction.Instruction.{Instruction}
 use Rattle.tm_syntax.specs.declared.instruction.Instruction.TheVariants as i
-use Rattle.tm_syntax.specs.Code.{expr_code}
+use Rattle.tm_generator.specs.Placed.{expr_code}
 use Rattle.tm_syntax.specs.Forms.{condition, comparison}
 
 -- where the code of comparisons in a row jumps, if it begins at a place

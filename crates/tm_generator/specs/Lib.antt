@@ -1,3 +1,4 @@
+pub mod Placed
 pub mod Jumps
 pub mod Exits
 pub mod Filters

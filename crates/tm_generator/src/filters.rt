@@ -1,7 +1,7 @@
 //! Instructions of what loops go over.
 ghost use Rattle.std.specs.Prelude.{◌≡◌, ◌++◌, [], ◌∷◌, OnOk, IfErr, length};
 ghost use Rattle.tm_generator.specs.Filters.{taken_code, dropped_code, left_code};
-ghost use Rattle.tm_syntax.specs.Code.{filter_code, iterable_code};
+ghost use Rattle.tm_generator.specs.Placed.{filter_code, iterable_code};
 ghost use Rattle.tm_values.specs.declared.error.ErrorKind.TheVariants.{OutOfMemory};
 
 use crate::generator::push_expr;

@@ -3,7 +3,8 @@ ghost use Rattle.std.specs.Prelude.{◌≡◌, ◌++◌, ◌+◌, ◌<◌, [], �
 ghost use Rattle.tm_generator.specs.Exits.{unset, with_exits, exits_of, exits_in, rounds_code, no_round_code};
 ghost use Rattle.tm_generator.specs.Jumps.{link_places, asked, asked_places, all_answered};
 ghost use Rattle.tm_syntax.specs.Blocks.{blocks_of, blocks_in, compiled_blocks};
-ghost use Rattle.tm_syntax.specs.Code.{unary_code, binary_code, expr_code, exprs_code, pair_code, pairs_code, argument_code, arguments_code, keyword_code, keywords_code, named_code, step_code, links_code, in_a_row, steps_code, statement_code, statements_code, stream_code};
+ghost use Rattle.tm_generator.specs.Placed.{expr_code, exprs_code, pair_code, pairs_code, argument_code, arguments_code, keyword_code, keywords_code, named_code, step_code, links_code, in_a_row, steps_code, statement_code, statements_code};
+ghost use Rattle.tm_syntax.specs.Code.{unary_code, binary_code, stream_code};
 ghost use Rattle.tm_syntax.specs.Named.{put as put_named, put_each};
 ghost use Rattle.tm_syntax.specs.declared.tree.Argument.TheBlock.{hidden-the_row-Expr-1 as exprs, hidden-the_row-Pair-2 as pairs, hidden-the_row-Argument-3 as arguments, hidden-the_row-Keyword-4 as keywords, hidden-the_row-Step-5 as steps, hidden-the_row-Comparison-7 as comparisons};
 ghost use Rattle.tm_syntax.specs.declared.tree.Stmt.TheBlock.{hidden-the_row-Stmt-0 as statements};

@@ -2,7 +2,8 @@
 ghost use Rattle.std.specs.Prelude.{◌≡◌, ◌++◌, ◌+◌, ◌<◌, [], ◌∷◌, All, OnOk, IfErr, length, reverse};
 ghost use Rattle.tm_generator.specs.Exits.{Around, place_of, rest_of, led, with_exits};
 ghost use Rattle.tm_generator.specs.declared.loops.Exit.TheVariants.{Leave, Next};
-ghost use Rattle.tm_syntax.specs.Code.{close, close_all as close_each};
+ghost use Rattle.tm_syntax.specs.Code.{close_all as close_each};
+ghost use Rattle.tm_syntax.specs.Code.{close};
 ghost use Rattle.tm_syntax.specs.declared.instruction.Instruction.TheVariants.{Jump};
 ghost use Rattle.tm_values.specs.declared.error.ErrorKind.TheVariants.{OutOfMemory};
 

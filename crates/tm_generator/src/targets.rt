@@ -1,6 +1,6 @@
 //! Instructions that give values to targets.
 ghost use Rattle.std.specs.Prelude.{◌≡◌, ◌++◌, [], ◌∷◌, OnOk, IfErr, length};
-ghost use Rattle.tm_syntax.specs.Code.{target_code, targets_code, set_code, assignments_code};
+ghost use Rattle.tm_generator.specs.Placed.{target_code, targets_code, set_code, assignments_code};
 ghost use Rattle.tm_syntax.specs.declared.tree.Target.TheBlock.{hidden-the_row-Target-0 as targets};
 ghost use Rattle.tm_values.specs.declared.error.ErrorKind.TheVariants.{OutOfMemory};
 

@@ -1,5 +1,5 @@
 use Rattle.std.proofs.Common.{◌≡◌, ◌++◌, ◌+◌, ◌<◌, ◌≤◌, All, length, drop, reverse}
-use Rattle.tm_syntax.specs.Code.{exprs_code, pairs_code, arguments_code, keywords_code, links_code, steps_code}
+use Rattle.tm_generator.specs.Placed.{exprs_code, pairs_code, arguments_code, keywords_code, links_code, steps_code}
 use Rattle.tm_syntax.specs.declared.tree.Argument.TheBlock.{hidden-the_row-Expr-1 as exprs, hidden-the_row-Pair-2 as pairs, hidden-the_row-Argument-3 as arguments, hidden-the_row-Keyword-4 as keywords, hidden-the_row-Step-5 as steps, hidden-the_row-Comparison-7 as comparisons}
 use Rattle.tm_generator.specs.Jumps.{link_places, asked, asked_places, all_answered}
 use Rattle.tm_generator.proofs.generator.+expressions.Given as goal

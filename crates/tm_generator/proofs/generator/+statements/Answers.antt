@@ -1,3 +1,5 @@
+use Rattle.tm_syntax.specs.declared.tree.Stmt.TheBlock.{hidden-the_row-Stmt-0 as statements}
+use Rattle.tm_generator.proofs.Same.{same_stream}
 use Rattle.std.proofs.Common.{length, ap, ◌∙◌}
 use Rattle.std.proofs.lemmas.List.{drop_all}
 use Rattle.std.proofs.lemmas.Result.{on_ok_weaker}
@@ -108,3 +110,4 @@ stream-returns-clause-code t c =
     c.in_ok-new.ensures
     ∙ made_stream c.new-code.result c.push_statements.new.code c.new-around.result c.push_statements.new.around c.args.body.now c.new-code.ensures c.new-around.ensures
     c.in_ok-push_statements.ensures.code c.in_ok-push_statements.ensures.around c.lead.new.code c.len-end.result c.len-end.ensures c.lead.ensures
+    ∙ same_stream (statements c.args.body.now)

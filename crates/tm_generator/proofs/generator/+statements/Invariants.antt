@@ -1,6 +1,6 @@
 use Rattle.std.proofs.Common.{◌≡◌, ◌+◌, ◌*◌, ◌++◌, length, drop}
 use Rattle.tm_syntax.specs.Blocks.{blocks_in, compiled_blocks}
-use Rattle.tm_syntax.specs.Code.{statements_code}
+use Rattle.tm_generator.specs.Placed.{statements_code}
 use Rattle.tm_syntax.specs.Named.{put_each}
 use Rattle.tm_syntax.specs.declared.tree.Stmt.TheBlock.{hidden-the_row-Stmt-0 as statements}
 use Rattle.tm_syntax.specs.declared.tree.Stmt.TheVariants.{AutoEscape, For, If, SetBlock}

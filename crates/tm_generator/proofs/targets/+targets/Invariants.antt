@@ -1,5 +1,5 @@
 use Rattle.std.proofs.Common.{◌≡◌, ◌++◌, length, drop}
-use Rattle.tm_syntax.specs.Code.{targets_code}
+use Rattle.tm_generator.specs.Placed.{targets_code}
 use Rattle.tm_syntax.specs.declared.tree.Target.TheBlock.{hidden-the_row-Target-0 as targets}
 use Rattle.tm_generator.proofs.targets.+targets.Given as goal
 

@@ -1,5 +1,5 @@
 use Rattle.std.proofs.Common.{◌≡◌, ◌++◌, length, drop}
-use Rattle.tm_syntax.specs.Code.{assignments_code}
+use Rattle.tm_generator.specs.Placed.{assignments_code}
 use Rattle.tm_generator.proofs.targets.push_assignments.Given as goal
 
 abbrev pub invariant-loop-assignment : goal.invariant-loop-assignment
