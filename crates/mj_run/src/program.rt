@@ -75,7 +75,7 @@ pub fn run<T: Texts, O: Write + Drop, E: Write + Drop>(
         Ok(members) => members,
         Err(refusal) => return tell_refusal(err, refusal),
     };
-    match render(alloc, &arguments, members, source.as_str(), out) {
+    match render(alloc, &arguments, members, source, out) {
         Ok(()) => SUCCESS,
         Err(error) => tell_error(err, &error),
     }

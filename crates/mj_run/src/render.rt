@@ -1,5 +1,5 @@
 //! The render that the words ask for.
-ghost use Rattle.std.specs.Prelude.{◌≡◌, List, [], ◌∷◌, map, min, MatchResult};
+ghost use Rattle.std.specs.Prelude.{◌≡◌, List, [], ◌∷◌, map, min, string_bytes, MatchResult};
 ghost use Rattle.tm_values.specs.Val.{Val};
 ghost use Rattle.mj_words.specs.CommandLine.{plain};
 ghost use Rattle.template_machine.specs.Environment.{greatest_limit, new_environment};
@@ -19,10 +19,10 @@ pub fn render<O: Write + Drop>(
     alloc: Global,
     arguments: &Arguments<'_>,
     members: Vec<(Value, Value)>,
-    source: &str,
+    source: String,
     out: &mut Counted<O>,
 ) -> Result<(), Error>
-    ensures { let input = input_of arguments.now members.items source.now in MatchResult result
+    ensures { let input = input_of arguments.now members.items (string_bytes source) in MatchResult result
         (λ _. IsRendered O.contents input out.old out.new)
         (λ e. IsFault O.contents input e out.old out.new) }
 {
@@ -40,10 +40,10 @@ fn render_unflushed<O: Write + Drop>(
     alloc: Global,
     arguments: &Arguments<'_>,
     members: Vec<(Value, Value)>,
-    source: &str,
+    source: String,
     out: &mut Counted<O>,
 ) -> Result<(), Error>
-    ensures { let input = input_of arguments.now members.items source.now in MatchResult result
+    ensures { let input = input_of arguments.now members.items (string_bytes source) in MatchResult result
         (λ _. IsRendered O.contents input out.old out.new)
         (λ e. IsFault O.contents input e out.old out.new) }
 {
@@ -53,23 +53,23 @@ fn render_unflushed<O: Write + Drop>(
 }
 
 /// Renders the source in a new environment, over the context of the words and any members.
-fn render_in<'a, O: Write + Drop>(
-    environment: &mut Environment<'a>,
+fn render_in<O: Write + Drop>(
+    environment: &mut Environment<'_>,
     arguments: &Arguments<'_>,
-    source: &'a str,
+    source: String,
     context: Value,
     out: &mut Counted<O>,
 ) -> Result<(), Error>
     requires new { environment.now ≡ new_environment }
     ensures { (members : List (Val × Val)) →
         context ≡ context_of members (map plain arguments.now.texts.items) →
-        let input = input_of arguments.now members source.entry.now in MatchResult result
+        let input = input_of arguments.now members (string_bytes source) in MatchResult result
         (λ _. IsRendered O.contents input out.old out.new)
         (λ e. IsFault O.contents input e out.old out.new) }
 {
     environment.set_fuel(arguments.fuel);
     environment.set_recursion_limit(limit(arguments.limit));
-    environment.add_template(arguments.file, source)?;
+    environment.add_template_owned(arguments.file, source)?;
     let template = environment.get_template(arguments.file)?;
     render_template(&template, context, out)
 }

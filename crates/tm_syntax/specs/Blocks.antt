@@ -1,6 +1,7 @@
 -- Statements as one thing, and the blocks among them.
 use Rattle.std.specs.Prelude.{ℕ, List, [], ◌∷◌, ◌++◌, map as each}
 use mathlib.Core.Former.{Count}
+use Rattle.tm_syntax.specs.declared.tree.Stmt.{EmitRaw, EmitExpr, EmitLoop, Break, Continue, Set, Do}
 use Rattle.tm_syntax.specs.declared.tree.Stmt.{Stmt, If', For', Block', SetBlock', With', AutoEscape', Row_of-Stmt, end_of-Stmt as no_statement, more_of-Stmt as statement, Held-Stmt-If-2 as Otherwise, None' as no_else, Some' as otherwise}
 use Rattle.tm_syntax.specs.declared.instruction.Instruction.{Instruction}
 use Rattle.tm_syntax.specs.Code.{stream_code}
@@ -25,7 +26,13 @@ abbrev mutual
   blocks_of (SetBlock' t _ body) = blocks_in body
   blocks_of (With' given _ body) = blocks_in body
   blocks_of (AutoEscape' e _ body) = blocks_in body
-  blocks_of _ = []
+  blocks_of (EmitRaw t) = []
+  blocks_of (EmitExpr e) = []
+  blocks_of (EmitLoop e) = []
+  blocks_of Break = []
+  blocks_of Continue = []
+  blocks_of (Set t e) = []
+  blocks_of (Do e) = []
 
   pub blocks_in : {n : _} → Row_of-Stmt n → Named Body
   blocks_in no_statement = []

@@ -6,6 +6,7 @@ use Rattle.tm_syntax.specs.declared.instruction.LoopFlags.{LoopFlags}
 pub use Rattle.tm_syntax.specs.declared.instruction.LoopPlace.{LoopPlace}
 use Rattle.tm_syntax.specs.declared.tree.Expr.{Expr}
 use Rattle.tm_syntax.specs.declared.tree.Target.{Target}
+use Rattle.tm_syntax.specs.declared.tree.Stmt.{EmitRaw, EmitExpr, EmitLoop, Break, Continue, Block', Set, Do}
 use Rattle.tm_syntax.specs.declared.tree.Stmt.{Stmt, If', For', SetBlock', With', AutoEscape', Row_of-Stmt, end_of-Stmt as no_statement, more_of-Stmt as statement, Held-Stmt-If-2 as Otherwise, None' as no_else, Some' as otherwise}
 use Rattle.tm_syntax.specs.Blocks.{Body, body_of}
 
@@ -26,7 +27,14 @@ abbrev mutual
   past at (SetBlock' t _ body) = pasts at body
   past at (With' given _ body) = pasts at body
   past at (AutoEscape' e _ body) = pasts at body
-  past at _ = at
+  past at (EmitRaw t) = at
+  past at (EmitExpr e) = at
+  past at (EmitLoop e) = at
+  past at Break = at
+  past at Continue = at
+  past at (Block' x _ body) = at
+  past at (Set t e) = at
+  past at (Do e) = at
 
   pub pasts : {n : _} → ℕ → Row_of-Stmt n → ℕ
   pasts at no_statement = at
@@ -57,7 +65,14 @@ abbrev mutual
   loops_of at (SetBlock' t _ body) = loops_in at body
   loops_of at (With' given _ body) = loops_in at body
   loops_of at (AutoEscape' e _ body) = loops_in at body
-  loops_of at _ = []
+  loops_of at (EmitRaw t) = []
+  loops_of at (EmitExpr e) = []
+  loops_of at (EmitLoop e) = []
+  loops_of at Break = []
+  loops_of at Continue = []
+  loops_of at (Block' x _ body) = []
+  loops_of at (Set t e) = []
+  loops_of at (Do e) = []
 
   pub loops_in : {n : _} → ℕ → Row_of-Stmt n → List FoundLoop
   loops_in at no_statement = []
@@ -71,7 +86,58 @@ abbrev mutual
 -- the loop that an instruction begins
 abbrev pub begins : Instruction → Option LoopFlags
 begins (i.PushLoop flags) = Some flags
-begins _ = None
+begins (i.EmitRaw _) = None
+begins i.Emit = None
+begins (i.Lookup _) = None
+begins (i.LoadConst _) = None
+begins (i.GetAttr _) = None
+begins i.GetItem = None
+begins i.Slice = None
+begins (i.BuildList _) = None
+begins (i.BuildTuple _) = None
+begins (i.BuildMap _) = None
+begins (i.BuildKwargs _) = None
+begins i.Eq = None
+begins i.Ne = None
+begins i.Lt = None
+begins i.Lte = None
+begins i.Gt = None
+begins i.Gte = None
+begins i.In = None
+begins (i.CompareAndPreserve _) = None
+begins i.Add = None
+begins i.Sub = None
+begins i.StringConcat = None
+begins i.Mul = None
+begins i.Div = None
+begins i.IntDiv = None
+begins i.Rem = None
+begins i.Pow = None
+begins i.Neg = None
+begins i.Not = None
+begins i.Swap = None
+begins i.DupTop = None
+begins i.DiscardTop = None
+begins (i.Jump _) = None
+begins (i.JumpIfFalse _) = None
+begins (i.JumpIfFalseOrPop _) = None
+begins (i.JumpIfTrueOrPop _) = None
+begins (i.CallFunction _ _) = None
+begins (i.CallMethod _ _) = None
+begins (i.CallBlock _) = None
+begins (i.StoreLocal _) = None
+begins (i.UnpackList _) = None
+begins (i.SetAttr _) = None
+begins i.PushWith = None
+begins i.PopFrame = None
+begins (i.Iterate _) = None
+begins i.PushDidNotIterate = None
+begins i.PopLoopFrame = None
+begins i.FastRecurse = None
+begins (i.BeginCapture _) = None
+begins i.EndCapture = None
+begins i.PushAutoEscape = None
+begins i.PopAutoEscape = None
 
 abbrev pub with_place : Option LoopFlags → ℕ → List LoopPlace → List LoopPlace
 with_place None pc ls = ls

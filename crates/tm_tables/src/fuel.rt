@@ -41,7 +41,49 @@ fn charge(instruction: &Instruction) -> u64
         | Instruction::BeginCapture(_)
         | Instruction::PushAutoEscape
         | Instruction::PopAutoEscape => 0,
-        _ => 1,
+        Instruction::EmitRaw(_)
+        | Instruction::Emit
+        | Instruction::Lookup(_)
+        | Instruction::LoadConst(_)
+        | Instruction::GetAttr(_)
+        | Instruction::GetItem
+        | Instruction::Slice
+        | Instruction::BuildList(_)
+        | Instruction::BuildTuple(_)
+        | Instruction::BuildMap(_)
+        | Instruction::BuildKwargs(_)
+        | Instruction::Eq
+        | Instruction::Ne
+        | Instruction::Lt
+        | Instruction::Lte
+        | Instruction::Gt
+        | Instruction::Gte
+        | Instruction::In
+        | Instruction::CompareAndPreserve(_)
+        | Instruction::Add
+        | Instruction::Sub
+        | Instruction::StringConcat
+        | Instruction::Mul
+        | Instruction::Div
+        | Instruction::IntDiv
+        | Instruction::Rem
+        | Instruction::Pow
+        | Instruction::Neg
+        | Instruction::Not
+        | Instruction::Swap
+        | Instruction::Jump(_)
+        | Instruction::JumpIfFalse(_)
+        | Instruction::JumpIfFalseOrPop(_)
+        | Instruction::JumpIfTrueOrPop(_)
+        | Instruction::CallFunction(_, _)
+        | Instruction::CallMethod(_, _)
+        | Instruction::CallBlock(_)
+        | Instruction::StoreLocal(_)
+        | Instruction::UnpackList(_)
+        | Instruction::SetAttr(_)
+        | Instruction::Iterate(_)
+        | Instruction::FastRecurse
+        | Instruction::EndCapture => 1,
     }
 }
 

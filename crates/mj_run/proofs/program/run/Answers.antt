@@ -33,18 +33,18 @@ returns-in-Err-read_members-clause-wrong_use g c = λ two.
 
 pub returns-in-Ok-render-clause-rendered : goal.returns-in-Ok-render-clause-rendered
 returns-in-Ok-render-clause-rendered g c = λ zero.
-    let input = input_of c.in-Ok.arguments c.in-Ok-read_members.members.items c.as_str.result.now in
+    let input = input_of c.in-Ok.arguments c.in-Ok-read_members.members.items (string_bytes c.in-Ok-read_source.source) in
     let source = c.in-Ok-read_source in
     let given = is_input g.T.Texts.of_file c.args.texts.now c.read_source.new.texts source.ensures.stay g.T.Texts.of_input (map string_bytes c.args.words.now) input (string_bytes source.source) c.in-Ok.ensures source.ensures.read
-    c.as_str.ensures.value c.in-Ok-read_members.ensures in
+    refl c.in-Ok-read_members.ensures in
     (refl {a = c.args.err.now}, input, given, c.in-Ok-render.ensures)
 
 pub returns-clause-fault : goal.returns-clause-fault
 returns-clause-fault g c = λ one.
-    let input = input_of c.in-Ok.arguments c.in-Ok-read_members.members.items c.as_str.result.now in
+    let input = input_of c.in-Ok.arguments c.in-Ok-read_members.members.items (string_bytes c.in-Ok-read_source.source) in
     let source = c.in-Ok-read_source in
     let given = is_input g.T.Texts.of_file c.args.texts.now c.read_source.new.texts source.ensures.stay g.T.Texts.of_input (map string_bytes c.args.words.now) input (string_bytes source.source) c.in-Ok.ensures source.ensures.read
-    c.as_str.ensures.value c.in-Ok-read_members.ensures in
+    refl c.in-Ok-read_members.ensures in
     let t = c.tell_error.ensures.told in
     let fault = subst (λ chain. IsFault g.O.Write.contents input chain c.args.out.now c.render.new.out) t.2 c.in-Err-render.ensures in
     (t.0, t.1, t.3, inr (input, given, fault))
