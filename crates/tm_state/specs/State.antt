@@ -4,8 +4,8 @@ use Rattle.tm_syntax.specs.Named.{find}
 use Rattle.tm_values.specs.Val.{Val, undefined}
 use Rattle.tm_values.specs.declared.escape.AutoEscape.{AutoEscape}
 use Rattle.tm_syntax.specs.declared.instruction.Instruction.{Instruction}
-use Rattle.tm_meaning.specs.World.{Named, World, Loop, loop_scope, new_loop, Layers, root_of, block_of, plain, with_frames, pop}
-use Rattle.tm_meaning.specs.Calls.{Asked, runs, whole, of_block, with_outer}
+use Rattle.tm_meaning.specs.World.{Named, World, Loop, loop_scope, new_loop, Layers, root_of, block_of, plain, with_frames}
+use Rattle.tm_meaning.specs.Calls.{Asked, runs, whole, of_block, cut_to}
 use Rattle.tm_meaning.specs.Meaning.{first_fuel}
 use Rattle.tm_meaning.specs.declared.stream.TemplateId.{TemplateId}
 use Rattle.tm_meaning.specs.declared.stream.StreamId.{StreamId}
@@ -51,11 +51,11 @@ started id t blocks escape fuel context = record {
 
 -- what is put back behind a block, of the world before it
 abbrev pub saved_of : World → Saved
-saved_of w = record { stream = w.stream; block = w.block; escape = w.escape; outer = w.scopes.outer }
+saved_of w = record { stream = w.stream; block = w.block; escape = w.escape; scopes = length w.scopes.frames; outer = w.scopes.outer }
 
--- the world behind a block
+-- the world behind a block, however that ended
 abbrev pub put_back : Saved → World → World
-put_back saved w = record (with_outer saved.outer (pop w)) { stream = saved.stream; block = saved.block; escape = saved.escape }
+put_back saved w = record (cut_to saved.scopes saved.outer w) { stream = saved.stream; block = saved.block; escape = saved.escape }
 
 -- the run of a block's stream, from a world; the world before it was b
 abbrev pub runs_block : StreamId → World → World → Asked

@@ -12,6 +12,8 @@ pub struct Saved {
     pub block: Option<Name>,
     /// The escape.
     pub escape: AutoEscape,
+    /// How many scopes there were.
+    pub scopes: usize,
     /// The depth at which the outermost scope stood.
     pub outer: usize,
 }

@@ -334,10 +334,11 @@ impl<'env> StateData<'env> {
         }
         let running = stream.share()?;
         let block = name.share()?;
+        let scopes = self.height();
         if let Err(error) = self.push_scope(alloc, host.recursion_limit()) {
             return Err(error);
         }
-        let saved = self.run_block(running, block);
+        let saved = self.run_block(running, block, scopes);
         Ok((stream, saved))
     }
 
@@ -527,20 +528,21 @@ impl<'env> StateData<'env> {
         set_in(alloc, &mut self.namespaces, index, name, value)
     }
 
-    /// Lets a block run, and gives what that replaces.
-    fn run_block(&mut self, stream: StreamId, block: Name) -> Saved
-        ensures saved { result ≡ saved_of self.old }
+    /// Lets a block run, and gives what that replaces, with how many scopes there were before its own.
+    fn run_block(&mut self, stream: StreamId, block: Name, scopes: usize) -> Saved
+        ensures saved { result ≡ record (saved_of self.old) { scopes = scopes } }
         ensures runs { self.new ≡ record self.old { stream = stream; block = Some block } }
     {
         Saved {
             stream: mem::replace(&mut self.stream, stream),
             block: mem::replace(&mut self.block, Some(block)),
             escape: self.escape,
+            scopes,
             outer: self.context.outer(),
         }
     }
 
-    /// Leaves the innermost scope, and puts back what a block replaced.
+    /// Leaves the scopes that a block opened, and puts back what it replaced.
     pub fn leave_block(&mut self, saved: Saved)
         ensures { self.new ≡ put_back saved self.old }
     {
@@ -548,10 +550,10 @@ impl<'env> StateData<'env> {
             stream,
             block,
             escape,
+            scopes,
             outer,
         } = saved;
-        self.pop_scope();
-        self.context.set_outer(outer);
+        self.context.cut_to(scopes, outer);
         self.stream = stream;
         self.block = block;
         self.set_escape(escape);

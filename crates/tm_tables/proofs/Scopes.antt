@@ -1,10 +1,13 @@
 -- What the outermost of scopes exports, which is the first to be entered.
 use Rattle.std.proofs.Common.{◌≡◌, ℕ, zero, suc, ◌+◌, ◌<◌, List, [], ◌∷◌, ◌++◌, length, slice_set, get_or, arith, Some, None, slice_get, is_some, true, false, true≢false, reverse, unwrap_or, refl, sym, ap, ◌∙◌}
 use Rattle.std.proofs.lemmas.Grind.{reverse_onto}
-use Rattle.std.proofs.lemmas.List.{length-reverse}
+use Rattle.std.proofs.lemmas.List.{length-reverse, length-drop, reverse-append, take-append-drop}
+use Rattle.std.proofs.Math.Seq.{drop-append_seam}
+use Rattle.std.specs.Prelude.{◌-◌, take, drop}
 use Rattle.tm_values.specs.Val.{Val}
 use Rattle.tm_syntax.specs.Named.{put}
 use Rattle.tm_meaning.specs.World.{Scope, stored_in, without_locals}
+use Rattle.tm_meaning.specs.Calls.{outermost}
 use Rattle.tm_tables.specs.Scopes.{exported_by, exported_of}
 
 exported-behind : (s : Scope) (ss : List Scope) → exported_of (ss ++ s ∷ []) ≡ exported_by s
@@ -53,3 +56,13 @@ cleared-last (t ∷ u ∷ ss) (suc n) s h e =
     let more : length (u ∷ ss) ≡ suc n = omega (arith, h) in
     reverse_onto (slice_set (u ∷ ss) n (record s { locals = [] })) t [] ∙ ap (λ l. l ++ t ∷ []) (cleared-last (u ∷ ss) n s more e)
     ∙ cleared-before (reverse (u ∷ ss)) (t ∷ []) (reverse-long (u ∷ ss) n more) ∙ ap without_locals (sym (reverse_onto (u ∷ ss) t []))
+
+-- ---------------------------------------------------------------- the outermost scopes are the first to be entered
+pub outermost_of : (n : ℕ) (ss : List Scope) → outermost n (reverse ss) ≡ reverse (take n ss)
+outermost_of n ss =
+    let inner = reverse (drop n ss) in
+    let outer = reverse (take n ss) in
+    let whole : reverse ss ≡ inner ++ outer = ap reverse (sym (take-append-drop n ss)) ∙ reverse-append (take n ss) (drop n ss) in
+    let long : length (reverse ss) - n ≡ length inner =
+    ap (λ m. m - n) (length-reverse ss) ∙ sym (length-drop n ss) ∙ sym (length-reverse (drop n ss)) in
+    ap (λ m. drop m (reverse ss)) long ∙ ap (drop (length inner)) whole ∙ drop-append_seam inner outer

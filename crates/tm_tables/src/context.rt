@@ -6,6 +6,7 @@ ghost use Rattle.tm_values.specs.Answer.{OkOrOutOfMemory};
 ghost use Rattle.tm_values.specs.Val.{loop};
 ghost use Rattle.tm_values.specs.declared.error.ErrorKind.TheVariants.{OutOfMemory};
 ghost use Rattle.tm_meaning.specs.World.{plain, loop_scope, marked_loop, depth, context_member, innermost, stored_in, top_mark, without_first, without_locals};
+ghost use Rattle.tm_meaning.specs.Calls.{outermost};
 ghost use Rattle.tm_tables.specs.Found.{IsHeld, IsFoundIn, meant_by};
 ghost use Rattle.tm_tables.specs.Known.{AddsFound, AreFoundIn, AreKnownIn, AreMembers, NamingFails, has_text, is_among};
 ghost use Rattle.tm_tables.specs.Scopes.{one_scope, PushFails, is_exported, exported_by, exported_of};
@@ -283,10 +284,12 @@ impl Context {
         self.frames.len().saturating_add(self.outer)
     }
 
-    /// Lets the outermost scope stand at another depth.
-    pub fn set_outer(&mut self, outer: usize)
-        ensures { self.new ≡ record self.old { outer = outer } }
+    /// Leaves all scopes but so many of the outermost, which stand at a depth from here on.
+    #[tactic(auto, using(crate::proofs::Scopes::outermost_of))]
+    pub fn cut_to(&mut self, count: usize, outer: usize)
+        ensures { self.new ≡ record { frames = outermost count self.old.frames; outer = outer } }
     {
+        self.frames.truncate(count);
         self.outer = outer;
     }
 

@@ -1,8 +1,7 @@
 -- Where a number on top counts more operands than there are, or none, the run is stuck.
 use Rattle.std.proofs.Common.{◌≡◌, ℕ, ◌<◌, List, [], ◌∷◌, length, Option, Some, None, refl, ap}
 use Rattle.tm_values.specs.Val.{Val}
-use Rattle.tm_meaning.specs.World.{World}
-use Rattle.tm_meaning.specs.Machine.{Config, Next, stuck, on_taken, goes}
+use Rattle.tm_meaning.specs.Machine.{Config, stuck, on_taken, goes}
 use Rattle.tm_meaning.specs.Meaning.{list_of_values}
 use Rattle.tm_meaning.specs.Instructions.{on_count, list_on}
 use Rattle.tm_parts.proofs.Operands.{taken_too_many}

@@ -1,9 +1,9 @@
 -- Where the loop stands in a run, and what it answers there.
 use Rattle.std.specs.Global.{Box}
-use Rattle.std.proofs.Common.{◌≡◌, ◌≤◌, ◌+◌, ℕ, List, [], ◌∷◌, length, ◌++◌, take, zero, suc, Option, Result, Ok, Some, None, Bool, true, false, refl, sym, ◌∙◌, ap, subst, append_assoc, arith, inl, inr}
+use Rattle.std.proofs.Common.{◌≡◌, ◌≤◌, ℕ, List, [], ◌∷◌, length, ◌++◌, take, zero, suc, Option, Result, Ok, Some, None, Bool, refl, sym, ◌∙◌, ap, subst, append_assoc, arith, inl, inr}
 use Rattle.std.specs.Io.KnownBytes.{Appends}
 use Rattle.std.proofs.lemmas.List.{append-nil}
-use Rattle.tm_meaning.specs.World.{World, Scope, depth, without_first}
+use Rattle.tm_meaning.specs.World.{World}
 use Rattle.tm_meaning.specs.Calls.{whole, of_block, wrapped}
 use Rattle.tm_meaning.specs.Memory.{is_want_of_memory}
 use Rattle.tm_meaning.specs.declared.wrapping.Wrapping.{Wrapping}
@@ -22,9 +22,8 @@ use Rattle.tm_vm.specs.declared.flow.Flow.{Flow}
 use Rattle.tm_vm.specs.declared.flow.Flow.TheVariants as flow
 use Rattle.tm_vm.specs.Answers.{Did, Enters, OneDeeper, HaltsAs, Comes, SameScopes, Stays, output}
 use Rattle.tm_state.specs.Answers.{Keeps}
-use Rattle.tm_vm.specs.Nested.{Went, EndsIn, Begins, IsWrapped, behind, start_in, base_in}
+use Rattle.tm_vm.specs.Nested.{Went, EndsIn, Begins, IsBack, IsWrapped, behind, start_in, base_in}
 use Rattle.tm_state.specs.State.{saved_of, put_back}
-use Rattle.tm_state.specs.declared.saved.Saved.{Saved}
 use Rattle.tm_vm.proofs.Shift.{behind as after_text, alone, behind_text}
 
 pub kept_same : (w : World) → Keeps w w
@@ -77,8 +76,8 @@ nest_only {p = p} {f = f} {g = g} {t = t} {c = c} {back = back} {e = e} {o = o} 
 behind_is : (e : Entry) (b : World) (r : Activation) (end : End) → e.saved ≡ saved_of b →
     back_to (record { run = r; call = record { callee = whole e.stream; undo = of_block b; wrap = e.wrap }; value = e.value }) end ≡ behind e r end
 behind_is e b r (Finished ks w) saved = sym (ap (λ x. back_with e.value r ks (put_back x w)) saved)
-behind_is e b r (Failed chain w) saved = refl
-behind_is e b r (Stuck w) saved = refl
+behind_is e b r (Failed chain w) saved = sym (ap (λ x. Over (Failed (wrapped e.wrap chain) (put_back x w))) saved)
+behind_is e b r (Stuck w) saved = sym (ap (λ x. Over (Stuck (put_back x w))) saved)
 
 -- a nested run that is done, and what follows it
 pub stands_behind : {p : Program} {f : Base} {a c : Config} {told now : Option (List ℕ)} (entry : Entry) (mid d : Config) (at new : Option (List ℕ)) → Stands p f a told now c
@@ -188,30 +187,9 @@ whole_at {told = told} {now = now} new s same = λ o r.
 pub at_base : (p : Program) (old new : Config) (told now : Option (List ℕ)) (r : Result Flow Halt) (f g : Base) → f ≡ g → Did r told now new (step p f old) → Did r told now new (step p g old)
 at_base p old new told now r f g e did = subst (λ x. Did r told now new (step p x old)) e did
 
-short : {A : Type 0} (xs : List A) (n : ℕ) → length xs ≡ n + 1 → length (without_first xs) ≡ n
-short [] n e = absurd (omega (arith, e))
-short (x ∷ xs) n e = omega (arith, e)
-
-abbrev world_in : Next → World
-world_in (More t c) = c.world
-world_in (Over (Finished ks w)) = w
-world_in (Over (Failed chain w)) = w
-world_in (Over (Stuck w)) = w
-world_in (Nest f c b) = c.world
-
-back_world : (value : Bool) (r : Activation) (ks : List Capture) (w : World) (d : Config) → back_with value r ks w ≡ More [] d → d.world ≡ w
-back_world false r ks w d e = sym (ap world_in e)
-back_world true r [] w d e = absurd cc
-back_world true r (k ∷ ks) w d e = sym (ap world_in e)
-
 -- behind a nested run there are as many scopes as before it, and they stand where they stood
-pub scopes_behind : {p : Program} {e : Entry} {mid d : Config} {told now : Option (List ℕ)} (limit : ℕ) (old : World) → OneDeeper limit e old mid.world
-    → Went p e mid d told now → SameScopes old d.world
-scopes_behind {e = e} {mid = mid} {d = d} limit old deep went =
-    let back = back_world e.value mid.run went.captures (put_back e.saved went.world) d went.goes in (
-      ap (λ (w : World). length w.scopes.frames) back ∙ short went.world.scopes.frames (length old.scopes.frames) (went.closed ∙ deep.0),
-      ap (λ (w : World). w.scopes.outer) back ∙ deep.2,
-    )
+pub scopes_behind : (limit : ℕ) (e : Entry) (old mid new : World) → OneDeeper limit e old mid → IsBack e.saved new → SameScopes old new
+scopes_behind limit e old mid new deep back = (back.0 ∙ deep.2, back.1 ∙ deep.3)
 
 -- behind a step of a run whose base stood over so many scopes
 pub above_base : (heard : Bool) (ks : List Capture) (first : World) (f : Base) (old new : World) → f ≡ base_of heard ks first → length first.scopes.frames ≤ length old.scopes.frames
@@ -228,32 +206,6 @@ unboxed {n = n} b e c told now same did = (subst (λ x. Enters x c n) (sym same)
 pub deeper : (limit : ℕ) (b : Box Entry) (e : Entry) (old new : World) → e ≡ b.value → OneDeeper limit b.value old new → OneDeeper limit e old new
 deeper limit b e old new same h = subst (λ x. OneDeeper limit x old new) (sym same) h
 
--- ---------------------------------------------------------------- behind a nested run
--- a run that was done, and what follows for the one that waited over the same captures and world
-pub went : (p : Program) (e : Entry) (a begun m d : Config) (told now : Option (List ℕ)) → begun ≡ start_in e a
-    → Comes p (base_of e.heard begun.captures begun.world) begun told now (Finished m.captures m.world)
-    → SameScopes begun.world m.world
-    → behind e a.run (Finished m.captures m.world) ≡ More [] d → Went p e a d told now
-went p e a begun m d told now first comes same goes =
-    let from = subst (λ (c : Config). Comes p (base_of e.heard c.captures c.world) c told now (Finished m.captures m.world)) first comes in
-    record {
-      text = from.0;
-      captures = m.captures;
-      world = m.world;
-      appended = from.1;
-      reaches = from.2;
-      closed = same.0 ∙ ap (λ (c : Config). length c.world.scopes.frames) first;
-      goes = goes;
-    }
-
--- behind what was put back, the scopes lie at most one less deep
-pub put_back_deep : (old w : World) (saved : Saved) → saved.outer ≡ old.scopes.outer → SameScopes old w → depth old.scopes ≤ depth (put_back saved w).scopes + 1
-put_back_deep old w saved outer same = by_frames w.scopes.frames same.0
-  where
-    by_frames : (xs : List Scope) → length xs ≡ length old.scopes.frames → depth old.scopes ≤ length (without_first xs) + saved.outer + 1
-    by_frames [] e = omega (arith, e, outer)
-    by_frames (x ∷ xs) e = omega (arith, e, outer)
-
 -- ---------------------------------------------------------------- wraps
 want_wrapped : (wrap : Option Wrapping) (chain : List ErrorKind) → is_want_of_memory (wrapped wrap chain) ≡ is_want_of_memory chain
 want_wrapped None chain = refl
@@ -264,15 +216,17 @@ want_wrapped (Some wrapping.BadInclude) (k ∷ ks) = refl
 
 -- the halt of a nested run, as it is told
 wrapped_as : (p : Program) (e : Entry) (old : Config) (told now : Option (List ℕ)) (why tells : Halt) (w : World) → IsWrapped e.wrap why tells
-    → HaltsAs why w (Comes p (base_in e old) (start_in e old) told now) → HaltsAs tells w (EndsIn p e old told now)
-wrapped_as p e old told now halt.Writer tells w is h = subst (λ x. HaltsAs x w (EndsIn p e old told now)) (sym is) tt
-wrapped_as p e old told now halt.Stuck tells w is h = subst (λ x. HaltsAs x w (EndsIn p e old told now)) (sym is) (Stuck w, h, refl)
+    → HaltsAs why w (Comes p (base_in e old) (start_in e old) told now) → HaltsAs tells (put_back e.saved w) (EndsIn p e old told now)
+wrapped_as p e old told now halt.Writer tells w is h = subst (λ x. HaltsAs x (put_back e.saved w) (EndsIn p e old told now)) (sym is) tt
+wrapped_as p e old told now halt.Stuck tells w is h =
+    subst (λ x. HaltsAs x (put_back e.saved w) (EndsIn p e old told now)) (sym is) (Stuck w, h, refl)
 wrapped_as p e old told now (halt.Fault chain) tells w (inl is) h =
-    subst (λ x. HaltsAs x w (EndsIn p e old told now)) (sym is) (λ own. (Failed chain w, h (sym (want_wrapped e.wrap chain) ∙ own), refl))
+    subst (λ x. HaltsAs x (put_back e.saved w) (EndsIn p e old told now)) (sym is)
+    (λ own. (Failed chain w, h (sym (want_wrapped e.wrap chain) ∙ own), refl))
 wrapped_as p e old told now (halt.Fault chain) tells w (inr is) h =
-    subst (λ x. HaltsAs x w (EndsIn p e old told now)) (sym is) (λ own. absurd (cc own))
+    subst (λ x. HaltsAs x (put_back e.saved w) (EndsIn p e old told now)) (sym is) (λ own. absurd (cc own))
 
-pub wrapped_ends : (p : Program) (e : Entry) (old begun ran left : Config) (told now : Option (List ℕ)) (why tells : Halt) → begun ≡ start_in e old → left.world ≡ ran.world
+pub wrapped_ends : (p : Program) (e : Entry) (old begun ran left : Config) (told now : Option (List ℕ)) (why tells : Halt) → begun ≡ start_in e old → left.world ≡ put_back e.saved ran.world
     → IsWrapped e.wrap why tells → HaltsAs why ran.world (Comes p (base_of e.heard begun.captures begun.world) begun told now) → HaltsAs tells left.world (EndsIn p e old told now)
 wrapped_ends p e old begun ran left told now why tells begins same is h =
     subst (λ w. HaltsAs tells w (EndsIn p e old told now)) (sym same)

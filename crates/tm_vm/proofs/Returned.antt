@@ -2,7 +2,7 @@
 use Rattle.std.proofs.Common.{◌≡◌, List, [], ◌∷◌, Option, None, refl, sym, ap, ◌∙◌, true}
 use Rattle.tm_meaning.specs.World.{captured_text}
 use Rattle.tm_meaning.specs.declared.stream.TemplateId.{TemplateId}
-use Rattle.tm_meaning.specs.Machine.{Return, Capture, Config, Next, More, back_with, pushed}
+use Rattle.tm_meaning.specs.Machine.{Return, Capture, Config, More, back_with, pushed}
 use Rattle.tm_meaning.specs.Instructions.{with_text, returns}
 
 text_on : (parent : Option TemplateId) (ks : List Capture) (c : Config) → parent ≡ c.run.parent → with_text parent ks c ≡ back_with true c.run ks c.world

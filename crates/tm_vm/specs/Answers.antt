@@ -2,9 +2,8 @@
 use Rattle.std.specs.Prelude.{◌≡◌, ◌+◌, ◌<◌, ◌≤◌, ◌^◌, ◌-◌, ◌*◌, ℕ, List, [], ◌∷◌, length, Option, None, Some, Result, Ok, Err, Bool, true, false}
 use Rattle.std.specs.Io.KnownBytes.{Appends}
 use Rattle.tm_meaning.specs.Memory.{is_want_of_memory}
-use Rattle.tm_values.specs.declared.error.ErrorKind.{ErrorKind}
 use Rattle.tm_syntax.specs.declared.instruction.Instruction.{Instruction}
-use Rattle.tm_meaning.specs.World.{World, Host, Res, Good, Bad, depth}
+use Rattle.tm_meaning.specs.World.{World, Host, depth}
 use Rattle.tm_meaning.specs.Calls.{whole, of_block}
 use Rattle.tm_meaning.specs.Machine.{Return, Activation, Capture, Config, End, Finished, Failed, Stuck, Next, More, Over, Nest, Program, base_of, start, recursion, place_of_loop}
 use Rattle.tm_state.specs.declared.calls.Recursion.{Recursion}
@@ -77,10 +76,11 @@ NoFewer old new = (length old.scopes.frames ≤ length new.scopes.frames) × (ne
 abbrev pub Stays : Base → World → World → Type 0
 Stays f old new = (f.scopes ≤ length old.scopes.frames → f.scopes ≤ length new.scopes.frames) × (new.scopes.outer ≡ old.scopes.outer)
 
--- There is a scope more, within the limit, for a run that is needed first, behind which they stand where they stood.
+-- There is a scope more, within the limit, for a run that is needed first. What it saves says how many there were, and where they stood.
 abbrev pub OneDeeper : ℕ → Entry → World → World → Type 0
 OneDeeper limit e old new =
-    (length new.scopes.frames ≡ length old.scopes.frames + 1) × (new.scopes.outer ≡ old.scopes.outer) × (e.saved.outer ≡ old.scopes.outer) × (depth new.scopes ≤ limit)
+    (length new.scopes.frames ≡ length old.scopes.frames + 1) × (new.scopes.outer ≡ old.scopes.outer) ×
+    (e.saved.scopes ≡ length old.scopes.frames) × (e.saved.outer ≡ old.scopes.outer) × (depth new.scopes ≤ limit)
 
 -- How the scopes lie behind a step: none of before is left; there is one more, within the limit, where a run of its own is needed; and a run that is over has closed what it opened.
 abbrev pub Depths : ℕ → Base → Result Flow Halt → World → World → Type 0

@@ -3,7 +3,6 @@ use Rattle.std.specs.Prelude.{◌≡◌, ◌⊎◌, ℕ, List, [], ◌∷◌, le
 use Rattle.std.specs.Io.KnownBytes.{Appends}
 use Rattle.tm_meaning.specs.World.{World}
 use Rattle.tm_meaning.specs.Memory.{is_want_of_memory}
-use Rattle.tm_values.specs.declared.error.ErrorKind.{ErrorKind}
 use Rattle.tm_values.specs.declared.error.ErrorKind.TheVariants.{OutOfMemory}
 use Rattle.tm_meaning.specs.Calls.{whole, wrapped}
 use Rattle.tm_meaning.specs.declared.wrapping.Wrapping.{Wrapping}
@@ -15,6 +14,7 @@ use Rattle.tm_parts.specs.declared.halt.Halt.{Halt}
 use Rattle.tm_parts.specs.declared.halt.Halt.TheVariants as halt
 use Rattle.tm_vm.specs.Answers.{Comes, HaltsAs}
 use Rattle.tm_state.specs.State.{put_back}
+use Rattle.tm_state.specs.declared.saved.Saved.{Saved}
 use Rattle.tm_vm.specs.declared.flow.Entry.{Entry}
 
 -- what the run stands on, and where it starts, where the configuration is c
@@ -24,11 +24,11 @@ base_in e c = base_of e.heard c.captures c.world
 abbrev pub start_in : Entry → Config → Config
 start_in e c = start (whole e.stream) c.captures c.world
 
--- What its end leads to, for the run that waits: as it was, or with the captured text on top.
+-- What its end leads to, behind what is put back, for the run that waits: as it was, or with the captured text on top; or that ends so too.
 abbrev pub behind : Entry → Activation → End → Next
 behind e r (Finished ks w) = back_with e.value r ks (put_back e.saved w)
-behind e r (Failed chain w) = Over (Failed (wrapped e.wrap chain) w)
-behind e r (Stuck w) = stuck w
+behind e r (Failed chain w) = Over (Failed (wrapped e.wrap chain) (put_back e.saved w))
+behind e r (Stuck w) = stuck (put_back e.saved w)
 
 -- The run was done, the writer got its text, and the run that waited goes on.
 pub record Went (p : Program) (e : Entry) (old new : Config) (told now : Option (List ℕ)) : Type 0 where
@@ -37,8 +37,11 @@ pub record Went (p : Program) (e : Entry) (old new : Config) (told now : Option 
   pub world : World
   pub appended : Appends told now text
   pub reaches : Reaches p (base_in e old) [] (start_in e old) (final text (Finished captures world))
-  pub closed : length world.scopes.frames ≡ length old.world.scopes.frames
   pub goes : behind e old.run (Finished captures world) ≡ More [] new
+
+-- There are as many scopes as were saved, and they stand where those stood.
+abbrev pub IsBack : Saved → World → Type 0
+IsBack saved w = (length w.scopes.frames ≡ saved.scopes) × (w.scopes.outer ≡ saved.outer)
 
 -- The run came to an end that leads to the end of the run that waits.
 abbrev pub EndsIn : Program → Entry → Config → Option (List ℕ) → Option (List ℕ) → End → Type 0

@@ -1,13 +1,12 @@
 //! The machine: a run with its operands, the captures and the state, and the loop.
-ghost use Rattle.std.specs.Prelude.{◌≡◌, ◌+◌, ◌≤◌, OnOk, OnErr};
-ghost use Rattle.tm_meaning.specs.World.{depth};
+ghost use Rattle.std.specs.Prelude.{◌≡◌, ◌+◌, length, OnOk};
 ghost use Rattle.tm_meaning.specs.Calls.{whole};
 ghost use Rattle.tm_meaning.specs.Machine.{audible, base_of, start};
 ghost use Rattle.tm_parts.specs.Halts.{faults_after};
-ghost use Rattle.tm_vm.specs.Answers.{program, EndsAs, Comes, SameScopes};
+ghost use Rattle.tm_vm.specs.Answers.{program, EndsAs, Comes, SameScopes, NoFewer};
 ghost use Rattle.tm_state.specs.Answers.{Keeps};
 ghost use Rattle.tm_state.specs.State.{put_back};
-ghost use Rattle.tm_vm.specs.Nested.{Ran, Begins, IsWrapped, IsCaptured, base_in, start_in};
+ghost use Rattle.tm_vm.specs.Nested.{Ran, Begins, IsBack, IsWrapped, IsCaptured, base_in, start_in};
 
 use crate::flow::{Entry, Flow};
 use crate::run::Run;
@@ -114,7 +113,8 @@ impl<'env> Machine<'env> {
     }
 
     // ------------------------------------------------------------ runs
-    /// Runs a run that is needed first, over the same captures and state, and puts back behind it what it replaced; the run that waits goes on.
+    /// Runs a run that is needed first, over the same captures and state; the run that waits goes on.
+    /// However it ended, what it replaced is put back behind it.
     #[cycle(machine)]
     fn run_nested<H: Host, W: Sink>(
         &mut self,
@@ -123,7 +123,8 @@ impl<'env> Machine<'env> {
         entry: Entry,
         writer: &mut W,
     ) -> Result<(), Halt>
-        requires { entry.saved.outer ≡ self.old.world.scopes.outer }
+        requires scopes { entry.saved.scopes + 1 ≡ length self.old.world.scopes.frames }
+        requires outer { entry.saved.outer ≡ self.old.world.scopes.outer }
         ensures ran { Ran (program (H.meaning host.now) (H.code host.now)) entry self.old self.new
             (W.told writer.old) (W.told writer.new) result }
         ensures beginning { Begins (program (H.meaning host.now) (H.code host.now))
@@ -131,8 +132,7 @@ impl<'env> Machine<'env> {
             (W.told writer.old) (W.told writer.new) }
         ensures faults { W.faults writer.new ≡ faults_after result (W.faults writer.old) }
         ensures kept { Keeps self.old.world self.new.world }
-        ensures deep { OnErr result
-            (depth self.old.world.scopes ≤ depth self.new.world.scopes + 1) }
+        ensures back { IsBack entry.saved self.new.world }
         ensures same_stream { self.new.run.stream ≡ self.old.run.stream }
         ensures same_loops { self.new.run.loops ≡ self.old.run.loops }
     {
@@ -146,10 +146,10 @@ impl<'env> Machine<'env> {
         let waiting = self.begin(alloc, stream);
         let result = self.run(alloc, host, heard, writer);
         self.resume(waiting);
+        self.put_back(saved);
         if let Err(halt) = result {
             return Err(wrapped(alloc, wrap, halt));
         }
-        self.put_back(saved);
         if value {
             return self.push_captured(alloc);
         }
@@ -191,7 +191,7 @@ impl<'env> Machine<'env> {
         self.run = waiting;
     }
 
-    /// Puts back in the state what a block replaced, and leaves its scope.
+    /// Puts back in the state what a block replaced, and leaves the scopes that it opened.
     fn put_back(&mut self, saved: Saved)
         ensures { self.new ≡ record self.old { world = put_back saved self.old.world } }
     {
@@ -223,7 +223,7 @@ impl<'env> Machine<'env> {
             (W.told writer.old) (W.told writer.new) }
         ensures faults { W.faults writer.new ≡ faults_after result (W.faults writer.old) }
         ensures kept { Keeps self.old.world self.new.world }
-        ensures no_shallower { depth self.old.world.scopes ≤ depth self.new.world.scopes }
+        ensures no_fewer { NoFewer self.old.world self.new.world }
         ensures closed { OnOk result (SameScopes self.old.world self.new.world) }
     {
         let base = self.base(heard);

@@ -1,7 +1,7 @@
 use Rattle.std.proofs.Common.{◌≡◌, length, Ok, Err, refl, sym, ap, ◌∙◌, arith}
 use Rattle.tm_meaning.specs.declared.base.Base.{Base}
 use Rattle.tm_meaning.specs.Machine.{Config, base_of}
-use Rattle.tm_meaning.specs.World.{depth}
+use Rattle.tm_state.specs.State.{put_back}
 use Rattle.tm_vm.specs.Answers.{program}
 use Rattle.tm_vm.specs.declared.flow.Flow.TheVariants as flow
 use Rattle.tm_vm.proofs.Loop.{at_base, kept_same, kept_then, stands_first, stands_next, stands_behind, beginning_at, beginning_in, ended_at, ended_in, done_at, whole_at, wrapped_ends, scopes_behind, above_base, unboxed, deeper}
@@ -52,7 +52,9 @@ run-loop-entry-preserved g t c =
     let did = at_base p c.loop-entry.self c.step.new.self now at (Ok (flow.Enter c.in-Ok-Enter.entry)) c.base-base.result (base_of c.args.heard a.captures a.world) c.base-base.ensures step.did in
     let enters = unboxed c.in-Ok-Enter.entry e c.step.new.self now at c.into_inner.ensures did in
     let went = c.in_default.ensures.ran in
-    let same = scopes_behind limit c.loop-entry.self.world (deeper limit c.in-Ok-Enter.entry e c.loop-entry.self.world c.step.new.self.world c.into_inner.ensures step.depths) went in
+    let deep = deeper limit c.in-Ok-Enter.entry e c.loop-entry.self.world c.step.new.self.world c.into_inner.ensures step.depths in
+    let behind = c.run_nested.new.self.world in
+    let same = scopes_behind limit e c.loop-entry.self.world c.step.new.self.world behind deep c.in_default.ensures.back in
     record {
       faults = c.in_default.ensures.faults ∙ step.counted ∙ c.loop-entry.invariant.faults;
       kept = kept_then c.loop-entry.invariant.kept (kept_then step.kept c.in_default.ensures.kept);
@@ -137,5 +139,6 @@ run_nested-returns-in-Err-clause-ran g t c =
     let p = program (g.H.Host.meaning c.args.host.now) (g.H.Host.code c.args.host.now) in
     let now = g.W.Sink.told c.args.writer.now in
     let new = g.W.Sink.told c.run-result.new.writer in
-    let same = ap (λ (x : Config). x.world) c.resume.ensures in
-    wrapped_ends p c.args.entry c.args.self.now c.begin-waiting.new.self c.run-result.new.self c.resume.new.self now new c.in-Err.halt c.wrapped.result c.begin-waiting.ensures.begins same c.wrapped.ensures c.in-Err.ensures.ended
+    let resumed = ap (λ (x : Config). x.world) c.resume.ensures in
+    let same = ap (λ (x : Config). x.world) c.put_back.ensures ∙ ap (put_back c.args.entry.saved) resumed in
+    wrapped_ends p c.args.entry c.args.self.now c.begin-waiting.new.self c.run-result.new.self c.put_back.new.self now new c.in-Err.halt c.wrapped.result c.begin-waiting.ensures.begins same c.wrapped.ensures c.in-Err.ensures.ended
