@@ -1,7 +1,15 @@
 #!/usr/bin/env bash
-# Renders each example by ./mj, with the JSON file and the names that it has (.json, .names), and compares the output with its .expected file.
+# Renders each example by ./mj, with the JSON file and the names that it has (.json, .names), and compares the output with its .expected
+# file. The code in README.md must be that of the test in crates/render_tests/src/readme.rt, blanks aside.
 set -euo pipefail
 cd "$(dirname "${BASH_SOURCE[0]}")"
+
+shown=$(sed -n '/^```rust$/,/^```$/p' ../README.md | sed '1d;$d' | tr -d '[:space:]')
+tested=$(sed -n '/example begins here/,/example ends here/p' ../crates/render_tests/src/readme.rt | sed '1d;$d' | tr -d '[:space:]')
+if [[ -z $shown || $shown != "$tested" ]]; then
+    echo "the code in README.md isn't that of crates/render_tests/src/readme.rt" >&2
+    exit 1
+fi
 
 passed=0
 failed=0
@@ -23,5 +31,5 @@ for input in hello.txt mail.txt server.conf page.html notice.txt table.html menu
         failed=$((failed + 1))
     fi
 done
-echo "$passed passed, $failed failed"
+echo "examples: $passed rendered as expected, $failed not"
 ((failed == 0))

@@ -8,6 +8,8 @@ mod loops;
 #[cfg(test)]
 mod party;
 #[cfg(test)]
+mod readme;
+#[cfg(test)]
 mod renders;
 #[cfg(test)]
 mod rows;
