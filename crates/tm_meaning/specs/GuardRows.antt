@@ -89,9 +89,11 @@ escape_seen_under e =
     with_functions (seeing escape_seen) (seeing escape_seen)
     (page (one (AutoEscape' e (tt ∷ []) (statement (EmitExpr (call_none (codes "f"))) no_statement))) nothing)
 
--- {{ l.changed() }}, where l is a loop of another state
+-- {% for x in [1] %}{{ l.changed() }}{% endfor %}, where l is a loop of another state
 abbrev pub foreign_changed : Page
-foreign_changed = page (one (EmitExpr (method_none (named (codes "l")) (codes "changed")))) (with_value (codes "l") (loop 5 0))
+foreign_changed =
+    page (one (for_x (alone_in_list (literal_number 1)) (EmitExpr (method_none (named (codes "l")) (codes "changed"))) no_else))
+    (with_value (codes "l") (loop 5 0))
 
 -- {% for x in [[]] recursive %}{% for y in [1] %}{{ loop(x) }}{% endfor %}{% endfor %}
 abbrev pub plain_inside_called : Page
