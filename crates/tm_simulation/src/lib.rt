@@ -15,7 +15,7 @@ ghost use Rattle.tm_meaning.specs.Steps.{final};
 ghost use Rattle.tm_meaning.specs.Compiled.{IsCompiled};
 ghost use Rattle.tm_simulation.specs.Kept.{Stays, Grows, PutsBack};
 ghost use Rattle.tm_simulation.specs.Chains.{Arises, IfAny, HasRaised, StatesOnly};
-ghost use Rattle.tm_simulation.specs.Chains.{StatesNoMemory, ends_in_memory, MayWrap, HasNoForeign};
+ghost use Rattle.tm_simulation.specs.Chains.{StatesNoMemory, ends_in_memory, MayWrap, is_foreign, HasNoForeign};
 ghost use Rattle.tm_simulation.specs.Reached.{RunsTo, Renders, HasLevels};
 ghost use Rattle.tm_simulation.specs.Reached.{text_in, final_in, final_of};
 
@@ -116,6 +116,8 @@ pub fn want_of_memory_ends_in_memory()
 /// In a render's fault stand SyntaxError, InvalidDelimiter, WriteFailure and BadStream only where an object of the caller states a fault
 /// with one of them.
 pub fn foreign_kinds_are_stated()
-    ensures { (host : Host) (trees : Trees) (w : World) → StatesOnly HasNoForeign host →
+    ensures stated { (host : Host) (trees : Trees) (w : World) → StatesOnly HasNoForeign host →
         HasNoForeign (chain_of (rendered host trees w)) }
+    ensures foreign { (is_foreign kinds.SyntaxError ≡ true) × (is_foreign kinds.InvalidDelimiter ≡ true)
+        × (is_foreign kinds.WriteFailure ≡ true) × (is_foreign kinds.BadStream ≡ true) }
 {}
