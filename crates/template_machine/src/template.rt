@@ -73,7 +73,7 @@ impl<'env, 'source, O: Drop> TemplateOf<'env, 'source, O> {
         environment: &'env EnvironmentOf<'source, O>,
         held: Held<'env, 'source>,
     ) -> TemplateOf<'env, 'source, O>
-        requires { IsHeldOf environment.entry.now.templates held.entry }
+        requires { IsHeldOf environment.now.templates held }
         ensures { result ≡ record {
           environment = environment.entry.now;
           id = held_id held.entry;

@@ -1,9 +1,11 @@
-use Rattle.std.proofs.Common.{List, Result, Err, ap, sym, ◌∙◌}
+use Rattle.std.proofs.Common.{List, Result, Err, refl, ap, sym, ◌∙◌}
 use Rattle.tm_meaning.specs.World.{World, root_of}
 use Rattle.tm_meaning.specs.Calls.{whole}
 use Rattle.tm_meaning.specs.Machine.{Capture, start}
 use Rattle.tm_parts.specs.declared.halt.Halt.{Halt}
-use Rattle.template_machine.specs.Renders.{meaning_from, Ran}
+use Rattle.tm_meaning.specs.Memory.{is_want_of_memory}
+use Rattle.tm_output.specs.Pieces.{beginning_nothing}
+use Rattle.template_machine.specs.Renders.{meaning_from, Ran, run_by_memory}
 use Rattle.template_machine.proofs.Answered.{passed}
 use Rattle.template_machine.proofs.Runs.{over_done, over_halted}
 use Rattle.template_machine.proofs.template.TemplateOf.run_over.Goals as goal
@@ -27,3 +29,7 @@ returns-in_err-run g c =
     passed c.from_residual.result Ends why c.from_residual.ensures.1
     (over_halted g.O.Parties.functions c.args.self.now c.rendering.result c.rendering.ensures c.args.captures c.run.new.self.captures c.args.state c.run.new.self.world
     told now faults count c.new-machine.result begins c.requires.fresh why c.in_err-run.ensures.ended c.in_err-run.ensures.beginning c.in_err-run.ensures.faults)
+
+-- no memory for the template's name
+pub returns-in-Err : goal.returns-in-Err
+returns-in-Err g c = run_by_memory c.in-Err.error refl (ap is_want_of_memory c.in-Err.ensures.memory) (beginning_nothing _ _) refl
