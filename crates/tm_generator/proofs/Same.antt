@@ -242,9 +242,9 @@ loop_is l pc recursive t round after body rest f g long =
     let p2 : behind ≡ end = omega (arith, beyond_is k b round, ap (λ x. length x) re, long k start, p1) in
     let whole : ℕ → List Instruction = λ e. i.PushLoop (for_flags recursive) ∷ i.Iterate e ∷ (tc ++ (at_start e start ++ i.Jump again ∷ rest e)) in
     ap (λ z. i.PushLoop (for_flags recursive) ∷ i.Iterate behind ∷ z) (
-      append_assoc tn (assemble k b round) (i.Jump again ∷ assemble l behind after)
-      ∙ ap (λ x. x ++ (assemble k b round ++ i.Jump again ∷ assemble l behind after)) te
-      ∙ ap (λ x. tc ++ (x ++ i.Jump again ∷ assemble l behind after)) re ∙ ap (λ x. tc ++ (at_start behind start ++ i.Jump again ∷ x)) (g behind)
+    append_assoc tn (assemble k b round) (i.Jump again ∷ assemble l behind after)
+    ∙ ap (λ x. x ++ (assemble k b round ++ i.Jump again ∷ assemble l behind after)) te
+    ∙ ap (λ x. tc ++ (x ++ i.Jump again ∷ assemble l behind after)) re ∙ ap (λ x. tc ++ (at_start behind start ++ i.Jump again ∷ x)) (g behind)
     )
     ∙ ap whole p2
 

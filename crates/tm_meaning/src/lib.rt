@@ -22,12 +22,11 @@ mod wrapping;
 pub use base::Base;
 pub use function::GlobalFunction;
 pub use guards::{
-    block_guards, call_guards, emission_guards, fuel_guards, look_up_guards, loop_guards, view_guards,
+    block_guards, call_guards, emission_guards, fuel_guards, look_up_guards, loop_guards,
+    view_guards,
 };
 pub use mark::LoopMark;
-pub use operators::{
-    arithmetic_rows, comparison_rows, item_rows, membership_rows, slice_rows,
-};
+pub use operators::{arithmetic_rows, comparison_rows, item_rows, membership_rows, slice_rows};
 pub use reply::Reply;
 pub use rows::{
     attribute_rows, block_rows, call_rows, capture_rows, chain_rows, condition_rows,

@@ -68,7 +68,6 @@ binary_loopless binaries.FloorDivide = (refl, tt)
 binary_loopless binaries.Remainder = (refl, tt)
 binary_loopless binaries.Power = (refl, tt)
 
-
 mutual
   pub expr_loopless : (e : Expr) → Loopless (expr_code e)
   expr_loopless (Var x) = (refl, tt)

@@ -15,9 +15,10 @@ layers_found t x bs = lookup-map_values (λ _. alone t) (is_at (name_cmp x)) bs
 -- the stream of a block that has code
 pub is_block : (t : TemplateId) (s : StreamId) (x : List ℕ) (bs : Named (List Instruction)) (w : World) → is_some (find x bs) ≡ true → s ≡ block_of t x → layers_of t bs ≡ w.blocks → IsBlockOf s x w
 is_block t s x bs w known is blocks =
-    let template : s.template ≡ t = ap (λ (z : StreamId). z.template) is in
-    (is ∙ ap (λ z. block_of z x) (sym template),
-    ap (find x) (sym blocks) ∙ layers_found t x bs ∙ has_code (find x bs) known ∙ ap (λ z. Some (alone z)) (sym template))
+    let template : s.template ≡ t = ap (λ (z : StreamId). z.template) is in (
+      is ∙ ap (λ z. block_of z x) (sym template),
+      ap (find x) (sym blocks) ∙ layers_found t x bs ∙ has_code (find x bs) known ∙ ap (λ z. Some (alone z)) (sym template),
+    )
   where
     has_code : (found : Option (List Instruction)) → is_some found ≡ true → option_map (λ _. alone t) found ≡ Some (alone t)
     has_code None known = absurd cc
@@ -30,4 +31,3 @@ no_code t x bs w none blocks = ap (find x) (sym blocks) ∙ layers_found t x bs 
 pub lent : {A : Type 0} {L : Type 0} (now : L → A) (r : Option L) (found : Option A) → MatchOption r (found ≡ None) (λ x. found ≡ Some (now x)) → is_some found ≡ is_some r
 lent now None found at = ap is_some at
 lent now (Some x) found at = ap is_some at
-

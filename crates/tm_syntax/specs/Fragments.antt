@@ -7,7 +7,6 @@ use Rattle.tm_syntax.specs.declared.jump.JumpKind.{JumpKind}
 use Rattle.tm_syntax.specs.declared.jump.JumpKind.TheVariants as kinds
 
 infixr 60 ◌⨾◌
-
 pub data Fragment : Type 0 where
   -- instructions that neither jump nor begin a loop
   straight : List Instruction → Fragment
