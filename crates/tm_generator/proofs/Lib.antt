@@ -1,11 +1,2 @@
-pub mod Long
-pub mod Same
-pub mod Rows
-pub mod Generated
-pub mod Links
-pub mod Conditions
-pub mod Assigned
-pub mod Exits
-pub mod Statements
-pub mod Rounds
-pub mod Filtered
+pub mod Settled
+pub mod Assembled

@@ -1,4 +1,1 @@
-pub mod Placed
-pub mod Jumps
-pub mod Exits
-pub mod Filters
+pub mod Building

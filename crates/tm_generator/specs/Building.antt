@@ -1,0 +1,114 @@
+-- What a builder does for code. Places and jumps that lead nowhere yet stand here alone.
+use Rattle.std.specs.Prelude.{ℕ, ◌+◌, List, [], ◌∷◌, ◌++◌, length, slice_set}
+use Rattle.tm_syntax.specs.declared.instruction.LoopFlags.{LoopFlags}
+use Rattle.tm_syntax.specs.declared.instruction.Instruction.{Instruction}
+use Rattle.tm_syntax.specs.declared.instruction.Instruction.TheVariants as i
+use Rattle.tm_syntax.specs.declared.jump.JumpKind.{JumpKind}
+use Rattle.tm_syntax.specs.Fragments.{Fragment, straight, ◌⨾◌, jump_out, bounded, fork, looped, break_loop, next_round, aside, jump}
+use Rattle.tm_generator.specs.declared.builder.Out.{Out}
+use Rattle.tm_generator.specs.declared.builder.Exit.{Exit}
+use Rattle.tm_generator.specs.declared.builder.Exit.TheVariants.{Leave, Next}
+use Rattle.tm_generator.specs.declared.builder.Outer.{Outer}
+pub use Rattle.tm_generator.specs.declared.builder.Builder.{Builder}
+
+-- one instruction more
+unfoldable pub with_one : Instruction → Builder → Builder
+with_one x b = record b { code = b.code ++ x ∷ [] }
+
+abbrev pub with_all : List Instruction → Builder → Builder
+with_all [] b = b
+with_all (x ∷ is) b = with_all is (with_one x b)
+
+-- a jump out, which leads nowhere yet
+unfoldable pub jumped : JumpKind → Builder → Builder
+jumped j b = record b { code = b.code ++ jump j 0 ∷ []; outs = b.outs ++ (record { kind = j; place = length b.code }) ∷ [] }
+
+-- and a jump to the end of the innermost loop, or to its next round
+unfoldable pub left : Builder → Builder
+left b = record b { code = b.code ++ i.Jump 0 ∷ []; exits = b.exits ++ Leave (length b.code) ∷ [] }
+
+unfoldable pub continued : Builder → Builder
+continued b = record b { code = b.code ++ i.Jump 0 ∷ []; exits = b.exits ++ Next (length b.code) ∷ [] }
+
+-- ---------------------------------------------------------------- jumps that are set
+-- code in which each of these has become another instruction
+abbrev pub patched : {E : Type 0} → (E → ℕ) → (E → Instruction) → List Instruction → List E → List Instruction
+patched place made code [] = code
+patched place made code (e ∷ es) = patched place made (slice_set code (place e) (made e)) es
+
+-- the jumps out lead to a place
+abbrev pub out_place : Out → ℕ
+out_place out = out.place
+
+abbrev pub out_jump : ℕ → Out → Instruction
+out_jump to out = jump out.kind to
+
+abbrev pub settled : List Instruction → List Out → ℕ → List Instruction
+settled code outs to = patched out_place (out_jump to) code outs
+
+-- and those out of a loop's round to where the next item is asked for, and after the rounds
+abbrev pub exit_place : Exit → ℕ
+exit_place (Leave place) = place
+exit_place (Next place) = place
+
+abbrev pub exit_jump : ℕ → ℕ → Exit → Instruction
+exit_jump again after (Leave place) = i.Jump after
+exit_jump again after (Next place) = i.Jump again
+
+abbrev pub led : List Instruction → List Exit → ℕ → ℕ → List Instruction
+led code exits again after = patched exit_place (exit_jump again after) code exits
+
+-- ---------------------------------------------------------------- parts
+-- a part begins out of which jumps lead, and ends: they lead to its end
+unfoldable pub begun : Builder → Builder
+begun b = record b { outs = [] }
+
+unfoldable pub bound : List Out → Builder → Builder
+bound outer b = record b { code = settled b.code b.outs (length b.code); outs = outer }
+
+-- the jump at a place leads here
+unfoldable pub joined : ℕ → Builder → Builder
+joined place b = record b { code = slice_set b.code place (i.Jump (length b.code)) }
+
+-- where the builder is
+unfoldable pub place_of : Builder → ℕ
+place_of b = length b.code
+
+unfoldable pub outs_of : Builder → List Out
+outs_of b = b.outs
+
+-- A loop begins, and its rounds end.
+unfoldable pub loop_begun : LoopFlags → Builder → Builder
+loop_begun g b = record b { code = b.code ++ i.PushLoop g ∷ i.Iterate 0 ∷ []; exits = [] }
+
+unfoldable pub outer_of : Builder → Outer
+outer_of b = record { exits = b.exits; again = length b.code + 1 }
+
+unfoldable pub rounds_ended : Outer → Builder → Builder
+rounds_ended outer b =
+    let code = b.code ++ i.Jump outer.again ∷ [] in
+    let after = length code in
+    record b { code = led (slice_set code outer.again (i.Iterate after)) b.exits outer.again after; exits = outer.exits }
+
+-- Code on its own ends: all jumps out of it lead to its end.
+abbrev pub finished : Builder → List Instruction
+finished b = let end = length b.code in led (settled b.code b.outs end) b.exits end end
+
+-- and so does code that is jumped over
+unfoldable pub aside_begun : Builder → Builder
+aside_begun b = record b { code = b.code ++ i.Jump 0 ∷ []; outs = []; exits = [] }
+
+unfoldable pub aside_ended : Builder → Builder → Builder
+aside_ended outer b = record outer { code = slice_set (finished b) (length outer.code) (i.Jump (length b.code)) }
+
+-- ---------------------------------------------------------------- code
+abbrev pub put : Fragment → Builder → Builder
+put (straight is) b = with_all is b
+put (c ⨾ d) b = put d (put c b)
+put (jump_out j) b = jumped j b
+put (bounded c) b = bound (outs_of b) (put c (begun b))
+put (fork c d) b = let first = put c (begun b) in joined (place_of first) (put d (bound (outs_of b) (with_one (i.Jump 0) first)))
+put (looped g c d) b = put d (rounds_ended (outer_of b) (put c (loop_begun g b)))
+put break_loop b = left b
+put next_round b = continued b
+put (aside c) b = aside_ended b (put c (aside_begun b))

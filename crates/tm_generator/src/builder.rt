@@ -1,0 +1,225 @@
+//! Code that is being made, with jumps that lead nowhere yet.
+#![tactic(auto, unfolding(
+    crate::specs::Building::with_one,
+    crate::specs::Building::jumped,
+    crate::specs::Building::left,
+    crate::specs::Building::continued,
+    crate::specs::Building::begun,
+    crate::specs::Building::bound,
+    crate::specs::Building::joined,
+    crate::specs::Building::place_of,
+    crate::specs::Building::outs_of,
+    crate::specs::Building::outer_of,
+    crate::specs::Building::loop_begun,
+    crate::specs::Building::rounds_ended,
+))]
+ghost use Rattle.std.specs.Prelude.{◌≡◌, ◌++◌, [], ◌∷◌, OnOk, IfOk, IfErr, length, slice_set};
+ghost use Rattle.tm_generator.specs.Building.{with_one, jumped, left, continued, begun, bound, joined};
+ghost use Rattle.tm_generator.specs.Building.{place_of, outs_of, outer_of, loop_begun, rounds_ended};
+ghost use Rattle.tm_generator.specs.Building.{settled, led, finished};
+ghost use Rattle.tm_syntax.specs.declared.instruction.Instruction.TheVariants.{Jump};
+ghost use Rattle.tm_values.specs.declared.error.ErrorKind.TheVariants.{OutOfMemory};
+
+use sqlite_items::Items;
+use std::alloc::Global;
+use std::mem;
+use tm_syntax::{Instruction, JumpKind, LoopFlags};
+use tm_values::Error;
+
+/// A jump out of a part of code.
+#[derive(Clone, Copy)]
+pub(crate) struct Out {
+    kind: JumpKind,
+    place: usize,
+}
+
+/// A jump out of a loop's round, by its place.
+#[derive(Clone, Copy)]
+pub(crate) enum Exit {
+    /// It leaves the loop.
+    Leave(usize),
+    /// It goes on with the next item.
+    Next(usize),
+}
+
+/// What stands around a loop: the jumps out of the round around it, and where its own next item is
+/// asked for.
+#[derive(Drop)]
+pub(crate) struct Outer {
+    exits: Items<Exit>,
+    again: usize,
+}
+
+/// Code that is being made, and the jumps in it that lead nowhere yet.
+#[derive(Drop)]
+pub(crate) struct Builder {
+    alloc: Global,
+    code: Items<Instruction>,
+    outs: Items<Out>,
+    exits: Items<Exit>,
+}
+
+impl Builder {
+    /// No code yet.
+    pub(crate) fn new(alloc: Global) -> Builder
+        ensures { result ≡ record { alloc = alloc; code = []; outs = []; exits = [] } }
+    {
+        Builder {
+            alloc,
+            code: Items::new(alloc),
+            outs: Items::new(alloc),
+            exits: Items::new(alloc),
+        }
+    }
+
+    /// Adds an instruction; OutOfMemory.
+    pub(crate) fn emit(&mut self, instruction: Instruction) -> Result<(), Error>
+        ensures ok { OnOk result (self.new ≡ with_one instruction self.old) }
+        ensures err { IfErr result (λ e. e ≡ OutOfMemory ∷ []) }
+    {
+        self.code.push(instruction)?;
+        Ok(())
+    }
+
+    /// Adds a jump out; OutOfMemory.
+    pub(crate) fn jump_out(&mut self, kind: JumpKind) -> Result<(), Error>
+        ensures ok { OnOk result (self.new ≡ jumped kind self.old) }
+        ensures err { IfErr result (λ e. e ≡ OutOfMemory ∷ []) }
+    {
+        let place = self.code.len();
+        self.outs.push(Out { kind, place })?;
+        self.code.push(kind.to(0))?;
+        Ok(())
+    }
+
+    /// Adds a jump that leaves the innermost loop; OutOfMemory.
+    pub(crate) fn break_loop(&mut self) -> Result<(), Error>
+        ensures ok { OnOk result (self.new ≡ left self.old) }
+        ensures err { IfErr result (λ e. e ≡ OutOfMemory ∷ []) }
+    {
+        self.exits.push(Exit::Leave(self.code.len()))?;
+        self.code.push(Instruction::Jump(0))?;
+        Ok(())
+    }
+
+    /// Adds a jump to the next round of the innermost loop; OutOfMemory.
+    pub(crate) fn next_round(&mut self) -> Result<(), Error>
+        ensures ok { OnOk result (self.new ≡ continued self.old) }
+        ensures err { IfErr result (λ e. e ≡ OutOfMemory ∷ []) }
+    {
+        self.exits.push(Exit::Next(self.code.len()))?;
+        self.code.push(Instruction::Jump(0))?;
+        Ok(())
+    }
+
+    /// Begins a part out of which jumps lead. Gives the jumps out of what is around it.
+    pub(crate) fn begin(&mut self) -> Items<Out>
+        ensures outer { result ≡ outs_of self.old }
+        ensures code { self.new ≡ begun self.old }
+    {
+        mem::replace(&mut self.outs, Items::new(self.alloc))
+    }
+
+    /// Ends it: the jumps out of it lead here.
+    pub(crate) fn bound(&mut self, outer: Items<Out>)
+        ensures { self.new ≡ bound outer self.old }
+    {
+        let here = self.code.len();
+        settle(&mut self.code, self.outs.as_slice(), here);
+        self.outs = outer;
+    }
+
+    /// Ends the first of two parts with a jump over the second, to which the jumps out of the first
+    /// lead. Gives the place of that jump; OutOfMemory.
+    pub(crate) fn second(&mut self, outer: Items<Out>) -> Result<usize, Error>
+        ensures place { IfOk result (λ place. place ≡ place_of self.old) }
+        ensures ok { OnOk result (self.new ≡ bound outer (with_one (Jump 0) self.old)) }
+        ensures err { IfErr result (λ e. e ≡ OutOfMemory ∷ []) }
+    {
+        let place = self.code.len();
+        self.emit(Instruction::Jump(0))?;
+        self.bound(outer);
+        Ok(place)
+    }
+
+    /// Ends the second of two parts: the jump over it leads here.
+    pub(crate) fn join(&mut self, place: usize)
+        ensures { self.new ≡ joined place self.old }
+    {
+        let here = self.code.len();
+        patch(&mut self.code, place, Instruction::Jump(here));
+    }
+
+    /// Begins a loop with its first round; OutOfMemory.
+    pub(crate) fn begin_loop(&mut self, flags: LoopFlags) -> Result<Outer, Error>
+        ensures outer { IfOk result (λ outer. outer ≡ outer_of self.old) }
+        ensures ok { OnOk result (self.new ≡ loop_begun flags self.old) }
+        ensures err { IfErr result (λ e. e ≡ OutOfMemory ∷ []) }
+    {
+        self.code.push(Instruction::PushLoop(flags))?;
+        let again = self.code.len();
+        self.code.push(Instruction::Iterate(0))?;
+        let exits = mem::replace(&mut self.exits, Items::new(self.alloc));
+        Ok(Outer { exits, again })
+    }
+
+    /// Ends the rounds of a loop; OutOfMemory.
+    pub(crate) fn end_rounds(&mut self, outer: Outer) -> Result<(), Error>
+        ensures ok { OnOk result (self.new ≡ rounds_ended outer self.old) }
+        ensures err { IfErr result (λ e. e ≡ OutOfMemory ∷ []) }
+    {
+        let Outer { exits, again } = outer;
+        self.code.push(Instruction::Jump(again))?;
+        let after = self.code.len();
+        patch(&mut self.code, again, Instruction::Iterate(after));
+        lead(&mut self.code, self.exits.as_slice(), again, after);
+        self.exits = exits;
+        Ok(())
+    }
+
+    /// The code: jumps out of all of it lead to its end.
+    pub(crate) fn finish(self) -> Items<Instruction>
+        ensures { result ≡ finished self }
+    {
+        let Builder {
+            alloc: _,
+            mut code,
+            outs,
+            exits,
+        } = self;
+        let end = code.len();
+        settle(&mut code, outs.as_slice(), end);
+        lead(&mut code, exits.as_slice(), end, end);
+        code
+    }
+}
+
+/// Puts an instruction in the place of another one.
+fn patch(code: &mut Items<Instruction>, place: usize, instruction: Instruction)
+    ensures { code.new ≡ slice_set code.old place instruction }
+{
+    if place < code.len() {
+        code.set(place, instruction);
+    }
+}
+
+/// Lets jumps out lead to a place.
+fn settle(code: &mut Items<Instruction>, outs: &[Out], to: usize)
+    ensures { code.new ≡ settled code.old outs.now to }
+{
+    for out in outs {
+        patch(code, out.place, out.kind.to(to));
+    }
+}
+
+/// Lets the jumps out of a loop's round lead to its next item, and after it.
+fn lead(code: &mut Items<Instruction>, exits: &[Exit], again: usize, after: usize)
+    ensures { code.new ≡ led code.old exits.now again after }
+{
+    for exit in exits {
+        match *exit {
+            Exit::Leave(place) => patch(code, place, Instruction::Jump(after)),
+            Exit::Next(place) => patch(code, place, Instruction::Jump(again)),
+        }
+    }
+}
