@@ -4,6 +4,9 @@ use Rattle.tm_syntax.specs.declared.instruction.LoopFlags.{LoopFlags}
 use Rattle.tm_syntax.specs.declared.instruction.Instruction.{Instruction}
 use Rattle.tm_syntax.specs.declared.instruction.Instruction.TheVariants as i
 use Rattle.tm_syntax.specs.declared.jump.JumpKind.{JumpKind}
+use Rattle.tm_syntax.specs.declared.jump.JumpKind.TheVariants.{IfFalse}
+use Rattle.tm_syntax.specs.declared.tree.Condition.{Condition}
+use Rattle.tm_syntax.specs.Code.{expr_code}
 use Rattle.tm_syntax.specs.Fragments.{Fragment, straight, ◌⨾◌, jump_out, bounded, fork, looped, break_loop, next_round, aside, jump}
 use Rattle.tm_generator.specs.declared.builder.Out.{Out}
 use Rattle.tm_generator.specs.declared.builder.Exit.{Exit}
@@ -112,3 +115,20 @@ put (looped g c d) b = put d (rounds_ended (outer_of b) (put c (loop_begun g b))
 put break_loop b = left b
 put next_round b = continued b
 put (aside c) b = aside_ended b (put c (aside_begun b))
+
+-- ---------------------------------------------------------------- conditions
+-- The tests of conditions, the last first, each with a jump out of what comes after it.
+abbrev pub asked : List Condition → Builder → Builder
+asked [] b = b
+asked (c ∷ cs) b = jumped IfFalse (begun (put (expr_code c.test) (asked cs b)))
+
+-- and the jumps out of what is around each, the innermost first
+abbrev pub kept : List Condition → Builder → List (List Out)
+kept [] b = []
+kept (c ∷ cs) b = outs_of (put (expr_code c.test) (asked cs b)) ∷ kept cs b
+
+-- What stands for a value where its conditions are false, the first first.
+abbrev pub answered : List (List Out) → List Condition → Builder → Builder
+answered outers [] b = b
+answered [] (c ∷ cs) b = b
+answered (outer ∷ outers) (c ∷ cs) b = answered outers cs (joined (place_of b) (put (expr_code c.otherwise) (bound outer (with_one (i.Jump 0) b))))

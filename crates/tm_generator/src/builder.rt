@@ -72,6 +72,11 @@ impl Builder {
         }
     }
 
+    /// Where memory comes from.
+    pub(crate) fn alloc(&self) -> Global {
+        self.alloc
+    }
+
     /// Adds an instruction; OutOfMemory.
     pub(crate) fn emit(&mut self, instruction: Instruction) -> Result<(), Error>
         ensures ok { OnOk result (self.new ≡ with_one instruction self.old) }

@@ -2,3 +2,4 @@
 #![tactic(auto, using(tm_syntax::proofs::Forms::boxes))]
 
 mod builder;
+mod expressions;

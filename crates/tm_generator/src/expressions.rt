@@ -1,0 +1,349 @@
+//! The code of expressions.
+ghost use Rattle.std.specs.Prelude.{◌≡◌, ◌++◌, ◌+◌, [], ◌∷◌, OnOk, IfOk, IfErr, min, reverse};
+ghost use Rattle.tm_generator.specs.Building.{put, asked, kept, answered};
+ghost use Rattle.tm_syntax.specs.Code.{unary_code, binary_code, expr_code, exprs_code, pairs_code};
+ghost use Rattle.tm_syntax.specs.Code.{argument_code, arguments_code, keywords_code, named_code};
+ghost use Rattle.tm_syntax.specs.Code.{step_code, steps_code, row_code, links_code};
+ghost use Rattle.tm_syntax.specs.Fragments.{straight, over};
+ghost use Rattle.tm_syntax.specs.declared.tree.Argument.TheBlock.{hidden-the_row-Expr-1 as exprs};
+ghost use Rattle.tm_syntax.specs.declared.tree.Argument.TheBlock.{hidden-the_row-Pair-2 as pairs};
+ghost use Rattle.tm_syntax.specs.declared.tree.Argument.TheBlock.{hidden-the_row-Argument-3 as arguments};
+ghost use Rattle.tm_syntax.specs.declared.tree.Argument.TheBlock.{hidden-the_row-Keyword-4 as keywords};
+ghost use Rattle.tm_syntax.specs.declared.tree.Argument.TheBlock.{hidden-the_row-Step-5 as steps};
+ghost use Rattle.tm_syntax.specs.declared.tree.Argument.TheBlock.{hidden-the_row-Comparison-7 as comparisons};
+ghost use Rattle.tm_values.specs.declared.error.ErrorKind.TheVariants.{OutOfMemory};
+
+use crate::builder::{Builder, Out};
+use sqlite_items::Items;
+use tm_syntax::{
+    Argument, BinaryOperator, Comparison, Condition, Expr, Instruction, JumpKind, Keyword, Pair,
+    Step, UnaryOperator,
+};
+use tm_values::{Error, ErrorKind, Value};
+
+/// The instruction of a prefix operator.
+fn unary(operator: UnaryOperator) -> Instruction
+    ensures { result ≡ unary_code operator }
+{
+    match operator {
+        UnaryOperator::Not => Instruction::Not,
+        UnaryOperator::Negate => Instruction::Neg,
+    }
+}
+
+/// Adds the code of an operator; OutOfMemory.
+fn push_binary(code: &mut Builder, operator: BinaryOperator) -> Result<(), Error>
+    ensures ok { OnOk result (code.new ≡ put (straight (binary_code operator)) code.old) }
+    ensures err { IfErr result (λ e. e ≡ OutOfMemory ∷ []) }
+{
+    let instruction = match operator {
+        BinaryOperator::Equal => Instruction::Eq,
+        BinaryOperator::NotEqual => Instruction::Ne,
+        BinaryOperator::Less => Instruction::Lt,
+        BinaryOperator::LessOrEqual => Instruction::Lte,
+        BinaryOperator::Greater => Instruction::Gt,
+        BinaryOperator::GreaterOrEqual => Instruction::Gte,
+        BinaryOperator::In => Instruction::In,
+        BinaryOperator::NotIn => {
+            code.emit(Instruction::In)?;
+            Instruction::Not
+        }
+        BinaryOperator::Add => Instruction::Add,
+        BinaryOperator::Subtract => Instruction::Sub,
+        BinaryOperator::Concatenate => Instruction::StringConcat,
+        BinaryOperator::Multiply => Instruction::Mul,
+        BinaryOperator::Divide => Instruction::Div,
+        BinaryOperator::FloorDivide => Instruction::IntDiv,
+        BinaryOperator::Remainder => Instruction::Rem,
+        BinaryOperator::Power => Instruction::Pow,
+    };
+    code.emit(instruction)
+}
+
+/// How many arguments a call has whose keywords are one together; OutOfMemory.
+fn call_count(given: usize, named: usize) -> Result<usize, Error>
+    ensures ok { IfOk result (λ n. n ≡ given + min named 1) }
+    ensures err { IfErr result (λ e. e ≡ OutOfMemory ∷ []) }
+{
+    match given.checked_add(named.min(1)) {
+        Some(count) => Ok(count),
+        None => Err(Error::from(ErrorKind::OutOfMemory)),
+    }
+}
+
+/// How many values a call of a method has: these arguments and the value that is called by; OutOfMemory.
+fn method_count(given: usize, named: usize) -> Result<usize, Error>
+    ensures ok { IfOk result (λ n. n ≡ given + min named 1 + 1) }
+    ensures err { IfErr result (λ e. e ≡ OutOfMemory ∷ []) }
+{
+    match call_count(given, named)?.checked_add(1) {
+        Some(count) => Ok(count),
+        None => Err(Error::from(ErrorKind::OutOfMemory)),
+    }
+}
+
+/// Adds the code of an expression; OutOfMemory.
+#[cycle(expressions)]
+pub(crate) fn push_expr(code: &mut Builder, expr: &Expr) -> Result<(), Error>
+    ensures ok { OnOk result (code.new ≡ put (expr_code expr.now) code.old) }
+    ensures err { IfErr result (λ e. e ≡ OutOfMemory ∷ []) }
+{
+    match expr {
+        Expr::Var(name) => code.emit(Instruction::Lookup(name.share()?)),
+        Expr::Const(value) => code.emit(Instruction::LoadConst(value.share()?)),
+        Expr::List(items) => {
+            push_exprs(code, items.as_slice())?;
+            code.emit(Instruction::BuildList(Some(items.len())))
+        }
+        Expr::Tuple(items) => {
+            push_exprs(code, items.as_slice())?;
+            code.emit(Instruction::BuildTuple(items.len()))
+        }
+        Expr::Map(entries) => {
+            push_pairs(code, entries.as_slice())?;
+            code.emit(Instruction::BuildMap(entries.len()))
+        }
+        Expr::Call(name, given, named) => {
+            push_arguments(code, given.as_slice())?;
+            push_named(code, named.as_slice())?;
+            let count = call_count(given.len(), named.len())?;
+            code.emit(Instruction::CallFunction(name.share()?, count))
+        }
+        Expr::Unary(operator, operand) => {
+            push_expr(code, operand.get())?;
+            code.emit(unary(*operator))
+        }
+        Expr::Chain(first, after) => {
+            push_expr(code, first.get())?;
+            push_steps(code, after.as_slice())
+        }
+        Expr::Conditional(value, conditions) => {
+            let conditions = conditions.as_slice();
+            let mut outers = Items::new(code.alloc());
+            push_tests(code, conditions, &mut outers)?;
+            push_expr(code, value.get())?;
+            push_otherwise(code, conditions, outers)
+        }
+    }
+}
+
+/// Adds the code of expressions; OutOfMemory.
+#[cycle(expressions)]
+fn push_exprs(code: &mut Builder, items: &[Expr]) -> Result<(), Error>
+    ensures ok { OnOk result (code.new ≡ put (exprs_code (exprs items.now)) code.old) }
+    ensures err { IfErr result (λ e. e ≡ OutOfMemory ∷ []) }
+{
+    for item in items {
+        push_expr(code, item)?;
+    }
+    Ok(())
+}
+
+/// Adds the code of pairs; OutOfMemory.
+#[cycle(expressions)]
+fn push_pairs(code: &mut Builder, entries: &[Pair]) -> Result<(), Error>
+    ensures ok { OnOk result (code.new ≡ put (pairs_code (pairs entries.now)) code.old) }
+    ensures err { IfErr result (λ e. e ≡ OutOfMemory ∷ []) }
+{
+    for entry in entries {
+        push_expr(code, entry.key.get())?;
+        push_expr(code, entry.value.get())?;
+    }
+    Ok(())
+}
+
+/// Adds the code of an argument; OutOfMemory.
+#[cycle(expressions)]
+fn push_argument(code: &mut Builder, argument: &Argument) -> Result<(), Error>
+    ensures ok { OnOk result (code.new ≡ put (argument_code argument.now) code.old) }
+    ensures err { IfErr result (λ e. e ≡ OutOfMemory ∷ []) }
+{
+    match argument {
+        Argument::Plain(expr) => push_expr(code, expr.get()),
+    }
+}
+
+/// Adds the code of arguments; OutOfMemory.
+#[cycle(expressions)]
+fn push_arguments(code: &mut Builder, given: &[Argument]) -> Result<(), Error>
+    ensures ok { OnOk result (code.new ≡ put (arguments_code (arguments given.now)) code.old) }
+    ensures err { IfErr result (λ e. e ≡ OutOfMemory ∷ []) }
+{
+    for argument in given {
+        push_argument(code, argument)?;
+    }
+    Ok(())
+}
+
+/// Adds the code of keywords; OutOfMemory.
+#[cycle(expressions)]
+fn push_keywords(code: &mut Builder, named: &[Keyword]) -> Result<(), Error>
+    ensures ok { OnOk result (code.new ≡ put (keywords_code (keywords named.now)) code.old) }
+    ensures err { IfErr result (λ e. e ≡ OutOfMemory ∷ []) }
+{
+    for keyword in named {
+        let name = Value::text(code.alloc(), keyword.name.as_str())?;
+        code.emit(Instruction::LoadConst(name))?;
+        push_expr(code, keyword.value.get())?;
+    }
+    Ok(())
+}
+
+/// Adds the code of keywords as one argument, where there are any; OutOfMemory.
+#[cycle(expressions)]
+fn push_named(code: &mut Builder, named: &[Keyword]) -> Result<(), Error>
+    ensures ok { OnOk result (code.new ≡ put (named_code (keywords named.now)) code.old) }
+    ensures err { IfErr result (λ e. e ≡ OutOfMemory ∷ []) }
+{
+    if named.is_empty() {
+        return Ok(());
+    }
+    push_keywords(code, named)?;
+    code.emit(Instruction::BuildKwargs(named.len()))
+}
+
+/// Adds the tests of conditions, the last first, each with a jump out of what comes after it. Adds
+/// to `outers` the jumps out of what is around each; OutOfMemory.
+#[cycle(expressions)]
+fn push_tests(
+    code: &mut Builder,
+    conditions: &[Condition],
+    outers: &mut Items<Items<Out>>,
+) -> Result<(), Error>
+    ensures ok { OnOk result (code.new ≡ asked conditions.now code.old) }
+    ensures outers { OnOk result
+        (outers.new ≡ outers.old ++ reverse (kept conditions.now code.old)) }
+    ensures err { IfErr result (λ e. e ≡ OutOfMemory ∷ []) }
+{
+    let mut left = conditions.len();
+    while left > 0 {
+        left -= 1;
+        push_expr(code, conditions[left].test.get())?;
+        outers.push(code.begin())?;
+        code.jump_out(JumpKind::IfFalse)?;
+    }
+    Ok(())
+}
+
+/// Adds what stands for a value where its conditions are false, the first first. Takes from
+/// `outers` the jumps out of what is around each; OutOfMemory.
+#[cycle(expressions)]
+fn push_otherwise(
+    code: &mut Builder,
+    conditions: &[Condition],
+    mut outers: Items<Items<Out>>,
+) -> Result<(), Error>
+    ensures ok { OnOk result (code.new ≡ answered (reverse outers) conditions.now code.old) }
+    ensures err { IfErr result (λ e. e ≡ OutOfMemory ∷ []) }
+{
+    for condition in conditions {
+        let Some(outer) = outers.pop() else {
+            return Ok(());
+        };
+        let over = code.second(outer)?;
+        push_expr(code, condition.otherwise.get())?;
+        code.join(over);
+    }
+    Ok(())
+}
+
+/// Adds the code of a step; OutOfMemory.
+#[cycle(expressions)]
+fn push_step(code: &mut Builder, step: &Step) -> Result<(), Error>
+    ensures ok { OnOk result (code.new ≡ put (step_code step.now) code.old) }
+    ensures err { IfErr result (λ e. e ≡ OutOfMemory ∷ []) }
+{
+    match step {
+        Step::Attribute(name) => code.emit(Instruction::GetAttr(name.share()?)),
+        Step::Method(name, given, named) => {
+            push_arguments(code, given.as_slice())?;
+            push_named(code, named.as_slice())?;
+            let count = method_count(given.len(), named.len())?;
+            code.emit(Instruction::CallMethod(name.share()?, count))
+        }
+        Step::Item(key) => {
+            push_expr(code, key.get())?;
+            code.emit(Instruction::GetItem)
+        }
+        Step::Slice(start, stop, step) => {
+            push_expr(code, start.get())?;
+            push_expr(code, stop.get())?;
+            push_expr(code, step.get())?;
+            code.emit(Instruction::Slice)
+        }
+        Step::Binary(operator, operand) => {
+            push_expr(code, operand.get())?;
+            push_binary(code, *operator)
+        }
+        Step::Compare(operator, right, after) => {
+            push_expr(code, right.get())?;
+            push_comparisons(code, *operator, after.as_slice())
+        }
+        Step::And(operand) => push_over(code, JumpKind::IfFalseOrPop, operand.get()),
+        Step::Or(operand) => push_over(code, JumpKind::IfTrueOrPop, operand.get()),
+    }
+}
+
+/// Adds the code of an expression, and a jump over it; OutOfMemory.
+#[cycle(expressions)]
+fn push_over(code: &mut Builder, kind: JumpKind, expr: &Expr) -> Result<(), Error>
+    ensures ok { OnOk result (code.new ≡ put (over kind (expr_code expr.now)) code.old) }
+    ensures err { IfErr result (λ e. e ≡ OutOfMemory ∷ []) }
+{
+    let outer = code.begin();
+    code.jump_out(kind)?;
+    push_expr(code, expr)?;
+    code.bound(outer);
+    Ok(())
+}
+
+/// Adds the code of a comparison and those after it; OutOfMemory.
+#[cycle(expressions)]
+fn push_comparisons(
+    code: &mut Builder,
+    operator: BinaryOperator,
+    after: &[Comparison],
+) -> Result<(), Error>
+    ensures ok { OnOk result (code.new ≡ put (row_code operator (comparisons after.now)) code.old) }
+    ensures err { IfErr result (λ e. e ≡ OutOfMemory ∷ []) }
+{
+    let outer = code.begin();
+    push_links(code, operator, after)?;
+    let over = code.second(outer)?;
+    code.emit(Instruction::Swap)?;
+    code.emit(Instruction::DiscardTop)?;
+    code.join(over);
+    Ok(())
+}
+
+/// Adds comparisons, out of each of which but the last a jump leads; OutOfMemory.
+#[cycle(expressions)]
+fn push_links(
+    code: &mut Builder,
+    first: BinaryOperator,
+    after: &[Comparison],
+) -> Result<(), Error>
+    ensures ok { OnOk result (code.new ≡ put (links_code first (comparisons after.now)) code.old) }
+    ensures err { IfErr result (λ e. e ≡ OutOfMemory ∷ []) }
+{
+    let mut operator = first;
+    for comparison in after {
+        code.emit(Instruction::CompareAndPreserve(operator))?;
+        code.jump_out(JumpKind::IfFalseOrPop)?;
+        push_expr(code, comparison.right.get())?;
+        operator = comparison.operator;
+    }
+    push_binary(code, operator)
+}
+
+/// Adds the code of steps; OutOfMemory.
+#[cycle(expressions)]
+fn push_steps(code: &mut Builder, after: &[Step]) -> Result<(), Error>
+    ensures ok { OnOk result (code.new ≡ put (steps_code (steps after.now)) code.old) }
+    ensures err { IfErr result (λ e. e ≡ OutOfMemory ∷ []) }
+{
+    for step in after {
+        push_step(code, step)?;
+    }
+    Ok(())
+}
