@@ -1,5 +1,5 @@
 -- What trees mean. No stream's place and no operand stands here.
-use Rattle.std.specs.Prelude.{ℕ, zero, suc, ◌+◌, ◌^◌, ◌-◌, pos, List, [], ◌∷◌, ◌++◌, Option, Some, None, Bool, true, false, not, ◌&&◌, nat_lt, if◌then◌else◌, Ok, Err, slice_get}
+use Rattle.std.specs.Prelude.{ℕ, zero, suc, ◌+◌, ◌^◌, ◌-◌, pos, List, [], ◌∷◌, ◌++◌, Option, Some, None, Bool, true, false, not, ◌&&◌, nat_lt, if◌then◌else◌, Ok, slice_get}
 use Rattle.std.specs.Result.{result_map_both}
 use Rattle.tm_values.specs.Answer.{Answer, invalid}
 use Rattle.tm_values.specs.Map.{put_all}
@@ -21,20 +21,16 @@ use Rattle.tm_syntax.specs.declared.tree.UnaryOperator.{UnaryOperator}
 use Rattle.tm_syntax.specs.declared.tree.UnaryOperator.TheVariants as unaries
 use Rattle.tm_syntax.specs.declared.tree.BinaryOperator.{BinaryOperator}
 use Rattle.tm_syntax.specs.declared.tree.BinaryOperator.TheVariants as binaries
-use Rattle.tm_syntax.specs.declared.tree.Expr.{Expr, Var, Const, List', Tuple', Map', Call', Row_of-Expr, end_of-Expr as no_expr, more_of-Expr as expr, Row_of-Pair, end_of-Pair as no_pair, more_of-Pair as with_pair, Row_of-Argument, end_of-Argument as no_argument, more_of-Argument as argument, Row_of-Keyword, end_of-Keyword as no_keyword, more_of-Keyword as with_keyword, Row_of-Step, end_of-Step as no_step, more_of-Step as step, Row_of-Condition, end_of-Condition as no_condition, more_of-Condition as with_condition}
+use Rattle.tm_syntax.specs.declared.tree.Expr.{Expr, Var, Const, List', Tuple', Map', Call', Row_of-Expr, end_of-Expr as no_expr, more_of-Expr as expr, Row_of-Pair, end_of-Pair as no_pair, Row_of-Argument, end_of-Argument as no_argument, more_of-Argument as argument, Row_of-Keyword, end_of-Keyword as no_keyword, Row_of-Step, end_of-Step as no_step, more_of-Step as step, Row_of-Condition, end_of-Condition as no_condition}
 use Rattle.tm_syntax.specs.declared.tree.Argument.{Argument}
-use Rattle.tm_syntax.specs.declared.tree.Keyword.{Keyword}
-use Rattle.tm_syntax.specs.declared.tree.Pair.{Pair}
-use Rattle.tm_syntax.specs.declared.tree.Condition.{Condition}
-use Rattle.tm_syntax.specs.declared.tree.Step.{Step, Attribute, Method', Row_of-Comparison, end_of-Comparison as no_comparison, more_of-Comparison as with_comparison}
+use Rattle.tm_syntax.specs.declared.tree.Step.{Step, Attribute, Method', Row_of-Comparison, end_of-Comparison as no_comparison}
 use Rattle.tm_syntax.specs.declared.tree.Target.{Target, Name as To, Unpack' as Items, Attribute as Member, Row_of-Target, end_of-Target as no_target, more_of-Target as target}
 use Rattle.tm_syntax.specs.declared.tree.Assignment.{Assignment}
-use Rattle.tm_syntax.specs.declared.tree.Assignment.TheVariants.{Assignment as Given}
 use Rattle.tm_syntax.specs.declared.tree.Stmt.{Stmt, EmitRaw, EmitExpr, EmitLoop, If', For', Break, Continue, Block', Set, SetBlock', With', Do, AutoEscape', Row_of-Stmt, end_of-Stmt as no_statement, more_of-Stmt as statement, Held-Stmt-If-2 as Otherwise, None' as no_else, Some' as otherwise}
-use Rattle.tm_syntax.specs.Forms.{unary, chained, conditional, condition, comparison, pair, plain, keyword, item, slice, binary, compare, and_then, or_else}
+use Rattle.tm_syntax.specs.Forms.{unary, chained, conditional, with_condition, with_comparison, with_pair, plain, with_keyword, item, slice, binary, compare, and_then, or_else}
 use Rattle.tm_syntax.specs.Code.{count_targets, for_flags, filter_flags}
 use Rattle.tm_syntax.specs.Loops.{passes, within_loop, past, pasts, FoundLoop, loops_in}
-use Rattle.tm_meaning.specs.World.{choose, TemplateId, root_of, StreamId, World, Host, Res, Good, Bad, bind, answered, tick, ticked, looked_up, records_of, template_at, emitted, escape_for, with_escape, captured_text, open_loop, next_turn, cleared, items_over, store, set_member, items_of, push, pop, plain as plain_scope}
+use Rattle.tm_meaning.specs.World.{choose, TemplateId, root_of, World, Host, Res, Good, Bad, bind, answered, tick, ticked, looked_up, records_of, template_at, emitted, escape_for, with_escape, captured_text, open_loop, next_turn, cleared, items_over, store, set_member, items_of, push, pop, plain as plain_scope}
 use Rattle.tm_meaning.specs.Calls.{Callee, whole, Call, Asked, has, refused, runs, recurs, undone, wrapped, enter_block, call_named, call_method, call_innermost, own_blocks}
 use Rattle.tm_meaning.specs.Tree.{Body, Trees}
 
@@ -208,6 +204,12 @@ abbrev pub keyword_map : List (Val × Val) → Val
 keyword_map ps = keywords (pairs_of (put_all ps))
 
 -- ---------------------------------------------------------------- expressions
+-- what is guarded where the condition is true, with the jump behind it, and else what stands for it
+abbrev pub under_condition : Host → (World → Res Val) → (World → Res Val) → (World → Res Val) → World → Res Val
+under_condition host asked guarded other w =
+    bind (asked w) (λ v world1. ticked world1 (λ world2. bind (truth host v world2) (λ b world3.
+    choose b (λ _. bind (guarded world3) (λ x world4. ticked world4 (λ world5. Good x world5))) (λ _. other world3))))
+
 abbrev mutual
   pub eval : Under → Run → Expr → World → Res Val
   eval u run (Var x) w = ticked w (λ world1. looked_up u.host x world1)
@@ -222,16 +224,11 @@ abbrev mutual
   eval u run (chained a _ ss) w = bind (eval u run a w) (λ v world1. eval_steps u run ss v world1)
   eval u run (conditional a _ cs) w = eval_conditions u run cs (λ world1. eval u run a world1) w
 
-  -- what is guarded where the condition is true, with the jump behind it, and else what stands for it
-  pub eval_condition : Under → Run → Condition → (World → Res Val) → World → Res Val
-  eval_condition u run (condition c e) guarded w =
-      bind (eval u run c w) (λ v world1. ticked world1 (λ world2. bind (truth u.host v world2) (λ b world3.
-      choose b (λ _. bind (guarded world3) (λ x world4. ticked world4 (λ world5. Good x world5))) (λ _. eval u run e world3))))
-
   -- the last condition first
   pub eval_conditions : {n : _} → Under → Run → Row_of-Condition n → (World → Res Val) → World → Res Val
   eval_conditions u run no_condition guarded w = guarded w
-  eval_conditions u run (with_condition c more) guarded w = eval_conditions u run more (λ world1. eval_condition u run c guarded world1) w
+  eval_conditions u run (with_condition c e more) guarded w =
+      eval_conditions u run more (λ world1. under_condition u.host (λ world2. eval u run c world2) guarded (λ world2. eval u run e world2) world1) w
 
   -- from the first to the last
   pub eval_all : {n : _} → Under → Run → Row_of-Expr n → World → Res (List Val)
@@ -239,12 +236,11 @@ abbrev mutual
   eval_all u run (expr e more) w = bind (eval u run e w) (λ v world1. bind (eval_all u run more world1) (λ vs world2. Good (v ∷ vs) world2))
 
   -- a key before its value
-  pub eval_pair : Under → Run → Pair → World → Res (Val × Val)
-  eval_pair u run (pair k v) w = bind (eval u run k w) (λ x world1. bind (eval u run v world1) (λ y world2. Good (x, y) world2))
-
   pub eval_pairs : {n : _} → Under → Run → Row_of-Pair n → World → Res (List (Val × Val))
   eval_pairs u run no_pair w = Good [] w
-  eval_pairs u run (with_pair p more) w = bind (eval_pair u run p w) (λ x world1. bind (eval_pairs u run more world1) (λ xs world2. Good (x ∷ xs) world2))
+  eval_pairs u run (with_pair k v more) w =
+      bind (eval u run k w) (λ x world1. bind (eval u run v world1) (λ y world2.
+      bind (eval_pairs u run more world2) (λ xs world3. Good ((x, y) ∷ xs) world3)))
 
   pub eval_argument : Under → Run → Argument → World → Res Val
   eval_argument u run (plain a) w = eval u run a w
@@ -255,20 +251,18 @@ abbrev mutual
       bind (eval_argument u run a w) (λ v world1. bind (eval_arguments u run more world1) (λ vs world2. Good (v ∷ vs) world2))
 
   -- a name, charged, before its value
-  pub eval_keyword : Under → Run → Keyword → World → Res (Val × Val)
-  eval_keyword u run (keyword x a) w = ticked w (λ world1. bind (eval u run a world1) (λ v world2. Good (text x false, v) world2))
-
   pub eval_keywords : {n : _} → Under → Run → Row_of-Keyword n → World → Res (List (Val × Val))
   eval_keywords u run no_keyword w = Good [] w
-  eval_keywords u run (with_keyword k more) w =
-      bind (eval_keyword u run k w) (λ x world1. bind (eval_keywords u run more world1) (λ xs world2. Good (x ∷ xs) world2))
+  eval_keywords u run (with_keyword x a more) w =
+      ticked w (λ world1. bind (eval u run a world1) (λ v world2.
+      bind (eval_keywords u run more world2) (λ ks world3. Good ((text x false, v) ∷ ks) world3)))
 
   -- arguments by their names are one argument, charged, where there are any
   pub eval_named : {n : _} → Under → Run → Row_of-Keyword n → World → Res (List Val)
   eval_named u run no_keyword w = Good [] w
-  eval_named u run (with_keyword k more) w =
-      bind (eval_keyword u run k w) (λ x world1. bind (eval_keywords u run more world1) (λ xs world2.
-      ticked world2 (λ world3. Good (keyword_map (x ∷ xs) ∷ []) world3)))
+  eval_named u run (with_keyword x a more) w =
+      ticked w (λ world1. bind (eval u run a world1) (λ v world2. bind (eval_keywords u run more world2) (λ ks world3.
+      ticked world3 (λ world4. Good (keyword_map ((text x false, v) ∷ ks) ∷ []) world4))))
 
   -- a value goes on; `and` and `or` charge their test, and give the operand that ran last
   pub eval_step : Under → Run → Step → Val → World → Res Val
@@ -289,7 +283,7 @@ abbrev mutual
   -- Comparisons in a row, from the first: each but the last charges its test; where it is false it is the value, and dropping its right side is charged. Behind the last one the jump is.
   pub eval_links : {n : _} → Under → Run → BinaryOperator → Row_of-Comparison n → Val → Val → World → Res Val
   eval_links u run op no_comparison x y w = ticked w (λ world1. bind (applied u.host op x y world1) (λ v world2. ticked world2 (λ world3. Good v world3)))
-  eval_links u run op (with_comparison (comparison op1 a) more) x y w =
+  eval_links u run op (with_comparison op1 a more) x y w =
       ticked w (λ world1. bind (operated u.host op x y world1) (λ v world2. ticked world2 (λ world3. bind (truth u.host v world3) (λ b world4.
       choose b (λ _. bind (eval u run a world4) (λ z world5. eval_links u run op1 more y z world5)) (λ _. ticked world4 (λ world5. Good v world5))))))
 
@@ -316,7 +310,7 @@ set_to u run t e w = bind (eval u run e w) (λ v world1. assign u run t v world1
 
 abbrev pub set_each : Under → Run → List Assignment → World → Res (Unit {0})
 set_each u run [] w = Good tt w
-set_each u run (Given t e ∷ more) w = bind (set_to u run t e w) (λ _ world1. set_each u run more world1)
+set_each u run (a ∷ more) w = bind (set_to u run a.target a.value w) (λ _ world1. set_each u run more world1)
 
 -- ---------------------------------------------------------------- statements
 -- What is closed behind a body, however it ended, but for a fault.

@@ -12,18 +12,16 @@ use Rattle.tm_syntax.specs.declared.tree.BinaryOperator.TheVariants as binaries
 use Rattle.tm_syntax.specs.declared.tree.Expr.{Expr, Var, Const, List', Tuple', Call', end_of-Expr as no_expr, more_of-Expr as expr}
 use Rattle.tm_syntax.specs.declared.tree.Expr.{end_of-Argument as no_argument, end_of-Keyword as no_keyword, end_of-Step as no_step}
 use Rattle.tm_syntax.specs.declared.tree.Expr.{more_of-Step as step, end_of-Condition as no_condition}
-use Rattle.tm_syntax.specs.declared.tree.Expr.{more_of-Condition as with_condition}
-use Rattle.tm_syntax.specs.declared.tree.Step.{Step, Attribute, end_of-Comparison as no_comparison, more_of-Comparison as with_comparison}
+use Rattle.tm_syntax.specs.declared.tree.Step.{Step, Attribute, end_of-Comparison as no_comparison}
 use Rattle.tm_syntax.specs.declared.tree.Target.{Target, Name as To, Unpack' as Items, Attribute as Member, end_of-Target as no_target}
 use Rattle.tm_syntax.specs.declared.tree.Target.{more_of-Target as target}
-use Rattle.tm_syntax.specs.declared.tree.Assignment.TheVariants.{Assignment as Given}
+use Rattle.tm_syntax.specs.declared.tree.Assignment.{Assignment}
 use Rattle.tm_syntax.specs.declared.tree.Stmt.{Stmt, EmitRaw, EmitExpr, If', Block', Set, SetBlock', With', AutoEscape'}
 use Rattle.tm_syntax.specs.declared.tree.Stmt.{end_of-Stmt as no_statement, more_of-Stmt as statement, Held-Stmt-If-2 as Otherwise}
 use Rattle.tm_syntax.specs.declared.tree.Stmt.{None' as no_else, Some' as otherwise}
-use Rattle.tm_syntax.specs.Forms.{unary, chained, conditional, condition, comparison, binary, compare, and_then, or_else}
+use Rattle.tm_syntax.specs.Forms.{unary, chained, conditional, with_condition, with_comparison, binary, compare, and_then, or_else}
 use Rattle.tm_meaning.specs.Compiled.{code_of}
-use Rattle.tm_meaning.specs.World.{Bindings, find, find_name, view_of, own, World, Host, Function, View, fuel_levels}
-use Rattle.tm_meaning.specs.declared.reply.Reply.TheVariants.{Value as gives}
+use Rattle.tm_meaning.specs.World.{Bindings, find_name, view_of, own, World, Host, Function, View, fuel_levels}
 use Rattle.tm_meaning.specs.Calls.{whole}
 use Rattle.tm_meaning.specs.Tree.{Body, body_of, TemplateTree, Trees, template_of, trees_of}
 use Rattle.tm_meaning.specs.Meaning.{rendered, first_world, chain_of}
@@ -246,16 +244,16 @@ literal_truth truth = Const (boolean truth)
 abbrev pub three_in_a_row : ℕ → ℕ → ℕ → Expr
 three_in_a_row x y z =
     and_one (literal_number x)
-    (compare binaries.Less (literal_number y) (tt ∷ []) (with_comparison (comparison binaries.Less (literal_number z)) no_comparison))
+    (compare binaries.Less (literal_number y) (tt ∷ []) (with_comparison binaries.Less (literal_number z) no_comparison))
 
 -- {{ 1 < 2 < 3 < 0 < nope.x }}
 abbrev pub false_before_fault : Expr
 false_before_fault =
     and_one (literal_number 1)
     (compare binaries.Less (literal_number 2) (tt ∷ tt ∷ tt ∷ [])
-    (with_comparison (comparison binaries.Less (literal_number 3))
-    (with_comparison (comparison binaries.Less (literal_number 0))
-    (with_comparison (comparison binaries.Less (and_one (named (codes "nope")) (Attribute (codes "x")))) no_comparison))))
+    (with_comparison binaries.Less (literal_number 3)
+    (with_comparison binaries.Less (literal_number 0)
+    (with_comparison binaries.Less (and_one (named (codes "nope")) (Attribute (codes "x"))) no_comparison))))
 
 -- what an `if` without `else` gives where it is false
 abbrev pub no_value : Expr
@@ -264,14 +262,17 @@ no_value = Const (undefined true)
 -- {{ 1 if truth else other }}
 abbrev pub one_condition : Bool → Expr → Expr
 one_condition truth other =
-    conditional (literal_number 1) (tt ∷ []) (with_condition (condition (literal_truth truth) other) no_condition)
+    conditional (literal_number 1) (tt ∷ []) (with_condition (literal_truth truth) other no_condition)
 
 -- {{ 1 if first if second else 2 }}
 abbrev pub two_conditions : Bool → Bool → Expr
 two_conditions first second =
     conditional (literal_number 1) (tt ∷ tt ∷ [])
-    (with_condition (condition (literal_truth first) no_value)
-    (with_condition (condition (literal_truth second) (literal_number 2)) no_condition))
+    (with_condition (literal_truth first) no_value
+    (with_condition (literal_truth second) (literal_number 2) no_condition))
+
+abbrev pub given : Target → Expr → Assignment
+given t e = record { target = t; value = e }
 
 -- {% block b %}x{{ a }}{% endblock %}y
 abbrev pub block_of_two : Stmt
@@ -288,7 +289,7 @@ block_not_reached = page (two (if_one a (Block' (codes "b") (tt ∷ []) (stateme
 abbrev pub fault_in_block : Page
 fault_in_block =
     let fault = statement (EmitExpr (Call' (codes "nope") [] no_argument [] no_keyword)) no_statement in
-    let scoped = With' (Given (To (codes "a")) (literal_number 1) ∷ []) (tt ∷ []) fault in
+    let scoped = With' (given (To (codes "a")) (literal_number 1) ∷ []) (tt ∷ []) fault in
     let escaped = AutoEscape' (literal (codes "html")) (tt ∷ []) (statement scoped no_statement) in
     page (two (raw (codes "x")) (Block' (codes "b") (tt ∷ []) (statement escaped no_statement))) nothing
 
@@ -296,7 +297,7 @@ fault_in_block =
 abbrev pub with_two : Page
 with_two =
     page (two
-    (With' (Given (To (codes "a")) (literal_number 1) ∷ Given (To (codes "b")) a ∷ []) (tt ∷ []) (statement (EmitExpr b) no_statement))
+    (With' (given (To (codes "a")) (literal_number 1) ∷ given (To (codes "b")) a ∷ []) (tt ∷ []) (statement (EmitExpr b) no_statement))
     (EmitExpr b)) nothing
 
 -- {% with %}{% endwith %}

@@ -9,32 +9,27 @@ use Rattle.tm_syntax.specs.declared.tree.UnaryOperator.TheVariants as unaries
 use Rattle.tm_syntax.specs.declared.tree.BinaryOperator.{BinaryOperator}
 use Rattle.tm_syntax.specs.declared.tree.BinaryOperator.TheVariants as binaries
 use Rattle.tm_syntax.specs.declared.tree.Expr.{Expr, Var, Const, List', Tuple', Map', Call', Row_of-Expr, end_of-Expr as no_expr}
-use Rattle.tm_syntax.specs.declared.tree.Expr.{more_of-Expr as expr, Row_of-Pair, end_of-Pair as no_pair, more_of-Pair as with_pair}
+use Rattle.tm_syntax.specs.declared.tree.Expr.{more_of-Expr as expr, Row_of-Pair, end_of-Pair as no_pair}
 use Rattle.tm_syntax.specs.declared.tree.Expr.{Row_of-Argument, end_of-Argument as no_argument, more_of-Argument as argument}
-use Rattle.tm_syntax.specs.declared.tree.Expr.{Row_of-Keyword, end_of-Keyword as no_keyword, more_of-Keyword as with_keyword, Row_of-Step}
+use Rattle.tm_syntax.specs.declared.tree.Expr.{Row_of-Keyword, end_of-Keyword as no_keyword, Row_of-Step}
 use Rattle.tm_syntax.specs.declared.tree.Expr.{end_of-Step as no_step, more_of-Step as step, Row_of-Condition}
-use Rattle.tm_syntax.specs.declared.tree.Expr.{end_of-Condition as no_condition, more_of-Condition as with_condition}
+use Rattle.tm_syntax.specs.declared.tree.Expr.{end_of-Condition as no_condition}
 use Rattle.tm_syntax.specs.declared.tree.Argument.{Argument}
-use Rattle.tm_syntax.specs.declared.tree.Keyword.{Keyword}
-use Rattle.tm_syntax.specs.declared.tree.Pair.{Pair}
-use Rattle.tm_syntax.specs.declared.tree.Condition.{Condition}
 use Rattle.tm_syntax.specs.declared.tree.Step.{Step, Attribute, Method', Row_of-Comparison, end_of-Comparison as no_comparison}
-use Rattle.tm_syntax.specs.declared.tree.Step.{more_of-Comparison as with_comparison}
 use Rattle.tm_syntax.specs.declared.tree.Target.{Target, Name as To, Unpack' as Items, Attribute as Member, Row_of-Target}
 use Rattle.tm_syntax.specs.declared.tree.Target.{end_of-Target as no_target, more_of-Target as target}
 use Rattle.tm_syntax.specs.declared.tree.Assignment.{Assignment}
-use Rattle.tm_syntax.specs.declared.tree.Assignment.TheVariants.{Assignment as Given}
 use Rattle.tm_syntax.specs.Code.{filter_flags, count_targets}
-use Rattle.tm_syntax.specs.Forms.{unary, chained, conditional, condition, comparison, pair, plain, keyword, item, slice, binary, compare}
-use Rattle.tm_syntax.specs.Forms.{and_then, or_else}
+use Rattle.tm_syntax.specs.Forms.{unary, chained, conditional, with_condition, with_comparison, with_pair, plain, with_keyword}
+use Rattle.tm_syntax.specs.Forms.{item, slice, binary, compare, and_then, or_else}
 use Rattle.tm_definitions.specs.Members.{settable}
 use Rattle.tm_meaning.specs.World.{World, Host, loop_scope, next_turn, cleared, items_over, Res, bind, answered, tick, depth, looked_up}
 use Rattle.tm_meaning.specs.World.{lookup, records_of, with_member, set_member, items_of}
 use Rattle.tm_meaning.specs.Calls.{Callee, Call, undone, wrapped, Asked, has, refused, runs, recurs}
 use Rattle.tm_meaning.specs.Meaning.{text_behind, Run, Outcome, Ending, done, leave, next, fault, Under, audible, value_of, value_behind}
-use Rattle.tm_meaning.specs.Meaning.{in_place_of, behind, truth, applied_unary, operated, applied, eval, eval_all, eval_pair, eval_pairs}
-use Rattle.tm_meaning.specs.Meaning.{eval_argument, eval_arguments, eval_keyword, eval_keywords, eval_named, one_counted, kept, loop_items}
-use Rattle.tm_meaning.specs.Meaning.{eval_condition, eval_conditions, eval_step, eval_links, eval_steps, assign, assign_all, set_to}
+use Rattle.tm_meaning.specs.Meaning.{in_place_of, behind, truth, applied_unary, operated, applied, eval, eval_all, eval_pairs}
+use Rattle.tm_meaning.specs.Meaning.{eval_argument, eval_arguments, eval_keywords, eval_named, one_counted, kept, loop_items}
+use Rattle.tm_meaning.specs.Meaning.{under_condition, eval_conditions, eval_step, eval_links, eval_steps, assign, assign_all, set_to}
 use Rattle.tm_meaning.specs.Meaning.{set_each, capturing}
 use Rattle.tm_meaning.specs.declared.wrapping.Wrapping.{Wrapping}
 use Rattle.tm_simulation.specs.Chains.{Arises, wrapped as wraps}
@@ -148,6 +143,17 @@ place_by host w world1 c run (fault chain) o h k =
     ends_fault host w _ run o.text (wrapped c.wrap chain) (k o.world h.0).advances (wrap_arises host c.wrap chain h.1)
 
 -- ---------------------------------------------------------------- trees
+-- where what is asked, what is guarded and what stands for it do
+pub condition_gives : (host : Host) (asked guarded other : World → Res Val) → ((w : World) → Gives host w (asked w)) →
+    ((w : World) → Gives host w (guarded w)) → ((w : World) → Gives host w (other w)) →
+    (w : World) → Gives host w (under_condition host asked guarded other w)
+condition_gives host asked guarded other first given last w =
+    gives_bind host w (asked w) _ (first w) (λ v world1.
+    ticked_gives host world1 _ (λ world2.
+    gives_bind host world2 (truth host v world2) _ (truth_gives host v world2) (λ b world3.
+    choose_gives host world3 b _ _ (gives_bind host world3 (guarded world3) _ (given world3)
+    (λ x world4. ticked_gives host world4 _ (λ world5. kept_same world5))) (last world3))))
+
 module _ (u : Under) (nest_ends : (k : Callee) (heard : Bool) (out : List ℕ) (w : World) → RunEnds u.host w (u.nests k heard out w))
     (again_ends : (n : ℕ) (items : List Val) (run : Run) (out : List ℕ) (w : World) → Ends u.host w (u.again n items run out w)) where
   value_gives : (w : World) (run : Run) (q : Asked) → Asks u.host w q → Gives u.host w (value_of u run q)
@@ -192,21 +198,12 @@ module _ (u : Under) (nest_ends : (k : Callee) (heard : Bool) (out : List ℕ) (
     eval_gives run (chained a _ ss) w = gives_bind u.host w (eval u run a w) _ (eval_gives run a w) (λ v world1. steps_give run ss v world1)
     eval_gives run (conditional a _ cs) w = conditions_give run cs (λ world1. eval u run a world1) (λ world1. eval_gives run a world1) w
 
-    -- where what is guarded does
-    pub condition_gives : (run : Run) (x : Condition) (guarded : World → Res Val) → ((w : World) → Gives u.host w (guarded w)) →
-        (w : World) → Gives u.host w (eval_condition u run x guarded w)
-    condition_gives run (condition c e) guarded given w =
-        gives_bind u.host w (eval u run c w) _ (eval_gives run c w) (λ v world1.
-        ticked_gives u.host world1 _ (λ world2.
-        gives_bind u.host world2 (truth u.host v world2) _ (truth_gives u.host v world2) (λ b world3.
-        choose_gives u.host world3 b _ _ (gives_bind u.host world3 (guarded world3) _ (given world3)
-        (λ x world4. ticked_gives u.host world4 _ (λ world5. kept_same world5))) (eval_gives run e world3))))
-
     pub conditions_give : {n : _} → (run : Run) (cs : Row_of-Condition n) (guarded : World → Res Val) →
         ((w : World) → Gives u.host w (guarded w)) → (w : World) → Gives u.host w (eval_conditions u run cs guarded w)
     conditions_give run no_condition guarded given w = given w
-    conditions_give run (with_condition c more) guarded given w =
-        conditions_give run more (λ world1. eval_condition u run c guarded world1) (λ world1. condition_gives run c guarded given world1) w
+    conditions_give run (with_condition c e more) guarded given w =
+        conditions_give run more (λ world1. under_condition u.host (λ world2. eval u run c world2) guarded (λ world2. eval u run e world2) world1)
+        (λ world1. condition_gives u.host _ _ _ (λ world2. eval_gives run c world2) given (λ world2. eval_gives run e world2) world1) w
 
     pub all_give : {n : _} → (run : Run) (es : Row_of-Expr n) (w : World) → Gives u.host w (eval_all u run es w)
     all_give run no_expr w = kept_same w
@@ -214,16 +211,12 @@ module _ (u : Under) (nest_ends : (k : Callee) (heard : Bool) (out : List ℕ) (
         gives_bind u.host w (eval u run e w) _ (eval_gives run e w)
         (λ v world1. gives_bind u.host world1 (eval_all u run more world1) _ (all_give run more world1) (λ vs world2. kept_same world2))
 
-    pub pair_gives : (run : Run) (x : Pair) (w : World) → Gives u.host w (eval_pair u run x w)
-    pair_gives run (pair k v) w =
-        gives_bind u.host w (eval u run k w) _ (eval_gives run k w)
-        (λ x world1. gives_bind u.host world1 (eval u run v world1) _ (eval_gives run v world1) (λ y world2. kept_same world2))
-
     pub pairs_give : {n : _} → (run : Run) (ps : Row_of-Pair n) (w : World) → Gives u.host w (eval_pairs u run ps w)
     pairs_give run no_pair w = kept_same w
-    pairs_give run (with_pair x more) w =
-        gives_bind u.host w (eval_pair u run x w) _ (pair_gives run x w)
-        (λ y world1. gives_bind u.host world1 (eval_pairs u run more world1) _ (pairs_give run more world1) (λ ys world2. kept_same world2))
+    pairs_give run (with_pair k v more) w =
+        gives_bind u.host w (eval u run k w) _ (eval_gives run k w) (λ x world1.
+        gives_bind u.host world1 (eval u run v world1) _ (eval_gives run v world1) (λ y world2.
+        gives_bind u.host world2 (eval_pairs u run more world2) _ (pairs_give run more world2) (λ xs world3. kept_same world3)))
 
     pub argument_gives : (run : Run) (a : Argument) (w : World) → Gives u.host w (eval_argument u run a w)
     argument_gives run (plain a) w = eval_gives run a w
@@ -234,24 +227,18 @@ module _ (u : Under) (nest_ends : (k : Callee) (heard : Bool) (out : List ℕ) (
         gives_bind u.host w (eval_argument u run a w) _ (argument_gives run a w) (λ v world1.
         gives_bind u.host world1 (eval_arguments u run more world1) _ (arguments_give run more world1) (λ vs world2. kept_same world2))
 
-    pub keyword_gives : (run : Run) (k : Keyword) (w : World) → Gives u.host w (eval_keyword u run k w)
-    keyword_gives run (keyword x a) w =
-        ticked_gives u.host w _ (λ world1. gives_bind u.host world1 (eval u run a world1) _ (eval_gives run a world1)
-        (λ v world2. kept_same world2))
-
     pub keywords_give : {n : _} → (run : Run) (ks : Row_of-Keyword n) (w : World) → Gives u.host w (eval_keywords u run ks w)
     keywords_give run no_keyword w = kept_same w
-    keywords_give run (with_keyword k more) w =
-        gives_bind u.host w (eval_keyword u run k w) _ (keyword_gives run k w)
-        (λ x world1. gives_bind u.host world1 (eval_keywords u run more world1) _ (keywords_give run more world1)
-        (λ xs world2. kept_same world2))
+    keywords_give run (with_keyword x a more) w =
+        ticked_gives u.host w _ (λ world1. gives_bind u.host world1 (eval u run a world1) _ (eval_gives run a world1) (λ v world2.
+        gives_bind u.host world2 (eval_keywords u run more world2) _ (keywords_give run more world2) (λ ks world3. kept_same world3)))
 
     pub named_give : {n : _} → (run : Run) (ks : Row_of-Keyword n) (w : World) → Gives u.host w (eval_named u run ks w)
     named_give run no_keyword w = kept_same w
-    named_give run (with_keyword k more) w =
-        gives_bind u.host w (eval_keyword u run k w) _ (keyword_gives run k w) (λ x world1.
-        gives_bind u.host world1 (eval_keywords u run more world1) _ (keywords_give run more world1)
-        (λ xs world2. ticked_gives u.host world2 _ (λ world3. kept_same world3)))
+    named_give run (with_keyword x a more) w =
+        ticked_gives u.host w _ (λ world1. gives_bind u.host world1 (eval u run a world1) _ (eval_gives run a world1) (λ v world2.
+        gives_bind u.host world2 (eval_keywords u run more world2) _ (keywords_give run more world2)
+        (λ ks world3. ticked_gives u.host world3 _ (λ world4. kept_same world4))))
 
     pub step_gives : (run : Run) (s : Step) (v : Val) (w : World) → Gives u.host w (eval_step u run s v w)
     step_gives run (Attribute x) v w = ticked_gives u.host w _
@@ -286,7 +273,7 @@ module _ (u : Under) (nest_ends : (k : Callee) (heard : Bool) (out : List ℕ) (
         ticked_gives u.host w _ (λ world1.
         gives_bind u.host world1 (applied u.host op x y world1) _ (binary_gives u.host op x y world1)
         (λ v world2. ticked_gives u.host world2 _ (λ world3. kept_same world3)))
-    links_give run op (with_comparison (comparison op1 a) more) x y w =
+    links_give run op (with_comparison op1 a more) x y w =
         ticked_gives u.host w _ (λ world1.
         gives_bind u.host world1 (operated u.host op x y world1) _ (operated_gives u.host op x y world1) (λ v world2.
         ticked_gives u.host world2 _ (λ world3.
@@ -323,7 +310,7 @@ module _ (u : Under) (nest_ends : (k : Callee) (heard : Bool) (out : List ℕ) (
 
   pub set_each_gives : (run : Run) (given : List Assignment) (w : World) → Gives u.host w (set_each u run given w)
   set_each_gives run [] w = kept_same w
-  set_each_gives run (Given t e ∷ more) w = gives_bind u.host w (set_to u run t e w) _ (set_gives run t e w)
+  set_each_gives run (a ∷ more) w = gives_bind u.host w (set_to u run a.target a.value w) _ (set_gives run a.target a.value w)
       (λ _ world1. set_each_gives run more world1)
 
   pub test_gives : (run : Run) (t : Target) (c : Expr) (v : Val) (w : World) →

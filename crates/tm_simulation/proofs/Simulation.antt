@@ -15,21 +15,16 @@ use Rattle.tm_syntax.specs.declared.tree.UnaryOperator.TheVariants as unaries
 use Rattle.tm_syntax.specs.declared.tree.BinaryOperator.{BinaryOperator}
 use Rattle.tm_syntax.specs.declared.tree.BinaryOperator.TheVariants as binaries
 use Rattle.tm_syntax.specs.declared.tree.Expr.{Expr, Var, Const, List', Tuple', Map', Call', Row_of-Expr, end_of-Expr as no_expr}
-use Rattle.tm_syntax.specs.declared.tree.Expr.{more_of-Expr as expr, Row_of-Pair, end_of-Pair as no_pair, more_of-Pair as with_pair}
+use Rattle.tm_syntax.specs.declared.tree.Expr.{more_of-Expr as expr, Row_of-Pair, end_of-Pair as no_pair}
 use Rattle.tm_syntax.specs.declared.tree.Expr.{Row_of-Argument, end_of-Argument as no_argument, more_of-Argument as argument}
-use Rattle.tm_syntax.specs.declared.tree.Expr.{Row_of-Keyword, end_of-Keyword as no_keyword, more_of-Keyword as with_keyword, Row_of-Step}
+use Rattle.tm_syntax.specs.declared.tree.Expr.{Row_of-Keyword, end_of-Keyword as no_keyword, Row_of-Step}
 use Rattle.tm_syntax.specs.declared.tree.Expr.{end_of-Step as no_step, more_of-Step as step_and, Row_of-Condition}
-use Rattle.tm_syntax.specs.declared.tree.Expr.{end_of-Condition as no_condition, more_of-Condition as with_condition}
+use Rattle.tm_syntax.specs.declared.tree.Expr.{end_of-Condition as no_condition}
 use Rattle.tm_syntax.specs.declared.tree.Argument.{Argument}
-use Rattle.tm_syntax.specs.declared.tree.Keyword.{Keyword}
-use Rattle.tm_syntax.specs.declared.tree.Pair.{Pair}
-use Rattle.tm_syntax.specs.declared.tree.Condition.{Condition}
 use Rattle.tm_syntax.specs.declared.tree.Step.{Step, Attribute, Method', Row_of-Comparison, end_of-Comparison as no_comparison}
-use Rattle.tm_syntax.specs.declared.tree.Step.{more_of-Comparison as with_comparison}
 use Rattle.tm_syntax.specs.declared.tree.Target.{Target, Name as To, Unpack' as Items, Attribute as Member, Row_of-Target}
 use Rattle.tm_syntax.specs.declared.tree.Target.{end_of-Target as no_target, more_of-Target as target}
 use Rattle.tm_syntax.specs.declared.tree.Assignment.{Assignment}
-use Rattle.tm_syntax.specs.declared.tree.Assignment.TheVariants.{Assignment as Given}
 use Rattle.tm_syntax.specs.declared.tree.Stmt.{Stmt, EmitRaw, EmitExpr, EmitLoop, If', For', Break, Continue, Block', Set, SetBlock'}
 use Rattle.tm_syntax.specs.declared.tree.Stmt.{With', Do, AutoEscape', Row_of-Stmt, end_of-Stmt as no_statement}
 use Rattle.tm_syntax.specs.declared.tree.Stmt.{more_of-Stmt as statement, Held-Stmt-If-2 as Otherwise, None' as no_else}
@@ -38,14 +33,14 @@ use Rattle.tm_syntax.specs.declared.instruction.CaptureMode.TheVariants.{Capture
 use Rattle.tm_syntax.specs.declared.instruction.LoopFlags.{LoopFlags}
 use Rattle.tm_syntax.specs.declared.instruction.Instruction.{Instruction}
 use Rattle.tm_syntax.specs.declared.instruction.Instruction.TheVariants as i
-use Rattle.tm_syntax.specs.Forms.{unary, chained, conditional, condition, comparison, pair, plain, keyword, item, slice, binary, compare}
-use Rattle.tm_syntax.specs.Forms.{and_then, or_else}
+use Rattle.tm_syntax.specs.Forms.{unary, chained, conditional, with_condition, with_comparison, with_pair, plain, with_keyword}
+use Rattle.tm_syntax.specs.Forms.{item, slice, binary, compare, and_then, or_else}
 use Rattle.tm_syntax.specs.Code.{count_keywords, together, filter_flags, count, count_exprs, count_pairs, unary_code, binary_code}
 use Rattle.tm_syntax.specs.Code.{count_targets, close_all, for_flags}
 use Rattle.tm_syntax.specs.Fragments.{Fragment, ◌⨾◌, straight, Labels, outward, inward, beyond_all, beyond, whole_labels, assembled}
-use Rattle.tm_syntax.specs.Fragments.{looped as a_loop}
-use Rattle.tm_syntax.specs.Code.{expr_code, condition_code, conditions_code, exprs_code, pair_code, pairs_code, argument_code}
-use Rattle.tm_syntax.specs.Code.{arguments_code, keyword_code, keywords_code, named_code, iterable_code, filter_round, step_code}
+use Rattle.tm_syntax.specs.Fragments.{looped as a_loop, either}
+use Rattle.tm_syntax.specs.Code.{expr_code, conditions_code, exprs_code, pairs_code, argument_code}
+use Rattle.tm_syntax.specs.Code.{arguments_code, keywords_code, named_code, iterable_code, filter_round, step_code}
 use Rattle.tm_syntax.specs.Code.{links_code, steps_code, target_code, targets_code, set_code, assignments_code, statement_code}
 use Rattle.tm_syntax.specs.Code.{statements_code, branches_code, after_loop_code}
 use Rattle.tm_syntax.specs.declared.opened.Opened.{Opened}
@@ -59,8 +54,8 @@ use Rattle.tm_meaning.specs.Tree.{Trees}
 use Rattle.tm_meaning.specs.Meaning.{Again, ended, over, under, again_in, again_of, text_behind, Run, Outcome, Ending, done, leave, next}
 use Rattle.tm_meaning.specs.Meaning.{fault, Under, so_far, say, use_it, value_of, in_place_of, block_tag, truth, applied_unary, operated}
 use Rattle.tm_meaning.specs.Meaning.{applied, attribute, item_at, slice_of, list_of_values, map_of_pairs, audible as heard_here}
-use Rattle.tm_meaning.specs.Meaning.{none_waits, eval, eval_all, eval_pair, eval_pairs, eval_argument, eval_arguments, eval_keyword}
-use Rattle.tm_meaning.specs.Meaning.{eval_keywords, eval_named, keyword_map, one_counted, one_more, kept, loop_items, eval_condition}
+use Rattle.tm_meaning.specs.Meaning.{none_waits, eval, eval_all, eval_pairs, eval_argument, eval_arguments}
+use Rattle.tm_meaning.specs.Meaning.{eval_keywords, eval_named, keyword_map, one_counted, one_more, kept, loop_items, under_condition}
 use Rattle.tm_meaning.specs.Meaning.{eval_conditions, eval_step, eval_links, eval_steps, assign, assign_all, set_to, set_each, capturing}
 use Rattle.tm_meaning.specs.Meaning.{rounds, loop_over, has_none, exec_behind_loop, done_by, emit, behind_first, exec, exec_all}
 use Rattle.tm_meaning.specs.Meaning.{exec_else, new_run, at_end, nests_of, rendered}
@@ -87,8 +82,8 @@ use Rattle.tm_simulation.proofs.Advances.{kept_unescaped}
 use Rattle.tm_simulation.proofs.Gives.{RunEnds, loop_ends, ends_use, Gives, EndsBy as EndsKept, Ends as KeptEnds, ends_as, tick_gives}
 use Rattle.tm_simulation.proofs.Asks.{unpacked_gives, emitted_gives, escape_gives, Asks, block_asks, named_asks, method_asks}
 use Rattle.tm_simulation.proofs.Asks.{innermost_asks, items_give}
-use Rattle.tm_simulation.proofs.Evaluates.{eval_gives, condition_gives, all_give, pair_gives, pairs_give, argument_gives, arguments_give}
-use Rattle.tm_simulation.proofs.Evaluates.{keyword_gives, keywords_give, named_give, one_counted_gives, loop_items_give, step_gives}
+use Rattle.tm_simulation.proofs.Evaluates.{eval_gives, condition_gives, all_give, pairs_give, argument_gives, arguments_give}
+use Rattle.tm_simulation.proofs.Evaluates.{keywords_give, named_give, one_counted_gives, loop_items_give, step_gives}
 use Rattle.tm_simulation.proofs.Evaluates.{binary_gives, assign_gives, set_gives, set_each_gives, truth_gives, operated_gives}
 use Rattle.tm_simulation.proofs.Executes.{exec_ends, execs_end}
 use Rattle.tm_simulation.proofs.Keeps.{again_end, nests_end}
@@ -144,13 +139,15 @@ arguments_long u run (argument a more) w =
 
 keywords_long : {n : _} → (u : Under) (run : Run) (ks : Row_of-Keyword n) (w : World) → IsLong (count_keywords ks) (eval_keywords u run ks w)
 keywords_long u run no_keyword w = refl
-keywords_long u run (with_keyword x more) w =
-    long_bind _ (eval_keyword u run x w) _ (λ y world1. long_more y (count_keywords more) (eval_keywords u run more world1) (keywords_long u run more world1))
+keywords_long u run (with_keyword x a more) w =
+    long_bind _ (tick w) _ (λ _ world1. long_bind _ (eval u run a world1) _ (λ v world2.
+    long_more (text x false, v) (count_keywords more) (eval_keywords u run more world2) (keywords_long u run more world2)))
 
 named_long : {n : _} → (u : Under) (run : Run) (ks : Row_of-Keyword n) (w : World) → IsLong (together ks) (eval_named u run ks w)
 named_long u run no_keyword w = refl
-named_long u run (with_keyword x more) w =
-    long_bind _ (eval_keyword u run x w) _ (λ y world1. long_bind _ (eval_keywords u run more world1) _ (λ ys world2. long_bind _ (tick world2) _ (λ _ world3. refl)))
+named_long u run (with_keyword x a more) w =
+    long_bind _ (tick w) _ (λ _ world1. long_bind _ (eval u run a world1) _ (λ v world2.
+    long_bind _ (eval_keywords u run more world2) _ (λ ks world3. long_bind _ (tick world3) _ (λ _ world4. refl))))
 
 all_long : {n : _} → (u : Under) (run : Run) (es : Row_of-Expr n) (w : World) → IsLong (count_exprs es) (eval_all u run es w)
 all_long u run no_expr w = refl
@@ -159,8 +156,9 @@ all_long u run (expr e more) w =
 
 pairs_long : {n : _} → (u : Under) (run : Run) (ps : Row_of-Pair n) (w : World) → IsLong (count_pairs ps) (eval_pairs u run ps w)
 pairs_long u run no_pair w = refl
-pairs_long u run (with_pair x more) w =
-    long_bind _ (eval_pair u run x w) _ (λ y world1. long_more y (count_pairs more) (eval_pairs u run more world1) (pairs_long u run more world1))
+pairs_long u run (with_pair k v more) w =
+    long_bind _ (eval u run k w) _ (λ x world1. long_bind _ (eval u run v world1) _ (λ y world2.
+    long_more (x, y) (count_pairs more) (eval_pairs u run more world2) (pairs_long u run more world2)))
 
 -- so many items of a value
 counted : (n : ℕ) (vs : List Val) (b : Bool) (w : World) → (length vs == n) ≡ b → IsLong n (answered (cond b (Ok vs) (Err (CannotUnpack ∷ []))) w)
@@ -406,6 +404,23 @@ module _ (context : Context) (trees : Trees) (n : ℕ)
       (s : Spot) (l : Labels) (pc : ℕ) (stack : List Val) (w : World) → Here run s w → In s l pc code →
       Follows context (told s) (value w) (λ v world1. Go context s (beyond pc code) (v ∷ stack) world1) → Go context s pc stack w
 
+  -- a condition before code that pushes a value, and what stands for that behind it
+  condition_runs : (run : Run) (first code last : Fragment) (asked guarded other : World → Res Val) →
+      ((w : World) → Gives context.program.host w (asked w)) → ((w : World) → Gives context.program.host w (guarded w)) →
+      Runs run first asked → Runs run code guarded → Runs run last other →
+      Runs run (first ⨾ either code last) (under_condition context.program.host asked guarded other)
+  condition_runs run first code last asked guarded other asking given before part behind s l pc stack w d is h =
+      before s l pc stack w d is.0
+      (bind_then context (told s) w (asked w) _ _ _ (asking w) h (λ v world1 k1 h1.
+      at context _ s _ (v ∷ stack) world1 is.1.0.0 (after_then context (told s) (tick world1) _ (bind_then context (told s) world1 (tick world1) _ _ _ (tick_gives _ world1) h1 (λ _ world2 k2 h2.
+      after_then context (told s) (truth context.program.host v world2) _ (bind_then context (told s) world2 (truth context.program.host v world2) _ _ _ (truth_gives context.program.host v world2) h2 (λ b world3 k3 h3.
+      let deep3 = here_kept run s k3 (here_kept run s k2 (here_kept run s k1 d)) in
+      choose_then context b (bind (guarded world3) (λ x world4. bind (tick world4) (λ _ world5. Good x world5))) (other world3) _ _ (told s) _ h3
+      (λ h4. silent context (told s) _ (part s _ _ stack world3 deep3 is.1.0.1
+      (bind_then context (told s) world3 (guarded world3) _ _ _ (given world3) h4 (λ x world4 k4 h5.
+      at context _ s _ (x ∷ stack) world4 is.1.1 (after_then context (told s) (tick world4) _ (bind_then context (told s) world4 (tick world4) _ _ _ (tick_gives _ world4) h5 (λ _ world5 k5 g. silent context (told s) _ g)))))))
+      (λ h4. silent context (told s) _ (behind s _ _ stack world3 deep3 is.1.2 h4)))))))))
+
   mutual
     -- An expression's code pushes what it means, over any operands.
     expr_runs : (e : Expr) (run : Run) (s : Spot) (l : Labels) (pc : ℕ) (stack : List Val) (w : World) → Here run s w → In s l pc (expr_code e) →
@@ -456,25 +471,18 @@ module _ (context : Context) (trees : Trees) (n : ℕ)
         conditions_run cs run (expr_code a) (λ world1. eval u run a world1) (λ world1. eval_gives u nest_ends again_kept run a world1)
         (λ s1 l1 pc1 stack1 world1 deep1 is1 h1. expr_runs a run s1 l1 pc1 stack1 world1 deep1 is1 h1) s l pc stack w d is h
 
-    -- a condition before code that pushes a value, and what stands for that behind it
-    condition_runs : (x : Condition) (run : Run) (code : Fragment) (guarded : World → Res Val) → ((w : World) → Gives context.program.host w (guarded w)) → Runs run code guarded → Runs run (condition_code x code) (eval_condition u run x guarded)
-    condition_runs (condition c e) run code guarded given part s l pc stack w d is h =
-        expr_runs c run s l pc stack w d is.0
-        (bind_then context (told s) w (eval u run c w) _ _ _ (eval_gives u nest_ends again_kept run c w) h (λ v world1 k1 h1.
-        at context _ s _ (v ∷ stack) world1 is.1.0.0 (after_then context (told s) (tick world1) _ (bind_then context (told s) world1 (tick world1) _ _ _ (tick_gives _ world1) h1 (λ _ world2 k2 h2.
-        after_then context (told s) (truth context.program.host v world2) _ (bind_then context (told s) world2 (truth context.program.host v world2) _ _ _ (truth_gives context.program.host v world2) h2 (λ b world3 k3 h3.
-        let deep3 = here_kept run s k3 (here_kept run s k2 (here_kept run s k1 d)) in
-        choose_then context b (bind (guarded world3) (λ x world4. bind (tick world4) (λ _ world5. Good x world5))) (eval u run e world3) _ _ (told s) _ h3
-        (λ h4. silent context (told s) _ (part s _ _ stack world3 deep3 is.1.0.1
-        (bind_then context (told s) world3 (guarded world3) _ _ _ (given world3) h4 (λ x world4 k4 h5.
-        at context _ s _ (x ∷ stack) world4 is.1.1 (after_then context (told s) (tick world4) _ (bind_then context (told s) world4 (tick world4) _ _ _ (tick_gives _ world4) h5 (λ _ world5 k5 g. silent context (told s) _ g)))))))
-        (λ h4. silent context (told s) _ (expr_runs e run s l _ stack world3 deep3 is.1.2 h4)))))))))
-
+    -- conditions before code that pushes a value, and what stands for that behind it
     conditions_run : {m : _} → (cs : Row_of-Condition m) (run : Run) (code : Fragment) (guarded : World → Res Val) → ((w : World) → Gives context.program.host w (guarded w)) → Runs run code guarded → Runs run (conditions_code cs code) (eval_conditions u run cs guarded)
     conditions_run no_condition run code guarded given part s l pc stack w d is h = part s l pc stack w d is h
-    conditions_run (with_condition c more) run code guarded given part s l pc stack w d is h =
-        conditions_run more run (condition_code c code) (λ world1. eval_condition u run c guarded world1) (λ world1. condition_gives u nest_ends again_kept run c guarded given world1)
-        (λ s1 l1 pc1 stack1 world1 deep1 is1 h1. condition_runs c run code guarded given part s1 l1 pc1 stack1 world1 deep1 is1 h1) s l pc stack w d is h
+    conditions_run (with_condition c e more) run code guarded given part s l pc stack w d is h =
+        conditions_run more run (expr_code c ⨾ either code (expr_code e)) (λ world1. under_condition u.host (λ world2. eval u run c world2) guarded (λ world2. eval u run e world2) world1)
+        (λ world1. condition_gives u.host _ _ _ (λ world2. eval_gives u nest_ends again_kept run c world2) given (λ world2. eval_gives u nest_ends again_kept run e world2) world1)
+        (λ s1 l1 pc1 stack1 world1 deep1 is1 h1.
+        condition_runs run (expr_code c) code (expr_code e) (λ world2. eval u run c world2) guarded (λ world2. eval u run e world2)
+        (λ world2. eval_gives u nest_ends again_kept run c world2) given
+        (λ s2 l2 pc2 stack2 world2 deep2 is2 h2. expr_runs c run s2 l2 pc2 stack2 world2 deep2 is2 h2) part
+        (λ s2 l2 pc2 stack2 world2 deep2 is2 h2. expr_runs e run s2 l2 pc2 stack2 world2 deep2 is2 h2)
+        s1 l1 pc1 stack1 world1 deep1 is1 h1) s l pc stack w d is h
 
     exprs_run : {m : _} → (es : Row_of-Expr m) (run : Run) (s : Spot) (l : Labels) (pc : ℕ) (stack : List Val) (w : World) → Here run s w → In s l pc (exprs_code es) →
         Follows context (told s) (eval_all u run es w) (λ vs world1. Go context s (beyond pc (exprs_code es)) (onto vs stack) world1) → Go context s pc stack w
@@ -486,22 +494,16 @@ module _ (context : Context) (trees : Trees) (n : ℕ)
         (bind_then context (told s) world1 (eval_all u run more world1) _ _ _ (all_give u nest_ends again_kept run more world1) h1 (λ vs world2 k2 g. g))))
 
     -- A pair's code pushes its key and then its value.
-    pair_runs : (x : Pair) (run : Run) (s : Spot) (l : Labels) (pc : ℕ) (stack : List Val) (w : World) → Here run s w → In s l pc (pair_code x) →
-        Follows context (told s) (eval_pair u run x w) (λ y world1. Go context s (beyond pc (pair_code x)) (y.1 ∷ y.0 ∷ stack) world1) → Go context s pc stack w
-    pair_runs (pair k v) run s l pc stack w d is h =
-        expr_runs k run s l pc stack w d is.0
-        (bind_then context (told s) w (eval u run k w) _ _ _ (eval_gives u nest_ends again_kept run k w) h (λ x world1 e h1.
-        expr_runs v run s l _ (x ∷ stack) world1 (here_kept run s e d) is.1
-        (bind_then context (told s) world1 (eval u run v world1) _ _ _ (eval_gives u nest_ends again_kept run v world1) h1 (λ y world2 e2 g. g))))
-
     pairs_run : {m : _} → (ps : Row_of-Pair m) (run : Run) (s : Spot) (l : Labels) (pc : ℕ) (stack : List Val) (w : World) → Here run s w → In s l pc (pairs_code ps) →
         Follows context (told s) (eval_pairs u run ps w) (λ xs world1. Go context s (beyond pc (pairs_code ps)) (onto (flat xs) stack) world1) → Go context s pc stack w
     pairs_run no_pair run s l pc stack w d is h = h
-    pairs_run (with_pair x more) run s l pc stack w d is h =
-        pair_runs x run s l pc stack w d is.0
-        (bind_then context (told s) w (eval_pair u run x w) _ _ _ (pair_gives u nest_ends again_kept run x w) h (λ y world1 k h1.
-        pairs_run more run s l _ (y.1 ∷ y.0 ∷ stack) world1 (here_kept run s k d) is.1
-        (bind_then context (told s) world1 (eval_pairs u run more world1) _ _ _ (pairs_give u nest_ends again_kept run more world1) h1 (λ ys world2 k2 g. g))))
+    pairs_run (with_pair k v more) run s l pc stack w d is h =
+        expr_runs k run s l pc stack w d is.0
+        (bind_then context (told s) w (eval u run k w) _ _ _ (eval_gives u nest_ends again_kept run k w) h (λ x world1 k1 h1.
+        expr_runs v run s l _ (x ∷ stack) world1 (here_kept run s k1 d) is.1.0
+        (bind_then context (told s) world1 (eval u run v world1) _ _ _ (eval_gives u nest_ends again_kept run v world1) h1 (λ y world2 k2 h2.
+        pairs_run more run s l _ (y ∷ x ∷ stack) world2 (here_kept run s k2 (here_kept run s k1 d)) is.1.1
+        (bind_then context (told s) world2 (eval_pairs u run more world2) _ _ _ (pairs_give u nest_ends again_kept run more world2) h2 (λ xs world3 k3 g. g))))))
 
     argument_runs : (a : Argument) (run : Run) (s : Spot) (l : Labels) (pc : ℕ) (stack : List Val) (w : World) → Here run s w → In s l pc (argument_code a) →
         Follows context (told s) (eval_argument u run a w) (λ v world1. Go context s (beyond pc (argument_code a)) (v ∷ stack) world1) → Go context s pc stack w
@@ -517,39 +519,35 @@ module _ (context : Context) (trees : Trees) (n : ℕ)
         (bind_then context (told s) world1 (eval_arguments u run more world1) _ _ _ (arguments_give u nest_ends again_kept run more world1) h1 (λ vs world2 k2 g. g))))
 
     -- A keyword's code pushes its name and then its value.
-    keyword_runs : (x : Keyword) (run : Run) (s : Spot) (l : Labels) (pc : ℕ) (stack : List Val) (w : World) → Here run s w → In s l pc (keyword_code x) →
-        Follows context (told s) (eval_keyword u run x w) (λ y world1. Go context s (beyond pc (keyword_code x)) (y.1 ∷ y.0 ∷ stack) world1) → Go context s pc stack w
-    keyword_runs (keyword x a) run s l pc stack w d is h =
-        at context (i.LoadConst (text x false)) s pc stack w is.0.0 (after_then context (told s) (tick w) _ (bind_then context (told s) w (tick w) _ _ _ (tick_gives _ w) h (λ _ world1 k h1.
-        silent context (told s) _
-        (expr_runs a run s l (pc + 1) (text x false ∷ stack) world1 (here_kept run s k d) is.1
-        (bind_then context (told s) world1 (eval u run a world1) _ _ _ (eval_gives u nest_ends again_kept run a world1) h1 (λ v world2 k2 g. g))))))
-
     keywords_run : {m : _} → (ks : Row_of-Keyword m) (run : Run) (s : Spot) (l : Labels) (pc : ℕ) (stack : List Val) (w : World) → Here run s w → In s l pc (keywords_code ks) →
         Follows context (told s) (eval_keywords u run ks w) (λ xs world1. Go context s (beyond pc (keywords_code ks)) (onto (flat xs) stack) world1) → Go context s pc stack w
     keywords_run no_keyword run s l pc stack w d is h = h
-    keywords_run (with_keyword x more) run s l pc stack w d is h =
-        keyword_runs x run s l pc stack w d is.0
-        (bind_then context (told s) w (eval_keyword u run x w) _ _ _ (keyword_gives u nest_ends again_kept run x w) h (λ y world1 k h1.
-        keywords_run more run s l _ (y.1 ∷ y.0 ∷ stack) world1 (here_kept run s k d) is.1
-        (bind_then context (told s) world1 (eval_keywords u run more world1) _ _ _ (keywords_give u nest_ends again_kept run more world1) h1 (λ ys world2 k2 g. g))))
+    keywords_run (with_keyword x a more) run s l pc stack w d is h =
+        at context (i.LoadConst (text x false)) s pc stack w is.0.0 (after_then context (told s) (tick w) _ (bind_then context (told s) w (tick w) _ _ _ (tick_gives _ w) h (λ _ world1 k1 h1.
+        silent context (told s) _
+        (expr_runs a run s l (pc + 1) (text x false ∷ stack) world1 (here_kept run s k1 d) is.1.0
+        (bind_then context (told s) world1 (eval u run a world1) _ _ _ (eval_gives u nest_ends again_kept run a world1) h1 (λ v world2 k2 h2.
+        keywords_run more run s l _ (v ∷ text x false ∷ stack) world2 (here_kept run s k2 (here_kept run s k1 d)) is.1.1
+        (bind_then context (told s) world2 (eval_keywords u run more world2) _ _ _ (keywords_give u nest_ends again_kept run more world2) h2 (λ ks world3 k3 g. g))))))))
 
     -- keywords become one argument
     named_runs : {m : _} → (ks : Row_of-Keyword m) (run : Run) (s : Spot) (l : Labels) (pc : ℕ) (stack : List Val) (w : World) → Here run s w → In s l pc (named_code ks) →
         Follows context (told s) (eval_named u run ks w) (λ vs world1. Go context s (beyond pc (named_code ks)) (onto vs stack) world1) → Go context s pc stack w
     named_runs no_keyword run s l pc stack w d is h = h
-    named_runs (with_keyword x more) run s l pc stack w d is h =
+    named_runs (with_keyword x a more) run s l pc stack w d is h =
         let n = count_keywords more + 1 in
-        let pc1 = beyond (beyond pc (keyword_code x)) (keywords_code more) in
-        keyword_runs x run s l pc stack w d is.0
-        (bind_then context (told s) w (eval_keyword u run x w) _ _ _ (keyword_gives u nest_ends again_kept run x w) h (λ y world1 k h1.
-        keywords_run more run s l _ (y.1 ∷ y.0 ∷ stack) world1 (here_kept run s k d) is.1.0
-        (bind_long context (told s) world1 (count_keywords more) (eval_keywords u run more world1) _ _ _ (keywords_give u nest_ends again_kept run more world1) (keywords_long u run more world1) h1 (λ ys world2 k2 m h2.
-        let xs = y ∷ ys in
+        let pc1 = beyond (beyond (pc + 1) (expr_code a)) (keywords_code more) in
+        at context (i.LoadConst (text x false)) s pc stack w is.0.0 (after_then context (told s) (tick w) _ (bind_then context (told s) w (tick w) _ _ _ (tick_gives _ w) h (λ _ world1 k1 h1.
+        silent context (told s) _
+        (expr_runs a run s l (pc + 1) (text x false ∷ stack) world1 (here_kept run s k1 d) is.1.0
+        (bind_then context (told s) world1 (eval u run a world1) _ _ _ (eval_gives u nest_ends again_kept run a world1) h1 (λ v world2 k2 h2.
+        keywords_run more run s l _ (v ∷ text x false ∷ stack) world2 (here_kept run s k2 (here_kept run s k1 d)) is.1.1.0
+        (bind_long context (told s) world2 (count_keywords more) (eval_keywords u run more world2) _ _ _ (keywords_give u nest_ends again_kept run more world2) (keywords_long u run more world2) h2 (λ ks world3 k3 m h3.
+        let xs = (text x false, v) ∷ ks in
         let long : length xs ≡ n = omega (arith, m) in
-        at context (i.BuildKwargs n) s pc1 (onto (flat xs) stack) world2 is.1.1.0
-        (after_then context (told s) (tick world2) _ (bind_then context (told s) world2 (tick world2) _ _ _ (tick_gives _ world2) h2 (λ _ world3 k3 h3.
-        built_then (λ vs. keyword_map (paired vs)) s pc1 (n + n) (flat xs) stack world3 (flat_long n xs long) (subst (λ zs. Go context s (pc1 + 1) (keyword_map zs ∷ stack) world3) (sym (paired_flat xs)) h3))))))))
+        at context (i.BuildKwargs n) s pc1 (onto (flat xs) stack) world3 is.1.1.1.0
+        (after_then context (told s) (tick world3) _ (bind_then context (told s) world3 (tick world3) _ _ _ (tick_gives _ world3) h3 (λ _ world4 k4 h4.
+        built_then (λ vs. keyword_map (paired vs)) s pc1 (n + n) (flat xs) stack world4 (flat_long n xs long) (subst (λ zs. Go context s (pc1 + 1) (keyword_map zs ∷ stack) world4) (sym (paired_flat xs)) h4))))))))))))
 
     -- A step's code replaces the value on top.
     step_runs : (x : Step) (run : Run) (s : Spot) (l : Labels) (pc : ℕ) (v : Val) (stack : List Val) (w : World) → Here run s w → In s l pc (step_code x) →
@@ -618,7 +616,7 @@ module _ (context : Context) (trees : Trees) (n : ℕ)
         bind_then context (told s) world1 (applied context.program.host op x y world1) _ _ _ (binary_gives context.program.host op x y world1) h1 (λ v world2 k2 h2.
         move context s _ _ (v ∷ stack) world2 place
         (at context _ s jump (v ∷ stack) world2 over_drop (after_then context (told s) (tick world2) _ (bind_then context (told s) world2 (tick world2) _ _ _ (tick_gives _ world2) h2 (λ _ world3 k3 g. silent context (told s) _ g))))))))
-    links_run op (with_comparison (comparison op1 a) more) run s l pc jump x y stack w d is place over_drop drop h =
+    links_run op (with_comparison op1 a more) run s l pc jump x y stack w d is place over_drop drop h =
         at context (i.CompareAndPreserve op) s pc (y ∷ x ∷ stack) w is.0.0 (after_then context (told s) (tick w) _ (bind_then context (told s) w (tick w) _ _ _ (tick_gives _ w) h (λ _ world1 k1 h1.
         after_then context (told s) (operated context.program.host op x y world1) _ (bind_then context (told s) world1 (operated context.program.host op x y world1) _ _ _ (operated_gives context.program.host op x y world1) h1 (λ v world2 k2 h2.
         silent context (told s) _ (at context _ s (pc + 1) (v ∷ y ∷ stack) world2 is.1.0
@@ -676,9 +674,9 @@ module _ (context : Context) (trees : Trees) (n : ℕ)
   sets_run : (given : List Assignment) (run : Run) (s : Spot) (l : Labels) (pc : ℕ) (stack : List Val) (w : World) → Here run s w → In s l pc (assignments_code given) →
       Follows context (told s) (set_each u run given w) (λ _ world1. Go context s (beyond pc (assignments_code given)) stack world1) → Go context s pc stack w
   sets_run [] run s l pc stack w d is h = h
-  sets_run (Given t e ∷ more) run s l pc stack w d is h =
-      set_runs t e run s l pc stack w d is.0
-      (bind_then context (told s) w (set_to u run t e w) _ _ _ (set_gives u nest_ends again_kept run t e w) h (λ _ world1 k h1. sets_run more run s l _ stack world1 (here_kept run s k d) is.1 h1))
+  sets_run (a ∷ more) run s l pc stack w d is h =
+      set_runs a.target a.value run s l pc stack w d is.0
+      (bind_then context (told s) w (set_to u run a.target a.value w) _ _ _ (set_gives u nest_ends again_kept run a.target a.value w) h (λ _ world1 k h1. sets_run more run s l _ stack world1 (here_kept run s k d) is.1 h1))
 
   -- A scope of the run's own, which is no loop's, is left, which is free.
   popped_then : (s : Spot) (pc : ℕ) (stack : List Val) (w : World) → context.base.scopes < length w.scopes.frames → top_mark w.scopes.frames ≡ None → slice_get (context.program.code s.run.stream) pc ≡ Some i.PopFrame →

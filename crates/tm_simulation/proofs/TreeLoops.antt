@@ -9,36 +9,31 @@ use Rattle.tm_syntax.specs.declared.tree.UnaryOperator.TheVariants as unaries
 use Rattle.tm_syntax.specs.declared.tree.BinaryOperator.{BinaryOperator}
 use Rattle.tm_syntax.specs.declared.tree.BinaryOperator.TheVariants as binaries
 use Rattle.tm_syntax.specs.declared.tree.Expr.{Expr, Var, Const, List', Tuple', Map', Call', Row_of-Expr, end_of-Expr as no_expr}
-use Rattle.tm_syntax.specs.declared.tree.Expr.{more_of-Expr as expr, Row_of-Pair, end_of-Pair as no_pair, more_of-Pair as with_pair}
+use Rattle.tm_syntax.specs.declared.tree.Expr.{more_of-Expr as expr, Row_of-Pair, end_of-Pair as no_pair}
 use Rattle.tm_syntax.specs.declared.tree.Expr.{Row_of-Argument, end_of-Argument as no_argument, more_of-Argument as argument}
-use Rattle.tm_syntax.specs.declared.tree.Expr.{Row_of-Keyword, end_of-Keyword as no_keyword, more_of-Keyword as with_keyword, Row_of-Step}
+use Rattle.tm_syntax.specs.declared.tree.Expr.{Row_of-Keyword, end_of-Keyword as no_keyword, Row_of-Step}
 use Rattle.tm_syntax.specs.declared.tree.Expr.{end_of-Step as no_step, more_of-Step as step, Row_of-Condition}
-use Rattle.tm_syntax.specs.declared.tree.Expr.{end_of-Condition as no_condition, more_of-Condition as with_condition}
+use Rattle.tm_syntax.specs.declared.tree.Expr.{end_of-Condition as no_condition}
 use Rattle.tm_syntax.specs.declared.tree.Argument.{Argument}
-use Rattle.tm_syntax.specs.declared.tree.Keyword.{Keyword}
-use Rattle.tm_syntax.specs.declared.tree.Pair.{Pair}
-use Rattle.tm_syntax.specs.declared.tree.Condition.{Condition}
 use Rattle.tm_syntax.specs.declared.tree.Step.{Step, Attribute, Method', Row_of-Comparison, end_of-Comparison as no_comparison}
-use Rattle.tm_syntax.specs.declared.tree.Step.{more_of-Comparison as with_comparison}
 use Rattle.tm_syntax.specs.declared.tree.Target.{Target, Name as To, Unpack' as Items, Attribute as Member, Row_of-Target}
 use Rattle.tm_syntax.specs.declared.tree.Target.{end_of-Target as no_target, more_of-Target as target}
 use Rattle.tm_syntax.specs.declared.tree.Assignment.{Assignment}
-use Rattle.tm_syntax.specs.declared.tree.Assignment.TheVariants.{Assignment as Given}
 use Rattle.tm_syntax.specs.declared.tree.Stmt.{Stmt, EmitRaw, EmitExpr, EmitLoop, If', For', Break, Continue, Block', Set, SetBlock'}
 use Rattle.tm_syntax.specs.declared.tree.Stmt.{With', Do, AutoEscape', Row_of-Stmt, end_of-Stmt as no_statement}
 use Rattle.tm_syntax.specs.declared.tree.Stmt.{more_of-Stmt as statement, Held-Stmt-If-2 as Otherwise, None' as no_else}
 use Rattle.tm_syntax.specs.declared.tree.Stmt.{Some' as otherwise}
 use Rattle.tm_syntax.specs.declared.opened.Opened.{Opened}
 use Rattle.tm_syntax.specs.declared.opened.Opened.TheVariants.{Scope as a_scope, Escape as an_escape, Capture as a_capture}
-use Rattle.tm_syntax.specs.Forms.{unary, chained, conditional, condition, comparison, pair, plain, keyword, item, slice, binary, compare}
-use Rattle.tm_syntax.specs.Forms.{and_then, or_else}
+use Rattle.tm_syntax.specs.Forms.{unary, chained, conditional, with_condition, with_comparison, with_pair, plain, with_keyword}
+use Rattle.tm_syntax.specs.Forms.{item, slice, binary, compare, and_then, or_else}
 use Rattle.tm_syntax.specs.Code.{unary_code, binary_code, close_all, for_flags}
 use Rattle.tm_syntax.specs.Blocks.{body_of}
 use Rattle.tm_syntax.specs.Loops.{FoundLoop, with_pass, within_loop, passes, past, pasts, past_else, loops_of, loops_in, loops_else}
 use Rattle.tm_syntax.specs.Fragments.{Fragment, straight, ◌⨾◌, looped, Labels}
 use Rattle.tm_syntax.specs.declared.jump.JumpKind.TheVariants.{IfFalse}
-use Rattle.tm_syntax.specs.Code.{expr_code, condition_code, conditions_code, exprs_code, pair_code, pairs_code, argument_code}
-use Rattle.tm_syntax.specs.Code.{arguments_code, keyword_code, keywords_code, named_code, step_code, links_code, steps_code, target_code}
+use Rattle.tm_syntax.specs.Code.{expr_code, conditions_code, exprs_code, pairs_code, argument_code}
+use Rattle.tm_syntax.specs.Code.{arguments_code, keywords_code, named_code, step_code, links_code, steps_code, target_code}
 use Rattle.tm_syntax.specs.Code.{targets_code, set_code, assignments_code, iterable_code, filter_round, statement_code, statements_code}
 use Rattle.tm_syntax.specs.Code.{branches_code, after_loop_code}
 use Rattle.tm_syntax.proofs.Standing.{HasAt, At}
@@ -80,23 +75,17 @@ mutual
   expr_loopless (chained a _ ss) = (expr_loopless a, steps_loopless ss)
   expr_loopless (conditional a _ cs) = conditions_loopless cs (expr_code a) (expr_loopless a)
 
-  condition_loopless : (c : Condition) (value : Fragment) → Loopless value → Loopless (condition_code c value)
-  condition_loopless (condition c e) value h = (expr_loopless c, ((tt, h), expr_loopless e))
-
   conditions_loopless : {n : _} → (cs : Row_of-Condition n) (value : Fragment) → Loopless value → Loopless (conditions_code cs value)
   conditions_loopless no_condition value h = h
-  conditions_loopless (with_condition c more) value h = conditions_loopless more (condition_code c value) (condition_loopless c value h)
+  conditions_loopless (with_condition c e more) value h = conditions_loopless more _ (expr_loopless c, ((tt, h), expr_loopless e))
 
   exprs_loopless : {n : _} → (es : Row_of-Expr n) → Loopless (exprs_code es)
   exprs_loopless no_expr = tt
   exprs_loopless (expr e more) = (expr_loopless e, exprs_loopless more)
 
-  pair_loopless : (x : Pair) → Loopless (pair_code x)
-  pair_loopless (pair k v) = (expr_loopless k, expr_loopless v)
-
   pairs_loopless : {n : _} → (ps : Row_of-Pair n) → Loopless (pairs_code ps)
   pairs_loopless no_pair = tt
-  pairs_loopless (with_pair x more) = (pair_loopless x, pairs_loopless more)
+  pairs_loopless (with_pair k v more) = (expr_loopless k, (expr_loopless v, pairs_loopless more))
 
   argument_loopless : (a : Argument) → Loopless (argument_code a)
   argument_loopless (plain a) = expr_loopless a
@@ -105,16 +94,13 @@ mutual
   arguments_loopless no_argument = tt
   arguments_loopless (argument a more) = (argument_loopless a, arguments_loopless more)
 
-  keyword_loopless : (k : Keyword) → Loopless (keyword_code k)
-  keyword_loopless (keyword x a) = ((refl, tt), expr_loopless a)
-
   keywords_loopless : {n : _} → (ks : Row_of-Keyword n) → Loopless (keywords_code ks)
   keywords_loopless no_keyword = tt
-  keywords_loopless (with_keyword k more) = (keyword_loopless k, keywords_loopless more)
+  keywords_loopless (with_keyword x a more) = ((refl, tt), (expr_loopless a, keywords_loopless more))
 
   named_loopless : {n : _} → (ks : Row_of-Keyword n) → Loopless (named_code ks)
   named_loopless no_keyword = tt
-  named_loopless (with_keyword k more) = (keyword_loopless k, (keywords_loopless more, (refl, tt)))
+  named_loopless (with_keyword x a more) = ((refl, tt), (expr_loopless a, (keywords_loopless more, (refl, tt))))
 
   step_loopless : (s : Step) → Loopless (step_code s)
   step_loopless (Attribute x) = (refl, tt)
@@ -128,7 +114,7 @@ mutual
 
   links_loopless : {n : _} → (op : BinaryOperator) (cs : Row_of-Comparison n) → Loopless (links_code op cs)
   links_loopless op no_comparison = binary_loopless op
-  links_loopless op (with_comparison (comparison op1 a) more) = ((refl, tt), (tt, (expr_loopless a, links_loopless op1 more)))
+  links_loopless op (with_comparison op1 a more) = ((refl, tt), (tt, (expr_loopless a, links_loopless op1 more)))
 
   steps_loopless : {n : _} → (ss : Row_of-Step n) → Loopless (steps_code ss)
   steps_loopless no_step = tt
@@ -147,7 +133,7 @@ mutual
 
 pub assignments_loopless : (given : List Assignment) → Loopless (assignments_code given)
 assignments_loopless [] = tt
-assignments_loopless (Given t e ∷ more) = ((expr_loopless e, target_loopless t), assignments_loopless more)
+assignments_loopless (a ∷ more) = ((expr_loopless a.value, target_loopless a.target), assignments_loopless more)
 
 -- ---------------------------------------------------------------- statements begin their loops
 closed_loopless : (os : List Opened) → NoneBegins (close_all os)

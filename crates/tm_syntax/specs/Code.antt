@@ -6,21 +6,16 @@ use Rattle.tm_syntax.specs.declared.tree.UnaryOperator.TheVariants as unaries
 use Rattle.tm_syntax.specs.declared.tree.BinaryOperator.{BinaryOperator}
 use Rattle.tm_syntax.specs.declared.tree.BinaryOperator.TheVariants as binaries
 use Rattle.tm_syntax.specs.declared.tree.Expr.{Expr, Var, Const, List', Tuple', Map', Call', Row_of-Expr, end_of-Expr as no_expr}
-use Rattle.tm_syntax.specs.declared.tree.Expr.{more_of-Expr as expr, Row_of-Pair, end_of-Pair as no_pair, more_of-Pair as with_pair}
+use Rattle.tm_syntax.specs.declared.tree.Expr.{more_of-Expr as expr, Row_of-Pair, end_of-Pair as no_pair}
 use Rattle.tm_syntax.specs.declared.tree.Expr.{Row_of-Argument, end_of-Argument as no_argument, more_of-Argument as argument}
-use Rattle.tm_syntax.specs.declared.tree.Expr.{Row_of-Keyword, end_of-Keyword as no_keyword, more_of-Keyword as with_keyword, Row_of-Step}
+use Rattle.tm_syntax.specs.declared.tree.Expr.{Row_of-Keyword, end_of-Keyword as no_keyword, Row_of-Step}
 use Rattle.tm_syntax.specs.declared.tree.Expr.{end_of-Step as no_step, more_of-Step as step, Row_of-Condition}
-use Rattle.tm_syntax.specs.declared.tree.Expr.{end_of-Condition as no_condition, more_of-Condition as with_condition}
+use Rattle.tm_syntax.specs.declared.tree.Expr.{end_of-Condition as no_condition}
 use Rattle.tm_syntax.specs.declared.tree.Argument.{Argument}
-use Rattle.tm_syntax.specs.declared.tree.Keyword.{Keyword}
-use Rattle.tm_syntax.specs.declared.tree.Pair.{Pair}
-use Rattle.tm_syntax.specs.declared.tree.Condition.{Condition}
 use Rattle.tm_syntax.specs.declared.tree.Step.{Step, Attribute, Method', Row_of-Comparison, end_of-Comparison as no_comparison}
-use Rattle.tm_syntax.specs.declared.tree.Step.{more_of-Comparison as with_comparison}
 use Rattle.tm_syntax.specs.declared.tree.Target.{Target, Name as To, Unpack' as Items, Attribute as Member, Row_of-Target}
 use Rattle.tm_syntax.specs.declared.tree.Target.{end_of-Target as no_target, more_of-Target as target}
 use Rattle.tm_syntax.specs.declared.tree.Assignment.{Assignment}
-use Rattle.tm_syntax.specs.declared.tree.Assignment.TheVariants.{Assignment as Given}
 use Rattle.tm_syntax.specs.declared.tree.Stmt.{Stmt, EmitRaw, EmitExpr, EmitLoop, If', For', Break, Continue, Block', Set, SetBlock'}
 use Rattle.tm_syntax.specs.declared.tree.Stmt.{With', Do, AutoEscape', Row_of-Stmt, end_of-Stmt as no_statement}
 use Rattle.tm_syntax.specs.declared.tree.Stmt.{more_of-Stmt as statement, Held-Stmt-If-2 as Otherwise, None' as no_else}
@@ -31,8 +26,8 @@ use Rattle.tm_syntax.specs.declared.instruction.Instruction.{Instruction}
 use Rattle.tm_syntax.specs.declared.instruction.Instruction.TheVariants as i
 use Rattle.tm_syntax.specs.declared.opened.Opened.{Opened}
 use Rattle.tm_syntax.specs.declared.opened.Opened.TheVariants.{Scope as a_scope, Escape as an_escape, Capture as a_capture}
-use Rattle.tm_syntax.specs.Forms.{unary, chained, conditional, condition, comparison, pair, plain, keyword, item, slice, binary, compare}
-use Rattle.tm_syntax.specs.Forms.{and_then, or_else}
+use Rattle.tm_syntax.specs.Forms.{unary, chained, conditional, with_condition, with_comparison, with_pair, plain, with_keyword}
+use Rattle.tm_syntax.specs.Forms.{item, slice, binary, compare, and_then, or_else}
 use Rattle.tm_syntax.specs.declared.jump.JumpKind.TheVariants.{IfFalse, IfFalseOrPop, IfTrueOrPop}
 use Rattle.tm_syntax.specs.Fragments.{Fragment, straight, ◌⨾◌, jump_out, fork, looped, break_loop, next_round, over, either, assembled}
 
@@ -64,12 +59,12 @@ count (argument a more) = count more + 1
 
 abbrev pub count_keywords : {n : _} → Row_of-Keyword n → ℕ
 count_keywords no_keyword = 0
-count_keywords (with_keyword k more) = count_keywords more + 1
+count_keywords (with_keyword x a more) = count_keywords more + 1
 
 -- arguments by their names are one argument together
 abbrev pub together : {n : _} → Row_of-Keyword n → ℕ
 together no_keyword = 0
-together (with_keyword k more) = 1
+together (with_keyword x a more) = 1
 
 abbrev pub count_exprs : {n : _} → Row_of-Expr n → ℕ
 count_exprs no_expr = 0
@@ -77,7 +72,7 @@ count_exprs (expr e more) = count_exprs more + 1
 
 abbrev pub count_pairs : {n : _} → Row_of-Pair n → ℕ
 count_pairs no_pair = 0
-count_pairs (with_pair p more) = count_pairs more + 1
+count_pairs (with_pair k v more) = count_pairs more + 1
 
 abbrev mutual
   pub expr_code : Expr → Fragment
@@ -91,25 +86,18 @@ abbrev mutual
   expr_code (chained a _ ss) = expr_code a ⨾ steps_code ss
   expr_code (conditional a _ cs) = conditions_code cs (expr_code a)
 
-  -- a condition before the code of a value, and what stands for the value after it
-  pub condition_code : Condition → Fragment → Fragment
-  condition_code (condition c e) value = expr_code c ⨾ either value (expr_code e)
-
-  -- the last condition first
+  -- The last condition first: each before the code of a value, and what stands for the value after it.
   pub conditions_code : {n : _} → Row_of-Condition n → Fragment → Fragment
   conditions_code no_condition value = value
-  conditions_code (with_condition c more) value = conditions_code more (condition_code c value)
+  conditions_code (with_condition c e more) value = conditions_code more (expr_code c ⨾ either value (expr_code e))
 
   pub exprs_code : {n : _} → Row_of-Expr n → Fragment
   exprs_code no_expr = straight []
   exprs_code (expr e more) = expr_code e ⨾ exprs_code more
 
-  pub pair_code : Pair → Fragment
-  pair_code (pair k v) = expr_code k ⨾ expr_code v
-
   pub pairs_code : {n : _} → Row_of-Pair n → Fragment
   pairs_code no_pair = straight []
-  pairs_code (with_pair p more) = pair_code p ⨾ pairs_code more
+  pairs_code (with_pair k v more) = expr_code k ⨾ expr_code v ⨾ pairs_code more
 
   pub argument_code : Argument → Fragment
   argument_code (plain a) = expr_code a
@@ -118,17 +106,15 @@ abbrev mutual
   arguments_code no_argument = straight []
   arguments_code (argument a more) = argument_code a ⨾ arguments_code more
 
-  pub keyword_code : Keyword → Fragment
-  keyword_code (keyword x a) = straight (i.LoadConst (text x false) ∷ []) ⨾ expr_code a
-
   pub keywords_code : {n : _} → Row_of-Keyword n → Fragment
   keywords_code no_keyword = straight []
-  keywords_code (with_keyword k more) = keyword_code k ⨾ keywords_code more
+  keywords_code (with_keyword x a more) = straight (i.LoadConst (text x false) ∷ []) ⨾ expr_code a ⨾ keywords_code more
 
   -- a keyword map of them, where there are any
   pub named_code : {n : _} → Row_of-Keyword n → Fragment
   named_code no_keyword = straight []
-  named_code (with_keyword k more) = keyword_code k ⨾ keywords_code more ⨾ straight (i.BuildKwargs (count_keywords more + 1) ∷ [])
+  named_code (with_keyword x a more) =
+      straight (i.LoadConst (text x false) ∷ []) ⨾ expr_code a ⨾ keywords_code more ⨾ straight (i.BuildKwargs (count_keywords more + 1) ∷ [])
 
   pub step_code : Step → Fragment
   step_code (Attribute x) = straight (i.GetAttr x ∷ [])
@@ -143,7 +129,7 @@ abbrev mutual
   -- A comparison and those after it: each but the last leaves its right side below its answer, and jumps out where that is false.
   pub links_code : {n : _} → BinaryOperator → Row_of-Comparison n → Fragment
   links_code op no_comparison = straight (binary_code op)
-  links_code op (with_comparison (comparison op1 a) more) = straight (i.CompareAndPreserve op ∷ []) ⨾ jump_out IfFalseOrPop ⨾ expr_code a ⨾ links_code op1 more
+  links_code op (with_comparison op1 a more) = straight (i.CompareAndPreserve op ∷ []) ⨾ jump_out IfFalseOrPop ⨾ expr_code a ⨾ links_code op1 more
 
   pub steps_code : {n : _} → Row_of-Step n → Fragment
   steps_code no_step = straight []
@@ -169,7 +155,7 @@ set_code t e = expr_code e ⨾ target_code t
 
 abbrev pub assignments_code : List Assignment → Fragment
 assignments_code [] = straight []
-assignments_code (Given t e ∷ more) = set_code t e ⨾ assignments_code more
+assignments_code (a ∷ more) = set_code a.target a.value ⨾ assignments_code more
 
 -- ---------------------------------------------------------------- statements
 abbrev pub close : Opened → List Instruction

@@ -1,16 +1,14 @@
 -- The forms of a tree that hold boxes, as patterns: a box is what it holds.
 use Rattle.std.specs.Prelude.{ℕ, List}
-use mathlib.Core.Former.{arity, this}
+use mathlib.Core.Former.{arity, this, one_more}
 use Rattle.sqlite_items.specs.formers.items.Items as items
 use Rattle.tm_syntax.specs.declared.tree.UnaryOperator.{UnaryOperator}
 use Rattle.tm_syntax.specs.declared.tree.BinaryOperator.{BinaryOperator}
-use Rattle.tm_syntax.specs.declared.tree.Expr.{Expr, Unary', Chain', Conditional', end_of-Expr, more_of-Expr, Row_of-Step, Row_of-Condition}
+use Rattle.tm_syntax.specs.declared.tree.Expr.{Expr, Unary', Chain', Conditional', end_of-Expr, more_of-Expr, Row_of-Step}
+use Rattle.tm_syntax.specs.declared.tree.Expr.{Row_of-Condition, more_of-Condition, Row_of-Keyword, more_of-Keyword}
+use Rattle.tm_syntax.specs.declared.tree.Expr.{Row_of-Pair, more_of-Pair}
 use Rattle.tm_syntax.specs.declared.tree.Argument.{Argument, Plain'}
-use Rattle.tm_syntax.specs.declared.tree.Keyword.{Keyword, Keyword'}
-use Rattle.tm_syntax.specs.declared.tree.Pair.{Pair, Pair'}
-use Rattle.tm_syntax.specs.declared.tree.Condition.{Condition, Condition'}
-use Rattle.tm_syntax.specs.declared.tree.Comparison.{Comparison, Comparison'}
-use Rattle.tm_syntax.specs.declared.tree.Step.{Step, Item', Slice', Binary', Compare', And', Or', Row_of-Comparison}
+use Rattle.tm_syntax.specs.declared.tree.Step.{Step, Item', Slice', Binary', Compare', And', Or', Row_of-Comparison, more_of-Comparison}
 
 pattern abbrev pub unary : UnaryOperator → Expr → Expr
 unary op a = Unary' op tt (more_of-Expr a end_of-Expr)
@@ -21,20 +19,20 @@ chained a n ss = Chain' tt (more_of-Expr a end_of-Expr) n ss
 pattern abbrev pub conditional : Expr → (n : (items.the_former (this {0})).Shape) → Row_of-Condition (arity (items.the_former (this {0})) n) → Expr
 conditional a n cs = Conditional' tt (more_of-Expr a end_of-Expr) n cs
 
-pattern abbrev pub condition : Expr → Expr → Condition
-condition c e = Condition' tt (more_of-Expr c end_of-Expr) tt (more_of-Expr e end_of-Expr)
+pattern abbrev pub with_condition : {n : _} → Expr → Expr → Row_of-Condition n → Row_of-Condition (one_more n)
+with_condition c e more = more_of-Condition tt (more_of-Expr c end_of-Expr) tt (more_of-Expr e end_of-Expr) more
 
-pattern abbrev pub comparison : BinaryOperator → Expr → Comparison
-comparison op a = Comparison' op tt (more_of-Expr a end_of-Expr)
+pattern abbrev pub with_comparison : {n : _} → BinaryOperator → Expr → Row_of-Comparison n → Row_of-Comparison (one_more n)
+with_comparison op a more = more_of-Comparison op tt (more_of-Expr a end_of-Expr) more
 
 pattern abbrev pub plain : Expr → Argument
 plain a = Plain' tt (more_of-Expr a end_of-Expr)
 
-pattern abbrev pub keyword : List ℕ → Expr → Keyword
-keyword x a = Keyword' x tt (more_of-Expr a end_of-Expr)
+pattern abbrev pub with_keyword : {n : _} → List ℕ → Expr → Row_of-Keyword n → Row_of-Keyword (one_more n)
+with_keyword x a more = more_of-Keyword x tt (more_of-Expr a end_of-Expr) more
 
-pattern abbrev pub pair : Expr → Expr → Pair
-pair k v = Pair' tt (more_of-Expr k end_of-Expr) tt (more_of-Expr v end_of-Expr)
+pattern abbrev pub with_pair : {n : _} → Expr → Expr → Row_of-Pair n → Row_of-Pair (one_more n)
+with_pair k v more = more_of-Pair tt (more_of-Expr k end_of-Expr) tt (more_of-Expr v end_of-Expr) more
 
 pattern abbrev pub item : Expr → Step
 item a = Item' tt (more_of-Expr a end_of-Expr)

@@ -77,9 +77,11 @@ pub enum Expr {
 /// A key of a map with its value.
 #[cycle(expr)]
 #[derive(Drop)]
-pub enum Pair {
-    /// The key, and the value.
-    Pair(Boxed<Expr>, Boxed<Expr>),
+pub struct Pair {
+    /// The key.
+    pub key: Boxed<Expr>,
+    /// The value.
+    pub value: Boxed<Expr>,
 }
 
 /// An argument of a call, by its place.
@@ -93,25 +95,31 @@ pub enum Argument {
 /// An argument of a call, by its name.
 #[cycle(expr)]
 #[derive(Drop)]
-pub enum Keyword {
-    /// The name, and the value.
-    Keyword(Name, Boxed<Expr>),
+pub struct Keyword {
+    /// The name.
+    pub name: Name,
+    /// The value.
+    pub value: Boxed<Expr>,
 }
 
 /// A condition of a value.
 #[cycle(expr)]
 #[derive(Drop)]
-pub enum Condition {
-    /// What is asked, and what stands for the value where it is false: the literal silent undefined where nothing does.
-    Condition(Boxed<Expr>, Boxed<Expr>),
+pub struct Condition {
+    /// What is asked.
+    pub test: Boxed<Expr>,
+    /// What stands for the value where that is false: the literal silent undefined where nothing does.
+    pub otherwise: Boxed<Expr>,
 }
 
 /// A comparison behind another one.
 #[cycle(expr)]
 #[derive(Drop)]
-pub enum Comparison {
-    /// The operator, and the right side.
-    Comparison(BinaryOperator, Boxed<Expr>),
+pub struct Comparison {
+    /// The operator.
+    pub operator: BinaryOperator,
+    /// The right side.
+    pub right: Boxed<Expr>,
 }
 
 /// What goes on with a value.
@@ -149,12 +157,15 @@ pub enum Target {
 
 /// A value for a target.
 #[derive(Drop)]
-pub enum Assignment {
-    /// The target, and the value.
-    Assignment(Target, Boxed<Expr>),
+pub struct Assignment {
+    /// The target.
+    pub target: Target,
+    /// The value.
+    pub value: Boxed<Expr>,
 }
 
 /// A statement.
+#[cycle(stmt)]
 #[derive(Drop)]
 pub enum Stmt {
     /// Raw text.
@@ -165,8 +176,8 @@ pub enum Stmt {
     If(Boxed<Expr>, Items<Stmt>, Option<Items<Stmt>>),
     /// The innermost loop is called with this, and writes in place.
     EmitLoop(Boxed<Expr>),
-    /// A target, what is iterated, the condition of an item that is taken, whether the loop can be called, what runs for each of these, and what runs where there is none.
-    For(Target, Boxed<Expr>, Option<Boxed<Expr>>, bool, Items<Stmt>, Option<Items<Stmt>>),
+    /// A loop.
+    For(ForLoop),
     /// The innermost loop is left.
     Break,
     /// The innermost loop goes on with its next item.
@@ -183,6 +194,24 @@ pub enum Stmt {
     Do(Boxed<Expr>),
     /// How is escaped, and the body in which it is.
     AutoEscape(Boxed<Expr>, Items<Stmt>),
+}
+
+/// A loop over items.
+#[cycle(stmt)]
+#[derive(Drop)]
+pub struct ForLoop {
+    /// What each item is given to.
+    pub target: Target,
+    /// What is iterated.
+    pub iterable: Boxed<Expr>,
+    /// The condition of an item that is taken.
+    pub condition: Option<Boxed<Expr>>,
+    /// Whether the loop can be called.
+    pub recursive: bool,
+    /// What runs for each item that is taken.
+    pub body: Items<Stmt>,
+    /// What runs where there is none.
+    pub other: Option<Items<Stmt>>,
 }
 
 /// A template's tree.
