@@ -12,7 +12,9 @@ use Rattle.tm_generator.specs.declared.builder.Out.{Out}
 use Rattle.tm_generator.specs.declared.builder.Exit.{Exit}
 use Rattle.tm_generator.specs.declared.builder.Exit.TheVariants.{Leave, Next}
 use Rattle.tm_generator.specs.declared.builder.Outer.{Outer}
+use Rattle.tm_syntax.specs.declared.opened.Opened.{Opened}
 pub use Rattle.tm_generator.specs.declared.builder.Builder.{Builder}
+pub use Rattle.tm_generator.specs.declared.statements.StreamBuilder.{StreamBuilder}
 
 -- one instruction more
 unfoldable pub with_one : Instruction → Builder → Builder
@@ -115,6 +117,19 @@ put (looped g c d) b = put d (rounds_ended (outer_of b) (put c (loop_begun g b))
 put break_loop b = left b
 put next_round b = continued b
 put (aside c) b = aside_ended b (put c (aside_begun b))
+
+-- a loop's rounds
+abbrev pub rounds : LoopFlags → Fragment → Builder → Builder
+rounds g c b = rounds_ended (outer_of b) (put c (loop_begun g b))
+
+-- ---------------------------------------------------------------- streams
+abbrev pub put_in : Fragment → StreamBuilder → StreamBuilder
+put_in c s = record s { code = put c s.code }
+
+-- without what was opened last
+abbrev pub rest_of : List Opened → List Opened
+rest_of [] = []
+rest_of (o ∷ os) = os
 
 -- ---------------------------------------------------------------- conditions
 -- The tests of conditions, the last first, each with a jump out of what comes after it.

@@ -1,4 +1,5 @@
 //! The code of expressions.
+#![tactic(auto, using(crate::proofs::Forms::expressions))]
 ghost use Rattle.std.specs.Prelude.{◌≡◌, ◌++◌, ◌+◌, [], ◌∷◌, OnOk, IfOk, IfErr, min, reverse};
 ghost use Rattle.tm_generator.specs.Building.{put, asked, kept, answered};
 ghost use Rattle.tm_syntax.specs.Code.{unary_code, binary_code, expr_code, exprs_code, pairs_code};

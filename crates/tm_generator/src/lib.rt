@@ -2,4 +2,10 @@
 #![tactic(auto, using(tm_syntax::proofs::Forms::boxes))]
 
 mod builder;
+mod enclosing;
 mod expressions;
+mod loops;
+mod statements;
+mod targets;
+
+pub use statements::stream;

@@ -74,6 +74,10 @@ abbrev pub count_pairs : {n : _} → Row_of-Pair n → ℕ
 count_pairs no_pair = 0
 count_pairs (with_pair k v more) = count_pairs more + 1
 
+-- where a comparison in a row is false, its right side is dropped
+abbrev pub drop_right : Fragment
+drop_right = straight (i.Swap ∷ i.DiscardTop ∷ [])
+
 abbrev mutual
   pub expr_code : Expr → Fragment
   expr_code (Var x) = straight (i.Lookup x ∷ [])
@@ -122,7 +126,7 @@ abbrev mutual
   step_code (Method' x _ given _ named) = arguments_code given ⨾ named_code named ⨾ straight (i.CallMethod x (count given + together named + 1) ∷ [])
   step_code (slice a b c) = expr_code a ⨾ expr_code b ⨾ expr_code c ⨾ straight (i.Slice ∷ [])
   step_code (binary op a) = expr_code a ⨾ straight (binary_code op)
-  step_code (compare op a _ cs) = expr_code a ⨾ fork (links_code op cs) (straight (i.Swap ∷ i.DiscardTop ∷ []))
+  step_code (compare op a _ cs) = expr_code a ⨾ fork (links_code op cs) drop_right
   step_code (and_then a) = over IfFalseOrPop (expr_code a)
   step_code (or_else a) = over IfTrueOrPop (expr_code a)
 
@@ -134,6 +138,10 @@ abbrev mutual
   pub steps_code : {n : _} → Row_of-Step n → Fragment
   steps_code no_step = straight []
   steps_code (step s ss) = step_code s ⨾ steps_code ss
+
+-- comparisons in a row after the right side of the first
+abbrev pub row_code : {n : _} → BinaryOperator → Row_of-Comparison n → Fragment
+row_code op cs = fork (links_code op cs) drop_right
 
 abbrev pub count_targets : {n : _} → Row_of-Target n → ℕ
 count_targets no_target = 0
@@ -174,10 +182,13 @@ for_flags recursive = record { variable = true; recursive = recursive }
 abbrev pub filter_flags : LoopFlags
 filter_flags = record { variable = false; recursive = false }
 
--- of a round that takes its item where the condition is true: it stays below the count, which is one more then, or is dropped
+-- where the condition is true an item stays below the count, which is one more then
+abbrev pub take_item : Fragment
+take_item = over IfFalse (straight (i.Swap ∷ i.LoadConst (number (pos 1)) ∷ i.Add ∷ []) ⨾ next_round)
+
+-- of a round that takes its item where the condition is true, and drops it else
 abbrev pub filter_round : Target → Expr → Fragment
-filter_round t c =
-    straight (i.DupTop ∷ []) ⨾ target_code t ⨾ expr_code c ⨾ over IfFalse (straight (i.Swap ∷ i.LoadConst (number (pos 1)) ∷ i.Add ∷ []) ⨾ next_round) ⨾ straight (i.DiscardTop ∷ [])
+filter_round t c = straight (i.DupTop ∷ []) ⨾ target_code t ⨾ expr_code c ⨾ take_item ⨾ straight (i.DiscardTop ∷ [])
 
 -- what is iterated: with a condition the items for which that is true
 abbrev pub iterable_code : Target → Expr → Option Expr → Fragment

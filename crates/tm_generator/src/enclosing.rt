@@ -1,0 +1,90 @@
+//! What is open around code in a loop's round, or in a stream outside of loops.
+ghost use Rattle.std.specs.Prelude.{◌≡◌, [], ◌∷◌, OnOk, IfErr, reverse};
+ghost use Rattle.tm_generator.specs.Building.{with_all, rest_of};
+ghost use Rattle.tm_syntax.specs.Code.{close, close_all as close_each};
+ghost use Rattle.tm_values.specs.declared.error.ErrorKind.TheVariants.{OutOfMemory};
+
+use crate::builder::Builder;
+use sqlite_items::Items;
+use std::alloc::Global;
+use std::marker::Model;
+use tm_syntax::{Instruction, Opened};
+use tm_values::Error;
+
+/// What was opened and is not closed yet. A contract sees it innermost first.
+#[derive(Drop)]
+pub(crate) struct Enclosing {
+    opened: Items<Opened>,
+}
+
+impl Model for Enclosing {
+    ghost use Rattle.std.specs.Prelude.{List, reverse};
+    ghost use Rattle.tm_syntax.specs.declared.opened.Opened.{Opened as OpenedPart};
+
+    ghost Value = { List OpenedPart };
+
+    ghost view = { λ e. reverse e.opened };
+}
+
+impl Enclosing {
+    /// Nothing is open.
+    pub(crate) fn new(alloc: Global) -> Enclosing
+        ensures { result ≡ [] }
+    {
+        Enclosing {
+            opened: Items::new(alloc),
+        }
+    }
+
+    /// Something more is open; OutOfMemory.
+    pub(crate) fn begin(&mut self, opened: Opened) -> Result<(), Error>
+        ensures ok { OnOk result (self.new ≡ opened ∷ self.old) }
+        ensures err { IfErr result (λ e. e ≡ OutOfMemory ∷ []) }
+    {
+        self.opened.push(opened)?;
+        Ok(())
+    }
+
+    /// What was opened last is closed.
+    pub(crate) fn end(&mut self)
+        ensures { self.new ≡ rest_of self.old }
+    {
+        let _closed = self.opened.pop();
+    }
+
+    /// Adds what closes all that is open, the last first; OutOfMemory.
+    pub(crate) fn close_all(&self, code: &mut Builder) -> Result<(), Error>
+        ensures ok { OnOk result (code.new ≡ with_all (close_each self.now) code.old) }
+        ensures err { IfErr result (λ e. e ≡ OutOfMemory ∷ []) }
+    {
+        push_closed(code, self.opened.as_slice())
+    }
+}
+
+/// Adds what closes each of these, the last first; OutOfMemory.
+fn push_closed(code: &mut Builder, opened: &[Opened]) -> Result<(), Error>
+    ensures ok { OnOk result (code.new ≡ with_all (close_each (reverse opened.now)) code.old) }
+    ensures err { IfErr result (λ e. e ≡ OutOfMemory ∷ []) }
+{
+    let mut left = opened.len();
+    while left > 0 {
+        left -= 1;
+        push_close(code, opened[left])?;
+    }
+    Ok(())
+}
+
+/// Adds what closes something; OutOfMemory.
+fn push_close(code: &mut Builder, opened: Opened) -> Result<(), Error>
+    ensures ok { OnOk result (code.new ≡ with_all (close opened) code.old) }
+    ensures err { IfErr result (λ e. e ≡ OutOfMemory ∷ []) }
+{
+    match opened {
+        Opened::Scope => code.emit(Instruction::PopFrame),
+        Opened::Escape => code.emit(Instruction::PopAutoEscape),
+        Opened::Capture => {
+            code.emit(Instruction::EndCapture)?;
+            code.emit(Instruction::DiscardTop)
+        }
+    }
+}

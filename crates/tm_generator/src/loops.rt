@@ -1,0 +1,68 @@
+//! The code of what loops go over.
+ghost use Rattle.std.specs.Prelude.{◌≡◌, [], ◌∷◌, OnOk, IfErr};
+ghost use Rattle.tm_generator.specs.Building.{put};
+ghost use Rattle.tm_syntax.specs.Code.{iterable_code, filter_round, take_item};
+ghost use Rattle.tm_values.specs.declared.error.ErrorKind.TheVariants.{OutOfMemory};
+
+use crate::builder::Builder;
+use crate::expressions::push_expr;
+use crate::targets::push_target;
+use sqlite_items::Boxed;
+use tm_syntax::{Expr, Instruction, JumpKind, LoopFlags, Target};
+use tm_values::{Error, Value};
+
+/// Adds the code of what a loop goes over: with a condition the items for which that is true. A
+/// loop of its own leaves these on the stack below their count; OutOfMemory.
+pub(crate) fn push_iterable(
+    code: &mut Builder,
+    target: &Target,
+    iterable: &Expr,
+    condition: &Option<Boxed<Expr>>,
+) -> Result<(), Error>
+    ensures ok { OnOk result
+        (code.new ≡ put (iterable_code target.now iterable.now condition.now) code.old) }
+    ensures err { IfErr result (λ e. e ≡ OutOfMemory ∷ []) }
+{
+    let Some(condition) = condition else {
+        return push_expr(code, iterable);
+    };
+    code.emit(Instruction::LoadConst(Value::number(0)))?;
+    push_expr(code, iterable)?;
+    let flags = LoopFlags {
+        variable: false,
+        recursive: false,
+    };
+    let outer = code.begin_loop(flags)?;
+    push_filter_round(code, target, condition.get())?;
+    code.end_rounds(outer)?;
+    code.emit(Instruction::PopLoopFrame)?;
+    code.emit(Instruction::BuildList(None))
+}
+
+/// Adds the round that takes its item where a condition is true, and drops it else; OutOfMemory.
+fn push_filter_round(code: &mut Builder, target: &Target, condition: &Expr) -> Result<(), Error>
+    ensures ok { OnOk result (code.new ≡ put (filter_round target.now condition.now) code.old) }
+    ensures err { IfErr result (λ e. e ≡ OutOfMemory ∷ []) }
+{
+    code.emit(Instruction::DupTop)?;
+    push_target(code, target)?;
+    push_expr(code, condition)?;
+    push_take_item(code)?;
+    code.emit(Instruction::DiscardTop)
+}
+
+/// Adds what takes an item where the topmost value is true: it stays below the count, which is one
+/// more then, and the next round begins; OutOfMemory.
+fn push_take_item(code: &mut Builder) -> Result<(), Error>
+    ensures ok { OnOk result (code.new ≡ put take_item code.old) }
+    ensures err { IfErr result (λ e. e ≡ OutOfMemory ∷ []) }
+{
+    let outer = code.begin();
+    code.jump_out(JumpKind::IfFalse)?;
+    code.emit(Instruction::Swap)?;
+    code.emit(Instruction::LoadConst(Value::number(1)))?;
+    code.emit(Instruction::Add)?;
+    code.next_round()?;
+    code.bound(outer);
+    Ok(())
+}

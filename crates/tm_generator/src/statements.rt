@@ -1,0 +1,276 @@
+//! The code of statements.
+ghost use Rattle.std.specs.Prelude.{◌≡◌, [], ◌∷◌, OnOk, IfOk, IfErr};
+ghost use Rattle.tm_generator.specs.Building.{put_in, rounds};
+ghost use Rattle.tm_syntax.specs.Blocks.{blocks_of, blocks_in, compiled_blocks};
+ghost use Rattle.tm_syntax.specs.Code.{for_flags, target_code, statement_code, statements_code};
+ghost use Rattle.tm_syntax.specs.Code.{stream_code};
+ghost use Rattle.tm_syntax.specs.Fragments.{◌⨾◌, over};
+ghost use Rattle.tm_syntax.specs.Named.{put as put_named, put_each};
+ghost use Rattle.tm_syntax.specs.declared.jump.JumpKind.TheVariants.{IfFalse};
+ghost use Rattle.tm_syntax.specs.declared.tree.ForLoop.{hidden-the_row-Stmt-0 as statements};
+ghost use Rattle.tm_syntax.specs.declared.tree.Stmt.TheVariants.{For, If};
+ghost use Rattle.tm_values.specs.declared.error.ErrorKind.TheVariants.{OutOfMemory};
+
+use crate::builder::Builder;
+use crate::enclosing::Enclosing;
+use crate::expressions::push_expr;
+use crate::loops::push_iterable;
+use crate::targets::{push_assignments, push_set, push_target};
+use sqlite_items::Items;
+use std::alloc::Global;
+use std::mem;
+use tm_syntax::{
+    CaptureMode, Code, Expr, ForLoop, Instruction, JumpKind, LoopFlags, Name, NameMap, Opened, Stmt,
+    Target,
+};
+use tm_values::Error;
+
+/// A stream that is being made: its code, and what is open where the code has come to.
+#[derive(Drop)]
+pub(crate) struct StreamBuilder {
+    code: Builder,
+    enclosing: Enclosing,
+}
+
+/// Adds the code of a statement, and that of its blocks; OutOfMemory.
+#[cycle(statements)]
+fn push_statement(
+    stream: &mut StreamBuilder,
+    blocks: &mut NameMap<Code>,
+    statement: &Stmt,
+) -> Result<(), Error>
+    ensures code { OnOk result
+        (stream.new ≡ put_in (statement_code stream.old.enclosing statement.now) stream.old) }
+    ensures blocks { OnOk result
+        (blocks.new ≡ put_each (compiled_blocks (blocks_of statement.now)) blocks.old) }
+    ensures err { IfErr result (λ e. e ≡ OutOfMemory ∷ []) }
+{
+    match statement {
+        Stmt::EmitRaw(text) => stream.code.emit(Instruction::EmitRaw(text.share()?)),
+        Stmt::EmitExpr(expr) => {
+            push_expr(&mut stream.code, expr.get())?;
+            stream.code.emit(Instruction::Emit)
+        }
+        Stmt::EmitLoop(argument) => {
+            push_expr(&mut stream.code, argument.get())?;
+            stream.code.emit(Instruction::FastRecurse)
+        }
+        Stmt::If(condition, body, other) => {
+            push_if(stream, blocks, condition.get(), body.as_slice(), other)
+        }
+        Stmt::For(for_loop) => push_for(stream, blocks, for_loop),
+        Stmt::Break => {
+            stream.enclosing.close_all(&mut stream.code)?;
+            stream.code.break_loop()
+        }
+        Stmt::Continue => {
+            stream.enclosing.close_all(&mut stream.code)?;
+            stream.code.next_round()
+        }
+        Stmt::Block(name, body) => {
+            push_block(stream.code.alloc(), blocks, name, body.as_slice())?;
+            stream.code.emit(Instruction::CallBlock(name.share()?))
+        }
+        Stmt::Set(target, value) => push_set(&mut stream.code, target, value.get()),
+        Stmt::SetBlock(target, body) => {
+            let capture = Instruction::BeginCapture(CaptureMode::Capture);
+            stream.code.emit(capture)?;
+            push_within(stream, blocks, Opened::Capture, body.as_slice())?;
+            stream.code.emit(Instruction::EndCapture)?;
+            push_target(&mut stream.code, target)
+        }
+        Stmt::With(given, body) => {
+            stream.code.emit(Instruction::PushWith)?;
+            push_assignments(&mut stream.code, given.as_slice())?;
+            push_within(stream, blocks, Opened::Scope, body.as_slice())?;
+            stream.code.emit(Instruction::PopFrame)
+        }
+        Stmt::Do(call) => {
+            push_expr(&mut stream.code, call.get())?;
+            stream.code.emit(Instruction::DiscardTop)
+        }
+        Stmt::AutoEscape(value, body) => {
+            push_expr(&mut stream.code, value.get())?;
+            stream.code.emit(Instruction::PushAutoEscape)?;
+            push_within(stream, blocks, Opened::Escape, body.as_slice())?;
+            stream.code.emit(Instruction::PopAutoEscape)
+        }
+    }
+}
+
+/// Adds the code of a condition and its bodies, like that of a statement; OutOfMemory.
+#[cycle(statements)]
+fn push_if(
+    stream: &mut StreamBuilder,
+    blocks: &mut NameMap<Code>,
+    condition: &Expr,
+    body: &[Stmt],
+    other: &Option<Items<Stmt>>,
+) -> Result<(), Error>
+    ensures code { OnOk result (stream.new ≡ put_in
+        (statement_code stream.old.enclosing (If condition.now body.now other.now)) stream.old) }
+    ensures blocks { OnOk result (blocks.new
+        ≡ put_each (compiled_blocks (blocks_of (If condition.now body.now other.now))) blocks.old) }
+    ensures err { IfErr result (λ e. e ≡ OutOfMemory ∷ []) }
+{
+    push_expr(&mut stream.code, condition)?;
+    let Some(other) = other else {
+        return push_if_true(stream, blocks, body);
+    };
+    let outer = stream.code.begin();
+    stream.code.jump_out(JumpKind::IfFalse)?;
+    push_statements(stream, blocks, body)?;
+    let over = stream.code.second(outer)?;
+    push_statements(stream, blocks, other.as_slice())?;
+    stream.code.join(over);
+    Ok(())
+}
+
+/// Adds the code of statements that run where the topmost value is true, and that of their blocks;
+/// OutOfMemory.
+#[cycle(statements)]
+fn push_if_true(
+    stream: &mut StreamBuilder,
+    blocks: &mut NameMap<Code>,
+    body: &[Stmt],
+) -> Result<(), Error>
+    ensures code { OnOk result (stream.new ≡ put_in
+        (over IfFalse (statements_code stream.old.enclosing (statements body.now))) stream.old) }
+    ensures blocks { OnOk result
+        (blocks.new ≡ put_each (compiled_blocks (blocks_in (statements body.now))) blocks.old) }
+    ensures err { IfErr result (λ e. e ≡ OutOfMemory ∷ []) }
+{
+    let outer = stream.code.begin();
+    stream.code.jump_out(JumpKind::IfFalse)?;
+    push_statements(stream, blocks, body)?;
+    stream.code.bound(outer);
+    Ok(())
+}
+
+/// Adds the code of a loop, like that of a statement; OutOfMemory.
+#[cycle(statements)]
+fn push_for(
+    stream: &mut StreamBuilder,
+    blocks: &mut NameMap<Code>,
+    for_loop: &ForLoop,
+) -> Result<(), Error>
+    ensures code { OnOk result (stream.new
+        ≡ put_in (statement_code stream.old.enclosing (For for_loop.now)) stream.old) }
+    ensures blocks { OnOk result
+        (blocks.new ≡ put_each (compiled_blocks (blocks_of (For for_loop.now))) blocks.old) }
+    ensures err { IfErr result (λ e. e ≡ OutOfMemory ∷ []) }
+{
+    let iterable = for_loop.iterable.get();
+    push_iterable(&mut stream.code, &for_loop.target, iterable, &for_loop.condition)?;
+    push_rounds(stream, blocks, &for_loop.target, for_loop.recursive, for_loop.body.as_slice())?;
+    let Some(other) = &for_loop.other else {
+        return stream.code.emit(Instruction::PopLoopFrame);
+    };
+    stream.code.emit(Instruction::PushDidNotIterate)?;
+    stream.code.emit(Instruction::PopLoopFrame)?;
+    push_if_true(stream, blocks, other.as_slice())
+}
+
+/// Adds the code of a loop's rounds, and that of their blocks; OutOfMemory.
+#[cycle(statements)]
+fn push_rounds(
+    stream: &mut StreamBuilder,
+    blocks: &mut NameMap<Code>,
+    target: &Target,
+    recursive: bool,
+    body: &[Stmt],
+) -> Result<(), Error>
+    ensures code { OnOk result (stream.new ≡ record stream.old {
+        code = rounds (for_flags recursive)
+        (target_code target.now ⨾ statements_code [] (statements body.now)) stream.old.code }) }
+    ensures blocks { OnOk result
+        (blocks.new ≡ put_each (compiled_blocks (blocks_in (statements body.now))) blocks.old) }
+    ensures err { IfErr result (λ e. e ≡ OutOfMemory ∷ []) }
+{
+    let flags = LoopFlags {
+        variable: true,
+        recursive,
+    };
+    let outer = stream.code.begin_loop(flags)?;
+    push_target(&mut stream.code, target)?;
+    let inner = Enclosing::new(stream.code.alloc());
+    let enclosing = mem::replace(&mut stream.enclosing, inner);
+    push_statements(stream, blocks, body)?;
+    stream.enclosing = enclosing;
+    stream.code.end_rounds(outer)
+}
+
+/// Adds the code of statements within something that is open around them, and that of their blocks;
+/// OutOfMemory.
+#[cycle(statements)]
+fn push_within(
+    stream: &mut StreamBuilder,
+    blocks: &mut NameMap<Code>,
+    opened: Opened,
+    body: &[Stmt],
+) -> Result<(), Error>
+    ensures code { OnOk result (stream.new ≡ put_in
+        (statements_code (opened ∷ stream.old.enclosing) (statements body.now)) stream.old) }
+    ensures blocks { OnOk result
+        (blocks.new ≡ put_each (compiled_blocks (blocks_in (statements body.now))) blocks.old) }
+    ensures err { IfErr result (λ e. e ≡ OutOfMemory ∷ []) }
+{
+    stream.enclosing.begin(opened)?;
+    push_statements(stream, blocks, body)?;
+    stream.enclosing.end();
+    Ok(())
+}
+
+/// Adds the code of statements, and that of their blocks; OutOfMemory.
+#[cycle(statements)]
+fn push_statements(
+    stream: &mut StreamBuilder,
+    blocks: &mut NameMap<Code>,
+    body: &[Stmt],
+) -> Result<(), Error>
+    ensures code { OnOk result (stream.new ≡ put_in
+        (statements_code stream.old.enclosing (statements body.now)) stream.old) }
+    ensures blocks { OnOk result
+        (blocks.new ≡ put_each (compiled_blocks (blocks_in (statements body.now))) blocks.old) }
+    ensures err { IfErr result (λ e. e ≡ OutOfMemory ∷ []) }
+{
+    for statement in body {
+        push_statement(stream, blocks, statement)?;
+    }
+    Ok(())
+}
+
+/// Adds a block's own stream to the blocks, after those of the blocks in it; OutOfMemory.
+#[cycle(statements)]
+fn push_block(
+    alloc: Global,
+    blocks: &mut NameMap<Code>,
+    name: &Name,
+    body: &[Stmt],
+) -> Result<(), Error>
+    ensures blocks { OnOk result
+        (blocks.new ≡ put_named name.now (stream_code (statements body.now))
+        (put_each (compiled_blocks (blocks_in (statements body.now))) blocks.old)) }
+    ensures err { IfErr result (λ e. e ≡ OutOfMemory ∷ []) }
+{
+    let inner = stream(alloc, blocks, body)?;
+    blocks.insert(name.share()?, inner)?;
+    Ok(())
+}
+
+/// The code of statements on their own, and that of their blocks; OutOfMemory.
+#[cycle(statements)]
+pub fn stream(alloc: Global, blocks: &mut NameMap<Code>, body: &[Stmt]) -> Result<Code, Error>
+    ensures code { IfOk result (λ code. code ≡ stream_code (statements body.now)) }
+    ensures blocks { OnOk result
+        (blocks.new ≡ put_each (compiled_blocks (blocks_in (statements body.now))) blocks.old) }
+    ensures err { IfErr result (λ e. e ≡ OutOfMemory ∷ []) }
+{
+    let mut stream = StreamBuilder {
+        code: Builder::new(alloc),
+        enclosing: Enclosing::new(alloc),
+    };
+    push_statements(&mut stream, blocks, body)?;
+    let StreamBuilder { code, enclosing: _ } = stream;
+    Ok(Code::new(alloc, code.finish())?)
+}
