@@ -91,7 +91,7 @@ fork_added c d b =
     let at : length base ≡ beyond pc c = long (outward second unset) b.code c in
     let n : length front ≡ second = omega (arith, length-append b.code (a ++ i.Jump 0 ∷ []), length-append a (i.Jump 0 ∷ []), length-append b.code a, at) in
     let is : front ++ assemble unset (length front) d ≡ base ++ i.Jump 0 ∷ rest =
-        ap (λ m. front ++ assemble unset m d) n ∙ append_assoc b.code (a ++ i.Jump 0 ∷ []) rest ∙ ap (λ x. b.code ++ x) (append_assoc a (i.Jump 0 ∷ []) rest) ∙ sym (append_assoc b.code a (i.Jump 0 ∷ rest)) in
+    ap (λ m. front ++ assemble unset m d) n ∙ append_assoc b.code (a ++ i.Jump 0 ∷ []) rest ∙ ap (λ x. b.code ++ x) (append_assoc a (i.Jump 0 ∷ []) rest) ∙ sym (append_assoc b.code a (i.Jump 0 ∷ rest)) in
     let end : length (front ++ assemble unset (length front) d) ≡ beyond second d = long unset front d ∙ ap (λ m. beyond m d) n in
     built b
     (ap (λ k. slice_set (front ++ assemble unset (length front) d) k (i.Jump (length (front ++ assemble unset (length front) d)))) (long unset b.code c ∙ sym at)
@@ -131,7 +131,7 @@ rounds_code g c base =
     let base2 = base ++ i.PushLoop g ∷ [] in
     let long2 : length base2 ≡ again = length-append base (i.PushLoop g ∷ []) in
     let flat : code ≡ base2 ++ i.Iterate 0 ∷ (a ++ back) =
-        append_assoc (base ++ head) a back ∙ append_assoc base head (a ++ back) ∙ sym (append_assoc base (i.PushLoop g ∷ []) (i.Iterate 0 ∷ (a ++ back))) in
+    append_assoc (base ++ head) a back ∙ append_assoc base head (a ++ back) ∙ sym (append_assoc base (i.PushLoop g ∷ []) (i.Iterate 0 ∷ (a ++ back))) in
     let end : length code ≡ beyond first c + 1 = omega (arith, ap length flat, length-append base2 (i.Iterate 0 ∷ (a ++ back)), length-append a back, long2, beyond_is unset first c) in
     let after = length code in
     let base3 = base2 ++ i.Iterate after ∷ [] in
@@ -224,5 +224,5 @@ put_is (aside c) b = ap {B = Builder} (λ m. aside_ended b m) (put_is c (aside_b
 pub made_whole : (c : Fragment) (b : Builder) → b.code ≡ [] → b.outs ≡ [] → b.exits ≡ [] → finished (put c b) ≡ assembled c
 made_whole c b x y z =
     ap (λ (m : Builder). finished m) (put_is c b ∙ built b
-      (ap (λ l. l ++ assemble unset (length l) c) x) (ap (λ n. b.outs ++ outs_in n c) (ap length x) ∙ ap (λ l. l ++ outs_in 0 c) y) (ap (λ n. b.exits ++ exits_in n c) (ap length x) ∙ ap (λ l. l ++ exits_in 0 c) z))
+    (ap (λ l. l ++ assemble unset (length l) c) x) (ap (λ n. b.outs ++ outs_in n c) (ap length x) ∙ ap (λ l. l ++ outs_in 0 c) y) (ap (λ n. b.exits ++ exits_in n c) (ap length x) ∙ ap (λ l. l ++ exits_in 0 c) z))
     ∙ finished_here c []

@@ -1,3 +1,5 @@
 pub mod Settled
 pub mod Assembled
-pub mod Forms
+pub mod PutExpressions
+pub mod PutTargets
+pub mod PutStatements

@@ -1,18 +1,16 @@
 -- Code whose jumps are set is the code for their places.
-use Rattle.std.proofs.Common.{◌≡◌, ℕ, ◌+◌, ◌<◌, ◌≤◌, List, [], ◌∷◌, ◌++◌, length, refl, sym, ap, ◌∙◌, arith, append_assoc, length-append}
+use Rattle.std.proofs.Common.{◌≡◌, ℕ, ◌+◌, List, [], ◌∷◌, ◌++◌, length, refl, sym, ap, ◌∙◌, arith, append_assoc, length-append}
 use Rattle.std.specs.Prelude.{slice_set}
 use Rattle.std.proofs.Math.Seq.{set-append_seam}
 use Rattle.tm_syntax.specs.declared.instruction.Instruction.{Instruction}
-use Rattle.tm_syntax.specs.declared.instruction.LoopFlags.{LoopFlags}
 use Rattle.tm_syntax.specs.declared.instruction.Instruction.TheVariants as i
-use Rattle.tm_syntax.specs.declared.jump.JumpKind.{JumpKind}
 use Rattle.tm_syntax.specs.Fragments.{Fragment, straight, ◌⨾◌, jump_out, bounded, fork, looped, break_loop, next_round, aside}
-use Rattle.tm_syntax.specs.Fragments.{beyond, Labels, outward, inward, ending_at, jump, assemble}
+use Rattle.tm_syntax.specs.Fragments.{beyond, Labels, outward, inward, jump, assemble}
 use Rattle.tm_syntax.proofs.Standing.{beyond_is}
 use Rattle.tm_generator.specs.declared.builder.Out.{Out}
 use Rattle.tm_generator.specs.declared.builder.Exit.{Exit}
 use Rattle.tm_generator.specs.declared.builder.Exit.TheVariants.{Leave, Next}
-use Rattle.tm_generator.specs.Building.{patched, out_place, out_jump, settled, exit_place, exit_jump, led}
+use Rattle.tm_generator.specs.Building.{patched, out_place, out_jump, exit_place, exit_jump}
 
 -- ---------------------------------------------------------------- jumps that lead nowhere yet
 -- the jumps of code out of it, and out of the innermost loop's round around it, by their places

@@ -1,5 +1,6 @@
 //! The code of expressions.
-#![tactic(auto, using(crate::proofs::Forms::expressions))]
+#![tactic(auto, using(crate::proofs::PutExpressions::expressions))]
+
 ghost use Rattle.std.specs.Prelude.{◌≡◌, ◌++◌, ◌+◌, [], ◌∷◌, OnOk, IfOk, IfErr, min, reverse};
 ghost use Rattle.tm_generator.specs.Building.{put, asked, kept, answered};
 ghost use Rattle.tm_syntax.specs.Code.{unary_code, binary_code, expr_code, exprs_code, pairs_code};
@@ -319,11 +320,7 @@ fn push_comparisons(
 
 /// Adds comparisons, out of each of which but the last a jump leads; OutOfMemory.
 #[cycle(expressions)]
-fn push_links(
-    code: &mut Builder,
-    first: BinaryOperator,
-    after: &[Comparison],
-) -> Result<(), Error>
+fn push_links(code: &mut Builder, first: BinaryOperator, after: &[Comparison]) -> Result<(), Error>
     ensures ok { OnOk result (code.new ≡ put (links_code first (comparisons after.now)) code.old) }
     ensures err { IfErr result (λ e. e ≡ OutOfMemory ∷ []) }
 {

@@ -7,7 +7,7 @@ ghost use Rattle.tm_syntax.specs.Code.{stream_code};
 ghost use Rattle.tm_syntax.specs.Fragments.{◌⨾◌, over};
 ghost use Rattle.tm_syntax.specs.Named.{put as put_named, put_each};
 ghost use Rattle.tm_syntax.specs.declared.jump.JumpKind.TheVariants.{IfFalse};
-ghost use Rattle.tm_syntax.specs.declared.tree.ForLoop.{hidden-the_row-Stmt-0 as statements};
+ghost use Rattle.tm_syntax.specs.declared.tree.Stmt.TheBlock.{hidden-the_row-Stmt-0 as statements};
 ghost use Rattle.tm_syntax.specs.declared.tree.Stmt.TheVariants.{For, If};
 ghost use Rattle.tm_values.specs.declared.error.ErrorKind.TheVariants.{OutOfMemory};
 
@@ -21,7 +21,6 @@ use std::alloc::Global;
 use std::mem;
 use tm_syntax::{
     CaptureMode, Code, Expr, ForLoop, Instruction, JumpKind, LoopFlags, Name, NameMap, Opened, Stmt,
-    Target,
 };
 use tm_values::Error;
 
@@ -161,8 +160,13 @@ fn push_for(
     ensures err { IfErr result (λ e. e ≡ OutOfMemory ∷ []) }
 {
     let iterable = for_loop.iterable.get();
-    push_iterable(&mut stream.code, &for_loop.target, iterable, &for_loop.condition)?;
-    push_rounds(stream, blocks, &for_loop.target, for_loop.recursive, for_loop.body.as_slice())?;
+    push_iterable(
+        &mut stream.code,
+        &for_loop.target,
+        iterable,
+        &for_loop.condition,
+    )?;
+    push_rounds(stream, blocks, for_loop)?;
     let Some(other) = &for_loop.other else {
         return stream.code.emit(Instruction::PopLoopFrame);
     };
@@ -176,26 +180,26 @@ fn push_for(
 fn push_rounds(
     stream: &mut StreamBuilder,
     blocks: &mut NameMap<Code>,
-    target: &Target,
-    recursive: bool,
-    body: &[Stmt],
+    for_loop: &ForLoop,
 ) -> Result<(), Error>
     ensures code { OnOk result (stream.new ≡ record stream.old {
-        code = rounds (for_flags recursive)
-        (target_code target.now ⨾ statements_code [] (statements body.now)) stream.old.code }) }
-    ensures blocks { OnOk result
-        (blocks.new ≡ put_each (compiled_blocks (blocks_in (statements body.now))) blocks.old) }
+      code = rounds (for_flags for_loop.now.recursive)
+          (target_code for_loop.now.target ⨾ statements_code [] (statements for_loop.now.body))
+          stream.old.code;
+    }) }
+    ensures blocks { OnOk result (blocks.new
+        ≡ put_each (compiled_blocks (blocks_in (statements for_loop.now.body))) blocks.old) }
     ensures err { IfErr result (λ e. e ≡ OutOfMemory ∷ []) }
 {
     let flags = LoopFlags {
         variable: true,
-        recursive,
+        recursive: for_loop.recursive,
     };
     let outer = stream.code.begin_loop(flags)?;
-    push_target(&mut stream.code, target)?;
+    push_target(&mut stream.code, &for_loop.target)?;
     let inner = Enclosing::new(stream.code.alloc());
     let enclosing = mem::replace(&mut stream.enclosing, inner);
-    push_statements(stream, blocks, body)?;
+    push_statements(stream, blocks, for_loop.body.as_slice())?;
     stream.enclosing = enclosing;
     stream.code.end_rounds(outer)
 }

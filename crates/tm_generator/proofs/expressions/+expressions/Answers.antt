@@ -5,10 +5,10 @@ use Rattle.tm_syntax.specs.declared.tree.Comparison.{Comparison}
 use Rattle.tm_syntax.specs.declared.tree.Argument.TheBlock.{hidden-the_row-Comparison-7 as comparisons}
 use Rattle.tm_syntax.specs.Code.{expr_code, row_code}
 use Rattle.tm_generator.specs.Building.{put}
-use Rattle.tm_generator.proofs.Forms.{made-call, made-method, made-unary, made-chain, made-slice, made-binary, made-compare, made-plain}
-use Rattle.tm_generator.proofs.Forms.{put_two, made-keyword, made-conditional, no-named, made-named, next, more-links, no_more-links}
-use Rattle.tm_generator.proofs.Forms.{more-exprs, no_more-exprs, more-pairs, no_more-pairs, more-arguments, no_more-arguments}
-use Rattle.tm_generator.proofs.Forms.{more-keywords, no_more-keywords, more-steps, no_more-steps}
+use Rattle.tm_generator.proofs.PutExpressions.{made-call, made-method, made-unary, made-chain, made-slice, made-binary, made-compare, made-plain}
+use Rattle.tm_generator.proofs.PutExpressions.{put_two, made-keyword, made-conditional, no-named, made-named, next, more-links, no_more-links}
+use Rattle.tm_generator.proofs.PutExpressions.{more-exprs, no_more-exprs, more-pairs, no_more-pairs, more-arguments, no_more-arguments}
+use Rattle.tm_generator.proofs.PutExpressions.{more-keywords, no_more-keywords, more-steps, no_more-steps}
 use Rattle.tm_generator.proofs.expressions.+expressions.Goals as goal
 
 pub push_argument-returns-clause-ok : goal.push_argument-returns-clause-ok

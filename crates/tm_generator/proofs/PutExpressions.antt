@@ -200,10 +200,10 @@ next xs k x lt d = grind (arith, drop-cons xs k x lt, d)
 
 -- one more of a row, and no more
 module _ {X : Type 0} (one : X → Fragment) (row : List X → Fragment) where
-  more : ((b : Builder) (x : X) (xs : List X) → put (row (x ∷ xs)) b ≡ put (row xs) (put (one x) b)) → (all rest : List X) (x : X) (m m1 goal : Builder) → all ≡ x ∷ rest → m1 ≡ put (one x) m → put (row all) m ≡ goal → put (row rest) m1 ≡ goal
+  pub more : ((b : Builder) (x : X) (xs : List X) → put (row (x ∷ xs)) b ≡ put (row xs) (put (one x) b)) → (all rest : List X) (x : X) (m m1 goal : Builder) → all ≡ x ∷ rest → m1 ≡ put (one x) m → put (row all) m ≡ goal → put (row rest) m1 ≡ goal
   more cons all rest x m m1 goal left p g = ap {B = Builder} (λ b. put (row rest) b) p ∙ sym (cons m x rest) ∙ ap {B = Builder} (λ l. put (row l) m) (sym left) ∙ g
 
-  no_more : ((b : Builder) → put (row []) b ≡ b) → (rest : List X) (m goal : Builder) → rest ≡ [] → put (row rest) m ≡ goal → m ≡ goal
+  pub no_more : ((b : Builder) → put (row []) b ≡ b) → (rest : List X) (m goal : Builder) → rest ≡ [] → put (row rest) m ≡ goal → m ≡ goal
   no_more nil rest m goal none g = sym (nil m) ∙ ap {B = Builder} (λ l. put (row l) m) (sym none) ∙ g
 
 put-exprs-nil : (b : Builder) → put (exprs_code (exprs [])) b ≡ b

@@ -1,0 +1,44 @@
+use Rattle.std.proofs.Common.{◌≡◌, ◌+◌, ◌*◌, drop}
+use Rattle.tm_syntax.specs.Blocks.{blocks_in, compiled_blocks}
+use Rattle.tm_syntax.specs.Code.{statements_code}
+use Rattle.tm_syntax.specs.Named.{put_each}
+use Rattle.tm_syntax.specs.declared.tree.Stmt.TheBlock.{hidden-the_row-Stmt-0 as statements}
+use Rattle.tm_generator.specs.Building.{put_in}
+use Rattle.tm_syntax.specs.declared.tree.Stmt.TheVariants.{For, If}
+use Rattle.tm_syntax.proofs.tree.Stmt.TheLaws.{the_size}
+use Rattle.tm_generator.proofs.statements.+statements.Given as goal
+
+abbrev pub invariant-push_statements-loop-statement : goal.invariant-push_statements-loop-statement
+invariant-push_statements-loop-statement l =
+    let left = drop l.statement-index l.body in
+    (l.stream.enclosing ≡ l.fn.stream.enclosing)
+    × (put_in (statements_code l.fn.stream.enclosing (statements left)) l.stream ≡ put_in (statements_code l.fn.stream.enclosing (statements l.body)) l.fn.stream)
+    × (put_each (compiled_blocks (blocks_in (statements left))) l.blocks ≡ put_each (compiled_blocks (blocks_in (statements l.body))) l.fn.blocks)
+
+-- a list of statements is as deep as the deepest of them
+abbrev pub decreases-push_statements : goal.decreases-push_statements
+decreases-push_statements l = 5 * goal.size-push_statements l + 3
+
+abbrev pub decreases-push_statement : goal.decreases-push_statement
+decreases-push_statement l = 5 * goal.size-push_statement l + 2
+
+abbrev pub decreases-push_if : goal.decreases-push_if
+decreases-push_if l = 5 * the_size (If l.condition.now l.body.now l.other.now)
+
+abbrev pub decreases-push_if_true : goal.decreases-push_if_true
+decreases-push_if_true l = 5 * goal.size-push_if_true l + 4
+
+abbrev pub decreases-push_for : goal.decreases-push_for
+decreases-push_for l = 5 * the_size (For l.for_loop.now) + 1
+
+abbrev pub decreases-push_rounds : goal.decreases-push_rounds
+decreases-push_rounds l = 5 * the_size (For l.for_loop.now)
+
+abbrev pub decreases-push_within : goal.decreases-push_within
+decreases-push_within l = 5 * goal.size-push_within l + 4
+
+abbrev pub decreases-push_block : goal.decreases-push_block
+decreases-push_block l = 5 * goal.size-push_block l + 5
+
+abbrev pub decreases-stream : goal.decreases-stream
+decreases-stream l = 5 * goal.size-stream l + 4
