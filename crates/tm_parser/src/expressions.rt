@@ -102,9 +102,9 @@ impl Cursor<'_> {
             ((one_more (condition (inside depth)) conditions).reads self.old) }
     {
         let mut conditions = conditions;
-        let asked = self.expr_at(alloc, depth, LOOSEST)?;
+        let test = self.expr_at(alloc, depth, LOOSEST)?;
         let otherwise = self.else_part(alloc, depth)?;
-        conditions.push(Condition::Condition(asked, otherwise))?;
+        conditions.push(Condition { test, otherwise })?;
         Ok(conditions)
     }
 
@@ -344,7 +344,7 @@ impl Cursor<'_> {
         };
         let mut comparisons = comparisons;
         let right = self.operand(alloc, depth, level)?;
-        comparisons.push(Comparison::Comparison(operator, right))?;
+        comparisons.push(Comparison { operator, right })?;
         Ok(comparisons)
     }
 
@@ -569,7 +569,7 @@ impl Cursor<'_> {
         let key = self.inner_expr(alloc, depth)?;
         self.expect(Sign::Colon)?;
         let value = self.inner_expr(alloc, depth)?;
-        pairs.push(Pair::Pair(key, value))?;
+        pairs.push(Pair { key, value })?;
         Ok(pairs)
     }
 
@@ -632,7 +632,7 @@ impl Cursor<'_> {
     {
         let mut given = given;
         let value = self.inner_expr(alloc, depth)?;
-        given.by_name.push(Keyword::Keyword(name, value))?;
+        given.by_name.push(Keyword { name, value })?;
         Ok(given)
     }
 
