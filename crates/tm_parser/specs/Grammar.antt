@@ -26,7 +26,7 @@ use Rattle.tm_syntax.specs.declared.tree.Target.{Target}
 use Rattle.tm_syntax.specs.declared.tree.Target.TheVariants as targets
 use Rattle.tm_parser.specs.declared.tables.Link.{Link}
 use Rattle.tm_parser.specs.declared.tables.Link.TheVariants as links
-use Rattle.tm_parser.specs.declared.expressions.Passed.{Passed}
+use Rattle.tm_parser.specs.declared.primaries.Passed.{Passed}
 use Rattle.tm_rules.specs.Rule as rules
 use Rattle.tm_rules.specs.Rule.{Look}
 use Rattle.tm_rules.specs.Combinators.{first, not_before, nothing, pure, ◌>>=◌, provided, branch, token, grow, one_more, many_from}

@@ -150,8 +150,14 @@ for_tag i t looping = do
   over ← t.looped
   body ← t.body true
   other ← t.else_or_end tags.Endfor looping
-  pure (stmts.For (record { target = to; iterable = over.iterated; condition = over.condition;
-      recursive = over.recursive; body = body; other = other }))
+  pure (stmts.For (record {
+    target = to;
+    iterable = over.iterated;
+    condition = over.condition;
+    recursive = over.recursive;
+    body = body;
+    other = other;
+  }))
 
 -- a statement of one word that stands nowhere but inside a loop
 unfoldable pub jump : Bool → Stmt → Rule Stmt
