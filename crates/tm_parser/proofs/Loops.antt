@@ -11,7 +11,7 @@ use Rattle.tm_rules.specs.Rule.{Rule, Look}
 use Rattle.tm_rules.specs.Growth as growth
 use Rattle.tm_rules.specs.Combinators.{grow, one_more, many_from}
 use Rattle.tm_parser.specs.Gives.{Refused}
-use Rattle.tm_parser.specs.declared.expressions.Passed.{Passed}
+use Rattle.tm_parser.specs.declared.primaries.Passed.{Passed}
 use Rattle.tm_parser.specs.Grammar.{Inside, more_items, comma, one_passed, more_passed, single, more_targets, target_comma, whole}
 use Rattle.tm_parser.specs.Statements.{iterated_comma, more_iterated}
 

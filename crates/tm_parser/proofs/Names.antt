@@ -16,6 +16,7 @@ use Rattle.tm_syntax.specs.declared.tree.Assignment.{Assignment}
 use Rattle.tm_syntax.specs.declared.tree.Stmt.{Stmt}
 use Rattle.tm_syntax.specs.declared.tree.Stmt.TheBlock.{shape-the_row-Stmt-0, hidden-the_row-Stmt-0 as row}
 use Rattle.tm_syntax.specs.declared.tree.Stmt.TheVariants as stmts
+use Rattle.tm_syntax.specs.declared.tree.ForLoop.{ForLoop}
 use Rattle.tm_parser.specs.Template.{names_of, block_names, texts}
 
 -- a list of the program is a row of children
@@ -35,13 +36,17 @@ pub names_of_if_else : (x : Expr) (body other : List Stmt) → names_of (stmts.I
 unfolding hidden row shape-the_row-Stmt-0
 names_of_if_else x body other = refl
 
-pub names_of_for : (to : Target) (over : Expr) (asked : Option Expr) (recursive : Bool) (body : List Stmt) → names_of (stmts.For to over asked recursive body None) ≡ block_names body
-unfolding hidden row shape-the_row-Stmt-0
-names_of_for to over asked recursive body = append-nil _
+pub names_behind : Option (List Stmt) → List (List ℕ)
+names_behind None = []
+names_behind (Some other) = block_names other
 
-pub names_of_for_else : (to : Target) (over : Expr) (asked : Option Expr) (recursive : Bool) (body other : List Stmt) → names_of (stmts.For to over asked recursive body (Some other)) ≡ block_names body ++ block_names other
-unfolding hidden row shape-the_row-Stmt-0
-names_of_for_else to over asked recursive body other = refl
+for_either : (l : ForLoop) (other : Option (List Stmt)) → names_of (stmts.For (record l { other = other })) ≡ block_names l.body ++ names_behind other
+unfolding hidden row shape-the_row-Stmt-0 names_behind
+for_either l None = refl
+for_either l (Some other) = refl
+
+pub names_of_for : (l : ForLoop) → names_of (stmts.For l) ≡ block_names l.body ++ names_behind l.other
+names_of_for l = for_either l l.other
 
 pub names_of_block : (name : List ℕ) (body : List Stmt) → names_of (stmts.Block name body) ≡ name ∷ block_names body
 unfolding hidden row shape-the_row-Stmt-0
@@ -59,7 +64,7 @@ pub names_of_autoescape : (x : Expr) (body : List Stmt) → names_of (stmts.Auto
 unfolding hidden row shape-the_row-Stmt-0
 names_of_autoescape x body = refl
 
-pub ruleset forms = (names_of_if, names_of_if_else, names_of_for, names_of_for_else, names_of_block, names_of_set_block, names_of_with, names_of_autoescape)
+pub ruleset forms = (names_of_if, names_of_if_else, names_of_for, names_of_block, names_of_set_block, names_of_with, names_of_autoescape)
 
 -- the loop over statements: what is left behind one, and behind the last
 pub one_more : (old new goal : List (List ℕ)) (ss : List Stmt) (k : ℕ) (s : Stmt) → k < length ss → s ≡ get_or ss k s → new ≡ old ++ names_of s →

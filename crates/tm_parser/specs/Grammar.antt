@@ -17,20 +17,16 @@ use Rattle.tm_syntax.specs.declared.tree.Expr.TheVariants as exprs
 use Rattle.tm_syntax.specs.declared.tree.Argument.{Argument}
 use Rattle.tm_syntax.specs.declared.tree.Argument.TheVariants as arguments
 use Rattle.tm_syntax.specs.declared.tree.Keyword.{Keyword}
-use Rattle.tm_syntax.specs.declared.tree.Keyword.TheVariants as keywords
 use Rattle.tm_syntax.specs.declared.tree.Pair.{Pair}
-use Rattle.tm_syntax.specs.declared.tree.Pair.TheVariants as pairs
 use Rattle.tm_syntax.specs.declared.tree.Condition.{Condition}
-use Rattle.tm_syntax.specs.declared.tree.Condition.TheVariants as conditions
 use Rattle.tm_syntax.specs.declared.tree.Comparison.{Comparison}
-use Rattle.tm_syntax.specs.declared.tree.Comparison.TheVariants as comparisons
 use Rattle.tm_syntax.specs.declared.tree.Step.{Step, Attribute}
 use Rattle.tm_syntax.specs.declared.tree.Step.TheVariants as steps
 use Rattle.tm_syntax.specs.declared.tree.Target.{Target}
 use Rattle.tm_syntax.specs.declared.tree.Target.TheVariants as targets
 use Rattle.tm_parser.specs.declared.tables.Link.{Link}
 use Rattle.tm_parser.specs.declared.tables.Link.TheVariants as links
-use Rattle.tm_parser.specs.declared.expressions.Passed.{Passed}
+use Rattle.tm_parser.specs.declared.primaries.Passed.{Passed}
 use Rattle.tm_rules.specs.Rule as rules
 use Rattle.tm_rules.specs.Rule.{Look}
 use Rattle.tm_rules.specs.Combinators.{first, not_before, nothing, pure, ◌>>=◌, provided, branch, token, grow, one_more, many_from}
@@ -147,7 +143,7 @@ passed xs ks = record { by_place = xs; by_name = ks }
 unfoldable pub keyword : Inside → Passed → List ℕ → Rule Passed
 keyword i given name = do
   x ← i.expr
-  pure (passed given.by_place (given.by_name ++ keywords.Keyword name x ∷ []))
+  pure (passed given.by_place (given.by_name ++ record { name = name; value = x } ∷ []))
 
 abbrev pub are_none : {A : Type 0} → List A → Bool
 are_none [] = true
@@ -210,7 +206,7 @@ pair i = do
   key ← i.expr
   colon ← token (is sign.Colon)
   x ← i.expr
-  pure (pairs.Pair key x)
+  pure (record { key = key; value = x })
 
 unfoldable pub map_literal : Inside → Rule Expr
 map_literal i = do
@@ -282,7 +278,7 @@ operation right op = do
 unfoldable pub another_comparison : Rule Expr → BinaryOperator → Rule Comparison
 another_comparison right op = do
   y ← right
-  pure (comparisons.Comparison op y)
+  pure (record { operator = op; right = y })
 
 -- what stands behind a link of comparisons in a row, where no other link may stand
 abbrev pub behind_comparison : Rule Expr → Link → Rule Comparison
@@ -365,9 +361,9 @@ else_part i = branch (first (is sign.Else)) (λ _. i.expr) (pure no_else)
 -- what stands behind `if`
 unfoldable pub condition : Inside → Rule Condition
 condition i = do
-  asked ← whole i
+  test ← whole i
   other ← else_part i
-  pure (conditions.Condition asked other)
+  pure (record { test = test; otherwise = other })
 
 -- as many conditions as there are
 abbrev pub conditions_from : Inside → List Condition → Rule (List Condition)

@@ -8,13 +8,14 @@ use Rattle.tm_syntax.specs.declared.token.Tag.TheVariants as tags
 use Rattle.tm_syntax.specs.declared.token.Sign.TheVariants as sign
 use Rattle.tm_syntax.specs.declared.token.Token.{Token}
 use Rattle.tm_syntax.specs.declared.token.Token.TheVariants as tokens
-use Rattle.tm_syntax.specs.declared.tree.Expr.{Expr, Call', Row_of-Argument, end_of-Argument as no_argument, more_of-Argument as argument, Row_of-Keyword, end_of-Keyword as no_keyword, more_of-Keyword as with_keyword, Row_of-Step, end_of-Step as no_step, more_of-Step as more_steps}
+use Rattle.tm_syntax.specs.declared.tree.Expr.{Expr, Call', Row_of-Argument, end_of-Argument as no_argument}
+use Rattle.tm_syntax.specs.declared.tree.Expr.{more_of-Argument as argument, Row_of-Keyword, end_of-Keyword as no_keyword, Row_of-Step}
+use Rattle.tm_syntax.specs.declared.tree.Expr.{end_of-Step as no_step, more_of-Step as more_steps}
 use Rattle.tm_syntax.specs.declared.tree.Step.{Step, Method'}
-use Rattle.tm_syntax.specs.Forms.{plain, chained as chained_steps}
+use Rattle.tm_syntax.specs.Forms.{plain, with_keyword, chained as chained_steps}
 use Rattle.tm_syntax.specs.declared.tree.Expr.TheVariants as exprs
 use Rattle.tm_syntax.specs.declared.tree.Target.{Target}
 use Rattle.tm_syntax.specs.declared.tree.Assignment.{Assignment}
-use Rattle.tm_syntax.specs.declared.tree.Assignment.TheVariants as assignments
 use Rattle.tm_syntax.specs.declared.tree.Stmt.{Stmt}
 use Rattle.tm_syntax.specs.declared.tree.Stmt.TheVariants as stmts
 use Rattle.tm_parser.specs.declared.tables.Start.{Start}
@@ -86,7 +87,7 @@ only_one (argument (plain x) (argument a given)) = None
 
 abbrev pub are_unnamed : {n : _} → Row_of-Keyword n → Bool
 are_unnamed no_keyword = true
-are_unnamed (with_keyword k named) = false
+are_unnamed (with_keyword name x named) = false
 
 -- what the innermost loop is called with: the one argument of a call of `loop`, which has no name
 unfoldable pub loop_argument : Expr → Option Expr
@@ -149,7 +150,14 @@ for_tag i t looping = do
   over ← t.looped
   body ← t.body true
   other ← t.else_or_end tags.Endfor looping
-  pure (stmts.For to over.iterated over.condition over.recursive body other)
+  pure (stmts.For (record {
+    target = to;
+    iterable = over.iterated;
+    condition = over.condition;
+    recursive = over.recursive;
+    body = body;
+    other = other;
+  }))
 
 -- a statement of one word that stands nowhere but inside a loop
 unfoldable pub jump : Bool → Stmt → Rule Stmt
@@ -252,7 +260,7 @@ assignment i = do
   to ← i.target
   equals ← token (is sign.Assign)
   x ← i.expr
-  pure (assignments.Assignment to x)
+  pure (record { target = to; value = x })
 
 unfoldable pub with_tag : Inside → Inner → Bool → Rule Stmt
 with_tag i t looping = do

@@ -42,12 +42,17 @@ fn add_names_of<'t>(names: &mut Vec<&'t str>, statement: &'t Stmt) -> Result<(),
         | Stmt::Continue
         | Stmt::Set(_, _)
         | Stmt::Do(_) => Ok(()),
-        Stmt::If(_, body, None) | Stmt::For(_, _, _, _, body, None) => {
-            add_names(names, body.as_slice())
-        }
-        Stmt::If(_, body, Some(other)) | Stmt::For(_, _, _, _, body, Some(other)) => {
+        Stmt::If(_, body, None) => add_names(names, body.as_slice()),
+        Stmt::If(_, body, Some(other)) => {
             add_names(names, body.as_slice())?;
             add_names(names, other.as_slice())
+        }
+        Stmt::For(each) => {
+            add_names(names, each.body.as_slice())?;
+            match &each.other {
+                None => Ok(()),
+                Some(other) => add_names(names, other.as_slice()),
+            }
         }
         Stmt::Block(name, body) => {
             names.push(name.as_str())?;

@@ -1,29 +1,21 @@
-//! Expressions.
+//! Expressions: values with operators, steps and conditions behind them.
 ghost use Rattle.std.specs.Prelude.{◌≡◌, ◌∷◌, [], MatchResult};
 ghost use Rattle.tm_parser.specs.Gives.{Gives};
 ghost use Rattle.tm_parser.specs.Grammar as grammar;
-ghost use Rattle.tm_parser.specs.Grammar.{inside, all_passed, argument, bracketed, behind_comparison, comparison, comparisons_from, condition, conditions_from, conjunction, disjunction, else_part, expr, expr_at, items, keyword, last_part, list_literal, named_step, map_literal, more_items, more_passed, named, one_passed, operand, operation, pair, part, primary, slice, step, steps_from, subscript, tuple, whole};
+ghost use Rattle.tm_parser.specs.Grammar.{inside, behind_comparison, comparison, comparisons_from};
+ghost use Rattle.tm_parser.specs.Grammar.{condition, conditions_from, conjunction, disjunction};
+ghost use Rattle.tm_parser.specs.Grammar.{else_part, expr, expr_at, last_part, named_step, operand};
+ghost use Rattle.tm_parser.specs.Grammar.{operation, part, slice, step, steps_from, subscript};
+ghost use Rattle.tm_parser.specs.Grammar.{whole};
 ghost use Rattle.tm_rules.specs.Combinators.{one_more};
-ghost use Rattle.tm_syntax.specs.declared.token.Sign.TheVariants as sign;
 ghost use Rattle.tm_values.specs.declared.error.ErrorKind.TheVariants.{OutOfMemory};
 
 use crate::cursor::{Cursor, refusal};
 use crate::tables::Link;
 use sqlite_items::{Boxed, Items};
 use std::alloc::Global;
-use tm_syntax::{
-    Argument, BinaryOperator, Comparison, Condition, Expr, Keyword, Name, Pair, Sign, Step,
-};
+use tm_syntax::{BinaryOperator, Comparison, Condition, Expr, Sign, Step};
 use tm_values::{Error, Value};
-
-/// What a call is passed.
-#[derive(Drop)]
-pub struct Passed {
-    /// By their places.
-    by_place: Items<Argument>,
-    /// By their names, behind all others.
-    by_name: Items<Keyword>,
-}
 
 /// The loosest level.
 const LOOSEST: u8 = 7;
@@ -32,7 +24,7 @@ const LOOSEST: u8 = 7;
 impl Cursor<'_> {
     /// Refuses a bracket for which no nesting is left.
     #[tactic(auto, using(crate::proofs::Nesting::expressions))]
-    fn room(&self, depth: u8) -> Result<(), Error>
+    pub fn room(&self, depth: u8) -> Result<(), Error>
         ensures { Gives result self.now ((inside depth).room.reads self.now) }
     {
         if depth == 0 {
@@ -102,9 +94,9 @@ impl Cursor<'_> {
             ((one_more (condition (inside depth)) conditions).reads self.old) }
     {
         let mut conditions = conditions;
-        let asked = self.expr_at(alloc, depth, LOOSEST)?;
+        let test = self.expr_at(alloc, depth, LOOSEST)?;
         let otherwise = self.else_part(alloc, depth)?;
-        conditions.push(Condition::Condition(asked, otherwise))?;
+        conditions.push(Condition { test, otherwise })?;
         Ok(conditions)
     }
 
@@ -344,7 +336,7 @@ impl Cursor<'_> {
         };
         let mut comparisons = comparisons;
         let right = self.operand(alloc, depth, level)?;
-        comparisons.push(Comparison::Comparison(operator, right))?;
+        comparisons.push(Comparison { operator, right })?;
         Ok(comparisons)
     }
 
@@ -366,289 +358,6 @@ impl Cursor<'_> {
             ((disjunction (operand (inside depth) level)).reads self.old) }
     {
         Ok(Step::Or(self.operand(alloc, depth, level)?))
-    }
-
-    /// A literal, a name, a call, or what stands in brackets.
-    #[cycle(expressions)]
-    #[tactic(auto, unfolding(crate::specs::Grammar::primary))]
-    fn primary(&mut self, alloc: Global, depth: u8) -> Result<Boxed<Expr>, Error>
-        ensures { Gives result self.new ((primary (inside depth)).reads self.old) }
-    {
-        if let Some(value) = self.take_constant()? {
-            return Ok(Boxed::new(alloc, Expr::Const(value))?);
-        }
-        if let Some(name) = self.take_name()? {
-            return self.named(alloc, depth, name);
-        }
-        if self.take(Sign::OpenRound) {
-            return self.bracketed(alloc, depth);
-        }
-        if self.take(Sign::OpenSquare) {
-            return self.list_literal(alloc, depth);
-        }
-        if self.take(Sign::OpenCurly) {
-            return self.map_literal(alloc, depth);
-        }
-        Err(refusal())
-    }
-
-    /// A name, or the call of one.
-    #[cycle(expressions)]
-    #[tactic(auto, unfolding(crate::specs::Grammar::named))]
-    fn named(&mut self, alloc: Global, depth: u8, name: Name) -> Result<Boxed<Expr>, Error>
-        ensures { Gives result self.new ((named (inside depth) name).reads self.old) }
-    {
-        if !self.take(Sign::OpenRound) {
-            return Ok(Boxed::new(alloc, Expr::Var(name))?);
-        }
-        self.room(depth)?;
-        let given = self.all_passed(alloc, depth)?;
-        Ok(Boxed::new(alloc, Expr::Call(name, given.by_place, given.by_name))?)
-    }
-
-    /// The expression or tuple in round brackets, and their end.
-    #[cycle(expressions)]
-    #[tactic(auto, unfolding(crate::specs::Grammar::bracketed))]
-    fn bracketed(&mut self, alloc: Global, depth: u8) -> Result<Boxed<Expr>, Error>
-        ensures { Gives result self.new ((bracketed (inside depth)).reads self.old) }
-    {
-        self.room(depth)?;
-        if self.take(Sign::CloseRound) {
-            return Ok(Boxed::new(alloc, Expr::Tuple(Items::new(alloc)))?);
-        }
-        let first = self.inner_expr(alloc, depth)?;
-        if self.take(Sign::CloseRound) {
-            return Ok(first);
-        }
-        self.tuple(alloc, depth, first)
-    }
-
-    /// A tuple behind its first item, and the end of its brackets.
-    #[cycle(expressions)]
-    #[tactic(auto, unfolding(crate::specs::Grammar::tuple))]
-    fn tuple(&mut self, alloc: Global, depth: u8, first: Boxed<Expr>) -> Result<Boxed<Expr>, Error>
-        ensures { Gives result self.new ((tuple (inside depth) first).reads self.old) }
-    {
-        self.expect(Sign::Comma)?;
-        let mut items = Items::new(alloc);
-        items.push(first.into_inner())?;
-        let items = self.exprs(alloc, depth, Sign::CloseRound, items)?;
-        Ok(Boxed::new(alloc, Expr::Tuple(items))?)
-    }
-
-    /// The items of a list, and the end of its brackets.
-    #[cycle(expressions)]
-    #[tactic(auto, unfolding(crate::specs::Grammar::list_literal))]
-    fn list_literal(&mut self, alloc: Global, depth: u8) -> Result<Boxed<Expr>, Error>
-        ensures { Gives result self.new ((list_literal (inside depth)).reads self.old) }
-    {
-        self.room(depth)?;
-        let items = self.exprs(alloc, depth, Sign::CloseSquare, Items::new(alloc))?;
-        Ok(Boxed::new(alloc, Expr::List(items))?)
-    }
-
-    /// The pairs of a map, and the end of its brackets.
-    #[cycle(expressions)]
-    #[tactic(auto, unfolding(crate::specs::Grammar::map_literal))]
-    fn map_literal(&mut self, alloc: Global, depth: u8) -> Result<Boxed<Expr>, Error>
-        ensures { Gives result self.new ((map_literal (inside depth)).reads self.old) }
-    {
-        self.room(depth)?;
-        let pairs = self.pairs(alloc, depth)?;
-        Ok(Boxed::new(alloc, Expr::Map(pairs))?)
-    }
-
-    /// More expressions behind others, up to a sign and with it.
-    #[cycle(expressions)]
-    #[tactic(auto, unfolding(crate::specs::Grammar::items))]
-    fn exprs(
-        &mut self,
-        alloc: Global,
-        depth: u8,
-        close: Sign,
-        first: Items<Expr>,
-    ) -> Result<Items<Expr>, Error>
-        ensures { Gives result self.new ((items close (inside depth).expr first).reads self.old) }
-    {
-        if self.take(close) {
-            return Ok(first);
-        }
-        let exprs = self.one_expr(alloc, depth, first)?;
-        let exprs = self.more_exprs(alloc, depth, close, exprs)?;
-        self.take(Sign::Comma);
-        self.expect(close)?;
-        Ok(exprs)
-    }
-
-    /// More expressions, each behind a comma.
-    #[cycle(expressions)]
-    #[tactic(auto, using(crate::proofs::Loops::commas))]
-    fn more_exprs(
-        &mut self,
-        alloc: Global,
-        depth: u8,
-        close: Sign,
-        first: Items<Expr>,
-    ) -> Result<Items<Expr>, Error>
-        ensures { Gives result self.new
-            ((more_items close (inside depth).expr first).reads self.old) }
-    {
-        let mut exprs = first;
-        while self.take_comma(close) {
-            exprs = self.one_expr(alloc, depth, exprs)?;
-        }
-        Ok(exprs)
-    }
-
-    /// An expression, at the end of others.
-    #[cycle(expressions)]
-    fn one_expr(
-        &mut self,
-        alloc: Global,
-        depth: u8,
-        exprs: Items<Expr>,
-    ) -> Result<Items<Expr>, Error>
-        ensures { Gives result self.new ((one_more (inside depth).expr exprs).reads self.old) }
-    {
-        let mut exprs = exprs;
-        let value = self.inner_expr(alloc, depth)?;
-        exprs.push(value.into_inner())?;
-        Ok(exprs)
-    }
-
-    /// The pairs of a map, and the end of its brackets.
-    #[cycle(expressions)]
-    #[tactic(auto, unfolding(crate::specs::Grammar::items))]
-    fn pairs(&mut self, alloc: Global, depth: u8) -> Result<Items<Pair>, Error>
-        ensures { Gives result self.new
-            ((items sign.CloseCurly (pair (inside depth)) []).reads self.old) }
-    {
-        let pairs = Items::new(alloc);
-        if self.take(Sign::CloseCurly) {
-            return Ok(pairs);
-        }
-        let pairs = self.one_pair(alloc, depth, pairs)?;
-        let pairs = self.more_pairs(alloc, depth, pairs)?;
-        self.take(Sign::Comma);
-        self.expect(Sign::CloseCurly)?;
-        Ok(pairs)
-    }
-
-    /// More pairs, each behind a comma.
-    #[cycle(expressions)]
-    #[tactic(auto, using(crate::proofs::Loops::commas))]
-    fn more_pairs(
-        &mut self,
-        alloc: Global,
-        depth: u8,
-        first: Items<Pair>,
-    ) -> Result<Items<Pair>, Error>
-        ensures { Gives result self.new
-            ((more_items sign.CloseCurly (pair (inside depth)) first).reads self.old) }
-    {
-        let mut pairs = first;
-        while self.take_comma(Sign::CloseCurly) {
-            pairs = self.one_pair(alloc, depth, pairs)?;
-        }
-        Ok(pairs)
-    }
-
-    /// A pair, at the end of others.
-    #[cycle(expressions)]
-    #[tactic(auto, unfolding(crate::specs::Grammar::pair))]
-    fn one_pair(
-        &mut self,
-        alloc: Global,
-        depth: u8,
-        pairs: Items<Pair>,
-    ) -> Result<Items<Pair>, Error>
-        ensures { Gives result self.new
-            ((one_more (pair (inside depth)) pairs).reads self.old) }
-    {
-        let mut pairs = pairs;
-        let key = self.inner_expr(alloc, depth)?;
-        self.expect(Sign::Colon)?;
-        let value = self.inner_expr(alloc, depth)?;
-        pairs.push(Pair::Pair(key, value))?;
-        Ok(pairs)
-    }
-
-    /// The arguments of a call, and the end of its brackets.
-    #[cycle(expressions)]
-    #[tactic(auto, unfolding(crate::specs::Grammar::all_passed))]
-    fn all_passed(&mut self, alloc: Global, depth: u8) -> Result<Passed, Error>
-        ensures { Gives result self.new ((all_passed (inside depth)).reads self.old) }
-    {
-        let given = Passed {
-            by_place: Items::new(alloc),
-            by_name: Items::new(alloc),
-        };
-        if self.take(Sign::CloseRound) {
-            return Ok(given);
-        }
-        let given = self.one_passed(alloc, depth, given)?;
-        let given = self.more_passed(alloc, depth, given)?;
-        self.take(Sign::Comma);
-        self.expect(Sign::CloseRound)?;
-        Ok(given)
-    }
-
-    /// More arguments, each behind a comma.
-    #[cycle(expressions)]
-    #[tactic(auto, using(crate::proofs::Loops::arguments))]
-    fn more_passed(&mut self, alloc: Global, depth: u8, first: Passed) -> Result<Passed, Error>
-        ensures { Gives result self.new ((more_passed (inside depth) first).reads self.old) }
-    {
-        let mut given = first;
-        while self.take_comma(Sign::CloseRound) {
-            given = self.one_passed(alloc, depth, given)?;
-        }
-        Ok(given)
-    }
-
-    /// An argument, behind others.
-    #[cycle(expressions)]
-    #[tactic(auto, unfolding(crate::specs::Grammar::one_passed))]
-    fn one_passed(&mut self, alloc: Global, depth: u8, given: Passed) -> Result<Passed, Error>
-        ensures { Gives result self.new ((one_passed (inside depth) given).reads self.old) }
-    {
-        if let Some(name) = self.take_keyword()? {
-            return self.keyword(alloc, depth, given, name);
-        }
-        self.argument(alloc, depth, given)
-    }
-
-    /// An argument by its name, behind its `=`.
-    #[cycle(expressions)]
-    #[tactic(auto, unfolding(crate::specs::Grammar::keyword))]
-    fn keyword(
-        &mut self,
-        alloc: Global,
-        depth: u8,
-        given: Passed,
-        name: Name,
-    ) -> Result<Passed, Error>
-        ensures { Gives result self.new ((keyword (inside depth) given name).reads self.old) }
-    {
-        let mut given = given;
-        let value = self.inner_expr(alloc, depth)?;
-        given.by_name.push(Keyword::Keyword(name, value))?;
-        Ok(given)
-    }
-
-    /// An argument by its place, which stands behind none by its name.
-    #[cycle(expressions)]
-    #[tactic(auto, unfolding(crate::specs::Grammar::argument), using(crate::proofs::Nesting::names))]
-    fn argument(&mut self, alloc: Global, depth: u8, given: Passed) -> Result<Passed, Error>
-        ensures { Gives result self.new ((argument (inside depth) given).reads self.old) }
-    {
-        if !given.by_name.is_empty() {
-            return Err(refusal());
-        }
-        let mut given = given;
-        let value = self.inner_expr(alloc, depth)?;
-        given.by_place.push(Argument::Plain(value))?;
-        Ok(given)
     }
 }
 

@@ -4,6 +4,7 @@
 mod blocks;
 mod cursor;
 mod expressions;
+mod primaries;
 mod statements;
 mod tables;
 mod targets;

@@ -13,7 +13,7 @@ use crate::tables::Start;
 use crate::targets::Looped;
 use sqlite_items::{Boxed, Items};
 use std::alloc::Global;
-use tm_syntax::{Argument, Expr, Sign, Step, Stmt, Tag, Target};
+use tm_syntax::{Argument, Expr, ForLoop, Sign, Step, Stmt, Tag, Target};
 use tm_values::Error;
 
 // Each method reads one rule, with `depth` nestings to go, and where `looping` with a loop around
@@ -242,7 +242,14 @@ impl Cursor<'_> {
         } = self.inner_looped(alloc, depth)?;
         let body = self.inner_body(alloc, depth, true)?;
         let other = self.inner_else_or_end(alloc, depth, Tag::Endfor, looping)?;
-        Ok(Stmt::For(target, iterated, condition, recursive, body, other))
+        Ok(Stmt::For(ForLoop {
+            target,
+            iterable: iterated,
+            condition,
+            recursive,
+            body,
+            other,
+        }))
     }
 
     /// The end of a `break`.

@@ -367,7 +367,7 @@ impl Cursor<'_> {
         let target = self.inner_target(alloc, depth)?;
         self.expect(Sign::Assign)?;
         let value = self.inner_expr(alloc, depth)?;
-        Ok(Assignment::Assignment(target, value))
+        Ok(Assignment { target, value })
     }
 }
 

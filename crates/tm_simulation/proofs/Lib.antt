@@ -9,6 +9,13 @@ pub mod Chains
 pub mod Loops
 pub mod Follow
 pub mod Forms
+mod Operands
+mod Levels
+mod Expressions
+mod Targets
+mod Rounds
+mod Statements
+mod Recursion
 pub mod Simulation
 mod Begins
 mod TreeLoops
