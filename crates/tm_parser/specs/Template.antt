@@ -17,7 +17,7 @@ abbrev mutual
   names_of (EmitExpr x) = []
   names_of (EmitLoop x) = []
   names_of (If' condition _ body other) = names_in body ++ names_in_otherwise other
-  names_of (For' to over asked recursive _ body other) = names_in body ++ names_in_otherwise other
+  names_of (For' to over condition recursive _ body other) = names_in body ++ names_in_otherwise other
   names_of Break = []
   names_of Continue = []
   names_of (Block' name _ body) = name ∷ names_in body
