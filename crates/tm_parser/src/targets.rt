@@ -9,6 +9,7 @@ ghost use Rattle.tm_syntax.specs.declared.token.Sign.TheVariants as sign;
 
 use crate::cursor::{Cursor, refusal};
 use crate::expressions::chained;
+use crate::tables::POSTFIX_LEVEL;
 use sqlite_items::{Boxed, Items};
 use std::alloc::Global;
 use tm_syntax::{Assignment, Expr, Name, Sign, Step, Target};
@@ -118,8 +119,8 @@ impl Cursor<'_> {
     fn member(&mut self, alloc: Global, depth: u8) -> Result<Target, Error>
         ensures { Gives result self.new ((member (inside depth)).reads self.old) }
     {
-        let value = self.operand(alloc, depth, 0)?;
-        let steps = self.steps(alloc, depth, 0)?;
+        let value = self.operand(alloc, depth, POSTFIX_LEVEL)?;
+        let steps = self.steps(alloc, depth, POSTFIX_LEVEL)?;
         target_of(alloc, value, steps)
     }
 
