@@ -1,7 +1,7 @@
 //! The code of what loops go over.
 ghost use Rattle.std.specs.Prelude.{◌≡◌, [], ◌∷◌, OnOk, IfErr};
 ghost use Rattle.tm_generator.specs.Building.{put};
-ghost use Rattle.tm_syntax.specs.Code.{iterable_code, filter_round, take_item};
+ghost use Rattle.tm_syntax.specs.Code.{iterable_code, pass_round, take_item};
 ghost use Rattle.tm_values.specs.declared.error.ErrorKind.TheVariants.{OutOfMemory};
 
 use crate::builder::Builder;
@@ -33,15 +33,15 @@ pub(crate) fn push_iterable(
         recursive: false,
     };
     let outer = code.begin_loop(flags)?;
-    push_filter_round(code, target, condition.get())?;
+    push_pass_round(code, target, condition.get())?;
     code.end_rounds(outer)?;
     code.emit(Instruction::PopLoopFrame)?;
     code.emit(Instruction::BuildList(None))
 }
 
 /// Adds the round that takes its item where a condition is true, and drops it else; OutOfMemory.
-fn push_filter_round(code: &mut Builder, target: &Target, condition: &Expr) -> Result<(), Error>
-    ensures ok { OnOk result (code.new ≡ put (filter_round target.now condition.now) code.old) }
+fn push_pass_round(code: &mut Builder, target: &Target, condition: &Expr) -> Result<(), Error>
+    ensures ok { OnOk result (code.new ≡ put (pass_round target.now condition.now) code.old) }
     ensures err { IfErr result (λ e. e ≡ OutOfMemory ∷ []) }
 {
     code.emit(Instruction::DupTop)?;

@@ -28,7 +28,7 @@ use Rattle.tm_syntax.specs.declared.tree.Target.{Target, Name as To, Unpack' as 
 use Rattle.tm_syntax.specs.declared.tree.Assignment.{Assignment}
 use Rattle.tm_syntax.specs.declared.tree.Stmt.{Stmt, EmitRaw, EmitExpr, EmitLoop, If', For', Break, Continue, Block', Set, SetBlock', With', Do, AutoEscape', Row_of-Stmt, end_of-Stmt as no_statement, more_of-Stmt as statement, Held-Stmt-If-2 as Otherwise, None' as no_else, Some' as otherwise}
 use Rattle.tm_syntax.specs.Forms.{unary, chained, conditional, with_condition, with_comparison, with_pair, plain, with_keyword, item, slice, binary, compare, and_then, or_else}
-use Rattle.tm_syntax.specs.Code.{count_targets, for_flags, filter_flags}
+use Rattle.tm_syntax.specs.Code.{count_targets, for_flags, pass_flags}
 use Rattle.tm_syntax.specs.Loops.{passes, within_loop, past, pasts, FoundLoop, loops_in}
 use Rattle.tm_meaning.specs.World.{choose, TemplateId, root_of, World, Host, Res, Good, Bad, bind, answered, tick, ticked, looked_up, records_of, template_at, emitted, escape_for, with_escape, captured_text, open_loop, next_turn, cleared, items_over, store, set_member, items_of, push, pop, plain as plain_scope}
 use Rattle.tm_meaning.specs.Calls.{Callee, whole, Call, Asked, has, refused, runs, recurs, undone, wrapped, enter_block, call_named, call_method, call_innermost, own_blocks}
@@ -206,8 +206,8 @@ keyword_map ps = keywords (pairs_of (put_all ps))
 -- ---------------------------------------------------------------- expressions
 -- what is guarded where the condition is true, with the jump behind it, and else what stands for it
 abbrev pub under_condition : Host → (World → Res Val) → (World → Res Val) → (World → Res Val) → World → Res Val
-under_condition host asked guarded other w =
-    bind (asked w) (λ v world1. ticked world1 (λ world2. bind (truth host v world2) (λ b world3.
+under_condition host test guarded other w =
+    bind (test w) (λ v world1. ticked world1 (λ world2. bind (truth host v world2) (λ b world3.
     choose b (λ _. bind (guarded world3) (λ x world4. ticked world4 (λ world5. Good x world5))) (λ _. other world3))))
 
 abbrev mutual
@@ -369,21 +369,21 @@ one_counted n w =
 
 -- Of items those whose condition is true, of which so many are taken already: the next item is asked for, charged, the scope loses its names, the condition is tested, charged,
 -- and what is taken is counted; then the jump back is charged. Where no item is left the loop is.
-abbrev pub kept : Host → (Val → World → Res Val) → ℕ → List Val → World → Res (List Val)
-kept host test n [] w = ticked w (λ world1. Good [] (pop (next_turn world1)))
-kept host test n (v ∷ vs) w =
-    ticked w (λ world1. bind (test v (cleared (next_turn world1))) (λ c world2. ticked world2 (λ world3. bind (truth host c world3) (λ b world4.
+abbrev pub selected : Host → (Val → World → Res Val) → ℕ → List Val → World → Res (List Val)
+selected host condition n [] w = ticked w (λ world1. Good [] (pop (next_turn world1)))
+selected host condition n (v ∷ vs) w =
+    ticked w (λ world1. bind (condition v (cleared (next_turn world1))) (λ c world2. ticked world2 (λ world3. bind (truth host c world3) (λ b world4.
     choose b
-    (λ _. bind (one_counted n world4) (λ _ world5. ticked world5 (λ world6. bind (kept host test (n + 1) vs world6) (λ us world7. Good (v ∷ us) world7))))
-    (λ _. ticked world4 (λ world5. kept host test n vs world5))))))
+    (λ _. bind (one_counted n world4) (λ _ world5. ticked world5 (λ world6. bind (selected host condition (n + 1) vs world6) (λ us world7. Good (v ∷ us) world7))))
+    (λ _. ticked world4 (λ world5. selected host condition n vs world5))))))
 
 -- what a loop goes over: with a condition the items for which that is true, in a loop without the name `loop` before it
 abbrev pub loop_items : Under → ℕ → Run → Target → Expr → Option Expr → World → Res (List Val)
 loop_items u at run t e None w = bind (eval u run e w) (λ v world1. items_over u.host v world1)
 loop_items u at run t e (Some c) w =
     ticked w (λ world1. bind (eval u run e world1) (λ v world2. bind (items_over u.host v world2) (λ vs world3.
-    bind (open_loop u.host vs filter_flags at world3) (λ _ world4.
-    bind (kept u.host (λ x world5. bind (assign u run t x world5) (λ _ world6. eval u run c world6)) 0 vs world4) (λ us world5.
+    bind (open_loop u.host vs pass_flags at world3) (λ _ world4.
+    bind (selected u.host (λ x world5. bind (assign u run t x world5) (λ _ world6. eval u run c world6)) 0 vs world4) (λ us world5.
     ticked world5 (λ world6. Good us world6))))))
 
 abbrev pub has_none : List Val → Bool

@@ -154,7 +154,7 @@ pub fn loop_rows()
 {}
 
 /// `{% for x in [1,2] if x > 1 %}{{ x }}{% endfor %}`, with an else part, under a condition that holds for none, and what `loop` is in the body and in the condition.
-pub fn filter_rows()
+pub fn loop_condition_rows()
     ensures alone { Charges chosen_alone (decimal 2) 29 }
     ensures last { Says chosen_alone 29 (decimal 2) 0 (OutOfFuel ∷ []) }
     ensures chosen { Charges (chosen 1) (decimal 2) 30 }

@@ -56,39 +56,63 @@ a_constant (tokens.Literal v) = Some v
 a_constant (tokens.Sign s) = constant_of s
 a_constant _ = None
 
--- The levels, from the tightest: 0 what stands behind a value, 1 powers, 2 products, 3 `~`, 4 sums, 5 comparisons, 6 `and`, 7 `or`.
+-- The levels, from the tightest: what stands behind a value, powers, products, `~`, sums, comparisons, `and`, `or`.
+abbrev pub postfix_level : ℕ
+postfix_level = 0
+
+abbrev pub power_level : ℕ
+power_level = 1
+
+abbrev pub product_level : ℕ
+product_level = 2
+
+abbrev pub concatenation_level : ℕ
+concatenation_level = 3
+
+abbrev pub sum_level : ℕ
+sum_level = 4
+
+abbrev pub comparison_level : ℕ
+comparison_level = 5
+
+abbrev pub and_level : ℕ
+and_level = 6
+
+abbrev pub or_level : ℕ
+or_level = 7
+
 -- Each sign that goes on with a value: its level, and how.
 abbrev pub link_of : Sign → Option (ℕ × Link)
-link_of sign.Dot = Some (0, links.Member)
-link_of sign.OpenSquare = Some (0, links.Item)
-link_of sign.DoubleStar = Some (1, links.Operator binaries.Power)
-link_of sign.Star = Some (2, links.Operator binaries.Multiply)
-link_of sign.Slash = Some (2, links.Operator binaries.Divide)
-link_of sign.DoubleSlash = Some (2, links.Operator binaries.FloorDivide)
-link_of sign.Percent = Some (2, links.Operator binaries.Remainder)
-link_of sign.Tilde = Some (3, links.Operator binaries.Concatenate)
-link_of sign.Plus = Some (4, links.Operator binaries.Add)
-link_of sign.Minus = Some (4, links.Operator binaries.Subtract)
-link_of sign.Equal = Some (5, links.Comparison binaries.Equal)
-link_of sign.NotEqual = Some (5, links.Comparison binaries.NotEqual)
-link_of sign.Less = Some (5, links.Comparison binaries.Less)
-link_of sign.LessOrEqual = Some (5, links.Comparison binaries.LessOrEqual)
-link_of sign.Greater = Some (5, links.Comparison binaries.Greater)
-link_of sign.GreaterOrEqual = Some (5, links.Comparison binaries.GreaterOrEqual)
-link_of sign.In = Some (5, links.Comparison binaries.In)
-link_of sign.And = Some (6, links.And)
-link_of sign.Or = Some (7, links.Or)
+link_of sign.Dot = Some (postfix_level, links.Member)
+link_of sign.OpenSquare = Some (postfix_level, links.Item)
+link_of sign.DoubleStar = Some (power_level, links.Operator binaries.Power)
+link_of sign.Star = Some (product_level, links.Operator binaries.Multiply)
+link_of sign.Slash = Some (product_level, links.Operator binaries.Divide)
+link_of sign.DoubleSlash = Some (product_level, links.Operator binaries.FloorDivide)
+link_of sign.Percent = Some (product_level, links.Operator binaries.Remainder)
+link_of sign.Tilde = Some (concatenation_level, links.Operator binaries.Concatenate)
+link_of sign.Plus = Some (sum_level, links.Operator binaries.Add)
+link_of sign.Minus = Some (sum_level, links.Operator binaries.Subtract)
+link_of sign.Equal = Some (comparison_level, links.Comparison binaries.Equal)
+link_of sign.NotEqual = Some (comparison_level, links.Comparison binaries.NotEqual)
+link_of sign.Less = Some (comparison_level, links.Comparison binaries.Less)
+link_of sign.LessOrEqual = Some (comparison_level, links.Comparison binaries.LessOrEqual)
+link_of sign.Greater = Some (comparison_level, links.Comparison binaries.Greater)
+link_of sign.GreaterOrEqual = Some (comparison_level, links.Comparison binaries.GreaterOrEqual)
+link_of sign.In = Some (comparison_level, links.Comparison binaries.In)
+link_of sign.And = Some (and_level, links.And)
+link_of sign.Or = Some (or_level, links.Or)
 link_of _ = None
 
 -- Each sign that goes on with a value behind `not`.
 abbrev pub negated_link_of : Sign → Option (ℕ × Link)
-negated_link_of sign.In = Some (5, links.Comparison binaries.NotIn)
+negated_link_of sign.In = Some (comparison_level, links.Comparison binaries.NotIn)
 negated_link_of _ = None
 
 -- Each sign before an operand: the level whose operands it stands before, and the operator.
 abbrev pub prefix_of : Sign → Option (ℕ × UnaryOperator)
-prefix_of sign.Minus = Some (1, unaries.Negate)
-prefix_of sign.Not = Some (6, unaries.Not)
+prefix_of sign.Minus = Some (power_level, unaries.Negate)
+prefix_of sign.Not = Some (and_level, unaries.Not)
 prefix_of _ = None
 
 abbrev pub at_level : {A : Type 0} → ℕ → Option (ℕ × A) → Option A
@@ -349,7 +373,7 @@ expr_at i level = with_steps i (operand i level) level
 
 -- a value or a condition, with all operators
 abbrev pub whole : Inside → Rule Expr
-whole i = expr_at i 7
+whole i = expr_at i or_level
 
 -- what stands for an else part that is missing
 abbrev pub no_else : Expr
@@ -412,8 +436,8 @@ known (Some x) = pure x
 -- a name or an attribute
 unfoldable pub member : Inside → Rule Target
 member i = do
-  x ← operand i 0
-  ss ← steps_from i (operand i 0) 0 []
+  x ← operand i postfix_level
+  ss ← steps_from i (operand i postfix_level) postfix_level []
   known (target_of x ss)
 
 -- a target with no comma outside brackets

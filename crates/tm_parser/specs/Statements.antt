@@ -152,7 +152,7 @@ for_tag i t looping = do
   other ← t.else_or_end tags.Endfor looping
   pure (stmts.For (record {
     target = to;
-    iterable = over.iterated;
+    iterable = over.iterable;
     condition = over.condition;
     recursive = over.recursive;
     body = body;
@@ -216,11 +216,11 @@ iterated i = do
   ahead is_comma (iterated_tuple i x) (pure x)
 
 -- the condition of a loop's item, behind which no other one may stand
-unfoldable pub filter : Inside → Rule (Option Expr)
-filter i = branch (first (is sign.If))
+unfoldable pub loop_condition : Inside → Rule (Option Expr)
+loop_condition i = branch (first (is sign.If))
     (λ _. do
-      asked ← whole i
-      pure (Some asked))
+      condition ← whole i
+      pure (Some condition))
     (pure None)
 
 -- the word of a loop that can be called, or none
@@ -231,10 +231,10 @@ recursion = branch (first (is_word (codes "recursive"))) (λ _. pure true) (pure
 unfoldable pub looped : Inside → Rule Looped
 looped i = do
   over ← iterated i
-  asked ← filter i
+  condition ← loop_condition i
   recursive ← recursion
   close ← block_end
-  pure (record { iterated = over; condition = asked; recursive = recursive })
+  pure (record { iterable = over; condition = condition; recursive = recursive })
 
 -- what stands behind the `=` of a `set`
 unfoldable pub set_value : Inside → Target → Rule Stmt

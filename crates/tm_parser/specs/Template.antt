@@ -17,7 +17,7 @@ abbrev mutual
   names_of (EmitExpr x) = []
   names_of (EmitLoop x) = []
   names_of (If' condition _ body other) = names_in body ++ names_in_otherwise other
-  names_of (For' to over asked recursive _ body other) = names_in body ++ names_in_otherwise other
+  names_of (For' to over condition recursive _ body other) = names_in body ++ names_in_otherwise other
   names_of Break = []
   names_of Continue = []
   names_of (Block' name _ body) = name ∷ names_in body
@@ -45,9 +45,13 @@ AreDistinct = IsDistinct bytes_eq
 abbrev pub texts : List (Bor (List ℕ)) → List (List ℕ)
 texts = map (λ name. name.now)
 
--- All tokens are the statements of the tree, around which is no loop, with at most 150 nestings at once, and no name is that of two blocks.
+-- how many brackets, prefixes, else parts and tags may be open at once
+abbrev pub nestings : ℕ
+nestings = 150
+
+-- All tokens are the statements of the tree, around which is no loop, within so many nestings, and no name is that of two blocks.
 pub record SpellsTemplate (tokens : List Token) (tree : Tree) : Type 0 where
-  pub spelled : (body (inside 150) (inner 150) false).spells tokens tree.statements []
+  pub spelled : (body (inside nestings) (inner nestings) false).spells tokens tree.statements []
   pub distinct : AreDistinct (block_names tree.statements)
 
 abbrev pub SpellsNone : List Token → Type 0

@@ -11,14 +11,11 @@ ghost use Rattle.tm_rules.specs.Combinators.{one_more};
 ghost use Rattle.tm_values.specs.declared.error.ErrorKind.TheVariants.{OutOfMemory};
 
 use crate::cursor::{Cursor, refusal};
-use crate::tables::Link;
+use crate::tables::{Link, OR_LEVEL, POSTFIX_LEVEL};
 use sqlite_items::{Boxed, Items};
 use std::alloc::Global;
 use tm_syntax::{BinaryOperator, Comparison, Condition, Expr, Sign, Step};
 use tm_values::{Error, Value};
-
-/// The loosest level.
-const LOOSEST: u8 = 7;
 
 // Each method reads one rule, with `depth` nestings to go. SyntaxError where no tokens spell it.
 impl Cursor<'_> {
@@ -63,7 +60,7 @@ impl Cursor<'_> {
     pub fn expr(&mut self, alloc: Global, depth: u8) -> Result<Boxed<Expr>, Error>
         ensures { Gives result self.new ((expr (inside depth)).reads self.old) }
     {
-        let value = self.expr_at(alloc, depth, LOOSEST)?;
+        let value = self.expr_at(alloc, depth, OR_LEVEL)?;
         let conditions = self.conditions(alloc, depth)?;
         conditional(alloc, value, conditions)
     }
@@ -94,7 +91,7 @@ impl Cursor<'_> {
             ((one_more (condition (inside depth)) conditions).reads self.old) }
     {
         let mut conditions = conditions;
-        let test = self.expr_at(alloc, depth, LOOSEST)?;
+        let test = self.expr_at(alloc, depth, OR_LEVEL)?;
         let otherwise = self.else_part(alloc, depth)?;
         conditions.push(Condition { test, otherwise })?;
         Ok(conditions)
@@ -116,7 +113,7 @@ impl Cursor<'_> {
     pub fn whole(&mut self, alloc: Global, depth: u8) -> Result<Boxed<Expr>, Error>
         ensures { Gives result self.new ((whole (inside depth)).reads self.old) }
     {
-        self.expr_at(alloc, depth, LOOSEST)
+        self.expr_at(alloc, depth, OR_LEVEL)
     }
 
     /// An operand of a level, and the steps of that level behind it.
@@ -136,7 +133,7 @@ impl Cursor<'_> {
     pub fn operand(&mut self, alloc: Global, depth: u8, level: u8) -> Result<Boxed<Expr>, Error>
         ensures { Gives result self.new ((operand (inside depth) level).reads self.old) }
     {
-        if level == 0 {
+        if level == POSTFIX_LEVEL {
             return self.primary(alloc, depth);
         }
         if let Some(operator) = self.take_prefix(level) {

@@ -236,7 +236,7 @@ impl Cursor<'_> {
         let target = self.inner_target(alloc, depth)?;
         self.expect(Sign::In)?;
         let Looped {
-            iterated,
+            iterable,
             condition,
             recursive,
         } = self.inner_looped(alloc, depth)?;
@@ -244,7 +244,7 @@ impl Cursor<'_> {
         let other = self.inner_else_or_end(alloc, depth, Tag::Endfor, looping)?;
         Ok(Stmt::For(ForLoop {
             target,
-            iterable: iterated,
+            iterable,
             condition,
             recursive,
             body,

@@ -50,30 +50,57 @@ pub enum Start {
     AutoEscape,
 }
 
+// The levels of operators, from the tightest.
+/// Of what stands behind a value.
+pub const POSTFIX_LEVEL: u8 = 0;
+/// Of powers.
+pub const POWER_LEVEL: u8 = 1;
+/// Of products.
+pub const PRODUCT_LEVEL: u8 = 2;
+/// Of `~`.
+pub const CONCATENATION_LEVEL: u8 = 3;
+/// Of sums.
+pub const SUM_LEVEL: u8 = 4;
+/// Of comparisons.
+pub const COMPARISON_LEVEL: u8 = 5;
+/// Of `and`.
+pub const AND_LEVEL: u8 = 6;
+/// Of `or`.
+pub const OR_LEVEL: u8 = 7;
+
 /// How a sign goes on with a value, and at which level.
 pub fn link_of(sign: Sign) -> Option<(u8, Link)>
     ensures { result ≡ grammar.link_of sign }
 {
     Some(match sign {
-        Sign::Dot => (0, Link::Member),
-        Sign::OpenSquare => (0, Link::Item),
-        Sign::DoubleStar => (1, Link::Operator(BinaryOperator::Power)),
-        Sign::Star => (2, Link::Operator(BinaryOperator::Multiply)),
-        Sign::Slash => (2, Link::Operator(BinaryOperator::Divide)),
-        Sign::DoubleSlash => (2, Link::Operator(BinaryOperator::FloorDivide)),
-        Sign::Percent => (2, Link::Operator(BinaryOperator::Remainder)),
-        Sign::Tilde => (3, Link::Operator(BinaryOperator::Concatenate)),
-        Sign::Plus => (4, Link::Operator(BinaryOperator::Add)),
-        Sign::Minus => (4, Link::Operator(BinaryOperator::Subtract)),
-        Sign::Equal => (5, Link::Comparison(BinaryOperator::Equal)),
-        Sign::NotEqual => (5, Link::Comparison(BinaryOperator::NotEqual)),
-        Sign::Less => (5, Link::Comparison(BinaryOperator::Less)),
-        Sign::LessOrEqual => (5, Link::Comparison(BinaryOperator::LessOrEqual)),
-        Sign::Greater => (5, Link::Comparison(BinaryOperator::Greater)),
-        Sign::GreaterOrEqual => (5, Link::Comparison(BinaryOperator::GreaterOrEqual)),
-        Sign::In => (5, Link::Comparison(BinaryOperator::In)),
-        Sign::And => (6, Link::And),
-        Sign::Or => (7, Link::Or),
+        Sign::Dot => (POSTFIX_LEVEL, Link::Member),
+        Sign::OpenSquare => (POSTFIX_LEVEL, Link::Item),
+        Sign::DoubleStar => (POWER_LEVEL, Link::Operator(BinaryOperator::Power)),
+        Sign::Star => (PRODUCT_LEVEL, Link::Operator(BinaryOperator::Multiply)),
+        Sign::Slash => (PRODUCT_LEVEL, Link::Operator(BinaryOperator::Divide)),
+        Sign::DoubleSlash => (PRODUCT_LEVEL, Link::Operator(BinaryOperator::FloorDivide)),
+        Sign::Percent => (PRODUCT_LEVEL, Link::Operator(BinaryOperator::Remainder)),
+        Sign::Tilde => (
+            CONCATENATION_LEVEL,
+            Link::Operator(BinaryOperator::Concatenate),
+        ),
+        Sign::Plus => (SUM_LEVEL, Link::Operator(BinaryOperator::Add)),
+        Sign::Minus => (SUM_LEVEL, Link::Operator(BinaryOperator::Subtract)),
+        Sign::Equal => (COMPARISON_LEVEL, Link::Comparison(BinaryOperator::Equal)),
+        Sign::NotEqual => (COMPARISON_LEVEL, Link::Comparison(BinaryOperator::NotEqual)),
+        Sign::Less => (COMPARISON_LEVEL, Link::Comparison(BinaryOperator::Less)),
+        Sign::LessOrEqual => (
+            COMPARISON_LEVEL,
+            Link::Comparison(BinaryOperator::LessOrEqual),
+        ),
+        Sign::Greater => (COMPARISON_LEVEL, Link::Comparison(BinaryOperator::Greater)),
+        Sign::GreaterOrEqual => (
+            COMPARISON_LEVEL,
+            Link::Comparison(BinaryOperator::GreaterOrEqual),
+        ),
+        Sign::In => (COMPARISON_LEVEL, Link::Comparison(BinaryOperator::In)),
+        Sign::And => (AND_LEVEL, Link::And),
+        Sign::Or => (OR_LEVEL, Link::Or),
         _ => return None,
     })
 }
@@ -83,7 +110,7 @@ pub fn negated_link_of(sign: Sign) -> Option<(u8, Link)>
     ensures { result ≡ grammar.negated_link_of sign }
 {
     Some(match sign {
-        Sign::In => (5, Link::Comparison(BinaryOperator::NotIn)),
+        Sign::In => (COMPARISON_LEVEL, Link::Comparison(BinaryOperator::NotIn)),
         _ => return None,
     })
 }
@@ -93,8 +120,8 @@ pub fn prefix_of(sign: Sign) -> Option<(u8, UnaryOperator)>
     ensures { result ≡ grammar.prefix_of sign }
 {
     Some(match sign {
-        Sign::Minus => (1, UnaryOperator::Negate),
-        Sign::Not => (6, UnaryOperator::Not),
+        Sign::Minus => (POWER_LEVEL, UnaryOperator::Negate),
+        Sign::Not => (AND_LEVEL, UnaryOperator::Not),
         _ => return None,
     })
 }

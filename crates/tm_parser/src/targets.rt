@@ -3,12 +3,13 @@ ghost use Rattle.std.specs.Prelude.{◌≡◌, [], MatchResult, None, Some};
 ghost use Rattle.tm_parser.specs.Gives.{Gives, Refused};
 ghost use Rattle.tm_parser.specs.Grammar as grammar;
 ghost use Rattle.tm_parser.specs.Grammar.{inside, expr, items, member, more_items, more_targets, several, single, target, whole};
-ghost use Rattle.tm_parser.specs.Statements.{assignment, bare, bare_tuple, filter, inner, iterated, iterated_tuple, looped, more_iterated};
+ghost use Rattle.tm_parser.specs.Statements.{assignment, bare, bare_tuple, loop_condition, inner, iterated, iterated_tuple, looped, more_iterated};
 ghost use Rattle.tm_rules.specs.Combinators.{one_more};
 ghost use Rattle.tm_syntax.specs.declared.token.Sign.TheVariants as sign;
 
 use crate::cursor::{Cursor, refusal};
 use crate::expressions::chained;
+use crate::tables::POSTFIX_LEVEL;
 use sqlite_items::{Boxed, Items};
 use std::alloc::Global;
 use tm_syntax::{Assignment, Expr, Name, Sign, Step, Target};
@@ -18,7 +19,7 @@ use tm_values::Error;
 #[derive(Drop)]
 pub struct Looped {
     /// What is iterated.
-    pub iterated: Boxed<Expr>,
+    pub iterable: Boxed<Expr>,
     /// The condition of an item that is taken.
     pub condition: Option<Boxed<Expr>>,
     /// Whether the loop can be called.
@@ -118,8 +119,8 @@ impl Cursor<'_> {
     fn member(&mut self, alloc: Global, depth: u8) -> Result<Target, Error>
         ensures { Gives result self.new ((member (inside depth)).reads self.old) }
     {
-        let value = self.operand(alloc, depth, 0)?;
-        let steps = self.steps(alloc, depth, 0)?;
+        let value = self.operand(alloc, depth, POSTFIX_LEVEL)?;
+        let steps = self.steps(alloc, depth, POSTFIX_LEVEL)?;
         target_of(alloc, value, steps)
     }
 
@@ -141,21 +142,21 @@ impl Cursor<'_> {
     fn looped(&mut self, alloc: Global, depth: u8) -> Result<Looped, Error>
         ensures { Gives result self.new ((looped (inside depth)).reads self.old) }
     {
-        let iterated = self.iterated(alloc, depth)?;
-        let condition = self.filter(alloc, depth)?;
+        let iterable = self.iterated(alloc, depth)?;
+        let condition = self.loop_condition(alloc, depth)?;
         let recursive = self.take_word("recursive");
         self.expect(Sign::BlockEnd)?;
         Ok(Looped {
-            iterated,
+            iterable,
             condition,
             recursive,
         })
     }
 
     /// The condition of a loop's item, if it stands there.
-    #[tactic(auto, unfolding(crate::specs::Statements::filter))]
-    fn filter(&mut self, alloc: Global, depth: u8) -> Result<Option<Boxed<Expr>>, Error>
-        ensures { Gives result self.new ((filter (inside depth)).reads self.old) }
+    #[tactic(auto, unfolding(crate::specs::Statements::loop_condition))]
+    fn loop_condition(&mut self, alloc: Global, depth: u8) -> Result<Option<Boxed<Expr>>, Error>
+        ensures { Gives result self.new ((loop_condition (inside depth)).reads self.old) }
     {
         if self.take(Sign::If) {
             return Ok(Some(self.whole(alloc, depth)?));

@@ -19,7 +19,7 @@ use Rattle.tm_syntax.specs.declared.tree.Step.{Step, Attribute, Method', Row_of-
 use Rattle.tm_syntax.specs.declared.tree.Target.{Target, Name as To, Unpack' as Items, Attribute as Member, Row_of-Target}
 use Rattle.tm_syntax.specs.declared.tree.Target.{end_of-Target as no_target, more_of-Target as target}
 use Rattle.tm_syntax.specs.declared.tree.Assignment.{Assignment}
-use Rattle.tm_syntax.specs.Code.{filter_flags, count_targets}
+use Rattle.tm_syntax.specs.Code.{pass_flags, count_targets}
 use Rattle.tm_syntax.specs.Forms.{unary, chained, conditional, with_condition, with_comparison, with_pair, plain, with_keyword}
 use Rattle.tm_syntax.specs.Forms.{item, slice, binary, compare, and_then, or_else}
 use Rattle.tm_definitions.specs.Members.{settable}
@@ -28,7 +28,7 @@ use Rattle.tm_meaning.specs.World.{lookup, records_of, with_member, set_member, 
 use Rattle.tm_meaning.specs.Calls.{Callee, Call, undone, wrapped, Asked, has, refused, runs, recurs}
 use Rattle.tm_meaning.specs.Meaning.{text_behind, Run, Outcome, Ending, done, leave, next, fault, Under, audible, value_of, value_behind}
 use Rattle.tm_meaning.specs.Meaning.{in_place_of, behind, truth, applied_unary, operated, applied, eval, eval_all, eval_pairs}
-use Rattle.tm_meaning.specs.Meaning.{eval_argument, eval_arguments, eval_keywords, eval_named, one_counted, kept, loop_items}
+use Rattle.tm_meaning.specs.Meaning.{eval_argument, eval_arguments, eval_keywords, eval_named, one_counted, selected, loop_items}
 use Rattle.tm_meaning.specs.Meaning.{under_condition, eval_conditions, eval_step, eval_links, eval_steps, assign, assign_all, set_to}
 use Rattle.tm_meaning.specs.Meaning.{set_each, capturing}
 use Rattle.tm_meaning.specs.declared.wrapping.Wrapping.{Wrapping}
@@ -87,29 +87,29 @@ one_counted_gives host n w =
     (λ world2. ticked_gives host world2 _ (λ world3. operation_gives host _ world3 (one_more_raises _ _))))
 
 -- The pass over items leaves what lies around its loop.
-pub kept_gives : (host : Host) (w : World) (test : Val → World → Res Val) → ((v : Val) (x : World) → Gives host x (test v x)) →
-    (n : ℕ) (vs : List Val) (x : World) → Kept (in_loop_of filter_flags w) x →
-    Gives host w (kept host test n vs x)
-kept_gives host w test given n [] x i =
-    gives_kept host w x (tick x) _ (advances_around filter_flags w x i) (tick_gives host x) (λ _ world1 h.
-    kept_popped (loop_scope (mark_behind filter_flags w)) w (next_turn world1) (kept_turned filter_flags w world1 (kept_then i h)))
-kept_gives host w test given n (v ∷ vs) x i =
-    gives_kept host w x (tick x) _ (advances_around filter_flags w x i) (tick_gives host x) (λ _ world1 h1.
+pub selected_gives : (host : Host) (w : World) (condition : Val → World → Res Val) → ((v : Val) (x : World) → Gives host x (condition v x)) →
+    (n : ℕ) (vs : List Val) (x : World) → Kept (in_loop_of pass_flags w) x →
+    Gives host w (selected host condition n vs x)
+selected_gives host w condition given n [] x i =
+    gives_kept host w x (tick x) _ (advances_around pass_flags w x i) (tick_gives host x) (λ _ world1 h.
+    kept_popped (loop_scope (mark_behind pass_flags w)) w (next_turn world1) (kept_turned pass_flags w world1 (kept_then i h)))
+selected_gives host w condition given n (v ∷ vs) x i =
+    gives_kept host w x (tick x) _ (advances_around pass_flags w x i) (tick_gives host x) (λ _ world1 h1.
     let y = cleared (next_turn world1) in
-    let kept_y : Kept (in_loop_of filter_flags w) y = kept_cleared (kept_turned filter_flags w world1 (kept_then i h1)) in
-    let around : (z : World) → Kept y z → Advances w z = λ z kz. advances_around filter_flags w z (kept_then kept_y kz) in
-    gives_kept host w y (test v y) _ (around y (kept_same y)) (given v y) (λ c world2 h2.
+    let kept_y : Kept (in_loop_of pass_flags w) y = kept_cleared (kept_turned pass_flags w world1 (kept_then i h1)) in
+    let around : (z : World) → Kept y z → Advances w z = λ z kz. advances_around pass_flags w z (kept_then kept_y kz) in
+    gives_kept host w y (condition v y) _ (around y (kept_same y)) (given v y) (λ c world2 h2.
     gives_kept host w world2 (tick world2) _ (around world2 h2) (tick_gives host world2) (λ _ world3 h3.
     gives_kept host w world3 (truth host c world3) _ (around world3 (kept_then h2 h3)) (truth_gives host c world3) (λ b world4 h4.
     let kept4 = kept_then kept_y (kept_then h2 (kept_then h3 h4)) in
-    let around4 = advances_around filter_flags w world4 kept4 in
+    let around4 = advances_around pass_flags w world4 kept4 in
     choose_gives host w b _ _
     (gives_kept host w world4 (one_counted n world4) _ around4 (one_counted_gives host n world4) (λ _ world5 h5.
     gives_kept host w world5 (tick world5) _ (advances_then around4 h5.advances) (tick_gives host world5) (λ _ world6 h6.
-    gives_bind host w (kept host test (n + 1) vs world6) _
-    (kept_gives host w test given (n + 1) vs world6 (kept_then kept4 (kept_then h5 h6))) (λ us world7. kept_same world7))))
+    gives_bind host w (selected host condition (n + 1) vs world6) _
+    (selected_gives host w condition given (n + 1) vs world6 (kept_then kept4 (kept_then h5 h6))) (λ us world7. kept_same world7))))
     (gives_kept host w world4 (tick world4) _ around4 (tick_gives host world4)
-    (λ _ world5 h5. kept_gives host w test given n vs world5 (kept_then kept4 h5)))))))
+    (λ _ world5 h5. selected_gives host w condition given n vs world5 (kept_then kept4 h5)))))))
 
 -- ---------------------------------------------------------------- behind a run
 wrap_arises : (host : Host) (wrap : Option Wrapping) (chain : List ErrorKind) → Arises host chain → Arises host (wrapped wrap chain)
@@ -143,12 +143,12 @@ place_by host w world1 c run (fault chain) o h k =
     ends_fault host w _ run o.text (wrapped c.wrap chain) (k o.world h.0).advances (wrap_arises host c.wrap chain h.1)
 
 -- ---------------------------------------------------------------- trees
--- where what is asked, what is guarded and what stands for it do
-pub condition_gives : (host : Host) (asked guarded other : World → Res Val) → ((w : World) → Gives host w (asked w)) →
+-- where the test, what is guarded and what stands for it do
+pub condition_gives : (host : Host) (test guarded other : World → Res Val) → ((w : World) → Gives host w (test w)) →
     ((w : World) → Gives host w (guarded w)) → ((w : World) → Gives host w (other w)) →
-    (w : World) → Gives host w (under_condition host asked guarded other w)
-condition_gives host asked guarded other first given last w =
-    gives_bind host w (asked w) _ (first w) (λ v world1.
+    (w : World) → Gives host w (under_condition host test guarded other w)
+condition_gives host test guarded other first given last w =
+    gives_bind host w (test w) _ (first w) (λ v world1.
     ticked_gives host world1 _ (λ world2.
     gives_bind host world2 (truth host v world2) _ (truth_gives host v world2) (λ b world3.
     choose_gives host world3 b _ _ (gives_bind host world3 (guarded world3) _ (given world3)
@@ -313,9 +313,9 @@ module _ (u : Under) (nest_ends : (k : Callee) (heard : Bool) (out : List ℕ) (
   set_each_gives run (a ∷ more) w = gives_bind u.host w (set_to u run a.target a.value w) _ (set_gives run a.target a.value w)
       (λ _ world1. set_each_gives run more world1)
 
-  pub test_gives : (run : Run) (t : Target) (c : Expr) (v : Val) (w : World) →
+  pub condition_of_gives : (run : Run) (t : Target) (c : Expr) (v : Val) (w : World) →
       Gives u.host w (bind (assign u run t v w) (λ _ world1. eval u run c world1))
-  test_gives run t c v w = gives_bind u.host w (assign u run t v w) _ (assign_gives run t v w) (λ _ world1. eval_gives run c world1)
+  condition_of_gives run t c v w = gives_bind u.host w (assign u run t v w) _ (assign_gives run t v w) (λ _ world1. eval_gives run c world1)
 
   pub loop_items_give : (at : ℕ) (run : Run) (t : Target) (e : Expr) (c : Option Expr) (w : World) →
       Gives u.host w (loop_items u at run t e c w)
@@ -324,9 +324,9 @@ module _ (u : Under) (nest_ends : (k : Callee) (heard : Bool) (out : List ℕ) (
       ticked_gives u.host w _ (λ world1.
       gives_bind u.host world1 (eval u run e world1) _ (eval_gives run e world1) (λ v world2.
       gives_bind u.host world2 (items_over u.host v world2) _ (items_give u.host v world2) (λ vs world3.
-      opened_gives u.host filter_flags at world3 vs (nat_lt (depth world3.scopes) u.host.limit) _
-      (gives_bind u.host world3 (kept u.host (λ x world5. bind (assign u run t x world5) (λ _ world6. eval u run c world6)) 0 vs
-      (opened filter_flags at world3 vs)) _
-      (kept_gives u.host world3 _ (λ x world5. test_gives run t c x world5) 0 vs (opened filter_flags at world3 vs)
-      (opened_kept filter_flags at world3 vs)) (λ us world5.
+      opened_gives u.host pass_flags at world3 vs (nat_lt (depth world3.scopes) u.host.limit) _
+      (gives_bind u.host world3 (selected u.host (λ x world5. bind (assign u run t x world5) (λ _ world6. eval u run c world6)) 0 vs
+      (opened pass_flags at world3 vs)) _
+      (selected_gives u.host world3 _ (λ x world5. condition_of_gives run t c x world5) 0 vs (opened pass_flags at world3 vs)
+      (opened_kept pass_flags at world3 vs)) (λ us world5.
       ticked_gives u.host world5 _ (λ world6. kept_same world6))))))

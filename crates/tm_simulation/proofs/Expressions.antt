@@ -124,13 +124,13 @@ module _ (setting : Setting) where
       Follows context (told s) (value w) (λ v world1. Go context s (beyond pc code) (v ∷ stack) world1) → Go context s pc stack w
 
   -- a condition before code that pushes a value, and what stands for that behind it
-  condition_runs : (run : Run) (first code last : Fragment) (asked guarded other : World → Res Val) →
-      ((w : World) → Gives context.program.host w (asked w)) → ((w : World) → Gives context.program.host w (guarded w)) →
-      Runs run first asked → Runs run code guarded → Runs run last other →
-      Runs run (first ⨾ either code last) (under_condition context.program.host asked guarded other)
-  condition_runs run first code last asked guarded other asking given before part behind s l pc stack w d is h =
+  condition_runs : (run : Run) (first code last : Fragment) (test guarded other : World → Res Val) →
+      ((w : World) → Gives context.program.host w (test w)) → ((w : World) → Gives context.program.host w (guarded w)) →
+      Runs run first test → Runs run code guarded → Runs run last other →
+      Runs run (first ⨾ either code last) (under_condition context.program.host test guarded other)
+  condition_runs run first code last test guarded other tested given before part behind s l pc stack w d is h =
       before s l pc stack w d is.0
-      (bind_then context (told s) w (asked w) _ _ _ (asking w) h (λ v world1 k1 h1.
+      (bind_then context (told s) w (test w) _ _ _ (tested w) h (λ v world1 k1 h1.
       at context _ s _ (v ∷ stack) world1 is.1.0.0 (after_then context (told s) (tick world1) _ (bind_then context (told s) world1 (tick world1) _ _ _ (tick_gives _ world1) h1 (λ _ world2 k2 h2.
       after_then context (told s) (truth context.program.host v world2) _ (bind_then context (told s) world2 (truth context.program.host v world2) _ _ _ (truth_gives context.program.host v world2) h2 (λ b world3 k3 h3.
       let deep3 = here_kept setting run s k3 (here_kept setting run s k2 (here_kept setting run s k1 d)) in

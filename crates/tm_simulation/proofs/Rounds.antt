@@ -9,12 +9,12 @@ use Rattle.tm_syntax.specs.declared.tree.Target.{Target}
 use Rattle.tm_syntax.specs.declared.tree.Stmt.{Row_of-Stmt}
 use Rattle.tm_syntax.specs.declared.instruction.LoopFlags.{LoopFlags}
 use Rattle.tm_syntax.specs.declared.instruction.Instruction.TheVariants as i
-use Rattle.tm_syntax.specs.Code.{filter_flags}
+use Rattle.tm_syntax.specs.Code.{pass_flags}
 use Rattle.tm_syntax.specs.Code.{for_flags}
 use Rattle.tm_syntax.specs.Fragments.{Fragment, ◌⨾◌, straight, Labels, inward, beyond}
 use Rattle.tm_syntax.specs.Fragments.{looped as a_loop}
 use Rattle.tm_syntax.specs.Code.{expr_code}
-use Rattle.tm_syntax.specs.Code.{iterable_code, filter_round}
+use Rattle.tm_syntax.specs.Code.{iterable_code, pass_round}
 use Rattle.tm_syntax.specs.Code.{target_code}
 use Rattle.tm_syntax.specs.Code.{statements_code}
 use Rattle.tm_meaning.specs.World.{choose, World, Loop, loop_scope, new_loop, open_loop, turned, next_turn, cleared}
@@ -23,7 +23,7 @@ use Rattle.tm_meaning.specs.Meaning.{Run, Outcome}
 use Rattle.tm_meaning.specs.Meaning.{Under, so_far, use_it, truth, operated}
 use Rattle.tm_meaning.specs.Meaning.{list_of_values}
 use Rattle.tm_meaning.specs.Meaning.{eval}
-use Rattle.tm_meaning.specs.Meaning.{one_counted, kept, loop_items}
+use Rattle.tm_meaning.specs.Meaning.{one_counted, selected, loop_items}
 use Rattle.tm_meaning.specs.Meaning.{assign}
 use Rattle.tm_meaning.specs.Meaning.{rounds, has_none, exec_all}
 use Rattle.tm_meaning.specs.Machine.{Return}
@@ -166,49 +166,49 @@ module _ (setting : Setting) where
 
   -- ---------------------------------------------------------------- items under a condition
   -- an item is stored, and its condition asked
-  abbrev test_of : Run → Target → Expr → Val → World → Res Val
-  test_of run t c v w = bind (assign u run t v w) (λ _ world1. eval u run c world1)
+  abbrev condition_of : Run → Target → Expr → Val → World → Res Val
+  condition_of run t c v w = bind (assign u run t v w) (λ _ world1. eval u run c world1)
 
-  abbrev after_filter : Fragment
-  after_filter = straight (i.PopLoopFrame ∷ i.BuildList None ∷ [])
+  abbrev after_pass : Fragment
+  after_pass = straight (i.PopLoopFrame ∷ i.BuildList None ∷ [])
 
   -- From where the next item is asked for the pass comes behind its loop, with what it takes below the count.
-  filter_runs : (t : Target) (c : Expr) (k : Labels) (pc : ℕ) (items vs : List Val) (n : ℕ) (run : Run) (s : Spot) (below : List Val) (w x : World) (l : Loop) →
-      Here setting run s w → nat_lt (depth w.scopes) context.program.host.limit ≡ true → Kept (in_loop_of filter_flags w) x → slice_get (shapes x.loops) (length w.loops) ≡ Some l → LeftOf l items vs →
-      In setting s k pc (a_loop filter_flags (filter_round t c) after_filter) →
-      Follows context (told s) (kept context.program.host (test_of run t c) n vs x) (λ us y. (m : ℕ) → m ≡ n + length us → Go context s (end_at pc (filter_round t c) + 1) (number (pos m) ∷ onto us below) y) →
+  pass_runs : (t : Target) (c : Expr) (k : Labels) (pc : ℕ) (items vs : List Val) (n : ℕ) (run : Run) (s : Spot) (below : List Val) (w x : World) (l : Loop) →
+      Here setting run s w → nat_lt (depth w.scopes) context.program.host.limit ≡ true → Kept (in_loop_of pass_flags w) x → slice_get (shapes x.loops) (length w.loops) ≡ Some l → LeftOf l items vs →
+      In setting s k pc (a_loop pass_flags (pass_round t c) after_pass) →
+      Follows context (told s) (selected context.program.host (condition_of run t c) n vs x) (λ us y. (m : ℕ) → m ≡ n + length us → Go context s (end_at pc (pass_round t c) + 1) (number (pos m) ∷ onto us below) y) →
       Go context (looped None s) (pc + 1) (number (pos n) ∷ below) x
-  filter_runs t c labels pc items [] n run s below w x l d room k e left is h =
+  pass_runs t c labels pc items [] n run s below w x l d room k e left is h =
       let again = pc + 1 in
-      let end = end_at pc (filter_round t c) in
+      let end = end_at pc (pass_round t c) in
       at context (i.Iterate end) (looped None s) again (number (pos n) ∷ below) x is.1 (after_then context (told s) (tick x) _ (bind_then context (told s) x (tick x) _ _ _ (tick_gives _ x) h (λ _ world1 k1 h1.
       let all_kept = kept_then k k1 in
       let record1 = kept_record k1 (length w.loops) l e in
-      subst (λ a. Comes context (told s) a) (sym (iterate_is None filter_flags s s.parent s.out again end (number (pos n) ∷ below) w world1 l None all_kept record1 (no_item l items left)))
+      subst (λ a. Comes context (told s) a) (sym (iterate_is None pass_flags s s.parent s.out again end (number (pos n) ∷ below) w world1 l None all_kept record1 (no_item l items left)))
       (silent context (told s) _
-      (left_loop_then filter_flags s s.parent s.out _ (number (pos n) ∷ below) w (next_turn world1) (turned l) d.0.scopes (kept_turned filter_flags w world1 all_kept) (next_record filter_flags w world1 l all_kept record1) is.4.0
+      (left_loop_then pass_flags s s.parent s.out _ (number (pos n) ∷ below) w (next_turn world1) (turned l) d.0.scopes (kept_turned pass_flags w world1 all_kept) (next_record pass_flags w world1 l all_kept record1) is.4.0
       (h1 n (omega arith)))))))
-  filter_runs t c labels pc items (v ∷ vs) n run s below w x l d room k e left is h =
+  pass_runs t c labels pc items (v ∷ vs) n run s below w x l d room k e left is h =
       let again = pc + 1 in
-      let end = end_at pc (filter_round t c) in
+      let end = end_at pc (pass_round t c) in
       let test = beyond (beyond (again + 1 + 1) (target_code t)) (expr_code c) in
       let taken_at = is.2.1.1.1.0 in
       let count = number (pos n) in
-      let deep = here_within setting run s (loop_scope (mark_behind filter_flags w)) w room d in
+      let deep = here_within setting run s (loop_scope (mark_behind pass_flags w)) w room d in
       let q = looped None s in
       at context (i.Iterate end) q again (count ∷ below) x is.1 (after_then context (told s) (tick x) _ (bind_then context (told s) x (tick x) _ _ _ (tick_gives _ x) h (λ _ world1 k1 h1.
       let all_kept = kept_then k k1 in
       let record1 = kept_record k1 (length w.loops) l e in
       let y = cleared (next_turn world1) in
-      let kept_y : Kept (in_loop_of filter_flags w) y = kept_cleared (kept_turned filter_flags w world1 all_kept) in
-      let record_y = next_record filter_flags w world1 l all_kept record1 in
+      let kept_y : Kept (in_loop_of pass_flags w) y = kept_cleared (kept_turned pass_flags w world1 all_kept) in
+      let record_y = next_record pass_flags w world1 l all_kept record1 in
       let left_y = left_then l items v vs left in
-      subst (λ a. Comes context (told s) a) (sym (iterate_is None filter_flags s s.parent s.out again end (count ∷ below) w world1 l (Some v) all_kept record1 (next_item l items v vs left)))
+      subst (λ a. Comes context (told s) a) (sym (iterate_is None pass_flags s s.parent s.out again end (count ∷ below) w world1 l (Some v) all_kept record1 (next_item l items v vs left)))
       (silent context (told s) _
       (at context i.DupTop q (again + 1) (v ∷ count ∷ below) y is.2.0.0 (silent context (told s) _
       (target_runs setting t run q _ (again + 1 + 1) v (v ∷ count ∷ below) y (here_kept setting run s kept_y deep) is.2.1.0
       (bind_then context (told s) y (assign u run t v y) (λ _ z. eval u run c z) _ _ (assign_gives u (nest_ends setting) again_kept run t v y)
-      (bound_follows context (told s) (test_of run t c v y) _ _ h1) (λ _ world2 k2 h2.
+      (bound_follows context (told s) (condition_of run t c v y) _ _ h1) (λ _ world2 k2 h2.
       expr_runs setting c run q _ _ (v ∷ count ∷ below) world2 (here_kept setting run s (kept_then kept_y k2) deep) is.2.1.1.0
       (follows_map_kept context (told s) world2 (eval u run c world2) _ _ (eval_gives u (nest_ends setting) again_kept run c world2) h2 (λ b world3 k3 h3.
       at context _ q test (b ∷ v ∷ count ∷ below) world3 taken_at.0 (after_then context (told s) (tick world3) _ (bind_then context (told s) world3 (tick world3) _ _ _ (tick_gives _ world3) h3 (λ _ world4 k4 h4.
@@ -218,7 +218,7 @@ module _ (setting : Setting) where
       choose_then context yes _ _ _ _ (told s) _ h5
       (λ h6. silent context (told s) _
       (at context i.Swap q (test + 1) (v ∷ count ∷ below) world5 taken_at.1.0.0 (after_then context (told s) (tick world5) _ (bind_then context (told s) world5 (tick world5) _ _ _ (tick_gives _ world5)
-      (follows_map_kept context (told s) world5 (one_counted n world5) _ (λ _ z. Kept world5 z × Follows context (told s) (bind (tick z) (λ _ z1. bind (kept context.program.host (test_of run t c) (n + 1) vs z1) (λ us z2. Good (v ∷ us) z2))) _) (one_counted_gives _ n world5)
+      (follows_map_kept context (told s) world5 (one_counted n world5) _ (λ _ z. Kept world5 z × Follows context (told s) (bind (tick z) (λ _ z1. bind (selected context.program.host (condition_of run t c) (n + 1) vs z1) (λ us z2. Good (v ∷ us) z2))) _) (one_counted_gives _ n world5)
       (bound_follows context (told s) (one_counted n world5) _ _ h6) (λ _ z kz hz. (kz, hz))) (λ _ world6 k6 h7.
       silent context (told s) _
       (at context (i.LoadConst (number (pos 1))) q (test + 1 + 1) (count ∷ v ∷ below) world6 taken_at.1.0.1.0 (after_then context (told s) (tick world6) _ (bind_then context (told s) world6 (tick world6) _ _ _ (tick_gives _ world6) h7 (λ _ world7 k7 h8.
@@ -228,13 +228,13 @@ module _ (setting : Setting) where
       (one_more_then context (told s) n world8 _ (λ z world9. Go context q (test + 1 + 1 + 1 + 1) (z ∷ v ∷ below) world9) h9 (λ both.
       at context (i.Jump again) q (test + 1 + 1 + 1 + 1) (number (pos (n + 1)) ∷ v ∷ below) world8 taken_at.1.1 (after_then context (told s) (tick world8) _ (bind_then context (told s) world8 (tick world8) _ _ _ (tick_gives _ world8) both.1 (λ _ world9 k9 h10.
       silent context (told s) _
-      (filter_runs t c labels pc items vs (n + 1) run s (v ∷ below) w world9 (turned l) d room (kept_then kept5 (kept_then both.0 k9)) (record5 world9 (kept_then both.0 k9)) left_y is
-      (follows_map context (told s) (kept context.program.host (test_of run t c) (n + 1) vs world9) _ _ (bound_follows context (told s) (kept context.program.host (test_of run t c) (n + 1) vs world9) _ _ h10) (λ us z g m em. g m (omega (arith, em)))))))))))))))))))))))
+      (pass_runs t c labels pc items vs (n + 1) run s (v ∷ below) w world9 (turned l) d room (kept_then kept5 (kept_then both.0 k9)) (record5 world9 (kept_then both.0 k9)) left_y is
+      (follows_map context (told s) (selected context.program.host (condition_of run t c) (n + 1) vs world9) _ _ (bound_follows context (told s) (selected context.program.host (condition_of run t c) (n + 1) vs world9) _ _ h10) (λ us z g m em. g m (omega (arith, em)))))))))))))))))))))))
       (λ h6. silent context (told s) _
       (at context i.DiscardTop q _ (v ∷ count ∷ below) world5 is.2.1.1.1.1.0 (silent context (told s) _
       (at context (i.Jump again) q _ (count ∷ below) world5 is.3 (after_then context (told s) (tick world5) _ (bind_then context (told s) world5 (tick world5) _ _ _ (tick_gives _ world5) h6 (λ _ world6 k6 h7.
       silent context (told s) _
-      (filter_runs t c labels pc items vs n run s below w world6 (turned l) d room (kept_then kept5 k6) (record5 world6 k6) left_y is h7))))))))))))))))))))))))
+      (pass_runs t c labels pc items vs n run s below w world6 (turned l) d room (kept_then kept5 k6) (record5 world6 k6) left_y is h7))))))))))))))))))))))))
 
   -- What is iterated, up to where its loop's scope is opened.
   pub iterable_runs : (recursive : Bool) (loops : ℕ) (t : Target) (e : Expr) (c : Option Expr) (run : Run) (s : Spot) (l : Labels) (pc : ℕ) (stack : List Val) (w : World) → Here setting run s w → In setting s l pc (iterable_code t e c) →
@@ -249,22 +249,22 @@ module _ (setting : Setting) where
   iterable_runs recursive loops t e (Some c) run s l pc stack w d is there nth h =
       let all = context.program.code s.run.stream in
       let pc1 = beyond (pc + 1) (expr_code e) in
-      let build = end_at pc1 (filter_round t c) + 1 in
+      let build = end_at pc1 (pass_round t c) + 1 in
       let pass_number : loops_before pc1 all ≡ loops = (none_begin loops (straight (i.LoadConst (number (pos 0)) ∷ []) ⨾ expr_code e) ((refl, tt), expr_loopless e) all l pc (is.0, is.1.0) nth).number in
       at context (i.LoadConst (number (pos 0))) s pc stack w is.0.0 (after_then context (told s) (tick w) _ (bind_then context (told s) w (tick w) _ _ _ (tick_gives _ w) h (λ _ world1 k1 h1.
       silent context (told s) _
       (expr_runs setting e run s l (pc + 1) (number (pos 0) ∷ stack) world1 (here_kept setting run s k1 d) is.1.0
       (bind_then context (told s) world1 (eval u run e world1) _ _ _ (eval_gives u (nest_ends setting) again_kept run e world1) h1 (λ v world2 k2 h2.
-      at context (i.PushLoop filter_flags) s pc1 (v ∷ number (pos 0) ∷ stack) world2 is.1.1.0 (after_then context (told s) (items_over context.program.host v world2) _
+      at context (i.PushLoop pass_flags) s pc1 (v ∷ number (pos 0) ∷ stack) world2 is.1.1.0 (after_then context (told s) (items_over context.program.host v world2) _
       (bind_then context (told s) world2 (items_over context.program.host v world2) _ _ _ (items_give context.program.host v world2) h2 (λ vs world3 k3 h3.
       let deep_last = here_kept setting run s k3 (here_kept setting run s k2 (here_kept setting run s k1 d)) in
-      subst (λ m. Comes context (told s) (after (open_loop context.program.host vs filter_flags m world3) (λ _ y. goes (number (pos 0) ∷ stack) y (looping (None ∷ s.run.loops) (cfg s pc1 (v ∷ number (pos 0) ∷ stack) world3))))) (sym pass_number)
-      (after_then context (told s) (open_loop context.program.host vs filter_flags loops world3) _
-      (opened_follows context (told s) filter_flags loops world3 vs (nat_lt (depth world3.scopes) context.program.host.limit) _ _ (λ y. Comes context (told s) (goes (number (pos 0) ∷ stack) y (looping (None ∷ s.run.loops) (cfg s pc1 (v ∷ number (pos 0) ∷ stack) world3)))) h3 (λ room h4.
+      subst (λ m. Comes context (told s) (after (open_loop context.program.host vs pass_flags m world3) (λ _ y. goes (number (pos 0) ∷ stack) y (looping (None ∷ s.run.loops) (cfg s pc1 (v ∷ number (pos 0) ∷ stack) world3))))) (sym pass_number)
+      (after_then context (told s) (open_loop context.program.host vs pass_flags loops world3) _
+      (opened_follows context (told s) pass_flags loops world3 vs (nat_lt (depth world3.scopes) context.program.host.limit) _ _ (λ y. Comes context (told s) (goes (number (pos 0) ∷ stack) y (looping (None ∷ s.run.loops) (cfg s pc1 (v ∷ number (pos 0) ∷ stack) world3)))) h3 (λ room h4.
       silent context (told s) _
-      (filter_runs t c l pc1 vs vs 0 run s stack world3 (opened filter_flags loops world3 vs) (new_loop vs filter_flags loops world3) deep_last room
-      (opened_kept filter_flags loops world3 vs) (new_record filter_flags loops world3 vs) (record { before = []; same = refl; all = refl; turns = refl }) is.1.1
-      (follows_map context (told s) (kept context.program.host (test_of run t c) 0 vs (opened filter_flags loops world3 vs)) _ _ (bound_follows context (told s) (kept context.program.host (test_of run t c) 0 vs (opened filter_flags loops world3 vs)) _ _ h4) (λ us y h5 m em.
+      (pass_runs t c l pc1 vs vs 0 run s stack world3 (opened pass_flags loops world3 vs) (new_loop vs pass_flags loops world3) deep_last room
+      (opened_kept pass_flags loops world3 vs) (new_record pass_flags loops world3 vs) (record { before = []; same = refl; all = refl; turns = refl }) is.1.1
+      (follows_map context (told s) (selected context.program.host (condition_of run t c) 0 vs (opened pass_flags loops world3 vs)) _ _ (bound_follows context (told s) (selected context.program.host (condition_of run t c) 0 vs (opened pass_flags loops world3 vs)) _ _ h4) (λ us y h5 m em.
       at context (i.BuildList None) s build (number (pos m) ∷ onto us stack) y is.1.1.4.1.0 (after_then context (told s) (tick y) _ (bind_then context (told s) y (tick y) _ _ _ (tick_gives _ y) h5 (λ _ y1 k6 h6.
       built_then setting list_of_values s build m us stack y1 (omega (arith, em))
       (at context (i.PushLoop (for_flags recursive)) s (build + 1) (list_of_values us ∷ stack) y1 there

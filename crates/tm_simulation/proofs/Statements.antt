@@ -24,7 +24,7 @@ use Rattle.tm_meaning.specs.Calls.{call_innermost}
 use Rattle.tm_meaning.specs.Meaning.{Run}
 use Rattle.tm_meaning.specs.Meaning.{Under, so_far, say, use_it, truth}
 use Rattle.tm_meaning.specs.Meaning.{eval}
-use Rattle.tm_meaning.specs.Meaning.{kept, loop_items}
+use Rattle.tm_meaning.specs.Meaning.{loop_items}
 use Rattle.tm_meaning.specs.Meaning.{assign, set_to, set_each, capturing}
 use Rattle.tm_meaning.specs.Meaning.{rounds, loop_over, has_none, exec_behind_loop, behind_first, exec, exec_all}
 use Rattle.tm_meaning.specs.Meaning.{exec_else}

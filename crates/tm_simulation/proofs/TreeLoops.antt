@@ -34,7 +34,7 @@ use Rattle.tm_syntax.specs.Fragments.{Fragment, straight, ◌⨾◌, looped, Lab
 use Rattle.tm_syntax.specs.declared.jump.JumpKind.TheVariants.{IfFalse}
 use Rattle.tm_syntax.specs.Code.{expr_code, conditions_code, exprs_code, pairs_code, argument_code}
 use Rattle.tm_syntax.specs.Code.{arguments_code, keywords_code, named_code, step_code, links_code, steps_code, target_code}
-use Rattle.tm_syntax.specs.Code.{targets_code, set_code, assignments_code, iterable_code, filter_round, statement_code, statements_code}
+use Rattle.tm_syntax.specs.Code.{targets_code, set_code, assignments_code, iterable_code, pass_round, statement_code, statements_code}
 use Rattle.tm_syntax.specs.Code.{branches_code, after_loop_code}
 use Rattle.tm_syntax.proofs.Standing.{HasAt, At}
 use Rattle.tm_simulation.proofs.Begins.{Begins, IsLoop, NoneBegins, Loopless, both_begin, loop_begins, none_begin, after_none}
@@ -166,8 +166,8 @@ is_loop os at c r t body other all l pc is first = (
   ),
 )
 
-filter_loopless : (t : Target) (c : Expr) → Loopless (filter_round t c)
-filter_loopless t c = ((refl, tt), (target_loopless t, (expr_loopless c, ((tt, ((refl, (refl, (refl, tt))), tt)), (refl, tt)))))
+pass_loopless : (t : Target) (c : Expr) → Loopless (pass_round t c)
+pass_loopless t c = ((refl, tt), (target_loopless t, (expr_loopless c, ((tt, ((refl, (refl, (refl, tt))), tt)), (refl, tt)))))
 
 -- the pass of a condition
 abbrev pass_of : Option Expr → FoundLoop → List FoundLoop
@@ -178,7 +178,7 @@ pub iterable_begins : (at : ℕ) (t : Target) (e : Expr) (c : Option Expr) (l : 
 iterable_begins at t e None l = let none : at ≡ at + 0 = omega arith in subst (λ n. Begins at (expr_code e) [] n) none (none_begin at (expr_code e) (expr_loopless e))
 iterable_begins at t e (Some c) l =
     after_none (straight _) (refl, tt) (after_none (expr_code e) (expr_loopless e)
-    (loop_begins {f = record l { recursive = false }} (λ all k pc is first. (refl, λ never. absurd (cc never))) (none_begin (at + 1) (filter_round t c) (filter_loopless t c)) (none_begin (at + 1) (straight _) (refl, (refl, tt)))))
+    (loop_begins {f = record l { recursive = false }} (λ all k pc is first. (refl, λ never. absurd (cc never))) (none_begin (at + 1) (pass_round t c) (pass_loopless t c)) (none_begin (at + 1) (straight _) (refl, (refl, tt)))))
 
 with_pass_is : (c : Option Expr) (l : FoundLoop) (ls : List FoundLoop) → pass_of c l ++ l ∷ ls ≡ with_pass c l ls
 with_pass_is None l ls = refl

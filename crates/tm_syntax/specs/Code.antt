@@ -179,22 +179,22 @@ abbrev pub for_flags : Bool → LoopFlags
 for_flags recursive = record { variable = true; recursive = recursive }
 
 -- of the pass that takes the items whose condition is true
-abbrev pub filter_flags : LoopFlags
-filter_flags = record { variable = false; recursive = false }
+abbrev pub pass_flags : LoopFlags
+pass_flags = record { variable = false; recursive = false }
 
 -- where the condition is true an item stays below the count, which is one more then
 abbrev pub take_item : Fragment
 take_item = over IfFalse (straight (i.Swap ∷ i.LoadConst (number (pos 1)) ∷ i.Add ∷ []) ⨾ next_round)
 
 -- of a round that takes its item where the condition is true, and drops it else
-abbrev pub filter_round : Target → Expr → Fragment
-filter_round t c = straight (i.DupTop ∷ []) ⨾ target_code t ⨾ expr_code c ⨾ take_item ⨾ straight (i.DiscardTop ∷ [])
+abbrev pub pass_round : Target → Expr → Fragment
+pass_round t c = straight (i.DupTop ∷ []) ⨾ target_code t ⨾ expr_code c ⨾ take_item ⨾ straight (i.DiscardTop ∷ [])
 
 -- what is iterated: with a condition the items for which that is true
 abbrev pub iterable_code : Target → Expr → Option Expr → Fragment
 iterable_code t e None = expr_code e
 iterable_code t e (Some c) =
-    straight (i.LoadConst (number (pos 0)) ∷ []) ⨾ expr_code e ⨾ looped filter_flags (filter_round t c) (straight (i.PopLoopFrame ∷ i.BuildList None ∷ []))
+    straight (i.LoadConst (number (pos 0)) ∷ []) ⨾ expr_code e ⨾ looped pass_flags (pass_round t c) (straight (i.PopLoopFrame ∷ i.BuildList None ∷ []))
 
 -- in a loop's body, where these were opened since it began, innermost first
 abbrev mutual

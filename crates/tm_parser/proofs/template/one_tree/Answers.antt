@@ -4,6 +4,7 @@ use Rattle.tm_syntax.specs.declared.tree.Tree.{Tree}
 use Rattle.tm_rules.specs.Laws.{same_got}
 use Rattle.tm_parser.specs.Grammar.{inside}
 use Rattle.tm_parser.specs.Statements.{body, inner}
+use Rattle.tm_parser.specs.Template.{nestings}
 use Rattle.tm_parser.proofs.template.one_tree.Goals as goal
 
 abbrev tree_of : List Stmt → Tree
@@ -11,6 +12,6 @@ tree_of ss = record { statements = ss }
 
 pub returns : goal.returns
 returns c = λ ts a b x y.
-    let whole = body (inside 150) (inner 150) false in
+    let whole = body (inside nestings) (inner nestings) false in
     let same = same_got a.statements b.statements [] [] (sym (whole.only ts a.statements [] x.spelled) ∙ whole.only ts b.statements [] y.spelled) in
     ap (λ ss. tree_of ss) same.0

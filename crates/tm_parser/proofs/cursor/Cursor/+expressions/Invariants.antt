@@ -1,126 +1,132 @@
-use Rattle.std.proofs.Common.{◌≡◌, ◌+◌, ◌*◌, length, []}
+use Rattle.std.proofs.Common.{◌≡◌, ℕ, ◌+◌, ◌*◌, length, []}
 use Rattle.tm_syntax.specs.declared.token.Sign.TheVariants as sign
 use Rattle.tm_parser.specs.Grammar.{inside, operand, steps_from, comparisons_from, conditions_from, more_items, more_passed, pair}
 use Rattle.tm_parser.proofs.cursor.Cursor.+expressions.Given as goal
 
 -- each nesting has room for one call of each method, the higher above the lower
+abbrev nesting_room : ℕ
+nesting_room = 4096
+
 abbrev pub decreases-inner_expr : goal.decreases-inner_expr
-decreases-inner_expr l = 4096 * l.depth
+decreases-inner_expr l = nesting_room * l.depth
 
 abbrev pub decreases-inner_operand : goal.decreases-inner_operand
-decreases-inner_operand l = 4096 * l.depth
+decreases-inner_operand l = nesting_room * l.depth
 
 abbrev pub decreases-keyword : goal.decreases-keyword
-decreases-keyword l = 4096 * l.depth + 1
+decreases-keyword l = nesting_room * l.depth + 1
 
 abbrev pub decreases-argument : goal.decreases-argument
-decreases-argument l = 4096 * l.depth + 1
+decreases-argument l = nesting_room * l.depth + 1
 
 abbrev pub decreases-one_passed : goal.decreases-one_passed
-decreases-one_passed l = 4096 * l.depth + 2
+decreases-one_passed l = nesting_room * l.depth + 2
 
 abbrev pub decreases-more_passed : goal.decreases-more_passed
-decreases-more_passed l = 4096 * l.depth + 3
+decreases-more_passed l = nesting_room * l.depth + 3
 
 abbrev pub decreases-all_passed : goal.decreases-all_passed
-decreases-all_passed l = 4096 * l.depth + 4
+decreases-all_passed l = nesting_room * l.depth + 4
 
 abbrev pub decreases-one_expr : goal.decreases-one_expr
-decreases-one_expr l = 4096 * l.depth + 1
+decreases-one_expr l = nesting_room * l.depth + 1
 
 abbrev pub decreases-more_exprs : goal.decreases-more_exprs
-decreases-more_exprs l = 4096 * l.depth + 2
+decreases-more_exprs l = nesting_room * l.depth + 2
 
 abbrev pub decreases-exprs : goal.decreases-exprs
-decreases-exprs l = 4096 * l.depth + 3
+decreases-exprs l = nesting_room * l.depth + 3
 
 abbrev pub decreases-one_pair : goal.decreases-one_pair
-decreases-one_pair l = 4096 * l.depth + 1
+decreases-one_pair l = nesting_room * l.depth + 1
 
 abbrev pub decreases-more_pairs : goal.decreases-more_pairs
-decreases-more_pairs l = 4096 * l.depth + 2
+decreases-more_pairs l = nesting_room * l.depth + 2
 
 abbrev pub decreases-pairs : goal.decreases-pairs
-decreases-pairs l = 4096 * l.depth + 3
+decreases-pairs l = nesting_room * l.depth + 3
 
 abbrev pub decreases-tuple : goal.decreases-tuple
-decreases-tuple l = 4096 * l.depth + 4
+decreases-tuple l = nesting_room * l.depth + 4
 
 abbrev pub decreases-list_literal : goal.decreases-list_literal
-decreases-list_literal l = 4096 * l.depth + 4
+decreases-list_literal l = nesting_room * l.depth + 4
 
 abbrev pub decreases-map_literal : goal.decreases-map_literal
-decreases-map_literal l = 4096 * l.depth + 4
+decreases-map_literal l = nesting_room * l.depth + 4
 
 abbrev pub decreases-part : goal.decreases-part
-decreases-part l = 4096 * l.depth + 1
+decreases-part l = nesting_room * l.depth + 1
 
 abbrev pub decreases-last_part : goal.decreases-last_part
-decreases-last_part l = 4096 * l.depth + 2
+decreases-last_part l = nesting_room * l.depth + 2
 
 abbrev pub decreases-slice : goal.decreases-slice
-decreases-slice l = 4096 * l.depth + 3
+decreases-slice l = nesting_room * l.depth + 3
 
 abbrev pub decreases-named_step : goal.decreases-named_step
-decreases-named_step l = 4096 * l.depth + 5
+decreases-named_step l = nesting_room * l.depth + 5
 
 abbrev pub decreases-subscript : goal.decreases-subscript
-decreases-subscript l = 4096 * l.depth + 4
+decreases-subscript l = nesting_room * l.depth + 4
 
 abbrev pub decreases-bracketed : goal.decreases-bracketed
-decreases-bracketed l = 4096 * l.depth + 5
+decreases-bracketed l = nesting_room * l.depth + 5
 
 abbrev pub decreases-named : goal.decreases-named
-decreases-named l = 4096 * l.depth + 5
+decreases-named l = nesting_room * l.depth + 5
 
 abbrev pub decreases-primary : goal.decreases-primary
-decreases-primary l = 4096 * l.depth + 6
+decreases-primary l = nesting_room * l.depth + 6
 
 -- and so has each level
+abbrev level_room : ℕ
+level_room = 8
+
 abbrev pub decreases-operand : goal.decreases-operand
-decreases-operand l = 4096 * l.depth + 8 * l.level + 7
+decreases-operand l = nesting_room * l.depth + level_room * l.level + 7
 
 abbrev pub decreases-operation : goal.decreases-operation
-decreases-operation l = 4096 * l.depth + 8 * l.level + 8
+decreases-operation l = nesting_room * l.depth + level_room * l.level + 8
 
 abbrev pub decreases-one_comparison : goal.decreases-one_comparison
-decreases-one_comparison l = 4096 * l.depth + 8 * l.level + 8
+decreases-one_comparison l = nesting_room * l.depth + level_room * l.level + 8
 
 abbrev pub decreases-comparisons : goal.decreases-comparisons
-decreases-comparisons l = 4096 * l.depth + 8 * l.level + 9
+decreases-comparisons l = nesting_room * l.depth + level_room * l.level + 9
 
 abbrev pub decreases-comparison : goal.decreases-comparison
-decreases-comparison l = 4096 * l.depth + 8 * l.level + 10
+decreases-comparison l = nesting_room * l.depth + level_room * l.level + 10
 
 abbrev pub decreases-conjunction : goal.decreases-conjunction
-decreases-conjunction l = 4096 * l.depth + 8 * l.level + 8
+decreases-conjunction l = nesting_room * l.depth + level_room * l.level + 8
 
 abbrev pub decreases-disjunction : goal.decreases-disjunction
-decreases-disjunction l = 4096 * l.depth + 8 * l.level + 8
+decreases-disjunction l = nesting_room * l.depth + level_room * l.level + 8
 
 abbrev pub decreases-step : goal.decreases-step
-decreases-step l = 4096 * l.depth + 8 * l.level + 11
+decreases-step l = nesting_room * l.depth + level_room * l.level + 11
 
 abbrev pub decreases-one_step : goal.decreases-one_step
-decreases-one_step l = 4096 * l.depth + 8 * l.level + 12
+decreases-one_step l = nesting_room * l.depth + level_room * l.level + 12
 
 abbrev pub decreases-steps : goal.decreases-steps
-decreases-steps l = 4096 * l.depth + 8 * l.level + 13
+decreases-steps l = nesting_room * l.depth + level_room * l.level + 13
 
 abbrev pub decreases-expr_at : goal.decreases-expr_at
-decreases-expr_at l = 4096 * l.depth + 8 * l.level + 14
+decreases-expr_at l = nesting_room * l.depth + level_room * l.level + 14
 
 abbrev pub decreases-else_part : goal.decreases-else_part
-decreases-else_part l = 4096 * l.depth + 1
+decreases-else_part l = nesting_room * l.depth + 1
 
 abbrev pub decreases-one_condition : goal.decreases-one_condition
-decreases-one_condition l = 4096 * l.depth + 128
+decreases-one_condition l = nesting_room * l.depth + 128
 
 abbrev pub decreases-conditions : goal.decreases-conditions
-decreases-conditions l = 4096 * l.depth + 129
+decreases-conditions l = nesting_room * l.depth + 129
 
 abbrev pub decreases-expr : goal.decreases-expr
-decreases-expr l = 4096 * l.depth + 130
+decreases-expr l = nesting_room * l.depth + 130
 
 abbrev pub invariant-conditions-loop-alloc : goal.invariant-conditions-loop-alloc
 invariant-conditions-loop-alloc l =

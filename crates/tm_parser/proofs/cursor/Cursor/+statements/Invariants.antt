@@ -1,59 +1,62 @@
-use Rattle.std.proofs.Common.{◌≡◌, ◌+◌, ◌*◌, length}
+use Rattle.std.proofs.Common.{◌≡◌, ℕ, ◌+◌, ◌*◌, length}
 use Rattle.tm_parser.specs.Grammar.{inside}
 use Rattle.tm_parser.specs.Statements.{inner, body, more_statements}
 use Rattle.tm_parser.proofs.cursor.Cursor.+statements.Given as goal
 
 -- each nesting has room for one call of each method, the higher above the lower
+abbrev nesting_room : ℕ
+nesting_room = 16
+
 abbrev pub decreases-inner_body : goal.decreases-inner_body
-decreases-inner_body l = 16 * l.depth
+decreases-inner_body l = nesting_room * l.depth
 
 abbrev pub decreases-inner_rest : goal.decreases-inner_rest
-decreases-inner_rest l = 16 * l.depth
+decreases-inner_rest l = nesting_room * l.depth
 
 abbrev pub decreases-inner_else_or_end : goal.decreases-inner_else_or_end
-decreases-inner_else_or_end l = 16 * l.depth
+decreases-inner_else_or_end l = nesting_room * l.depth
 
 abbrev pub decreases-elif_tag : goal.decreases-elif_tag
-decreases-elif_tag l = 16 * l.depth + 1
+decreases-elif_tag l = nesting_room * l.depth + 1
 
 abbrev pub decreases-else_tag : goal.decreases-else_tag
-decreases-else_tag l = 16 * l.depth + 1
+decreases-else_tag l = nesting_room * l.depth + 1
 
 abbrev pub decreases-if_tag : goal.decreases-if_tag
-decreases-if_tag l = 16 * l.depth + 1
+decreases-if_tag l = nesting_room * l.depth + 1
 
 abbrev pub decreases-for_tag : goal.decreases-for_tag
-decreases-for_tag l = 16 * l.depth + 1
+decreases-for_tag l = nesting_room * l.depth + 1
 
 abbrev pub decreases-block_tag : goal.decreases-block_tag
-decreases-block_tag l = 16 * l.depth + 1
+decreases-block_tag l = nesting_room * l.depth + 1
 
 abbrev pub decreases-with_tag : goal.decreases-with_tag
-decreases-with_tag l = 16 * l.depth + 1
+decreases-with_tag l = nesting_room * l.depth + 1
 
 abbrev pub decreases-set_block : goal.decreases-set_block
-decreases-set_block l = 16 * l.depth + 1
+decreases-set_block l = nesting_room * l.depth + 1
 
 abbrev pub decreases-autoescape_tag : goal.decreases-autoescape_tag
-decreases-autoescape_tag l = 16 * l.depth + 1
+decreases-autoescape_tag l = nesting_room * l.depth + 1
 
 abbrev pub decreases-set_tag : goal.decreases-set_tag
-decreases-set_tag l = 16 * l.depth + 2
+decreases-set_tag l = nesting_room * l.depth + 2
 
 abbrev pub decreases-else_or_end : goal.decreases-else_or_end
-decreases-else_or_end l = 16 * l.depth + 2
+decreases-else_or_end l = nesting_room * l.depth + 2
 
 abbrev pub decreases-rest : goal.decreases-rest
-decreases-rest l = 16 * l.depth + 3
+decreases-rest l = nesting_room * l.depth + 3
 
 abbrev pub decreases-statement : goal.decreases-statement
-decreases-statement l = 16 * l.depth + 3
+decreases-statement l = nesting_room * l.depth + 3
 
 abbrev pub decreases-one_statement : goal.decreases-one_statement
-decreases-one_statement l = 16 * l.depth + 4
+decreases-one_statement l = nesting_room * l.depth + 4
 
 abbrev pub decreases-body : goal.decreases-body
-decreases-body l = 16 * l.depth + 5
+decreases-body l = nesting_room * l.depth + 5
 
 abbrev pub invariant-body-loop-body : goal.invariant-body-loop-body
 invariant-body-loop-body l = (more_statements (inside l.depth) (inner l.depth) l.looping l.body).reads l.self ≡ (body (inside l.depth) (inner l.depth) l.looping).reads l.fn.self
