@@ -16,6 +16,6 @@ pub use context::{Context, Found, Frame};
 pub use fuel::FuelTracker;
 pub use host::Host;
 pub use loops::{LoopState, following_at, position_at, previous_at};
-pub use objects::{Objects, Parties};
+pub use objects::{LANGUAGE, Objects, Parties};
 pub use plain::{Answering, Plain};
 pub use view::View;

@@ -1,8 +1,9 @@
 //! The functions that templates call.
-ghost use Rattle.std.specs.Prelude.{◌≡◌, ◌<◌, ◌≤◌, ◌^◌, [], ◌∷◌, List, None, OnOk, OnErr, IfErr, IfNone, IfSome, IsSomeAnd, MatchOption, slice_get};
+ghost use Rattle.std.specs.Prelude.{◌≡◌, ◌<◌, ◌≤◌, ◌^◌, [], ◌∷◌, List, None, OnOk, OnErr, IfErr, IfNone, IfSome, IsSomeAnd, MatchOption, Some, length, map, slice_get};
 ghost use Rattle.tm_values.specs.Answer.{IsLent};
 ghost use Rattle.tm_meaning.specs.World.{Function};
-ghost use Rattle.tm_tables.specs.Stated.{IsCalled, no_functions, language_functions, with_object, next_number, callables, language_at};
+ghost use Rattle.tm_tables.specs.Stated.{IsCalled, no_functions, language_functions, with_object, next_number, callables};
+ghost use Rattle.tm_tables.specs.Language.{language};
 
 use crate::callable::{Callable, Called};
 use crate::view::View;
@@ -27,8 +28,12 @@ pub trait Parties: Drop {
             (λ f. IsSomeAnd result (λ called. IsCalled called f args.now view.now)) };
 }
 
-/// How many functions the language has.
-const LANGUAGE: usize = 3;
+/// The functions of the language with their names, each at the place of its number.
+pub const LANGUAGE: [(&str, GlobalFunction); 3] = [
+    ("range", GlobalFunction::Range),
+    ("dict", GlobalFunction::Dict),
+    ("namespace", GlobalFunction::Namespace),
+];
 
 /// Functions by number, from 0: those of the language, where they are there, and then objects of the caller.
 #[derive(Drop)]
@@ -59,7 +64,7 @@ impl<C: Drop> Objects<C> {
         }
     }
 
-    /// The functions of the language: `range` is number 0, `dict` 1, `namespace` 2.
+    /// The functions of the language, by the numbers that `LANGUAGE` gives them.
     pub fn of_language(alloc: Global) -> Objects<C>
         ensures { result ≡ language_functions }
     {
@@ -74,7 +79,7 @@ impl<C: Drop> Objects<C> {
         ensures some { IfSome result (λ number. number ≡ next_number self.now) }
         ensures none { IfNone result (2 ^ 64 ≤ next_number self.now) }
     {
-        let before = if self.language { LANGUAGE } else { 0 };
+        let before = if self.language { LANGUAGE.len() } else { 0 };
         self.functions.len().checked_add(before)
     }
 
@@ -134,7 +139,7 @@ impl<C: Callable> Parties for Objects<C> {
         if !self.language {
             return self.answer(alloc, number, args, view);
         }
-        match number.checked_sub(LANGUAGE) {
+        match number.checked_sub(LANGUAGE.len()) {
             Some(place) => self.answer(alloc, place, args, view),
             None => Some(Called::Language(language_function(number))),
         }
@@ -143,12 +148,8 @@ impl<C: Callable> Parties for Objects<C> {
 
 /// The function of the language that has this number.
 fn language_function(number: usize) -> GlobalFunction
-    requires { number < 3 }
-    ensures { result ≡ language_at number }
+    requires { number < length language }
+    ensures { slice_get (map (λ f. f.1) language) number ≡ Some result }
 {
-    match number {
-        0 => GlobalFunction::Range,
-        1 => GlobalFunction::Dict,
-        _ => GlobalFunction::Namespace,
-    }
+    LANGUAGE[number].1
 }
