@@ -49,21 +49,15 @@ impl StateData<'_> {
         ensures rest { self.new ≡ record self.old
             { temps = self.new.temps; namespaces = self.new.namespaces } }
     {
-        let found = match self.lookup(host, name) {
-            Ok(Some(value)) => value,
-            Ok(None) => return Err(Error::from(ErrorKind::UnknownFunction)),
-            Err(error) => return Err(error),
+        let Some(found) = self.lookup(host, name)? else {
+            return Err(Error::from(ErrorKind::UnknownFunction));
         };
         if let Node::Loop(state, number) = &found.node {
-            return match self.call_found(alloc, host, *state, *number, args) {
-                Ok(recursion) => Ok(Outcome::Recursion(recursion)),
-                Err(error) => Err(error),
-            };
+            let recursion = self.call_found(alloc, host, *state, *number, args)?;
+            return Ok(Outcome::Recursion(recursion));
         }
-        match self.call_value(alloc, host, &found, args) {
-            Ok(value) => Ok(Outcome::Value(value)),
-            Err(error) => Err(error),
-        }
+        let value = self.call_value(alloc, host, &found, args)?;
+        Ok(Outcome::Value(value))
     }
 
     /// The innermost loop, which is called with a value. UnknownFunction outside of loops, and what a loop refuses.
@@ -148,10 +142,9 @@ impl StateData<'_> {
         if let Node::Loop(state, number) = &receiver.node {
             return self.call_loop_method(alloc, *state, *number, name, args);
         }
-        match self.method(alloc, receiver, name) {
-            Ok(Some(found)) => self.call_value(alloc, host, &found, args),
-            Ok(None) => Err(Error::from(ErrorKind::UnknownMethod)),
-            Err(error) => Err(error),
+        match self.method(alloc, receiver, name)? {
+            Some(found) => self.call_value(alloc, host, &found, args),
+            None => Err(Error::from(ErrorKind::UnknownMethod)),
         }
     }
 
@@ -191,10 +184,8 @@ impl StateData<'_> {
                 if !is_macro_attribute(name) {
                     return Ok(None);
                 }
-                match attribute(alloc, value, name, self, UndefinedBehavior::Lenient) {
-                    Ok(found) => Ok(Some(found)),
-                    Err(error) => Err(error),
-                }
+                let found = attribute(alloc, value, name, self, UndefinedBehavior::Lenient)?;
+                Ok(Some(found))
             }
             Node::Namespace(state, index) => match find_namespace(self, *state, *index) {
                 Some(pairs) => shared(pairs.member(name)),
@@ -218,10 +209,9 @@ impl StateData<'_> {
         ensures rest { self.new ≡ record self.old
             { temps = self.new.temps; namespaces = self.new.namespaces } }
     {
-        match self.ask(alloc, host, value, args) {
-            Ok(Called::Answered(answer)) => self.take_answer(answer),
-            Ok(Called::Language(function)) => self.call_language(alloc, function, args),
-            Err(error) => Err(error),
+        match self.ask(alloc, host, value, args)? {
+            Called::Answered(answer) => self.take_answer(answer),
+            Called::Language(function) => self.call_language(alloc, function, args),
         }
     }
 
@@ -253,9 +243,7 @@ impl StateData<'_> {
         ensures rest { self.new ≡ record self.old { temps = self.new.temps } }
     {
         let Answer { temps, result } = answer;
-        if let Err(error) = self.keep(temps) {
-            return Err(error);
-        }
+        self.keep(temps)?;
         match result {
             Reply::Value(value) => Ok(value),
             Reply::Fault(error) => Err(error),

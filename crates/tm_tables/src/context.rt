@@ -119,10 +119,9 @@ impl Frame {
         if let Some(number) = self.named_loop(name.as_str()) {
             return Ok(Some(Found::Loop(number)));
         }
-        match self.context_member(name.as_str(), records) {
-            Ok(Some(member)) => Ok(Some(Found::Held(member))),
-            Ok(None) => Ok(None),
-            Err(error) => Err(error),
+        match self.context_member(name.as_str(), records)? {
+            Some(member) => Ok(Some(Found::Held(member))),
+            None => Ok(None),
         }
     }
 

@@ -92,13 +92,12 @@ impl<'a> View<'a> {
         ensures { IsAnswer result (find_name self.now name.now) }
     {
         let hashed = Name::new(self.context.allocator(), name)?;
-        match self.context.find(&hashed, self) {
-            Ok(Some(found)) => Ok(Some(found.value(self.id)?)),
-            Ok(None) => match self.globals.get(name) {
+        match self.context.find(&hashed, self)? {
+            Some(found) => Ok(Some(found.value(self.id)?)),
+            None => match self.globals.get(name) {
                 Some(global) => Ok(Some(global.share()?)),
                 None => Ok(None),
             },
-            Err(error) => Err(error),
         }
     }
 
