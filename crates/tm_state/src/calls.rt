@@ -5,7 +5,8 @@ ghost use Rattle.tm_values.specs.Answer.{IsAnswer, OkOrOutOfMemory};
 ghost use Rattle.tm_syntax.specs.Named.{put_each};
 ghost use Rattle.tm_meaning.specs.World.{records_of};
 ghost use Rattle.tm_values.specs.Val.{loop};
-ghost use Rattle.tm_meaning.specs.Calls.{call_found, call_innermost, call_loop, call_named, call_value, call_method, loop_method, method_in, is_macro_attribute, replied};
+ghost use Rattle.tm_meaning.specs.Calls.{call_found, call_innermost, call_loop, call_named, call_value, call_method};
+ghost use Rattle.tm_meaning.specs.Calls.{loop_method, method_in, is_macro_attribute, replied};
 ghost use Rattle.tm_state.specs.Answers.{Becomes, Calls, Comes, IsBecause, Recurs};
 
 use crate::state::StateData;
@@ -36,7 +37,10 @@ pub struct Recursion {
 }
 
 impl StateData<'_> {
-    /// What the function of a name gives for these arguments, or the loop that is called; what a function keeps is kept, also where it answers a fault. UnknownFunction where the name isn't found, InvalidOperation where its value can't be called, or not there or so, or a context value on the way can't be known, and what the function refuses.
+    /// What the function of a name gives for these arguments, or the loop that is called; what a function
+    /// keeps is kept, also where it answers a fault. UnknownFunction where the name isn't found,
+    /// InvalidOperation where its value can't be called, or not there or so, or a context value on the way
+    /// can't be known, and what the function refuses.
     pub fn call<H: Host>(
         &mut self,
         alloc: Global,
@@ -102,7 +106,8 @@ impl StateData<'_> {
         self.call_loop(alloc, host, found, value)
     }
 
-    /// A loop that is called with a value. InvalidOperation where it can't be called in the stream that runs, and with the cause where the value has no items; OutOfMemory.
+    /// A loop that is called with a value. InvalidOperation where it can't be called in the stream that runs,
+    /// and with the cause where the value has no items; OutOfMemory.
     fn call_loop<H: Host>(
         &self,
         alloc: Global,
@@ -125,7 +130,10 @@ impl StateData<'_> {
         }
     }
 
-    /// What a value's method of a name gives for these arguments: a loop's `changed` and `cycle`, else what a map, keyword map, module or namespace has at the name, called. UnknownMethod where there is none, InvalidOperation where it can't be called or the record of a loop or a namespace isn't there, and what the function refuses.
+    /// What a value's method of a name gives for these arguments: a loop's `changed` and `cycle`, else what a
+    /// map, keyword map, module or namespace has at the name, called. UnknownMethod where there is none,
+    /// InvalidOperation where it can't be called or the record of a loop or a namespace isn't there, and what
+    /// the function refuses.
     pub fn call_method<H: Host>(
         &mut self,
         alloc: Global,
@@ -175,7 +183,8 @@ impl StateData<'_> {
         }
     }
 
-    /// What is called as a value's method of a name, which is no loop; none where it has none. InvalidOperation for a namespace whose record isn't there; OutOfMemory.
+    /// What is called as a value's method of a name, which is no loop; none where it has none.
+    /// InvalidOperation for a namespace whose record isn't there; OutOfMemory.
     fn method(&self, alloc: Global, value: &Value, name: &str) -> Result<Option<Value>, Error>
         ensures { IsAnswer result (method_in (records_of self.now) name.now value.now) }
     {
@@ -215,7 +224,8 @@ impl StateData<'_> {
         }
     }
 
-    /// What an object of the caller answers to these arguments, or which function of the language a value is. InvalidOperation where it can't be called.
+    /// What an object of the caller answers to these arguments, or which function of the language a value is.
+    /// InvalidOperation where it can't be called.
     fn ask<H: Host>(
         &self,
         alloc: Global,

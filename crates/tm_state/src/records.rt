@@ -14,7 +14,8 @@ use tm_syntax::{Name, NameMap};
 use tm_tables::LoopState;
 use tm_values::{Error, ErrorKind, Value, ValueMap};
 
-/// Gives a value to an attribute of the namespace of a number, where there is one. Fails by OutOfMemory alone, and then all stays as it was.
+/// Gives a value to an attribute of the namespace of a number, where there is one. Fails by OutOfMemory
+/// alone, and then all stays as it was.
 #[tactic(auto, using(crate::proofs::Members::past, crate::proofs::Members::there))]
 pub(crate) fn set_in(
     alloc: Global,
@@ -63,7 +64,9 @@ pub(crate) fn turn_at(loops: &mut Vec<LoopState>, number: usize)
     }
 }
 
-/// Whether these arguments differ from those that the loop of a number keeps, which they then replace. InvalidOperation where there is no such loop, OutOfMemory where there is no memory; then all stay as they were.
+/// Whether these arguments differ from those that the loop of a number keeps, which they then replace.
+/// InvalidOperation where there is no such loop, OutOfMemory where there is no memory; then all stay as they
+/// were.
 pub(crate) fn changed_at(
     loops: &mut Vec<LoopState>,
     alloc: Global,

@@ -1,10 +1,13 @@
 //! The data of a state.
 ghost use Rattle.std.specs.List.Sorted.{IsStrictlySortedBy};
-ghost use Rattle.std.specs.Prelude.{◌≡◌, ◌+◌, ◌≤◌, ◌<◌, List, [], ◌∷◌, ◌++◌, Some, None, false, true, is_some, length, nat_lt, slice_get, OnOk, OnErr, IfErr, IfOk, IfSome, MatchOption, MatchResult};
+ghost use Rattle.std.specs.Prelude.{◌≡◌, ◌+◌, ◌≤◌, ◌<◌, List, [], ◌∷◌, ◌++◌, Some, None, false, true, is_some, length};
+ghost use Rattle.std.specs.Prelude.{nat_lt, slice_get, OnOk, OnErr, IfErr, IfOk, IfSome, MatchOption, MatchResult};
 ghost use Rattle.tm_values.specs.Answer.{IsAnswer, OkOrOutOfMemory, IsLent};
 ghost use Rattle.tm_meaning.specs.Memory.{is_want_of_memory};
 ghost use Rattle.tm_syntax.specs.Named.{find, name_cmp, put, put_each, texts_of};
-ghost use Rattle.tm_meaning.specs.World.{depth, with_escape, innermost, loop_depth, top_loop, top_mark, next_turn, cleared, pop, store, set_member, make_namespace, emitted, records_of, fuel_levels, find_name, view_of, name_of, Good, Bad, block_of};
+ghost use Rattle.tm_meaning.specs.World.{depth, with_escape, innermost, loop_depth, top_loop, top_mark, next_turn};
+ghost use Rattle.tm_meaning.specs.World.{cleared, pop, store, set_member, make_namespace, emitted, records_of};
+ghost use Rattle.tm_meaning.specs.World.{fuel_levels, find_name, view_of, name_of, Good, Bad, block_of};
 ghost use Rattle.tm_meaning.specs.Calls.{enter_block, given_by, refused, of_loop, told_changed, told_turn};
 ghost use Rattle.tm_meaning.specs.Steps.{charge_of, pay};
 ghost use Rattle.tm_definitions.specs.Emitted.{emitted_text};
@@ -79,7 +82,8 @@ impl<'env> Model for StateData<'env> {
 }
 
 impl<'env> StateData<'env> {
-    /// The state that a render of a template starts from: one scope over the context value, the template's blocks, and the fuel, or the greatest u64 where none is set. Fails by OutOfMemory alone.
+    /// The state that a render of a template starts from: one scope over the context value, the template's
+    /// blocks, and the fuel, or the greatest u64 where none is set. Fails by OutOfMemory alone.
     pub fn new(
         alloc: Global,
         id: u64,
@@ -152,7 +156,8 @@ impl<'env> StateData<'env> {
         )
     }
 
-    /// The value of a name: of the scopes, an inner one's first, else of the globals. InvalidOperation where a context value on the way can't be known.
+    /// The value of a name: of the scopes, an inner one's first, else of the globals. InvalidOperation where
+    /// a context value on the way can't be known.
     pub fn lookup<H: Host>(&self, host: &H, name: &Name) -> Result<Option<Value>, Error>
         ensures { IsAnswer result (find_name (view_of (H.meaning host.now) self.now) name.now) }
     {
@@ -165,7 +170,8 @@ impl<'env> StateData<'env> {
         }
     }
 
-    /// The names that a look-up finds, in the scopes or among the globals, each once, in their order. InvalidOperation where a context value is a namespace whose record isn't there; OutOfMemory.
+    /// The names that a look-up finds, in the scopes or among the globals, each once, in their order.
+    /// InvalidOperation where a context value is a namespace whose record isn't there; OutOfMemory.
     pub fn known_variables<'a, H: Host>(
         &'a self,
         alloc: Global,
@@ -222,7 +228,8 @@ impl<'env> StateData<'env> {
         keep_each(&mut self.temps, temps)
     }
 
-    /// What a function of the language gives for these arguments; a namespace's record then stands behind all others. Fails as `range`, `dict` and `namespace` do; then the state stays as it was.
+    /// What a function of the language gives for these arguments; a namespace's record then stands behind all
+    /// others. Fails as `range`, `dict` and `namespace` do; then the state stays as it was.
     pub fn call_language(
         &mut self,
         alloc: Global,
@@ -297,7 +304,10 @@ impl<'env> StateData<'env> {
         self.escape = escape;
     }
 
-    /// Enters the block of a name, in a scope of its own, and gives its stream and what is put back behind it. UnknownBlock where there is none, InvalidOperation where it is required and nothing fills it, or where its scope would lie deeper than the limit; OutOfMemory where there is no memory. Then the state stays as it was.
+    /// Enters the block of a name, in a scope of its own, and gives its stream and what is put back behind
+    /// it. UnknownBlock where there is none, InvalidOperation where it is required and nothing fills it, or
+    /// where its scope would lie deeper than the limit; OutOfMemory where there is no memory. Then the state
+    /// stays as it was.
     pub fn enter_block<H: Host>(
         &mut self,
         alloc: Global,
@@ -340,7 +350,8 @@ impl<'env> StateData<'env> {
         Ok(StreamId::block(self.template.share()?, name.share()?))
     }
 
-    /// One scope more, over no context. InvalidOperation where it would lie deeper than the limit, OutOfMemory where there is no memory; then the state stays as it was.
+    /// One scope more, over no context. InvalidOperation where it would lie deeper than the limit,
+    /// OutOfMemory where there is no memory; then the state stays as it was.
     pub fn push_scope(&mut self, alloc: Global, limit: usize) -> Result<(), Error>
         ensures ok { OnOk result (self.new ≡ scoped self.old) }
         ensures fits { OnOk result (nat_lt (depth self.old.scopes) limit ≡ true) }
@@ -351,7 +362,9 @@ impl<'env> StateData<'env> {
             .push_frame(Frame::new(alloc, Value::undefined()), limit)
     }
 
-    /// A loop of a number over items in a scope of its own, with a record behind all others. InvalidOperation where the scope would lie deeper than the limit, OutOfMemory where there is no memory; then the state stays as it was.
+    /// A loop of a number over items in a scope of its own, with a record behind all others. InvalidOperation
+    /// where the scope would lie deeper than the limit, OutOfMemory where there is no memory; then the state
+    /// stays as it was.
     pub fn open_loop(
         &mut self,
         alloc: Global,
@@ -425,7 +438,9 @@ impl<'env> StateData<'env> {
         }
     }
 
-    /// Whether these arguments differ from those that the loop of a number keeps, which they then replace. InvalidOperation where there is no such loop, OutOfMemory where there is no memory; then the state stays as it was.
+    /// Whether these arguments differ from those that the loop of a number keeps, which they then replace.
+    /// InvalidOperation where there is no such loop, OutOfMemory where there is no memory; then the state
+    /// stays as it was.
     pub(crate) fn loop_changed(
         &mut self,
         alloc: Global,
@@ -490,7 +505,8 @@ impl<'env> StateData<'env> {
         self.context.store(name.share()?, value)
     }
 
-    /// Gives a value to an attribute of a namespace. InvalidOperation for what is no namespace of this state; OutOfMemory. Then the state stays as it was.
+    /// Gives a value to an attribute of a namespace. InvalidOperation for what is no namespace of this state;
+    /// OutOfMemory. Then the state stays as it was.
     pub fn set_member(
         &mut self,
         alloc: Global,

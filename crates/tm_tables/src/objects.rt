@@ -1,15 +1,15 @@
 //! The functions that templates call.
-ghost use Rattle.std.specs.Prelude.{◌≡◌, ◌<◌, ◌≤◌, ◌^◌, [], ◌∷◌, List, None, OnOk, OnErr, IfErr, IfNone, IfSome, IsSomeAnd, MatchOption, Some, length, map, slice_get};
+ghost use Rattle.std.specs.Prelude.{◌≡◌, ◌<◌, ◌≤◌, ◌^◌, [], ◌∷◌, List, None, OnOk, OnErr, IfErr, IfNone, IfSome};
+ghost use Rattle.std.specs.Prelude.{IsSomeAnd, MatchOption, Some, length, map, slice_get};
 ghost use Rattle.tm_values.specs.Answer.{IsLent};
 ghost use Rattle.tm_meaning.specs.World.{Function};
 ghost use Rattle.tm_tables.specs.Stated.{IsCalled, no_functions, language_functions, with_object, next_number, callables};
-ghost use Rattle.tm_tables.specs.Language.{language};
 
 use crate::callable::{Callable, Called};
+use crate::language::{LANGUAGE, language_function};
 use crate::view::View;
 use std::alloc::Global;
 use std::marker::Model;
-use tm_meaning::GlobalFunction;
 use tm_values::{Error, ErrorKind, Value};
 
 /// All functions of an environment, as one.
@@ -27,13 +27,6 @@ pub trait Parties: Drop {
         ensures { MatchOption (slice_get (functions self.now) number) (result ≡ None)
             (λ f. IsSomeAnd result (λ called. IsCalled called f args.now view.now)) };
 }
-
-/// The functions of the language with their names, each at the place of its number.
-pub const LANGUAGE: [(&str, GlobalFunction); 3] = [
-    ("range", GlobalFunction::Range),
-    ("dict", GlobalFunction::Dict),
-    ("namespace", GlobalFunction::Namespace),
-];
 
 /// Functions by number, from 0: those of the language, where they are there, and then objects of the caller.
 #[derive(Drop)]
@@ -64,7 +57,7 @@ impl<C: Drop> Objects<C> {
         }
     }
 
-    /// The functions of the language, by the numbers that `LANGUAGE` gives them.
+    /// The functions of the language, by the numbers of their table.
     pub fn of_language(alloc: Global) -> Objects<C>
         ensures { result ≡ language_functions }
     {
@@ -144,12 +137,4 @@ impl<C: Callable> Parties for Objects<C> {
             None => Some(Called::Language(language_function(number))),
         }
     }
-}
-
-/// The function of the language that has this number.
-fn language_function(number: usize) -> GlobalFunction
-    requires { number < length language }
-    ensures { slice_get (map (λ f. f.1) language) number ≡ Some result }
-{
-    LANGUAGE[number].1
 }

@@ -50,7 +50,8 @@ impl<'a> Model for View<'a> {
 }
 
 impl<'a> View<'a> {
-    /// A view of a state's id, scopes, namespaces and loops, the environment's globals, the kept values, the name of the template that runs, and how it is written.
+    /// A view of a state's id, scopes, namespaces and loops, the environment's globals, the kept values, the
+    /// name of the template that runs, and how it is written.
     pub fn new(
         id: u64,
         context: &'a Context,
@@ -87,7 +88,8 @@ impl<'a> View<'a> {
         }
     }
 
-    /// The value of a name: of the scopes, an inner one's first, else of the globals. InvalidOperation where a scope on the way is over a namespace whose record isn't there; OutOfMemory.
+    /// The value of a name: of the scopes, an inner one's first, else of the globals. InvalidOperation where
+    /// a scope on the way is over a namespace whose record isn't there; OutOfMemory.
     pub fn lookup(&self, name: &str) -> Result<Option<Value>, Error>
         ensures { IsAnswer result (find_name self.now name.now) }
     {
