@@ -5,7 +5,8 @@ ghost use Rattle.tm_values.specs.Answer.{IsAnswer, OkOrOutOfMemory};
 ghost use Rattle.tm_syntax.specs.Named.{put_each};
 ghost use Rattle.tm_meaning.specs.World.{records_of};
 ghost use Rattle.tm_values.specs.Val.{loop};
-ghost use Rattle.tm_meaning.specs.Calls.{call_found, call_innermost, call_loop, call_named, call_value, call_method, loop_method, method_in, is_macro_attribute, replied};
+ghost use Rattle.tm_meaning.specs.Calls.{call_found, call_innermost, call_loop, call_named, call_value, call_method};
+ghost use Rattle.tm_meaning.specs.Calls.{loop_method, method_in, is_macro_attribute, replied};
 ghost use Rattle.tm_state.specs.Answers.{Becomes, Calls, Comes, IsBecause, Recurs};
 
 use crate::state::StateData;
@@ -36,7 +37,10 @@ pub struct Recursion {
 }
 
 impl StateData<'_> {
-    /// What the function of a name gives for these arguments, or the loop that is called; what a function keeps is kept, also where it answers a fault. UnknownFunction where the name isn't found, InvalidOperation where its value can't be called, or not there or so, or a context value on the way can't be known, and what the function refuses.
+    /// What the function of a name gives for these arguments, or the loop that is called; what a function
+    /// keeps is kept, also where it answers a fault. UnknownFunction where the name isn't found,
+    /// InvalidOperation where its value can't be called, or not there or so, or a context value on the way
+    /// can't be known, and what the function refuses.
     pub fn call<H: Host>(
         &mut self,
         alloc: Global,
@@ -49,21 +53,15 @@ impl StateData<'_> {
         ensures rest { self.new ≡ record self.old
             { temps = self.new.temps; namespaces = self.new.namespaces } }
     {
-        let found = match self.lookup(host, name) {
-            Ok(Some(value)) => value,
-            Ok(None) => return Err(Error::from(ErrorKind::UnknownFunction)),
-            Err(error) => return Err(error),
+        let Some(found) = self.lookup(host, name)? else {
+            return Err(Error::from(ErrorKind::UnknownFunction));
         };
         if let Node::Loop(state, number) = &found.node {
-            return match self.call_found(alloc, host, *state, *number, args) {
-                Ok(recursion) => Ok(Outcome::Recursion(recursion)),
-                Err(error) => Err(error),
-            };
+            let recursion = self.call_found(alloc, host, *state, *number, args)?;
+            return Ok(Outcome::Recursion(recursion));
         }
-        match self.call_value(alloc, host, &found, args) {
-            Ok(value) => Ok(Outcome::Value(value)),
-            Err(error) => Err(error),
-        }
+        let value = self.call_value(alloc, host, &found, args)?;
+        Ok(Outcome::Value(value))
     }
 
     /// The innermost loop, which is called with a value. UnknownFunction outside of loops, and what a loop refuses.
@@ -108,7 +106,8 @@ impl StateData<'_> {
         self.call_loop(alloc, host, found, value)
     }
 
-    /// A loop that is called with a value. InvalidOperation where it can't be called in the stream that runs, and with the cause where the value has no items; OutOfMemory.
+    /// A loop that is called with a value. InvalidOperation where it can't be called in the stream that runs,
+    /// and with the cause where the value has no items; OutOfMemory.
     fn call_loop<H: Host>(
         &self,
         alloc: Global,
@@ -131,7 +130,10 @@ impl StateData<'_> {
         }
     }
 
-    /// What a value's method of a name gives for these arguments: a loop's `changed` and `cycle`, else what a map, keyword map, module or namespace has at the name, called. UnknownMethod where there is none, InvalidOperation where it can't be called or the record of a loop or a namespace isn't there, and what the function refuses.
+    /// What a value's method of a name gives for these arguments: a loop's `changed` and `cycle`, else what a
+    /// map, keyword map, module or namespace has at the name, called. UnknownMethod where there is none,
+    /// InvalidOperation where it can't be called or the record of a loop or a namespace isn't there, and what
+    /// the function refuses.
     pub fn call_method<H: Host>(
         &mut self,
         alloc: Global,
@@ -148,10 +150,9 @@ impl StateData<'_> {
         if let Node::Loop(state, number) = &receiver.node {
             return self.call_loop_method(alloc, *state, *number, name, args);
         }
-        match self.method(alloc, receiver, name) {
-            Ok(Some(found)) => self.call_value(alloc, host, &found, args),
-            Ok(None) => Err(Error::from(ErrorKind::UnknownMethod)),
-            Err(error) => Err(error),
+        match self.method(alloc, receiver, name)? {
+            Some(found) => self.call_value(alloc, host, &found, args),
+            None => Err(Error::from(ErrorKind::UnknownMethod)),
         }
     }
 
@@ -182,7 +183,8 @@ impl StateData<'_> {
         }
     }
 
-    /// What is called as a value's method of a name, which is no loop; none where it has none. InvalidOperation for a namespace whose record isn't there; OutOfMemory.
+    /// What is called as a value's method of a name, which is no loop; none where it has none.
+    /// InvalidOperation for a namespace whose record isn't there; OutOfMemory.
     fn method(&self, alloc: Global, value: &Value, name: &str) -> Result<Option<Value>, Error>
         ensures { IsAnswer result (method_in (records_of self.now) name.now value.now) }
     {
@@ -191,10 +193,8 @@ impl StateData<'_> {
                 if !is_macro_attribute(name) {
                     return Ok(None);
                 }
-                match attribute(alloc, value, name, self, UndefinedBehavior::Lenient) {
-                    Ok(found) => Ok(Some(found)),
-                    Err(error) => Err(error),
-                }
+                let found = attribute(alloc, value, name, self, UndefinedBehavior::Lenient)?;
+                Ok(Some(found))
             }
             Node::Namespace(state, index) => match find_namespace(self, *state, *index) {
                 Some(pairs) => shared(pairs.member(name)),
@@ -218,14 +218,14 @@ impl StateData<'_> {
         ensures rest { self.new ≡ record self.old
             { temps = self.new.temps; namespaces = self.new.namespaces } }
     {
-        match self.ask(alloc, host, value, args) {
-            Ok(Called::Answered(answer)) => self.take_answer(answer),
-            Ok(Called::Language(function)) => self.call_language(alloc, function, args),
-            Err(error) => Err(error),
+        match self.ask(alloc, host, value, args)? {
+            Called::Answered(answer) => self.take_answer(answer),
+            Called::Language(function) => self.call_language(alloc, function, args),
         }
     }
 
-    /// What an object of the caller answers to these arguments, or which function of the language a value is. InvalidOperation where it can't be called.
+    /// What an object of the caller answers to these arguments, or which function of the language a value is.
+    /// InvalidOperation where it can't be called.
     fn ask<H: Host>(
         &self,
         alloc: Global,
@@ -253,9 +253,7 @@ impl StateData<'_> {
         ensures rest { self.new ≡ record self.old { temps = self.new.temps } }
     {
         let Answer { temps, result } = answer;
-        if let Err(error) = self.keep(temps) {
-            return Err(error);
-        }
+        self.keep(temps)?;
         match result {
             Reply::Value(value) => Ok(value),
             Reply::Fault(error) => Err(error),

@@ -2,6 +2,7 @@
 #![tactic(auto)]
 
 mod calls;
+mod records;
 mod saved;
 mod state;
 

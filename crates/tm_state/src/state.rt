@@ -1,18 +1,22 @@
 //! The data of a state.
 ghost use Rattle.std.specs.List.Sorted.{IsStrictlySortedBy};
-ghost use Rattle.std.specs.Prelude.{◌≡◌, ◌+◌, ◌≤◌, ◌<◌, List, [], ◌∷◌, ◌++◌, Some, None, false, true, is_some, length, nat_lt, slice_get, OnOk, OnErr, IfErr, IfOk, IfSome, MatchOption, MatchResult};
+ghost use Rattle.std.specs.Prelude.{◌≡◌, ◌+◌, ◌≤◌, ◌<◌, List, [], ◌∷◌, ◌++◌, Some, None, false, true, is_some, length};
+ghost use Rattle.std.specs.Prelude.{nat_lt, slice_get, OnOk, OnErr, IfErr, IfOk, IfSome, MatchOption, MatchResult};
 ghost use Rattle.tm_values.specs.Answer.{IsAnswer, OkOrOutOfMemory, IsLent};
 ghost use Rattle.tm_meaning.specs.Memory.{is_want_of_memory};
 ghost use Rattle.tm_syntax.specs.Named.{find, name_cmp, put, put_each, texts_of};
-ghost use Rattle.tm_meaning.specs.World.{depth, with_escape, innermost, loop_depth, top_loop, top_mark, next_turn, turned_at, cleared, pop, store, set_member, with_member, make_namespace, emitted, records_of, fuel_levels, find_name, view_of, name_of, Good, Bad, block_of};
-ghost use Rattle.tm_meaning.specs.Calls.{enter_block, given_by, refused, of_loop, keeping_at, told_changed, told_turn};
+ghost use Rattle.tm_meaning.specs.World.{depth, with_escape, innermost, loop_depth, top_loop, top_mark, next_turn};
+ghost use Rattle.tm_meaning.specs.World.{cleared, pop, store, set_member, make_namespace, emitted, records_of};
+ghost use Rattle.tm_meaning.specs.World.{fuel_levels, find_name, view_of, name_of, Good, Bad, block_of};
+ghost use Rattle.tm_meaning.specs.Calls.{enter_block, given_by, refused, of_loop, told_changed, told_turn};
 ghost use Rattle.tm_meaning.specs.Steps.{charge_of, pay};
 ghost use Rattle.tm_definitions.specs.Emitted.{emitted_text};
 ghost use Rattle.tm_tables.specs.Known.{AreFound, NamingFails};
 ghost use Rattle.tm_tables.specs.Scopes.{PushFails};
-ghost use Rattle.tm_state.specs.Answers.{Keeps, CanBeEmitted, Comes, IsChangedAt};
-ghost use Rattle.tm_state.specs.State.{looped, loop_record, exported, started, put_back, saved_of, runs_block, IsBlockOf, scoped};
+ghost use Rattle.tm_state.specs.Answers.{Keeps, CanBeEmitted, Comes};
+ghost use Rattle.tm_state.specs.State.{looped, exported, started, put_back, saved_of, runs_block, IsBlockOf, scoped};
 
+use crate::records::{add_loop, changed_at, keep_each, set_in, turn_at};
 use crate::saved::Saved;
 use std::alloc::Global;
 use std::marker::Model;
@@ -78,7 +82,8 @@ impl<'env> Model for StateData<'env> {
 }
 
 impl<'env> StateData<'env> {
-    /// The state that a render of a template starts from: one scope over the context value, the template's blocks, and the fuel, or the greatest u64 where none is set. Fails by OutOfMemory alone.
+    /// The state that a render of a template starts from: one scope over the context value, the template's
+    /// blocks, and the fuel, or the greatest u64 where none is set. Fails by OutOfMemory alone.
     pub fn new(
         alloc: Global,
         id: u64,
@@ -91,10 +96,7 @@ impl<'env> StateData<'env> {
         ensures { OkOrOutOfMemory result
             (λ s. s ≡ started id template blocks.entry.now escape fuel context) }
     {
-        let context = match Context::new_with_frame(alloc, Frame::new(alloc, context)) {
-            Ok(context) => context,
-            Err(error) => return Err(error),
-        };
+        let context = Context::new_with_frame(alloc, Frame::new(alloc, context))?;
         let stream = StreamId::root(template.share()?);
         Ok(StateData {
             id,
@@ -154,21 +156,22 @@ impl<'env> StateData<'env> {
         )
     }
 
-    /// The value of a name: of the scopes, an inner one's first, else of the globals. InvalidOperation where a context value on the way can't be known.
+    /// The value of a name: of the scopes, an inner one's first, else of the globals. InvalidOperation where
+    /// a context value on the way can't be known.
     pub fn lookup<H: Host>(&self, host: &H, name: &Name) -> Result<Option<Value>, Error>
         ensures { IsAnswer result (find_name (view_of (H.meaning host.now) self.now) name.now) }
     {
-        match self.context.find(name, self) {
-            Ok(Some(found)) => Ok(Some(found.value(self.id)?)),
-            Ok(None) => match host.globals().get(name.as_str()) {
+        match self.context.find(name, self)? {
+            Some(found) => Ok(Some(found.value(self.id)?)),
+            None => match host.globals().get(name.as_str()) {
                 Some(global) => Ok(Some(global.share()?)),
                 None => Ok(None),
             },
-            Err(error) => Err(error),
         }
     }
 
-    /// The names that a look-up finds, in the scopes or among the globals, each once, in their order. InvalidOperation where a context value is a namespace whose record isn't there; OutOfMemory.
+    /// The names that a look-up finds, in the scopes or among the globals, each once, in their order.
+    /// InvalidOperation where a context value is a namespace whose record isn't there; OutOfMemory.
     pub fn known_variables<'a, H: Host>(
         &'a self,
         alloc: Global,
@@ -225,7 +228,8 @@ impl<'env> StateData<'env> {
         keep_each(&mut self.temps, temps)
     }
 
-    /// What a function of the language gives for these arguments; a namespace's record then stands behind all others. Fails as `range`, `dict` and `namespace` do; then the state stays as it was.
+    /// What a function of the language gives for these arguments; a namespace's record then stands behind all
+    /// others. Fails as `range`, `dict` and `namespace` do; then the state stays as it was.
     pub fn call_language(
         &mut self,
         alloc: Global,
@@ -240,14 +244,14 @@ impl<'env> StateData<'env> {
     {
         match function {
             GlobalFunction::Range => range(alloc, args),
-            GlobalFunction::Dict => match dict(alloc, args, self) {
-                Ok(pairs) => Value::from_map(alloc, pairs),
-                Err(error) => Err(error),
-            },
-            GlobalFunction::Namespace => match namespace(alloc, args, self) {
-                Ok(pairs) => self.add_namespace(pairs),
-                Err(error) => Err(error),
-            },
+            GlobalFunction::Dict => {
+                let pairs = dict(alloc, args, self)?;
+                Value::from_map(alloc, pairs)
+            }
+            GlobalFunction::Namespace => {
+                let pairs = namespace(alloc, args, self)?;
+                self.add_namespace(pairs)
+            }
         }
     }
 
@@ -268,13 +272,7 @@ impl<'env> StateData<'env> {
         ensures { CanBeEmitted result (emitted (H.meaning host.now) value.now self.now)
             (emitted_text self.now.escape (records_of self.now) value.now) self.now }
     {
-        if let Err(error) = check_defined(
-            value,
-            host.undefined_behavior(),
-            UndefinedUse::Emission,
-        ) {
-            return Err(error);
-        }
+        check_defined(value, host.undefined_behavior(), UndefinedUse::Emission)?;
         check_emission(alloc, value, self.escape, self)
     }
 
@@ -306,7 +304,10 @@ impl<'env> StateData<'env> {
         self.escape = escape;
     }
 
-    /// Enters the block of a name, in a scope of its own, and gives its stream and what is put back behind it. UnknownBlock where there is none, InvalidOperation where it is required and nothing fills it, or where its scope would lie deeper than the limit; OutOfMemory where there is no memory. Then the state stays as it was.
+    /// Enters the block of a name, in a scope of its own, and gives its stream and what is put back behind
+    /// it. UnknownBlock where there is none, InvalidOperation where it is required and nothing fills it, or
+    /// where its scope would lie deeper than the limit; OutOfMemory where there is no memory. Then the state
+    /// stays as it was.
     pub fn enter_block<H: Host>(
         &mut self,
         alloc: Global,
@@ -325,19 +326,14 @@ impl<'env> StateData<'env> {
         ensures unchanged { OnErr result (self.new ≡ self.old) }
         ensures kept { Keeps self.old self.new }
     {
-        let stream = match self.block_stream(name) {
-            Ok(stream) => stream,
-            Err(error) => return Err(error),
-        };
+        let stream = self.block_stream(name)?;
         if host.is_required(&stream) {
             return Err(Error::from(ErrorKind::InvalidOperation));
         }
         let running = stream.share()?;
         let block = name.share()?;
         let scopes = self.height();
-        if let Err(error) = self.push_scope(alloc, host.recursion_limit()) {
-            return Err(error);
-        }
+        self.push_scope(alloc, host.recursion_limit())?;
         let saved = self.run_block(running, block, scopes);
         Ok((stream, saved))
     }
@@ -354,7 +350,8 @@ impl<'env> StateData<'env> {
         Ok(StreamId::block(self.template.share()?, name.share()?))
     }
 
-    /// One scope more, over no context. InvalidOperation where it would lie deeper than the limit, OutOfMemory where there is no memory; then the state stays as it was.
+    /// One scope more, over no context. InvalidOperation where it would lie deeper than the limit,
+    /// OutOfMemory where there is no memory; then the state stays as it was.
     pub fn push_scope(&mut self, alloc: Global, limit: usize) -> Result<(), Error>
         ensures ok { OnOk result (self.new ≡ scoped self.old) }
         ensures fits { OnOk result (nat_lt (depth self.old.scopes) limit ≡ true) }
@@ -365,7 +362,9 @@ impl<'env> StateData<'env> {
             .push_frame(Frame::new(alloc, Value::undefined()), limit)
     }
 
-    /// A loop of a number over items in a scope of its own, with a record behind all others. InvalidOperation where the scope would lie deeper than the limit, OutOfMemory where there is no memory; then the state stays as it was.
+    /// A loop of a number over items in a scope of its own, with a record behind all others. InvalidOperation
+    /// where the scope would lie deeper than the limit, OutOfMemory where there is no memory; then the state
+    /// stays as it was.
     pub fn open_loop(
         &mut self,
         alloc: Global,
@@ -439,7 +438,9 @@ impl<'env> StateData<'env> {
         }
     }
 
-    /// Whether these arguments differ from those that the loop of a number keeps, which they then replace. InvalidOperation where there is no such loop, OutOfMemory where there is no memory; then the state stays as it was.
+    /// Whether these arguments differ from those that the loop of a number keeps, which they then replace.
+    /// InvalidOperation where there is no such loop, OutOfMemory where there is no memory; then the state
+    /// stays as it was.
     pub(crate) fn loop_changed(
         &mut self,
         alloc: Global,
@@ -450,10 +451,8 @@ impl<'env> StateData<'env> {
             (told_changed number args.now self.old)) self.new }
         ensures rest { self.new ≡ record self.old { loops = self.new.loops } }
     {
-        match changed_at(&mut self.loops, alloc, number, args) {
-            Ok(changed) => Ok(Value::boolean(changed)),
-            Err(error) => Err(error),
-        }
+        let changed = changed_at(&mut self.loops, alloc, number, args)?;
+        Ok(Value::boolean(changed))
     }
 
     /// The argument whose turn it is at the item of the loop of a number. InvalidOperation where there is no such loop; OutOfMemory.
@@ -506,7 +505,8 @@ impl<'env> StateData<'env> {
         self.context.store(name.share()?, value)
     }
 
-    /// Gives a value to an attribute of a namespace. InvalidOperation for what is no namespace of this state; OutOfMemory. Then the state stays as it was.
+    /// Gives a value to an attribute of a namespace. InvalidOperation for what is no namespace of this state;
+    /// OutOfMemory. Then the state stays as it was.
     pub fn set_member(
         &mut self,
         alloc: Global,
@@ -521,10 +521,7 @@ impl<'env> StateData<'env> {
         ensures unchanged { OnErr result (self.new ≡ self.old) }
         ensures rest { self.new ≡ record self.old { namespaces = self.new.namespaces } }
     {
-        let index = match check_settable(alloc, object, self) {
-            Ok(index) => index,
-            Err(error) => return Err(error),
-        };
+        let index = check_settable(alloc, object, self)?;
         set_in(alloc, &mut self.namespaces, index, name, value)
     }
 
@@ -558,86 +555,6 @@ impl<'env> StateData<'env> {
         self.block = block;
         self.set_escape(escape);
     }
-}
-
-/// Gives a value to an attribute of the namespace of a number, where there is one. Fails by OutOfMemory alone, and then all stays as it was.
-#[tactic(auto, using(crate::proofs::Members::past, crate::proofs::Members::there))]
-fn set_in(
-    alloc: Global,
-    namespaces: &mut Vec<ValueMap>,
-    index: usize,
-    name: &Name,
-    value: Value,
-) -> Result<(), Error>
-    ensures ok { OnOk result
-        (namespaces.new.items ≡ with_member index name.now value namespaces.old.items) }
-    ensures kind { IfErr result (λ e. e ≡ ErrorKind.OutOfMemory ∷ []) }
-    ensures err { OnErr result (namespaces.new.items ≡ namespaces.old.items) }
-{
-    if index >= namespaces.len() {
-        return Ok(());
-    }
-    let key = Value::text(alloc, name.as_str())?;
-    namespaces[index].insert(key, value)
-}
-
-/// Adds the record of a loop behind all others. Fails by OutOfMemory alone, and then they stay as they were.
-fn add_loop(
-    loops: &mut Vec<LoopState>,
-    stream: &StreamId,
-    items: Rc<Vec<Value>>,
-    depth: usize,
-    number: usize,
-    recursive: bool,
-) -> Result<(), Error>
-    ensures ok { OnOk result (loops.new.items ≡ loops.old.items
-        ++ loop_record items.value.items depth number recursive stream.now ∷ []) }
-    ensures kind { IfErr result (λ e. e ≡ ErrorKind.OutOfMemory ∷ []) }
-    ensures err { OnErr result (loops.new.items ≡ loops.old.items) }
-{
-    let stream = stream.share()?;
-    loops.push(LoopState::new(items, depth, number, recursive, stream))?;
-    Ok(())
-}
-
-/// Asks the loop of a number, where there is one, for its next item.
-fn turn_at(loops: &mut Vec<LoopState>, number: usize)
-    ensures { loops.new.items ≡ turned_at number loops.old.items }
-{
-    if number < loops.len() {
-        loops[number].turn();
-    }
-}
-
-/// Whether these arguments differ from those that the loop of a number keeps, which they then replace. InvalidOperation where there is no such loop, OutOfMemory where there is no memory; then all stay as they were.
-fn changed_at(
-    loops: &mut Vec<LoopState>,
-    alloc: Global,
-    number: usize,
-    args: &[Value],
-) -> Result<bool, Error>
-    ensures ok { IfOk result (λ changed.
-        IsChangedAt changed args.now (slice_get loops.old.items number)) }
-    ensures now { OnOk result (loops.new.items ≡ keeping_at number args.now loops.old.items) }
-    ensures none { IfErr result (λ e. is_want_of_memory e ≡ false →
-        (e ≡ ErrorKind.InvalidOperation ∷ []) × (slice_get loops.old.items number ≡ None)) }
-    ensures err { OnErr result (loops.new.items ≡ loops.old.items) }
-{
-    if number >= loops.len() {
-        return Err(Error::from(ErrorKind::InvalidOperation));
-    }
-    loops[number].changed(alloc, args)
-}
-
-/// Keeps values by name, one behind the other. Fails by OutOfMemory alone.
-fn keep_each(temps: &mut NameMap<Value>, kept: Vec<(Name, Value)>) -> Result<(), Error>
-    ensures ok { OnOk result (temps.new ≡ put_each kept.items temps.old) }
-    ensures kind { IfErr result (λ e. e ≡ ErrorKind.OutOfMemory ∷ []) }
-{
-    for (name, value) in kept {
-        temps.insert(name, value)?;
-    }
-    Ok(())
 }
 
 impl Records for StateData<'_> {

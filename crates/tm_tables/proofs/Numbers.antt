@@ -1,17 +1,31 @@
 -- The functions of the language by their numbers, and what stands behind them.
-use Rattle.std.proofs.Common.{◌≡◌, ℕ, zero, suc, ◌<◌, ◌≤◌, List, ◌∷◌, Some, true, arith, refl, ap}
-use Rattle.std.specs.Prelude.{slice_get, ◌-◌}
+use Rattle.std.proofs.Common.{◌≡◌, ℕ, zero, suc, ◌≤◌, List, [], ◌∷◌, ◌++◌, length, Some, true, arith, refl, ap, ◌∙◌}
+use Rattle.std.specs.Prelude.{slice_get, ◌-◌, map as each}
 use Rattle.tm_meaning.specs.World.{Function, languages}
-use Rattle.tm_tables.specs.Stated.{behind_language, language_at}
+use Rattle.tm_meaning.specs.declared.function.GlobalFunction.{GlobalFunction}
+use Rattle.tm_meaning.specs.declared.function.GlobalFunction.TheVariants as own
+use Rattle.tm_tables.specs.Language.{language}
+use Rattle.tm_tables.specs.Stated.{behind_language}
 
-pub before : (fs : List Function) (n : ℕ) → n < 3 → slice_get (behind_language true fs) n ≡ Some (languages (language_at n))
-before fs zero h = refl
-before fs (suc zero) h = refl
-before fs (suc (suc zero)) h = refl
-before fs (suc (suc (suc n))) h = absurd (omega (arith, h))
+-- every function of the language has a number
+pub numbered : (g : GlobalFunction) → (n : ℕ) × (slice_get (each (λ f. f.1) language) n ≡ Some g)
+numbered own.Range = (0, refl)
+numbered own.Dict = (1, refl)
+numbered own.Namespace = (2, refl)
 
-pub behind : (fs : List Function) (n : ℕ) → 3 ≤ n → slice_get (behind_language true fs) n ≡ slice_get fs (n - 3)
-behind fs zero h = absurd (omega (arith, h))
-behind fs (suc zero) h = absurd (omega (arith, h))
-behind fs (suc (suc zero)) h = absurd (omega (arith, h))
-behind fs (suc (suc (suc n))) h = ap (slice_get fs) (omega arith)
+before-any : (own : List (List ℕ × GlobalFunction)) (fs : List Function) (n : ℕ) (g : GlobalFunction) → slice_get (each (λ f. f.1) own) n ≡ Some g →
+    slice_get (each (λ f. languages f.1) own ++ fs) n ≡ Some (languages g)
+before-any [] fs n g h = cc
+before-any (f ∷ own) fs zero g h = cc
+before-any (f ∷ own) fs (suc n) g h = before-any own fs n g h
+
+pub before : (fs : List Function) (n : ℕ) (g : GlobalFunction) → slice_get (each (λ f. f.1) language) n ≡ Some g → slice_get (behind_language true fs) n ≡ Some (languages g)
+before fs n g h = before-any language fs n g h
+
+behind-any : (own : List (List ℕ × GlobalFunction)) (fs : List Function) (n : ℕ) → length own ≤ n → slice_get (each (λ f. languages f.1) own ++ fs) n ≡ slice_get fs (n - length own)
+behind-any [] fs n h = ap (slice_get fs) (omega arith)
+behind-any (f ∷ own) fs zero h = absurd (omega (arith, h))
+behind-any (f ∷ own) fs (suc n) h = behind-any own fs n (omega (arith, h)) ∙ ap (slice_get fs) (omega arith)
+
+pub behind : (fs : List Function) (n : ℕ) → length language ≤ n → slice_get (behind_language true fs) n ≡ slice_get fs (n - length language)
+behind fs n h = behind-any language fs n h

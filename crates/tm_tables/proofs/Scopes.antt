@@ -1,5 +1,5 @@
 -- What the outermost of scopes exports, which is the first to be entered.
-use Rattle.std.proofs.Common.{◌≡◌, ℕ, zero, suc, ◌+◌, ◌<◌, List, [], ◌∷◌, ◌++◌, length, slice_set, get_or, arith, Some, None, slice_get, is_some, true, false, true≢false, reverse, unwrap_or, refl, sym, ap, ◌∙◌}
+use Rattle.std.proofs.Common.{◌≡◌, ℕ, zero, suc, ◌<◌, List, [], ◌∷◌, ◌++◌, length, slice_set, get_or, arith, Some, None, slice_get, is_some, true≢false, reverse, unwrap_or, refl, sym, ap, ◌∙◌}
 use Rattle.std.proofs.lemmas.Grind.{reverse_onto}
 use Rattle.std.proofs.lemmas.List.{length-reverse, length-drop, reverse-append, take-append-drop}
 use Rattle.std.proofs.Math.Seq.{drop-append_seam}

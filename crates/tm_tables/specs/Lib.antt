@@ -1,5 +1,6 @@
 pub mod Found
 pub mod Known
+pub mod Language
 pub mod Locals
 pub mod Scopes
 pub mod Stated

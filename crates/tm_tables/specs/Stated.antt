@@ -1,12 +1,11 @@
 -- What callables answer.
-use Rattle.std.specs.Prelude.{◌≡◌, ◌+◌, ℕ, zero, suc, Bool, true, false, List, [], ◌∷◌, ◌++◌, length, map as each}
+use Rattle.std.specs.Prelude.{◌≡◌, ◌+◌, ℕ, Bool, true, false, List, [], ◌∷◌, ◌++◌, length, map as each}
 use Rattle.tm_meaning.specs.Memory.{is_want_of_memory}
 use Rattle.tm_values.specs.Val.{Val}
-use Rattle.tm_meaning.specs.declared.function.GlobalFunction.{GlobalFunction}
-use Rattle.tm_meaning.specs.declared.function.GlobalFunction.TheVariants as own
 use Rattle.tm_meaning.specs.World.{View, Function, callers, languages, Stated}
 use Rattle.tm_meaning.specs.declared.reply.Reply.{Reply}
 use Rattle.tm_meaning.specs.declared.reply.Reply.TheVariants.{Value as gives, Fault as faults}
+use Rattle.tm_tables.specs.Language.{language}
 use Rattle.tm_tables.specs.declared.callable.Called.{Called}
 use Rattle.tm_tables.specs.declared.callable.Called.TheVariants as called
 
@@ -51,7 +50,7 @@ with_object object t = record t { objects = t.objects ++ object ∷ [] }
 
 abbrev pub language_count : Bool → ℕ
 language_count false = 0
-language_count true = 3
+language_count true = length language
 
 -- the number of an object that is added now
 abbrev pub next_number : {C : Type 0} → Table C → ℕ
@@ -63,13 +62,7 @@ callables answers cs = each (λ c. callers (answers c)) cs
 
 abbrev pub behind_language : Bool → List Function → List Function
 behind_language false fs = fs
-behind_language true fs = languages own.Range ∷ languages own.Dict ∷ languages own.Namespace ∷ fs
-
--- the function of the language of a number below 3
-abbrev pub language_at : ℕ → GlobalFunction
-language_at zero = own.Range
-language_at (suc zero) = own.Dict
-language_at (suc (suc n)) = own.Namespace
+behind_language true fs = each (λ f. languages f.1) language ++ fs
 
 abbrev pub functions_of : {C : Type 0} → (C → List Val → View → Stated) → Table C → List Function
 functions_of answers t = behind_language t.language (callables answers t.objects)

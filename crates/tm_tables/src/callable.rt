@@ -82,7 +82,8 @@ pub enum Called {
 pub trait Callable: Drop {
     ghost answers: { Self → List Val → Seen → Stated };
 
-    /// What it states of these arguments; OutOfMemory where there is no memory for it, alone or behind EvalBlock, BadInclude or InvalidOperation.
+    /// What it states of these arguments; OutOfMemory where there is no memory for it, alone or behind
+    /// EvalBlock, BadInclude or InvalidOperation.
     fn call(&self, alloc: Global, args: &[Value], view: &View<'_>) -> Answer
         ensures { IsStated result (answers self.now args.now view.now) };
 }

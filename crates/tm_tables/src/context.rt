@@ -1,11 +1,13 @@
 //! Scopes.
 ghost use Rattle.std.specs.List.Sorted.{IsStrictlySortedBy};
-ghost use Rattle.std.specs.Prelude.{ℕ, option_map, ◌≡◌, ◌<◌, ◌^◌, ◌-◌, ◌||◌, [], ◌∷◌, true, false, length, min, nat_lt, OnErr, OnOk, IfErr, IfOk, MatchOption};
+ghost use Rattle.std.specs.Prelude.{ℕ, option_map, ◌≡◌, ◌<◌, ◌^◌, ◌-◌, ◌||◌, [], ◌∷◌, true, false, length, min, nat_lt};
+ghost use Rattle.std.specs.Prelude.{OnErr, OnOk, IfErr, IfOk, MatchOption};
 ghost use Rattle.tm_syntax.specs.Named.{name_cmp, put, texts_of};
 ghost use Rattle.tm_values.specs.Answer.{OkOrOutOfMemory};
 ghost use Rattle.tm_values.specs.Val.{loop};
 ghost use Rattle.tm_values.specs.declared.error.ErrorKind.TheVariants.{OutOfMemory};
-ghost use Rattle.tm_meaning.specs.World.{plain, loop_scope, marked_loop, depth, context_member, innermost, stored_in, top_mark, without_first, without_locals};
+ghost use Rattle.tm_meaning.specs.World.{plain, loop_scope, marked_loop, depth, context_member, innermost, stored_in};
+ghost use Rattle.tm_meaning.specs.World.{top_mark, without_first, without_locals};
 ghost use Rattle.tm_meaning.specs.Calls.{outermost};
 ghost use Rattle.tm_tables.specs.Found.{IsHeld, IsFoundIn, meant_by};
 ghost use Rattle.tm_tables.specs.Known.{AddsFound, AreFoundIn, AreKnownIn, AreMembers, NamingFails, has_text, is_among};
@@ -105,7 +107,8 @@ impl Frame {
         }
     }
 
-    /// What a name stands for: its own, its loop, or what the context value has there. InvalidOperation where it is neither of the first and the context value is a namespace whose record isn't there.
+    /// What a name stands for: its own, its loop, or what the context value has there. InvalidOperation where
+    /// it is neither of the first and the context value is a namespace whose record isn't there.
     pub fn get<'a, R: Records>(
         &'a self,
         name: &Name,
@@ -119,10 +122,9 @@ impl Frame {
         if let Some(number) = self.named_loop(name.as_str()) {
             return Ok(Some(Found::Loop(number)));
         }
-        match self.context_member(name.as_str(), records) {
-            Ok(Some(member)) => Ok(Some(Found::Held(member))),
-            Ok(None) => Ok(None),
-            Err(error) => Err(error),
+        match self.context_member(name.as_str(), records)? {
+            Some(member) => Ok(Some(Found::Held(member))),
+            None => Ok(None),
         }
     }
 
@@ -174,7 +176,8 @@ impl Frame {
         Ok(exported)
     }
 
-    /// Adds the names that stand for something here: its own, its loop's, and the texts among the keys of its context value. InvalidOperation where that is a namespace whose record isn't there; OutOfMemory.
+    /// Adds the names that stand for something here: its own, its loop's, and the texts among the keys of its
+    /// context value. InvalidOperation where that is a namespace whose record isn't there; OutOfMemory.
     fn add_names<'a, R: Records>(
         &'a self,
         alloc: Global,
@@ -293,7 +296,8 @@ impl Context {
         self.outer = outer;
     }
 
-    /// What a name stands for: in an inner scope before an outer one. InvalidOperation where a context value on the way is a namespace whose record isn't there.
+    /// What a name stands for: in an inner scope before an outer one. InvalidOperation where a context value
+    /// on the way is a namespace whose record isn't there.
     pub fn find<'a, R: Records>(
         &'a self,
         name: &Name,
@@ -313,7 +317,8 @@ impl Context {
         Ok(None)
     }
 
-    /// The names that stand for something in the scopes or among the globals, each once, in their order. InvalidOperation where a context value is a namespace whose record isn't there; OutOfMemory.
+    /// The names that stand for something in the scopes or among the globals, each once, in their order.
+    /// InvalidOperation where a context value is a namespace whose record isn't there; OutOfMemory.
     pub fn known_names<'a, R: Records>(
         &'a self,
         alloc: Global,
@@ -332,7 +337,8 @@ impl Context {
         Ok(in_order(names))
     }
 
-    /// The names that stand for something in the scopes. InvalidOperation where a context value is a namespace whose record isn't there; OutOfMemory.
+    /// The names that stand for something in the scopes. InvalidOperation where a context value is a
+    /// namespace whose record isn't there; OutOfMemory.
     fn names<'a, R: Records>(&'a self, alloc: Global, records: &'a R) -> Result<Vec<&'a str>, Error>
         ensures found { IfOk result (λ names. AreFoundIn (R.records records.now)
             self.now.frames (texts_of names.items)) }
@@ -356,7 +362,8 @@ impl Context {
         }
     }
 
-    /// One scope more. InvalidOperation where it would lie deeper than the limit, OutOfMemory where there is no memory; then the scopes stay as they were.
+    /// One scope more. InvalidOperation where it would lie deeper than the limit, OutOfMemory where there is
+    /// no memory; then the scopes stay as they were.
     pub fn push_frame(&mut self, frame: Frame, limit: usize) -> Result<(), Error>
         ensures fits { OnOk result (nat_lt (depth self.old) limit ≡ true) }
         ensures ok { OnOk result (self.new ≡ record self.old { frames = frame ∷ self.old.frames }) }

@@ -13,7 +13,8 @@ use tm_meaning::{StreamId, TemplateId};
 use tm_syntax::{Code, NameMap};
 use tm_values::{UndefinedBehavior, Value};
 
-/// What a render runs under: the environment, the rendered template and all objects of the caller, as one. Its meaning is the host record of the definitions.
+/// What a render runs under: the environment, the rendered template and all objects of the caller, as one.
+/// Its meaning is the host record of the definitions.
 pub trait Host {
     ghost meaning: { Self → Meaning };
 

@@ -12,7 +12,8 @@ use std::marker::Model;
 use tm_syntax::Name;
 use tm_values::Value;
 
-/// How many names are told apart by their hashes, one after the other. An index has those behind them, so that no scope with many names is slow.
+/// How many names are told apart by their hashes, one after the other. An index has those behind them, so
+/// that no scope with many names is slow.
 const SCANNED: usize = 8;
 
 /// The names in their order, each once.
@@ -40,7 +41,8 @@ fn place_of(pairs: &[(Name, Value)], name: &Name) -> Option<usize>
     None
 }
 
-/// Names with what they stand for, found by the hashes of the names first. The room of the first ones stays when they are cleared. A contract sees the pairs, in the order of the names.
+/// Names with what they stand for, found by the hashes of the names first. The room of the first ones stays
+/// when they are cleared. A contract sees the pairs, in the order of the names.
 #[derive(Drop)]
 pub(crate) struct Locals {
     first: Vec<(Name, Value)>,

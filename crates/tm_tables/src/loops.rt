@@ -1,5 +1,6 @@
 //! The records of loops.
-ghost use Rattle.std.specs.Prelude.{◌≡◌, ◌∷◌, ◌&&◌, [], None, Some, IfErr, IfOk, IfSome, OnErr, OnOk, length, map, nat_eq, option_and_then, option_map, slice_get};
+ghost use Rattle.std.specs.Prelude.{◌≡◌, ◌∷◌, ◌&&◌, [], None, Some, IfErr, IfOk, IfSome, OnErr, OnOk, length, map};
+ghost use Rattle.std.specs.Prelude.{nat_eq, option_and_then, option_map, slice_get};
 ghost use Rattle.tm_values.specs.Answer.{IsLent, OkOrOutOfMemory};
 ghost use Rattle.tm_values.specs.Position.{position_of};
 ghost use Rattle.tm_meaning.specs.World.{turned, loop_data, depth_inside, place_of};
@@ -11,7 +12,8 @@ use std::rc::Rc;
 use tm_meaning::StreamId;
 use tm_values::{Error, ErrorKind, LoopPosition, Value, same_items, share_all};
 
-/// A loop: its items, how often the next one was asked for, how many loops that can be called lie around it with no other loop between, its number in its stream, whether it can be called, and that stream.
+/// A loop: its items, how often the next one was asked for, how many loops that can be called lie around it
+/// with no other loop between, its number in its stream, whether it can be called, and that stream.
 #[derive(Drop)]
 pub struct LoopState {
     items: Rc<Vec<Value>>,
@@ -113,7 +115,8 @@ impl LoopState {
         self.recursive && self.stream.is(stream)
     }
 
-    /// How deep a loop in it stands: one deeper where it can be called, and else outermost. None where that is beyond the machine's numbers.
+    /// How deep a loop in it stands: one deeper where it can be called, and else outermost. None where that
+    /// is beyond the machine's numbers.
     pub fn depth_inside(&self) -> Option<usize>
         ensures { IfSome result (λ depth. depth ≡ depth_inside (Some self.now)) }
     {
@@ -124,7 +127,8 @@ impl LoopState {
         }
     }
 
-    /// Whether these arguments differ from those that it keeps, or it keeps none; then it keeps these. Fails by OutOfMemory alone, and then it stays as it was.
+    /// Whether these arguments differ from those that it keeps, or it keeps none; then it keeps these. Fails
+    /// by OutOfMemory alone, and then it stays as it was.
     pub fn changed(&mut self, alloc: Global, args: &[Value]) -> Result<bool, Error>
         ensures ok { IfOk result (λ changed. changed ≡ is_changed self.old.kept args.now) }
         ensures now { OnOk result (self.new ≡ keeping args.now self.old) }
@@ -142,7 +146,8 @@ impl LoopState {
         Ok(true)
     }
 
-    /// The argument whose turn it is at its item, from the first again behind the last; undefined before the first item, and where there is no argument. Fails by OutOfMemory alone.
+    /// The argument whose turn it is at its item, from the first again behind the last; undefined before the
+    /// first item, and where there is no argument. Fails by OutOfMemory alone.
     pub fn cycle(&self, args: &[Value]) -> Result<Value, Error>
         ensures { OkOrOutOfMemory result (λ v. v ≡ cycled (place_of self.now.turns) args.now) }
     {

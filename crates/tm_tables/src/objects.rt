@@ -1,14 +1,15 @@
 //! The functions that templates call.
-ghost use Rattle.std.specs.Prelude.{◌≡◌, ◌<◌, ◌≤◌, ◌^◌, [], ◌∷◌, List, None, OnOk, OnErr, IfErr, IfNone, IfSome, IsSomeAnd, MatchOption, slice_get};
+ghost use Rattle.std.specs.Prelude.{◌≡◌, ◌<◌, ◌≤◌, ◌^◌, [], ◌∷◌, List, None, OnOk, OnErr, IfErr, IfNone, IfSome};
+ghost use Rattle.std.specs.Prelude.{IsSomeAnd, MatchOption, Some, length, map, slice_get};
 ghost use Rattle.tm_values.specs.Answer.{IsLent};
 ghost use Rattle.tm_meaning.specs.World.{Function};
-ghost use Rattle.tm_tables.specs.Stated.{IsCalled, no_functions, language_functions, with_object, next_number, callables, language_at};
+ghost use Rattle.tm_tables.specs.Stated.{IsCalled, no_functions, language_functions, with_object, next_number, callables};
 
 use crate::callable::{Callable, Called};
+use crate::language::{LANGUAGE, language_function};
 use crate::view::View;
 use std::alloc::Global;
 use std::marker::Model;
-use tm_meaning::GlobalFunction;
 use tm_values::{Error, ErrorKind, Value};
 
 /// All functions of an environment, as one.
@@ -26,9 +27,6 @@ pub trait Parties: Drop {
         ensures { MatchOption (slice_get (functions self.now) number) (result ≡ None)
             (λ f. IsSomeAnd result (λ called. IsCalled called f args.now view.now)) };
 }
-
-/// How many functions the language has.
-const LANGUAGE: usize = 3;
 
 /// Functions by number, from 0: those of the language, where they are there, and then objects of the caller.
 #[derive(Drop)]
@@ -59,7 +57,7 @@ impl<C: Drop> Objects<C> {
         }
     }
 
-    /// The functions of the language: `range` is number 0, `dict` 1, `namespace` 2.
+    /// The functions of the language, by the numbers of their table.
     pub fn of_language(alloc: Global) -> Objects<C>
         ensures { result ≡ language_functions }
     {
@@ -74,7 +72,7 @@ impl<C: Drop> Objects<C> {
         ensures some { IfSome result (λ number. number ≡ next_number self.now) }
         ensures none { IfNone result (2 ^ 64 ≤ next_number self.now) }
     {
-        let before = if self.language { LANGUAGE } else { 0 };
+        let before = if self.language { LANGUAGE.len() } else { 0 };
         self.functions.len().checked_add(before)
     }
 
@@ -134,21 +132,9 @@ impl<C: Callable> Parties for Objects<C> {
         if !self.language {
             return self.answer(alloc, number, args, view);
         }
-        match number.checked_sub(LANGUAGE) {
+        match number.checked_sub(LANGUAGE.len()) {
             Some(place) => self.answer(alloc, place, args, view),
             None => Some(Called::Language(language_function(number))),
         }
-    }
-}
-
-/// The function of the language that has this number.
-fn language_function(number: usize) -> GlobalFunction
-    requires { number < 3 }
-    ensures { result ≡ language_at number }
-{
-    match number {
-        0 => GlobalFunction::Range,
-        1 => GlobalFunction::Dict,
-        _ => GlobalFunction::Namespace,
     }
 }

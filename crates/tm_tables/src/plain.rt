@@ -13,7 +13,8 @@ use tm_values::Value;
 pub trait Answering: Drop {
     ghost answers: { Self → List Val → Stated };
 
-    /// What it states of these arguments; OutOfMemory where there is no memory for it, alone or behind EvalBlock, BadInclude or InvalidOperation.
+    /// What it states of these arguments; OutOfMemory where there is no memory for it, alone or behind
+    /// EvalBlock, BadInclude or InvalidOperation.
     fn answer(&self, alloc: Global, args: &[Value]) -> Answer
         ensures { IsStated result (answers self.now args.now) };
 }

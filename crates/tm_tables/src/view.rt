@@ -50,7 +50,8 @@ impl<'a> Model for View<'a> {
 }
 
 impl<'a> View<'a> {
-    /// A view of a state's id, scopes, namespaces and loops, the environment's globals, the kept values, the name of the template that runs, and how it is written.
+    /// A view of a state's id, scopes, namespaces and loops, the environment's globals, the kept values, the
+    /// name of the template that runs, and how it is written.
     pub fn new(
         id: u64,
         context: &'a Context,
@@ -87,18 +88,18 @@ impl<'a> View<'a> {
         }
     }
 
-    /// The value of a name: of the scopes, an inner one's first, else of the globals. InvalidOperation where a scope on the way is over a namespace whose record isn't there; OutOfMemory.
+    /// The value of a name: of the scopes, an inner one's first, else of the globals. InvalidOperation where
+    /// a scope on the way is over a namespace whose record isn't there; OutOfMemory.
     pub fn lookup(&self, name: &str) -> Result<Option<Value>, Error>
         ensures { IsAnswer result (find_name self.now name.now) }
     {
         let hashed = Name::new(self.context.allocator(), name)?;
-        match self.context.find(&hashed, self) {
-            Ok(Some(found)) => Ok(Some(found.value(self.id)?)),
-            Ok(None) => match self.globals.get(name) {
+        match self.context.find(&hashed, self)? {
+            Some(found) => Ok(Some(found.value(self.id)?)),
+            None => match self.globals.get(name) {
                 Some(global) => Ok(Some(global.share()?)),
                 None => Ok(None),
             },
-            Err(error) => Err(error),
         }
     }
 

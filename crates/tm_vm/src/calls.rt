@@ -34,14 +34,13 @@ impl Machine<'_> {
         let Some(args) = self.run.operands.args(count) else {
             return Err(Halt::Stuck);
         };
-        match self.state.call(alloc, host, name, args) {
-            Ok(Outcome::Value(value)) => self.replace(count, value),
-            Ok(Outcome::Recursion(recursion)) => {
+        match self.state.call(alloc, host, name, args)? {
+            Outcome::Value(value) => self.replace(count, value),
+            Outcome::Recursion(recursion) => {
                 self.run.drop_operands(count);
                 self.captures.begin(alloc, CaptureMode::Capture)?;
                 self.recurse(alloc, host, code, recursion, true)
             }
-            Err(fault) => Err(Halt::Fault(fault)),
         }
     }
 
@@ -62,13 +61,12 @@ impl Machine<'_> {
         let Some(value) = self.run.pop() else {
             return Err(Halt::Stuck);
         };
-        match self.state.call_innermost(alloc, host, &value) {
-            Ok(recursion) => self.recurse(alloc, host, code, recursion, false),
-            Err(error) => Err(Halt::Fault(error)),
-        }
+        let recursion = self.state.call_innermost(alloc, host, &value)?;
+        self.recurse(alloc, host, code, recursion, false)
     }
 
-    /// Begins a loop of the run's code that is called; `value` says whether its text is one. InvalidOperation where there is none of the number that can be called, or its scope would lie deeper than the limit.
+    /// Begins a loop of the run's code that is called; `value` says whether its text is one. InvalidOperation
+    /// where there is none of the number that can be called, or its scope would lie deeper than the limit.
     fn recurse<H: Host>(
         &mut self,
         alloc: Global,
@@ -91,17 +89,11 @@ impl Machine<'_> {
             return Err(Halt::Fault(Error::from(ErrorKind::InvalidOperation)));
         }
         let limit = host.recursion_limit();
-        match self
-            .state
-            .open_loop(alloc, items, found.flags, number, limit)
-        {
-            Ok(()) => {
-                let floor = self.captures.depth();
-                self.run.call_loop(alloc, found.place, floor, value)?;
-                Ok(Flow::GoOn)
-            }
-            Err(error) => Err(Halt::Fault(error)),
-        }
+        self.state
+            .open_loop(alloc, items, found.flags, number, limit)?;
+        let floor = self.captures.depth();
+        self.run.call_loop(alloc, found.place, floor, value)?;
+        Ok(Flow::GoOn)
     }
 
     /// Replaces so many values by what the first one's method of a name answers to the others.
@@ -123,13 +115,10 @@ impl Machine<'_> {
         let Some((receiver, args)) = values.split_first() else {
             return Err(Halt::Fault(Error::from(ErrorKind::InvalidOperation)));
         };
-        match self
+        let value = self
             .state
-            .call_method(alloc, host, receiver, name.as_str(), args)
-        {
-            Ok(value) => self.replace(count, value),
-            Err(error) => Err(Halt::Fault(error)),
-        }
+            .call_method(alloc, host, receiver, name.as_str(), args)?;
+        self.replace(count, value)
     }
 
     /// Replaces so many values by one.

@@ -39,7 +39,8 @@ impl Machine<'_> {
         Ok(Flow::GoOn)
     }
 
-    /// Ends the innermost capture, and pushes its text, or undefined where that is dropped; stuck where it stood when the run or the innermost called loop began.
+    /// Ends the innermost capture, and pushes its text, or undefined where that is dropped; stuck where it
+    /// stood when the run or the innermost called loop began.
     pub(crate) fn do_end_capture(&mut self, alloc: Global) -> Result<Flow, Halt>
         requires { CanGoOn self.old.run }
         ensures { Silently (end_capture_of self.old) self.old self.new result }
@@ -65,15 +66,11 @@ impl Machine<'_> {
         let Some(value) = self.run.pop() else {
             return Err(Halt::Stuck);
         };
-        match escape_for(base.first, &value) {
-            Ok(escape) => {
-                self.run.push_escape(self.state.escape())?;
-                self.state.set_escape(escape);
-                self.run.advance();
-                Ok(Flow::GoOn)
-            }
-            Err(error) => Err(Halt::Fault(error)),
-        }
+        let chosen = escape_for(base.first, &value)?;
+        self.run.push_escape(self.state.escape())?;
+        self.state.set_escape(chosen);
+        self.run.advance();
+        Ok(Flow::GoOn)
     }
 
     /// Escapes as before the innermost open `autoescape`; stuck where the run, or the innermost called loop, has none open.

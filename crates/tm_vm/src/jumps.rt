@@ -26,10 +26,9 @@ impl Machine<'_> {
         let Some(value) = self.run.pop() else {
             return Err(Halt::Stuck);
         };
-        match truth(&value, host.undefined_behavior()) {
-            Ok(true) => self.run.advance(),
-            Ok(false) => self.run.jump(place),
-            Err(error) => return Err(Halt::Fault(error)),
+        match truth(&value, host.undefined_behavior())? {
+            true => self.run.advance(),
+            false => self.run.jump(place),
         }
         Ok(Flow::GoOn)
     }

@@ -15,7 +15,9 @@ use tm_tables::Host;
 use tm_values::Value;
 
 impl Machine<'_> {
-    /// Pops a value, and begins a loop over its items in a scope of its own, whose number is that of its place in the run's code. Its error where it can't be iterated, InvalidOperation where the scope would lie deeper than the limit.
+    /// Pops a value, and begins a loop over its items in a scope of its own, whose number is that of its
+    /// place in the run's code. Its error where it can't be iterated, InvalidOperation where the scope would
+    /// lie deeper than the limit.
     pub(crate) fn do_push_loop<H: Host>(
         &mut self,
         alloc: Global,
@@ -33,25 +35,16 @@ impl Machine<'_> {
         let Some(value) = self.run.pop() else {
             return Err(Halt::Stuck);
         };
-        match iterate(alloc, &value, &self.state, host.undefined_behavior()) {
-            Ok(items) => {
-                self.run.begin_loop()?;
-                match self
-                    .state
-                    .open_loop(alloc, items, flags, number, host.recursion_limit())
-                {
-                    Ok(()) => {
-                        self.run.advance();
-                        Ok(Flow::GoOn)
-                    }
-                    Err(error) => Err(Halt::Fault(error)),
-                }
-            }
-            Err(error) => Err(Halt::Fault(error)),
-        }
+        let items = iterate(alloc, &value, &self.state, host.undefined_behavior())?;
+        self.run.begin_loop()?;
+        self.state
+            .open_loop(alloc, items, flags, number, host.recursion_limit())?;
+        self.run.advance();
+        Ok(Flow::GoOn)
     }
 
-    /// Pushes the next item of the innermost loop, or goes to a place where none is left; stuck where the run has no loop open, or its scope isn't on top.
+    /// Pushes the next item of the innermost loop, or goes to a place where none is left; stuck where the run
+    /// has no loop open, or its scope isn't on top.
     pub(crate) fn do_iterate(&mut self, place: usize) -> Result<Flow, Halt>
         requires { CanGoOn self.old.run }
         ensures { Silently (iterate_of place self.old) self.old self.new result }
@@ -126,9 +119,7 @@ impl Machine<'_> {
         if !value {
             return Ok(Flow::GoOn);
         }
-        match self.push_captured(alloc) {
-            Ok(()) => Ok(Flow::GoOn),
-            Err(halt) => Err(halt),
-        }
+        self.push_captured(alloc)?;
+        Ok(Flow::GoOn)
     }
 }

@@ -166,13 +166,9 @@ impl<'env> Machine<'env> {
         let Some((_mode, text)) = self.captures.end() else {
             return Err(Halt::Stuck);
         };
-        match self.captured(alloc, text.as_str()) {
-            Ok(value) => match self.run.push(value) {
-                Ok(()) => Ok(()),
-                Err(error) => Err(Halt::Fault(error)),
-            },
-            Err(error) => Err(Halt::Fault(error)),
-        }
+        let value = self.captured(alloc, text.as_str())?;
+        self.run.push(value)?;
+        Ok(())
     }
 
     /// Begins a run of a stream over the same captures and state, and gives the run that waits.

@@ -1,7 +1,10 @@
 //! The instructions of operands, operators, lists and maps.
 ghost use Rattle.std.specs.Prelude.{◌≡◌, ◌<◌, ◌∷◌, ℕ, pos, Some, IfSome, IfNone};
 ghost use Rattle.tm_meaning.specs.Machine.{goes};
-ghost use Rattle.tm_meaning.specs.Instructions.{lookup_of, load_const_of, get_attr_of, unary_of, binary_of, compare_and_preserve_of, swap_of, dup_top_of, discard_top_of, get_item_of, slice_instruction_of, build_list_of, list_on, count_in, build_map_of, build_kwargs_of};
+ghost use Rattle.tm_meaning.specs.Instructions.{lookup_of, load_const_of, get_attr_of, unary_of, binary_of};
+ghost use Rattle.tm_meaning.specs.Instructions.{compare_and_preserve_of, swap_of, dup_top_of, discard_top_of};
+ghost use Rattle.tm_meaning.specs.Instructions.{get_item_of, slice_instruction_of, build_list_of, list_on, count_in};
+ghost use Rattle.tm_meaning.specs.Instructions.{build_map_of, build_kwargs_of};
 ghost use Rattle.tm_vm.specs.Answers.{CanGoOn, Silently};
 
 use crate::flow::Flow;
@@ -31,10 +34,9 @@ impl Machine<'_> {
         ensures { Silently (lookup_of (H.meaning host.now) name.now self.old)
             self.old self.new result }
     {
-        let value = match self.state.lookup(host, name) {
-            Ok(Some(value)) => value,
-            Ok(None) => Value::undefined(),
-            Err(error) => return Err(Halt::Fault(error)),
+        let value = match self.state.lookup(host, name)? {
+            Some(value) => value,
+            None => Value::undefined(),
         };
         self.push_next(value)
     }
@@ -62,10 +64,8 @@ impl Machine<'_> {
             return Err(Halt::Stuck);
         };
         let undefined = host.undefined_behavior();
-        match attribute(alloc, &value, name.as_str(), &self.state, undefined) {
-            Ok(found) => self.push_next(found),
-            Err(error) => Err(Halt::Fault(error)),
-        }
+        let found = attribute(alloc, &value, name.as_str(), &self.state, undefined)?;
+        self.push_next(found)
     }
 
     /// Replaces a value by what a prefix operator gives of it.
@@ -82,10 +82,8 @@ impl Machine<'_> {
         let Some(value) = self.run.pop() else {
             return Err(Halt::Stuck);
         };
-        match unary(alloc, operator, &value, host.undefined_behavior()) {
-            Ok(given) => self.push_next(given),
-            Err(error) => Err(Halt::Fault(error)),
-        }
+        let given = unary(alloc, operator, &value, host.undefined_behavior())?;
+        self.push_next(given)
     }
 
     /// Replaces two values by what an operator gives of them.
@@ -106,10 +104,8 @@ impl Machine<'_> {
             return Err(Halt::Stuck);
         };
         let behavior = host.undefined_behavior();
-        match binary(alloc, operator, &left, &right, &self.state, behavior) {
-            Ok(given) => self.push_next(given),
-            Err(error) => Err(Halt::Fault(error)),
-        }
+        let given = binary(alloc, operator, &left, &right, &self.state, behavior)?;
+        self.push_next(given)
     }
 
     /// Replaces two values by the second and, over it, what an operator gives of them.
@@ -130,13 +126,9 @@ impl Machine<'_> {
             return Err(Halt::Stuck);
         };
         let undefined = host.undefined_behavior();
-        match binary(alloc, operator, &left, &right, &self.state, undefined) {
-            Ok(given) => {
-                self.run.push(right)?;
-                self.push_next(given)
-            }
-            Err(error) => Err(Halt::Fault(error)),
-        }
+        let given = binary(alloc, operator, &left, &right, &self.state, undefined)?;
+        self.run.push(right)?;
+        self.push_next(given)
     }
 
     /// Turns the two topmost values round.
@@ -190,10 +182,8 @@ impl Machine<'_> {
             return Err(Halt::Stuck);
         };
         let undefined = host.undefined_behavior();
-        match item(alloc, &value, &key, &self.state, undefined) {
-            Ok(found) => self.push_next(found),
-            Err(error) => Err(Halt::Fault(error)),
-        }
+        let found = item(alloc, &value, &key, &self.state, undefined)?;
+        self.push_next(found)
     }
 
     /// Replaces a value, a start, a stop and a step by the value's slice.
@@ -215,10 +205,8 @@ impl Machine<'_> {
             return Err(Halt::Stuck);
         };
         let undefined = host.undefined_behavior();
-        match slice(alloc, &value, &start, &stop, &by, undefined) {
-            Ok(part) => self.push_next(part),
-            Err(error) => Err(Halt::Fault(error)),
-        }
+        let part = slice(alloc, &value, &start, &stop, &by, undefined)?;
+        self.push_next(part)
     }
 
     /// Replaces so many values by the list of them, or as many as the number on top of them counts.

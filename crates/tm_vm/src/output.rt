@@ -29,10 +29,8 @@ impl Machine<'_> {
         if !self.is_audible(base) {
             return Ok(Flow::GoOn);
         }
-        match self.captures.write_str(writer, text) {
-            Ok(()) => Ok(Flow::GoOn),
-            Err(halt) => Err(halt),
-        }
+        self.captures.write_str(writer, text)?;
+        Ok(Flow::GoOn)
     }
 
     /// Writes what is emitted for a value, where it is heard.
@@ -50,13 +48,9 @@ impl Machine<'_> {
         if !self.is_audible(base) {
             return Ok(Flow::GoOn);
         }
-        match self
-            .captures
-            .emit(writer, value, self.state.escape(), &self.state)
-        {
-            Ok(()) => Ok(Flow::GoOn),
-            Err(halt) => Err(halt),
-        }
+        self.captures
+            .emit(writer, value, self.state.escape(), &self.state)?;
+        Ok(Flow::GoOn)
     }
 
     /// Writes a text as it stands.
@@ -91,9 +85,7 @@ impl Machine<'_> {
         let Some(value) = self.run.pop() else {
             return Err(Halt::Stuck);
         };
-        if let Err(error) = self.state.check_value(alloc, host, &value) {
-            return Err(Halt::Fault(error));
-        }
+        self.state.check_value(alloc, host, &value)?;
         self.run.advance();
         self.write_value(base, &value, writer)
     }

@@ -55,7 +55,9 @@ impl Return {
     }
 }
 
-/// What is a run's own: its stream and the place in it, its operands, the escapes that its open `autoescape`s replaced, for each loop that it has open where that goes on if it was called, and how many captures stood when it or the innermost called loop began.
+/// What is a run's own: its stream and the place in it, its operands, the escapes that its open `autoescape`s
+/// replaced, for each loop that it has open where that goes on if it was called, and how many captures stood
+/// when it or the innermost called loop began.
 #[derive(Drop)]
 pub(crate) struct Run {
     pub(crate) stream: StreamId,
@@ -149,7 +151,8 @@ impl Run {
         self.loops.pop()
     }
 
-    /// Has the loop at a place open, which is called, and goes on behind that, over no operands and so many captures. Fails by OutOfMemory alone.
+    /// Has the loop at a place open, which is called, and goes on behind that, over no operands and so many
+    /// captures. Fails by OutOfMemory alone.
     pub(crate) fn call_loop(
         &mut self,
         alloc: Global,

@@ -33,14 +33,10 @@ impl Machine<'_> {
         let Some(value) = self.run.pop() else {
             return Err(Halt::Stuck);
         };
-        match unpack(alloc, &value, count, &self.state) {
-            Ok(items) => {
-                self.run.operands.push_each(&items)?;
-                self.run.advance();
-                Ok(Flow::GoOn)
-            }
-            Err(error) => Err(Halt::Fault(error)),
-        }
+        let items = unpack(alloc, &value, count, &self.state)?;
+        self.run.operands.push_each(&items)?;
+        self.run.advance();
+        Ok(Flow::GoOn)
     }
 
     /// Pops a namespace and a value below it, and gives the value to its attribute.
@@ -54,13 +50,9 @@ impl Machine<'_> {
         let Some(value) = self.run.pop() else {
             return Err(Halt::Stuck);
         };
-        match self.state.set_member(alloc, &object, name, value) {
-            Ok(()) => {
-                self.run.advance();
-                Ok(Flow::GoOn)
-            }
-            Err(error) => Err(Halt::Fault(error)),
-        }
+        self.state.set_member(alloc, &object, name, value)?;
+        self.run.advance();
+        Ok(Flow::GoOn)
     }
 
     /// Opens a scope; InvalidOperation where it would lie deeper than the limit.
@@ -68,13 +60,9 @@ impl Machine<'_> {
         requires { CanGoOn self.old.run }
         ensures { Opens (push_with_of (H.meaning host.now) self.old) self.old self.new result }
     {
-        match self.state.push_scope(alloc, host.recursion_limit()) {
-            Ok(()) => {
-                self.run.advance();
-                Ok(Flow::GoOn)
-            }
-            Err(error) => Err(Halt::Fault(error)),
-        }
+        self.state.push_scope(alloc, host.recursion_limit())?;
+        self.run.advance();
+        Ok(Flow::GoOn)
     }
 
     /// Leaves the innermost scope; stuck where the run didn't open it.

@@ -1,4 +1,4 @@
-use Rattle.std.proofs.Common.{◌≡◌, ℕ, suc, ◌∙◌, ap, sym, arith, length, reverse, slice_set, get_or}
+use Rattle.std.proofs.Common.{◌≡◌, suc, ◌∙◌, ap, arith, length, reverse, slice_set, get_or}
 use Rattle.tm_meaning.specs.World.{Scope, Scopes, without_locals}
 use Rattle.tm_tables.proofs.Scopes.{cleared-last}
 use Rattle.tm_tables.proofs.context.Context.clear_locals.Goals as goal

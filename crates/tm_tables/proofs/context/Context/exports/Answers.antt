@@ -1,4 +1,4 @@
-use Rattle.std.proofs.Common.{◌≡◌, ap, sym, ◌∙◌, Some, slice_get, subst}
+use Rattle.std.proofs.Common.{◌≡◌, ap, sym, ◌∙◌, slice_get, subst}
 use Rattle.tm_meaning.specs.World.{Scopes}
 use Rattle.tm_syntax.specs.Named.{texts_of}
 use Rattle.tm_values.specs.Answer.{OkOrOutOfMemory}

@@ -1,4 +1,4 @@
-use Rattle.std.proofs.Common.{◌≡◌, ℕ, suc, ◌∙◌, ap, sym, arith, length, reverse, slice_set, get_or}
+use Rattle.std.proofs.Common.{◌≡◌, suc, ◌∙◌, ap, arith, length, reverse, slice_set, get_or}
 use Rattle.std.proofs.lemmas.Result.{on_ok_weaker}
 use Rattle.tm_meaning.specs.World.{Scope, Scopes, stored_in}
 use Rattle.tm_tables.proofs.Scopes.{stored-last}

@@ -1,7 +1,7 @@
 use Rattle.std.proofs.Common.{◌≡◌, ◌<◌, ◌≤◌, ap, ◌∙◌, arith, length, get_or, slice_set}
 use Rattle.std.proofs.lemmas.Result.{on_ok_weaker}
 use Rattle.tm_state.proofs.Turns.{keeping_there}
-use Rattle.tm_state.proofs.state.changed_at.Goals as goal
+use Rattle.tm_state.proofs.records.changed_at.Goals as goal
 
 pub returns-clause-now : goal.returns-clause-now
 returns-clause-now c =

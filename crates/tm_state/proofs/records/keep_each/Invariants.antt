@@ -1,6 +1,6 @@
 use Rattle.std.proofs.Common.{◌≡◌}
 use Rattle.tm_syntax.specs.Named.{put_each}
-use Rattle.tm_state.proofs.state.keep_each.Given as goal
+use Rattle.tm_state.proofs.records.keep_each.Given as goal
 
 -- what is still to be kept leads to what is kept at the end
 abbrev pub invariant-loop-name : goal.invariant-loop-name

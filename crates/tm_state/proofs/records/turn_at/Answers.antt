@@ -1,6 +1,6 @@
 use Rattle.std.proofs.Common.{◌≡◌, ◌<◌, ◌≤◌, ap, ◌∙◌, arith, length, get_or, slice_set}
 use Rattle.tm_state.proofs.Turns.{turned_past, turned_there}
-use Rattle.tm_state.proofs.state.turn_at.Goals as goal
+use Rattle.tm_state.proofs.records.turn_at.Goals as goal
 
 pub returns-then-number-len : goal.returns-then-number-len
 returns-then-number-len c =
