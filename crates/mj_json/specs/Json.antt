@@ -33,9 +33,9 @@ abbrev pub members_read : List ℕ → Option (List (Val × Val))
 members_read bytes = option_and_then members_of (option_and_then as_object (read bytes))
 
 -- There was no memory, or what was asked for isn't there.
-abbrev pub IsRefused : {A : Type 0} → Refusal → Option A → Type 0
-IsRefused refusal stated = (refusal ≡ OutOfMemory) ⊎ ((refusal ≡ Usage) × (stated ≡ None))
+abbrev pub IsRefusal : {A : Type 0} → Refusal → Option A → Type 0
+IsRefusal refusal stated = (refusal ≡ OutOfMemory) ⊎ ((refusal ≡ Usage) × (stated ≡ None))
 
 -- What was converted is what was stated, or it was refused.
 abbrev pub IsConverted : {A : Type 0} → Result A Refusal → Option A → Type 0
-IsConverted result stated = MatchResult result (λ v. stated ≡ Some v) (λ e. IsRefused e stated)
+IsConverted result stated = MatchResult result (λ v. stated ≡ Some v) (λ e. IsRefusal e stated)

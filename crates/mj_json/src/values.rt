@@ -31,7 +31,7 @@ fn value_of(alloc: Global, json: &Json) -> Result<Value, Refusal>
 fn values_of(alloc: Global, items: &[Json]) -> Result<Vec<Value>, Refusal>
     ensures { MatchResult result
         (λ values. spec.values_of (items_view items.now) ≡ Some values.items)
-        (λ e. spec.IsRefused e (spec.values_of (items_view items.now))) }
+        (λ e. spec.IsRefusal e (spec.values_of (items_view items.now))) }
 {
     let mut values = Vec::with_capacity(alloc, items.len())?;
     for item in items {
@@ -48,7 +48,7 @@ pub(crate) fn members_of(
 ) -> Result<Vec<(Value, Value)>, Refusal>
     ensures { MatchResult result
         (λ pairs. spec.members_of (members_view members.now.entries) ≡ Some pairs.items)
-        (λ e. spec.IsRefused e (spec.members_of (members_view members.now.entries))) }
+        (λ e. spec.IsRefusal e (spec.members_of (members_view members.now.entries))) }
 {
     let mut pairs = Vec::with_capacity(alloc, members.len())?;
     for (key, member) in members.iter() {

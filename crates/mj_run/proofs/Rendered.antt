@@ -22,7 +22,7 @@ use Rattle.tm_meaning.specs.declared.stream.TemplateId.{TemplateId}
 use Rattle.tm_meaning.specs.declared.stream.TemplateId.TheVariants.{Entry}
 use Rattle.template_machine.specs.Environment.{EnvironmentValue, TemplateValue, IsTemplateOf, IsEntryOf, expected_environment, new_environment, greatest_limit}
 use Rattle.template_machine.specs.Renders.{CapturedValue, StateValue, answer_by, greatest, meaning, Rendered, as_meant, by_writer, by_memory}
-use Rattle.mj_words.specs.CommandLine.{Text, Asked}
+use Rattle.mj_words.specs.CommandLine.{Text, ArgumentsValue}
 use Rattle.mj_run.specs.Program.{Input, context_of, limit_of, template_in, meaning_of, IsMeant, IsRendered, IsBegun, IsFault, no_memory, write_failed, flush_failed, no_tree, meant}
 
 found_there : (name : Text) (t : Compiled) → find name (put name t []) ≡ Some t
@@ -60,22 +60,22 @@ module _ {C : Type 0} where
   abbrev empty : EnvironmentValue (Table C)
   empty = new_environment
 
-  abbrev settled : Asked → EnvironmentValue (Table C)
+  abbrev settled : ArgumentsValue → EnvironmentValue (Table C)
   settled a = record empty { fuel = a.fuel; limit = limit_of a.limit }
 
   -- what an environment is behind its settings
-  pub started : (a : Asked) (limit : ℕ) (first fuelled set : EnvironmentValue (Table C)) → first ≡ empty → fuelled ≡ record first { fuel = a.fuel } →
+  pub started : (a : ArgumentsValue) (limit : ℕ) (first fuelled set : EnvironmentValue (Table C)) → first ≡ empty → fuelled ≡ record first { fuel = a.fuel } →
       set ≡ record fuelled { limit = min limit greatest_limit } → min limit greatest_limit ≡ limit_of a.limit → set ≡ settled a
   started a limit first fuelled set start fuel limited same =
       limited ∙ (ap (λ (e : EnvironmentValue (Table C)). record e { limit = min limit greatest_limit }) (fuel ∙ ap (λ (e : EnvironmentValue (Table C)). record e { fuel = a.fuel }) start)
       ∙ ap (λ n. record empty { fuel = a.fuel; limit = n }) same)
 
   -- another template of the environment in which one was put alone
-  abbrev put_there_as : Asked → Compiled → Compiled → TemplateValue (Table C)
+  abbrev put_there_as : ArgumentsValue → Compiled → Compiled → TemplateValue (Table C)
   put_there_as a t u = template_over language_functions a.file (put a.file t []) a.fuel (limit_of a.limit) u
 
   -- a template that was put alone
-  abbrev put_alone : Asked → Compiled → TemplateValue (Table C)
+  abbrev put_alone : ArgumentsValue → Compiled → TemplateValue (Table C)
   put_alone a t = put_there_as a t t
 
   -- The template that is found means what the words and a tree of the source mean.

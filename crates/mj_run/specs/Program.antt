@@ -13,14 +13,14 @@ use Rattle.tm_syntax.specs.Named.{put}
 use Rattle.tm_compiler.specs.Spells.{Spells, SpellsNone}
 use Rattle.tm_meaning.specs.World.{Function}
 use Rattle.tm_meaning.specs.Meaning.{Outcome, chain_of}
-use Rattle.tm_output.specs.Counts.{Tally, one_more, AppendsBeginning}
+use Rattle.tm_output.specs.Counts.{Tally, saturating_increment, AppendsBeginning}
 use Rattle.tm_templates.specs.Defaults.{escape_by_name}
 use Rattle.tm_templates.specs.Templates.{Compiled}
 use Rattle.tm_meaning.specs.declared.stream.TemplateId.TheVariants.{Entry}
 use Rattle.template_machine.specs.Environment.{TemplateValue, expected_environment, greatest_limit}
 use Rattle.tm_tables.specs.Stated.{behind_language}
 use Rattle.template_machine.specs.Renders.{meaning}
-use Rattle.mj_words.specs.CommandLine.{Text, Asked, asked, asked_of}
+use Rattle.mj_words.specs.CommandLine.{Text, ArgumentsValue, asked, asked_of}
 use Rattle.mj_words.specs.declared.arguments.Arguments.{Arguments}
 use Rattle.mj_json.specs.Json.{members_read}
 
@@ -34,7 +34,7 @@ context_of members ts = map (pairs_of (put_all (members ++ each pair_of ts)))
 
 -- what a render is made of: what the words ask for, the members of the JSON object, and the template's source
 pub record Input : Type 0 where
-  pub asked : Asked
+  pub asked : ArgumentsValue
   pub members : List (Val × Val)
   pub source : Text
 
@@ -47,7 +47,7 @@ limit_of None = greatest_limit
 limit_of (Some n) = min n greatest_limit
 
 -- the one template of a new environment, which has the functions of the language, with the fuel and the limit of the words
-abbrev pub template_in : Asked → Compiled → TemplateValue (List Function)
+abbrev pub template_in : ArgumentsValue → Compiled → TemplateValue (List Function)
 template_in a t = record {
   environment = record (expected_environment (behind_language true [])) { templates = put a.file t []; fuel = a.fuel; limit = limit_of a.limit };
   id = Entry a.file;
@@ -55,7 +55,7 @@ template_in a t = record {
 }
 
 -- the template that a source and its tree are under the name of the file, which says how it is escaped
-abbrev pub template_of : Asked → Text → Tree → TemplateValue (List Function)
+abbrev pub template_of : ArgumentsValue → Text → Tree → TemplateValue (List Function)
 template_of a source tree = template_in a (record { name = a.file; source = source; escape = escape_by_name a.file; tree = tree })
 
 -- what a render of this tree means, as the first state: over the context, with the fuel of the words
@@ -101,14 +101,14 @@ IsNoObject of_file texts None = ⊥
 IsNoObject of_file texts (Some file) = of_file texts file None ⊎ ((bytes : Text) × of_file texts file (Some bytes) × (IsUtf8 bytes → members_read bytes ≡ None))
 
 -- The files of the words don't serve: the template's gives no text, or it gives one and the JSON file gives no object.
-abbrev pub IsUseless : {T : Type 0} → (T → Text → Option Text → Type 0) → (T → Option Text → Type 0) → T → Asked → Type 0
+abbrev pub IsUseless : {T : Type 0} → (T → Text → Option Text → Type 0) → (T → Option Text → Type 0) → T → ArgumentsValue → Type 0
 IsUseless of_file of_input texts a =
     IsUnread of_file of_input texts a.file ⊎ ((source : Text) × IsRead of_file of_input texts a.file (Some source) × IsNoObject of_file texts a.json)
 
 -- The words ask for nothing, or for files that don't serve.
 abbrev pub IsWrongUse : {T : Type 0} → (T → Text → Option Text → Type 0) → (T → Option Text → Type 0) → T → List Text → Type 0
 IsWrongUse of_file of_input texts words =
-    (asked [] None None None words ≡ None) ⊎ ((a : Asked) × (asked [] None None None words ≡ Some a) × IsUseless of_file of_input texts a)
+    (asked [] None None None words ≡ None) ⊎ ((a : ArgumentsValue) × (asked [] None None None words ≡ Some a) × IsUseless of_file of_input texts a)
 
 -- The source spells a tree whose render is done, and the writer got its text without a fault.
 abbrev pub IsRendered : {W : Type 0} → (W → Option Text) → Input → Tally W → Tally W → Type 0
@@ -126,7 +126,7 @@ pub data IsFault {W : Type 0} (contents : W → Option Text) (input : Input) (ch
   no_memory : is_want_of_memory chain ≡ true → new.failures ≡ old.failures → Keeps (contents old.writer) (contents new.writer) ⊎ IsBegun input (contents old.writer) (contents new.writer) →
       IsFault contents input chain old new
   -- a write failed, behind a beginning of the text
-  write_failed : chain ≡ WriteFailure ∷ [] → new.failures ≡ one_more old.failures → IsBegun input (contents old.writer) (contents new.writer) →
+  write_failed : chain ≡ WriteFailure ∷ [] → new.failures ≡ saturating_increment old.failures → IsBegun input (contents old.writer) (contents new.writer) →
       IsFault contents input chain old new
   -- the flush failed, behind the whole text
   flush_failed : chain ≡ WriteFailure ∷ [] → IsRendered contents input old new → IsFault contents input chain old new

@@ -9,7 +9,7 @@ use Rattle.tm_values.specs.Chain.{causes_of}
 use Rattle.tm_meaning.specs.Memory.{is_want_of_memory}
 use Rattle.tm_values.specs.declared.error.ErrorKind.{ErrorKind}
 use Rattle.tm_values.specs.declared.error.ErrorKind.TheVariants as kind
-use Rattle.tm_output.specs.Counts.{Tally, one_more, AppendsBeginning}
+use Rattle.tm_output.specs.Counts.{Tally, saturating_increment, AppendsBeginning}
 use Rattle.tm_parts.proofs.Pieces.{appends_then, beginning_longer, appends_then_beginning}
 use Rattle.mj_words.specs.CommandLine.{Text}
 use Rattle.mj_words.specs.Told.{line, causes, message, refusal_message, refusal_status, IsWritten, IsTold}
@@ -26,7 +26,7 @@ pub chain_of_cause : (cause : Option (Bor (List ErrorKind))) (chain : List Error
 chain_of_cause None chain h = sym h
 chain_of_cause (Some e) chain h = h.0
 
-risen : (n m : ℕ) → n < 2 ^ 64 - 1 → m ≡ one_more n → m ≡ n → ⊥
+risen : (n m : ℕ) → n < 2 ^ 64 - 1 → m ≡ saturating_increment n → m ≡ n → ⊥
 risen n m below count same = omega arith
 
 module _ {W : Type 0} (contents : W → Option Text) where
@@ -37,17 +37,17 @@ module _ {W : Type 0} (contents : W → Option Text) where
   pub written_then : {E : Type 0} (r : Result (Unit {0}) E) (old mid new : Tally W) (x y : Text) →
       Appends (contents old.writer) (contents mid.writer) x × (mid.failures ≡ old.failures) → IsWritten contents r mid new y → IsWritten contents r old new (x ++ y)
   written_then (Ok _) old mid new x y (first, same) (second, count) = (appends_then _ _ _ x y first second, count ∙ same)
-  written_then (Err e) old mid new x y (first, same) (second, count) = (appends_then_beginning _ _ _ x y first second, count ∙ ap one_more same)
+  written_then (Err e) old mid new x y (first, same) (second, count) = (appends_then_beginning _ _ _ x y first second, count ∙ ap saturating_increment same)
 
   -- what a write of a text answered
   pub text_written : {E : Type 0} (r answer : Result (Unit {0}) E) (old new : Tally W) (bytes x : Text) → OnOk r (Appends (contents old.writer) (contents new.writer) bytes) →
-      OnOk r (new.failures ≡ old.failures) → AppendsBeginning (contents old.writer) (contents new.writer) bytes → OnErr r (new.failures ≡ one_more old.failures) →
+      OnOk r (new.failures ≡ old.failures) → AppendsBeginning (contents old.writer) (contents new.writer) bytes → OnErr r (new.failures ≡ saturating_increment old.failures) →
       r ≡ answer → bytes ≡ x → IsWritten contents answer old new x
   text_written r answer old new bytes x whole same begun count is spelled =
       subst (λ t. IsWritten contents answer old new t) spelled (subst (λ a. IsWritten contents a old new bytes) is (written r whole same begun count))
     where
       written : {E : Type 0} (r : Result (Unit {0}) E) → OnOk r (Appends (contents old.writer) (contents new.writer) bytes) → OnOk r (new.failures ≡ old.failures) →
-          AppendsBeginning (contents old.writer) (contents new.writer) bytes → OnErr r (new.failures ≡ one_more old.failures) → IsWritten contents r old new bytes
+          AppendsBeginning (contents old.writer) (contents new.writer) bytes → OnErr r (new.failures ≡ saturating_increment old.failures) → IsWritten contents r old new bytes
       written (Ok _) whole same begun count = (whole, same)
       written (Err e) whole same begun count = (begun, count)
 

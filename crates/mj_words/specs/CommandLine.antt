@@ -10,7 +10,7 @@ abbrev pub Text : Type 0
 Text = List ℕ
 
 -- the texts by name in their order, the JSON file of the context, the fuel, how deep scopes may lie, and the template's file
-pub record Asked : Type 0 where
+pub record ArgumentsValue : Type 0 where
   pub texts : List (Text × Text)
   pub json : Option Text
   pub fuel : Option ℕ
@@ -37,17 +37,17 @@ definition word =
     if nat_lt (position_or_len (λ b. b == 61) word) (length word)
     then Some (before_first (λ b. b == 61) word, after_first (λ b. b == 61) word) else None
 
-abbrev pub with_number : Option ℕ → (ℕ → Option Asked) → Option Asked
+abbrev pub with_number : Option ℕ → (ℕ → Option ArgumentsValue) → Option ArgumentsValue
 with_number None go_on = None
 with_number (Some n) go_on = go_on n
 
-abbrev pub with_text : Option (Text × Text) → (Text × Text → Option Asked) → Option Asked
+abbrev pub with_text : Option (Text × Text) → (Text × Text → Option ArgumentsValue) → Option ArgumentsValue
 with_text None go_on = None
 with_text (Some p) go_on = go_on p
 
 -- what words ask for, behind others that gave these texts, this JSON file, this fuel and this limit: options, and then one file
 abbrev mutual
-  pub asked : List (Text × Text) → Option Text → Option ℕ → Option ℕ → List Text → Option Asked
+  pub asked : List (Text × Text) → Option Text → Option ℕ → Option ℕ → List Text → Option ArgumentsValue
   asked texts json fuel limit [] = None
   asked texts json fuel limit (word ∷ words) =
       if is_option word then
@@ -61,22 +61,22 @@ abbrev mutual
       else None
 
   -- the same behind `--json`, whose file stands in place of an earlier one, whatever its name is
-  pub asked_json : List (Text × Text) → Option ℕ → Option ℕ → List Text → Option Asked
+  pub asked_json : List (Text × Text) → Option ℕ → Option ℕ → List Text → Option ArgumentsValue
   asked_json texts fuel limit [] = None
   asked_json texts fuel limit (word ∷ words) = asked texts (Some word) fuel limit words
 
   -- the same behind `--fuel`, whose number stands in place of an earlier one
-  pub asked_fuel : List (Text × Text) → Option Text → Option ℕ → List Text → Option Asked
+  pub asked_fuel : List (Text × Text) → Option Text → Option ℕ → List Text → Option ArgumentsValue
   asked_fuel texts json limit [] = None
   asked_fuel texts json limit (word ∷ words) = with_number (number word) (λ n. asked texts json (Some n) limit words)
 
   -- the same behind `--limit`
-  pub asked_limit : List (Text × Text) → Option Text → Option ℕ → List Text → Option Asked
+  pub asked_limit : List (Text × Text) → Option Text → Option ℕ → List Text → Option ArgumentsValue
   asked_limit texts json fuel [] = None
   asked_limit texts json fuel (word ∷ words) = with_number (number word) (λ n. asked texts json fuel (Some n) words)
 
   -- the same behind `-D`
-  pub asked_text : List (Text × Text) → Option Text → Option ℕ → Option ℕ → List Text → Option Asked
+  pub asked_text : List (Text × Text) → Option Text → Option ℕ → Option ℕ → List Text → Option ArgumentsValue
   asked_text texts json fuel limit [] = None
   asked_text texts json fuel limit (word ∷ words) = with_text (definition word) (λ p. asked (texts ++ (p ∷ [])) json fuel limit words)
 
@@ -85,9 +85,9 @@ abbrev pub plain : Bor Text × Bor Text → Text × Text
 plain p = (p.0.now, p.1.now)
 
 -- what arguments ask for
-abbrev pub asked_of : Arguments → Asked
+abbrev pub asked_of : Arguments → ArgumentsValue
 asked_of a = record { texts = map plain a.texts.items; json = option_map (λ p. p.now) a.json; fuel = a.fuel; limit = a.limit; file = a.file.now }
 
 -- what the words behind these arguments ask for
-abbrev pub asked_behind : Arguments → List Text → Option Asked
+abbrev pub asked_behind : Arguments → List Text → Option ArgumentsValue
 asked_behind a words = asked (map plain a.texts.items) (option_map (λ p. p.now) a.json) a.fuel a.limit words

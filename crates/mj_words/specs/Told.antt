@@ -4,7 +4,7 @@ use Rattle.std.specs.Io.KnownBytes.{Appends}
 use Rattle.tm_values.specs.Name.{kind_name}
 use Rattle.tm_values.specs.declared.error.ErrorKind.{ErrorKind}
 use Rattle.tm_values.specs.declared.error.ErrorKind.TheVariants as kind
-use Rattle.tm_output.specs.Counts.{Tally, one_more, AppendsBeginning}
+use Rattle.tm_output.specs.Counts.{Tally, saturating_increment, AppendsBeginning}
 use Rattle.mj_words.specs.CommandLine.{Text}
 use Rattle.mj_words.specs.declared.arguments.Refusal.{Refusal}
 use Rattle.mj_words.specs.declared.arguments.Refusal.TheVariants.{Usage, OutOfMemory}
@@ -39,7 +39,7 @@ abbrev pub IsWritten : {W E : Type 0} → (W → Option Text) → Result (Unit {
 IsWritten contents result old new text =
     MatchResult result
     (λ _. Appends (contents old.writer) (contents new.writer) text × (new.failures ≡ old.failures))
-    (λ _. AppendsBeginning (contents old.writer) (contents new.writer) text × (new.failures ≡ one_more old.failures))
+    (λ _. AppendsBeginning (contents old.writer) (contents new.writer) text × (new.failures ≡ saturating_increment old.failures))
 
 -- The writer got a beginning of the text, and all of it where its count of faults didn't rise; a count that stands at its greatest value tells nothing.
 abbrev pub IsTold : {W : Type 0} → (W → Option Text) → Tally W → Tally W → Text → Type 0

@@ -18,8 +18,8 @@ use Rattle.tm_parts.specs.declared.halt.Halt.TheVariants as halt
 use Rattle.tm_simulation.proofs.Follow.{Bed, air, inside}
 use Rattle.tm_simulation.proofs.Forms.{end_by, end_of}
 use Rattle.tm_simulation.proofs.Simulation.{render_runs}
-use Rattle.tm_vm.specs.Answers.{HaltsAs, Comes}
-use Rattle.tm_vm.specs.Nested.{Begins}
+use Rattle.tm_vm.specs.Answers.{HaltsAs, ReachesEnd}
+use Rattle.tm_vm.specs.Nested.{WroteBeginning}
 use Rattle.template_machine.specs.Renders.{answer_by, answer_of, IsFresh, IsRun, Ran, run_as_meant, run_by_writer, run_by_memory}
 
 -- ---------------------------------------------------------------- ends
@@ -100,7 +100,7 @@ module _ (p : Program) (trees : Trees) (compiled : IsCompiled trees p) (captures
       (subst (λ o. Goes (new_capture true ∷ []) o) (heard_inside m.ending m.text m.world) (render_runs p trees compiled (inside true [] []) w))
 
   abbrev ComesTo : End → Type 0
-  ComesTo e = Comes p (base_of true captures w) (start (whole w.stream) captures w) told now e
+  ComesTo e = ReachesEnd p (base_of true captures w) (start (whole w.stream) captures w) told now e
 
   written : (text : List ℕ) → text ≡ put_out captures m.text → Appends told now text → Appends told now (put_out captures m.text)
   written text same appended = subst (λ t. Appends told now t) same appended
@@ -110,7 +110,7 @@ module _ (p : Program) (trees : Trees) (compiled : IsCompiled trees p) (captures
       let same = finished_is m.ending captures new text m.text left m.world (one_end reaches (reached fresh)) in
       run_as_meant (same.1.0 ∙ ap (λ x. Ok x) (sym second), first ∙ same.1.1) (written text same.0 appended) counted
 
-  pub run_halted : (why : Halt) → IsFresh captures → HaltsAs why left ComesTo → Begins p (base_of true captures w) (start (whole w.stream) captures w) told now →
+  pub run_halted : (why : Halt) → IsFresh captures → HaltsAs why left ComesTo → WroteBeginning p (base_of true captures w) (start (whole w.stream) captures w) told now →
       count ≡ faults_after {A = Unit {0}} (Err why) faults → Ran m (Err why) captures told now faults count
   run_halted why fresh ends begun counted = by_halt why ends counted
     where

@@ -9,8 +9,8 @@ use Rattle.tm_meaning.specs.Calls.{whole}
 use Rattle.tm_meaning.specs.Machine.{Capture, Config, Finished, Program, base_of, start}
 use Rattle.tm_parts.specs.Halts.{faults_after}
 use Rattle.tm_parts.specs.declared.halt.Halt.{Halt}
-use Rattle.tm_vm.specs.Answers.{program, HaltsAs, Comes}
-use Rattle.tm_vm.specs.Nested.{Begins}
+use Rattle.tm_vm.specs.Answers.{program, HaltsAs, ReachesEnd}
+use Rattle.tm_vm.specs.Nested.{WroteBeginning}
 use Rattle.tm_meaning.specs.declared.stream.TemplateId.TheVariants.{Own}
 use Rattle.template_machine.specs.Environment.{IsTemplateOf, IsMadeIn, EnvironmentValue, TemplateValue, host_of, trees, code}
 use Rattle.template_machine.specs.Renders.{meaning, meaning_from, IsFresh, Ran, RenderedText, RenderedSource, source_rendered, IsUnnumbered}
@@ -21,20 +21,20 @@ module _ {O : Type 0} (functions : O → List Function) (t r : TemplateValue O) 
   abbrev p : Program
   p = program (host_of functions r) (code r)
 
-  pub over_done : (parts : List Capture × World) → parts.0 ≡ new → parts.1 ≡ left → Comes p (base_of true config.captures config.world) config told now (Finished new left) → count ≡ faults →
+  pub over_done : (parts : List Capture × World) → parts.0 ≡ new → parts.1 ≡ left → ReachesEnd p (base_of true config.captures config.world) config told now (Finished new left) → count ≡ faults →
       Ran (meaning_from functions t w) (Ok parts) captures told now faults count
   over_done parts first second comes counted =
       subst (λ (v : TemplateValue O). Ran (meaning_from functions v w) (Ok parts) captures told now faults count) same
       (run_done p (trees r) (λ s. refl) captures new w left told now faults count parts fresh first second
-      (subst (λ (c : Config). Comes p (base_of true c.captures c.world) c told now (Finished new left)) begins comes) counted)
+      (subst (λ (c : Config). ReachesEnd p (base_of true c.captures c.world) c told now (Finished new left)) begins comes) counted)
 
-  pub over_halted : (why : Halt) → HaltsAs why left (Comes p (base_of true config.captures config.world) config told now) → Begins p (base_of true config.captures config.world) config told now →
+  pub over_halted : (why : Halt) → HaltsAs why left (ReachesEnd p (base_of true config.captures config.world) config told now) → WroteBeginning p (base_of true config.captures config.world) config told now →
       count ≡ faults_after {A = Unit {0}} (Err why) faults → Ran (meaning_from functions t w) (Err why) captures told now faults count
   over_halted why ends begun counted =
       subst (λ (v : TemplateValue O). Ran (meaning_from functions v w) (Err why) captures told now faults count) same
       (run_halted p (trees r) (λ s. refl) captures new w left told now faults count why fresh
-      (subst (λ (c : Config). HaltsAs why left (Comes p (base_of true c.captures c.world) c told now)) begins ends)
-      (subst (λ (c : Config). Begins p (base_of true c.captures c.world) c told now) begins begun) counted)
+      (subst (λ (c : Config). HaltsAs why left (ReachesEnd p (base_of true c.captures c.world) c told now)) begins ends)
+      (subst (λ (c : Config). WroteBeginning p (base_of true c.captures c.world) c told now) begins begun) counted)
 
 -- a source that was rendered
 pub source_done : {O : Type 0} (functions : O → List Function) (e : EnvironmentValue O) (t : TemplateValue O) (name source : List ℕ) (old new : ℕ) (context : Val) (result : Result (String Global) (List ErrorKind)) →

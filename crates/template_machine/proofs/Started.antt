@@ -19,8 +19,8 @@ use Rattle.tm_meaning.specs.Tree.{template_of}
 use Rattle.tm_templates.specs.Templates.{tree_of}
 use Rattle.template_machine.specs.Environment.{EnvironmentValue, TemplateValue, host_of, meant}
 use Rattle.template_machine.specs.Held.{held_id, held_template, IsHeldOf}
-use Rattle.template_machine.specs.declared.template.Held.{Held}
-use Rattle.template_machine.specs.declared.template.Held.TheVariants.{Lent, Owned}
+use Rattle.template_machine.specs.declared.template.TemplateRef.{TemplateRef}
+use Rattle.template_machine.specs.declared.template.TemplateRef.TheVariants.{Lent, Owned}
 use Rattle.template_machine.proofs.Meant.{template_meant}
 use Rattle.template_machine.specs.Renders.{first}
 
@@ -29,7 +29,7 @@ layered_each t [] = refl
 layered_each t (b ∷ bs) = ap (λ ls. (b.0, record { templates = t ∷ []; place = 0 }) ∷ ls) (layered_each t bs)
 
 -- A template that is held is what its environment means by it.
-pub held_meant : {O : Type 0} (e : EnvironmentValue O) (h : Held) → IsHeldOf e.templates h →
+pub held_meant : {O : Type 0} (e : EnvironmentValue O) (h : TemplateRef) → IsHeldOf e.templates h →
     meant (record { environment = e; id = held_id h; template = held_template h }) (held_id h) ≡ held_template h
 held_meant e (Lent x t) is = rw is refl
 held_meant e (Owned t) is = refl

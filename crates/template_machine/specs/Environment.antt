@@ -10,7 +10,7 @@ use Rattle.tm_delimiters.specs.Syntax.{Syntax, default_syntax}
 use Rattle.tm_meaning.specs.declared.stream.StreamId.{StreamId}
 use Rattle.tm_meaning.specs.declared.stream.TemplateId.{TemplateId}
 use Rattle.tm_meaning.specs.declared.stream.TemplateId.TheVariants.{Own, Entry}
-use Rattle.tm_meaning.specs.World.{Bindings, Host, Template, Function, or_is}
+use Rattle.tm_meaning.specs.World.{Bindings, HostValue, Template, Function, or_is}
 use Rattle.tm_meaning.specs.Tree.{TemplateTree, Trees, template_of, trees_of}
 use Rattle.tm_tables.specs.Stated.{Table, language_functions, with_object, next_number}
 use Rattle.tm_templates.specs.Templates.{Compiled, IsTemplate, tree_of}
@@ -90,7 +90,7 @@ abbrev pub templates_in : Named Compiled → Named Template
 templates_in ts = each (λ (t : List ℕ × Compiled). (t.0, template_of (tree_of t.1))) ts
 
 -- What a template's environment gives, where these are the functions of objects.
-abbrev pub host_of : {O : Type 0} → (O → List Function) → TemplateValue O → Host
+abbrev pub host_of : {O : Type 0} → (O → List Function) → TemplateValue O → HostValue
 host_of functions t = record {
   own = template_of (tree_of t.template);
   templates = templates_in t.environment.templates;

@@ -5,10 +5,10 @@ use Rattle.tm_syntax.specs.Named.{Named, find}
 use Rattle.tm_meaning.specs.declared.stream.TemplateId.{TemplateId}
 use Rattle.tm_meaning.specs.declared.stream.TemplateId.TheVariants.{Own, Entry}
 use Rattle.tm_templates.specs.Templates.{Compiled}
-use Rattle.template_machine.specs.declared.template.Held.{Held}
-use Rattle.template_machine.specs.declared.template.Held.TheVariants.{Lent, Owned}
+use Rattle.template_machine.specs.declared.template.TemplateRef.{TemplateRef}
+use Rattle.template_machine.specs.declared.template.TemplateRef.TheVariants.{Lent, Owned}
 
-abbrev pub held_template : Held → Compiled
+abbrev pub held_template : TemplateRef → Compiled
 held_template (Lent x t) = t.now
 held_template (Owned t) = t.value
 
@@ -17,11 +17,11 @@ abbrev pub entry_id : Option (Bor (List ℕ)) → TemplateId
 entry_id None = Own
 entry_id (Some x) = Entry x.now
 
-abbrev pub held_id : Held → TemplateId
+abbrev pub held_id : TemplateRef → TemplateId
 held_id (Lent x t) = Entry x.now
 held_id (Owned t) = Own
 
 -- What is lent is what the environment has at the name.
-abbrev pub IsHeldOf : Named Compiled → Held → Type 0
+abbrev pub IsHeldOf : Named Compiled → TemplateRef → Type 0
 IsHeldOf ts (Lent x t) = find x.now ts ≡ Some t.now
 IsHeldOf ts (Owned t) = Unit {0}

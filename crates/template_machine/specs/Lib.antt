@@ -1,3 +1,3 @@
 pub mod Environment
-pub mod Held
+pub mod TemplateRef
 pub mod Renders

@@ -12,7 +12,7 @@ use Rattle.tm_meaning.specs.World.{Function, World}
 use Rattle.tm_meaning.specs.declared.stream.TemplateId.TheVariants.{Own}
 use Rattle.tm_meaning.specs.Machine.{Capture, new_capture, put_in, put_out}
 use Rattle.tm_meaning.specs.Meaning.{Ending, fault, Outcome, first_world, rendered}
-use Rattle.tm_output.specs.Counts.{one_more, AppendsBeginning}
+use Rattle.tm_output.specs.Counts.{saturating_increment, AppendsBeginning}
 use Rattle.tm_parts.specs.declared.halt.Halt.{Halt}
 use Rattle.tm_parts.specs.declared.halt.Halt.TheVariants as halt
 use Rattle.tm_templates.specs.Templates.{Compiled, IsRefused}
@@ -69,22 +69,22 @@ IsEnd t (Ok c) m = (c.output ≡ []) × (c.state.template ≡ t) × (answer_of m
 IsEnd t (Err answer) m = answer_of m ≡ Err answer
 
 -- The answer is the text that was meant, or an error of its chain.
-abbrev pub IsText : Result (String Global) (List ErrorKind) → Outcome → Type 0
-IsText (Ok text) m = (string_bytes text ≡ m.text) × (w : World) × (answer_of m ≡ Ok w)
-IsText (Err answer) m = answer_of m ≡ Err answer
+abbrev pub IsRenderedText : Result (String Global) (List ErrorKind) → Outcome → Type 0
+IsRenderedText (Ok text) m = (string_bytes text ≡ m.text) × (w : World) × (answer_of m ≡ Ok w)
+IsRenderedText (Err answer) m = answer_of m ≡ Err answer
 
 -- How a render into a writer ended. The writer was given what stood in `told` before and `now` after, and its count of faults was `faults` and is `count`.
 pub data Rendered {O : Type 0} (t : TemplateValue O) (m : Outcome) (result : Result (CapturedValue (StateValue O)) (List ErrorKind)) (told now : Option (List ℕ)) (faults count : ℕ) : Type 0 where
   -- as was meant: the answer is the end that was meant, and the writer got the whole text
   as_meant : IsEnd t result m → Appends told now m.text → count ≡ faults → Rendered t m result told now faults count
   -- the writer failed, behind a beginning of the text
-  by_writer : result ≡ Err (WriteFailure ∷ []) → AppendsBeginning told now m.text → count ≡ one_more faults → Rendered t m result told now faults count
+  by_writer : result ≡ Err (WriteFailure ∷ []) → AppendsBeginning told now m.text → count ≡ saturating_increment faults → Rendered t m result told now faults count
   -- no memory was found, behind a beginning of the text
   by_memory : IsMemory result → AppendsBeginning told now m.text → count ≡ faults → Rendered t m result told now faults count
 
 -- How a render to a text ended: as was meant, or since no memory was found.
 pub data RenderedText (m : Outcome) (result : Result (String Global) (List ErrorKind)) : Type 0 where
-  text_as_meant : IsText result m → RenderedText m result
+  text_as_meant : IsRenderedText result m → RenderedText m result
   text_by_memory : IsMemory result → RenderedText m result
 
 -- How a render of a source ended, whose template has this name: refused, since it spells no template or no memory was found, and no state was numbered; or rendered, as the template that it spells.
@@ -113,6 +113,6 @@ IsRun (Err _) old m = ⊥
 -- How a run over captures ended, in the same three ways.
 pub data Ran (m : Outcome) (result : Result (List Capture × World) Halt) (old : List Capture) (told now : Option (List ℕ)) (faults count : ℕ) : Type 0 where
   run_as_meant : IsRun result old m → Appends told now (put_out old m.text) → count ≡ faults → Ran m result old told now faults count
-  run_by_writer : result ≡ Err halt.Writer → AppendsBeginning told now (put_out old m.text) → count ≡ one_more faults → Ran m result old told now faults count
+  run_by_writer : result ≡ Err halt.Writer → AppendsBeginning told now (put_out old m.text) → count ≡ saturating_increment faults → Ran m result old told now faults count
   run_by_memory : (chain : List ErrorKind) → result ≡ Err (halt.Fault chain) → is_want_of_memory chain ≡ true →
       AppendsBeginning told now (put_out old m.text) → count ≡ faults → Ran m result old told now faults count

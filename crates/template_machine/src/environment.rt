@@ -11,7 +11,7 @@ ghost use Rattle.template_machine.specs.Renders.{greatest, IsUnnumbered, Rendere
 ghost use Rattle.template_machine.specs.Environment.{IsTemplateOf, IsEntryOf, IsMadeIn, empty_environment, new_environment, language_globals, with_function, with_global, greatest_limit};
 
 use crate::ids::StateIds;
-use crate::template::{Held, TemplateOf};
+use crate::template::{TemplateRef, TemplateOf};
 use std::alloc::Global;
 use std::marker::Model;
 use tm_compiler::SyntaxConfig;
@@ -127,7 +127,7 @@ impl<'source, O: Drop> EnvironmentOf<'source, O> {
             × (find name.now self.now.templates ≡ None)) }
     {
         match self.templates.entry(name) {
-            Some((name, compiled)) => Ok(TemplateOf::new(self, Held::Lent(name, compiled))),
+            Some((name, compiled)) => Ok(TemplateOf::new(self, TemplateRef::Lent(name, compiled))),
             None => Err(Error::from(ErrorKind::TemplateNotFound)),
         }
     }
@@ -154,7 +154,7 @@ impl<'source, O: Drop> EnvironmentOf<'source, O> {
     {
         let source = Source::Lent(source);
         match CompiledTemplate::new(self.alloc, name, source, &self.config) {
-            Ok(compiled) => Ok(TemplateOf::new(self, Held::Owned(Box::new(self.alloc, compiled)?))),
+            Ok(compiled) => Ok(TemplateOf::new(self, TemplateRef::Owned(Box::new(self.alloc, compiled)?))),
             Err(error) => Err(error),
         }
     }

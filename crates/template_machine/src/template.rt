@@ -20,7 +20,7 @@ use tm_vm::Machine;
 
 /// A compiled template: the environment's, or one of its own.
 #[derive(Drop)]
-pub(crate) enum Held<'env, 'source> {
+pub(crate) enum TemplateRef<'env, 'source> {
     /// The environment's entry of a name.
     Lent(&'env Name, &'env CompiledTemplate<'source>),
     /// Its own, boxed: whoever owns a template would else have all of its layout in its proof.
@@ -30,7 +30,7 @@ pub(crate) enum Held<'env, 'source> {
 /// A template of an environment.
 pub struct TemplateOf<'env, 'source, O: Drop> {
     environment: &'env EnvironmentOf<'source, O>,
-    held: Held<'env, 'source>,
+    held: TemplateRef<'env, 'source>,
 }
 
 // By hand, as the environment's.
@@ -71,7 +71,7 @@ impl<'env, 'source, O: Drop> TemplateOf<'env, 'source, O> {
     /// A template of an environment.
     pub(crate) fn new(
         environment: &'env EnvironmentOf<'source, O>,
-        held: Held<'env, 'source>,
+        held: TemplateRef<'env, 'source>,
     ) -> TemplateOf<'env, 'source, O>
         requires { IsHeldOf environment.now.templates held }
         ensures { result ≡ record {
@@ -102,8 +102,8 @@ impl<'env, 'source, O: Drop> TemplateOf<'env, 'source, O> {
         ensures { result.now ≡ self.now.template }
     {
         match &self.held {
-            Held::Lent(_name, compiled) => compiled,
-            Held::Owned(compiled) => &**compiled,
+            TemplateRef::Lent(_name, compiled) => compiled,
+            TemplateRef::Owned(compiled) => &**compiled,
         }
     }
 
@@ -112,8 +112,8 @@ impl<'env, 'source, O: Drop> TemplateOf<'env, 'source, O> {
         ensures { entry_id result ≡ self.now.id }
     {
         match &self.held {
-            Held::Lent(name, _compiled) => Some(name),
-            Held::Owned(_compiled) => None,
+            TemplateRef::Lent(name, _compiled) => Some(name),
+            TemplateRef::Owned(_compiled) => None,
         }
     }
 

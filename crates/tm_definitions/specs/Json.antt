@@ -16,12 +16,12 @@ abbrev pub key_bytes : Val → List ℕ
 key_bytes k = unwrap_or (text_in k) []
 
 -- what namespaces are, by state and number
-abbrev pub Inside : Type 0
-Inside = ℕ → ℕ → json.Data
+abbrev pub NamespaceData : Type 0
+NamespaceData = ℕ → ℕ → json.Data
 
 abbrev mutual
   -- macros, functions and loops are refused, and stand as null
-  pub data_of : Inside → Val → json.Data
+  pub data_of : NamespaceData → Val → json.Data
   data_of inside (undefined silent) = json.null
   data_of inside none = json.null
   data_of inside (boolean truth) = json.boolean truth
@@ -36,38 +36,38 @@ abbrev mutual
   data_of inside (loop s n) = json.null
   data_of inside (namespace s n) = inside s n
 
-  pub items_of : Inside → Vals → json.Items
+  pub items_of : NamespaceData → Vals → json.Items
   items_of inside no_vals = json.no_items
   items_of inside (val v vs) = json.item (data_of inside v) (items_of inside vs)
 
-  pub members_of : Inside → Pairs → json.Members
+  pub members_of : NamespaceData → Pairs → json.Members
   members_of inside no_pairs = json.no_members
   members_of inside (pair k v ps) =
       json.member (key_bytes k) (data_of inside v) (members_of inside ps)
 
-abbrev pub object_data : Inside → Pairs → json.Data
+abbrev pub object_data : NamespaceData → Pairs → json.Data
 object_data inside ps = json.object (members_of inside ps)
 
 -- a namespace is the object of what it holds
-abbrev pub namespace_data : RecordData → ℕ → Inside
+abbrev pub namespace_data : RecordData → ℕ → NamespaceData
 namespace_data r zero s n = json.null
 namespace_data r (suc levels) s n =
     entered (namespace_at r s n) json.null (object_data (namespace_data r levels))
 
 -- the text of a list, of an item with its comma, of a map, of a key and of a member with its comma
-abbrev pub array_text : Inside → Vals → List ℕ
+abbrev pub array_text : NamespaceData → Vals → List ℕ
 array_text inside vs = compact_text (json.array (items_of inside vs))
 
-abbrev pub item_json : Inside → Bool → Val → List ℕ
+abbrev pub item_json : NamespaceData → Bool → Val → List ℕ
 item_json inside later v = comma_if later ++ compact_text (data_of inside v)
 
-abbrev pub object_text : Inside → Pairs → List ℕ
+abbrev pub object_text : NamespaceData → Pairs → List ℕ
 object_text inside ps = compact_text (object_data inside ps)
 
 abbrev pub key_text : Val → List ℕ
 key_text k = quoted (key_bytes k)
 
-abbrev pub member_json : Inside → Bool → Val × Val → List ℕ
+abbrev pub member_json : NamespaceData → Bool → Val × Val → List ℕ
 member_json inside later p =
     comma_if later ++ (key_text p.0 ++ ((58 ∷ []) ++ compact_text (data_of inside p.1)))
 

@@ -1,7 +1,7 @@
 -- What `dict` and `namespace` answer: a map and keywords.
 use Rattle.std.specs.Prelude.{◌≡◌, Bool, List, [], ◌∷◌, ◌++◌, Option, None, Some, Ok, slice_get, is_some}
 use Rattle.std.specs.List.{filter}
-use Rattle.tm_definitions.specs.Ranges.{given, no_more}
+use Rattle.tm_definitions.specs.Ranges.{given, at_most_arguments}
 use Rattle.tm_values.specs.Answer.{Answer, invalid}
 use Rattle.tm_values.specs.Map.{IsMap, put_all, put_each}
 use Rattle.tm_values.specs.Records.{RecordData, namespace_at}
@@ -47,7 +47,7 @@ base_of r (Some _) = invalid
 abbrev pub dict_of : RecordData → List Val → Answer (List (Val × Val))
 dict_of r vs =
     given (base_of r (slice_get (plain_of vs) 0)) (λ ps.
-    no_more 1 (plain_of vs) (Ok (put_all (ps ++ keywords_of vs))))
+    at_most_arguments 1 (plain_of vs) (Ok (put_all (ps ++ keywords_of vs))))
 
 -- whether the key is a text
 abbrev pub has_text_key : Val × Val → Bool

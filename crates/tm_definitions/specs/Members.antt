@@ -53,13 +53,13 @@ at_item l i of_loop.PrevItem = or_undefined l.previous
 at_item l i of_loop.NextItem = or_undefined l.following
 
 -- before the first item all are undefined
-abbrev pub at_place : LoopData → Option ℕ → LoopAttribute → Val
-at_place l None a = undefined false
-at_place l (Some i) a = at_item l i a
+abbrev pub loop_attribute_at : LoopData → Option ℕ → LoopAttribute → Val
+loop_attribute_at l None a = undefined false
+loop_attribute_at l (Some i) a = at_item l i a
 
 abbrev pub named_attribute : LoopData → Option LoopAttribute → Val
 named_attribute l None = undefined false
-named_attribute l (Some a) = at_place l l.place a
+named_attribute l (Some a) = loop_attribute_at l l.place a
 
 -- an attribute of a loop whose record is there
 abbrev pub loop_member : Option LoopData → List ℕ → Answer Val

@@ -19,12 +19,12 @@ comma_after false = []
 comma_after true = codes ", "
 
 -- what namespaces are printed as, by state and number
-abbrev pub Inside : Type 0
-Inside = ℕ → ℕ → List ℕ
+abbrev pub NamespaceTexts : Type 0
+NamespaceTexts = ℕ → ℕ → List ℕ
 
 abbrev mutual
   -- within a list or a map
-  pub inner : RecordData → Inside → Val → List ℕ
+  pub inner : RecordData → NamespaceTexts → Val → List ℕ
   inner r inside (undefined silent) = codes "undefined"
   inner r inside none = codes "none"
   inner r inside (boolean truth) = truth_text truth
@@ -40,30 +40,30 @@ abbrev mutual
   inner r inside (namespace s n) = inside s n
 
   -- the items and the closing bracket; a comma stands before each but the first of a list
-  pub inner_items : RecordData → Inside → Bool → Vals → List ℕ
+  pub inner_items : RecordData → NamespaceTexts → Bool → Vals → List ℕ
   inner_items r inside later no_vals = codes "]"
   inner_items r inside later (val v vs) =
       (comma_after later ++ inner r inside v) ++ inner_items r inside true vs
 
   -- the pairs and the closing brace
-  pub inner_pairs : RecordData → Inside → Bool → Pairs → List ℕ
+  pub inner_pairs : RecordData → NamespaceTexts → Bool → Pairs → List ℕ
   inner_pairs r inside later no_pairs = codes "}"
   inner_pairs r inside later (pair k v ps) =
       (comma_after later ++ (inner r inside k ++ (codes ": " ++ inner r inside v)))
       ++ inner_pairs r inside true ps
 
 -- an item, and a pair
-abbrev pub item_text : RecordData → Inside → Bool → Val → List ℕ
+abbrev pub item_text : RecordData → NamespaceTexts → Bool → Val → List ℕ
 item_text r inside later v = comma_after later ++ inner r inside v
 
-abbrev pub pair_text : RecordData → Inside → Bool → Val × Val → List ℕ
+abbrev pub pair_text : RecordData → NamespaceTexts → Bool → Val × Val → List ℕ
 pair_text r inside later p =
     comma_after later ++ (inner r inside p.0 ++ (codes ": " ++ inner r inside p.1))
 
-abbrev pub list_text : RecordData → Inside → Vals → List ℕ
+abbrev pub list_text : RecordData → NamespaceTexts → Vals → List ℕ
 list_text r inside vs = codes "[" ++ inner_items r inside false vs
 
-abbrev pub map_text : RecordData → Inside → Pairs → List ℕ
+abbrev pub map_text : RecordData → NamespaceTexts → Pairs → List ℕ
 map_text r inside ps = codes "{" ++ inner_pairs r inside false ps
 
 -- a namespace that is there, by what is in it
@@ -73,7 +73,7 @@ entered (Some ps) missing there = there (pairs_of ps)
 
 -- A namespace is printed as the map of what it holds. Namespaces lie within one another at most as
 -- many levels deep as this; what lies deeper, or isn't there, is refused, and prints nothing.
-abbrev pub namespace_text : RecordData → ℕ → Inside
+abbrev pub namespace_text : RecordData → ℕ → NamespaceTexts
 namespace_text r zero s n = []
 namespace_text r (suc levels) s n =
     entered (namespace_at r s n) [] (map_text r (namespace_text r levels))

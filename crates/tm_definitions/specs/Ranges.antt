@@ -16,8 +16,8 @@ given (Ok x) answer = answer x
 given (Err chain) answer = Err chain
 
 -- an answer behind at most n arguments
-abbrev pub no_more : {A : Type 0} → ℕ → List Val → Answer A → Answer A
-no_more n vs answer = cond (nat_lt n (length vs)) (refused kind.TooManyArguments) answer
+abbrev pub at_most_arguments : {A : Type 0} → ℕ → List Val → Answer A → Answer A
+at_most_arguments n vs answer = cond (nat_lt n (length vs)) (refused kind.TooManyArguments) answer
 
 -- z lies from -2^63 to 2^63 - 1
 abbrev pub in_64_bits : ℤ → Bool
@@ -91,7 +91,7 @@ abbrev pub range_of : List Val → Answer Val
 range_of vs =
     given (required_in (slice_get vs 0)) (λ a.
     given (later_in (slice_get vs 1)) (λ b.
-    given (later_in (slice_get vs 2)) (λ z. no_more 3 vs (ranged (span_of a b z)))))
+    given (later_in (slice_get vs 2)) (λ z. at_most_arguments 3 vs (ranged (span_of a b z)))))
 
 -- ---- the laws
 

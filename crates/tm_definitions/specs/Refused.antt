@@ -52,11 +52,11 @@ abbrev pub member_verdict : Form → Val → Verdict → Verdict → Verdict
 member_verdict form k key value = and_then (in_json form (key_verdict k)) (and_then key value)
 
 -- of namespaces, by state and number
-abbrev pub Inside : Type 0
-Inside = ℕ → ℕ → Verdict
+abbrev pub NamespaceVerdicts : Type 0
+NamespaceVerdicts = ℕ → ℕ → Verdict
 
 abbrev mutual
-  pub verdict : Form → RecordData → Inside → Val → Verdict
+  pub verdict : Form → RecordData → NamespaceVerdicts → Val → Verdict
   verdict form r inside (undefined silent) = fine
   verdict form r inside none = fine
   verdict form r inside (boolean truth) = fine
@@ -72,20 +72,20 @@ abbrev mutual
   verdict form r inside (loop s n) = loop_verdict form r s n
   verdict form r inside (namespace s n) = inside s n
 
-  pub items_verdict : Form → RecordData → Inside → Vals → Verdict
+  pub items_verdict : Form → RecordData → NamespaceVerdicts → Vals → Verdict
   items_verdict form r inside no_vals = fine
   items_verdict form r inside (val v vs) =
       and_then (verdict form r inside v) (items_verdict form r inside vs)
 
   -- of each pair the key comes first
-  pub pairs_verdict : Form → RecordData → Inside → Pairs → Verdict
+  pub pairs_verdict : Form → RecordData → NamespaceVerdicts → Pairs → Verdict
   pairs_verdict form r inside no_pairs = fine
   pairs_verdict form r inside (pair k v ps) =
       and_then
       (member_verdict form k (verdict form r inside k) (verdict form r inside v))
       (pairs_verdict form r inside ps)
 
-abbrev pub pair_verdict : Form → RecordData → Inside → Val × Val → Verdict
+abbrev pub pair_verdict : Form → RecordData → NamespaceVerdicts → Val × Val → Verdict
 pair_verdict form r inside p =
     member_verdict form p.0 (verdict form r inside p.0) (verdict form r inside p.1)
 
@@ -101,7 +101,7 @@ through n way k = cond (n == k) true (way k)
 
 -- A namespace that isn't there is refused, and so is one on the way: it holds itself. As many
 -- levels are enough as there are namespaces that aren't on the way.
-abbrev pub namespace_verdict : Form → RecordData → ℕ → Way → Inside
+abbrev pub namespace_verdict : Form → RecordData → ℕ → Way → NamespaceVerdicts
 namespace_verdict form r zero way s n = invalid
 namespace_verdict form r (suc levels) way s n =
     entered (namespace_at r s n) invalid

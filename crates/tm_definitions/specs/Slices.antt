@@ -37,8 +37,8 @@ abbrev pub parts_in : Val → Val → Val → Option Parts
 parts_in start stop step = parts_of (bound_in start) (bound_in stop) (step_in step)
 
 -- the places that a slice takes of so many
-abbrev pub taken : ℕ → Parts → List ℕ
-taken n p = places_of n p.start p.stop p.step
+abbrev pub slice_places : ℕ → Parts → List ℕ
+slice_places n p = places_of n p.start p.stop p.step
 
 abbrev pub items_at : List Val → List ℕ → List Val
 items_at xs places = each (λ p. slice_index_or xs p none) places
@@ -50,8 +50,8 @@ list_at xs places = Ok (list (vals_of (items_at xs places)))
 -- Of a list its items and of a text its characters, which aren't safe; of undefined and none the
 -- empty list.
 abbrev pub cut : Val → Parts → Answer Val
-cut (list vs) p = list_at (list_of vs) (taken (length (list_of vs)) p)
-cut (text s safe) p = Ok (text (picked (chars s) (taken (length (chars s)) p)) false)
+cut (list vs) p = list_at (list_of vs) (slice_places (length (list_of vs)) p)
+cut (text s safe) p = Ok (text (picked (chars s) (slice_places (length (chars s)) p)) false)
 cut (undefined silent) p = Ok (list (vals_of []))
 cut none p = Ok (list (vals_of []))
 cut _ p = invalid

@@ -13,7 +13,7 @@ use Rattle.tm_delimiters.specs.declared.syntax.Kind.TheVariants as kind
 use Rattle.tm_delimiters.specs.Front.{behind, first_of}
 use Rattle.tm_delimiters.specs.declared.trimming.Side.{Side}
 use Rattle.tm_delimiters.specs.Syntax.{Syntax, HasAll}
-use Rattle.tm_delimiters.specs.Starts.{start_of, opens, second_if, longer, opening, begins, BeginsAt, side_at, tag_start}
+use Rattle.tm_delimiters.specs.Starts.{start_delimiter, opens, second_if, longer, opening, begins, BeginsAt, side_at, tag_start}
 use Rattle.tm_delimiters.proofs.Places.{not_true, first_of-at, first_of-nowhere}
 
 some_bytes : (ws : List ℕ) → ws ≢ [] → 0 < length ws
@@ -154,8 +154,8 @@ starts_is (c ∷ cs) (w ∷ ws) = by_test (starts_is cs ws) (nat_eq w c)
     by_test ih true = ih
     by_test ih false = refl
 
-not_there : (s : Syntax) (k : Kind) (cs : List ℕ) → opens s k cs ≡ None → starts_with nat_eq cs (start_of s k) ≡ false
-not_there s k cs h = starts_is cs (start_of s k) ∙ by_rest (behind (start_of s k) cs) h
+not_there : (s : Syntax) (k : Kind) (cs : List ℕ) → opens s k cs ≡ None → starts_with nat_eq cs (start_delimiter s k) ≡ false
+not_there s k cs h = starts_is cs (start_delimiter s k) ∙ by_rest (behind (start_delimiter s k) cs) h
   where
     by_rest : (r : Option (List ℕ)) → option_map {U = Kind × List ℕ} (λ (rest : List ℕ). (k, rest)) r ≡ None → is_some r ≡ false
     by_rest None h = refl
@@ -164,7 +164,7 @@ not_there s k cs h = starts_is cs (start_of s k) ∙ by_rest (behind (start_of s
 longer_none : (s : Syntax) (x y : Option (Kind × List ℕ)) → longer s x y ≡ None → (x ≡ None) × (y ≡ None)
 longer_none s None y h = (refl, h)
 longer_none s (Some x) None h = (h, refl)
-longer_none s (Some x) (Some y) h = by_second (behind (start_of s x.0) (start_of s y.0)) h
+longer_none s (Some x) (Some y) h = by_second (behind (start_delimiter s x.0) (start_delimiter s y.0)) h
   where
     by_second : (r : Option (List ℕ)) → second_if r x y ≡ None → (Some x ≡ None) × (Some y ≡ None)
     by_second None h = absurd (cc h)

@@ -9,19 +9,19 @@ use Rattle.tm_delimiters.specs.Syntax.{Syntax}
 use Rattle.tm_delimiters.specs.Whitespace.{whitespace_at}
 
 -- the delimiters of a kind
-abbrev pub start_of : Syntax → Kind → List ℕ
-start_of s kind.Block = s.block_start
-start_of s kind.Variable = s.variable_start
-start_of s kind.Comment = s.comment_start
+abbrev pub start_delimiter : Syntax → Kind → List ℕ
+start_delimiter s kind.Block = s.block_start
+start_delimiter s kind.Variable = s.variable_start
+start_delimiter s kind.Comment = s.comment_start
 
-abbrev pub end_of : Syntax → Kind → List ℕ
-end_of s kind.Block = s.block_end
-end_of s kind.Variable = s.variable_end
-end_of s kind.Comment = s.comment_end
+abbrev pub end_delimiter : Syntax → Kind → List ℕ
+end_delimiter s kind.Block = s.block_end
+end_delimiter s kind.Variable = s.variable_end
+end_delimiter s kind.Comment = s.comment_end
 
 -- the start delimiter of a kind at the front
 abbrev pub opens : Syntax → Kind → List ℕ → Option (Kind × List ℕ)
-opens s k cs = option_map (λ rest. (k, rest)) (behind (start_of s k) cs)
+opens s k cs = option_map (λ rest. (k, rest)) (behind (start_delimiter s k) cs)
 
 -- the second of two, where there is something
 abbrev pub second_if : Option (List ℕ) → Kind × List ℕ → Kind × List ℕ → Option (Kind × List ℕ)
@@ -32,7 +32,7 @@ second_if (Some more) x y = Some y
 abbrev pub longer : Syntax → Option (Kind × List ℕ) → Option (Kind × List ℕ) → Option (Kind × List ℕ)
 longer s None y = y
 longer s (Some x) None = Some x
-longer s (Some x) (Some y) = second_if (behind (start_of s x.0) (start_of s y.0)) x y
+longer s (Some x) (Some y) = second_if (behind (start_delimiter s x.0) (start_delimiter s y.0)) x y
 
 -- the start delimiter at the front
 abbrev pub opening : Syntax → List ℕ → Option (Kind × List ℕ)

@@ -4,14 +4,14 @@ ghost use Rattle.tm_delimiters.specs.Syntax.{IsUsable, default_syntax};
 ghost use Rattle.tm_values.specs.declared.error.ErrorKind.TheVariants.{InvalidDelimiter};
 
 use crate::delimiter::Delimiter;
-use crate::syntax::{Parts, SyntaxConfig};
+use crate::syntax::{UncheckedSyntax, SyntaxConfig};
 use std::marker::Model;
 use tm_values::{Error, ErrorKind};
 
 /// Delimiters and flags that are being set.
 #[derive(Drop)]
 pub struct SyntaxConfigBuilder {
-    parts: Parts,
+    parts: UncheckedSyntax,
 }
 
 impl Model for SyntaxConfigBuilder {
@@ -28,7 +28,7 @@ impl SyntaxConfigBuilder {
         ensures { result ≡ default_syntax }
     {
         SyntaxConfigBuilder {
-            parts: Parts::usual(),
+            parts: UncheckedSyntax::usual(),
         }
     }
 

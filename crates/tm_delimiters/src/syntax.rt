@@ -17,7 +17,7 @@ pub enum Kind {
 
 /// Delimiters and flags, usable or not.
 #[derive(Drop)]
-pub(crate) struct Parts {
+pub(crate) struct UncheckedSyntax {
     pub(crate) block_start: Delimiter,
     pub(crate) block_end: Delimiter,
     pub(crate) variable_start: Delimiter,
@@ -29,7 +29,7 @@ pub(crate) struct Parts {
     pub(crate) keep_trailing_newline: bool,
 }
 
-impl Model for Parts {
+impl Model for UncheckedSyntax {
     ghost use Rattle.tm_delimiters.specs.Syntax.{Syntax};
 
     ghost Value = { Syntax };
@@ -47,12 +47,12 @@ impl Model for Parts {
     } };
 }
 
-impl Parts {
+impl UncheckedSyntax {
     /// `{% %}`, `{{ }}` and `{# #}`, no flag set.
-    pub(crate) fn usual() -> Parts
+    pub(crate) fn usual() -> UncheckedSyntax
         ensures { result ≡ default_syntax }
     {
-        Parts {
+        UncheckedSyntax {
             block_start: Delimiter::literal("{%"),
             block_end: Delimiter::literal("%}"),
             variable_start: Delimiter::literal("{{"),
@@ -99,7 +99,7 @@ impl Parts {
 /// sees each delimiter as its bytes.
 #[derive(Drop)]
 pub struct SyntaxConfig {
-    pub(crate) parts: Parts,
+    pub(crate) parts: UncheckedSyntax,
 }
 
 impl Model for SyntaxConfig {
@@ -118,7 +118,7 @@ impl Default for SyntaxConfig {
         ensures { result ≡ default_syntax }
     {
         SyntaxConfig {
-            parts: Parts::usual(),
+            parts: UncheckedSyntax::usual(),
         }
     }
 }
@@ -141,7 +141,7 @@ impl SyntaxConfig {
     /// The delimiter that begins a tag of the kind.
     #[inline(always)]
     pub fn start(&self, kind: Kind) -> &str
-        ensures { result.now ≡ starts.start_of self.now kind }
+        ensures { result.now ≡ starts.start_delimiter self.now kind }
     {
         match kind {
             Kind::Block => self.parts.block_start.as_str(),
@@ -152,7 +152,7 @@ impl SyntaxConfig {
 
     /// The delimiter that ends a tag of the kind.
     pub fn end(&self, kind: Kind) -> &str
-        ensures { result.now ≡ starts.end_of self.now kind }
+        ensures { result.now ≡ starts.end_delimiter self.now kind }
     {
         match kind {
             Kind::Block => self.parts.block_end.as_str(),

@@ -2,27 +2,27 @@
 ghost use Rattle.std.specs.Prelude.{◌≡◌, [], ◌∷◌, OnOk, IfErr};
 ghost use Rattle.tm_generator.specs.Building.{put};
 ghost use Rattle.tm_syntax.specs.Code.{target_code, targets_code, set_code, assignments_code};
-ghost use Rattle.tm_syntax.specs.declared.tree.Target.TheBlock.{hidden-the_row-Target-0 as targets};
+ghost use Rattle.tm_syntax.specs.declared.tree.AssignmentTarget.TheBlock.{hidden-the_row-AssignmentTarget-0 as targets};
 ghost use Rattle.tm_values.specs.declared.error.ErrorKind.TheVariants.{OutOfMemory};
 
 use crate::builder::Builder;
 use crate::expressions::push_expr;
-use tm_syntax::{Assignment, Expr, Instruction, Target};
+use tm_syntax::{Assignment, Expr, Instruction, AssignmentTarget};
 use tm_values::Error;
 
 /// Adds the code that gives the topmost value to a target; OutOfMemory.
 #[cycle(targets)]
-pub(crate) fn push_target(code: &mut Builder, target: &Target) -> Result<(), Error>
+pub(crate) fn push_target(code: &mut Builder, target: &AssignmentTarget) -> Result<(), Error>
     ensures ok { OnOk result (code.new ≡ put (target_code target.now) code.old) }
     ensures err { IfErr result (λ e. e ≡ OutOfMemory ∷ []) }
 {
     match target {
-        Target::Name(name) => code.emit(Instruction::StoreLocal(name.share()?)),
-        Target::Unpack(parts) => {
+        AssignmentTarget::Name(name) => code.emit(Instruction::StoreLocal(name.share()?)),
+        AssignmentTarget::Unpack(parts) => {
             code.emit(Instruction::UnpackList(parts.len()))?;
             push_targets(code, parts.as_slice())
         }
-        Target::Attribute(object, name) => {
+        AssignmentTarget::Attribute(object, name) => {
             push_expr(code, object.get())?;
             code.emit(Instruction::SetAttr(name.share()?))
         }
@@ -31,7 +31,7 @@ pub(crate) fn push_target(code: &mut Builder, target: &Target) -> Result<(), Err
 
 /// Adds the code that gives the topmost values to targets, the first on top; OutOfMemory.
 #[cycle(targets)]
-fn push_targets(code: &mut Builder, parts: &[Target]) -> Result<(), Error>
+fn push_targets(code: &mut Builder, parts: &[AssignmentTarget]) -> Result<(), Error>
     ensures ok { OnOk result (code.new ≡ put (targets_code (targets parts.now)) code.old) }
     ensures err { IfErr result (λ e. e ≡ OutOfMemory ∷ []) }
 {
@@ -42,7 +42,7 @@ fn push_targets(code: &mut Builder, parts: &[Target]) -> Result<(), Error>
 }
 
 /// Adds the code of a value that is given to a target; OutOfMemory.
-pub(crate) fn push_set(code: &mut Builder, target: &Target, value: &Expr) -> Result<(), Error>
+pub(crate) fn push_set(code: &mut Builder, target: &AssignmentTarget, value: &Expr) -> Result<(), Error>
     ensures ok { OnOk result (code.new ≡ put (set_code target.now value.now) code.old) }
     ensures err { IfErr result (λ e. e ≡ OutOfMemory ∷ []) }
 {

@@ -7,7 +7,7 @@ use Rattle.tm_syntax.specs.declared.tree.Expr.{Expr, Const, List', Call', end_of
 use Rattle.tm_syntax.specs.declared.tree.Expr.{end_of-Argument as no_argument, more_of-Argument as argument, end_of-Keyword as no_keyword}
 use Rattle.tm_syntax.specs.declared.tree.Expr.{end_of-Step as no_step, more_of-Step as step}
 use Rattle.tm_syntax.specs.declared.tree.Step.{Attribute, Method'}
-use Rattle.tm_syntax.specs.declared.tree.Target.{Name as To, Attribute as Member}
+use Rattle.tm_syntax.specs.declared.tree.AssignmentTarget.{Name as To, Attribute as Member}
 use Rattle.tm_syntax.specs.declared.tree.Stmt.{Stmt, EmitExpr, EmitLoop, For', Set, Do, end_of-Stmt as no_statement}
 use Rattle.tm_syntax.specs.declared.tree.Stmt.{more_of-Stmt as statement, None' as no_else}
 use Rattle.tm_syntax.specs.Forms.{chained, plain, with_keyword, binary}

@@ -16,7 +16,7 @@ use Rattle.tm_meaning.specs.declared.wrapping.Wrapping.{Wrapping}
 use Rattle.tm_meaning.specs.Memory.{kind_of_wrapping}
 use Rattle.tm_meaning.specs.declared.function.GlobalFunction.TheVariants as own
 use Rattle.tm_meaning.specs.World.{TemplateId, own, entry, StreamId, block_of, Named, find, put_each, same_name, Card, Layers, Loop, World}
-use Rattle.tm_meaning.specs.World.{Host, View, Scope, Stated, Function, callers, languages, Res, Good, Bad, bind, bad, answered}
+use Rattle.tm_meaning.specs.World.{HostValue, View, Scope, Stated, Function, callers, languages, Res, Good, Bad, bind, bad, answered}
 use Rattle.tm_meaning.specs.World.{items_over, innermost, records_of, make_namespace, need, check, card_at, view_of, lookup}
 use Rattle.tm_meaning.specs.World.{context_member, or_undefined, place_of, plain, push}
 use Rattle.tm_meaning.specs.declared.reply.Reply.{Reply}
@@ -70,11 +70,11 @@ abbrev pub is_required : Option Card → Bool
 is_required None = false
 is_required (Some c) = c.required
 
-abbrev pub required_alone : Host → StreamId → Layers → Bool
+abbrev pub required_alone : HostValue → StreamId → Layers → Bool
 required_alone host s l = nat_eq (length l.templates) 1 && is_required (card_at host s)
 
 -- the block at its list's present place, in a new scope
-abbrev pub enter_block : Host → List ℕ → World → Asked
+abbrev pub enter_block : HostValue → List ℕ → World → Asked
 enter_block host b w =
     ask (need (find b w.blocks) UnknownBlock w) (λ l world1.
     ask (need (slice_get l.templates l.place) UnknownBlock world1) (λ t world2.
@@ -101,14 +101,14 @@ given_by own.Range args w = answered (range_of args) w
 given_by own.Dict args w = bind (answered (dict_of (records_of w) args) w) (λ ps world1. Good (map (pairs_of ps)) world1)
 given_by own.Namespace args w = bind (answered (namespace_of (records_of w) args) w) (λ ps world1. make_namespace ps world1)
 
-abbrev pub call_by : Host → Function → List Val → World → Asked
+abbrev pub call_by : HostValue → Function → List Val → World → Asked
 call_by host (callers f) args w =
     let stated = f args (view_of host w) in
     replied stated.reply (record w { temps = put_each stated.temps w.temps })
 call_by host (languages g) args w = ask (given_by g args w) has
 
 -- a value is called: of values alone a function can be, by its number
-abbrev pub call_value : Host → Val → List Val → World → Asked
+abbrev pub call_value : HostValue → Val → List Val → World → Asked
 call_value host (function n) args w = ask (need (slice_get host.functions n) InvalidOperation w) (λ f world1. call_by host f args world1)
 call_value host v args w = refused (InvalidOperation ∷ []) w
 
@@ -164,13 +164,13 @@ abbrev pub method_in : RecordData → List ℕ → Val → Answer (Option Val)
 method_in r x (macro m) = Ok (if is_macro_attribute x then Some (macro_member m x) else None)
 method_in r x v = context_member r x v
 
-abbrev pub call_method : Host → List ℕ → Val → List Val → World → Asked
+abbrev pub call_method : HostValue → List ℕ → Val → List Val → World → Asked
 call_method host x (loop state n) args w = loop_method x state n args w
 call_method host x v args w =
     ask (answered (method_in (records_of w) x v) w) (λ found world1. ask (need found UnknownMethod world1) (λ f world2. call_value host f args world2))
 
 -- the first of the values is called by its method
-abbrev pub call_first : Host → List ℕ → List Val → World → Asked
+abbrev pub call_first : HostValue → List ℕ → List Val → World → Asked
 call_first host x [] w = refused (InvalidOperation ∷ []) w
 call_first host x (v ∷ args) w = call_method host x v args w
 
@@ -194,13 +194,13 @@ wrapped_as kind (Good a w) = Good a w
 wrapped_as kind (Bad chain w) = Bad (kind ∷ chain) w
 
 -- A loop is called with a value: it has to be one that can be called, of the stream that runs, and the value has items.
-abbrev pub call_loop : Host → Loop → Val → World → Asked
+abbrev pub call_loop : HostValue → Loop → Val → World → Asked
 call_loop host l v w =
     ask (check (l.recursive && same_stream l.stream w.stream) InvalidOperation w) (λ _ world1.
     ask (wrapped_as InvalidOperation (items_over host v world1)) (λ items world2. recurs l.number items world2))
 
 -- the innermost loop is called
-abbrev pub call_innermost : Host → Val → World → Asked
+abbrev pub call_innermost : HostValue → Val → World → Asked
 call_innermost host v w =
     ask (need (innermost w.scopes.frames) UnknownFunction w) (λ n world1.
     of_loop (slice_get world1.loops n) world1 (λ l. call_loop host l v world1))
@@ -210,12 +210,12 @@ one_argument (v ∷ []) w = Good v w
 one_argument vs w = bad InvalidOperation w
 
 -- what a name stands for is called: a loop of this state with one value, else as a value
-abbrev pub call_found : Host → Val → List Val → World → Asked
+abbrev pub call_found : HostValue → Val → List Val → World → Asked
 call_found host (loop state n) args w =
     of_loop (record_at w state n) w (λ l. ask (one_argument args w) (λ v world1. call_loop host l v world1))
 call_found host v args w = call_value host v args w
 
 -- a name is called; it is looked up after its arguments
-abbrev pub call_named : Host → List ℕ → List Val → World → Asked
+abbrev pub call_named : HostValue → List ℕ → List Val → World → Asked
 call_named host x args w =
     ask (lookup host x w) (λ found world1. ask (need found UnknownFunction world1) (λ f world2. call_found host f args world2))

@@ -8,7 +8,7 @@ use Rattle.tm_syntax.specs.declared.instruction.CaptureMode.TheVariants as modes
 use Rattle.tm_syntax.specs.declared.tree.UnaryOperator.{UnaryOperator}
 use Rattle.tm_meaning.specs.declared.mark.LoopMark.{LoopMark}
 use Rattle.tm_syntax.specs.declared.tree.BinaryOperator.{BinaryOperator}
-use Rattle.tm_meaning.specs.World.{choose, TemplateId, World, Host, Loop, top_mark, top_loop, open_loop, next_turn, cleared, items_over, Res, Good, answered, looked_up, emitted, escape_for, with_escape, store, items_of, set_member, push, pop, plain, captured_text}
+use Rattle.tm_meaning.specs.World.{choose, TemplateId, World, HostValue, Loop, top_mark, top_loop, open_loop, next_turn, cleared, items_over, Res, Good, answered, looked_up, emitted, escape_for, with_escape, store, unpacked_items, set_member, push, pop, plain, captured_text}
 use Rattle.tm_syntax.specs.Loops.{loops_before}
 use Rattle.tm_meaning.specs.Calls.{enter_block, call_named, call_first, call_innermost}
 use Rattle.tm_meaning.specs.Meaning.{none_waits, truth, applied_unary, operated, attribute, item_at, slice_of, list_of_values, map_of_pairs, keyword_map}
@@ -18,11 +18,11 @@ use Rattle.tm_meaning.specs.Machine.{Capture, Return, Activation, Config, Base, 
 abbrev pub emit_raw_of : Base → List ℕ → Config → Next
 emit_raw_of f t c = writes f t (on c.run.operands c)
 
-abbrev pub emit_of : Host → Base → Config → Next
+abbrev pub emit_of : HostValue → Base → Config → Next
 emit_of host f c = on_top c.run.operands c.world (λ v vs. after (emitted host v c.world) (λ t w. writes f t (on vs (with_world w c))))
 
 -- ---------------------------------------------------------------- operands
-abbrev pub lookup_of : Host → List ℕ → Config → Next
+abbrev pub lookup_of : HostValue → List ℕ → Config → Next
 lookup_of host x c = after (looked_up host x c.world) (λ v w. goes (v ∷ c.run.operands) w c)
 
 abbrev pub load_const_of : Val → Config → Next
@@ -37,17 +37,17 @@ abbrev pub replaces_two : (Val → Val → World → Res Val) → Config → Nex
 replaces_two g c =
     on_top c.run.operands c.world (λ b vs. on_top vs c.world (λ a rest. after (g a b c.world) (λ x w. goes (x ∷ rest) w c)))
 
-abbrev pub get_attr_of : Host → List ℕ → Config → Next
+abbrev pub get_attr_of : HostValue → List ℕ → Config → Next
 get_attr_of host x c = replaces_one (λ v w. attribute host v x w) c
 
-abbrev pub unary_of : Host → UnaryOperator → Config → Next
+abbrev pub unary_of : HostValue → UnaryOperator → Config → Next
 unary_of host op c = replaces_one (applied_unary host op) c
 
-abbrev pub binary_of : Host → BinaryOperator → Config → Next
+abbrev pub binary_of : HostValue → BinaryOperator → Config → Next
 binary_of host op c = replaces_two (operated host op) c
 
 -- two operands are replaced by the topmost and, over it, what is given
-abbrev pub compare_and_preserve_of : Host → BinaryOperator → Config → Next
+abbrev pub compare_and_preserve_of : HostValue → BinaryOperator → Config → Next
 compare_and_preserve_of host op c =
     on_top c.run.operands c.world (λ b vs. on_top vs c.world (λ a rest. after (operated host op a b c.world) (λ x w. goes (x ∷ b ∷ rest) w c)))
 
@@ -60,11 +60,11 @@ dup_top_of c = on_top c.run.operands c.world (λ v vs. goes (v ∷ v ∷ vs) c.w
 abbrev pub discard_top_of : Config → Next
 discard_top_of c = on_top c.run.operands c.world (λ v vs. goes vs c.world c)
 
-abbrev pub get_item_of : Host → Config → Next
+abbrev pub get_item_of : HostValue → Config → Next
 get_item_of host c = replaces_two (item_at host) c
 
 -- four operands are replaced, a value below its start, stop and step
-abbrev pub slice_instruction_of : Host → Config → Next
+abbrev pub slice_instruction_of : HostValue → Config → Next
 slice_instruction_of host c =
     on_top c.run.operands c.world (λ by vs. on_top vs c.world (λ stop us. on_top us c.world (λ start ts. on_top ts c.world (λ v rest.
     after (slice_of host v start stop by c.world) (λ x w. goes (x ∷ rest) w c)))))
@@ -104,16 +104,16 @@ abbrev pub jump_of : ℕ → Config → Next
 jump_of n c = jumps n c.run.operands c.world c
 
 -- the truth of the topmost operand
-abbrev pub on_truth : Host → Config → (Bool → Val → List Val → World → Next) → Next
+abbrev pub on_truth : HostValue → Config → (Bool → Val → List Val → World → Next) → Next
 on_truth host c f = on_top c.run.operands c.world (λ v vs. after (truth host v c.world) (λ b w. f b v vs w))
 
-abbrev pub jump_if_false_of : Host → ℕ → Config → Next
+abbrev pub jump_if_false_of : HostValue → ℕ → Config → Next
 jump_if_false_of host n c = on_truth host c (λ b v vs w. choose b (λ _. goes vs w c) (λ _. jumps n vs w c))
 
-abbrev pub jump_if_false_or_pop_of : Host → ℕ → Config → Next
+abbrev pub jump_if_false_or_pop_of : HostValue → ℕ → Config → Next
 jump_if_false_or_pop_of host n c = on_truth host c (λ b v vs w. choose b (λ _. goes vs w c) (λ _. jumps n (v ∷ vs) w c))
 
-abbrev pub jump_if_true_or_pop_of : Host → ℕ → Config → Next
+abbrev pub jump_if_true_or_pop_of : HostValue → ℕ → Config → Next
 jump_if_true_or_pop_of host n c = on_truth host c (λ b v vs w. choose b (λ _. jumps n (v ∷ vs) w c) (λ _. goes vs w c))
 
 -- ---------------------------------------------------------------- scopes and targets
@@ -122,14 +122,14 @@ store_local_of x c = on_top c.run.operands c.world (λ v vs. goes vs (store x v 
 
 -- the first item on top
 abbrev pub unpack_list_of : ℕ → Config → Next
-unpack_list_of n c = on_top c.run.operands c.world (λ v vs. after (items_of n v c.world) (λ xs w. goes (xs ++ vs) w c))
+unpack_list_of n c = on_top c.run.operands c.world (λ v vs. after (unpacked_items n v c.world) (λ xs w. goes (xs ++ vs) w c))
 
 -- a namespace on top of a value
 abbrev pub set_attr_of : List ℕ → Config → Next
 set_attr_of x c =
     on_top c.run.operands c.world (λ o vs. on_top vs c.world (λ v rest. after (set_member x v o c.world) (λ _ w. goes rest w c)))
 
-abbrev pub push_with_of : Host → Config → Next
+abbrev pub push_with_of : HostValue → Config → Next
 push_with_of host c = after (push host (plain (undefined false)) c.world) (λ _ w. goes c.run.operands w c)
 
 abbrev pub is_no_loop : Option LoopMark → Bool

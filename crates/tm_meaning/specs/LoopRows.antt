@@ -3,7 +3,7 @@ use Rattle.std.specs.Prelude.{ℕ, [], ◌∷◌, Some, None, false, codes}
 use Rattle.tm_syntax.specs.declared.tree.BinaryOperator.TheVariants as binaries
 use Rattle.tm_syntax.specs.declared.tree.Expr.{Expr, List', end_of-Expr as no_expr, more_of-Expr as expr}
 use Rattle.tm_syntax.specs.declared.tree.Step.{Attribute}
-use Rattle.tm_syntax.specs.declared.tree.Target.{Name as To}
+use Rattle.tm_syntax.specs.declared.tree.AssignmentTarget.{Name as To}
 use Rattle.tm_syntax.specs.declared.tree.Stmt.{Stmt, EmitExpr, For', Break, Continue, Set, SetBlock', With', end_of-Stmt as no_statement}
 use Rattle.tm_syntax.specs.declared.tree.Stmt.{more_of-Stmt as statement, Held-Stmt-If-2 as Otherwise, None' as no_else}
 use Rattle.tm_syntax.specs.Forms.{binary}

@@ -6,7 +6,7 @@ use Rattle.tm_values.specs.declared.error.ErrorKind.TheVariants.{InvalidOperatio
 use Rattle.tm_values.specs.declared.escape.AutoEscape.{AutoEscape}
 use Rattle.tm_syntax.specs.declared.instruction.Instruction.{Instruction}
 pub use Rattle.tm_meaning.specs.declared.base.Base.{Base}
-use Rattle.tm_meaning.specs.World.{choose, TemplateId, StreamId, World, Host, Res, Good, Bad, open_loop, captured_text}
+use Rattle.tm_meaning.specs.World.{choose, TemplateId, StreamId, World, HostValue, Res, Good, Bad, open_loop, captured_text}
 use Rattle.tm_meaning.specs.Calls.{Callee, whole, Call, Asked, has, refused, runs, recurs, undone, wrapped}
 use Rattle.tm_syntax.specs.declared.instruction.LoopPlace.{LoopPlace}
 use Rattle.tm_syntax.specs.Loops.{loop_places}
@@ -63,7 +63,7 @@ pub data Next : Type 0 where
 
 -- What all runs share: the environment, and the instructions of each stream.
 pub record Program : Type 0 where
-  pub host : Host
+  pub host : HostValue
   pub code : StreamId → List Instruction
 
 -- ---------------------------------------------------------------- small parts

@@ -24,13 +24,13 @@ use Rattle.tm_syntax.specs.declared.tree.BinaryOperator.TheVariants as binaries
 use Rattle.tm_syntax.specs.declared.tree.Expr.{Expr, Var, Const, List', Tuple', Map', Call', Row_of-Expr, end_of-Expr as no_expr, more_of-Expr as expr, Row_of-Pair, end_of-Pair as no_pair, Row_of-Argument, end_of-Argument as no_argument, more_of-Argument as argument, Row_of-Keyword, end_of-Keyword as no_keyword, Row_of-Step, end_of-Step as no_step, more_of-Step as step, Row_of-Condition, end_of-Condition as no_condition}
 use Rattle.tm_syntax.specs.declared.tree.Argument.{Argument}
 use Rattle.tm_syntax.specs.declared.tree.Step.{Step, Attribute, Method', Row_of-Comparison, end_of-Comparison as no_comparison}
-use Rattle.tm_syntax.specs.declared.tree.Target.{Target, Name as To, Unpack' as Items, Attribute as Member, Row_of-Target, end_of-Target as no_target, more_of-Target as target}
+use Rattle.tm_syntax.specs.declared.tree.AssignmentTarget.{AssignmentTarget, Name as To, Unpack' as Items, Attribute as Member, Row_of-AssignmentTarget, end_of-AssignmentTarget as no_target, more_of-AssignmentTarget as target}
 use Rattle.tm_syntax.specs.declared.tree.Assignment.{Assignment}
 use Rattle.tm_syntax.specs.declared.tree.Stmt.{Stmt, EmitRaw, EmitExpr, EmitLoop, If', For', Break, Continue, Block', Set, SetBlock', With', Do, AutoEscape', Row_of-Stmt, end_of-Stmt as no_statement, more_of-Stmt as statement, Held-Stmt-If-2 as Otherwise, None' as no_else, Some' as otherwise}
 use Rattle.tm_syntax.specs.Forms.{unary, chained, conditional, with_condition, with_comparison, with_pair, plain, with_keyword, item, slice, binary, compare, and_then, or_else}
 use Rattle.tm_syntax.specs.Code.{count_targets, for_flags, pass_flags}
 use Rattle.tm_syntax.specs.Loops.{passes, within_loop, past, pasts, FoundLoop, loops_in}
-use Rattle.tm_meaning.specs.World.{choose, TemplateId, root_of, World, Host, Res, Good, Bad, bind, answered, tick, ticked, looked_up, records_of, template_at, emitted, escape_for, with_escape, captured_text, open_loop, next_turn, cleared, items_over, store, set_member, items_of, push, pop, plain as plain_scope}
+use Rattle.tm_meaning.specs.World.{choose, TemplateId, root_of, World, HostValue, Res, Good, Bad, bind, answered, tick, ticked, looked_up, records_of, template_at, emitted, escape_for, with_escape, captured_text, open_loop, next_turn, cleared, items_over, store, set_member, unpacked_items, push, pop, plain as plain_scope}
 use Rattle.tm_meaning.specs.Calls.{Callee, whole, Call, Asked, has, refused, runs, recurs, undone, wrapped, enter_block, call_named, call_method, call_innermost, own_blocks}
 use Rattle.tm_meaning.specs.Tree.{Body, Trees}
 
@@ -64,7 +64,7 @@ Again = ℕ → List Val → Run → List ℕ → World → Outcome
 
 -- What a statement stands under: the environment, what nests, and the loops of its stream.
 pub record Under : Type 0 where
-  pub host : Host
+  pub host : HostValue
   pub nests : Nests
   pub again : Again
 
@@ -138,7 +138,7 @@ block_tag u run b out w =
     choose (none_waits run.parent && audible run) (λ _. in_place_of u run out (enter_block u.host b w)) (λ _. so_far run out w)
 
 -- ---------------------------------------------------------------- operators
-abbrev pub truth : Host → Val → World → Res Bool
+abbrev pub truth : HostValue → Val → World → Res Bool
 truth host v w = answered (truth_of host.undefined v) w
 
 abbrev pub as_value : Answer Bool → Answer Val
@@ -152,7 +152,7 @@ abbrev pub result_of_unary : UnaryOperator → UndefinedBehavior → Val → Ans
 result_of_unary unaries.Not b v = negated (truth_of b v)
 result_of_unary unaries.Negate b v = arithmetic.negated v
 
-abbrev pub applied_unary : Host → UnaryOperator → Val → World → Res Val
+abbrev pub applied_unary : HostValue → UnaryOperator → Val → World → Res Val
 applied_unary host op v w = answered (result_of_unary op host.undefined v) w
 
 -- what an operator gives of two values
@@ -174,22 +174,22 @@ result_of binaries.FloorDivide b r x y = arithmetic.floor_divided x y
 result_of binaries.Remainder b r x y = arithmetic.remaining x y
 result_of binaries.Power b r x y = arithmetic.raised x y
 
-abbrev pub operated : Host → BinaryOperator → Val → Val → World → Res Val
+abbrev pub operated : HostValue → BinaryOperator → Val → Val → World → Res Val
 operated host op x y w = answered (result_of op host.undefined (records_of w) x y) w
 
 -- the same in an expression, where `not in` is `in` and then `not`, which is charged too
-abbrev pub applied : Host → BinaryOperator → Val → Val → World → Res Val
-applied host binaries.NotIn x y w = bind (operated host binaries.In x y w) (λ v world1. ticked world1 (λ world2. applied_unary host unaries.Not v world2))
-applied host op x y w = operated host op x y w
+abbrev pub applied_binary : HostValue → BinaryOperator → Val → Val → World → Res Val
+applied_binary host binaries.NotIn x y w = bind (operated host binaries.In x y w) (λ v world1. ticked world1 (λ world2. applied_unary host unaries.Not v world2))
+applied_binary host op x y w = operated host op x y w
 
-abbrev pub attribute : Host → Val → List ℕ → World → Res Val
+abbrev pub attribute : HostValue → Val → List ℕ → World → Res Val
 attribute host v x w = answered (attribute_of host.undefined (records_of w) v x) w
 
-abbrev pub item_at : Host → Val → Val → World → Res Val
+abbrev pub item_at : HostValue → Val → Val → World → Res Val
 item_at host v k w = answered (item_of host.undefined (records_of w) v k) w
 
 -- from a start to a stop by a step
-abbrev pub slice_of : Host → Val → Val → Val → Val → World → Res Val
+abbrev pub slice_of : HostValue → Val → Val → Val → Val → World → Res Val
 slice_of host v start stop by w = answered (sliced host.undefined v start stop by) w
 
 abbrev pub list_of_values : List Val → Val
@@ -205,7 +205,7 @@ keyword_map ps = keywords (pairs_of (put_all ps))
 
 -- ---------------------------------------------------------------- expressions
 -- what is guarded where the condition is true, with the jump behind it, and else what stands for it
-abbrev pub under_condition : Host → (World → Res Val) → (World → Res Val) → (World → Res Val) → World → Res Val
+abbrev pub under_condition : HostValue → (World → Res Val) → (World → Res Val) → (World → Res Val) → World → Res Val
 under_condition host test guarded other w =
     bind (test w) (λ v world1. ticked world1 (λ world2. bind (truth host v world2) (λ b world3.
     choose b (λ _. bind (guarded world3) (λ x world4. ticked world4 (λ world5. Good x world5))) (λ _. other world3))))
@@ -273,7 +273,7 @@ abbrev mutual
   eval_step u run (item a) v w = bind (eval u run a w) (λ k world1. ticked world1 (λ world2. item_at u.host v k world2))
   eval_step u run (slice a b c) v w =
       bind (eval u run a w) (λ x world1. bind (eval u run b world1) (λ y world2. bind (eval u run c world2) (λ z world3. ticked world3 (λ world4. slice_of u.host v x y z world4))))
-  eval_step u run (binary op a) v w = bind (eval u run a w) (λ y world1. ticked world1 (λ world2. applied u.host op v y world2))
+  eval_step u run (binary op a) v w = bind (eval u run a w) (λ y world1. ticked world1 (λ world2. applied_binary u.host op v y world2))
   eval_step u run (compare op a _ cs) v w = bind (eval u run a w) (λ y world1. eval_links u run op cs v y world1)
   eval_step u run (and_then a) v w =
       ticked w (λ world1. bind (truth u.host v world1) (λ b world2. choose b (λ _. eval u run a world2) (λ _. Good v world2)))
@@ -282,7 +282,7 @@ abbrev mutual
 
   -- Comparisons in a row, from the first: each but the last charges its test; where it is false it is the value, and dropping its right side is charged. Behind the last one the jump is.
   pub eval_links : {n : _} → Under → Run → BinaryOperator → Row_of-Comparison n → Val → Val → World → Res Val
-  eval_links u run op no_comparison x y w = ticked w (λ world1. bind (applied u.host op x y world1) (λ v world2. ticked world2 (λ world3. Good v world3)))
+  eval_links u run op no_comparison x y w = ticked w (λ world1. bind (applied_binary u.host op x y world1) (λ v world2. ticked world2 (λ world3. Good v world3)))
   eval_links u run op (with_comparison op1 a more) x y w =
       ticked w (λ world1. bind (operated u.host op x y world1) (λ v world2. ticked world2 (λ world3. bind (truth u.host v world3) (λ b world4.
       choose b (λ _. bind (eval u run a world4) (λ z world5. eval_links u run op1 more y z world5)) (λ _. ticked world4 (λ world5. Good v world5))))))
@@ -293,19 +293,19 @@ abbrev mutual
 
 -- ---------------------------------------------------------------- targets
 abbrev mutual
-  pub assign : Under → Run → Target → Val → World → Res (Unit {0})
+  pub assign : Under → Run → AssignmentTarget → Val → World → Res (Unit {0})
   assign u run (To x) v w = ticked w (λ world1. Good tt (store x v world1))
-  assign u run (Items _ ts) v w = ticked w (λ world1. bind (items_of (count_targets ts) v world1) (λ vs world2. assign_all u run ts vs world2))
+  assign u run (Items _ ts) v w = ticked w (λ world1. bind (unpacked_items (count_targets ts) v world1) (λ vs world2. assign_all u run ts vs world2))
   assign u run (Member e x) v w = bind (eval u run e w) (λ o world1. ticked world1 (λ world2. set_member x v o world2))
 
   -- to each its own; there are as many
-  pub assign_all : {n : _} → Under → Run → Row_of-Target n → List Val → World → Res (Unit {0})
+  pub assign_all : {n : _} → Under → Run → Row_of-AssignmentTarget n → List Val → World → Res (Unit {0})
   assign_all u run no_target vs w = Good tt w
   assign_all u run (target t ts) [] w = Good tt w
   assign_all u run (target t ts) (v ∷ vs) w = bind (assign u run t v w) (λ _ world1. assign_all u run ts vs world1)
 
 -- a value, and then its target
-abbrev pub set_to : Under → Run → Target → Expr → World → Res (Unit {0})
+abbrev pub set_to : Under → Run → AssignmentTarget → Expr → World → Res (Unit {0})
 set_to u run t e w = bind (eval u run e w) (λ v world1. assign u run t v world1)
 
 abbrev pub set_each : Under → Run → List Assignment → World → Res (Unit {0})
@@ -355,21 +355,21 @@ rounds turn (v ∷ vs) run out w =
     let o = turn v run out (cleared (next_turn world1)) in
     round_end o.ending (record run { parent = o.parent }) o (λ run1 out1 world2. rounds turn vs run1 out1 world2))
 
-abbrev pub loop_over : Host → ℕ → Bool → (Val → Run → List ℕ → World → Outcome) → List Val → Run → List ℕ → World → Outcome
+abbrev pub loop_over : HostValue → ℕ → Bool → (Val → Run → List ℕ → World → Outcome) → List Val → Run → List ℕ → World → Outcome
 loop_over host n recursive turn vs run out w = use_it (open_loop host vs (for_flags recursive) n w) run out (λ _ world1. rounds turn vs run out world1)
 
 -- A count as a value, one more than it was: InvalidOperation beyond the whole numbers.
-abbrev pub one_more : ℕ → Answer Val
-one_more n = if nat_lt (n + 1) (2 ^ 127) then Ok (number (pos (n + 1))) else invalid
+abbrev pub incremented : ℕ → Answer Val
+incremented n = if nat_lt (n + 1) (2 ^ 127) then Ok (number (pos (n + 1))) else invalid
 
 -- The count of what is taken, one more, after three charges.
 abbrev pub one_counted : ℕ → World → Res Val
 one_counted n w =
-    ticked w (λ world1. ticked world1 (λ world2. ticked world2 (λ world3. answered (one_more n) world3)))
+    ticked w (λ world1. ticked world1 (λ world2. ticked world2 (λ world3. answered (incremented n) world3)))
 
 -- Of items those whose condition is true, of which so many are taken already: the next item is asked for, charged, the scope loses its names, the condition is tested, charged,
 -- and what is taken is counted; then the jump back is charged. Where no item is left the loop is.
-abbrev pub selected : Host → (Val → World → Res Val) → ℕ → List Val → World → Res (List Val)
+abbrev pub selected : HostValue → (Val → World → Res Val) → ℕ → List Val → World → Res (List Val)
 selected host condition n [] w = ticked w (λ world1. Good [] (pop (next_turn world1)))
 selected host condition n (v ∷ vs) w =
     ticked w (λ world1. bind (condition v (cleared (next_turn world1))) (λ c world2. ticked world2 (λ world3. bind (truth host c world3) (λ b world4.
@@ -378,7 +378,7 @@ selected host condition n (v ∷ vs) w =
     (λ _. ticked world4 (λ world5. selected host condition n vs world5))))))
 
 -- what a loop goes over: with a condition the items for which that is true, in a loop without the name `loop` before it
-abbrev pub loop_items : Under → ℕ → Run → Target → Expr → Option Expr → World → Res (List Val)
+abbrev pub loop_items : Under → ℕ → Run → AssignmentTarget → Expr → Option Expr → World → Res (List Val)
 loop_items u at run t e None w = bind (eval u run e w) (λ v world1. items_over u.host v world1)
 loop_items u at run t e (Some c) w =
     ticked w (λ world1. bind (eval u run e world1) (λ v world2. bind (items_over u.host v world2) (λ vs world3.
@@ -456,7 +456,7 @@ at_end e o = done_by (tick o.world) o
 abbrev pub stream_run : Under → Body → Run → List ℕ → World → Outcome
 stream_run u body run out w = let o = exec_all u 0 body.row run out w in at_end o.ending o
 
-abbrev pub over : Host → Nests → Again → Under
+abbrev pub over : HostValue → Nests → Again → Under
 over host nests again = record { host = host; nests = nests; again = again }
 
 -- what a round of a loop does with its item
@@ -468,16 +468,16 @@ again_in u None n items run out w = failed InvalidOperation run out w
 again_in u (Some l) n items run out w = choose l.recursive (λ _. loop_over u.host n true (turn_of u l) items run out w) (λ _. failed InvalidOperation run out w)
 
 -- the loops of a stream, over as many levels: level zero isn't reached, since each call opens a scope within the limit, and there is one level more than the limit
-abbrev pub again_of : Host → Nests → Body → ℕ → Again
+abbrev pub again_of : HostValue → Nests → Body → ℕ → Again
 again_of host nests body zero n items run out w = failed InvalidOperation run out w
 again_of host nests body (suc k) n items run out w =
     again_in (over host nests (again_of host nests body k)) (slice_get (loops_in 0 body.row) n) n items run out w
 
-abbrev pub under : Host → Nests → Body → Under
+abbrev pub under : HostValue → Nests → Body → Under
 under host nests body = over host nests (again_of host nests body (host.limit + 1))
 
 -- what nests, over as many levels of depth: level zero isn't reached, since each run that nests stands at least one deeper, and within the limit
-abbrev pub nests_of : Host → Trees → ℕ → Nests
+abbrev pub nests_of : HostValue → Trees → ℕ → Nests
 nests_of host trees zero callee heard out w = failed InvalidOperation (new_run heard w) out w
 nests_of host trees (suc n) (whole s) heard out w =
     stream_run (under host (nests_of host trees n) (trees s)) (trees s) (new_run heard w) out w
@@ -488,7 +488,7 @@ first_fuel None = 2 ^ 64 - 1
 first_fuel (Some fuel) = fuel
 
 -- What a render starts from: one scope over the context value, no records, the template's blocks each alone, and the fuel that was set, else the greatest u64.
-abbrev pub first_world : Host → TemplateId → ℕ → Option ℕ → Val → World
+abbrev pub first_world : HostValue → TemplateId → ℕ → Option ℕ → Val → World
 first_world host t id fuel context = record {
   id = id;
   scopes = record { frames = plain_scope context ∷ []; outer = 0 };
@@ -507,7 +507,7 @@ first_world host t id fuel context = record {
 }
 
 -- What a render means, from a world: the stream that it names, heard.
-abbrev pub rendered : Host → Trees → World → Outcome
+abbrev pub rendered : HostValue → Trees → World → Outcome
 rendered host trees w = nests_of host trees (host.limit + 1) (whole w.stream) true [] w
 
 -- the chain of kinds, which is empty where all was done

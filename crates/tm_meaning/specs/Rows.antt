@@ -13,15 +13,15 @@ use Rattle.tm_syntax.specs.declared.tree.Expr.{Expr, Var, Const, List', Tuple', 
 use Rattle.tm_syntax.specs.declared.tree.Expr.{end_of-Argument as no_argument, end_of-Keyword as no_keyword, end_of-Step as no_step}
 use Rattle.tm_syntax.specs.declared.tree.Expr.{more_of-Step as step, end_of-Condition as no_condition}
 use Rattle.tm_syntax.specs.declared.tree.Step.{Step, Attribute, end_of-Comparison as no_comparison}
-use Rattle.tm_syntax.specs.declared.tree.Target.{Target, Name as To, Unpack' as Items, Attribute as Member, end_of-Target as no_target}
-use Rattle.tm_syntax.specs.declared.tree.Target.{more_of-Target as target}
+use Rattle.tm_syntax.specs.declared.tree.AssignmentTarget.{AssignmentTarget, Name as To, Unpack' as Items, Attribute as Member, end_of-AssignmentTarget as no_target}
+use Rattle.tm_syntax.specs.declared.tree.AssignmentTarget.{more_of-AssignmentTarget as target}
 use Rattle.tm_syntax.specs.declared.tree.Assignment.{Assignment}
 use Rattle.tm_syntax.specs.declared.tree.Stmt.{Stmt, EmitRaw, EmitExpr, If', Block', Set, SetBlock', With', AutoEscape'}
 use Rattle.tm_syntax.specs.declared.tree.Stmt.{end_of-Stmt as no_statement, more_of-Stmt as statement, Held-Stmt-If-2 as Otherwise}
 use Rattle.tm_syntax.specs.declared.tree.Stmt.{None' as no_else, Some' as otherwise}
 use Rattle.tm_syntax.specs.Forms.{unary, chained, conditional, with_condition, with_comparison, binary, compare, and_then, or_else}
 use Rattle.tm_meaning.specs.Compiled.{code_of}
-use Rattle.tm_meaning.specs.World.{Bindings, find_name, view_of, own, World, Host, Function, View, fuel_levels}
+use Rattle.tm_meaning.specs.World.{Bindings, find_name, view_of, own, World, HostValue, Function, View, fuel_levels}
 use Rattle.tm_meaning.specs.Calls.{whole}
 use Rattle.tm_meaning.specs.Tree.{Body, body_of, TemplateTree, Trees, template_of, trees_of}
 use Rattle.tm_meaning.specs.Meaning.{rendered, first_world, chain_of}
@@ -44,7 +44,7 @@ page body context = record { body = body; context = context; globals = []; funct
 abbrev pub tree_of : Page → TemplateTree
 tree_of p = record { name = codes "page"; escape = escapes.None; root = p.body }
 
-abbrev pub host_of : Page → Host
+abbrev pub host_of : Page → HostValue
 host_of p = record {
   own = template_of (tree_of p);
   templates = [];
@@ -271,7 +271,7 @@ two_conditions first second =
     (with_condition (literal_truth first) no_value
     (with_condition (literal_truth second) (literal_number 2) no_condition))
 
-abbrev pub given : Target → Expr → Assignment
+abbrev pub given : AssignmentTarget → Expr → Assignment
 given t e = record { target = t; value = e }
 
 -- {% block b %}x{{ a }}{% endblock %}y
@@ -304,7 +304,7 @@ with_two =
 abbrev pub empty_with : ℕ → Page
 empty_with limit = record (page (one (With' [] [] no_statement)) nothing) { limit = limit }
 
-abbrev pub to_a_and_b : Target
+abbrev pub to_a_and_b : AssignmentTarget
 to_a_and_b = Items (tt ∷ tt ∷ []) (target (To (codes "a")) (target (To (codes "b")) no_target))
 
 -- {% set a, b = 1, 2 %}{{ a }}{{ b }}

@@ -131,7 +131,7 @@ pub data Function : Type 0 where
   languages : GlobalFunction → Function
 
 -- What the environment gives. Trees and code aren't here: they are functions of a stream.
-pub record Host : Type 0 where
+pub record HostValue : Type 0 where
   pub own : Template
   pub templates : Named Template
   pub globals : Bindings
@@ -193,7 +193,7 @@ abbrev pub ticked : {A : Type 0} → World → (World → Res A) → Res A
 ticked w f = bind (tick w) (λ _ world1. f world1)
 
 -- ---------------------------------------------------------------- what is known of a world
-abbrev pub template_at : Host → TemplateId → Template
+abbrev pub template_at : HostValue → TemplateId → Template
 template_at host own = host.own
 template_at host (entry x) = or_is (find x host.templates) host.own
 
@@ -201,10 +201,10 @@ abbrev pub card_in : Template → Option (List ℕ) → Option Card
 card_in t None = Some t.root
 card_in t (Some b) = find b t.blocks
 
-abbrev pub card_at : Host → StreamId → Option Card
+abbrev pub card_at : HostValue → StreamId → Option Card
 card_at host s = card_in (template_at host s.template) s.block
 
-abbrev pub name_of : Host → World → List ℕ
+abbrev pub name_of : HostValue → World → List ℕ
 name_of host w = (template_at host w.stream.template).name
 
 -- the place of a loop's item, of how often the next one was asked for: none before the first
@@ -231,7 +231,7 @@ loop_data l = record {
 abbrev pub records_of : World → RecordData
 records_of w = record { state = w.id; namespaces = w.namespaces; loops = each loop_data w.loops }
 
-abbrev pub view_of : Host → World → View
+abbrev pub view_of : HostValue → World → View
 view_of host w = record {
   id = w.id;
   frames = w.scopes.frames;
@@ -290,10 +290,10 @@ abbrev pub or_undefined : Option Val → Val
 or_undefined (Some v) = v
 or_undefined None = undefined false
 
-abbrev pub lookup : Host → List ℕ → World → Res (Option Val)
+abbrev pub lookup : HostValue → List ℕ → World → Res (Option Val)
 lookup host x w = answered (find_name (view_of host w) x) w
 
-abbrev pub looked_up : Host → List ℕ → World → Res Val
+abbrev pub looked_up : HostValue → List ℕ → World → Res Val
 looked_up host x w = bind (lookup host x w) (λ found world1. Good (or_undefined found) world1)
 
 -- ---------------------------------------------------------------- scopes
@@ -307,7 +307,7 @@ abbrev pub with_frames : List Scope → World → World
 with_frames frames w = record w { scopes = record w.scopes { frames = frames } }
 
 -- One scope more, unless it would lie deeper than the limit.
-abbrev pub push : Host → Scope → World → Res (Unit {0})
+abbrev pub push : HostValue → Scope → World → Res (Unit {0})
 push host s w =
     choose (nat_lt (depth w.scopes) host.limit) (λ _. Good tt (with_frames (s ∷ w.scopes.frames) w)) (λ _. bad InvalidOperation w)
 
@@ -360,7 +360,7 @@ new_loop items flags number w = record {
 }
 
 -- A loop of a number in a scope of its own, with a record behind all others; where there is no room for the scope there is no record.
-abbrev pub open_loop : Host → List Val → LoopFlags → ℕ → World → Res (Unit {0})
+abbrev pub open_loop : HostValue → List Val → LoopFlags → ℕ → World → Res (Unit {0})
 open_loop host items flags number w =
     bind (push host (loop_scope (record { number = length w.loops; variable = flags.variable })) w) (λ _ world1.
     Good tt (record world1 { loops = world1.loops ++ new_loop items flags number w ∷ [] }))
@@ -398,7 +398,7 @@ abbrev pub top_loop : World → Option Loop
 top_loop w = option_and_then (λ (m : LoopMark). slice_get w.loops m.number) (top_mark w.scopes.frames)
 
 -- what a loop goes over
-abbrev pub items_over : Host → Val → World → Res (List Val)
+abbrev pub items_over : HostValue → Val → World → Res (List Val)
 items_over host v w = answered (iterated host.undefined (records_of w) v) w
 
 -- ---------------------------------------------------------------- namespaces
@@ -417,8 +417,8 @@ abbrev pub make_namespace : List (Val × Val) → World → Res Val
 make_namespace ps w = Good (namespace w.id (length w.namespaces)) (record w { namespaces = w.namespaces ++ ps ∷ [] })
 
 -- so many items of a value
-abbrev pub items_of : ℕ → Val → World → Res (List Val)
-items_of n v w = answered (unpacked (records_of w) n v) w
+abbrev pub unpacked_items : ℕ → Val → World → Res (List Val)
+unpacked_items n v w = answered (unpacked (records_of w) n v) w
 
 -- ---------------------------------------------------------------- emission
 -- an answer behind a verdict
@@ -432,7 +432,7 @@ formatted None v view =
 formatted (Some f) v view = f v view
 
 -- What a value is written as: an undefined one is refused where the behavior says so, and then the formatter is asked, else the escape.
-abbrev pub emitted : Host → Val → World → Res (List ℕ)
+abbrev pub emitted : HostValue → Val → World → Res (List ℕ)
 emitted host v w = answered (unless (refusal_of host.undefined Emission v) (formatted host.formatter v (view_of host w))) w
 
 -- ---------------------------------------------------------------- escapes

@@ -2,7 +2,7 @@
 use Rattle.std.proofs.Common.{Vec, Global, ◌≡◌, ◌++◌, nat_lt, Bool, true, false, cond, List, [], ◌∷◌, length, Ok, Err, Less, Greater, refl, sym, ap, subst, ◌∙◌, append_assoc, slice_get}
 use Rattle.std.proofs.lemmas.List.{append-nil}
 use Rattle.tm_definitions.specs.Maps.{keyword_pairs, plain_alone, keywords_of, plain_of, base_of, dict_of, has_text_key, text_pairs, namespace_of, IsMapWithKeywords}
-use Rattle.tm_definitions.specs.Ranges.{given, no_more}
+use Rattle.tm_definitions.specs.Ranges.{given, at_most_arguments}
 use Rattle.tm_values.proofs.Maps.{turned, map-put}
 use Rattle.tm_values.specs.Answer.{Answer, refused, IsAnswer, OkOrOutOfMemory}
 use Rattle.tm_values.specs.Map.{put, put_each, put_all, IsAbove, IsMap}
@@ -94,7 +94,7 @@ counted : (e : Bool) (m ps : List (Val × Val)) → IsMap m → cond e (refused 
 counted true m ps h e = absurd (cc)
 counted false m ps h e = let same : m ≡ ps = cc in subst IsMap same h
 
-joined : (base : Answer (List (Val × Val))) (plain : List Val) (ks ps : List (Val × Val)) → given base (λ qs. no_more 1 plain (Ok (put_all (qs ++ ks)))) ≡ Ok ps → IsMap ps
+joined : (base : Answer (List (Val × Val))) (plain : List Val) (ks ps : List (Val × Val)) → given base (λ qs. at_most_arguments 1 plain (Ok (put_all (qs ++ ks)))) ≡ Ok ps → IsMap ps
 joined (Ok qs) plain ks ps e = counted (nat_lt 1 (length plain)) (put_all (qs ++ ks)) ps (map-put_each [] (qs ++ ks) tt) e
 joined (Err chain) plain ks ps e = absurd (cc)
 

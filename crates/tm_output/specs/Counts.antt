@@ -8,14 +8,14 @@ pub record Tally (W : Type 0) : Type 0 where
   pub failures : ℕ
 
 -- one more, but never more than a u64 holds
-abbrev pub one_more : ℕ → ℕ
-one_more n = min (n + 1) (2 ^ 64 - 1)
+abbrev pub saturating_increment : ℕ → ℕ
+saturating_increment n = min (n + 1) (2 ^ 64 - 1)
 
 -- the count after a write: one more where it failed or took nothing
 abbrev pub fault_count : {E : Type 0} → Result ℕ E → ℕ → ℕ
-fault_count (Ok zero) n = one_more n
+fault_count (Ok zero) n = saturating_increment n
 fault_count (Ok (suc taken)) n = n
-fault_count (Err e) n = one_more n
+fault_count (Err e) n = saturating_increment n
 
 -- known bytes grow by a beginning of the text
 abbrev pub AppendsBeginning : Option (List ℕ) → Option (List ℕ) → List ℕ → Type 0

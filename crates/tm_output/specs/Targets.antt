@@ -1,7 +1,7 @@
 -- What becomes of a target that is given a text.
 use Rattle.std.specs.Prelude.{◌≡◌, ℕ, List, [], ◌++◌, take, Option, Result, MatchResult}
 use Rattle.std.specs.Io.KnownBytes.{Appends}
-use Rattle.tm_output.specs.Counts.{one_more, AppendsBeginning}
+use Rattle.tm_output.specs.Counts.{saturating_increment, AppendsBeginning}
 
 -- a target took the whole text where it answered Ok, and a beginning of it where it failed
 abbrev pub Takes :
@@ -34,17 +34,17 @@ abbrev pub StringGrowsInPart : {S : Type 0} → (S → List ℕ) → S → List 
 StringGrowsInPart bytes old text new = GrowsInPart (bytes old) text (bytes new)
 
 -- a writer is told the text, and no call failed
-abbrev pub IsTold : Option (List ℕ) → ℕ → List ℕ → Option (List ℕ) → ℕ → Type 0
-IsTold old faults text new count = Appends old new text × (count ≡ faults)
+abbrev pub IsToldWhole : Option (List ℕ) → ℕ → List ℕ → Option (List ℕ) → ℕ → Type 0
+IsToldWhole old faults text new count = Appends old new text × (count ≡ faults)
 
 -- a writer is told a beginning of the text, and a call failed
 abbrev pub IsToldInPart : Option (List ℕ) → ℕ → List ℕ → Option (List ℕ) → ℕ → Type 0
-IsToldInPart old faults text new count = AppendsBeginning old new text × (count ≡ one_more faults)
+IsToldInPart old faults text new count = AppendsBeginning old new text × (count ≡ saturating_increment faults)
 
 -- the same of a writer, before and after, seen by what it was told and by its failures
 abbrev pub WriterTakes :
     {S : Type 0} → (S → Option (List ℕ)) → (S → ℕ) → S → List ℕ → S → Type 0
-WriterTakes told faults old text new = IsTold (told old) (faults old) text (told new) (faults new)
+WriterTakes told faults old text new = IsToldWhole (told old) (faults old) text (told new) (faults new)
 
 abbrev pub WriterTakesInPart :
     {S : Type 0} → (S → Option (List ℕ)) → (S → ℕ) → S → List ℕ → S → Type 0

@@ -2,7 +2,7 @@
 ghost use Rattle.std.specs.Prelude.{◌≡◌, ◌<◌, ℕ, List, [], length, Option, None, Ok, IsOk, OnOk, OnErr};
 ghost use Rattle.std.specs.Io.{WritesAtMost};
 ghost use Rattle.std.specs.Io.KnownBytes.{Keeps, WriteAppends, Appends};
-ghost use Rattle.tm_output.specs.Counts.{fault_count, one_more, AppendsBeginning};
+ghost use Rattle.tm_output.specs.Counts.{fault_count, saturating_increment, AppendsBeginning};
 
 use std::io::{self, Write};
 use std::marker::Model;
@@ -121,7 +121,7 @@ pub fn write_text<W: Sink>(sink: &mut W, text: &[u8]) -> Result<(), io::Error>
     ensures written { OnOk result (Appends (W.told sink.old) (W.told sink.new) text.now) }
     ensures no_fault { OnOk result (W.faults sink.new ≡ W.faults sink.old) }
     ensures beginning { AppendsBeginning (W.told sink.old) (W.told sink.new) text.now }
-    ensures fault { OnErr result (W.faults sink.new ≡ one_more (W.faults sink.old)) }
+    ensures fault { OnErr result (W.faults sink.new ≡ saturating_increment (W.faults sink.old)) }
     ensures empty { text.now ≡ [] → IsOk result }
 {
     let mut done = 0;

@@ -1,6 +1,6 @@
 //! Whatever takes a text piece by piece.
 ghost use Rattle.std.specs.Prelude.{ℕ, List, string_bytes};
-ghost use Rattle.tm_output.specs.Targets.{Takes, Laws, Grows, GrowsInPart, IsTold, IsToldInPart};
+ghost use Rattle.tm_output.specs.Targets.{Takes, Laws, Grows, GrowsInPart, IsToldWhole, IsToldInPart};
 ghost use Rattle.tm_output.specs.Laws.{string_laws, writer_laws};
 
 use crate::sink::{Sink, write_text};
@@ -40,7 +40,7 @@ impl Target for String {
 
 impl<S: Sink> Target for S {
     ghost took = { λ old text new.
-        IsTold (S.told old) (S.faults old) text (S.told new) (S.faults new) };
+        IsToldWhole (S.told old) (S.faults old) text (S.told new) (S.faults new) };
 
     ghost stopped = { λ old text new.
         IsToldInPart (S.told old) (S.faults old) text (S.told new) (S.faults new) };

@@ -14,7 +14,7 @@ use Rattle.tm_syntax.specs.declared.tree.Stmt.TheVariants as stmts
 use Rattle.tm_syntax.specs.Forms.{plain}
 use Rattle.tm_syntax.specs.contracts.tree.Argument.{enum as the_enum}
 use Rattle.tm_syntax.proofs.Forms.{whole}
-use Rattle.tm_parser.specs.Statements.{is_call, is_method, last_is_method, only_one, are_unnamed, loop_argument, call_or_emit, emitted}
+use Rattle.tm_parser.specs.Statements.{is_call, is_method, last_is_method, only_one, are_unnamed, loop_argument, call_or_emit, emit_statement}
 
 pub last-nil : (b : Bool) → last_is_method b (row_of_steps []) ≡ b
 unfolding hidden row_of_steps shape-the_row-Step-5
@@ -101,7 +101,7 @@ last_of f (y ∷ ys) named x some =
 
 -- what the program takes out of the call of a loop
 pub called_with : (x : Expr) (f : List ℕ) (given left : List Argument) (named : List Keyword) (a : Argument) (h : _) → is_some (loop_argument x) ≡ true →
-    x ≡ exprs.Call f given named → given ≡ left ++ a ∷ [] → stmts.EmitLoop ((values_d the_enum 0 h a).0) ≡ emitted x
+    x ≡ exprs.Call f given named → given ≡ left ++ a ∷ [] → stmts.EmitLoop ((values_d the_enum 0 h a).0) ≡ emit_statement x
 called_with x f given left named a h some e last =
     let v = (values_d the_enum 0 h a).0 in
     let is : x ≡ exprs.Call f (left ++ plain v ∷ []) named = e ∙ ap (λ g. exprs.Call f g named) (last ∙ ap (λ b. left ++ b ∷ []) (whole a h)) in

@@ -5,7 +5,7 @@ use Rattle.tm_syntax.specs.declared.token.Token.{Token}
 use Rattle.tm_syntax.specs.declared.token.Sign.{Sign}
 use Rattle.tm_syntax.specs.declared.token.Sign.TheVariants as sign
 use Rattle.tm_syntax.specs.declared.tree.Expr.{Expr}
-use Rattle.tm_syntax.specs.declared.tree.Target.{Target}
+use Rattle.tm_syntax.specs.declared.tree.AssignmentTarget.{AssignmentTarget}
 use Rattle.tm_rules.specs.Meanings.{Read, got}
 use Rattle.tm_rules.specs.Rule.{Rule, Look}
 use Rattle.tm_rules.specs.Growth as growth
@@ -32,7 +32,7 @@ module _ {T A B : Type 0} (p : Look T A) (part : A → B → Rule T B) where
   pub grows_nearer : (x : B) (ts : List T) (a : A) (behind : List T) (y : B) (rest : List T) →
       p.sees ts ≡ got a behind → (part a x).reads behind ≡ got y rest → length rest < length ts
   grows_nearer x ts a behind y rest seen read =
-      omega (arith, p.nearer ts a behind seen, (part a x).shorter behind y rest ((part a x).found behind y rest read))
+      omega (arith, p.nearer ts a behind seen, (part a x).shorter behind y rest ((part a x).sound behind y rest read))
 
   pub grows_not : (x : B) (ts : List T) (whole : Read T B) (a : A) (behind : List T) (chain : List ErrorKind) →
       becomes x ts ≡ whole → p.sees ts ≡ got a behind → Refused chain ((part a x).reads behind ≡ None) → Refused chain (whole ≡ None)
@@ -89,21 +89,21 @@ pub ruleset commas = (comma_goes_on, comma_comes_nearer, comma_refuses, comma_en
 
 -- the same of targets
 module _ (i : Inside) where
-  pub target_goes_on : (xs ys : List Target) (ts behind rest : List Token) (whole : Read Token (List Target)) → (more_targets i xs).reads ts ≡ whole →
+  pub target_goes_on : (xs ys : List AssignmentTarget) (ts behind rest : List Token) (whole : Read Token (List AssignmentTarget)) → (more_targets i xs).reads ts ≡ whole →
       target_comma.sees ts ≡ got tt behind → (one_more (single i) xs).reads behind ≡ got ys rest → (more_targets i ys).reads rest ≡ whole
   unfolding more_targets
   target_goes_on xs ys ts behind rest whole = goes_on target_comma (λ _. single i) xs ts whole tt behind ys rest
 
-  pub target_comes_nearer : (xs ys : List Target) (ts behind rest : List Token) → target_comma.sees ts ≡ got tt behind →
+  pub target_comes_nearer : (xs ys : List AssignmentTarget) (ts behind rest : List Token) → target_comma.sees ts ≡ got tt behind →
       (one_more (single i) xs).reads behind ≡ got ys rest → length rest < length ts
   target_comes_nearer xs ys ts behind rest = comes_nearer target_comma (λ _. single i) xs ts tt behind ys rest
 
-  pub target_refuses : (xs : List Target) (ts behind : List Token) (whole : Read Token (List Target)) (chain : List ErrorKind) → (more_targets i xs).reads ts ≡ whole →
+  pub target_refuses : (xs : List AssignmentTarget) (ts behind : List Token) (whole : Read Token (List AssignmentTarget)) (chain : List ErrorKind) → (more_targets i xs).reads ts ≡ whole →
       target_comma.sees ts ≡ got tt behind → Refused chain ((one_more (single i) xs).reads behind ≡ None) → Refused chain (whole ≡ None)
   unfolding more_targets
   target_refuses xs ts behind whole chain = refuses target_comma (λ _. single i) xs ts whole tt behind chain
 
-  pub target_ends : (xs : List Target) (ts rest : List Token) (whole : Read Token (List Target)) → (more_targets i xs).reads ts ≡ whole →
+  pub target_ends : (xs : List AssignmentTarget) (ts rest : List Token) (whole : Read Token (List AssignmentTarget)) → (more_targets i xs).reads ts ≡ whole →
       (target_comma.sees ts ≡ None) × (rest ≡ ts) → whole ≡ got xs rest
   unfolding more_targets
   target_ends xs ts rest whole = ends target_comma (λ _. single i) xs ts whole rest

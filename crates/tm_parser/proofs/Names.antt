@@ -11,7 +11,7 @@ use Rattle.std.specs.Ordering.{nat_cmp}
 use Rattle.std.specs.Str.{bytes_eq}
 use denote.Hole.Carrier.{hidden}
 use Rattle.tm_syntax.specs.declared.tree.Expr.{Expr}
-use Rattle.tm_syntax.specs.declared.tree.Target.{Target}
+use Rattle.tm_syntax.specs.declared.tree.AssignmentTarget.{AssignmentTarget}
 use Rattle.tm_syntax.specs.declared.tree.Assignment.{Assignment}
 use Rattle.tm_syntax.specs.declared.tree.Stmt.{Stmt}
 use Rattle.tm_syntax.specs.declared.tree.Stmt.TheBlock.{shape-the_row-Stmt-0, hidden-the_row-Stmt-0 as row}
@@ -52,7 +52,7 @@ pub names_of_block : (name : List ℕ) (body : List Stmt) → names_of (stmts.Bl
 unfolding hidden row shape-the_row-Stmt-0
 names_of_block name body = refl
 
-pub names_of_set_block : (to : Target) (body : List Stmt) → names_of (stmts.SetBlock to body) ≡ block_names body
+pub names_of_set_block : (to : AssignmentTarget) (body : List Stmt) → names_of (stmts.SetBlock to body) ≡ block_names body
 unfolding hidden row shape-the_row-Stmt-0
 names_of_set_block to body = refl
 

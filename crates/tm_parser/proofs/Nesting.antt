@@ -10,11 +10,11 @@ use Rattle.tm_syntax.specs.declared.tree.Comparison.{Comparison}
 use Rattle.tm_syntax.specs.declared.tree.Condition.{Condition}
 use Rattle.tm_syntax.specs.declared.tree.Step.{Step}
 use Rattle.tm_syntax.specs.declared.tree.Step.TheVariants as steps
-use Rattle.tm_syntax.specs.declared.tree.Target.TheVariants as target_forms
+use Rattle.tm_syntax.specs.declared.tree.AssignmentTarget.TheVariants as target_forms
 use Rattle.tm_rules.specs.Meanings.{got}
 use Rattle.tm_rules.specs.Combinators.{branch, ◌>>=◌, pure}
 use Rattle.tm_parser.specs.Grammar.{Inside, inside, expr, operand, expr_at, primary, prefix, chained, compared, conditional, target, target_of, lone_target, last_target, attribute_name, split_last, are_none}
-use Rattle.tm_parser.specs.Statements.{inner, body, rest, else_or_end, looped}
+use Rattle.tm_parser.specs.Statements.{inner, body, rest, else_or_end, loop_head}
 
 suc-sub-one : (n : ℕ) → suc n - 1 ≡ n
 suc-sub-one n = omega arith
@@ -151,16 +151,16 @@ inner_else_or_end (suc depth) end looping ts h = ap (λ k. (else_or_end (inner k
 
 pub ruleset statements = (no_body, inner_body, no_rest, inner_rest, no_else_or_end, inner_else_or_end)
 
-pub none_looped : (depth : ℕ) (ts : List Token) → depth ≡ 0 → (inner depth).looped.reads ts ≡ None
+pub none_loop_head : (depth : ℕ) (ts : List Token) → depth ≡ 0 → (inner depth).loop_head.reads ts ≡ None
 unfolding inner
-none_looped depth ts h = ap (λ k. (inner k).looped.reads ts) h
+none_loop_head depth ts h = ap (λ k. (inner k).loop_head.reads ts) h
 
-pub inner_looped : (depth : ℕ) (ts : List Token) → ¬ (depth ≡ 0) → (inner depth).looped.reads ts ≡ (looped (inside (depth - 1))).reads ts
+pub inner_loop_head : (depth : ℕ) (ts : List Token) → ¬ (depth ≡ 0) → (inner depth).loop_head.reads ts ≡ (loop_head (inside (depth - 1))).reads ts
 unfolding inner
-inner_looped zero ts h = absurd (h refl)
-inner_looped (suc depth) ts h = ap (λ k. (looped (inside k)).reads ts) (sym (suc-sub-one depth))
+inner_loop_head zero ts h = absurd (h refl)
+inner_loop_head (suc depth) ts h = ap (λ k. (loop_head (inside k)).reads ts) (sym (suc-sub-one depth))
 
-pub ruleset loops = (none_looped, inner_looped)
+pub ruleset loops = (none_loop_head, inner_loop_head)
 
 pub no_names : {A : Type 0} (xs : List A) → xs ≡ [] → are_none xs ≡ true
 no_names xs h = ap are_none h

@@ -9,14 +9,14 @@ abbrev pub Refused : List ErrorKind → Type 0 → Type 0
 Refused chain reason = (chain ≡ OutOfMemory ∷ []) ⊎ ((chain ≡ SyntaxError ∷ []) × reason)
 
 -- The value and what is left are what was read; where nothing was read, that is why there is no value.
-abbrev pub Gives : {T A : Type 0} → Result A (List ErrorKind) → List T → Read T A → Type 0
-Gives (Ok x) left read = read ≡ got x left
-Gives (Err chain) left read = Refused chain (read ≡ None)
+abbrev pub Parses : {T A : Type 0} → Result A (List ErrorKind) → List T → Read T A → Type 0
+Parses (Ok x) left read = read ≡ got x left
+Parses (Err chain) left read = Refused chain (read ≡ None)
 
 -- What stood first was taken, or it did not stand there.
-abbrev pub Takes : {T A : Type 0} → Option A → List T → List T → Read T A → Type 0
-Takes None before after seen = (seen ≡ None) × (after ≡ before)
-Takes (Some x) before after seen = seen ≡ got x after
+abbrev pub TakesFirst : {T A : Type 0} → Option A → List T → List T → Read T A → Type 0
+TakesFirst None before after seen = (seen ≡ None) × (after ≡ before)
+TakesFirst (Some x) before after seen = seen ≡ got x after
 
 abbrev pub TakesSign : {T : Type 0} → Bool → List T → List T → Read T (Unit {0}) → Type 0
 TakesSign false before after seen = (seen ≡ None) × (after ≡ before)

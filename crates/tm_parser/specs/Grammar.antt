@@ -22,8 +22,8 @@ use Rattle.tm_syntax.specs.declared.tree.Condition.{Condition}
 use Rattle.tm_syntax.specs.declared.tree.Comparison.{Comparison}
 use Rattle.tm_syntax.specs.declared.tree.Step.{Step, Attribute}
 use Rattle.tm_syntax.specs.declared.tree.Step.TheVariants as steps
-use Rattle.tm_syntax.specs.declared.tree.Target.{Target}
-use Rattle.tm_syntax.specs.declared.tree.Target.TheVariants as targets
+use Rattle.tm_syntax.specs.declared.tree.AssignmentTarget.{AssignmentTarget}
+use Rattle.tm_syntax.specs.declared.tree.AssignmentTarget.TheVariants as targets
 use Rattle.tm_parser.specs.declared.tables.Link.{Link}
 use Rattle.tm_parser.specs.declared.tables.Link.TheVariants as links
 use Rattle.tm_parser.specs.declared.primaries.Passed.{Passed}
@@ -138,7 +138,7 @@ pub record Inside : Type 1 where
   pub expr : Rule Expr
   -- an operand of a level
   pub operand : ℕ → Rule Expr
-  pub target : Rule Target
+  pub target : Rule AssignmentTarget
 
 -- a comma with another item behind it, in a list that ends with this sign
 abbrev pub comma : Sign → Look Token (Unit {0})
@@ -410,7 +410,7 @@ split_last x [] = ([], x)
 split_last x (y ∷ ys) = (x ∷ (split_last y ys).0, (split_last y ys).1)
 
 -- what a value is as a target
-abbrev pub lone_target : Expr → Option Target
+abbrev pub lone_target : Expr → Option AssignmentTarget
 lone_target (Var name) = Some (targets.Name name)
 lone_target _ = None
 
@@ -420,11 +420,11 @@ attribute_name (Attribute name) = Some name
 attribute_name _ = None
 
 -- what a value with steps and a last step is as a target
-abbrev pub last_target : Expr → List Step → Step → Option Target
+abbrev pub last_target : Expr → List Step → Step → Option AssignmentTarget
 last_target x before last = option_map (λ name. targets.Attribute (chained x before) name) (attribute_name last)
 
 -- What a value and its steps are as a target: a name alone is one, and an attribute of what stands before it.
-abbrev pub target_of : Expr → List Step → Option Target
+abbrev pub target_of : Expr → List Step → Option AssignmentTarget
 target_of x [] = lone_target x
 target_of x (s ∷ ss) = last_target x (split_last s ss).0 (split_last s ss).1
 
@@ -434,14 +434,14 @@ known None = nothing
 known (Some x) = pure x
 
 -- a name or an attribute
-unfoldable pub member : Inside → Rule Target
+unfoldable pub member : Inside → Rule AssignmentTarget
 member i = do
   x ← operand i postfix_level
   ss ← steps_from i (operand i postfix_level) postfix_level []
   known (target_of x ss)
 
 -- a target with no comma outside brackets
-unfoldable pub single : Inside → Rule Target
+unfoldable pub single : Inside → Rule AssignmentTarget
 single i = branch (first (is sign.OpenRound))
     (λ _. do
       x ← i.target
@@ -461,11 +461,11 @@ ends_target _ = None
 abbrev pub target_comma : Look Token (Unit {0})
 target_comma = not_before (is sign.Comma) ends_target
 
-unfoldable pub more_targets : Inside → List Target → Rule (List Target)
+unfoldable pub more_targets : Inside → List AssignmentTarget → Rule (List AssignmentTarget)
 more_targets i xs = many_from target_comma (λ _. single i) xs
 
 -- several targets behind the first one, with a comma behind the last one or none
-unfoldable pub several : Inside → Target → Rule Target
+unfoldable pub several : Inside → AssignmentTarget → Rule AssignmentTarget
 several i x = do
   xs ← more_targets i (x ∷ [])
   comma ← branch (first (is sign.Comma)) pure (pure tt)
@@ -476,7 +476,7 @@ is_comma (tokens.Sign sign.Comma) = true
 is_comma _ = false
 
 -- one target, or several between commas
-unfoldable pub target : Inside → Rule Target
+unfoldable pub target : Inside → Rule AssignmentTarget
 target i = do
   x ← single i
   ahead is_comma (several i x) (pure x)

@@ -1,4 +1,4 @@
-pub mod Gives
+pub mod Parses
 pub mod Grammar
 pub mod Looks
 pub mod Statements

@@ -57,7 +57,7 @@ abbrev pub ahead : {T A : Type 0} → (T → Bool) → Rule T A → Rule T A →
 ahead p r other = record {
   spells = λ ts. (either (starts p ts) r other).spells ts;
   reads = λ ts. (either (starts p ts) r other).reads ts;
-  found = λ ts. (either (starts p ts) r other).found ts;
-  only = λ ts. (either (starts p ts) r other).only ts;
+  sound = λ ts. (either (starts p ts) r other).sound ts;
+  complete = λ ts. (either (starts p ts) r other).complete ts;
   shorter = λ ts. (either (starts p ts) r other).shorter ts;
 }

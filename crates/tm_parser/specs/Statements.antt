@@ -14,13 +14,13 @@ use Rattle.tm_syntax.specs.declared.tree.Expr.{end_of-Step as no_step, more_of-S
 use Rattle.tm_syntax.specs.declared.tree.Step.{Step, Method'}
 use Rattle.tm_syntax.specs.Forms.{plain, with_keyword, chained as chained_steps}
 use Rattle.tm_syntax.specs.declared.tree.Expr.TheVariants as exprs
-use Rattle.tm_syntax.specs.declared.tree.Target.{Target}
+use Rattle.tm_syntax.specs.declared.tree.AssignmentTarget.{AssignmentTarget}
 use Rattle.tm_syntax.specs.declared.tree.Assignment.{Assignment}
 use Rattle.tm_syntax.specs.declared.tree.Stmt.{Stmt}
 use Rattle.tm_syntax.specs.declared.tree.Stmt.TheVariants as stmts
 use Rattle.tm_parser.specs.declared.tables.Start.{Start}
 use Rattle.tm_parser.specs.declared.tables.Start.TheVariants as starts
-use Rattle.tm_parser.specs.declared.targets.Looped.{Looped}
+use Rattle.tm_parser.specs.declared.targets.LoopHead.{LoopHead}
 use Rattle.tm_rules.specs.Combinators.{provided, first, nothing, pure, ◌>>=◌, branch, token, not_before, many_from}
 use Rattle.tm_rules.specs.Rule.{Look}
 use Rattle.tm_parser.specs.Looks.{ahead}
@@ -44,7 +44,7 @@ pub record Inner : Type 1 where
   -- an else part or none, up to this end tag
   pub else_or_end : Tag → Bool → Rule (Option (List Stmt))
   -- what a loop goes over, the condition of an item, whether it can be called, and the end of its tag
-  pub looped : Rule Looped
+  pub loop_head : Rule LoopHead
 
 -- Each tag that begins a statement.
 abbrev pub start_of : Tag → Option Start
@@ -99,14 +99,14 @@ call_or_emit (Some called_with) x = stmts.EmitLoop called_with
 call_or_emit None x = stmts.EmitExpr x
 
 -- the statement that emits an expression
-abbrev pub emitted : Expr → Stmt
-emitted x = call_or_emit (loop_argument x) x
+abbrev pub emit_statement : Expr → Stmt
+emit_statement x = call_or_emit (loop_argument x) x
 
 unfoldable pub emission : Inside → Rule Stmt
 emission i = do
   x ← expr i
   close ← token (is sign.VariableEnd)
-  pure (emitted x)
+  pure (emit_statement x)
 
 unfoldable pub if_tag : Inside → Inner → Bool → Rule Stmt
 if_tag i t looping = do
@@ -147,7 +147,7 @@ unfoldable pub for_tag : Inside → Inner → Bool → Rule Stmt
 for_tag i t looping = do
   to ← i.target
   word ← token (is sign.In)
-  over ← t.looped
+  over ← t.loop_head
   body ← t.body true
   other ← t.else_or_end tags.Endfor looping
   pure (stmts.For (record {
@@ -228,8 +228,8 @@ abbrev pub recursion : Rule Bool
 recursion = branch (first (is_word (codes "recursive"))) (λ _. pure true) (pure false)
 
 -- what a loop goes over, the condition of an item, whether it can be called, and the end of the tag
-unfoldable pub looped : Inside → Rule Looped
-looped i = do
+unfoldable pub loop_head : Inside → Rule LoopHead
+loop_head i = do
   over ← iterated i
   condition ← loop_condition i
   recursive ← recursion
@@ -237,13 +237,13 @@ looped i = do
   pure (record { iterable = over; condition = condition; recursive = recursive })
 
 -- what stands behind the `=` of a `set`
-unfoldable pub set_value : Inside → Target → Rule Stmt
+unfoldable pub set_value : Inside → AssignmentTarget → Rule Stmt
 set_value i to = do
   x ← bare i
   pure (stmts.Set to x)
 
 -- what stands behind the target of a `set` without `=`
-unfoldable pub set_block : Inner → Bool → Target → Rule Stmt
+unfoldable pub set_block : Inner → Bool → AssignmentTarget → Rule Stmt
 set_block t looping to = do
   close ← block_end
   body ← t.body looping
@@ -322,10 +322,10 @@ body i t looping = more_statements i t looping []
 
 -- what may stand inside n nestings more
 unfoldable pub inner : ℕ → Inner
-inner zero = record { body = λ looping. nothing; rest = λ looping. nothing; else_or_end = λ end looping. nothing; looped = nothing }
+inner zero = record { body = λ looping. nothing; rest = λ looping. nothing; else_or_end = λ end looping. nothing; loop_head = nothing }
 inner (suc n) = record {
   body = body (inside n) (inner n);
   rest = rest (inside n) (inner n);
   else_or_end = else_or_end (inner n);
-  looped = looped (inside n);
+  loop_head = loop_head (inside n);
 }

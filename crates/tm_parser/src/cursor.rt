@@ -1,6 +1,6 @@
 //! Tokens one after another.
 ghost use Rattle.std.specs.Prelude.{◌≡◌, ◌∷◌, [], ◌↔◌, IsTrue, MatchResult, is_some};
-ghost use Rattle.tm_parser.specs.Gives.{Gives, Takes, TakesSign};
+ghost use Rattle.tm_parser.specs.Gives.{Parses, TakesFirst, TakesSign};
 ghost use Rattle.tm_parser.specs.Grammar.{is, a_name, a_constant, comma, ends_part, ends_target, is_comma, keyword_start, link, prefix, target_comma};
 ghost use Rattle.tm_parser.specs.Looks.{starts};
 ghost use Rattle.tm_parser.specs.Statements.{a_start, ends_iterated, is_tag, is_word, iterated_comma, lone, same_name};
@@ -187,7 +187,7 @@ impl<'t> Cursor<'t> {
     /// Takes a name, and answers a second owner of it. OutOfMemory where there can be none.
     pub fn take_name(&mut self) -> Result<Option<Name>, Error>
         ensures { MatchResult result
-            (λ name. Takes name self.old self.new (first_sees a_name self.old))
+            (λ name. TakesFirst name self.old self.new (first_sees a_name self.old))
             (λ e. e ≡ ErrorKind.OutOfMemory ∷ []) }
     {
         match self.rest {
@@ -204,7 +204,7 @@ impl<'t> Cursor<'t> {
     /// there can be none.
     pub fn take_keyword(&mut self) -> Result<Option<Name>, Error>
         ensures { MatchResult result
-            (λ name. Takes name self.old self.new (keyword_start.sees self.old))
+            (λ name. TakesFirst name self.old self.new (keyword_start.sees self.old))
             (λ e. e ≡ ErrorKind.OutOfMemory ∷ []) }
     {
         match self.rest {
@@ -221,7 +221,7 @@ impl<'t> Cursor<'t> {
     /// where there can be none.
     pub fn take_constant(&mut self) -> Result<Option<Value>, Error>
         ensures { MatchResult result
-            (λ value. Takes value self.old self.new (first_sees a_constant self.old))
+            (λ value. TakesFirst value self.old self.new (first_sees a_constant self.old))
             (λ e. e ≡ ErrorKind.OutOfMemory ∷ []) }
     {
         let value = match self.rest {
@@ -238,7 +238,7 @@ impl<'t> Cursor<'t> {
 
     /// Takes what goes on with a value at this level: a sign, or `not` and one.
     pub fn take_link(&mut self, level: u8) -> Option<Link>
-        ensures { Takes result self.old self.new ((link level).sees self.old) }
+        ensures { TakesFirst result self.old self.new ((link level).sees self.old) }
     {
         let (found, rest) = match self.rest {
             [Token::Sign(Sign::Not), Token::Sign(sign), rest @ ..] => (
@@ -259,7 +259,7 @@ impl<'t> Cursor<'t> {
 
     /// Takes a sign before an operand of this level.
     pub fn take_prefix(&mut self, level: u8) -> Option<UnaryOperator>
-        ensures { Takes result self.old self.new ((prefix level).sees self.old) }
+        ensures { TakesFirst result self.old self.new ((prefix level).sees self.old) }
     {
         match self.rest {
             [Token::Sign(sign), rest @ ..] => match prefix_of(*sign) {
@@ -276,7 +276,7 @@ impl<'t> Cursor<'t> {
     /// Takes what a statement begins with. OutOfMemory where a raw text can have no second owner.
     pub fn take_start(&mut self) -> Result<Option<Start>, Error>
         ensures { MatchResult result
-            (λ start. Takes start self.old self.new (first_sees a_start self.old))
+            (λ start. TakesFirst start self.old self.new (first_sees a_start self.old))
             (λ e. e ≡ ErrorKind.OutOfMemory ∷ []) }
     {
         let start = match self.rest {
@@ -294,7 +294,7 @@ impl<'t> Cursor<'t> {
 
     /// Takes this sign, which has to stand first.
     pub fn expect(&mut self, sign: Sign) -> Result<(), Error>
-        ensures { Gives result self.new ((token (is sign)).reads self.old) }
+        ensures { Parses result self.new ((token (is sign)).reads self.old) }
     {
         if self.take(sign) {
             Ok(())
@@ -305,7 +305,7 @@ impl<'t> Cursor<'t> {
 
     /// Takes this tag, which has to stand first.
     pub fn expect_tag(&mut self, tag: Tag) -> Result<(), Error>
-        ensures { Gives result self.new ((token (is_tag tag)).reads self.old) }
+        ensures { Parses result self.new ((token (is_tag tag)).reads self.old) }
     {
         if self.take_tag(tag) {
             Ok(())
@@ -316,7 +316,7 @@ impl<'t> Cursor<'t> {
 
     /// Takes this tag with nothing but its word, which has to stand first.
     pub fn expect_lone(&mut self, tag: Tag) -> Result<(), Error>
-        ensures { Gives result self.new ((lone tag).reads self.old) }
+        ensures { Parses result self.new ((lone tag).reads self.old) }
     {
         self.expect_tag(tag)?;
         self.expect(Sign::BlockEnd)
@@ -324,7 +324,7 @@ impl<'t> Cursor<'t> {
 
     /// Takes a name, which has to stand first.
     pub fn expect_name(&mut self) -> Result<Name, Error>
-        ensures { Gives result self.new ((token a_name).reads self.old) }
+        ensures { Parses result self.new ((token a_name).reads self.old) }
     {
         match self.take_name()? {
             Some(name) => Ok(name),
@@ -334,7 +334,7 @@ impl<'t> Cursor<'t> {
 
     /// Takes a name, if one stands first: it has to be this one.
     pub fn expect_same(&mut self, name: &Name) -> Result<(), Error>
-        ensures { Gives result self.new ((same_name name.now).reads self.old) }
+        ensures { Parses result self.new ((same_name name.now).reads self.old) }
     {
         match self.rest {
             [Token::Name(other), rest @ ..] => {

@@ -1,6 +1,6 @@
 //! Expressions: values with operators, steps and conditions behind them.
 ghost use Rattle.std.specs.Prelude.{◌≡◌, ◌∷◌, [], MatchResult};
-ghost use Rattle.tm_parser.specs.Gives.{Gives};
+ghost use Rattle.tm_parser.specs.Gives.{Parses};
 ghost use Rattle.tm_parser.specs.Grammar as grammar;
 ghost use Rattle.tm_parser.specs.Grammar.{inside, behind_comparison, comparison, comparisons_from};
 ghost use Rattle.tm_parser.specs.Grammar.{condition, conditions_from, conjunction, disjunction};
@@ -22,7 +22,7 @@ impl Cursor<'_> {
     /// Refuses a bracket for which no nesting is left.
     #[tactic(auto, using(crate::proofs::Nesting::expressions))]
     pub fn room(&self, depth: u8) -> Result<(), Error>
-        ensures { Gives result self.now ((inside depth).room.reads self.now) }
+        ensures { Parses result self.now ((inside depth).room.reads self.now) }
     {
         if depth == 0 {
             return Err(refusal());
@@ -34,7 +34,7 @@ impl Cursor<'_> {
     #[cycle(expressions)]
     #[tactic(auto, using(crate::proofs::Nesting::expressions))]
     pub fn inner_expr(&mut self, alloc: Global, depth: u8) -> Result<Boxed<Expr>, Error>
-        ensures { Gives result self.new ((inside depth).expr.reads self.old) }
+        ensures { Parses result self.new ((inside depth).expr.reads self.old) }
     {
         if depth == 0 {
             return Err(refusal());
@@ -46,7 +46,7 @@ impl Cursor<'_> {
     #[cycle(expressions)]
     #[tactic(auto, using(crate::proofs::Nesting::expressions))]
     fn inner_operand(&mut self, alloc: Global, depth: u8, level: u8) -> Result<Boxed<Expr>, Error>
-        ensures { Gives result self.new (((inside depth).operand level).reads self.old) }
+        ensures { Parses result self.new (((inside depth).operand level).reads self.old) }
     {
         if depth == 0 {
             return Err(refusal());
@@ -58,7 +58,7 @@ impl Cursor<'_> {
     #[cycle(expressions)]
     #[tactic(auto, unfolding(crate::specs::Grammar::expr))]
     pub fn expr(&mut self, alloc: Global, depth: u8) -> Result<Boxed<Expr>, Error>
-        ensures { Gives result self.new ((expr (inside depth)).reads self.old) }
+        ensures { Parses result self.new ((expr (inside depth)).reads self.old) }
     {
         let value = self.expr_at(alloc, depth, OR_LEVEL)?;
         let conditions = self.conditions(alloc, depth)?;
@@ -68,7 +68,7 @@ impl Cursor<'_> {
     /// As many conditions as there are.
     #[cycle(expressions)]
     fn conditions(&mut self, alloc: Global, depth: u8) -> Result<Items<Condition>, Error>
-        ensures { Gives result self.new
+        ensures { Parses result self.new
             ((conditions_from (inside depth) []).reads self.old) }
     {
         let mut conditions = Items::new(alloc);
@@ -87,7 +87,7 @@ impl Cursor<'_> {
         depth: u8,
         conditions: Items<Condition>,
     ) -> Result<Items<Condition>, Error>
-        ensures { Gives result self.new
+        ensures { Parses result self.new
             ((one_more (condition (inside depth)) conditions).reads self.old) }
     {
         let mut conditions = conditions;
@@ -101,7 +101,7 @@ impl Cursor<'_> {
     #[cycle(expressions)]
     #[tactic(auto, unfolding(crate::specs::Grammar::else_part))]
     fn else_part(&mut self, alloc: Global, depth: u8) -> Result<Boxed<Expr>, Error>
-        ensures { Gives result self.new ((else_part (inside depth)).reads self.old) }
+        ensures { Parses result self.new ((else_part (inside depth)).reads self.old) }
     {
         if self.take(Sign::Else) {
             return self.inner_expr(alloc, depth);
@@ -111,7 +111,7 @@ impl Cursor<'_> {
 
     /// A value with all operators, without conditions behind it.
     pub fn whole(&mut self, alloc: Global, depth: u8) -> Result<Boxed<Expr>, Error>
-        ensures { Gives result self.new ((whole (inside depth)).reads self.old) }
+        ensures { Parses result self.new ((whole (inside depth)).reads self.old) }
     {
         self.expr_at(alloc, depth, OR_LEVEL)
     }
@@ -120,7 +120,7 @@ impl Cursor<'_> {
     #[cycle(expressions)]
     #[tactic(auto, unfolding(crate::specs::Grammar::expr_at))]
     fn expr_at(&mut self, alloc: Global, depth: u8, level: u8) -> Result<Boxed<Expr>, Error>
-        ensures { Gives result self.new ((expr_at (inside depth) level).reads self.old) }
+        ensures { Parses result self.new ((expr_at (inside depth) level).reads self.old) }
     {
         let value = self.operand(alloc, depth, level)?;
         let steps = self.steps(alloc, depth, level)?;
@@ -131,7 +131,7 @@ impl Cursor<'_> {
     #[cycle(expressions)]
     #[tactic(auto, using(crate::proofs::Nesting::levels))]
     pub fn operand(&mut self, alloc: Global, depth: u8, level: u8) -> Result<Boxed<Expr>, Error>
-        ensures { Gives result self.new ((operand (inside depth) level).reads self.old) }
+        ensures { Parses result self.new ((operand (inside depth) level).reads self.old) }
     {
         if level == POSTFIX_LEVEL {
             return self.primary(alloc, depth);
@@ -146,7 +146,7 @@ impl Cursor<'_> {
     /// As many steps of a level as there are.
     #[cycle(expressions)]
     pub fn steps(&mut self, alloc: Global, depth: u8, level: u8) -> Result<Items<Step>, Error>
-        ensures { Gives result self.new
+        ensures { Parses result self.new
             ((steps_from (inside depth) (operand (inside depth) level) level []).reads self.old) }
     {
         let mut steps = Items::new(alloc);
@@ -166,7 +166,7 @@ impl Cursor<'_> {
         link: Link,
         steps: Items<Step>,
     ) -> Result<Items<Step>, Error>
-        ensures { Gives result self.new
+        ensures { Parses result self.new
             ((one_more (step (inside depth) (operand (inside depth) level) level link) steps).reads
             self.old) }
     {
@@ -178,7 +178,7 @@ impl Cursor<'_> {
     /// The step of a link.
     #[cycle(expressions)]
     fn step(&mut self, alloc: Global, depth: u8, level: u8, link: Link) -> Result<Step, Error>
-        ensures { Gives result self.new
+        ensures { Parses result self.new
             ((step (inside depth) (operand (inside depth) level) level link).reads self.old) }
     {
         match link {
@@ -195,7 +195,7 @@ impl Cursor<'_> {
     #[cycle(expressions)]
     #[tactic(auto, unfolding(crate::specs::Grammar::named_step))]
     fn named_step(&mut self, alloc: Global, depth: u8) -> Result<Step, Error>
-        ensures { Gives result self.new ((named_step (inside depth)).reads self.old) }
+        ensures { Parses result self.new ((named_step (inside depth)).reads self.old) }
     {
         let name = self.expect_name()?;
         if !self.take(Sign::OpenRound) {
@@ -210,7 +210,7 @@ impl Cursor<'_> {
     #[cycle(expressions)]
     #[tactic(auto, unfolding(crate::specs::Grammar::subscript))]
     fn subscript(&mut self, alloc: Global, depth: u8) -> Result<Step, Error>
-        ensures { Gives result self.new ((subscript (inside depth)).reads self.old) }
+        ensures { Parses result self.new ((subscript (inside depth)).reads self.old) }
     {
         self.room(depth)?;
         if self.take(Sign::Colon) {
@@ -229,7 +229,7 @@ impl Cursor<'_> {
     #[cycle(expressions)]
     #[tactic(auto, unfolding(crate::specs::Grammar::slice))]
     fn slice(&mut self, alloc: Global, depth: u8, start: Boxed<Expr>) -> Result<Step, Error>
-        ensures { Gives result self.new ((slice (inside depth) start).reads self.old) }
+        ensures { Parses result self.new ((slice (inside depth) start).reads self.old) }
     {
         let stop = self.part(alloc, depth)?;
         let by = self.last_part(alloc, depth)?;
@@ -241,7 +241,7 @@ impl Cursor<'_> {
     #[cycle(expressions)]
     #[tactic(auto, unfolding(crate::specs::Grammar::last_part))]
     fn last_part(&mut self, alloc: Global, depth: u8) -> Result<Boxed<Expr>, Error>
-        ensures { Gives result self.new ((last_part (inside depth)).reads self.old) }
+        ensures { Parses result self.new ((last_part (inside depth)).reads self.old) }
     {
         if self.take(Sign::Colon) {
             return self.part(alloc, depth);
@@ -253,7 +253,7 @@ impl Cursor<'_> {
     #[cycle(expressions)]
     #[tactic(auto, unfolding(crate::specs::Grammar::part))]
     fn part(&mut self, alloc: Global, depth: u8) -> Result<Boxed<Expr>, Error>
-        ensures { Gives result self.new ((part (inside depth)).reads self.old) }
+        ensures { Parses result self.new ((part (inside depth)).reads self.old) }
     {
         if self.ends_part() {
             return missing(alloc);
@@ -271,7 +271,7 @@ impl Cursor<'_> {
         level: u8,
         operator: BinaryOperator,
     ) -> Result<Step, Error>
-        ensures { Gives result self.new
+        ensures { Parses result self.new
             ((operation (operand (inside depth) level) operator).reads self.old) }
     {
         Ok(Step::Binary(operator, self.operand(alloc, depth, level)?))
@@ -287,7 +287,7 @@ impl Cursor<'_> {
         level: u8,
         operator: BinaryOperator,
     ) -> Result<Step, Error>
-        ensures { Gives result self.new
+        ensures { Parses result self.new
             ((comparison (operand (inside depth) level) level operator).reads self.old) }
     {
         let right = self.operand(alloc, depth, level)?;
@@ -303,7 +303,7 @@ impl Cursor<'_> {
         depth: u8,
         level: u8,
     ) -> Result<Items<Comparison>, Error>
-        ensures { Gives result self.new
+        ensures { Parses result self.new
             ((comparisons_from (operand (inside depth) level) level []).reads self.old) }
     {
         let mut comparisons = Items::new(alloc);
@@ -324,7 +324,7 @@ impl Cursor<'_> {
         link: Link,
         comparisons: Items<Comparison>,
     ) -> Result<Items<Comparison>, Error>
-        ensures { Gives result self.new
+        ensures { Parses result self.new
             ((one_more (behind_comparison (operand (inside depth) level) link) comparisons).reads
             self.old) }
     {
@@ -341,7 +341,7 @@ impl Cursor<'_> {
     #[cycle(expressions)]
     #[tactic(auto, unfolding(crate::specs::Grammar::conjunction))]
     fn conjunction(&mut self, alloc: Global, depth: u8, level: u8) -> Result<Step, Error>
-        ensures { Gives result self.new
+        ensures { Parses result self.new
             ((conjunction (operand (inside depth) level)).reads self.old) }
     {
         Ok(Step::And(self.operand(alloc, depth, level)?))
@@ -351,7 +351,7 @@ impl Cursor<'_> {
     #[cycle(expressions)]
     #[tactic(auto, unfolding(crate::specs::Grammar::disjunction))]
     fn disjunction(&mut self, alloc: Global, depth: u8, level: u8) -> Result<Step, Error>
-        ensures { Gives result self.new
+        ensures { Parses result self.new
             ((disjunction (operand (inside depth) level)).reads self.old) }
     {
         Ok(Step::Or(self.operand(alloc, depth, level)?))

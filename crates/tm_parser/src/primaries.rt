@@ -1,6 +1,6 @@
 //! What stands between operators: literals, names, calls, and what stands in brackets.
 ghost use Rattle.std.specs.Prelude.{[]};
-ghost use Rattle.tm_parser.specs.Gives.{Gives};
+ghost use Rattle.tm_parser.specs.Gives.{Parses};
 ghost use Rattle.tm_parser.specs.Grammar.{inside, all_passed, argument, bracketed, items, keyword};
 ghost use Rattle.tm_parser.specs.Grammar.{list_literal, map_literal, more_items, more_passed};
 ghost use Rattle.tm_parser.specs.Grammar.{named, one_passed, pair, primary, tuple};
@@ -28,7 +28,7 @@ impl Cursor<'_> {
     #[cycle(expressions)]
     #[tactic(auto, unfolding(crate::specs::Grammar::primary))]
     pub fn primary(&mut self, alloc: Global, depth: u8) -> Result<Boxed<Expr>, Error>
-        ensures { Gives result self.new ((primary (inside depth)).reads self.old) }
+        ensures { Parses result self.new ((primary (inside depth)).reads self.old) }
     {
         if let Some(value) = self.take_constant()? {
             return Ok(Boxed::new(alloc, Expr::Const(value))?);
@@ -52,7 +52,7 @@ impl Cursor<'_> {
     #[cycle(expressions)]
     #[tactic(auto, unfolding(crate::specs::Grammar::named))]
     fn named(&mut self, alloc: Global, depth: u8, name: Name) -> Result<Boxed<Expr>, Error>
-        ensures { Gives result self.new ((named (inside depth) name).reads self.old) }
+        ensures { Parses result self.new ((named (inside depth) name).reads self.old) }
     {
         if !self.take(Sign::OpenRound) {
             return Ok(Boxed::new(alloc, Expr::Var(name))?);
@@ -66,7 +66,7 @@ impl Cursor<'_> {
     #[cycle(expressions)]
     #[tactic(auto, unfolding(crate::specs::Grammar::bracketed))]
     fn bracketed(&mut self, alloc: Global, depth: u8) -> Result<Boxed<Expr>, Error>
-        ensures { Gives result self.new ((bracketed (inside depth)).reads self.old) }
+        ensures { Parses result self.new ((bracketed (inside depth)).reads self.old) }
     {
         self.room(depth)?;
         if self.take(Sign::CloseRound) {
@@ -83,7 +83,7 @@ impl Cursor<'_> {
     #[cycle(expressions)]
     #[tactic(auto, unfolding(crate::specs::Grammar::tuple))]
     fn tuple(&mut self, alloc: Global, depth: u8, first: Boxed<Expr>) -> Result<Boxed<Expr>, Error>
-        ensures { Gives result self.new ((tuple (inside depth) first).reads self.old) }
+        ensures { Parses result self.new ((tuple (inside depth) first).reads self.old) }
     {
         self.expect(Sign::Comma)?;
         let mut items = Items::new(alloc);
@@ -96,7 +96,7 @@ impl Cursor<'_> {
     #[cycle(expressions)]
     #[tactic(auto, unfolding(crate::specs::Grammar::list_literal))]
     fn list_literal(&mut self, alloc: Global, depth: u8) -> Result<Boxed<Expr>, Error>
-        ensures { Gives result self.new ((list_literal (inside depth)).reads self.old) }
+        ensures { Parses result self.new ((list_literal (inside depth)).reads self.old) }
     {
         self.room(depth)?;
         let items = self.exprs(alloc, depth, Sign::CloseSquare, Items::new(alloc))?;
@@ -107,7 +107,7 @@ impl Cursor<'_> {
     #[cycle(expressions)]
     #[tactic(auto, unfolding(crate::specs::Grammar::map_literal))]
     fn map_literal(&mut self, alloc: Global, depth: u8) -> Result<Boxed<Expr>, Error>
-        ensures { Gives result self.new ((map_literal (inside depth)).reads self.old) }
+        ensures { Parses result self.new ((map_literal (inside depth)).reads self.old) }
     {
         self.room(depth)?;
         let pairs = self.pairs(alloc, depth)?;
@@ -124,7 +124,7 @@ impl Cursor<'_> {
         close: Sign,
         first: Items<Expr>,
     ) -> Result<Items<Expr>, Error>
-        ensures { Gives result self.new ((items close (inside depth).expr first).reads self.old) }
+        ensures { Parses result self.new ((items close (inside depth).expr first).reads self.old) }
     {
         if self.take(close) {
             return Ok(first);
@@ -146,7 +146,7 @@ impl Cursor<'_> {
         close: Sign,
         first: Items<Expr>,
     ) -> Result<Items<Expr>, Error>
-        ensures { Gives result self.new
+        ensures { Parses result self.new
             ((more_items close (inside depth).expr first).reads self.old) }
     {
         let mut exprs = first;
@@ -164,7 +164,7 @@ impl Cursor<'_> {
         depth: u8,
         exprs: Items<Expr>,
     ) -> Result<Items<Expr>, Error>
-        ensures { Gives result self.new ((one_more (inside depth).expr exprs).reads self.old) }
+        ensures { Parses result self.new ((one_more (inside depth).expr exprs).reads self.old) }
     {
         let mut exprs = exprs;
         let value = self.inner_expr(alloc, depth)?;
@@ -176,7 +176,7 @@ impl Cursor<'_> {
     #[cycle(expressions)]
     #[tactic(auto, unfolding(crate::specs::Grammar::items))]
     fn pairs(&mut self, alloc: Global, depth: u8) -> Result<Items<Pair>, Error>
-        ensures { Gives result self.new
+        ensures { Parses result self.new
             ((items sign.CloseCurly (pair (inside depth)) []).reads self.old) }
     {
         let pairs = Items::new(alloc);
@@ -199,7 +199,7 @@ impl Cursor<'_> {
         depth: u8,
         first: Items<Pair>,
     ) -> Result<Items<Pair>, Error>
-        ensures { Gives result self.new
+        ensures { Parses result self.new
             ((more_items sign.CloseCurly (pair (inside depth)) first).reads self.old) }
     {
         let mut pairs = first;
@@ -218,7 +218,7 @@ impl Cursor<'_> {
         depth: u8,
         pairs: Items<Pair>,
     ) -> Result<Items<Pair>, Error>
-        ensures { Gives result self.new
+        ensures { Parses result self.new
             ((one_more (pair (inside depth)) pairs).reads self.old) }
     {
         let mut pairs = pairs;
@@ -233,7 +233,7 @@ impl Cursor<'_> {
     #[cycle(expressions)]
     #[tactic(auto, unfolding(crate::specs::Grammar::all_passed))]
     pub fn all_passed(&mut self, alloc: Global, depth: u8) -> Result<Passed, Error>
-        ensures { Gives result self.new ((all_passed (inside depth)).reads self.old) }
+        ensures { Parses result self.new ((all_passed (inside depth)).reads self.old) }
     {
         let given = Passed {
             by_place: Items::new(alloc),
@@ -253,7 +253,7 @@ impl Cursor<'_> {
     #[cycle(expressions)]
     #[tactic(auto, using(crate::proofs::Loops::arguments))]
     fn more_passed(&mut self, alloc: Global, depth: u8, first: Passed) -> Result<Passed, Error>
-        ensures { Gives result self.new ((more_passed (inside depth) first).reads self.old) }
+        ensures { Parses result self.new ((more_passed (inside depth) first).reads self.old) }
     {
         let mut given = first;
         while self.take_comma(Sign::CloseRound) {
@@ -266,7 +266,7 @@ impl Cursor<'_> {
     #[cycle(expressions)]
     #[tactic(auto, unfolding(crate::specs::Grammar::one_passed))]
     fn one_passed(&mut self, alloc: Global, depth: u8, given: Passed) -> Result<Passed, Error>
-        ensures { Gives result self.new ((one_passed (inside depth) given).reads self.old) }
+        ensures { Parses result self.new ((one_passed (inside depth) given).reads self.old) }
     {
         if let Some(name) = self.take_keyword()? {
             return self.keyword(alloc, depth, given, name);
@@ -284,7 +284,7 @@ impl Cursor<'_> {
         given: Passed,
         name: Name,
     ) -> Result<Passed, Error>
-        ensures { Gives result self.new ((keyword (inside depth) given name).reads self.old) }
+        ensures { Parses result self.new ((keyword (inside depth) given name).reads self.old) }
     {
         let mut given = given;
         let value = self.inner_expr(alloc, depth)?;
@@ -296,7 +296,7 @@ impl Cursor<'_> {
     #[cycle(expressions)]
     #[tactic(auto, unfolding(crate::specs::Grammar::argument), using(crate::proofs::Nesting::names))]
     fn argument(&mut self, alloc: Global, depth: u8, given: Passed) -> Result<Passed, Error>
-        ensures { Gives result self.new ((argument (inside depth) given).reads self.old) }
+        ensures { Parses result self.new ((argument (inside depth) given).reads self.old) }
     {
         if !given.by_name.is_empty() {
             return Err(refusal());

@@ -1,6 +1,6 @@
 //! Statements.
 ghost use Rattle.std.specs.Prelude.{◌≡◌, false, is_some};
-ghost use Rattle.tm_parser.specs.Gives.{Gives};
+ghost use Rattle.tm_parser.specs.Gives.{Parses};
 ghost use Rattle.tm_parser.specs.Grammar.{inside};
 ghost use Rattle.tm_parser.specs.Statements as spec;
 ghost use Rattle.tm_parser.specs.Statements.{autoescape_tag, block_end, block_tag, body, do_tag, elif_tag, else_or_end, else_tag, emission, for_tag, if_tag, inner, jump, rest, set_block, set_tag, set_value, statement, with_tag};
@@ -10,10 +10,10 @@ ghost use Rattle.tm_syntax.specs.declared.tree.Argument.TheBlock.{hidden-the_row
 
 use crate::cursor::{Cursor, refusal};
 use crate::tables::Start;
-use crate::targets::Looped;
+use crate::targets::LoopHead;
 use sqlite_items::{Boxed, Items};
 use std::alloc::Global;
-use tm_syntax::{Argument, Expr, ForLoop, Sign, Step, Stmt, Tag, Target};
+use tm_syntax::{Argument, Expr, ForLoop, Sign, Step, Stmt, Tag, AssignmentTarget};
 use tm_values::Error;
 
 // Each method reads one rule, with `depth` nestings to go, and where `looping` with a loop around
@@ -23,7 +23,7 @@ impl Cursor<'_> {
     #[cycle(statements)]
     #[tactic(auto, using(crate::proofs::Nesting::statements))]
     fn inner_body(&mut self, alloc: Global, depth: u8, looping: bool) -> Result<Items<Stmt>, Error>
-        ensures { Gives result self.new (((inner depth).body looping).reads self.old) }
+        ensures { Parses result self.new (((inner depth).body looping).reads self.old) }
     {
         if depth == 0 {
             return Err(refusal());
@@ -40,7 +40,7 @@ impl Cursor<'_> {
         depth: u8,
         looping: bool,
     ) -> Result<Option<Items<Stmt>>, Error>
-        ensures { Gives result self.new (((inner depth).rest looping).reads self.old) }
+        ensures { Parses result self.new (((inner depth).rest looping).reads self.old) }
     {
         if depth == 0 {
             return Err(refusal());
@@ -58,7 +58,7 @@ impl Cursor<'_> {
         end: Tag,
         looping: bool,
     ) -> Result<Option<Items<Stmt>>, Error>
-        ensures { Gives result self.new (((inner depth).else_or_end end looping).reads self.old) }
+        ensures { Parses result self.new (((inner depth).else_or_end end looping).reads self.old) }
     {
         if depth == 0 {
             return Err(refusal());
@@ -69,7 +69,7 @@ impl Cursor<'_> {
     /// Statements, as long as one begins.
     #[cycle(statements)]
     pub fn body(&mut self, alloc: Global, depth: u8, looping: bool) -> Result<Items<Stmt>, Error>
-        ensures { Gives result self.new
+        ensures { Parses result self.new
             ((body (inside depth) (inner depth) looping).reads self.old) }
     {
         let mut body = Items::new(alloc);
@@ -89,7 +89,7 @@ impl Cursor<'_> {
         start: Start,
         body: Items<Stmt>,
     ) -> Result<Items<Stmt>, Error>
-        ensures { Gives result self.new
+        ensures { Parses result self.new
             ((one_more (statement (inside depth) (inner depth) looping start) body).reads
             self.old) }
     {
@@ -107,7 +107,7 @@ impl Cursor<'_> {
         looping: bool,
         start: Start,
     ) -> Result<Stmt, Error>
-        ensures { Gives result self.new
+        ensures { Parses result self.new
             ((statement (inside depth) (inner depth) looping start).reads self.old) }
     {
         match start {
@@ -128,18 +128,18 @@ impl Cursor<'_> {
     /// The expression of an emission, and its end.
     #[tactic(auto, unfolding(crate::specs::Statements::emission))]
     fn emission(&mut self, alloc: Global, depth: u8) -> Result<Stmt, Error>
-        ensures { Gives result self.new ((emission (inside depth)).reads self.old) }
+        ensures { Parses result self.new ((emission (inside depth)).reads self.old) }
     {
         let value = self.expr(alloc, depth)?;
         self.expect(Sign::VariableEnd)?;
-        Ok(emitted(value))
+        Ok(emit_statement(value))
     }
 
     /// The condition of an `if`, its body, and all up to its end tag.
     #[cycle(statements)]
     #[tactic(auto, unfolding(crate::specs::Statements::if_tag))]
     fn if_tag(&mut self, alloc: Global, depth: u8, looping: bool) -> Result<Stmt, Error>
-        ensures { Gives result self.new
+        ensures { Parses result self.new
             ((if_tag (inside depth) (inner depth) looping).reads self.old) }
     {
         let condition = self.inner_expr(alloc, depth)?;
@@ -158,7 +158,7 @@ impl Cursor<'_> {
         depth: u8,
         looping: bool,
     ) -> Result<Option<Items<Stmt>>, Error>
-        ensures { Gives result self.new
+        ensures { Parses result self.new
             ((rest (inside depth) (inner depth) looping).reads self.old) }
     {
         if self.take_tag(Tag::Elif) {
@@ -176,7 +176,7 @@ impl Cursor<'_> {
         depth: u8,
         looping: bool,
     ) -> Result<Option<Items<Stmt>>, Error>
-        ensures { Gives result self.new
+        ensures { Parses result self.new
             ((elif_tag (inside depth) (inner depth) looping).reads self.old) }
     {
         let condition = self.expr(alloc, depth)?;
@@ -198,7 +198,7 @@ impl Cursor<'_> {
         end: Tag,
         looping: bool,
     ) -> Result<Option<Items<Stmt>>, Error>
-        ensures { Gives result self.new ((else_or_end (inner depth) end looping).reads self.old) }
+        ensures { Parses result self.new ((else_or_end (inner depth) end looping).reads self.old) }
     {
         if self.take_tag(Tag::Else) {
             return self.else_tag(alloc, depth, end, looping);
@@ -217,7 +217,7 @@ impl Cursor<'_> {
         end: Tag,
         looping: bool,
     ) -> Result<Option<Items<Stmt>>, Error>
-        ensures { Gives result self.new ((else_tag (inner depth) end looping).reads self.old) }
+        ensures { Parses result self.new ((else_tag (inner depth) end looping).reads self.old) }
     {
         self.expect(Sign::BlockEnd)?;
         let body = self.inner_body(alloc, depth, looping)?;
@@ -230,16 +230,16 @@ impl Cursor<'_> {
     #[cycle(statements)]
     #[tactic(auto, unfolding(crate::specs::Statements::for_tag))]
     fn for_tag(&mut self, alloc: Global, depth: u8, looping: bool) -> Result<Stmt, Error>
-        ensures { Gives result self.new
+        ensures { Parses result self.new
             ((for_tag (inside depth) (inner depth) looping).reads self.old) }
     {
         let target = self.inner_target(alloc, depth)?;
         self.expect(Sign::In)?;
-        let Looped {
+        let LoopHead {
             iterable,
             condition,
             recursive,
-        } = self.inner_looped(alloc, depth)?;
+        } = self.inner_loop_head(alloc, depth)?;
         let body = self.inner_body(alloc, depth, true)?;
         let other = self.inner_else_or_end(alloc, depth, Tag::Endfor, looping)?;
         Ok(Stmt::For(ForLoop {
@@ -255,7 +255,7 @@ impl Cursor<'_> {
     /// The end of a `break`.
     #[tactic(auto, unfolding(crate::specs::Statements::jump))]
     fn break_tag(&mut self, looping: bool) -> Result<Stmt, Error>
-        ensures { Gives result self.new ((jump looping Break).reads self.old) }
+        ensures { Parses result self.new ((jump looping Break).reads self.old) }
     {
         self.jump(looping)?;
         Ok(Stmt::Break)
@@ -264,7 +264,7 @@ impl Cursor<'_> {
     /// The end of a `continue`.
     #[tactic(auto, unfolding(crate::specs::Statements::jump))]
     fn continue_tag(&mut self, looping: bool) -> Result<Stmt, Error>
-        ensures { Gives result self.new ((jump looping Continue).reads self.old) }
+        ensures { Parses result self.new ((jump looping Continue).reads self.old) }
     {
         self.jump(looping)?;
         Ok(Stmt::Continue)
@@ -272,7 +272,7 @@ impl Cursor<'_> {
 
     /// The end of a tag of one word, whose statement stands nowhere but inside a loop.
     fn jump(&mut self, looping: bool) -> Result<(), Error>
-        ensures { Gives result self.new ((provided looping block_end).reads self.old) }
+        ensures { Parses result self.new ((provided looping block_end).reads self.old) }
     {
         if !looping {
             return Err(refusal());
@@ -285,7 +285,7 @@ impl Cursor<'_> {
     #[cycle(statements)]
     #[tactic(auto, unfolding(crate::specs::Statements::block_tag))]
     fn block_tag(&mut self, alloc: Global, depth: u8) -> Result<Stmt, Error>
-        ensures { Gives result self.new ((block_tag (inner depth)).reads self.old) }
+        ensures { Parses result self.new ((block_tag (inner depth)).reads self.old) }
     {
         let name = self.expect_name()?;
         self.expect(Sign::BlockEnd)?;
@@ -300,7 +300,7 @@ impl Cursor<'_> {
     #[cycle(statements)]
     #[tactic(auto, unfolding(crate::specs::Statements::set_tag))]
     fn set_tag(&mut self, alloc: Global, depth: u8, looping: bool) -> Result<Stmt, Error>
-        ensures { Gives result self.new
+        ensures { Parses result self.new
             ((set_tag (inside depth) (inner depth) looping).reads self.old) }
     {
         let target = self.target(alloc, depth)?;
@@ -312,8 +312,8 @@ impl Cursor<'_> {
 
     /// The value of a `set` behind its `=`, and its end.
     #[tactic(auto, unfolding(crate::specs::Statements::set_value))]
-    fn set_value(&mut self, alloc: Global, depth: u8, target: Target) -> Result<Stmt, Error>
-        ensures { Gives result self.new ((set_value (inside depth) target).reads self.old) }
+    fn set_value(&mut self, alloc: Global, depth: u8, target: AssignmentTarget) -> Result<Stmt, Error>
+        ensures { Parses result self.new ((set_value (inside depth) target).reads self.old) }
     {
         let value = self.bare(alloc, depth)?;
         Ok(Stmt::Set(target, value))
@@ -327,9 +327,9 @@ impl Cursor<'_> {
         alloc: Global,
         depth: u8,
         looping: bool,
-        target: Target,
+        target: AssignmentTarget,
     ) -> Result<Stmt, Error>
-        ensures { Gives result self.new ((set_block (inner depth) looping target).reads self.old) }
+        ensures { Parses result self.new ((set_block (inner depth) looping target).reads self.old) }
     {
         self.expect(Sign::BlockEnd)?;
         let body = self.inner_body(alloc, depth, looping)?;
@@ -341,7 +341,7 @@ impl Cursor<'_> {
     #[cycle(statements)]
     #[tactic(auto, unfolding(crate::specs::Statements::with_tag))]
     fn with_tag(&mut self, alloc: Global, depth: u8, looping: bool) -> Result<Stmt, Error>
-        ensures { Gives result self.new
+        ensures { Parses result self.new
             ((with_tag (inside depth) (inner depth) looping).reads self.old) }
     {
         let given = self.assignments(alloc, depth)?;
@@ -354,7 +354,7 @@ impl Cursor<'_> {
     #[cycle(statements)]
     #[tactic(auto, unfolding(crate::specs::Statements::autoescape_tag))]
     fn autoescape_tag(&mut self, alloc: Global, depth: u8, looping: bool) -> Result<Stmt, Error>
-        ensures { Gives result self.new
+        ensures { Parses result self.new
             ((autoescape_tag (inside depth) (inner depth) looping).reads self.old) }
     {
         let value = self.inner_expr(alloc, depth)?;
@@ -367,7 +367,7 @@ impl Cursor<'_> {
     /// The call of a `do`, and its end.
     #[tactic(auto, unfolding(crate::specs::Statements::do_tag))]
     fn do_tag(&mut self, alloc: Global, depth: u8) -> Result<Stmt, Error>
-        ensures { Gives result self.new ((do_tag (inside depth)).reads self.old) }
+        ensures { Parses result self.new ((do_tag (inside depth)).reads self.old) }
     {
         let call = self.expr(alloc, depth)?;
         if !is_call(call.get()) {
@@ -380,8 +380,8 @@ impl Cursor<'_> {
 
 /// The statement that emits a value: a call of the innermost loop where it is one.
 #[tactic(auto, unfolding(crate::specs::Statements::loop_argument))]
-fn emitted(value: Boxed<Expr>) -> Stmt
-    ensures { result ≡ spec.emitted value }
+fn emit_statement(value: Boxed<Expr>) -> Stmt
+    ensures { result ≡ spec.emit_statement value }
 {
     if !is_call_of_loop(value.get()) {
         return Stmt::EmitExpr(value);

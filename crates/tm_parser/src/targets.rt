@@ -1,9 +1,9 @@
 //! Targets, and what is given to them.
 ghost use Rattle.std.specs.Prelude.{◌≡◌, [], MatchResult, None, Some};
-ghost use Rattle.tm_parser.specs.Gives.{Gives, Refused};
+ghost use Rattle.tm_parser.specs.Gives.{Parses, Refused};
 ghost use Rattle.tm_parser.specs.Grammar as grammar;
 ghost use Rattle.tm_parser.specs.Grammar.{inside, expr, items, member, more_items, more_targets, several, single, target, whole};
-ghost use Rattle.tm_parser.specs.Statements.{assignment, bare, bare_tuple, loop_condition, inner, iterated, iterated_tuple, looped, more_iterated};
+ghost use Rattle.tm_parser.specs.Statements.{assignment, bare, bare_tuple, loop_condition, inner, iterated, iterated_tuple, loop_head, more_iterated};
 ghost use Rattle.tm_rules.specs.Combinators.{one_more};
 ghost use Rattle.tm_syntax.specs.declared.token.Sign.TheVariants as sign;
 
@@ -12,12 +12,12 @@ use crate::expressions::chained;
 use crate::tables::POSTFIX_LEVEL;
 use sqlite_items::{Boxed, Items};
 use std::alloc::Global;
-use tm_syntax::{Assignment, Expr, Name, Sign, Step, Target};
+use tm_syntax::{Assignment, Expr, Name, Sign, Step, AssignmentTarget};
 use tm_values::Error;
 
 /// What a loop goes over, and how.
 #[derive(Drop)]
-pub struct Looped {
+pub struct LoopHead {
     /// What is iterated.
     pub iterable: Boxed<Expr>,
     /// The condition of an item that is taken.
@@ -31,8 +31,8 @@ impl Cursor<'_> {
     /// A target inside one nesting more.
     #[cycle(targets)]
     #[tactic(auto, using(crate::proofs::Nesting::targets))]
-    pub fn inner_target(&mut self, alloc: Global, depth: u8) -> Result<Target, Error>
-        ensures { Gives result self.new ((inside depth).target.reads self.old) }
+    pub fn inner_target(&mut self, alloc: Global, depth: u8) -> Result<AssignmentTarget, Error>
+        ensures { Parses result self.new ((inside depth).target.reads self.old) }
     {
         if depth == 0 {
             return Err(refusal());
@@ -43,8 +43,8 @@ impl Cursor<'_> {
     /// One target, or several between commas.
     #[cycle(targets)]
     #[tactic(auto, unfolding(crate::specs::Grammar::target))]
-    pub fn target(&mut self, alloc: Global, depth: u8) -> Result<Target, Error>
-        ensures { Gives result self.new ((target (inside depth)).reads self.old) }
+    pub fn target(&mut self, alloc: Global, depth: u8) -> Result<AssignmentTarget, Error>
+        ensures { Parses result self.new ((target (inside depth)).reads self.old) }
     {
         let first = self.single(alloc, depth)?;
         if !self.is_at_comma() {
@@ -56,14 +56,14 @@ impl Cursor<'_> {
     /// Several targets behind the first one, with a comma behind the last one or none.
     #[cycle(targets)]
     #[tactic(auto, unfolding(crate::specs::Grammar::several))]
-    fn several(&mut self, alloc: Global, depth: u8, first: Target) -> Result<Target, Error>
-        ensures { Gives result self.new ((several (inside depth) first).reads self.old) }
+    fn several(&mut self, alloc: Global, depth: u8, first: AssignmentTarget) -> Result<AssignmentTarget, Error>
+        ensures { Parses result self.new ((several (inside depth) first).reads self.old) }
     {
         let mut targets = Items::new(alloc);
         targets.push(first)?;
         let targets = self.more_targets(alloc, depth, targets)?;
         self.take(Sign::Comma);
-        Ok(Target::Unpack(targets))
+        Ok(AssignmentTarget::Unpack(targets))
     }
 
     /// More targets, each behind a comma.
@@ -73,9 +73,9 @@ impl Cursor<'_> {
         &mut self,
         alloc: Global,
         depth: u8,
-        first: Items<Target>,
-    ) -> Result<Items<Target>, Error>
-        ensures { Gives result self.new ((more_targets (inside depth) first).reads self.old) }
+        first: Items<AssignmentTarget>,
+    ) -> Result<Items<AssignmentTarget>, Error>
+        ensures { Parses result self.new ((more_targets (inside depth) first).reads self.old) }
     {
         let mut targets = first;
         while self.take_target_comma() {
@@ -90,9 +90,9 @@ impl Cursor<'_> {
         &mut self,
         alloc: Global,
         depth: u8,
-        targets: Items<Target>,
-    ) -> Result<Items<Target>, Error>
-        ensures { Gives result self.new
+        targets: Items<AssignmentTarget>,
+    ) -> Result<Items<AssignmentTarget>, Error>
+        ensures { Parses result self.new
             ((one_more (single (inside depth)) targets).reads self.old) }
     {
         let mut targets = targets;
@@ -103,8 +103,8 @@ impl Cursor<'_> {
     /// A target with no comma outside brackets.
     #[cycle(targets)]
     #[tactic(auto, unfolding(crate::specs::Grammar::single))]
-    fn single(&mut self, alloc: Global, depth: u8) -> Result<Target, Error>
-        ensures { Gives result self.new ((single (inside depth)).reads self.old) }
+    fn single(&mut self, alloc: Global, depth: u8) -> Result<AssignmentTarget, Error>
+        ensures { Parses result self.new ((single (inside depth)).reads self.old) }
     {
         if !self.take(Sign::OpenRound) {
             return self.member(alloc, depth);
@@ -116,8 +116,8 @@ impl Cursor<'_> {
 
     /// A name or an attribute.
     #[tactic(auto, unfolding(crate::specs::Grammar::member))]
-    fn member(&mut self, alloc: Global, depth: u8) -> Result<Target, Error>
-        ensures { Gives result self.new ((member (inside depth)).reads self.old) }
+    fn member(&mut self, alloc: Global, depth: u8) -> Result<AssignmentTarget, Error>
+        ensures { Parses result self.new ((member (inside depth)).reads self.old) }
     {
         let value = self.operand(alloc, depth, POSTFIX_LEVEL)?;
         let steps = self.steps(alloc, depth, POSTFIX_LEVEL)?;
@@ -127,26 +127,26 @@ impl Cursor<'_> {
     /// What a loop goes over, the condition of an item, whether it can be called, and the end of
     /// its tag, inside one nesting more.
     #[tactic(auto, using(crate::proofs::Nesting::loops))]
-    pub fn inner_looped(&mut self, alloc: Global, depth: u8) -> Result<Looped, Error>
-        ensures { Gives result self.new ((inner depth).looped.reads self.old) }
+    pub fn inner_loop_head(&mut self, alloc: Global, depth: u8) -> Result<LoopHead, Error>
+        ensures { Parses result self.new ((inner depth).loop_head.reads self.old) }
     {
         if depth == 0 {
             return Err(refusal());
         }
-        self.looped(alloc, depth - 1)
+        self.loop_head(alloc, depth - 1)
     }
 
     /// What a loop goes over, the condition of an item, whether it can be called, and the end of
     /// its tag.
-    #[tactic(auto, unfolding(crate::specs::Statements::looped))]
-    fn looped(&mut self, alloc: Global, depth: u8) -> Result<Looped, Error>
-        ensures { Gives result self.new ((looped (inside depth)).reads self.old) }
+    #[tactic(auto, unfolding(crate::specs::Statements::loop_head))]
+    fn loop_head(&mut self, alloc: Global, depth: u8) -> Result<LoopHead, Error>
+        ensures { Parses result self.new ((loop_head (inside depth)).reads self.old) }
     {
         let iterable = self.iterated(alloc, depth)?;
         let condition = self.loop_condition(alloc, depth)?;
         let recursive = self.take_word("recursive");
         self.expect(Sign::BlockEnd)?;
-        Ok(Looped {
+        Ok(LoopHead {
             iterable,
             condition,
             recursive,
@@ -156,7 +156,7 @@ impl Cursor<'_> {
     /// The condition of a loop's item, if it stands there.
     #[tactic(auto, unfolding(crate::specs::Statements::loop_condition))]
     fn loop_condition(&mut self, alloc: Global, depth: u8) -> Result<Option<Boxed<Expr>>, Error>
-        ensures { Gives result self.new ((loop_condition (inside depth)).reads self.old) }
+        ensures { Parses result self.new ((loop_condition (inside depth)).reads self.old) }
     {
         if self.take(Sign::If) {
             return Ok(Some(self.whole(alloc, depth)?));
@@ -167,7 +167,7 @@ impl Cursor<'_> {
     /// A value or a tuple without brackets, behind which an `if` is the loop's.
     #[tactic(auto, unfolding(crate::specs::Statements::iterated))]
     fn iterated(&mut self, alloc: Global, depth: u8) -> Result<Boxed<Expr>, Error>
-        ensures { Gives result self.new ((iterated (inside depth)).reads self.old) }
+        ensures { Parses result self.new ((iterated (inside depth)).reads self.old) }
     {
         let first = self.whole(alloc, depth)?;
         if !self.is_at_comma() {
@@ -184,7 +184,7 @@ impl Cursor<'_> {
         depth: u8,
         first: Boxed<Expr>,
     ) -> Result<Boxed<Expr>, Error>
-        ensures { Gives result self.new ((iterated_tuple (inside depth) first).reads self.old) }
+        ensures { Parses result self.new ((iterated_tuple (inside depth) first).reads self.old) }
     {
         let mut items = Items::new(alloc);
         items.push(first.into_inner())?;
@@ -201,7 +201,7 @@ impl Cursor<'_> {
         depth: u8,
         first: Items<Expr>,
     ) -> Result<Items<Expr>, Error>
-        ensures { Gives result self.new ((more_iterated (inside depth) first).reads self.old) }
+        ensures { Parses result self.new ((more_iterated (inside depth) first).reads self.old) }
     {
         let mut items = first;
         while self.take_iterated_comma() {
@@ -217,7 +217,7 @@ impl Cursor<'_> {
         depth: u8,
         items: Items<Expr>,
     ) -> Result<Items<Expr>, Error>
-        ensures { Gives result self.new
+        ensures { Parses result self.new
             ((one_more (whole (inside depth)) items).reads self.old) }
     {
         let mut items = items;
@@ -229,7 +229,7 @@ impl Cursor<'_> {
     /// An expression or a tuple without brackets, and the end of the tag.
     #[tactic(auto, unfolding(crate::specs::Statements::bare))]
     pub fn bare(&mut self, alloc: Global, depth: u8) -> Result<Boxed<Expr>, Error>
-        ensures { Gives result self.new ((bare (inside depth)).reads self.old) }
+        ensures { Parses result self.new ((bare (inside depth)).reads self.old) }
     {
         let first = self.expr(alloc, depth)?;
         if self.take(Sign::BlockEnd) {
@@ -246,7 +246,7 @@ impl Cursor<'_> {
         depth: u8,
         first: Boxed<Expr>,
     ) -> Result<Boxed<Expr>, Error>
-        ensures { Gives result self.new ((bare_tuple (inside depth) first).reads self.old) }
+        ensures { Parses result self.new ((bare_tuple (inside depth) first).reads self.old) }
     {
         self.expect(Sign::Comma)?;
         let mut items = Items::new(alloc);
@@ -263,7 +263,7 @@ impl Cursor<'_> {
         depth: u8,
         first: Items<Expr>,
     ) -> Result<Items<Expr>, Error>
-        ensures { Gives result self.new
+        ensures { Parses result self.new
             ((items sign.BlockEnd (expr (inside depth)) first).reads self.old) }
     {
         if self.take(Sign::BlockEnd) {
@@ -284,7 +284,7 @@ impl Cursor<'_> {
         depth: u8,
         first: Items<Expr>,
     ) -> Result<Items<Expr>, Error>
-        ensures { Gives result self.new
+        ensures { Parses result self.new
             ((more_items sign.BlockEnd (expr (inside depth)) first).reads self.old) }
     {
         let mut items = first;
@@ -301,7 +301,7 @@ impl Cursor<'_> {
         depth: u8,
         items: Items<Expr>,
     ) -> Result<Items<Expr>, Error>
-        ensures { Gives result self.new
+        ensures { Parses result self.new
             ((one_more (expr (inside depth)) items).reads self.old) }
     {
         let mut items = items;
@@ -313,7 +313,7 @@ impl Cursor<'_> {
     /// Assignments, and the end of the tag.
     #[tactic(auto, unfolding(crate::specs::Grammar::items))]
     pub fn assignments(&mut self, alloc: Global, depth: u8) -> Result<Items<Assignment>, Error>
-        ensures { Gives result self.new
+        ensures { Parses result self.new
             ((items sign.BlockEnd (assignment (inside depth)) []).reads self.old) }
     {
         let assignments = Items::new(alloc);
@@ -335,7 +335,7 @@ impl Cursor<'_> {
         depth: u8,
         first: Items<Assignment>,
     ) -> Result<Items<Assignment>, Error>
-        ensures { Gives result self.new
+        ensures { Parses result self.new
             ((more_items sign.BlockEnd (assignment (inside depth)) first).reads self.old) }
     {
         let mut assignments = first;
@@ -352,7 +352,7 @@ impl Cursor<'_> {
         depth: u8,
         assignments: Items<Assignment>,
     ) -> Result<Items<Assignment>, Error>
-        ensures { Gives result self.new
+        ensures { Parses result self.new
             ((one_more (assignment (inside depth)) assignments).reads self.old) }
     {
         let mut assignments = assignments;
@@ -363,7 +363,7 @@ impl Cursor<'_> {
     /// A target, and what is given to it.
     #[tactic(auto, unfolding(crate::specs::Statements::assignment))]
     fn assignment(&mut self, alloc: Global, depth: u8) -> Result<Assignment, Error>
-        ensures { Gives result self.new ((assignment (inside depth)).reads self.old) }
+        ensures { Parses result self.new ((assignment (inside depth)).reads self.old) }
     {
         let target = self.inner_target(alloc, depth)?;
         self.expect(Sign::Assign)?;
@@ -374,7 +374,7 @@ impl Cursor<'_> {
 
 /// What a value and its steps are as a target. SyntaxError where they are none, OutOfMemory.
 #[tactic(auto, using(crate::proofs::Nesting::members))]
-fn target_of(alloc: Global, value: Boxed<Expr>, steps: Items<Step>) -> Result<Target, Error>
+fn target_of(alloc: Global, value: Boxed<Expr>, steps: Items<Step>) -> Result<AssignmentTarget, Error>
     ensures { MatchResult result
         (λ target. grammar.target_of value steps ≡ Some target)
         (λ e. Refused e (grammar.target_of value steps ≡ None)) }
@@ -386,17 +386,17 @@ fn target_of(alloc: Global, value: Boxed<Expr>, steps: Items<Step>) -> Result<Ta
     let Some(name) = attribute_name(last) else {
         return Err(refusal());
     };
-    Ok(Target::Attribute(chained(alloc, value, steps)?, name))
+    Ok(AssignmentTarget::Attribute(chained(alloc, value, steps)?, name))
 }
 
 /// What a value is as a target. SyntaxError where it is none; OutOfMemory.
-fn lone_target(value: &Expr) -> Result<Target, Error>
+fn lone_target(value: &Expr) -> Result<AssignmentTarget, Error>
     ensures { MatchResult result
         (λ target. grammar.lone_target value.now ≡ Some target)
         (λ e. Refused e (grammar.lone_target value.now ≡ None)) }
 {
     match value {
-        Expr::Var(name) => Ok(Target::Name(name.share()?)),
+        Expr::Var(name) => Ok(AssignmentTarget::Name(name.share()?)),
         _ => Err(refusal()),
     }
 }

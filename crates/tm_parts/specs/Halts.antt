@@ -2,7 +2,7 @@
 use Rattle.std.specs.Prelude.{◌≡◌, ◌≢◌, ℕ, List, [], ◌∷◌, Option, Result, Ok, Err}
 use Rattle.tm_values.specs.declared.error.ErrorKind.{ErrorKind}
 use Rattle.tm_values.specs.declared.error.ErrorKind.TheVariants.{WriteFailure, BadStream, OutOfMemory}
-use Rattle.tm_output.specs.Counts.{one_more}
+use Rattle.tm_output.specs.Counts.{saturating_increment}
 use Rattle.tm_meaning.specs.Machine.{Capture}
 use Rattle.tm_parts.specs.declared.halt.Halt.{Halt}
 use Rattle.tm_parts.specs.declared.halt.Halt.TheVariants.{Writer, Stuck, Fault}
@@ -16,7 +16,7 @@ error_of (Fault chain) = chain
 -- the writer's count of faults behind an answer: one more where the writer halted the run, and else the same
 abbrev pub faults_after : {A : Type 0} → Result A Halt → ℕ → ℕ
 faults_after (Ok _) faults = faults
-faults_after (Err Writer) faults = one_more faults
+faults_after (Err Writer) faults = saturating_increment faults
 faults_after (Err Stuck) faults = faults
 faults_after (Err (Fault chain)) faults = faults
 

@@ -4,7 +4,7 @@ ghost use Rattle.std.specs.Io.KnownBytes.{Appends};
 ghost use Rattle.tm_values.specs.declared.error.ErrorKind.TheVariants.{WriteFailure, OutOfMemory};
 ghost use Rattle.tm_meaning.specs.Instructions.{is_heard};
 ghost use Rattle.tm_meaning.specs.Machine.{first_heard, new_capture, put_in, put_out};
-ghost use Rattle.tm_output.specs.Counts.{one_more, AppendsBeginning};
+ghost use Rattle.tm_output.specs.Counts.{saturating_increment, AppendsBeginning};
 ghost use Rattle.tm_definitions.specs.Emitted.{emitted_text};
 ghost use Rattle.tm_parts.specs.Halts.{faults_after, PutHalts};
 
@@ -210,7 +210,7 @@ impl<W: Sink> Output<W> {
         ensures kind { IfErr result (λ e. (e ≡ WriteFailure ∷ []) ⊎ (e ≡ OutOfMemory ∷ [])) }
         ensures unchanged { OnErr result (self.new.captures ≡ self.old.captures) }
         ensures failed { result ≡ Err (WriteFailure ∷ []) → (self.old.captures ≡ [])
-            × (W.faults self.new.writer ≡ one_more (W.faults self.old.writer)) }
+            × (W.faults self.new.writer ≡ saturating_increment (W.faults self.old.writer)) }
         ensures memory { result ≡ Err (OutOfMemory ∷ []) → (self.old.captures ≢ [])
             × (W.told self.new.writer ≡ W.told self.old.writer)
             × (W.faults self.new.writer ≡ W.faults self.old.writer) }
@@ -260,7 +260,7 @@ impl<W: Sink> WriteWrapper<W> {
         ensures same_error { OnOk result (self.new.err ≡ self.old.err) }
         ensures kind { IfErr result (λ e. e ≡ WriteFailure ∷ []) }
         ensures beginning { AppendsBeginning (W.told self.old.w) (W.told self.new.w) text.now }
-        ensures fault { OnErr result (W.faults self.new.w ≡ one_more (W.faults self.old.w)) }
+        ensures fault { OnErr result (W.faults self.new.w ≡ saturating_increment (W.faults self.old.w)) }
         ensures kept { OnErr result (IsSome self.new.err) }
         ensures empty { text.now ≡ [] → IsOk result }
     {

@@ -8,7 +8,7 @@ use Rattle.std.proofs.Math.IntN.{pos-*ℤ-pos, pos-*ℤ-negsuc}
 use Rattle.std.specs.List.{All}
 use Rattle.std.specs.Int.{div_ceil}
 use Rattle.tm_primitives.proofs.Steps.{length-places_from, slice_within, abs_is, distance_is, count_up, not_negative}
-use Rattle.tm_primitives.specs.Places.{places_from, places_of, Within, start_of, stop_of, distance, count_before, IsBefore, step_to, AreSpaced, AreBefore, IsDone, GoTheWay}
+use Rattle.tm_primitives.specs.Places.{places_from, places_of, Within, slice_start, stop_of, distance, count_before, IsBefore, step_to, AreSpaced, AreBefore, IsDone, GoTheWay}
 
 -- k steps up, or down
 up_to : (x : ℤ) (a k : ℕ) → step_to x (pos a) k ≡ x +ℤ pos (k * a)
@@ -121,22 +121,22 @@ go_the_way (negsuc a) x ps h s = λ j k d l m. falling x a j k (get_or ps j d) (
 -- ---- of a slice
 
 pub within : (n : ℕ) (start stop : Option ℤ) (z : ℤ) → z ≢ pos 0 → All (λ p. p < n) (places_of n start stop z)
-within n start stop z h k d l = all_within n (start_of n z start) z (count_before z (start_of n z start) (stop_of n z stop)) k d (slice_within n start stop z h) (rw length-places_from at l)
+within n start stop z h k d l = all_within n (slice_start n z start) z (count_before z (slice_start n z start) (stop_of n z stop)) k d (slice_within n start stop z h) (rw length-places_from at l)
 
 pub spaced : (n : ℕ) (start stop : Option ℤ) (z : ℤ) → z ≢ pos 0 → AreSpaced n start z (places_of n start stop z)
 spaced n start stop z h k d l =
-    at_step n (start_of n z start) z (count_before z (start_of n z start) (stop_of n z stop)) k d (slice_within n start stop z h) (rw length-places_from at l)
+    at_step n (slice_start n z start) z (count_before z (slice_start n z start) (stop_of n z stop)) k d (slice_within n start stop z h) (rw length-places_from at l)
 
 pub before : (n : ℕ) (start stop : Option ℤ) (z : ℤ) → z ≢ pos 0 → AreBefore n stop z (places_of n start stop z)
-before n start stop z h k d l = rw (spaced n start stop z h k d l) (before_at z (start_of n z start) (stop_of n z stop) k h (rw length-places_from at l))
+before n start stop z h k d l = rw (spaced n start stop z h k d l) (before_at z (slice_start n z start) (stop_of n z stop) k h (rw length-places_from at l))
 
 pub done : (n : ℕ) (start stop : Option ℤ) (z : ℤ) → z ≢ pos 0 → IsDone n start stop z (places_of n start stop z)
-done n start stop z h l = past_at z (start_of n z start) (stop_of n z stop) (count_before z (start_of n z start) (stop_of n z stop)) h refl (rw length-places_from at l)
+done n start stop z h l = past_at z (slice_start n z start) (stop_of n z stop) (count_before z (slice_start n z start) (stop_of n z stop)) h refl (rw length-places_from at l)
 
 pub strict : (n : ℕ) (start stop : Option ℤ) (z : ℤ) → z ≢ pos 0 → GoTheWay z (places_of n start stop z)
-strict n start stop z h = go_the_way z (start_of n z start) (places_of n start stop z) h (spaced n start stop z h)
+strict n start stop z h = go_the_way z (slice_start n z start) (places_of n start stop z) h (spaced n start stop z h)
 
 -- the same of a start and a number that were computed
-pub below : (n : ℕ) (start stop : Option ℤ) (z x y : ℤ) (count : ℕ) → z ≢ pos 0 → x ≡ start_of n z start → y ≡ stop_of n z stop
+pub below : (n : ℕ) (start stop : Option ℤ) (z x y : ℤ) (count : ℕ) → z ≢ pos 0 → x ≡ slice_start n z start → y ≡ stop_of n z stop
     → count ≡ count_before z x y → All (λ p. p < n) (places_from x z count)
 below n start stop z x y count h ex ey ec = rw (ec, ex, ey) (within n start stop z h)

@@ -6,7 +6,7 @@ use Rattle.std.proofs.Math.Nat.{suc-mul}
 use Rattle.std.specs.List.{range_with_len}
 use Rattle.std.specs.Int.RustNames.{FitsSigned}
 use Rattle.std.specs.Int.{w128, div_ceil, is_negative}
-use Rattle.tm_primitives.specs.Places.{places_from, Within, cut, start_of, stop_of, distance, count_before, from_start}
+use Rattle.tm_primitives.specs.Places.{places_from, Within, clamp, slice_start, stop_of, distance, count_before, from_start}
 
 pub length-places_from : (x z : ℤ) (m : ℕ) → length (places_from x z m) ≡ m
 length-places_from x z zero = refl
@@ -38,11 +38,11 @@ down_within n k (suc m) x high h =
 
 -- ---- a slice's bounds
 
-cut_in : (low high x : ℤ) → low ≤ℤ high → (low ≤ℤ cut low high x) × (cut low high x ≤ℤ high)
+cut_in : (low high x : ℤ) → low ≤ℤ high → (low ≤ℤ clamp low high x) × (clamp low high x ≤ℤ high)
 cut_in low high x h = grind (arith, ints)
 
 -- bounds of a slice that goes up, or down
-pub start_up : (n : ℕ) (z : ℤ) (s : Option ℤ) → is_negative z ≡ false → (pos 0 ≤ℤ start_of n z s) × (start_of n z s ≤ℤ pos n)
+pub start_up : (n : ℕ) (z : ℤ) (s : Option ℤ) → is_negative z ≡ false → (pos 0 ≤ℤ slice_start n z s) × (slice_start n z s ≤ℤ pos n)
 start_up n z None e = rw e (omega (arith, ints), omega (arith, ints))
 start_up n z (Some i) e = rw e (cut_in (pos 0) (pos n) (from_start n i) (omega (arith, ints)))
 
@@ -50,7 +50,7 @@ pub stop_up : (n : ℕ) (z : ℤ) (s : Option ℤ) → is_negative z ≡ false �
 stop_up n z None e = rw e (omega (arith, ints), omega (arith, ints))
 stop_up n z (Some i) e = rw e (cut_in (pos 0) (pos n) (from_start n i) (omega (arith, ints)))
 
-pub start_down : (n : ℕ) (z : ℤ) (s : Option ℤ) → is_negative z ≡ true → (negsuc 0 ≤ℤ start_of n z s) × (start_of n z s ≤ℤ (pos n -ℤ pos 1))
+pub start_down : (n : ℕ) (z : ℤ) (s : Option ℤ) → is_negative z ≡ true → (negsuc 0 ≤ℤ slice_start n z s) × (slice_start n z s ≤ℤ (pos n -ℤ pos 1))
 start_down n z None e = rw e (omega (arith, ints), omega (arith, ints))
 start_down n z (Some i) e = rw e (cut_in (negsuc 0) (pos n -ℤ pos 1) (from_start n i) (omega (arith, ints)))
 
@@ -96,44 +96,44 @@ pub count_up : (z x y : ℤ) → is_negative z ≡ false → count_before z x y 
 count_up z x y e = rw e
 
 -- each place that a slice takes is one
-pub slice_within : (n : ℕ) (start stop : Option ℤ) (z : ℤ) → z ≢ pos 0 → Within n (start_of n z start) z (count_before z (start_of n z start) (stop_of n z stop))
+pub slice_within : (n : ℕ) (start stop : Option ℤ) (z : ℤ) → z ≢ pos 0 → Within n (slice_start n z start) z (count_before z (slice_start n z start) (stop_of n z stop))
 slice_within n start stop (pos zero) h = absurd (h refl)
 slice_within n start stop (pos (suc k)) h =
     let e = not_negative (suc k) in
     let s = start_up n (pos (suc k)) start e in
     let t = stop_up n (pos (suc k)) stop e in
-    up_within n (suc k) (count_before (pos (suc k)) (start_of n (pos (suc k)) start) (stop_of n (pos (suc k)) stop)) (start_of n (pos (suc k)) start) s.0
-    (up_short n (suc k) (count_before (pos (suc k)) (start_of n (pos (suc k)) start) (stop_of n (pos (suc k)) stop)) (start_of n (pos (suc k)) start) (stop_of n (pos (suc k)) stop) (omega arith) (count_up (pos (suc k)) (start_of n (pos (suc k)) start) (stop_of n (pos (suc k)) stop) e) s.1 t.1)
+    up_within n (suc k) (count_before (pos (suc k)) (slice_start n (pos (suc k)) start) (stop_of n (pos (suc k)) stop)) (slice_start n (pos (suc k)) start) s.0
+    (up_short n (suc k) (count_before (pos (suc k)) (slice_start n (pos (suc k)) start) (stop_of n (pos (suc k)) stop)) (slice_start n (pos (suc k)) start) (stop_of n (pos (suc k)) stop) (omega arith) (count_up (pos (suc k)) (slice_start n (pos (suc k)) start) (stop_of n (pos (suc k)) stop) e) s.1 t.1)
 slice_within n start stop (negsuc k) h =
     let s = start_down n (negsuc k) start refl in
     let t = stop_down n (negsuc k) stop refl in
-    down_within n k (count_before (negsuc k) (start_of n (negsuc k) start) (stop_of n (negsuc k) stop)) (start_of n (negsuc k) start) (omega (arith, ints, s.1))
-    (down_short k (start_of n (negsuc k) start) (stop_of n (negsuc k) stop) s.0 t.0)
+    down_within n k (count_before (negsuc k) (slice_start n (negsuc k) start) (stop_of n (negsuc k) stop)) (slice_start n (negsuc k) start) (omega (arith, ints, s.1))
+    (down_short k (slice_start n (negsuc k) start) (stop_of n (negsuc k) stop) s.0 t.0)
 
 pub within_more : (n m : ℕ) (x z : ℤ) (count : ℕ) → n ≤ m → Within n x z count → Within m x z count
 within_more n m x z zero h w = tt
 within_more n m x z (suc count) h w = (w.0, omega (arith, ints, h, w.1), within_more n m (x +ℤ z) z count h w.2)
 
-pub bounds_near : (n : ℕ) (start stop : Option ℤ) (z : ℤ) → n < 2 ^ 64 → unsigned_abs (stop_of n z stop -ℤ start_of n z start) < 2 ^ 64
+pub bounds_near : (n : ℕ) (start stop : Option ℤ) (z : ℤ) → n < 2 ^ 64 → unsigned_abs (stop_of n z stop -ℤ slice_start n z start) < 2 ^ 64
 bounds_near n start stop z h = near_if (is_negative z) refl
   where
     small : (d : ℤ) → neg_ℤ (pos n) ≤ℤ d → d ≤ℤ pos n → unsigned_abs d < 2 ^ 64
     small (pos m) low high = omega (arith, ints, low, high, h)
     small (negsuc m) low high = omega (arith, ints, low, high, h)
 
-    near_if : (b : Bool) → is_negative z ≡ b → unsigned_abs (stop_of n z stop -ℤ start_of n z start) < 2 ^ 64
+    near_if : (b : Bool) → is_negative z ≡ b → unsigned_abs (stop_of n z stop -ℤ slice_start n z start) < 2 ^ 64
     near_if true e =
         let s = start_down n z start e in
         let t = stop_down n z stop e in
-        small (stop_of n z stop -ℤ start_of n z start) (omega (arith, ints, s.0, s.1, t.0, t.1)) (omega (arith, ints, s.0, s.1, t.0, t.1))
+        small (stop_of n z stop -ℤ slice_start n z start) (omega (arith, ints, s.0, s.1, t.0, t.1)) (omega (arith, ints, s.0, s.1, t.0, t.1))
     near_if false e =
         let s = start_up n z start e in
         let t = stop_up n z stop e in
-        small (stop_of n z stop -ℤ start_of n z start) (omega (arith, ints, s.0, s.1, t.0, t.1)) (omega (arith, ints, s.0, s.1, t.0, t.1))
+        small (stop_of n z stop -ℤ slice_start n z start) (omega (arith, ints, s.0, s.1, t.0, t.1)) (omega (arith, ints, s.0, s.1, t.0, t.1))
 
 pub slice_inside : (n : ℕ) (start stop : Option ℤ) (z x y : ℤ) (count : ℕ) → z ≢ pos 0 → n < 2 ^ 64
-    → x ≡ start_of n z start → y ≡ stop_of n z stop → count ≡ count_before z x y → Within (2 ^ 64) x z count
-slice_inside n start stop z x y count h l ex ey ec = rw (ec, ex, ey) (within_more n (2 ^ 64) (start_of n z start) z (count_before z (start_of n z start) (stop_of n z stop)) (omega (arith, l)) (slice_within n start stop z h))
+    → x ≡ slice_start n z start → y ≡ stop_of n z stop → count ≡ count_before z x y → Within (2 ^ 64) x z count
+slice_inside n start stop z x y count h l ex ey ec = rw (ec, ex, ey) (within_more n (2 ^ 64) (slice_start n z start) z (count_before z (slice_start n z start) (stop_of n z stop)) (omega (arith, l)) (slice_within n start stop z h))
 
 -- places one by one
 pub run_is : (x : ℤ) (m : ℕ) → Within (2 ^ 64) x (pos 1) m → 0 < m → places_from x (pos 1) m ≡ range_with_len (unsigned_abs x) m

@@ -24,16 +24,16 @@ abbrev pub highest : ℕ → ℤ → ℤ
 highest n z = cond (is_negative z) (pos n -ℤ pos 1) (pos n)
 
 -- x, or the end of low to high that is nearest to it
-abbrev pub cut : ℤ → ℤ → ℤ → ℤ
-cut low high x = cond (int_lt x low) low (cond (int_lt high x) high x)
+abbrev pub clamp : ℤ → ℤ → ℤ → ℤ
+clamp low high x = cond (int_lt x low) low (cond (int_lt high x) high x)
 
 -- a bound that is given
 abbrev pub bound_of : ℕ → ℤ → ℤ → ℤ
-bound_of n z i = cut (lowest z) (highest n z) (from_start n i)
+bound_of n z i = clamp (lowest z) (highest n z) (from_start n i)
 
-abbrev pub start_of : ℕ → ℤ → Option ℤ → ℤ
-start_of n z None = cond (is_negative z) (highest n z) (lowest z)
-start_of n z (Some i) = bound_of n z i
+abbrev pub slice_start : ℕ → ℤ → Option ℤ → ℤ
+slice_start n z None = cond (is_negative z) (highest n z) (lowest z)
+slice_start n z (Some i) = bound_of n z i
 
 abbrev pub stop_of : ℕ → ℤ → Option ℤ → ℤ
 stop_of n z None = cond (is_negative z) (lowest z) (highest n z)
@@ -58,7 +58,7 @@ places_between z x y = places_from x z (count_before z x y)
 
 -- of n places those that a slice takes: from its start on, by steps of z, those before its stop
 abbrev pub places_of : ℕ → Option ℤ → Option ℤ → ℤ → List ℕ
-places_of n start stop z = places_between z (start_of n z start) (stop_of n z stop)
+places_of n start stop z = places_between z (slice_start n z start) (stop_of n z stop)
 
 -- each of x, x + z, .., m in all, is a place below n
 abbrev pub Within : ℕ → ℤ → ℤ → ℕ → Type 0
@@ -83,7 +83,7 @@ step_to x z k = x +ℤ pos k *ℤ z
 -- the k-th of the places is the slice's start + k * z
 abbrev pub AreSpaced : ℕ → Option ℤ → ℤ → List ℕ → Type 0
 AreSpaced n start z ps =
-    (k d : ℕ) → k < length ps → pos (slice_index_or ps k d) ≡ step_to (start_of n z start) z k
+    (k d : ℕ) → k < length ps → pos (slice_index_or ps k d) ≡ step_to (slice_start n z start) z k
 
 -- the places stand before the slice's stop
 abbrev pub AreBefore : ℕ → Option ℤ → ℤ → List ℕ → Type 0
@@ -92,7 +92,7 @@ AreBefore n stop z ps = All (λ p. IsBefore z (pos p) (stop_of n z stop)) ps
 -- and one more step from the last of them would not
 abbrev pub IsDone : ℕ → Option ℤ → Option ℤ → ℤ → List ℕ → Type 0
 IsDone n start stop z ps =
-    IsBefore z (step_to (start_of n z start) z (length ps)) (stop_of n z stop) → ⊥
+    IsBefore z (step_to (slice_start n z start) z (length ps)) (stop_of n z stop) → ⊥
 
 -- strictly up or strictly down, by the step's sign: so none comes twice
 abbrev pub GoTheWay : ℤ → List ℕ → Type 0

@@ -2,7 +2,7 @@
 ghost use Rattle.std.specs.Prelude.{◌≡◌, ◌≢◌, ◌<◌, ◌<ℤ◌, ◌-ℤ◌, ◌∷◌, [], pos, unsigned_abs, length, IfSome, IfNone, ◌^◌, All};
 ghost use Rattle.std.specs.List.{range_with_len};
 ghost use Rattle.std.specs.Int.{div_ceil, is_negative};
-ghost use Rattle.tm_primitives.specs.Places.{from_start, place_of, lowest, highest, bound_of, start_of, stop_of, distance, count_before, places_of, IsNoRun, AreSpaced, AreBefore, IsDone, GoTheWay};
+ghost use Rattle.tm_primitives.specs.Places.{from_start, place_of, lowest, highest, bound_of, slice_start, stop_of, distance, count_before, places_of, IsNoRun, AreSpaced, AreBefore, IsDone, GoTheWay};
 
 use std::marker::Model;
 
@@ -153,7 +153,7 @@ fn bound(length: usize, step: i128, index: i128) -> i128
 }
 
 fn first_bound(length: usize, step: i128, start: Option<i128>) -> i128
-    ensures { result ≡ start_of length step start }
+    ensures { result ≡ slice_start length step start }
 {
     match start {
         Some(index) => bound(length, step, index),

@@ -6,9 +6,9 @@ use Rattle.serde_json.specs.Written.{compact_text, comma_if, items_text, members
 use Rattle.tm_values.specs.Records.{RecordData, namespace_at}
 use Rattle.tm_values.specs.Val.{Val, vals_of, pairs_of}
 use Rattle.tm_definitions.specs.Printed.{entered}
-use Rattle.tm_definitions.specs.Json.{Inside, data_of, items_of, members_of, item_json, member_json, key_text, namespace_data}
+use Rattle.tm_definitions.specs.Json.{NamespaceData, data_of, items_of, members_of, item_json, member_json, key_text, namespace_data}
 
-module _ (inside : Inside) (later : Bool) where
+module _ (inside : NamespaceData) (later : Bool) where
   pub item_first : (vs : List Val) (i : ℕ) (v : Val) → i < length vs → v ≡ get_or vs i v → items_text later (items_of inside (vals_of (drop i vs))) ≡ item_json inside later v ++ items_text true (items_of inside (vals_of (drop (i + 1) vs)))
   item_first vs i v h is =
       let behind = items_text true (items_of inside (vals_of (drop (i + 1) vs))) in

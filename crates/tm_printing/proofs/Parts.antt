@@ -3,9 +3,9 @@ use Rattle.std.proofs.Common.{◌≡◌, ◌<◌, ◌+◌, ◌++◌, ℕ, Bool, 
 use Rattle.std.proofs.lemmas.List.{drop_more}
 use Rattle.tm_values.specs.Records.{RecordData, namespace_at}
 use Rattle.tm_values.specs.Val.{Val, vals_of, pairs_of, val_size, pairs_size}
-use Rattle.tm_definitions.specs.Printed.{Inside, entered, item_text, pair_text, inner_items, inner_pairs, map_text, namespace_text}
+use Rattle.tm_definitions.specs.Printed.{NamespaceTexts, entered, item_text, pair_text, inner_items, inner_pairs, map_text, namespace_text}
 
-module _ (r : RecordData) (inside : Inside) (later : Bool) where
+module _ (r : RecordData) (inside : NamespaceTexts) (later : Bool) where
   pub item_first : (vs : List Val) (i : ℕ) (v : Val) → i < length vs → v ≡ get_or vs i v → inner_items r inside later (vals_of (drop i vs)) ≡ item_text r inside later v ++ inner_items r inside true (vals_of (drop (i + 1) vs))
   item_first vs i v h is =
       let behind = inner_items r inside true (vals_of (drop (i + 1) vs)) in

@@ -9,7 +9,7 @@ use Rattle.tm_values.specs.Records.{RecordData, namespace_at}
 use Rattle.tm_values.specs.Val.{Val, Pairs, vals_of, pairs_of}
 use Rattle.tm_values.specs.declared.error.ErrorKind.{ErrorKind}
 use Rattle.tm_definitions.specs.Printed.{entered}
-use Rattle.tm_definitions.specs.Refused.{Inside, Way, and_then, verdict, pair_verdict, items_verdict, pairs_verdict, through, nowhere, namespace_verdict, verdict_within}
+use Rattle.tm_definitions.specs.Refused.{NamespaceVerdicts, Way, and_then, verdict, pair_verdict, items_verdict, pairs_verdict, through, nowhere, namespace_verdict, verdict_within}
 use Rattle.tm_definitions.specs.declared.form.Form.{Form}
 
 -- an error that a part of the walk answers is the answer of the whole
@@ -17,7 +17,7 @@ pub passed : {A : Type 0} (r : Answer A) (e : List ErrorKind) (stated : Answer A
 passed (Ok u) e stated is h = absurd is
 passed (Err x) e stated is h = subst (λ (y : List ErrorKind). is_memory_alone y ≡ false → stated ≡ Err y) (sym is) h
 
-module _ (form : Form) (r : RecordData) (inside : Inside) where
+module _ (form : Form) (r : RecordData) (inside : NamespaceVerdicts) where
   pub item_first : (vs : List Val) (i : ℕ) (v : Val) → i < length vs → v ≡ get_or vs i v → items_verdict form r inside (vals_of (drop i vs)) ≡ and_then (verdict form r inside v) (items_verdict form r inside (vals_of (drop (i + 1) vs)))
   item_first vs i v h is =
       let behind = items_verdict form r inside (vals_of (drop (i + 1) vs)) in

@@ -10,8 +10,8 @@ abbrev pub nothing : {T A : Type 0} → Rule T A
 nothing = record {
   spells = λ ts a rest. ⊥;
   reads = λ ts. None;
-  found = λ ts a rest h. not_got a rest h;
-  only = λ ts a rest h. absurd h;
+  sound = λ ts a rest h. not_got a rest h;
+  complete = λ ts a rest h. absurd h;
   shorter = λ ts a rest h. absurd h;
 }
 
@@ -20,8 +20,8 @@ abbrev pub pure : {T A : Type 0} → A → Rule T A
 pure x = record {
   spells = pure_spells x;
   reads = λ ts. got x ts;
-  found = λ ts a rest h. same_got x a ts rest h;
-  only = pure_only x;
+  sound = λ ts a rest h. same_got x a ts rest h;
+  complete = pure_only x;
   shorter = pure_shorter x;
 }
 
@@ -31,8 +31,8 @@ abbrev pub ◌>>=◌ : {T A B : Type 0} → Rule T A → (A → Rule T B) → Ru
 r >>= f = record {
   spells = bind_spells r.spells (λ a. (f a).spells);
   reads = bind_reads r.reads (λ a. (f a).reads);
-  found = bind_found r f;
-  only = bind_only r f;
+  sound = bind_found r f;
+  complete = bind_only r f;
   shorter = bind_shorter r f;
 }
 
@@ -54,8 +54,8 @@ abbrev pub branch : {T A B : Type 0} → Look T A → (A → Rule T B) → Rule 
 branch p f other = record {
   spells = λ ts. branch_spells (λ a. (f a).spells) other.spells (p.sees ts) ts;
   reads = λ ts. branch_reads (λ a. (f a).reads) other.reads (p.sees ts) ts;
-  found = λ ts. branch_found f other (p.sees ts) ts;
-  only = λ ts. branch_only f other (p.sees ts) ts;
+  sound = λ ts. branch_found f other (p.sees ts) ts;
+  complete = λ ts. branch_only f other (p.sees ts) ts;
   shorter = λ ts. branch_shorter f other p ts (p.sees ts) refl;
 }
 
@@ -68,8 +68,8 @@ abbrev pub grow : {T A B : Type 0} → Look T A → (A → B → Rule T B) → B
 grow p part x = record {
   spells = grow_spells p.sees (λ a y. (part a y).spells) x;
   reads = grow_reads p.sees (λ a y. (part a y).reads) x;
-  found = grow_found p part x;
-  only = grow_only p part x;
+  sound = grow_found p part x;
+  complete = grow_only p part x;
   shorter = grow_shorter p part x;
 }
 

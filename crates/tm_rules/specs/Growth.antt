@@ -2,7 +2,7 @@
 use Rattle.std.specs.Prelude.{◌≡◌, ℕ, zero, suc, ◌<◌, ◌≤◌, List, length, Some, None, option_and_then, refl}
 use Rattle.std.proofs.Common.{arith, sym, ◌∙◌, ap}
 use Rattle.tm_rules.specs.Meanings.{Read, got, Spells, Reads, stops, grows, grow_spells, turn, grow_reads_by, grow_reads}
-use Rattle.tm_rules.specs.Rule.{Found, Only, Shorter, Rule, Look}
+use Rattle.tm_rules.specs.Rule.{Sound, Complete, Shorter, Rule, Look}
 use Rattle.tm_rules.specs.Laws.{not_got, same_got, pure_only}
 
 module _ {T A B : Type 0} (p : Look T A) (part : A → B → Rule T B) where
@@ -21,7 +21,7 @@ module _ {T A B : Type 0} (p : Look T A) (part : A → B → Rule T B) where
   found_behind : (n : ℕ) → FoundBy n → (x : B) (ts : List T) (z : B) (rest : List T) (s : A × List T) → p.sees ts ≡ Some s →
       (y : Read T B) → (part s.0 x).reads s.1 ≡ y → option_and_then (λ w. read_by n w.0 w.1) y ≡ got z rest → spelled x ts z rest
   found_behind n ih x ts z rest s e None k h = absurd (not_got z rest h)
-  found_behind n ih x ts z rest s e (Some y) k h = grows e ((part s.0 x).found s.1 y.0 y.1 k) (ih y.0 y.1 z rest h)
+  found_behind n ih x ts z rest s e (Some y) k h = grows e ((part s.0 x).sound s.1 y.0 y.1 k) (ih y.0 y.1 z rest h)
 
   found_at : (n : ℕ) → FoundBy n → (x : B) (ts : List T) (z : B) (rest : List T) (seen : Read T A) → p.sees ts ≡ seen →
       turn (λ a y. (part a y).reads) (read_by n) x ts seen ≡ got z rest → spelled x ts z rest
@@ -43,14 +43,14 @@ module _ {T A B : Type 0} (p : Look T A) (part : A → B → Rule T B) where
       let closer : length behind < length ts = p.nearer ts a behind e in
       let left : length between ≤ length behind = (part a x).shorter behind y between spells in
       ap (turn (λ a y. (part a y).reads) (read_by n) x ts) e
-      ∙ ap (option_and_then (λ w. read_by n w.0 w.1)) ((part a x).only behind y between spells)
+      ∙ ap (option_and_then (λ w. read_by n w.0 w.1)) ((part a x).complete behind y between spells)
       ∙ only_by n y between z rest (omega (arith, closer, left, small)) more
 
-  pub grow_found : (x : B) → Found (spelled x) (read x)
+  pub grow_found : (x : B) → Sound (spelled x) (read x)
   unfolding grow_reads
   grow_found x ts z rest h = found_by (suc (length ts)) x ts z rest h
 
-  pub grow_only : (x : B) → Only (spelled x) (read x)
+  pub grow_only : (x : B) → Complete (spelled x) (read x)
   unfolding grow_reads
   grow_only x ts z rest h = only_by (suc (length ts)) x ts z rest (omega arith) h
 
@@ -79,7 +79,7 @@ module _ {T A B : Type 0} (p : Look T A) (part : A → B → Rule T B) where
   unfolding grow_reads grow_reads_by
   grow_some x ts a behind y rest e h =
       let closer : length behind < length ts = p.nearer ts a behind e in
-      let left : length rest ≤ length behind = (part a x).shorter behind y rest ((part a x).found behind y rest h) in
+      let left : length rest ≤ length behind = (part a x).shorter behind y rest ((part a x).sound behind y rest h) in
       ap (turn (λ a y. (part a y).reads) (read_by (length ts)) x ts) e
       ∙ ap (option_and_then (λ w. read_by (length ts) w.0 w.1)) h
       ∙ same_by (length ts) (suc (length rest)) y rest (omega (arith, closer, left)) (omega arith)

@@ -2,7 +2,7 @@
 use Rattle.std.specs.Prelude.{◌≡◌, ◌<◌, ◌≤◌, List, [], ◌∷◌, length, Option, Some, None, option_and_then, refl}
 use Rattle.std.proofs.Common.{arith, ◌∙◌, ap}
 use Rattle.tm_rules.specs.Meanings.{Read, got, pure_spells, bind_spells, bind_reads, known, first_sees, unless_seen, not_before_sees, branch_spells, branch_reads}
-use Rattle.tm_rules.specs.Rule.{Found, Only, Shorter, Nearer, Rule, Look}
+use Rattle.tm_rules.specs.Rule.{Sound, Complete, Shorter, Nearer, Rule, Look}
 
 pub not_got : {T A : Type 0} (a : A) (rest : List T) → ◌≡◌ {A = Read T A} None (got a rest) → ⊥
 not_got a rest h = cc
@@ -12,7 +12,7 @@ same_got {T = T} {A = A} a b ts rest h =
     let pair : ◌≡◌ {A = A × List T} (a, ts) (b, rest) = cc in
     (ap (λ (w : A × List T). w.0) pair, ap (λ (w : A × List T). w.1) pair)
 
-pub pure_only : {T A : Type 0} (x : A) → Only (pure_spells x) (λ (ts : List T). got x ts)
+pub pure_only : {T A : Type 0} (x : A) → Complete (pure_spells x) (λ (ts : List T). got x ts)
 pure_only x ts a rest h = cc
 
 pub pure_shorter : {T A : Type 0} (x : A) → Shorter (pure_spells {T = T} x)
@@ -22,13 +22,13 @@ module _ {T A B : Type 0} (r : Rule T A) (f : A → Rule T B) where
   found_behind : (ts : List T) (b : B) (rest : List T) (read : Read T A) → r.reads ts ≡ read → option_and_then (λ x. (f x.0).reads x.1) read ≡ got b rest →
       bind_spells r.spells (λ a. (f a).spells) ts b rest
   found_behind ts b rest None e h = absurd (not_got b rest h)
-  found_behind ts b rest (Some x) e h = (x.0, x.1, r.found ts x.0 x.1 e, (f x.0).found x.1 b rest h)
+  found_behind ts b rest (Some x) e h = (x.0, x.1, r.sound ts x.0 x.1 e, (f x.0).sound x.1 b rest h)
 
-  pub bind_found : Found (bind_spells r.spells (λ a. (f a).spells)) (bind_reads r.reads (λ a. (f a).reads))
+  pub bind_found : Sound (bind_spells r.spells (λ a. (f a).spells)) (bind_reads r.reads (λ a. (f a).reads))
   bind_found ts b rest h = found_behind ts b rest (r.reads ts) refl h
 
-  pub bind_only : Only (bind_spells r.spells (λ a. (f a).spells)) (bind_reads r.reads (λ a. (f a).reads))
-  bind_only ts b rest h = ap (option_and_then (λ x. (f x.0).reads x.1)) (r.only ts h.0 h.1 h.2) ∙ (f h.0).only h.1 b rest h.3
+  pub bind_only : Complete (bind_spells r.spells (λ a. (f a).spells)) (bind_reads r.reads (λ a. (f a).reads))
+  bind_only ts b rest h = ap (option_and_then (λ x. (f x.0).reads x.1)) (r.complete ts h.0 h.1 h.2) ∙ (f h.0).complete h.1 b rest h.3
 
   pub bind_shorter : Shorter (bind_spells r.spells (λ a. (f a).spells))
   bind_shorter ts b rest h = omega (arith, r.shorter ts h.0 h.1 h.2, (f h.0).shorter h.1 b rest h.3)
@@ -53,13 +53,13 @@ pub not_before_nearer : {T A B : Type 0} (p : Look T A) (q : T → Option B) →
 not_before_nearer p q ts a rest h = p.nearer ts a rest (not_before_got q (p.sees ts) a rest h)
 
 module _ {T A B : Type 0} (f : A → Rule T B) (other : Rule T B) where
-  pub branch_found : (seen : Read T A) → Found (branch_spells (λ a. (f a).spells) other.spells seen) (branch_reads (λ a. (f a).reads) other.reads seen)
-  branch_found None ts b rest h = other.found ts b rest h
-  branch_found (Some x) ts b rest h = (f x.0).found x.1 b rest h
+  pub branch_found : (seen : Read T A) → Sound (branch_spells (λ a. (f a).spells) other.spells seen) (branch_reads (λ a. (f a).reads) other.reads seen)
+  branch_found None ts b rest h = other.sound ts b rest h
+  branch_found (Some x) ts b rest h = (f x.0).sound x.1 b rest h
 
-  pub branch_only : (seen : Read T A) → Only (branch_spells (λ a. (f a).spells) other.spells seen) (branch_reads (λ a. (f a).reads) other.reads seen)
-  branch_only None ts b rest h = other.only ts b rest h
-  branch_only (Some x) ts b rest h = (f x.0).only x.1 b rest h
+  pub branch_only : (seen : Read T A) → Complete (branch_spells (λ a. (f a).spells) other.spells seen) (branch_reads (λ a. (f a).reads) other.reads seen)
+  branch_only None ts b rest h = other.complete ts b rest h
+  branch_only (Some x) ts b rest h = (f x.0).complete x.1 b rest h
 
   pub branch_shorter : (p : Look T A) (ts : List T) (seen : Read T A) → p.sees ts ≡ seen → (b : B) (rest : List T) →
       branch_spells (λ a. (f a).spells) other.spells seen ts b rest → length rest ≤ length ts

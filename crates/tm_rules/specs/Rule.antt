@@ -3,12 +3,12 @@ use Rattle.std.specs.Prelude.{◌≡◌, ◌<◌, ◌≤◌, List, length}
 use Rattle.tm_rules.specs.Meanings.{got, Spells, Reads}
 
 -- What is read is spelled so.
-abbrev pub Found : {T A : Type 0} → Spells T A → Reads T A → Type 0
-Found {T = T} {A = A} spells reads = (ts : List T) (a : A) (rest : List T) → reads ts ≡ got a rest → spells ts a rest
+abbrev pub Sound : {T A : Type 0} → Spells T A → Reads T A → Type 0
+Sound {T = T} {A = A} spells reads = (ts : List T) (a : A) (rest : List T) → reads ts ≡ got a rest → spells ts a rest
 
 -- What is spelled so is read.
-abbrev pub Only : {T A : Type 0} → Spells T A → Reads T A → Type 0
-Only {T = T} {A = A} spells reads = (ts : List T) (a : A) (rest : List T) → spells ts a rest → reads ts ≡ got a rest
+abbrev pub Complete : {T A : Type 0} → Spells T A → Reads T A → Type 0
+Complete {T = T} {A = A} spells reads = (ts : List T) (a : A) (rest : List T) → spells ts a rest → reads ts ≡ got a rest
 
 -- No token is made.
 abbrev pub Shorter : {T A : Type 0} → Spells T A → Type 0
@@ -23,8 +23,8 @@ pub record Rule (T A : Type 0) : Type 1 where
   pub spells : Spells T A
   -- the one value that they spell, and the rest
   pub reads : Reads T A
-  pub found : Found spells reads
-  pub only : Only spells reads
+  pub sound : Sound spells reads
+  pub complete : Complete spells reads
   pub shorter : Shorter spells
 
 -- What stands first, where it is known.

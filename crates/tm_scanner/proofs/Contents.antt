@@ -8,7 +8,7 @@ use Rattle.tm_delimiters.specs.declared.whitespace.Whitespace.{Whitespace}
 use Rattle.tm_delimiters.specs.Front.{past_blanks}
 use Rattle.tm_scanner.specs.Steps.{Steps}
 use Rattle.tm_scanner.specs.Texts.{quote_at, IsLiteral}
-use Rattle.tm_scanner.specs.Tokens.{IsToken, IsTokenBehind, depth_behind, Place, past_end, Passes, Content}
+use Rattle.tm_scanner.specs.Tokens.{IsToken, IsTokenBehind, depth_behind, ContentPlace, past_end, Passes, Content}
 use Rattle.tm_scanner.proofs.Steps.{OneStep, NoStep, append-nil, same_some, same_result, steps_last, one_end}
 use Rattle.tm_scanner.proofs.Literals.{one_literal}
 
@@ -31,7 +31,7 @@ one_token_behind (Some x) cs t u r s h k =
 pub one_token : (cs : List ℕ) (t u : Token) (r s : List ℕ) → IsToken cs t r → IsToken cs u s → (t ≡ u) × (r ≡ s)
 one_token cs t u r s h k = one_token_behind (quote_at cs) cs t u r s h k
 
-same_place : (u v : Place) → u.rest ≡ v.rest → u.depth ≡ v.depth → u ≡ v
+same_place : (u v : ContentPlace) → u.rest ≡ v.rest → u.depth ≡ v.depth → u ≡ v
 same_place u v e f = ap (λ (r : List ℕ). record { rest = r; depth = u.depth }) e ∙ ap (λ (d : ℕ). record { rest = v.rest; depth = d }) f
 
 one_pass : (end : List ℕ) → OneStep (Passes end)
@@ -40,23 +40,23 @@ one_pass end = λ s t w u v h k.
     let depth : u.depth ≡ v.depth = same_some u.depth v.depth (sym h.depth ∙ ap (λ x. depth_behind x s.depth) same.0 ∙ k.depth) in
     (same.0, same_place u v (h.rest ∙ ap past_blanks same.1 ∙ sym k.rest) depth)
 
-no_pass : (end : List ℕ) (s : Place) (x : End) → past_end end s.rest s.depth ≡ Some x → NoStep (Passes end) s
+no_pass : (end : List ℕ) (s : ContentPlace) (x : End) → past_end end s.rest s.depth ≡ Some x → NoStep (Passes end) s
 no_pass end s x e = λ t u h. cc (sym e ∙ h.goes_on)
 
 -- The tokens that were added lead from the start of the content to this place.
-pub record Begun (end cs : List ℕ) (old new : List Token) (rest : List ℕ) (depth : ℕ) : Type 0 where
+pub record ContentSoFar (end cs : List ℕ) (old new : List Token) (rest : List ℕ) (depth : ℕ) : Type 0 where
   pub added : List Token
   pub steps : Steps (Passes end) (record { rest = past_blanks cs; depth = 0 }) added (record { rest = rest; depth = depth })
   pub items : new ≡ old ++ added
 
-pub begins : (end cs : List ℕ) (old : List Token) (rest : List ℕ) → rest ≡ past_blanks cs → Begun end cs old old rest 0
+pub begins : (end cs : List ℕ) (old : List Token) (rest : List ℕ) → rest ≡ past_blanks cs → ContentSoFar end cs old old rest 0
 begins end cs old rest e = record {
   added = [];
   steps = ap (λ (r : List ℕ). record { rest = r; depth = 0 }) (sym e);
   items = sym (append-nil old);
 }
 
-pub goes_on : (end cs : List ℕ) (old new more : List Token) (rest next blank : List ℕ) (depth deeper : ℕ) (t : Token) → Begun end cs old new rest depth → past_end end rest depth ≡ None → IsToken rest t next → depth_behind t depth ≡ Some deeper → blank ≡ past_blanks next → more ≡ new ++ t ∷ [] → Begun end cs old more blank deeper
+pub goes_on : (end cs : List ℕ) (old new more : List Token) (rest next blank : List ℕ) (depth deeper : ℕ) (t : Token) → ContentSoFar end cs old new rest depth → past_end end rest depth ≡ None → IsToken rest t next → depth_behind t depth ≡ Some deeper → blank ≡ past_blanks next → more ≡ new ++ t ∷ [] → ContentSoFar end cs old more blank deeper
 goes_on end cs old new more rest next blank depth deeper t here unended token deep blanks grown = record {
   added = here.added ++ t ∷ [];
   steps = steps_last (Passes end) (record { rest = past_blanks cs; depth = 0 }) here.added (record { rest = rest; depth = depth }) t (record { rest = blank; depth = deeper }) here.steps
@@ -64,15 +64,15 @@ goes_on end cs old new more rest next blank depth deeper t here unended token de
   items = grown ∙ ap (λ w. w ++ t ∷ []) here.items ∙ append_assoc old here.added (t ∷ []);
 }
 
-pub ends : (end cs : List ℕ) (old new : List Token) (rest : List ℕ) (depth : ℕ) (x : End) → Begun end cs old new rest depth → past_end end rest depth ≡ Some x → (ts : List Token) × Content end cs ts x × (new ≡ old ++ ts)
+pub ends : (end cs : List ℕ) (old new : List Token) (rest : List ℕ) (depth : ℕ) (x : End) → ContentSoFar end cs old new rest depth → past_end end rest depth ≡ Some x → (ts : List Token) × Content end cs ts x × (new ≡ old ++ ts)
 ends end cs old new rest depth x here e = (here.added, (record { rest = rest; depth = depth }, here.steps, e), here.items)
 
 -- where the content neither ends nor goes on, there is none
-pub no_content : (end cs : List ℕ) (old new : List Token) (rest : List ℕ) (depth : ℕ) → Begun end cs old new rest depth → past_end end rest depth ≡ None → NoStep (Passes end) (record { rest = rest; depth = depth }) → (ts : List Token) (x : End) → Content end cs ts x → ⊥
+pub no_content : (end cs : List ℕ) (old new : List Token) (rest : List ℕ) (depth : ℕ) → ContentSoFar end cs old new rest depth → past_end end rest depth ≡ None → NoStep (Passes end) (record { rest = rest; depth = depth }) → (ts : List Token) (x : End) → Content end cs ts x → ⊥
 no_content end cs old new rest depth here unended stuck ts x h =
-    let start : Place = record { rest = past_blanks cs; depth = 0 } in
+    let start : ContentPlace = record { rest = past_blanks cs; depth = 0 } in
     let same = one_end (Passes end) start here.added (record { rest = rest; depth = depth }) ts h.0 (one_pass end) here.steps stuck h.1 (no_pass end h.0 x h.2) in
-    cc (sym unended ∙ ap (λ (p : Place). past_end end p.rest p.depth) same.1 ∙ h.2)
+    cc (sym unended ∙ ap (λ (p : ContentPlace). past_end end p.rest p.depth) same.1 ∙ h.2)
 
 pub no_token : (end rest : List ℕ) (depth : ℕ) → ((t : Token) (next : List ℕ) → IsToken rest t next → ⊥) → NoStep (Passes end) (record { rest = rest; depth = depth })
 no_token end rest depth none = λ t u h. none t h.next h.token
@@ -84,6 +84,6 @@ too_deep end rest next depth t token deep = λ w u h.
 
 pub one_content : (end cs : List ℕ) (ts us : List Token) (r s : End) → Content end cs ts r → Content end cs us s → (ts ≡ us) × (r ≡ s)
 one_content end cs ts us r s h k =
-    let start : Place = record { rest = past_blanks cs; depth = 0 } in
+    let start : ContentPlace = record { rest = past_blanks cs; depth = 0 } in
     let same = one_end (Passes end) start ts h.0 us k.0 (one_pass end) h.1 (no_pass end h.0 r h.2) k.1 (no_pass end k.0 s k.2) in
-    (same.0, same_some r s (sym h.2 ∙ ap (λ (p : Place). past_end end p.rest p.depth) same.1 ∙ k.2))
+    (same.0, same_some r s (sym h.2 ∙ ap (λ (p : ContentPlace). past_end end p.rest p.depth) same.1 ∙ k.2))

@@ -11,19 +11,19 @@ use Rattle.tm_delimiters.proofs.Places.{behind-append, behind-split}
 use Rattle.tm_scanner.proofs.Steps.{OneStep, NoStep, append-nil, joined_last, same_result, steps_last, one_end}
 
 -- Behind its opening quote the text begins with the content, up to where the rest is left.
-pub record Begun (q : Quote) (cs content rest : List ℕ) : Type 0 where
+pub record LiteralSoFar (q : Quote) (cs content rest : List ℕ) : Type 0 where
   pub parts : List (List ℕ)
   pub steps : Steps (IsPart q) (run q cs).1 parts rest
   pub bytes : content ≡ (run q cs).0 ++ joined parts
 
-pub begins : (q : Quote) (cs front rest : List ℕ) → (front, rest) ≡ run q cs → Begun q cs front rest
+pub begins : (q : Quote) (cs front rest : List ℕ) → (front, rest) ≡ run q cs → LiteralSoFar q cs front rest
 begins q cs front rest e = record {
   parts = [];
   steps = ap (λ (r : List ℕ × List ℕ). r.1) (sym e);
   bytes = ap (λ (r : List ℕ × List ℕ). r.0) e ∙ sym (append-nil (run q cs).0);
 }
 
-pub goes_on : (q : Quote) (cs content rest next more left new : List ℕ) (c : ℕ) → Begun q cs content rest → escape rest ≡ Some (c, next) → (more, left) ≡ run q next → new ≡ (content ++ encode_utf8 c) ++ more → Begun q cs new left
+pub goes_on : (q : Quote) (cs content rest next more left new : List ℕ) (c : ℕ) → LiteralSoFar q cs content rest → escape rest ≡ Some (c, next) → (more, left) ≡ run q next → new ≡ (content ++ encode_utf8 c) ++ more → LiteralSoFar q cs new left
 goes_on q cs content rest next more left new c here e split grown =
     let step : part q rest ≡ Some (encode_utf8 c ++ more, left) =
     ap (λ r. r >>= (λ (x : ℕ × List ℕ). Some (encode_utf8 x.0 ++ (run q x.1).0, (run q x.1).1))) e
@@ -36,7 +36,7 @@ goes_on q cs content rest next more left new c here e split grown =
           ∙ ap (λ w. (run q cs).0 ++ w) (sym (joined_last here.parts (encode_utf8 c ++ more)));
     }
 
-pub ends : (q : Quote) (cs content rest behind : List ℕ) → Begun q cs content rest → past_quote q rest ≡ Some behind → IsText q cs content behind
+pub ends : (q : Quote) (cs content rest behind : List ℕ) → LiteralSoFar q cs content rest → past_quote q rest ≡ Some behind → IsText q cs content behind
 ends q cs content rest behind here e =
     (here.parts, subst (λ (w : List ℕ). Steps (IsPart q) (run q cs).1 here.parts w) (behind-split (byte_of q ∷ []) rest behind e) here.steps, here.bytes)
 
@@ -52,7 +52,7 @@ stuck_part : (q : Quote) (rest : List ℕ) → escape rest ≡ None → NoStep (
 stuck_part q rest e = λ x t h. cc (sym (ap (λ r. r >>= (λ (x : ℕ × List ℕ). Some (encode_utf8 x.0 ++ (run q x.1).0, (run q x.1).1))) e) ∙ h)
 
 -- where neither an escape nor the closing quote stands, there is no text
-pub no_text : (q : Quote) (cs content rest : List ℕ) → Begun q cs content rest → escape rest ≡ None → past_quote q rest ≡ None → (v : Val) (left : List ℕ) → IsLiteral q cs v left → ⊥
+pub no_text : (q : Quote) (cs content rest : List ℕ) → LiteralSoFar q cs content rest → escape rest ≡ None → past_quote q rest ≡ None → (v : Val) (left : List ℕ) → IsLiteral q cs v left → ⊥
 no_text q cs content rest here e f v left h =
     let text = h.1 in
     let same = one_end (IsPart q) (run q cs).1 here.parts rest text.0 (byte_of q ∷ left) (one_part q) here.steps (stuck_part q rest e) text.1 (no_part q left) in

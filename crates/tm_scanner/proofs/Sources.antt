@@ -14,7 +14,7 @@ use Rattle.tm_delimiters.specs.Syntax.{Syntax}
 use Rattle.tm_scanner.specs.Tokens.{Content}
 use Rattle.tm_delimiters.specs.Trimming.{trimmed}
 use Rattle.tm_delimiters.specs.Starts.{tag_start}
-use Rattle.tm_scanner.specs.Pieces.{raw, past_word, tag_word, IsBlockTag, IsBlockBehind, IsBlock, IsEmission, IsTag, Place, IsPiece}
+use Rattle.tm_scanner.specs.Pieces.{raw, past_word, tag_word, IsBlockTag, IsBlockBehind, IsBlock, IsEmission, IsTag, SourcePlace, IsPiece}
 use Rattle.tm_scanner.specs.Spells.{read_of, SpellsTokens}
 use Rattle.tm_scanner.proofs.Steps.{OneStep, NoStep, joined_last, same_some, same_result, steps_last, one_end}
 use Rattle.tm_scanner.proofs.Contents.{End, one_content}
@@ -59,7 +59,7 @@ abbrev pub Next : Type 0
 Next = List ℕ × (Side × List ℕ)
 
 -- the place behind a tag
-abbrev pub behind_tag : Side → End → Place
+abbrev pub behind_tag : Side → End → SourcePlace
 behind_tag start e = record { before = Some (record { kind = start.kind; whitespace = e.0 }); rest = e.1 }
 
 one_piece : (s : Syntax) → OneStep (IsPiece s)
@@ -73,29 +73,29 @@ one_piece s = λ p ts us q r h k.
       h.place ∙ ap (λ (w : End). behind_tag h.start w) same.1 ∙ ap (λ (w : Next). behind_tag w.1.0 k.end) (sym next) ∙ sym k.place,
     )
 
-no_next : (s : Syntax) (p : Place) → first_of (tag_start s) p.rest ≡ None → NoStep (IsPiece s) p
+no_next : (s : Syntax) (p : SourcePlace) → first_of (tag_start s) p.rest ≡ None → NoStep (IsPiece s) p
 no_next s p e = λ ts q h. cc (sym e ∙ h.next)
 
 -- where a tag starts that is none, there is no piece
-no_tag : (s : Syntax) (p : Place) (x : Next) → first_of (tag_start s) p.rest ≡ Some x → ((ts : List Token) (e : End) → IsTag s x.1.0.kind x.1.1 ts e → ⊥) → NoStep (IsPiece s) p
+no_tag : (s : Syntax) (p : SourcePlace) (x : Next) → first_of (tag_start s) p.rest ≡ Some x → ((ts : List Token) (e : End) → IsTag s x.1.0.kind x.1.1 ts e → ⊥) → NoStep (IsPiece s) p
 no_tag s p x e none = λ ts q h.
     let y : Next = (h.text, (h.start, h.behind)) in
     let next : y ≡ x = same_some y x (sym h.next ∙ e) in
     none h.inside h.end (subst (λ (w : Next). IsTag s w.1.0.kind w.1.1 h.inside h.end) next h.tag)
 
-abbrev start_of : List ℕ → Place
+abbrev start_of : List ℕ → SourcePlace
 start_of cs = record { before = None; rest = cs }
 
 -- The tokens are those of the pieces from the start of the source to this place.
-pub record Begun (s : Syntax) (cs : List ℕ) (found : List Token) (before : Option Side) (rest : List ℕ) : Type 0 where
+pub record SourceSoFar (s : Syntax) (cs : List ℕ) (found : List Token) (before : Option Side) (rest : List ℕ) : Type 0 where
   pub pieces : List (List Token)
   pub steps : Steps (IsPiece s) (record { before = None; rest = cs }) pieces (record { before = before; rest = rest })
   pub items : found ≡ joined pieces
 
-pub begins : (s : Syntax) (cs : List ℕ) (found : List Token) (rest : List ℕ) → found ≡ [] → rest ≡ cs → Begun s cs found None rest
+pub begins : (s : Syntax) (cs : List ℕ) (found : List Token) (rest : List ℕ) → found ≡ [] → rest ≡ cs → SourceSoFar s cs found None rest
 begins s cs found rest e f = record { pieces = []; steps = ap start_of (sym f); items = e }
 
-pub goes_on : (s : Syntax) (cs : List ℕ) (old mid new : List Token) (before : Option Side) (rest : List ℕ) (x : Next) (inside : List Token) (e : End) → Begun s cs old before rest → first_of (tag_start s) rest ≡ Some x → mid ≡ old ++ raw (trimmed s before (Some x.1.0) x.0) → IsTag s x.1.0.kind x.1.1 inside e → new ≡ mid ++ inside → Begun s cs new (Some (record { kind = x.1.0.kind; whitespace = e.0 })) e.1
+pub goes_on : (s : Syntax) (cs : List ℕ) (old mid new : List Token) (before : Option Side) (rest : List ℕ) (x : Next) (inside : List Token) (e : End) → SourceSoFar s cs old before rest → first_of (tag_start s) rest ≡ Some x → mid ≡ old ++ raw (trimmed s before (Some x.1.0) x.0) → IsTag s x.1.0.kind x.1.1 inside e → new ≡ mid ++ inside → SourceSoFar s cs new (Some (record { kind = x.1.0.kind; whitespace = e.0 })) e.1
 goes_on s cs old mid new before rest x inside e here next texts tag grown =
     let text = raw (trimmed s before (Some x.1.0) x.0) in
     record {
@@ -105,18 +105,18 @@ goes_on s cs old mid new before rest x inside e here next texts tag grown =
       items = grown ∙ ap (λ w. w ++ inside) (texts ∙ ap (λ w. w ++ text) here.items) ∙ append_assoc (joined here.pieces) text inside ∙ sym (joined_last here.pieces (text ++ inside));
     }
 
-pub ends : (s : Syntax) (source : List ℕ) (old new : List Token) (before : Option Side) (rest : List ℕ) → Begun s (read_of s source) old before rest → first_of (tag_start s) rest ≡ None → new ≡ old ++ raw (trimmed s before None rest) → SpellsTokens s source new
+pub ends : (s : Syntax) (source : List ℕ) (old new : List Token) (before : Option Side) (rest : List ℕ) → SourceSoFar s (read_of s source) old before rest → first_of (tag_start s) rest ≡ None → new ≡ old ++ raw (trimmed s before None rest) → SpellsTokens s source new
 ends s source old new before rest here none grown =
     (here.pieces, record { before = before; rest = rest }, here.steps, none, grown ∙ ap (λ w. w ++ raw (trimmed s before None rest)) here.items)
 
 -- where a tag starts that is none, the source spells nothing
-pub no_tokens : (s : Syntax) (source : List ℕ) (found : List Token) (before : Option Side) (rest : List ℕ) (x : Next) → Begun s (read_of s source) found before rest → first_of (tag_start s) rest ≡ Some x → ((ts : List Token) (e : End) → IsTag s x.1.0.kind x.1.1 ts e → ⊥) → (ts : List Token) → SpellsTokens s source ts → ⊥
+pub no_tokens : (s : Syntax) (source : List ℕ) (found : List Token) (before : Option Side) (rest : List ℕ) (x : Next) → SourceSoFar s (read_of s source) found before rest → first_of (tag_start s) rest ≡ Some x → ((ts : List Token) (e : End) → IsTag s x.1.0.kind x.1.1 ts e → ⊥) → (ts : List Token) → SpellsTokens s source ts → ⊥
 no_tokens s source found before rest x here next none ts h =
-    let p : Place = record { before = before; rest = rest } in
+    let p : SourcePlace = record { before = before; rest = rest } in
     let same = one_end (IsPiece s) (start_of (read_of s source)) here.pieces p h.0 h.1 (one_piece s) here.steps (no_tag s p x next none) h.2 (no_next s h.1 h.3) in
-    cc (sym next ∙ ap (λ (q : Place). first_of (tag_start s) q.rest) same.1 ∙ h.3)
+    cc (sym next ∙ ap (λ (q : SourcePlace). first_of (tag_start s) q.rest) same.1 ∙ h.3)
 
 pub one_list_of : (s : Syntax) (source : List ℕ) (ts us : List Token) → SpellsTokens s source ts → SpellsTokens s source us → ts ≡ us
 one_list_of s source ts us h k =
     let same = one_end (IsPiece s) (start_of (read_of s source)) h.0 h.1 k.0 k.1 (one_piece s) h.2 (no_next s h.1 h.3) k.2 (no_next s k.1 k.3) in
-    h.4 ∙ ap (λ w. joined w ++ raw (trimmed s h.1.before None h.1.rest)) same.0 ∙ ap (λ (q : Place). joined k.0 ++ raw (trimmed s q.before None q.rest)) same.1 ∙ sym k.4
+    h.4 ∙ ap (λ w. joined w ++ raw (trimmed s h.1.before None h.1.rest)) same.0 ∙ ap (λ (q : SourcePlace). joined k.0 ++ raw (trimmed s q.before None q.rest)) same.1 ∙ sym k.4

@@ -80,12 +80,12 @@ IsTag s kind.Variable cs ts end = IsEmission s.variable_end cs ts end
 IsTag s kind.Comment cs ts end = (ts ≡ []) × (comment_end s.comment_end cs ≡ Some end)
 
 -- A place in a source: the tag that ends there, none at the source's start, and what is left.
-pub record Place : Type 0 where
+pub record SourcePlace : Type 0 where
   pub before : Option Side
   pub rest : List ℕ
 
 -- A raw text up to the next tag, and that tag.
-pub record IsPiece (s : Syntax) (p : Place) (ts : List Token) (q : Place) : Type 0 where
+pub record IsPiece (s : Syntax) (p : SourcePlace) (ts : List Token) (q : SourcePlace) : Type 0 where
   pub text : List ℕ
   pub start : Side
   pub behind : List ℕ

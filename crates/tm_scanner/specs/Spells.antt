@@ -6,7 +6,7 @@ use Rattle.tm_delimiters.specs.Syntax.{Syntax}
 use Rattle.tm_delimiters.specs.Front.{first_of}
 use Rattle.tm_delimiters.specs.Trimming.{trimmed}
 use Rattle.tm_delimiters.specs.Starts.{tag_start}
-use Rattle.tm_scanner.specs.Pieces.{raw, Place, IsPiece}
+use Rattle.tm_scanner.specs.Pieces.{raw, SourcePlace, IsPiece}
 
 -- `\n` or `\r\n`, and nothing behind it
 abbrev pub is_newline : List ℕ → Bool
@@ -27,7 +27,7 @@ read_of s source = if s.keep_trailing_newline then source else without_final_new
 -- A source is pieces and, up to its end, a raw text behind the last; these are their tokens, in order.
 abbrev pub SpellsTokens : Syntax → List ℕ → List Token → Type 0
 SpellsTokens s source ts =
-    (pieces : List (List Token)) × (last : Place)
+    (pieces : List (List Token)) × (last : SourcePlace)
     × Steps (IsPiece s) (record { before = None; rest = read_of s source }) pieces last
     × (first_of (tag_start s) last.rest ≡ None)
     × (ts ≡ joined pieces ++ raw (trimmed s last.before None last.rest))

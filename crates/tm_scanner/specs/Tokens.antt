@@ -75,7 +75,7 @@ depth_behind (tokens.Sign sign.CloseCurly) depth = Some (depth - 1)
 depth_behind _ depth = Some depth
 
 -- A place in a content: what is left, and how many brackets are open there.
-pub record Place : Type 0 where
+pub record ContentPlace : Type 0 where
   pub rest : List ℕ
   pub depth : ℕ
 
@@ -85,7 +85,7 @@ past_end by rest zero = ending by rest
 past_end by rest (suc depth) = None
 
 -- a token, where the content doesn't end, and the blanks behind it
-pub record Passes (by : List ℕ) (s : Place) (t : Token) (u : Place) : Type 0 where
+pub record Passes (by : List ℕ) (s : ContentPlace) (t : Token) (u : ContentPlace) : Type 0 where
   pub goes_on : past_end by s.rest s.depth ≡ None
   pub next : List ℕ
   pub token : IsToken s.rest t next
@@ -95,5 +95,5 @@ pub record Passes (by : List ℕ) (s : Place) (t : Token) (u : Place) : Type 0 w
 -- The content of a tag is these tokens, up to its end: the mark there, and what is left behind it.
 abbrev pub Content : List ℕ → List ℕ → List Token → Whitespace × List ℕ → Type 0
 Content by cs ts end =
-    (at_end : Place) × Steps (Passes by) (record { rest = past_blanks cs; depth = 0 }) ts at_end
+    (at_end : ContentPlace) × Steps (Passes by) (record { rest = past_blanks cs; depth = 0 }) ts at_end
     × (past_end by at_end.rest at_end.depth ≡ Some end)

@@ -7,7 +7,7 @@ use Rattle.std.specs.Prelude.{slice_get}
 use Rattle.tm_values.specs.Val.{Val}
 use Rattle.tm_values.specs.declared.error.ErrorKind.{ErrorKind}
 use Rattle.tm_meaning.specs.Tree.{Trees}
-use Rattle.tm_meaning.specs.World.{World, Host, Function, callers, Stated, View}
+use Rattle.tm_meaning.specs.World.{World, HostValue, Function, callers, Stated, View}
 use Rattle.tm_meaning.specs.Meaning.{rendered, chain_of}
 use Rattle.tm_simulation.specs.Chains.{wrapped, is_raised, Arises, raised, by_function, AnswersOnly, by_formatter, RepliesOnly, IfAny}
 use Rattle.tm_simulation.specs.Chains.{HasRaised, FunctionStates, FormatterStates, StatesOnly, ends_in_memory, StatesNoMemory, MayWrap}
@@ -27,7 +27,7 @@ states_at Has (g ∷ fs) h zero f e =
     subst (FunctionStates Has) same (All-head (FunctionStates Has) g fs h)
 states_at Has (g ∷ fs) h (suc n) f e = states_at Has fs (All-tail (FunctionStates Has) g fs h) n f e
 
-module _ (Has : List ErrorKind → Type 0) (host : Host) (has : HasRaised Has) (states : StatesOnly Has host) where
+module _ (Has : List ErrorKind → Type 0) (host : HostValue) (has : HasRaised Has) (states : StatesOnly Has host) where
   -- What arises has the property.
   arisen_has : {chain : List ErrorKind} → Arises host chain → Has chain
   arisen_has (raised {kind = k} e) = has.raised k e
@@ -45,7 +45,7 @@ module _ (Has : List ErrorKind → Type 0) (host : Host) (has : HasRaised Has) (
   render_has trees w = any_has (chain_of (rendered host trees w)) (render_arises host trees w)
 
 -- ---------------------------------------------------------------- properties of bits
-pub render_is : (has : List ErrorKind → Bool) (host : Host) (trees : Trees) (w : World) → HasRaised (λ chain. has chain ≡ true) →
+pub render_is : (has : List ErrorKind → Bool) (host : HostValue) (trees : Trees) (w : World) → HasRaised (λ chain. has chain ≡ true) →
     StatesOnly (λ chain. has chain ≡ true) host → IfAny (λ chain. has chain ≡ true) (chain_of (rendered host trees w))
 render_is has host trees w raises states = render_has (λ chain. has chain ≡ true) host raises states trees w
 
@@ -74,7 +74,7 @@ of_any_memory : (chain : List ErrorKind) → IfAny (λ c. ends_in_memory c ≡ f
 of_any_memory [] h = refl
 of_any_memory (k ∷ ks) h = h
 
-pub render_no_memory : (host : Host) (trees : Trees) (w : World) → StatesNoMemory host →
+pub render_no_memory : (host : HostValue) (trees : Trees) (w : World) → StatesNoMemory host →
     ends_in_memory (chain_of (rendered host trees w)) ≡ false
 render_no_memory host trees w states = of_any_memory _ (render_has _ host no_memory_raised states trees w)
 
@@ -148,6 +148,6 @@ of_any_foreign : (chain : List ErrorKind) → IfAny HasNoForeign chain → HasNo
 of_any_foreign [] h = All-nil (λ k. is_foreign k ≡ false)
 of_any_foreign (k ∷ ks) h = h
 
-pub render_no_foreign : (host : Host) (trees : Trees) (w : World) → StatesOnly HasNoForeign host →
+pub render_no_foreign : (host : HostValue) (trees : Trees) (w : World) → StatesOnly HasNoForeign host →
     HasNoForeign (chain_of (rendered host trees w))
 render_no_foreign host trees w states = of_any_foreign _ (render_has HasNoForeign host no_foreign_raised states trees w)

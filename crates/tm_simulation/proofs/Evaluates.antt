@@ -16,18 +16,18 @@ use Rattle.tm_syntax.specs.declared.tree.Expr.{end_of-Step as no_step, more_of-S
 use Rattle.tm_syntax.specs.declared.tree.Expr.{end_of-Condition as no_condition}
 use Rattle.tm_syntax.specs.declared.tree.Argument.{Argument}
 use Rattle.tm_syntax.specs.declared.tree.Step.{Step, Attribute, Method', Row_of-Comparison, end_of-Comparison as no_comparison}
-use Rattle.tm_syntax.specs.declared.tree.Target.{Target, Name as To, Unpack' as Items, Attribute as Member, Row_of-Target}
-use Rattle.tm_syntax.specs.declared.tree.Target.{end_of-Target as no_target, more_of-Target as target}
+use Rattle.tm_syntax.specs.declared.tree.AssignmentTarget.{AssignmentTarget, Name as To, Unpack' as Items, Attribute as Member, Row_of-AssignmentTarget}
+use Rattle.tm_syntax.specs.declared.tree.AssignmentTarget.{end_of-AssignmentTarget as no_target, more_of-AssignmentTarget as target}
 use Rattle.tm_syntax.specs.declared.tree.Assignment.{Assignment}
 use Rattle.tm_syntax.specs.Code.{pass_flags, count_targets}
 use Rattle.tm_syntax.specs.Forms.{unary, chained, conditional, with_condition, with_comparison, with_pair, plain, with_keyword}
 use Rattle.tm_syntax.specs.Forms.{item, slice, binary, compare, and_then, or_else}
 use Rattle.tm_definitions.specs.Members.{settable}
-use Rattle.tm_meaning.specs.World.{World, Host, loop_scope, next_turn, cleared, items_over, Res, bind, answered, tick, depth, looked_up}
-use Rattle.tm_meaning.specs.World.{lookup, records_of, with_member, set_member, items_of}
+use Rattle.tm_meaning.specs.World.{World, HostValue, loop_scope, next_turn, cleared, items_over, Res, bind, answered, tick, depth, looked_up}
+use Rattle.tm_meaning.specs.World.{lookup, records_of, with_member, set_member, unpacked_items}
 use Rattle.tm_meaning.specs.Calls.{Callee, Call, undone, wrapped, Asked, has, refused, runs, recurs}
 use Rattle.tm_meaning.specs.Meaning.{text_behind, Run, Outcome, Ending, done, leave, next, fault, Under, audible, value_of, value_behind}
-use Rattle.tm_meaning.specs.Meaning.{in_place_of, behind, truth, applied_unary, operated, applied, eval, eval_all, eval_pairs}
+use Rattle.tm_meaning.specs.Meaning.{in_place_of, behind, truth, applied_unary, operated, applied_binary, eval, eval_all, eval_pairs}
 use Rattle.tm_meaning.specs.Meaning.{eval_argument, eval_arguments, eval_keywords, eval_named, one_counted, selected, loop_items}
 use Rattle.tm_meaning.specs.Meaning.{under_condition, eval_conditions, eval_step, eval_links, eval_steps, assign, assign_all, set_to}
 use Rattle.tm_meaning.specs.Meaning.{set_each, capturing}
@@ -38,29 +38,29 @@ use Rattle.tm_simulation.proofs.Raised.{Raises, sliced_raises}
 use Rattle.tm_simulation.proofs.Advances.{Advances, Kept, advances_then, lasts_by_namespaces, kept_same, kept_then, kept_lasting, in_stream}
 use Rattle.tm_simulation.proofs.Advances.{store_kept, kept_popped, kept_cleared, mark_behind, in_loop_of, kept_turned, advances_around}
 use Rattle.tm_simulation.proofs.Advances.{opened, opened_kept}
-use Rattle.tm_simulation.proofs.Gives.{Gives, RunEnds, run_ends_as, EndsBy, Ends, ends_as, gives_bind, gives_kept, choose_gives, tick_gives}
+use Rattle.tm_simulation.proofs.Gives.{Gives, RunEnds, run_ends_as, EndingKeeps, OutcomeKeeps, ends_as, gives_bind, gives_kept, choose_gives, tick_gives}
 use Rattle.tm_simulation.proofs.Gives.{ticked_gives}
 use Rattle.tm_simulation.proofs.Gives.{operation_gives, ends_here, ends_fault, ends_then, opened_gives}
 use Rattle.tm_simulation.proofs.Asks.{unpacked_gives, method_asks, Asks, lookup_gives, items_give, named_asks}
 use Rattle.tm_meaning.specs.declared.wrapping.Wrapping.TheVariants as wrapping
 
 -- ---------------------------------------------------------------- operators
-pub truth_gives : (host : Host) (v : Val) (w : World) → Gives host w (truth host v w)
+pub truth_gives : (host : HostValue) (v : Val) (w : World) → Gives host w (truth host v w)
 truth_gives host v w = operation_gives host _ w (truth_raises host.undefined v)
 
-pub unary_gives : (host : Host) (op : UnaryOperator) (v : Val) (w : World) → Gives host w (applied_unary host op v w)
+pub unary_gives : (host : HostValue) (op : UnaryOperator) (v : Val) (w : World) → Gives host w (applied_unary host op v w)
 unary_gives host op v w = operation_gives host _ w (unary_raises op host.undefined v)
 
-pub operated_gives : (host : Host) (op : BinaryOperator) (x y : Val) (w : World) → Gives host w (operated host op x y w)
+pub operated_gives : (host : HostValue) (op : BinaryOperator) (x y : Val) (w : World) → Gives host w (operated host op x y w)
 operated_gives host op x y w = operation_gives host _ w (binary_raises op host.undefined (records_of w) x y)
 
-pub binary_gives : (host : Host) (op : BinaryOperator) (x y : Val) (w : World) → Gives host w (applied host op x y w)
+pub binary_gives : (host : HostValue) (op : BinaryOperator) (x y : Val) (w : World) → Gives host w (applied_binary host op x y w)
 binary_gives host binaries.NotIn x y w =
     gives_bind host w (operated host binaries.In x y w) _ (operated_gives host binaries.In x y w) (λ v world1.
     ticked_gives host world1 _ (λ world2. unary_gives host unaries.Not v world2))
 binary_gives host op x y w = operated_gives host op x y w
 
-pub looked_up_gives : (host : Host) (x : List ℕ) (w : World) → Gives host w (looked_up host x w)
+pub looked_up_gives : (host : HostValue) (x : List ℕ) (w : World) → Gives host w (looked_up host x w)
 looked_up_gives host x w = gives_bind host w (lookup host x w) _ (lookup_gives host x w) (λ found world1. kept_same world1)
 
 -- ---------------------------------------------------------------- members of namespaces
@@ -69,7 +69,7 @@ member_long n x v [] = refl
 member_long zero x v (ps ∷ more) = refl
 member_long (suc n) x v (ps ∷ more) = ap suc (member_long n x v more)
 
-pub member_gives : (host : Host) (x : List ℕ) (v o : Val) (w : World) → Gives host w (set_member x v o w)
+pub member_gives : (host : HostValue) (x : List ℕ) (v o : Val) (w : World) → Gives host w (set_member x v o w)
 member_gives host x v o w =
     gives_bind host w (answered (settable (records_of w) o) w) _ (operation_gives host _ w (settable_raises (records_of w) o)) (λ n world1.
     kept_lasting (lasts_by_namespaces world1 (with_member n x v world1.namespaces) (omega (arith, member_long n x v world1.namespaces)))
@@ -81,13 +81,13 @@ one_more_raises : (fits : Bool) (v : Val) → Raises (if fits then Ok v else inv
 one_more_raises true v = tt
 one_more_raises false v = refl
 
-pub one_counted_gives : (host : Host) (n : ℕ) (w : World) → Gives host w (one_counted n w)
+pub one_counted_gives : (host : HostValue) (n : ℕ) (w : World) → Gives host w (one_counted n w)
 one_counted_gives host n w =
     ticked_gives host w _ (λ world1. ticked_gives host world1 _
     (λ world2. ticked_gives host world2 _ (λ world3. operation_gives host _ world3 (one_more_raises _ _))))
 
 -- The pass over items leaves what lies around its loop.
-pub selected_gives : (host : Host) (w : World) (condition : Val → World → Res Val) → ((v : Val) (x : World) → Gives host x (condition v x)) →
+pub selected_gives : (host : HostValue) (w : World) (condition : Val → World → Res Val) → ((v : Val) (x : World) → Gives host x (condition v x)) →
     (n : ℕ) (vs : List Val) (x : World) → Kept (in_loop_of pass_flags w) x →
     Gives host w (selected host condition n vs x)
 selected_gives host w condition given n [] x i =
@@ -112,13 +112,13 @@ selected_gives host w condition given n (v ∷ vs) x i =
     (λ _ world5 h5. selected_gives host w condition given n vs world5 (kept_then kept4 h5)))))))
 
 -- ---------------------------------------------------------------- behind a run
-wrap_arises : (host : Host) (wrap : Option Wrapping) (chain : List ErrorKind) → Arises host chain → Arises host (wrapped wrap chain)
+wrap_arises : (host : HostValue) (wrap : Option Wrapping) (chain : List ErrorKind) → Arises host chain → Arises host (wrapped wrap chain)
 wrap_arises host None chain h = h
 wrap_arises host (Some wrapping.EvalBlock) chain h = wraps refl h
 wrap_arises host (Some wrapping.BadInclude) chain h = wraps refl h
 
-value_by : (host : Host) (w world1 : World) (c : Call) (e : Ending) (o : Outcome) →
-    EndsBy host (in_stream o.world.stream world1) e o.world →
+value_by : (host : HostValue) (w world1 : World) (c : Call) (e : Ending) (o : Outcome) →
+    EndingKeeps host (in_stream o.world.stream world1) e o.world →
     ((world2 : World) → Advances (in_stream world2.stream world1) world2 → Kept w (undone c.undo world2)) →
     Gives host w (value_behind e c o)
 value_by host w world1 c done o h k = k o.world h.advances
@@ -126,16 +126,16 @@ value_by host w world1 c leave o h k = k o.world h.advances
 value_by host w world1 c next o h k = k o.world h.advances
 value_by host w world1 c (fault chain) o h k = ((k o.world h.0).advances, wrap_arises host c.wrap chain h.1)
 
-text_by : (host : Host) (w world1 : World) (e : Ending) (o : Outcome) → Kept w world1 → EndsBy host world1 e o.world →
+text_by : (host : HostValue) (w world1 : World) (e : Ending) (o : Outcome) → Kept w world1 → EndingKeeps host world1 e o.world →
     Gives host w (text_behind e o)
 text_by host w world1 done o h k = kept_then h k
 text_by host w world1 leave o h k = kept_then h k
 text_by host w world1 next o h k = kept_then h k
 text_by host w world1 (fault chain) o h k = (advances_then h.advances k.0, k.1)
 
-place_by : (host : Host) (w world1 : World) (c : Call) (run : Run) (e : Ending) (o : Outcome) →
-    EndsBy host (in_stream o.world.stream world1) e o.world →
-    ((world2 : World) → Advances (in_stream world2.stream world1) world2 → Kept w (undone c.undo world2)) → Ends host w (behind e c run o)
+place_by : (host : HostValue) (w world1 : World) (c : Call) (run : Run) (e : Ending) (o : Outcome) →
+    EndingKeeps host (in_stream o.world.stream world1) e o.world →
+    ((world2 : World) → Advances (in_stream world2.stream world1) world2 → Kept w (undone c.undo world2)) → OutcomeKeeps host w (behind e c run o)
 place_by host w world1 c run done o h k = ends_here host w _ run o.text (k o.world h.advances)
 place_by host w world1 c run leave o h k = ends_here host w _ run o.text (k o.world h.advances)
 place_by host w world1 c run next o h k = ends_here host w _ run o.text (k o.world h.advances)
@@ -144,7 +144,7 @@ place_by host w world1 c run (fault chain) o h k =
 
 -- ---------------------------------------------------------------- trees
 -- where the test, what is guarded and what stands for it do
-pub condition_gives : (host : Host) (test guarded other : World → Res Val) → ((w : World) → Gives host w (test w)) →
+pub condition_gives : (host : HostValue) (test guarded other : World → Res Val) → ((w : World) → Gives host w (test w)) →
     ((w : World) → Gives host w (guarded w)) → ((w : World) → Gives host w (other w)) →
     (w : World) → Gives host w (under_condition host test guarded other w)
 condition_gives host test guarded other first given last w =
@@ -155,7 +155,7 @@ condition_gives host test guarded other first given last w =
     (λ x world4. ticked_gives host world4 _ (λ world5. kept_same world5))) (last world3))))
 
 module _ (u : Under) (nest_ends : (k : Callee) (heard : Bool) (out : List ℕ) (w : World) → RunEnds u.host w (u.nests k heard out w))
-    (again_ends : (n : ℕ) (items : List Val) (run : Run) (out : List ℕ) (w : World) → Ends u.host w (u.again n items run out w)) where
+    (again_ends : (n : ℕ) (items : List Val) (run : Run) (out : List ℕ) (w : World) → OutcomeKeeps u.host w (u.again n items run out w)) where
   value_gives : (w : World) (run : Run) (q : Asked) → Asks u.host w q → Gives u.host w (value_of u run q)
   value_gives w run (has v world1) h = h
   value_gives w run (refused chain world1) h = h
@@ -166,7 +166,7 @@ module _ (u : Under) (nest_ends : (k : Callee) (heard : Bool) (out : List ℕ) (
       let o = u.nests c.callee true [] world1 in
       value_by u.host w world1 c o.ending o (run_ends_as u.host world1 o (nest_ends c.callee true [] world1)) h.2
 
-  pub place_ends : (w : World) (run : Run) (out : List ℕ) (q : Asked) → Asks u.host w q → Ends u.host w (in_place_of u run out q)
+  pub place_ends : (w : World) (run : Run) (out : List ℕ) (q : Asked) → Asks u.host w q → OutcomeKeeps u.host w (in_place_of u run out q)
   place_ends w run out (has v world1) h = ends_here u.host w world1 run out h
   place_ends w run out (refused chain world1) h = ends_fault u.host w world1 run out chain h.0 h.1
   place_ends w run out (recurs n items world1) h =
@@ -271,7 +271,7 @@ module _ (u : Under) (nest_ends : (k : Callee) (heard : Bool) (out : List ℕ) (
         Gives u.host w (eval_links u run op cs x y w)
     links_give run op no_comparison x y w =
         ticked_gives u.host w _ (λ world1.
-        gives_bind u.host world1 (applied u.host op x y world1) _ (binary_gives u.host op x y world1)
+        gives_bind u.host world1 (applied_binary u.host op x y world1) _ (binary_gives u.host op x y world1)
         (λ v world2. ticked_gives u.host world2 _ (λ world3. kept_same world3)))
     links_give run op (with_comparison op1 a more) x y w =
         ticked_gives u.host w _ (λ world1.
@@ -288,24 +288,24 @@ module _ (u : Under) (nest_ends : (k : Callee) (heard : Bool) (out : List ℕ) (
         (λ x world1. steps_give run ss x world1)
 
   mutual
-    pub assign_gives : (run : Run) (t : Target) (v : Val) (w : World) → Gives u.host w (assign u run t v w)
+    pub assign_gives : (run : Run) (t : AssignmentTarget) (v : Val) (w : World) → Gives u.host w (assign u run t v w)
     assign_gives run (To x) v w = ticked_gives u.host w _ (λ world1. store_kept x v world1)
     assign_gives run (Items _ ts) v w =
-        ticked_gives u.host w _ (λ world1. gives_bind u.host world1 (items_of (count_targets ts) v world1) _
+        ticked_gives u.host w _ (λ world1. gives_bind u.host world1 (unpacked_items (count_targets ts) v world1) _
         (unpacked_gives u.host (count_targets ts) v world1)
         (λ vs world2. assign_all_gives run ts vs world2))
     assign_gives run (Member e x) v w =
         gives_bind u.host w (eval u run e w) _ (eval_gives run e w)
         (λ o world1. ticked_gives u.host world1 _ (λ world2. member_gives u.host x v o world2))
 
-    pub assign_all_gives : {n : _} → (run : Run) (ts : Row_of-Target n) (vs : List Val) (w : World) →
+    pub assign_all_gives : {n : _} → (run : Run) (ts : Row_of-AssignmentTarget n) (vs : List Val) (w : World) →
         Gives u.host w (assign_all u run ts vs w)
     assign_all_gives run no_target vs w = kept_same w
     assign_all_gives run (target t ts) [] w = kept_same w
     assign_all_gives run (target t ts) (v ∷ vs) w = gives_bind u.host w (assign u run t v w) _ (assign_gives run t v w)
         (λ _ world1. assign_all_gives run ts vs world1)
 
-  pub set_gives : (run : Run) (t : Target) (e : Expr) (w : World) → Gives u.host w (set_to u run t e w)
+  pub set_gives : (run : Run) (t : AssignmentTarget) (e : Expr) (w : World) → Gives u.host w (set_to u run t e w)
   set_gives run t e w = gives_bind u.host w (eval u run e w) _ (eval_gives run e w) (λ v world1. assign_gives run t v world1)
 
   pub set_each_gives : (run : Run) (given : List Assignment) (w : World) → Gives u.host w (set_each u run given w)
@@ -313,11 +313,11 @@ module _ (u : Under) (nest_ends : (k : Callee) (heard : Bool) (out : List ℕ) (
   set_each_gives run (a ∷ more) w = gives_bind u.host w (set_to u run a.target a.value w) _ (set_gives run a.target a.value w)
       (λ _ world1. set_each_gives run more world1)
 
-  pub condition_of_gives : (run : Run) (t : Target) (c : Expr) (v : Val) (w : World) →
+  pub condition_of_gives : (run : Run) (t : AssignmentTarget) (c : Expr) (v : Val) (w : World) →
       Gives u.host w (bind (assign u run t v w) (λ _ world1. eval u run c world1))
   condition_of_gives run t c v w = gives_bind u.host w (assign u run t v w) _ (assign_gives run t v w) (λ _ world1. eval_gives run c world1)
 
-  pub loop_items_give : (at : ℕ) (run : Run) (t : Target) (e : Expr) (c : Option Expr) (w : World) →
+  pub loop_items_give : (at : ℕ) (run : Run) (t : AssignmentTarget) (e : Expr) (c : Option Expr) (w : World) →
       Gives u.host w (loop_items u at run t e c w)
   loop_items_give at run t e None w = gives_bind u.host w (eval u run e w) _ (eval_gives run e w) (λ v world1. items_give u.host v world1)
   loop_items_give at run t e (Some c) w =

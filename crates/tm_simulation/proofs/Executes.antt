@@ -13,7 +13,7 @@ use Rattle.tm_meaning.specs.Meaning.{again_in, turn_of, Run, Outcome, Under, use
 use Rattle.tm_meaning.specs.Meaning.{set_to, set_each, capturing, loop_over, has_none, exec_behind_loop, emit, behind_first, exec, exec_all}
 use Rattle.tm_meaning.specs.Meaning.{exec_else}
 use Rattle.tm_simulation.proofs.Advances.{kept_same, within, advances_within, kept_popped, advances_escaped, kept_unescaped}
-use Rattle.tm_simulation.proofs.Gives.{Ends, RunEnds, tick_gives, ends_here, ends_refused, ends_then, ends_use}
+use Rattle.tm_simulation.proofs.Gives.{OutcomeKeeps, RunEnds, tick_gives, ends_here, ends_refused, ends_then, ends_use}
 use Rattle.tm_simulation.proofs.Gives.{ends_do, ends_leave, ends_next, choose_ends, ends_kept, ends_within, closing_ends, captured_ends}
 use Rattle.tm_simulation.proofs.Gives.{loop_ends}
 use Rattle.tm_simulation.proofs.Asks.{emitted_gives, escape_gives, block_asks, innermost_asks}
@@ -21,25 +21,25 @@ use Rattle.tm_simulation.proofs.Evaluates.{place_ends, loop_items_give, assign_g
 
 -- ---------------------------------------------------------------- statements
 module _ (u : Under) (nest_ends : (k : Callee) (heard : Bool) (out : List ℕ) (w : World) → RunEnds u.host w (u.nests k heard out w))
-    (again_ends : (n : ℕ) (items : List Val) (run : Run) (out : List ℕ) (w : World) → Ends u.host w (u.again n items run out w)) where
-  emit_ends : (run : Run) (out : List ℕ) (v : Val) (w : World) → Ends u.host w (emit u run out v w)
+    (again_ends : (n : ℕ) (items : List Val) (run : Run) (out : List ℕ) (w : World) → OutcomeKeeps u.host w (u.again n items run out w)) where
+  emit_ends : (run : Run) (out : List ℕ) (v : Val) (w : World) → OutcomeKeeps u.host w (emit u run out v w)
   emit_ends run out v w =
       ends_use u.host w (tick w) run out _ (tick_gives u.host w) (λ _ world1. ends_use u.host world1 (emitted u.host v world1) run out _
       (emitted_gives u.host v world1)
       (λ t world2. ends_here u.host world2 world2 run (say run t out) (kept_same world2)))
 
-  behind_first_ends : (other : Otherwise) (run : Run) (w : World) (o : Outcome) → Ends u.host w o → Ends u.host w (behind_first other run o)
+  behind_first_ends : (other : Otherwise) (run : Run) (w : World) (o : Outcome) → OutcomeKeeps u.host w o → OutcomeKeeps u.host w (behind_first other run o)
   behind_first_ends no_else run w o h = h
   behind_first_ends (otherwise _ body) run w o h =
       ends_do u.host w run o _ h (λ run1 out1 world1. ends_use u.host world1 (tick world1) run1 out1 _ (tick_gives u.host world1)
       (λ _ world2. ends_here u.host world2 world2 run1 out1 (kept_same world2)))
 
-  tag_ends : (run : Run) (b : List ℕ) (out : List ℕ) (w : World) → Ends u.host w (block_tag u run b out w)
+  tag_ends : (run : Run) (b : List ℕ) (out : List ℕ) (w : World) → OutcomeKeeps u.host w (block_tag u run b out w)
   tag_ends run b out w = choose_ends u.host w _ _ _ (place_ends u nest_ends again_ends w run out _ (block_asks u.host b w))
       (ends_here u.host w w run out (kept_same w))
 
   mutual
-    pub exec_ends : (at : ℕ) (s : Stmt) (run : Run) (out : List ℕ) (w : World) → Ends u.host w (exec u at s run out w)
+    pub exec_ends : (at : ℕ) (s : Stmt) (run : Run) (out : List ℕ) (w : World) → OutcomeKeeps u.host w (exec u at s run out w)
     exec_ends at (EmitRaw t) run out w = ends_use u.host w (tick w) run out _ (tick_gives u.host w)
         (λ _ world1. ends_here u.host world1 world1 run (say run t out) (kept_same world1))
     exec_ends at (EmitExpr e) run out w = ends_use u.host w (eval u run e w) run out _ (eval_gives u nest_ends again_ends run e w)
@@ -94,17 +94,17 @@ module _ (u : Under) (nest_ends : (k : Callee) (heard : Bool) (out : List ℕ) (
         (λ _ world1. ends_here u.host world1 world1 run out (kept_same world1))
 
     pub execs_end : {n : _} → (at : ℕ) (ss : Row_of-Stmt n) (run : Run) (out : List ℕ) (w : World) →
-        Ends u.host w (exec_all u at ss run out w)
+        OutcomeKeeps u.host w (exec_all u at ss run out w)
     execs_end at no_statement run out w = ends_here u.host w w run out (kept_same w)
     execs_end at (statement s ss) run out w = ends_do u.host w run (exec u at s run out w) _ (exec_ends at s run out w)
         (λ run1 out1 world1. execs_end (past at s) ss run1 out1 world1)
 
-    else_ends : (at : ℕ) (other : Otherwise) (run : Run) (out : List ℕ) (w : World) → Ends u.host w (exec_else u at other run out w)
+    else_ends : (at : ℕ) (other : Otherwise) (run : Run) (out : List ℕ) (w : World) → OutcomeKeeps u.host w (exec_else u at other run out w)
     else_ends at no_else run out w = ends_here u.host w w run out (kept_same w)
     else_ends at (otherwise _ body) run out w = execs_end at body run out w
 
     pub behind_loop_ends : (at : ℕ) (other : Otherwise) (none_taken : Bool) (run : Run) (out : List ℕ) (w : World) →
-        Ends u.host w (exec_behind_loop u at other none_taken run out w)
+        OutcomeKeeps u.host w (exec_behind_loop u at other none_taken run out w)
     behind_loop_ends at no_else none_taken run out w = ends_here u.host w w run out (kept_same w)
     behind_loop_ends at (otherwise _ body) none_taken run out w =
         ends_use u.host w (tick w) run out _ (tick_gives u.host w)
@@ -113,7 +113,7 @@ module _ (u : Under) (nest_ends : (k : Callee) (heard : Bool) (out : List ℕ) (
 
   -- a loop that is called
   pub called_end : (l : Option FoundLoop) (n : ℕ) (items : List Val) (run : Run) (out : List ℕ) (w : World) →
-      Ends u.host w (again_in u l n items run out w)
+      OutcomeKeeps u.host w (again_in u l n items run out w)
   called_end None n items run out w = ends_refused u.host w run out InvalidOperation refl
   called_end (Some l) n items run out w =
       choose_ends u.host w l.recursive _ _

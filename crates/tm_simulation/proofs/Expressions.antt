@@ -31,7 +31,7 @@ use Rattle.tm_meaning.specs.World.{looked_up}
 use Rattle.tm_meaning.specs.Calls.{call_named, call_first, call_method}
 use Rattle.tm_meaning.specs.Meaning.{Run}
 use Rattle.tm_meaning.specs.Meaning.{Under, truth, applied_unary, operated}
-use Rattle.tm_meaning.specs.Meaning.{applied, attribute, item_at, slice_of, list_of_values, map_of_pairs}
+use Rattle.tm_meaning.specs.Meaning.{applied_binary, attribute, item_at, slice_of, list_of_values, map_of_pairs}
 use Rattle.tm_meaning.specs.Meaning.{eval, eval_all, eval_pairs, eval_argument, eval_arguments}
 use Rattle.tm_meaning.specs.Meaning.{eval_keywords, eval_named, keyword_map, under_condition}
 use Rattle.tm_meaning.specs.Meaning.{eval_conditions, eval_step, eval_links, eval_steps}
@@ -46,7 +46,7 @@ use Rattle.tm_simulation.proofs.Asks.{named_asks, method_asks}
 use Rattle.tm_simulation.proofs.Evaluates.{eval_gives, condition_gives, all_give, pairs_give, argument_gives, arguments_give}
 use Rattle.tm_simulation.proofs.Evaluates.{keywords_give, named_give, step_gives}
 use Rattle.tm_simulation.proofs.Evaluates.{binary_gives, truth_gives, operated_gives}
-use Rattle.tm_simulation.proofs.Follow.{Comes}
+use Rattle.tm_simulation.proofs.Follow.{LeadsToEnd}
 use Rattle.tm_simulation.proofs.Follow.{Spot, told, cfg}
 use Rattle.tm_simulation.proofs.Follow.{Follows, follows_bind, bind_then}
 use Rattle.tm_simulation.proofs.Follow.{Go, silent, at, after_then, move, pushes, choose_then}
@@ -74,12 +74,12 @@ module _ (setting : Setting) where
       (s : Spot) (pc : ℕ) (a b : Val) (stack : List Val) (w : World) → slice_get (context.program.code s.run.stream) pc ≡ Some x →
       Follows context (told s) (bind (tick w) (λ _ world1. operated context.program.host op a b world1)) (λ y world1. Go context s (pc + 1) (y ∷ stack) world1) → Go context s pc (b ∷ a ∷ stack) w
   operates op x is s pc a b stack w e h =
-      at context x s pc (b ∷ a ∷ stack) w e (subst (λ n. Comes context (told s) n) (sym (is (cfg s pc (b ∷ a ∷ stack) w)))
+      at context x s pc (b ∷ a ∷ stack) w e (subst (λ n. LeadsToEnd context (told s) n) (sym (is (cfg s pc (b ∷ a ∷ stack) w)))
       (after_then context (told s) (tick w) _ (bind_then context (told s) w (tick w) _ _ _ (tick_gives _ w) h (λ _ world1 k h1.
       pushes context s pc stack (b ∷ a ∷ stack) world1 (operated context.program.host op a b world1) h1))))
 
   binary_then : (op : BinaryOperator) (s : Spot) (pc : ℕ) (a b : Val) (stack : List Val) (w : World) → HasAt (context.program.code s.run.stream) pc (binary_code op) →
-      Follows context (told s) (bind (tick w) (λ _ world1. applied context.program.host op a b world1)) (λ x world1. Go context s (beyond_all pc (binary_code op)) (x ∷ stack) world1) → Go context s pc (b ∷ a ∷ stack) w
+      Follows context (told s) (bind (tick w) (λ _ world1. applied_binary context.program.host op a b world1)) (λ x world1. Go context s (beyond_all pc (binary_code op)) (x ∷ stack) world1) → Go context s pc (b ∷ a ∷ stack) w
   binary_then binaries.Equal s pc a b stack w is h = operates binaries.Equal i.Eq (λ c. refl) s pc a b stack w is.0 h
   binary_then binaries.NotEqual s pc a b stack w is h = operates binaries.NotEqual i.Ne (λ c. refl) s pc a b stack w is.0 h
   binary_then binaries.Less s pc a b stack w is h = operates binaries.Less i.Lt (λ c. refl) s pc a b stack w is.0 h
@@ -102,9 +102,9 @@ module _ (setting : Setting) where
 
   -- values become one
   pub built_then : (made : List Val → Val) (s : Spot) (pc n : ℕ) (vs stack : List Val) (w : World) → length vs ≡ n → Go context s (pc + 1) (made vs ∷ stack) w →
-      Comes context (told s) (on_taken (taken n [] (onto vs stack)) w (λ xs rest. goes (made xs ∷ rest) w (cfg s pc (onto vs stack) w)))
+      LeadsToEnd context (told s) (on_taken (taken n [] (onto vs stack)) w (λ xs rest. goes (made xs ∷ rest) w (cfg s pc (onto vs stack) w)))
   built_then made s pc n vs stack w l g =
-      subst (λ t. Comes context (told s) (on_taken t w (λ xs rest. goes (made xs ∷ rest) w (cfg s pc (onto vs stack) w)))) (sym (taken_all vs n stack l)) (silent context (told s) _ g)
+      subst (λ t. LeadsToEnd context (told s) (on_taken t w (λ xs rest. goes (made xs ∷ rest) w (cfg s pc (onto vs stack) w)))) (sym (taken_all vs n stack l)) (silent context (told s) _ g)
 
   -- behind a false comparison its right side is dropped, which is free
   dropped_then : (s : Spot) (end : ℕ) (v y : Val) (stack : List Val) (w : World) → HasAt (context.program.code s.run.stream) end (i.Swap ∷ i.DiscardTop ∷ []) →
@@ -178,7 +178,7 @@ module _ (setting : Setting) where
         subst (λ us. Go context s pc1 us world2) (onto_both vs ks stack)
         (at context (i.CallFunction g n) s pc1 (onto (vs ++ ks) stack) world2 is.1.1.0
         (after_then context (told s) (tick world2) _ (bind_then context (told s) world2 (tick world2) _ _ _ (tick_gives _ world2) h2 (λ _ world3 k3 h3.
-        subst (λ t. Comes context (told s) (on_taken t world3 (λ xs rest. asked context.program (cfg s pc1 (onto (vs ++ ks) stack) world3) rest (call_named context.program.host g xs world3)))) (sym (taken_all (vs ++ ks) n stack long))
+        subst (λ t. LeadsToEnd context (told s) (on_taken t world3 (λ xs rest. asked context.program (cfg s pc1 (onto (vs ++ ks) stack) world3) rest (call_named context.program.host g xs world3)))) (sym (taken_all (vs ++ ks) n stack long))
         (asked_then setting run s pc1 stack (onto (vs ++ ks) stack) world3 world3 (call_named context.program.host g (vs ++ ks) world3) (named_asks context.program.host g (vs ++ ks) world3) (here_kept setting run s k3 (here_kept setting run s k2 (here_kept setting run s k d))) h3)))))))))
     expr_runs (unary op a) run s l pc stack w d is h =
         expr_runs a run s l pc stack w d is.0
@@ -285,7 +285,7 @@ module _ (setting : Setting) where
         subst (λ us. Go context s pc1 us world2) (onto_both vs ks (v ∷ stack))
         (at context (i.CallMethod x n) s pc1 (onto (v ∷ (vs ++ ks)) stack) world2 is.1.1.0
         (after_then context (told s) (tick world2) _ (bind_then context (told s) world2 (tick world2) _ _ _ (tick_gives _ world2) h2 (λ _ world3 k3 h3.
-        subst (λ t. Comes context (told s) (on_taken t world3 (λ xs rest. asked context.program (cfg s pc1 (onto (v ∷ (vs ++ ks)) stack) world3) rest (call_first context.program.host x xs world3)))) (sym (taken_all (v ∷ (vs ++ ks)) n stack long))
+        subst (λ t. LeadsToEnd context (told s) (on_taken t world3 (λ xs rest. asked context.program (cfg s pc1 (onto (v ∷ (vs ++ ks)) stack) world3) rest (call_first context.program.host x xs world3)))) (sym (taken_all (v ∷ (vs ++ ks)) n stack long))
         (asked_then setting run s pc1 stack (onto (v ∷ (vs ++ ks)) stack) world3 world3 (call_method context.program.host x v (vs ++ ks) world3) (method_asks context.program.host x v (vs ++ ks) world3) (here_kept setting run s k3 (here_kept setting run s k2 (here_kept setting run s k d))) h3)))))))))
     step_runs (item a) run s l pc v stack w d is h =
         expr_runs a run s l pc (v ∷ stack) w d is.0
@@ -332,7 +332,7 @@ module _ (setting : Setting) where
     links_run op no_comparison run s l pc jump x y stack w d is place over_drop drop h =
         binary_then op s pc x y stack w is
         (follows_bind context (told s) (tick w) _ _ (bind_then context (told s) w (tick w) _ _ _ (tick_gives _ w) h (λ _ world1 k h1.
-        bind_then context (told s) world1 (applied context.program.host op x y world1) _ _ _ (binary_gives context.program.host op x y world1) h1 (λ v world2 k2 h2.
+        bind_then context (told s) world1 (applied_binary context.program.host op x y world1) _ _ _ (binary_gives context.program.host op x y world1) h1 (λ v world2 k2 h2.
         move context s _ _ (v ∷ stack) world2 place
         (at context _ s jump (v ∷ stack) world2 over_drop (after_then context (told s) (tick world2) _ (bind_then context (told s) world2 (tick world2) _ _ _ (tick_gives _ world2) h2 (λ _ world3 k3 g. silent context (told s) _ g))))))))
     links_run op (with_comparison op1 a more) run s l pc jump x y stack w d is place over_drop drop h =

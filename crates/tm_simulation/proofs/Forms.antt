@@ -6,7 +6,7 @@ use Rattle.tm_meaning.specs.Calls.{Callee, Call, undone, wrapped, runs}
 use Rattle.tm_meaning.specs.Meaning.{Run, Outcome, Ending, done, leave, next, fault, Under, audible as heard_here, say, behind, in_place_of, value_behind, value_of, capturing}
 use Rattle.tm_meaning.specs.Machine.{Activation, Finished, Failed, Back, More, Nest, Program, audible, put_in, put_out, writes, back_to, base_of, start, waiting, pushed, nested_in_place, nested_as_value}
 use Rattle.tm_meaning.specs.Steps.{step, Final, final, Leads, over, more, nest}
-use Rattle.tm_simulation.proofs.Follow.{Context, Comes, Bed, air, inside, captured_in, captures_of, told_by, Spot, told, cfg, later, Follows, Then, Ends, whole_of, so_far_then, fault_then, Go, silent}
+use Rattle.tm_simulation.proofs.Follow.{RunContext, LeadsToEnd, Bed, air, inside, captured_in, captures_of, told_by, Spot, told, cfg, later, Follows, Then, Ends, whole_of, so_far_then, fault_then, Go, silent}
 use Rattle.tm_meaning.specs.declared.stream.TemplateId.{TemplateId}
 use Rattle.tm_meaning.specs.declared.base.Base.{Base}
 
@@ -39,10 +39,10 @@ audible_is f run a q (inside x t ks) out pc stack w e (inl (i, n, h)) =
 audible_is f run a q (inside x t ks) out pc stack w e (inr (i, n, h)) =
     let l : nat_lt f.captures (suc (length ks)) ≡ true = lt-ltb _ _ n in rw (l, i, h) refl
 
-module _ (context : Context) where
+module _ (context : RunContext) where
   writes_by : (x : Bool) (t : List ℕ) (a : Activation) (q : Option TemplateId) (b : Bed) (out : List ℕ) (pc : ℕ) (stack : List Val) (w : World) →
       Go context (record { run = a; parent = q; bed = b; out = choose x (λ _. out ++ t) (λ _. out) }) pc stack w →
-      Comes context (told_by b out)
+      LeadsToEnd context (told_by b out)
       (choose x
       (λ _. More (put_out (captures_of b out) t) (record (cfg (record { run = a; parent = q; bed = b; out = out }) pc stack w) { captures = put_in (captures_of b out) t }))
       (λ _. More [] (cfg (record { run = a; parent = q; bed = b; out = out }) pc stack w)))
@@ -52,9 +52,9 @@ module _ (context : Context) where
 
   -- What is said is written.
   pub writes_then : (run : Run) (t : List ℕ) (s : Spot) (pc : ℕ) (stack : List Val) (w : World) → s.parent ≡ run.parent → Fits context.base run s.bed →
-      Go context (later s s.parent (say run t s.out)) pc stack w → Comes context (told s) (writes context.base t (cfg s pc stack w))
+      Go context (later s s.parent (say run t s.out)) pc stack w → LeadsToEnd context (told s) (writes context.base t (cfg s pc stack w))
   writes_then run t s pc stack w q fits g =
-      subst (λ x. Comes context (told s) (choose x (λ _. More (put_out (captures_of s.bed s.out) t) (record (cfg s pc stack w) { captures = put_in (captures_of s.bed s.out) t })) (λ _. More [] (cfg s pc stack w))))
+      subst (λ x. LeadsToEnd context (told s) (choose x (λ _. More (put_out (captures_of s.bed s.out) t) (record (cfg s pc stack w) { captures = put_in (captures_of s.bed s.out) t })) (λ _. More [] (cfg s pc stack w))))
       (sym (audible_is context.base run s.run s.parent s.bed s.out pc stack w q fits)) (writes_by (heard_here run) t s.run s.parent s.bed s.out pc stack w g)
 
 -- ---------------------------------------------------------------- nested runs
@@ -71,10 +71,10 @@ abbrev pub Entered : Program → Callee → Bool → Bed → List ℕ → World 
 Entered p k heard b out w o =
     Leads p (base_of heard (captures_of b out) w) (told_by b out) (step p (base_of heard (captures_of b out) w) (start k (captures_of b out) w)) (end_of b o)
 
-module _ (context : Context) where
+module _ (context : RunContext) where
   in_place_by : (k : Call) (run : Run) (a : Activation) (b : Bed) (e : Ending) (parent : Option TemplateId) (out : List ℕ) (w : World) (D L N : Then) →
-      Ends context b (behind e k run (whole_of e parent out w)) D L N → (D run.parent out (undone k.undo w) → Comes context (told_by b out) (More [] (record { run = a; captures = captures_of b out; world = undone k.undo w }))) →
-      Comes context (end_by e b out w).text (back_to (record { run = a; call = k; value = false }) (end_by e b out w).end)
+      Ends context b (behind e k run (whole_of e parent out w)) D L N → (D run.parent out (undone k.undo w) → LeadsToEnd context (told_by b out) (More [] (record { run = a; captures = captures_of b out; world = undone k.undo w }))) →
+      LeadsToEnd context (end_by e b out w).text (back_to (record { run = a; call = k; value = false }) (end_by e b out w).end)
   in_place_by k run a b done parent out w D L N h g = g (so_far_then context b run out _ D L N h)
   in_place_by k run a b leave parent out w D L N h g = g (so_far_then context b run out _ D L N h)
   in_place_by k run a b next parent out w D L N h g = g (so_far_then context b run out _ D L N h)
@@ -85,19 +85,19 @@ module _ (context : Context) where
       Entered context.program k.callee (heard_here run) s.bed s.out v (u.nests k.callee (heard_here run) s.out v) →
       Ends context s.bed (in_place_of u run s.out (runs k v)) D L N →
       ((out1 : List ℕ) (world1 : World) → D run.parent out1 world1 → Go context (later s s.parent out1) (pc + 1) vs world1) →
-      Comes context (told s) (nested_in_place context.base vs (cfg s pc stack w) k v)
+      LeadsToEnd context (told s) (nested_in_place context.base vs (cfg s pc stack w) k v)
   call_in_place u k run s pc stack vs w v D L N q fits entered h g =
       let o = u.nests k.callee (heard_here run) s.out v in
       let back : Back = record { run = waiting vs (cfg s pc stack w); call = k; value = false } in
       let rest = in_place_by k run back.run s.bed o.ending o.parent o.text o.world D L N h (λ d. silent context _ _ (g o.text (undone k.undo o.world) d)) in
       let e = audible_is context.base run s.run s.parent s.bed s.out pc stack w q fits in
-      subst (λ x. Comes context (told s) (Nest (base_of x (captures_of s.bed s.out) v) (start k.callee (captures_of s.bed s.out) v) back)) (sym e) (nest refl entered rest)
+      subst (λ x. LeadsToEnd context (told s) (Nest (base_of x (captures_of s.bed s.out) v) (start k.callee (captures_of s.bed s.out) v) back)) (sym e) (nest refl entered rest)
 
   value_by : (k : Call) (a : Activation) (b : Bed) (out0 : List ℕ) (e : Ending) (o : Outcome) (K : Val → World → Type 0) →
       Follows context (told_by b out0) (value_behind e k o) K →
       (K (captured_text o.text (undone k.undo o.world)) (undone k.undo o.world) →
-      Comes context (told_by b out0) (More [] (record { run = pushed (captured_text o.text (undone k.undo o.world)) a; captures = captures_of b out0; world = undone k.undo o.world }))) →
-      Comes context (end_by e (inside true (told_by b out0) (captures_of b out0)) o.text o.world).text
+      LeadsToEnd context (told_by b out0) (More [] (record { run = pushed (captured_text o.text (undone k.undo o.world)) a; captures = captures_of b out0; world = undone k.undo o.world }))) →
+      LeadsToEnd context (end_by e (inside true (told_by b out0) (captures_of b out0)) o.text o.world).text
       (back_to (record { run = a; call = k; value = true }) (end_by e (inside true (told_by b out0) (captures_of b out0)) o.text o.world).end)
   value_by k a b out0 done o K h g = g h
   value_by k a b out0 leave o K h g = g h
@@ -109,7 +109,7 @@ module _ (context : Context) where
       Entered context.program k.callee true (inside true (told s) (captures_of s.bed s.out)) [] v (u.nests k.callee true [] v) →
       Follows context (told s) (value_of u run (runs k v)) K →
       ((x : Val) (world1 : World) → K x world1 → Go context s (pc + 1) (x ∷ vs) world1) →
-      Comes context (told s) (nested_as_value vs (cfg s pc stack w) k v)
+      LeadsToEnd context (told s) (nested_as_value vs (cfg s pc stack w) k v)
   call_as_value u run k s pc stack vs w v K entered h g =
       let o = u.nests k.callee true [] v in
       let back : Back = record { run = waiting vs (cfg s pc stack w); call = k; value = true } in

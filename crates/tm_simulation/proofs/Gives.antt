@@ -6,7 +6,7 @@ use Rattle.tm_values.specs.declared.error.ErrorKind.{ErrorKind}
 use Rattle.tm_values.specs.declared.error.ErrorKind.TheVariants.{InvalidOperation}
 use Rattle.tm_syntax.specs.declared.instruction.LoopFlags.{LoopFlags}
 use Rattle.tm_syntax.specs.Code.{for_flags}
-use Rattle.tm_meaning.specs.World.{choose, World, Host, Scope, loop_scope, next_turn, cleared, Res, Good, Bad, bind, answered, charged}
+use Rattle.tm_meaning.specs.World.{choose, World, HostValue, Scope, loop_scope, next_turn, cleared, Res, Good, Bad, bind, answered, charged}
 use Rattle.tm_meaning.specs.World.{with_fuel, tick, pop, depth, ticked}
 use Rattle.tm_meaning.specs.Meaning.{Run, Outcome, Ending, done, leave, next, fault, use_it, then_do, so_far, ended}
 use Rattle.tm_meaning.specs.Meaning.{closing_by, closing, captured_by, captured, round_end, rounds, loop_over}
@@ -19,49 +19,49 @@ use Rattle.tm_simulation.proofs.Advances.{kept_turned}
 use Rattle.tm_simulation.proofs.Advances.{advances_around, opened, opened_kept, recorded, NoMore, charged_by}
 
 -- Where evaluation gives a value the world is kept, and where it ends in a fault that advances it, by a chain that arises.
-abbrev pub Gives : {A : Type 0} → Host → World → Res A → Type 0
+abbrev pub Gives : {A : Type 0} → HostValue → World → Res A → Type 0
 Gives host w (Good a world1) = Kept w world1
 Gives host w (Bad chain world1) = Advances w world1 × Arises host chain
 
 -- So do statements, by their ending.
-abbrev pub EndsBy : Host → World → Ending → World → Type 0
-EndsBy host w done world1 = Kept w world1
-EndsBy host w leave world1 = Kept w world1
-EndsBy host w next world1 = Kept w world1
-EndsBy host w (fault chain) world1 = Advances w world1 × Arises host chain
+abbrev pub EndingKeeps : HostValue → World → Ending → World → Type 0
+EndingKeeps host w done world1 = Kept w world1
+EndingKeeps host w leave world1 = Kept w world1
+EndingKeeps host w next world1 = Kept w world1
+EndingKeeps host w (fault chain) world1 = Advances w world1 × Arises host chain
 
 -- sealed, so that a proof needs no outcome spelled out
-unfoldable pub Ends : Host → World → Outcome → Type 0
-Ends host w o = EndsBy host w o.ending o.world
+unfoldable pub OutcomeKeeps : HostValue → World → Outcome → Type 0
+OutcomeKeeps host w o = EndingKeeps host w o.ending o.world
 
-pub ends_as : (host : Host) (w : World) (o : Outcome) → Ends host w o → EndsBy host w o.ending o.world
-unfolding Ends
+pub ends_as : (host : HostValue) (w : World) (o : Outcome) → OutcomeKeeps host w o → EndingKeeps host w o.ending o.world
+unfolding OutcomeKeeps
 ends_as host w o h = h
 
-pub ends_advance : (host : Host) (w : World) (e : Ending) (world1 : World) → EndsBy host w e world1 → Advances w world1
+pub ends_advance : (host : HostValue) (w : World) (e : Ending) (world1 : World) → EndingKeeps host w e world1 → Advances w world1
 ends_advance host w done world1 h = h.advances
 ends_advance host w leave world1 h = h.advances
 ends_advance host w next world1 h = h.advances
 ends_advance host w (fault chain) world1 h = h.0
 
 -- A run ends so too, but for the stream in which it ends.
-unfoldable pub RunEnds : Host → World → Outcome → Type 0
-RunEnds host w o = EndsBy host (in_stream o.world.stream w) o.ending o.world
+unfoldable pub RunEnds : HostValue → World → Outcome → Type 0
+RunEnds host w o = EndingKeeps host (in_stream o.world.stream w) o.ending o.world
 
-pub run_ends_as : (host : Host) (w : World) (o : Outcome) → RunEnds host w o → EndsBy host (in_stream o.world.stream w) o.ending o.world
+pub run_ends_as : (host : HostValue) (w : World) (o : Outcome) → RunEnds host w o → EndingKeeps host (in_stream o.world.stream w) o.ending o.world
 unfolding RunEnds
 run_ends_as host w o h = h
 
-run_ends_by : (host : Host) (w : World) (o : Outcome) → EndsBy host w o.ending o.world → RunEnds host w o
+run_ends_by : (host : HostValue) (w : World) (o : Outcome) → EndingKeeps host w o.ending o.world → RunEnds host w o
 unfolding RunEnds
 run_ends_by host w o h =
-    subst (λ s. EndsBy host (in_stream s w) o.ending o.world) (sym (ends_advance host w o.ending o.world h).same_stream) h
+    subst (λ s. EndingKeeps host (in_stream s w) o.ending o.world) (sym (ends_advance host w o.ending o.world h).same_stream) h
 
-pub run_ends : (host : Host) (w : World) (o : Outcome) → Ends host w o → RunEnds host w o
+pub run_ends : (host : HostValue) (w : World) (o : Outcome) → OutcomeKeeps host w o → RunEnds host w o
 run_ends host w o h = run_ends_by host w o (ends_as host w o h)
 
 -- ---------------------------------------------------------------- results
-module _ (host : Host) where
+module _ (host : HostValue) where
   pub refused_arises : (w : World) (kind : ErrorKind) → is_raised kind ≡ true → Advances w w × Arises host (kind ∷ [])
   refused_arises w kind e = (advances_same w, raised e)
 
@@ -105,96 +105,96 @@ module _ (host : Host) where
   operation_gives answer w h = answered_gives answer w (raised_arise host answer h)
 
   -- ---------------------------------------------------------------- outcomes
-  ends_by_then : (w world1 : World) (e : Ending) (world2 : World) → Kept w world1 → EndsBy host world1 e world2 → EndsBy host w e world2
+  ends_by_then : (w world1 : World) (e : Ending) (world2 : World) → Kept w world1 → EndingKeeps host world1 e world2 → EndingKeeps host w e world2
   ends_by_then w world1 done world2 h k = kept_then h k
   ends_by_then w world1 leave world2 h k = kept_then h k
   ends_by_then w world1 next world2 h k = kept_then h k
   ends_by_then w world1 (fault chain) world2 h k = (advances_then h.advances k.0, k.1)
 
-  pub ends_here : (w world1 : World) (run : Run) (out : List ℕ) → Kept w world1 → Ends host w (so_far run out world1)
-  unfolding Ends
+  pub ends_here : (w world1 : World) (run : Run) (out : List ℕ) → Kept w world1 → OutcomeKeeps host w (so_far run out world1)
+  unfolding OutcomeKeeps
   ends_here w world1 run out h = h
 
   pub ends_fault : (w world1 : World) (run : Run) (out : List ℕ) (chain : List ErrorKind) → Advances w world1 → Arises host chain →
-      Ends host w (ended (fault chain) run out world1)
-  unfolding Ends
+      OutcomeKeeps host w (ended (fault chain) run out world1)
+  unfolding OutcomeKeeps
   ends_fault w world1 run out chain h a = (h, a)
 
   pub ends_refused : (w : World) (run : Run) (out : List ℕ) (kind : ErrorKind) → is_raised kind ≡ true →
-      Ends host w (ended (fault (kind ∷ [])) run out w)
+      OutcomeKeeps host w (ended (fault (kind ∷ [])) run out w)
   ends_refused w run out kind e = ends_fault w w run out (kind ∷ []) (advances_same w) (raised e)
 
-  pub ends_then : (w world1 : World) (o : Outcome) → Kept w world1 → Ends host world1 o → Ends host w o
-  unfolding Ends
+  pub ends_then : (w world1 : World) (o : Outcome) → Kept w world1 → OutcomeKeeps host world1 o → OutcomeKeeps host w o
+  unfolding OutcomeKeeps
   ends_then w world1 o h k = ends_by_then w world1 o.ending o.world h k
 
   pub ends_use : {A : Type 0} (w : World) (m : Res A) (run : Run) (out : List ℕ) (g : A → World → Outcome) → Gives host w m →
-      ((a : A) (world1 : World) → Ends host world1 (g a world1)) → Ends host w (use_it m run out g)
+      ((a : A) (world1 : World) → OutcomeKeeps host world1 (g a world1)) → OutcomeKeeps host w (use_it m run out g)
   ends_use w (Good a world1) run out g h k = ends_then w world1 (g a world1) h (k a world1)
   ends_use w (Bad chain world1) run out g h k = ends_fault w world1 run out chain h.0 h.1
 
   ends_on_done : (w : World) (run : Run) (e : Ending) (parent : Option TemplateId) (out : List ℕ) (world1 : World)
-      (g : Run → List ℕ → World → Outcome) → EndsBy host w e world1 →
-      ((run1 : Run) (out1 : List ℕ) (world2 : World) → Ends host world2 (g run1 out1 world2)) →
-      Ends host w (then_do run (record { ending = e; parent = parent; text = out; world = world1 }) g)
-  unfolding Ends
+      (g : Run → List ℕ → World → Outcome) → EndingKeeps host w e world1 →
+      ((run1 : Run) (out1 : List ℕ) (world2 : World) → OutcomeKeeps host world2 (g run1 out1 world2)) →
+      OutcomeKeeps host w (then_do run (record { ending = e; parent = parent; text = out; world = world1 }) g)
+  unfolding OutcomeKeeps
   ends_on_done w run done parent out world1 g h k =
       ends_then w world1 (g (record run { parent = parent }) out world1) h (k (record run { parent = parent }) out world1)
   ends_on_done w run leave parent out world1 g h k = h
   ends_on_done w run next parent out world1 g h k = h
   ends_on_done w run (fault chain) parent out world1 g h k = h
 
-  pub ends_do : (w : World) (run : Run) (o : Outcome) (g : Run → List ℕ → World → Outcome) → Ends host w o →
-      ((run1 : Run) (out1 : List ℕ) (world2 : World) → Ends host world2 (g run1 out1 world2)) → Ends host w (then_do run o g)
-  unfolding Ends
+  pub ends_do : (w : World) (run : Run) (o : Outcome) (g : Run → List ℕ → World → Outcome) → OutcomeKeeps host w o →
+      ((run1 : Run) (out1 : List ℕ) (world2 : World) → OutcomeKeeps host world2 (g run1 out1 world2)) → OutcomeKeeps host w (then_do run o g)
+  unfolding OutcomeKeeps
   ends_do w run o g h k = ends_on_done w run o.ending o.parent o.text o.world g h k
 
-  pub ends_leave : (w : World) (run : Run) (out : List ℕ) → Ends host w (ended leave run out w)
-  unfolding Ends
+  pub ends_leave : (w : World) (run : Run) (out : List ℕ) → OutcomeKeeps host w (ended leave run out w)
+  unfolding OutcomeKeeps
   ends_leave w run out = kept_same w
 
-  pub ends_next : (w : World) (run : Run) (out : List ℕ) → Ends host w (ended next run out w)
-  unfolding Ends
+  pub ends_next : (w : World) (run : Run) (out : List ℕ) → OutcomeKeeps host w (ended next run out w)
+  unfolding OutcomeKeeps
   ends_next w run out = kept_same w
 
-  pub choose_ends : (w : World) (b : Bool) (o q : Outcome) → Ends host w o → Ends host w q → Ends host w (choose b (λ _. o) (λ _. q))
+  pub choose_ends : (w : World) (b : Bool) (o q : Outcome) → OutcomeKeeps host w o → OutcomeKeeps host w q → OutcomeKeeps host w (choose b (λ _. o) (λ _. q))
   choose_ends w true o q h k = h
   choose_ends w false o q h k = k
 
   -- what follows from what is kept
   pub ends_kept : {A : Type 0} (w world1 : World) (m : Res A) (run : Run) (out : List ℕ) (g : A → World → Outcome) →
-      Advances w world1 → Gives host world1 m → ((a : A) (world2 : World) → Kept world1 world2 → Ends host w (g a world2)) →
-      Ends host w (use_it m run out g)
+      Advances w world1 → Gives host world1 m → ((a : A) (world2 : World) → Kept world1 world2 → OutcomeKeeps host w (g a world2)) →
+      OutcomeKeeps host w (use_it m run out g)
   ends_kept w world1 (Good a world2) run out g l h k = k a world2 h
   ends_kept w world1 (Bad chain world2) run out g l h k = ends_fault w world2 run out chain (advances_then l h.0) h.1
 
   -- in a scope more, where there is room for it
   pub ends_within : (w : World) (s : Scope) (room : Bool) (run : Run) (out : List ℕ) (g : Unit {0} → World → Outcome) →
-      Ends host w (g tt (within s w)) → Ends host w (use_it (one_more room s w) run out g)
+      OutcomeKeeps host w (g tt (within s w)) → OutcomeKeeps host w (use_it (one_more room s w) run out g)
   ends_within w s true run out g h = h
   ends_within w s false run out g h = ends_refused w run out InvalidOperation refl
 
   -- and behind it, whatever the ending
   closing_by_ends : (w v : World) (close : World → World) → Advances w v → ((x : World) → Kept v x → Kept w (close x)) →
-      (e : Ending) (parent : Option TemplateId) (out : List ℕ) (world1 : World) → EndsBy host v e world1 →
-      Ends host w (closing_by e close (record { ending = e; parent = parent; text = out; world = world1 }))
-  unfolding Ends
+      (e : Ending) (parent : Option TemplateId) (out : List ℕ) (world1 : World) → EndingKeeps host v e world1 →
+      OutcomeKeeps host w (closing_by e close (record { ending = e; parent = parent; text = out; world = world1 }))
+  unfolding OutcomeKeeps
   closing_by_ends w v close l k done parent out world1 h = k world1 h
   closing_by_ends w v close l k leave parent out world1 h = k world1 h
   closing_by_ends w v close l k next parent out world1 h = k world1 h
   closing_by_ends w v close l k (fault chain) parent out world1 h = (advances_then l h.0, h.1)
 
   pub closing_ends : (w v : World) (close : World → World) → Advances w v → ((x : World) → Kept v x → Kept w (close x)) →
-      (o : Outcome) → Ends host v o → Ends host w (closing close o)
-  unfolding Ends
+      (o : Outcome) → OutcomeKeeps host v o → OutcomeKeeps host w (closing close o)
+  unfolding OutcomeKeeps
   closing_ends w v close l k o h = closing_by_ends w v close l k o.ending o.parent o.text o.world h
 
   -- behind a capture
   captured_by_ends : (w : World) (run : Run) (out : List ℕ) (f : Run → List ℕ → World → Outcome) →
-      ((run1 : Run) (x : List ℕ) (world1 : World) → Ends host world1 (f run1 x world1)) →
-      (e : Ending) (parent : Option TemplateId) (x : List ℕ) (world1 : World) → EndsBy host w e world1 →
-      Ends host w (captured_by e (record { ending = e; parent = parent; text = x; world = world1 }) run out f)
-  unfolding Ends
+      ((run1 : Run) (x : List ℕ) (world1 : World) → OutcomeKeeps host world1 (f run1 x world1)) →
+      (e : Ending) (parent : Option TemplateId) (x : List ℕ) (world1 : World) → EndingKeeps host w e world1 →
+      OutcomeKeeps host w (captured_by e (record { ending = e; parent = parent; text = x; world = world1 }) run out f)
+  unfolding OutcomeKeeps
   captured_by_ends w run out f k done parent x world1 h = ends_then w world1 (f run x world1) h (k run x world1)
   captured_by_ends w run out f k leave parent x world1 h =
       ends_kept w world1 (tick world1) run out _ h.advances (tick_gives world1) (λ _ world2 h2. kept_then h h2)
@@ -202,18 +202,18 @@ module _ (host : Host) where
       ends_kept w world1 (tick world1) run out _ h.advances (tick_gives world1) (λ _ world2 h2. kept_then h h2)
   captured_by_ends w run out f k (fault chain) parent x world1 h = h
 
-  pub captured_ends : (w : World) (run : Run) (out : List ℕ) (o : Outcome) (f : Run → List ℕ → World → Outcome) → Ends host w o →
-      ((run1 : Run) (x : List ℕ) (world1 : World) → Ends host world1 (f run1 x world1)) → Ends host w (captured o run out f)
-  unfolding Ends
+  pub captured_ends : (w : World) (run : Run) (out : List ℕ) (o : Outcome) (f : Run → List ℕ → World → Outcome) → OutcomeKeeps host w o →
+      ((run1 : Run) (x : List ℕ) (world1 : World) → OutcomeKeeps host world1 (f run1 x world1)) → OutcomeKeeps host w (captured o run out f)
+  unfolding OutcomeKeeps
   captured_ends w run out o f h k = captured_by_ends w (record run { parent = o.parent }) out f k o.ending o.parent o.text o.world h
 
   -- ---------------------------------------------------------------- loops
   -- a round's end
   round_end_ends : (w x : World) (run : Run) (f : Run → List ℕ → World → Outcome) →
-      ((run1 : Run) (out1 : List ℕ) (world1 : World) → Kept (in_loop_of (for_flags false) w) world1 → Ends host w (f run1 out1 world1)) →
+      ((run1 : Run) (out1 : List ℕ) (world1 : World) → Kept (in_loop_of (for_flags false) w) world1 → OutcomeKeeps host w (f run1 out1 world1)) →
       (e : Ending) (parent : Option TemplateId) (out : List ℕ) (world1 : World) → Kept (in_loop_of (for_flags false) w) x →
-      EndsBy host x e world1 → Ends host w (round_end e run (record { ending = e; parent = parent; text = out; world = world1 }) f)
-  unfolding Ends
+      EndingKeeps host x e world1 → OutcomeKeeps host w (round_end e run (record { ending = e; parent = parent; text = out; world = world1 }) f)
+  unfolding OutcomeKeeps
   round_end_ends w x run f k done parent out world1 i h =
       ends_kept w world1 (tick world1) run out _ (advances_around (for_flags false) w world1 (kept_then i h)) (tick_gives world1)
       (λ _ world2 h2. k run out world2 (kept_then i (kept_then h h2)))
@@ -227,16 +227,16 @@ module _ (host : Host) where
       (advances_then (advances_around (for_flags false) w x i) h.0, h.1)
 
   round_end_of : (w x : World) (run : Run) (f : Run → List ℕ → World → Outcome) →
-      ((run1 : Run) (out1 : List ℕ) (world1 : World) → Kept (in_loop_of (for_flags false) w) world1 → Ends host w (f run1 out1 world1)) →
-      (o : Outcome) → Kept (in_loop_of (for_flags false) w) x → Ends host x o → Ends host w (round_end o.ending run o f)
-  unfolding Ends
+      ((run1 : Run) (out1 : List ℕ) (world1 : World) → Kept (in_loop_of (for_flags false) w) world1 → OutcomeKeeps host w (f run1 out1 world1)) →
+      (o : Outcome) → Kept (in_loop_of (for_flags false) w) x → OutcomeKeeps host x o → OutcomeKeeps host w (round_end o.ending run o f)
+  unfolding OutcomeKeeps
   round_end_of w x run f k o i h = round_end_ends w x run f k o.ending o.parent o.text o.world i h
 
   -- A loop's rounds leave what lies around it.
   rounds_end : (w : World) (turn : Val → Run → List ℕ → World → Outcome) →
-      ((v : Val) (run : Run) (out : List ℕ) (x : World) → Ends host x (turn v run out x)) →
+      ((v : Val) (run : Run) (out : List ℕ) (x : World) → OutcomeKeeps host x (turn v run out x)) →
       (vs : List Val) (run : Run) (out : List ℕ) (world1 : World) → Kept (in_loop_of (for_flags false) w) world1 →
-      Ends host w (rounds turn vs run out world1)
+      OutcomeKeeps host w (rounds turn vs run out world1)
   rounds_end w turn k [] run out world1 i =
       ends_kept w world1 (tick world1) run out _ (advances_around (for_flags false) w world1 i) (tick_gives world1) (λ _ world2 h.
       ends_here w (pop (next_turn world2)) run out
@@ -250,9 +250,9 @@ module _ (host : Host) where
       (kept_cleared (kept_turned (for_flags false) w world2 (kept_then i h))) (k v run out x))
 
   opened_ends : (n : ℕ) (recursive : Bool) (w : World) (vs : List Val) (turn : Val → Run → List ℕ → World → Outcome) →
-      ((v : Val) (run : Run) (out : List ℕ) (x : World) → Ends host x (turn v run out x)) → (run : Run) (out : List ℕ) (room : Bool) →
+      ((v : Val) (run : Run) (out : List ℕ) (x : World) → OutcomeKeeps host x (turn v run out x)) → (run : Run) (out : List ℕ) (room : Bool) →
       let opening = one_more room (loop_scope (mark_behind (for_flags false) w)) w in
-      Ends host w (use_it (bind opening (λ _ world1. recorded (for_flags recursive) n vs w world1)) run out
+      OutcomeKeeps host w (use_it (bind opening (λ _ world1. recorded (for_flags recursive) n vs w world1)) run out
       (λ _ world1. rounds turn vs run out world1))
   opened_ends n recursive w vs turn k run out true = rounds_end w turn k vs run out _ (opened_kept (for_flags recursive) n w vs)
   opened_ends n recursive w vs turn k run out false = ends_refused w run out InvalidOperation refl
@@ -265,7 +265,7 @@ module _ (host : Host) where
   opened_gives g n w vs true rest k = k
   opened_gives g n w vs false rest k = refused_arises w InvalidOperation refl
 
-pub loop_ends : (host : Host) (n : ℕ) (recursive : Bool) (w : World) (turn : Val → Run → List ℕ → World → Outcome) →
-    ((v : Val) (run : Run) (out : List ℕ) (x : World) → Ends host x (turn v run out x)) →
-    (vs : List Val) (run : Run) (out : List ℕ) → Ends host w (loop_over host n recursive turn vs run out w)
+pub loop_ends : (host : HostValue) (n : ℕ) (recursive : Bool) (w : World) (turn : Val → Run → List ℕ → World → Outcome) →
+    ((v : Val) (run : Run) (out : List ℕ) (x : World) → OutcomeKeeps host x (turn v run out x)) →
+    (vs : List Val) (run : Run) (out : List ℕ) → OutcomeKeeps host w (loop_over host n recursive turn vs run out w)
 loop_ends host n recursive w turn k vs run out = opened_ends host n recursive w vs turn k run out (nat_lt (depth w.scopes) host.limit)

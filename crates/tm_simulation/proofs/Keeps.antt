@@ -6,7 +6,7 @@ use Rattle.tm_values.specs.declared.error.ErrorKind.{ErrorKind}
 use Rattle.tm_values.specs.declared.error.ErrorKind.TheVariants.{InvalidOperation}
 use Rattle.tm_syntax.specs.Loops.{loops_in}
 use Rattle.tm_meaning.specs.Tree.{Body, Trees}
-use Rattle.tm_meaning.specs.World.{choose, World, Host, Res, Good, Bad, tick, plain as plain_scope}
+use Rattle.tm_meaning.specs.World.{choose, World, HostValue, Res, Good, Bad, tick, plain as plain_scope}
 use Rattle.tm_meaning.specs.Calls.{Callee, whole, Call, of_block, undone, runs}
 use Rattle.tm_meaning.specs.Meaning.{over, under, again_of, Run, Outcome, Ending, done, leave, next, fault, Nests, Under, done_by, exec_all}
 use Rattle.tm_meaning.specs.Meaning.{behind, in_place_of, block_tag, audible, none_waits, at_end, new_run, nests_of, rendered, chain_in}
@@ -16,19 +16,19 @@ use Rattle.tm_meaning.specs.declared.stream.TemplateId.{TemplateId}
 use Rattle.tm_meaning.specs.declared.stream.StreamId.{StreamId}
 use Rattle.tm_simulation.specs.Chains.{Arises, IfAny}
 use Rattle.tm_simulation.proofs.Advances.{Kept, advances_then, kept_then, in_stream, undone_scopes}
-use Rattle.tm_simulation.proofs.Gives.{Gives, RunEnds, run_ends, run_ends_as, ends_advance, EndsBy, Ends, ends_as, tick_gives, ends_refused}
+use Rattle.tm_simulation.proofs.Gives.{Gives, RunEnds, run_ends, run_ends_as, ends_advance, EndingKeeps, OutcomeKeeps, ends_as, tick_gives, ends_refused}
 use Rattle.tm_simulation.proofs.Asks.{in_block, block_asks_by}
 use Rattle.tm_simulation.proofs.Executes.{execs_end, called_end}
 
-done_by_ends : (host : Host) (w world1 : World) (m : Res (Unit {0})) (o : Outcome) → Kept w world1 → Gives host world1 m →
-    Ends host w (done_by m o)
-unfolding Ends
+done_by_ends : (host : HostValue) (w world1 : World) (m : Res (Unit {0})) (o : Outcome) → Kept w world1 → Gives host world1 m →
+    OutcomeKeeps host w (done_by m o)
+unfolding OutcomeKeeps
 done_by_ends host w world1 (Good _ world2) o h k = kept_then h k
 done_by_ends host w world1 (Bad chain world2) o h k = (advances_then h.advances k.0, k.1)
 
-at_end_ends : (host : Host) (w : World) (e : Ending) (parent : Option TemplateId) (out : List ℕ) (world1 : World) →
-    EndsBy host w e world1 → Ends host w (at_end e (record { ending = e; parent = parent; text = out; world = world1 }))
-unfolding Ends
+at_end_ends : (host : HostValue) (w : World) (e : Ending) (parent : Option TemplateId) (out : List ℕ) (world1 : World) →
+    EndingKeeps host w e world1 → OutcomeKeeps host w (at_end e (record { ending = e; parent = parent; text = out; world = world1 }))
+unfolding OutcomeKeeps
 at_end_ends host w done parent out world1 h = h
 at_end_ends host w leave parent out world1 h =
     done_by_ends host w world1 (tick world1) (record { ending = leave; parent = parent; text = out; world = world1 }) h
@@ -39,18 +39,18 @@ at_end_ends host w next parent out world1 h =
 at_end_ends host w (fault chain) parent out world1 h = h
 
 -- Loops that are called end so, where what nests does.
-pub again_end : (host : Host) (nests : Nests)
+pub again_end : (host : HostValue) (nests : Nests)
     (nest_ends : (k : Callee) (heard : Bool) (out : List ℕ) (w : World) → RunEnds host w (nests k heard out w))
     (body : Body) (level n : ℕ) (items : List Val) (run : Run) (out : List ℕ) (w : World) →
-    Ends host w (again_of host nests body level n items run out w)
+    OutcomeKeeps host w (again_of host nests body level n items run out w)
 again_end host nests nest_ends body zero n items run out w = ends_refused host w run out InvalidOperation refl
 again_end host nests nest_ends body (suc k) n items run out w =
     called_end (over host nests (again_of host nests body k)) nest_ends (again_end host nests nest_ends body k)
     (slice_get (loops_in 0 body.row) n) n items run out w
 
 -- So does what nests, today also in the stream in which it began.
-nest_ends_there : (host : Host) (trees : Trees) (n : ℕ) (k : Callee) (heard : Bool) (out : List ℕ) (w : World) →
-    Ends host w (nests_of host trees n k heard out w)
+nest_ends_there : (host : HostValue) (trees : Trees) (n : ℕ) (k : Callee) (heard : Bool) (out : List ℕ) (w : World) →
+    OutcomeKeeps host w (nests_of host trees n k heard out w)
 nest_ends_there host trees zero k heard out w = ends_refused host w (new_run heard w) out InvalidOperation refl
 nest_ends_there host trees (suc n) (whole s) heard out w =
     let nests = nests_of host trees n in
@@ -62,18 +62,18 @@ nest_ends_there host trees (suc n) (whole s) heard out w =
     at_end_ends host w o.ending o.parent o.text o.world
     (ends_as host w o (execs_end u nest_ends again_ends 0 (trees s).row (new_run heard w) out w))
 
-pub nests_end : (host : Host) (trees : Trees) (n : ℕ) (k : Callee) (heard : Bool) (out : List ℕ) (w : World) →
+pub nests_end : (host : HostValue) (trees : Trees) (n : ℕ) (k : Callee) (heard : Bool) (out : List ℕ) (w : World) →
     RunEnds host w (nests_of host trees n k heard out w)
 nests_end host trees n k heard out w = run_ends host w (nests_of host trees n k heard out w) (nest_ends_there host trees n k heard out w)
 
 -- ---------------------------------------------------------------- what runs keep
-unless_fault : (host : Host) (e : Ending) (w world1 : World) (A : Type 0) → EndsBy host w e world1 → (Kept w world1 → A) → UnlessFault e A
+unless_fault : (host : HostValue) (e : Ending) (w world1 : World) (A : Type 0) → EndingKeeps host w e world1 → (Kept w world1 → A) → UnlessFault e A
 unless_fault host done w world1 A h k = k h
 unless_fault host leave w world1 A h k = k h
 unless_fault host next w world1 A h k = k h
 unless_fault host (fault chain) w world1 A h k = tt
 
-pub run_stays : (host : Host) (trees : Trees) (n : ℕ) (k : Callee) (heard : Bool) (out : List ℕ) (w : World) →
+pub run_stays : (host : HostValue) (trees : Trees) (n : ℕ) (k : Callee) (heard : Bool) (out : List ℕ) (w : World) →
     Stays w (nests_of host trees n k heard out w)
 run_stays host trees n k heard out w =
     let o = nests_of host trees n k heard out w in
@@ -87,7 +87,7 @@ run_stays host trees n k heard out w =
       same_scopes = unless_fault host o.ending (in_stream o.world.stream w) o.world _ h (λ k. k.same_scopes);
     }
 
-pub run_grows : (host : Host) (trees : Trees) (n : ℕ) (k : Callee) (heard : Bool) (out : List ℕ) (w : World) →
+pub run_grows : (host : HostValue) (trees : Trees) (n : ℕ) (k : Callee) (heard : Bool) (out : List ℕ) (w : World) →
     Grows w (nests_of host trees n k heard out w)
 run_grows host trees n k heard out w =
     let o = nests_of host trees n k heard out w in
@@ -104,13 +104,13 @@ run_grows host trees n k heard out w =
       same_escape = unless_fault host o.ending (in_stream o.world.stream w) o.world _ h (λ k. k.same_escape);
     }
 
-pub render_stays : (host : Host) (trees : Trees) (w : World) → Stays w (rendered host trees w)
+pub render_stays : (host : HostValue) (trees : Trees) (w : World) → Stays w (rendered host trees w)
 render_stays host trees w = run_stays host trees (host.limit + 1) (whole w.stream) true [] w
 
-pub render_grows : (host : Host) (trees : Trees) (w : World) → Grows w (rendered host trees w)
+pub render_grows : (host : HostValue) (trees : Trees) (w : World) → Grows w (rendered host trees w)
 render_grows host trees w = run_grows host trees (host.limit + 1) (whole w.stream) true [] w
 
-pub render_ends_there : (host : Host) (trees : Trees) (w : World) → (rendered host trees w).world.stream ≡ w.stream
+pub render_ends_there : (host : HostValue) (trees : Trees) (w : World) → (rendered host trees w).world.stream ≡ w.stream
 render_ends_there host trees w =
     let o = rendered host trees w in
     (ends_advance host w o.ending o.world (ends_as host w o
@@ -146,7 +146,7 @@ entered_puts_back u run b out w stream ends =
       same_escape = refl;
     })
 
-pub tag_puts_back : (host : Host) (trees : Trees) (n : ℕ) (body : Body) (run : Run) (b : List ℕ) (out : List ℕ) (w : World) →
+pub tag_puts_back : (host : HostValue) (trees : Trees) (n : ℕ) (body : Body) (run : Run) (b : List ℕ) (out : List ℕ) (w : World) →
     PutsBack w (block_tag (under host (nests_of host trees n) body) run b out w).world
 tag_puts_back host trees n body run b out w =
     let u : Under = under host (nests_of host trees n) body in
@@ -160,13 +160,13 @@ if_any : (Has : List ErrorKind → Type 0) (chain : List ErrorKind) → Has chai
 if_any Has [] h = tt
 if_any Has (k ∷ ks) h = h
 
-ending_arises : (host : Host) (e : Ending) (w world1 : World) → EndsBy host w e world1 → IfAny (Arises host) (chain_in e)
+ending_arises : (host : HostValue) (e : Ending) (w world1 : World) → EndingKeeps host w e world1 → IfAny (Arises host) (chain_in e)
 ending_arises host done w world1 h = tt
 ending_arises host leave w world1 h = tt
 ending_arises host next w world1 h = tt
 ending_arises host (fault chain) w world1 h = if_any (Arises host) chain h.1
 
-pub render_arises : (host : Host) (trees : Trees) (w : World) → IfAny (Arises host) (chain_of (rendered host trees w))
+pub render_arises : (host : HostValue) (trees : Trees) (w : World) → IfAny (Arises host) (chain_of (rendered host trees w))
 render_arises host trees w =
     let o = rendered host trees w in
     let h = run_ends_as host w o (nests_end host trees (host.limit + 1) (whole w.stream) true [] w) in

@@ -20,10 +20,10 @@ use Rattle.tm_meaning.specs.Steps.{over as is_over}
 use Rattle.tm_simulation.specs.Reached.{HasLevels}
 use Rattle.tm_simulation.proofs.Advances.{Kept, kept_frames, kept_depth}
 use Rattle.tm_simulation.proofs.Advances.{within}
-use Rattle.tm_simulation.proofs.Gives.{RunEnds, Ends as KeptEnds}
+use Rattle.tm_simulation.proofs.Gives.{RunEnds, OutcomeKeeps}
 use Rattle.tm_simulation.proofs.Asks.{Asks}
 use Rattle.tm_simulation.proofs.Keeps.{nests_end}
-use Rattle.tm_simulation.proofs.Follow.{Context, Comes}
+use Rattle.tm_simulation.proofs.Follow.{RunContext, LeadsToEnd}
 use Rattle.tm_simulation.proofs.Follow.{Bed, air, inside, captures_of, Spot, told, cfg}
 use Rattle.tm_simulation.proofs.Follow.{later, Follows, Then, Ends, so_far_then}
 use Rattle.tm_simulation.proofs.Follow.{fault_then}
@@ -53,38 +53,38 @@ AllNested p trees n =
 
 -- So many levels are left for what nests and for loops that are called, and the scopes of the run's start stand.
 -- A loop that is called opens its scope within the limit, so in it the depth is. Before any call it may be more, where the run began so; then no loop has room for its scope.
-pub record Levels (context : Context) (n level : ℕ) (w : World) : Type 0 where
+pub record Levels (context : RunContext) (n level : ℕ) (w : World) : Type 0 where
   pub nests : HasLevels context.program.host (suc n) w
   pub scopes : context.base.scopes ≤ length w.scopes.frames
   pub calls : HasLevels context.program.host level w
   pub within_call : level ≤ context.program.host.limit → depth w.scopes ≤ context.program.host.limit
 
 -- Nothing stands where no level is left.
-pub none_left : (context : Context) (n : ℕ) (w : World) → Levels context n zero w → ⊥
+pub none_left : (context : RunContext) (n : ℕ) (w : World) → Levels context n zero w → ⊥
 none_left context n w l = omega (arith, l.calls, l.within_call)
 
 -- So many levels are left, and the text goes where the meaning's does, in code of this stream.
-abbrev pub DeepIn : Context → ℕ → StreamId → ℕ → Run → Spot → World → Type 0
+abbrev pub DeepIn : RunContext → ℕ → StreamId → ℕ → Run → Spot → World → Type 0
 DeepIn context n id level run s w = Levels context n level w × Stands context.base run s × (s.run.stream ≡ id)
 
 -- And the same parent waits for both.
-abbrev pub HereIn : Context → ℕ → StreamId → ℕ → Run → Spot → World → Type 0
+abbrev pub HereIn : RunContext → ℕ → StreamId → ℕ → Run → Spot → World → Type 0
 HereIn context n id level run s w = Levels context n level w × Stands context.base run s × (s.run.stream ≡ id) × (run.parent ≡ s.parent)
 
 -- A loop that is called, in place and as a value, comes behind its call with what its rounds mean.
-abbrev pub CalledInPlace : Context → ℕ → StreamId → ℕ → Again → Type 1
+abbrev pub CalledInPlace : RunContext → ℕ → StreamId → ℕ → Again → Type 1
 CalledInPlace context n id level again =
     (m : ℕ) (items : List Val) (run : Run) (s : Spot) (pc : ℕ) (stack old : List Val) (w0 w : World) (D L N : Then) → DeepIn context n id level run s w →
     Ends context s.bed (again m items (as_at run s) s.out w) D L N → ((q : Option TemplateId) (out1 : List ℕ) (x : World) → D q out1 x → Go context (later s q out1) (pc + 1) stack x) →
-    Comes context (told s) (recursion context.program (cfg s pc old w0) false stack (captures_of s.bed s.out) m (place_of_loop context.program (cfg s pc old w0) m) items w)
+    LeadsToEnd context (told s) (recursion context.program (cfg s pc old w0) false stack (captures_of s.bed s.out) m (place_of_loop context.program (cfg s pc old w0) m) items w)
 
-abbrev pub CalledAsValue : Context → ℕ → StreamId → ℕ → Again → Type 1
+abbrev pub CalledAsValue : RunContext → ℕ → StreamId → ℕ → Again → Type 1
 CalledAsValue context n id level again =
     (m : ℕ) (items : List Val) (run : Run) (s : Spot) (pc : ℕ) (stack old : List Val) (w0 w : World) (K : Val → World → Type 0) → HereIn context n id level run s w →
     (let o = again m items (capturing true run) [] w in Follows context (told s) (text_behind o.ending o) K) → ((v : Val) (x : World) → K v x → Go context s (pc + 1) (v ∷ stack) x) →
-    Comes context (told s) (recursion context.program (cfg s pc old w0) true stack (new_capture true ∷ captures_of s.bed s.out) m (place_of_loop context.program (cfg s pc old w0) m) items w)
+    LeadsToEnd context (told s) (recursion context.program (cfg s pc old w0) true stack (new_capture true ∷ captures_of s.bed s.out) m (place_of_loop context.program (cfg s pc old w0) m) items w)
 
-levels_kept : (context : Context) (n level : ℕ) (w world1 : World) → Kept w world1 → Levels context n level w → Levels context n level world1
+levels_kept : (context : RunContext) (n level : ℕ) (w world1 : World) → Kept w world1 → Levels context n level w → Levels context n level world1
 levels_kept context n level w world1 k l = record {
   nests = omega (arith, kept_depth k, l.nests);
   scopes = omega (arith, kept_frames k, l.scopes);
@@ -93,7 +93,7 @@ levels_kept context n level w world1 k l = record {
 }
 
 -- in a scope more, for which there was room
-levels_within : (context : Context) (n level : ℕ) (a : Scope) (w : World) → nat_lt (depth w.scopes) context.program.host.limit ≡ true → Levels context n level w → Levels context n level (within a w)
+levels_within : (context : RunContext) (n level : ℕ) (a : Scope) (w : World) → nat_lt (depth w.scopes) context.program.host.limit ≡ true → Levels context n level w → Levels context n level (within a w)
 levels_within context n level a w room l = record {
   nests = omega (arith, l.nests);
   scopes = omega (arith, l.scopes);
@@ -102,7 +102,7 @@ levels_within context n level a w room l = record {
 }
 
 -- The scope of a loop that is called takes a level.
-pub levels_called : (context : Context) (n level : ℕ) (a : Scope) (w : World) → nat_lt (depth w.scopes) context.program.host.limit ≡ true → Levels context n (suc level) w → Levels context n level (within a w)
+pub levels_called : (context : RunContext) (n level : ℕ) (a : Scope) (w : World) → nat_lt (depth w.scopes) context.program.host.limit ≡ true → Levels context n (suc level) w → Levels context n level (within a w)
 levels_called context n level a w room l = record {
   nests = omega (arith, l.nests);
   scopes = omega (arith, l.scopes);
@@ -112,14 +112,14 @@ levels_called context n level a w room l = record {
 
 -- Where code runs: what nests and what is called in it, at so many levels, comes to what it means.
 pub record Setting : Type 1 where
-  pub context : Context
+  pub context : RunContext
   pub trees : Trees
   pub n : ℕ
   pub entered : AllNested context.program trees n
   pub id : StreamId
   pub level : ℕ
   pub again : Again
-  pub again_kept : (m : ℕ) (items : List Val) (run : Run) (out : List ℕ) (w : World) → KeptEnds context.program.host w (again m items run out w)
+  pub again_kept : (m : ℕ) (items : List Val) (run : Run) (out : List ℕ) (w : World) → OutcomeKeeps context.program.host w (again m items run out w)
   pub called_in_place : CalledInPlace context n id level again
   pub called_as_value : CalledAsValue context n id level again
 
@@ -166,7 +166,7 @@ module _ (setting : Setting) where
 
   -- what a call comes to, as a value
   pub asked_then : (run : Run) (s : Spot) (pc : ℕ) (stack old : List Val) (w world1 : World) (q : Asked) → Asks context.program.host world1 q → Here run s world1 →
-      Follows context (told s) (value_of u run q) (λ v world2. Go context s (pc + 1) (v ∷ stack) world2) → Comes context (told s) (asked context.program (cfg s pc old w) stack q)
+      Follows context (told s) (value_of u run q) (λ v world2. Go context s (pc + 1) (v ∷ stack) world2) → LeadsToEnd context (told s) (asked context.program (cfg s pc old w) stack q)
   asked_then run s pc stack old w world1 (has v world2) e d h = silent context (told s) _ h
   asked_then run s pc stack old w world1 (refused chain world2) e d h = is_over refl h
   asked_then run s pc stack old w world1 (recurs m items world2) e d h =
@@ -177,7 +177,7 @@ module _ (setting : Setting) where
   -- and in place
   pub placed_then : (run : Run) (s : Spot) (pc : ℕ) (stack old : List Val) (w world1 : World) (q : Asked) (D L N : Then) → Fits context.base run s.bed → Asks context.program.host world1 q → Deep run s world1 →
       Ends context s.bed (in_place_of u (as_at run s) s.out q) D L N → ((q1 : Option TemplateId) (out1 : List ℕ) (world2 : World) → D q1 out1 world2 → Go context (later s q1 out1) (pc + 1) stack world2) →
-      Comes context (told s) (asked_in_place context.program context.base (cfg s pc old w) stack q)
+      LeadsToEnd context (told s) (asked_in_place context.program context.base (cfg s pc old w) stack q)
   placed_then run s pc stack old w world1 (has v world2) D L N fits e d h g = silent context (told s) _ (g s.parent s.out world2 (so_far_then context s.bed (as_at run s) s.out world2 D L N h))
   placed_then run s pc stack old w world1 (refused chain world2) D L N fits e d h g = is_over refl (fault_then context s.bed (as_at run s) s.out world2 chain D L N h)
   placed_then run s pc stack old w world1 (recurs m items world2) D L N fits e d h g = called_in_place m items run s pc stack old w world2 D L N (deep_kept run s e d) h g

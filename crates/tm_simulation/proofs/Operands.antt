@@ -16,16 +16,16 @@ use Rattle.tm_syntax.specs.Forms.{with_pair, with_keyword}
 use Rattle.tm_syntax.specs.Code.{count_keywords, together, count, count_exprs, count_pairs}
 use Rattle.tm_meaning.specs.World.{World}
 use Rattle.tm_meaning.specs.World.{Res, Good, Bad, bind, tick}
-use Rattle.tm_meaning.specs.World.{items_of, answered}
+use Rattle.tm_meaning.specs.World.{unpacked_items, answered}
 use Rattle.tm_meaning.specs.Meaning.{Run}
 use Rattle.tm_meaning.specs.Meaning.{Under}
 use Rattle.tm_meaning.specs.Meaning.{eval, eval_all, eval_pairs, eval_argument, eval_arguments}
-use Rattle.tm_meaning.specs.Meaning.{eval_keywords, eval_named, one_more}
+use Rattle.tm_meaning.specs.Meaning.{eval_keywords, eval_named, incremented}
 use Rattle.tm_meaning.specs.Machine.{taken}
 use Rattle.tm_meaning.specs.Instructions.{paired}
 use Rattle.tm_simulation.proofs.Advances.{Kept}
 use Rattle.tm_simulation.proofs.Gives.{Gives}
-use Rattle.tm_simulation.proofs.Follow.{Context}
+use Rattle.tm_simulation.proofs.Follow.{RunContext}
 use Rattle.tm_simulation.proofs.Follow.{Follows}
 
 -- values on a stack, the last on top
@@ -98,11 +98,11 @@ exactly_long : (n : ℕ) (answer : Answer (List Val)) (w : World) → IsLong n (
 exactly_long n (Ok vs) w = counted n vs (length vs == n) w refl
 exactly_long n (Err chain) w = tt
 
-pub items_long : (n : ℕ) (v : Val) (w : World) → IsLong n (items_of n v w)
+pub items_long : (n : ℕ) (v : Val) (w : World) → IsLong n (unpacked_items n v w)
 items_long n v w = exactly_long n _ w
 
 -- the same as `bind_then`, of as many as were asked for
-pub bind_long : {A B : Type 0} (context : Context) (t : List ℕ) (w : World) (n : ℕ) (m : Res (List A)) (g : List A → World → Res B) (K : B → World → Type 0) (L : List A → World → Type 0) →
+pub bind_long : {A B : Type 0} (context : RunContext) (t : List ℕ) (w : World) (n : ℕ) (m : Res (List A)) (g : List A → World → Res B) (K : B → World → Type 0) (L : List A → World → Type 0) →
     Gives context.program.host w m → IsLong n m → Follows context t (bind m g) K → ((xs : List A) (world1 : World) → Kept w world1 → length xs ≡ n → Follows context t (g xs world1) K → L xs world1) → Follows context t m L
 bind_long context t w n (Good xs world1) g K L e l h k = k xs world1 e l h
 bind_long context t w n (Bad chain world1) g K L e l h k = h
@@ -121,12 +121,12 @@ paired_flat [] = refl
 paired_flat ((k, v) ∷ xs) = ap (λ l. (k, v) ∷ l) (paired_flat xs)
 
 -- one more than a count, where that is a number still
-counted_by : (context : Context) (t : List ℕ) (z : ℤ) (fits : Bool) (w : World) (K L : Val → World → Type 0) → Follows context t (answered (if fits then Ok (number z) else invalid) w) K → (K (number z) w → L (number z) w) →
+counted_by : (context : RunContext) (t : List ℕ) (z : ℤ) (fits : Bool) (w : World) (K L : Val → World → Type 0) → Follows context t (answered (if fits then Ok (number z) else invalid) w) K → (K (number z) w → L (number z) w) →
     Follows context t (answered (number_answer (cond fits (Some z) None)) w) L
 counted_by context t z true w K L h k = k h
 counted_by context t z false w K L h k = h
 
-pub one_more_then : (context : Context) (t : List ℕ) (n : ℕ) (w : World) (K L : Val → World → Type 0) → Follows context t (answered (one_more n) w) K → (K (number (pos (n + 1))) w → L (number (pos (n + 1))) w) →
+pub one_more_then : (context : RunContext) (t : List ℕ) (n : ℕ) (w : World) (K L : Val → World → Type 0) → Follows context t (answered (incremented n) w) K → (K (number (pos (n + 1))) w → L (number (pos (n + 1))) w) →
     Follows context t (answered (added (number (pos n)) (number (pos 1))) w) L
 one_more_then context t n w K L h k = counted_by context t (pos (n + 1)) _ w K L h k
 

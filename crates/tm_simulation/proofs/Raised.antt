@@ -3,7 +3,7 @@ use Rattle.std.proofs.Common.{◌≡◌, ℕ, zero, suc, List, [], ◌∷◌, le
 use Rattle.std.specs.Prelude.{ℤ, cond, if◌then◌else◌, slice_get, codes}
 use Rattle.tm_values.specs.Answer.{Answer, refused, invalid}
 use Rattle.tm_values.specs.Defined.{refusal_of, unless}
-use Rattle.tm_values.specs.Undefined.{Refusal, by_behavior, ordinary_refusal, silent_refusal}
+use Rattle.tm_values.specs.Undefined.{UndefinedRefusal, by_behavior, ordinary_refusal, silent_refusal}
 use Rattle.tm_values.specs.Records.{RecordData, namespace_at, loop_at}
 use Rattle.tm_values.specs.Val.{Val, undefined, function, none, boolean, number, text, list, map, keywords, exports, macro, loop, namespace}
 use Rattle.tm_values.specs.Val.{Vals, no_vals, val, Pairs, no_pairs, pair, list_of, pairs_of, text_in, list_in, whole_in}
@@ -30,16 +30,16 @@ use Rattle.tm_definitions.specs.Maps.{dict_of, namespace_of, base_of, namespace_
 use Rattle.tm_definitions.specs.Members.{attribute_of, item_of, settable, settable_number, loop_member, loop_item}
 use Rattle.tm_definitions.specs.Members.{namespace_member as member_of_namespace}
 use Rattle.tm_definitions.specs.Printed.{entered}
-use Rattle.tm_definitions.specs.Ranges.{range_of, given, no_more, required_in, later_in, or_invalid, some_of, bound_in, served, span_of}
+use Rattle.tm_definitions.specs.Ranges.{range_of, given, at_most_arguments, required_in, later_in, or_invalid, some_of, bound_in, served, span_of}
 use Rattle.tm_definitions.specs.Ranges.{is_served}
-use Rattle.tm_definitions.specs.Refused.{Verdict, and_then, if_holds, in_json, no_json, fits_json, loop_verdict, key_verdict, Inside}
+use Rattle.tm_definitions.specs.Refused.{Verdict, and_then, if_holds, in_json, no_json, fits_json, loop_verdict, key_verdict, NamespaceVerdicts}
 use Rattle.tm_definitions.specs.Refused.{verdict, items_verdict, pairs_verdict, Way, through, namespace_verdict, print_verdict, nowhere}
 use Rattle.tm_definitions.specs.Slices.{sliced, cut, cut_by, parts_in, Parts}
 use Rattle.tm_definitions.specs.declared.comparison.Comparison.{Comparison}
 use Rattle.tm_definitions.specs.declared.comparison.Comparison.TheVariants as comparison
 use Rattle.tm_definitions.specs.declared.form.Form.{Form}
 use Rattle.tm_definitions.specs.declared.form.Form.TheVariants.{Printed, Json}
-use Rattle.tm_meaning.specs.World.{Scope, Host, View, find_name, in_frames, in_scope, or_on, or_on_answer, context_member, namespace_member}
+use Rattle.tm_meaning.specs.World.{Scope, HostValue, View, find_name, in_frames, in_scope, or_on, or_on_answer, context_member, namespace_member}
 use Rattle.tm_meaning.specs.World.{escape_for, escape_named, formatted, where_fine, same_name}
 use Rattle.tm_meaning.specs.Calls.{method_in}
 use Rattle.tm_meaning.specs.Meaning.{as_value, negated, result_of, result_of_unary}
@@ -69,11 +69,11 @@ given_raises (Ok a) f h k = k a
 given_raises (Err chain) f h k = h
 
 -- ---------------------------------------------------------------- undefined values
-abbrev RaisesRefusal : Refusal → Type 0
+abbrev RaisesRefusal : UndefinedRefusal → Type 0
 RaisesRefusal None = Unit {0}
 RaisesRefusal (Some kind) = is_raised kind ≡ true
 
-by_raises : (lenient chainable semi_strict strict : Refusal) → RaisesRefusal lenient → RaisesRefusal chainable →
+by_raises : (lenient chainable semi_strict strict : UndefinedRefusal) → RaisesRefusal lenient → RaisesRefusal chainable →
     RaisesRefusal semi_strict → RaisesRefusal strict →
     (b : UndefinedBehavior) → RaisesRefusal (by_behavior lenient chainable semi_strict strict b)
 by_raises lenient chainable semi_strict strict h i j k Lenient = h
@@ -104,7 +104,7 @@ refusal_raises b purpose (undefined true) = silent_raises purpose b
 refusal_raises b purpose _ = tt
 
 unless_by : {A : Type 0} (Has : List ErrorKind → Type 0) → ((kind : ErrorKind) → is_raised kind ≡ true → Has (kind ∷ [])) →
-    (refusal : Refusal) (answer : Answer A) → RaisesRefusal refusal → AnswersOnly Has answer → AnswersOnly Has (unless refusal answer)
+    (refusal : UndefinedRefusal) (answer : Answer A) → RaisesRefusal refusal → AnswersOnly Has answer → AnswersOnly Has (unless refusal answer)
 unless_by Has one None answer h k = k
 unless_by Has one (Some kind) answer h k = one kind h
 
@@ -129,7 +129,7 @@ key_raises : (k : Val) → Raises (key_verdict k)
 key_raises (text s safe) = tt
 key_raises _ = refl
 
-module _ (form : Form) (r : RecordData) (inside : Inside) (given_inside : (s n : ℕ) → Raises (inside s n)) where
+module _ (form : Form) (r : RecordData) (inside : NamespaceVerdicts) (given_inside : (s n : ℕ) → Raises (inside s n)) where
   mutual
     verdict_raises : (v : Val) → Raises (verdict form r inside v)
     verdict_raises (undefined silent) = tt
@@ -182,23 +182,23 @@ fine_raises (Ok _) a h = tt
 fine_raises (Err chain) a h = h
 
 -- ---------------------------------------------------------------- what arises
-pub raised_arise : {A : Type 0} (host : Host) (answer : Answer A) → Raises answer → AnswersOnly (Arises host) answer
+pub raised_arise : {A : Type 0} (host : HostValue) (answer : Answer A) → Raises answer → AnswersOnly (Arises host) answer
 raised_arise host (Ok a) h = tt
 raised_arise host (Err []) h = absurd h
 raised_arise host (Err (k ∷ [])) h = raised h
 raised_arise host (Err (k ∷ c ∷ cs)) h = absurd h
 
-stated_by : (host : Host) (f : Val → View → Answer (List ℕ)) (v : Val) (view : View) (answer : Answer (List ℕ)) →
+stated_by : (host : HostValue) (f : Val → View → Answer (List ℕ)) (v : Val) (view : View) (answer : Answer (List ℕ)) →
     host.formatter ≡ Some f → f v view ≡ answer → AnswersOnly (Arises host) answer
 stated_by host f v view (Ok t) e s = tt
 stated_by host f v view (Err chain) e s = by_formatter f v view e s
 
-formatted_by : (host : Host) (formatter : Option (Val → View → Answer (List ℕ))) → host.formatter ≡ formatter →
+formatted_by : (host : HostValue) (formatter : Option (Val → View → Answer (List ℕ))) → host.formatter ≡ formatter →
     (v : Val) (view : View) → AnswersOnly (Arises host) (formatted formatter v view)
 formatted_by host None e v view = raised_arise host _ (fine_raises _ _ (emission_raises view.escape view.records v))
 formatted_by host (Some f) e v view = stated_by host f v view (f v view) e refl
 
-pub emitted_arises : (host : Host) (v : Val) (view : View) →
+pub emitted_arises : (host : HostValue) (v : Val) (view : View) →
     AnswersOnly (Arises host) (unless (refusal_of host.undefined use_of.Emission v) (formatted host.formatter v view))
 emitted_arises host v view =
     unless_by (Arises host) (λ kind h. raised h) (refusal_of host.undefined use_of.Emission v) _
@@ -336,7 +336,7 @@ pub unpacked_raises : (r : RecordData) (n : ℕ) (v : Val) → Raises (unpacked 
 unpacked_raises r n v = exactly_raises n _ (items_or_raises CannotUnpack refl r v)
 
 -- ---------------------------------------------------------------- functions of the language
-no_more_raises : {A : Type 0} (n : ℕ) (vs : List Val) (answer : Answer A) → Raises answer → Raises (no_more n vs answer)
+no_more_raises : {A : Type 0} (n : ℕ) (vs : List Val) (answer : Answer A) → Raises answer → Raises (at_most_arguments n vs answer)
 no_more_raises n vs answer h = by_test (λ b. cond b (refused TooManyArguments) answer) _ refl h
 
 or_invalid_raises : {A : Type 0} (found : Option A) → Raises (or_invalid found)

@@ -5,7 +5,7 @@ use Rattle.std.specs.Prelude.{pos, slice_get, nat_eq, nat_lt}
 use Rattle.tm_values.specs.Val.{Val, boolean, number}
 use Rattle.tm_syntax.specs.declared.tree.BinaryOperator.TheVariants as binaries
 use Rattle.tm_syntax.specs.declared.tree.Expr.{Expr}
-use Rattle.tm_syntax.specs.declared.tree.Target.{Target}
+use Rattle.tm_syntax.specs.declared.tree.AssignmentTarget.{AssignmentTarget}
 use Rattle.tm_syntax.specs.declared.tree.Stmt.{Row_of-Stmt}
 use Rattle.tm_syntax.specs.declared.instruction.LoopFlags.{LoopFlags}
 use Rattle.tm_syntax.specs.declared.instruction.Instruction.TheVariants as i
@@ -38,13 +38,13 @@ use Rattle.tm_simulation.proofs.TreeLoops.{expr_loopless}
 use Rattle.tm_simulation.proofs.Loops.{LeftOf, next_item, no_item, left_then, turned_items, on_top_loop, next_record, new_record, none_is}
 use Rattle.tm_simulation.proofs.Advances.{Kept, kept_frames, kept_then, kept_record}
 use Rattle.tm_simulation.proofs.Advances.{kept_cleared, kept_turned, mark_behind, in_loop_of, opened, opened_kept}
-use Rattle.tm_simulation.proofs.Gives.{ends_use, Ends as KeptEnds, tick_gives}
+use Rattle.tm_simulation.proofs.Gives.{ends_use, OutcomeKeeps, tick_gives}
 use Rattle.tm_simulation.proofs.Asks.{items_give}
 use Rattle.tm_simulation.proofs.Evaluates.{eval_gives}
 use Rattle.tm_simulation.proofs.Evaluates.{one_counted_gives}
 use Rattle.tm_simulation.proofs.Evaluates.{assign_gives, truth_gives}
 use Rattle.tm_simulation.proofs.Executes.{execs_end}
-use Rattle.tm_simulation.proofs.Follow.{Comes, follows_map_kept, bound_follows, ends_map_kept, Goes}
+use Rattle.tm_simulation.proofs.Follow.{LeadsToEnd, follows_map_kept, bound_follows, ends_map_kept, Goes}
 use Rattle.tm_simulation.proofs.Follow.{round_then, opened_follows, told_by, Spot, told, cfg}
 use Rattle.tm_simulation.proofs.Follow.{later, Follows, Then, Ends, follows_map, bind_then, use_then, so_far_then}
 use Rattle.tm_simulation.proofs.Follow.{Go, silent, at, after_then, pushes, choose_then}
@@ -60,7 +60,7 @@ abbrev pub looped : Option Return → Spot → Spot
 looped o s = record s { run = record s.run { loops = o ∷ s.run.loops } }
 
 -- the rounds of a loop at a place, their labels, and the place behind them
-abbrev pub round_code : {m : _} → Target → Row_of-Stmt m → Fragment
+abbrev pub round_code : {m : _} → AssignmentTarget → Row_of-Stmt m → Fragment
 round_code t body = target_code t ⨾ statements_code [] body
 
 abbrev pub end_at : ℕ → Fragment → ℕ
@@ -82,9 +82,9 @@ module _ (setting : Setting) where
       let stands : context.base.scopes < length x.scopes.frames = omega (arith, kept_frames k, d) in
       let c = cfg (later (looped None s) q out) pc stack x in
       at context i.PopLoopFrame (later (looped None s) q out) pc stack x is
-      (subst (λ b. Comes context (told_by s.bed out) (choose b (λ _. on_loop (None ∷ s.run.loops) (top_loop x) x (λ m. pop_loop_with (None ∷ s.run.loops) c)) (λ _. stuck x)))
+      (subst (λ b. LeadsToEnd context (told_by s.bed out) (choose b (λ _. on_loop (None ∷ s.run.loops) (top_loop x) x (λ m. pop_loop_with (None ∷ s.run.loops) c)) (λ _. stuck x)))
       (sym (lt-ltb context.base.scopes (length x.scopes.frames) stands))
-      (subst (λ n. Comes context (told_by s.bed out) n)
+      (subst (λ n. LeadsToEnd context (told_by s.bed out) n)
       (sym (on_top_loop g w x l k e None s.run.loops (λ items turns. pop_loop_with (None ∷ s.run.loops) c))) (silent context (told_by s.bed out) _ z)))
 
   pub did_not_is : (o : Option Return) (g : LoopFlags) (s : Spot) (q : Option TemplateId) (out : List ℕ) (pc : ℕ) (stack : List Val) (w x : World) (l : Loop) (vs : List Val) → Kept (in_loop_of g w) x → slice_get (shapes x.loops) (length w.loops) ≡ Some l → l.items ≡ vs →
@@ -103,10 +103,10 @@ module _ (setting : Setting) where
       on_top_loop g w x l k e o s.run.loops (λ items turns. iterate_with (slice_get items turns) end c) ∙ ap (λ v. iterate_with v end c) is
 
   -- what a round does with its item
-  abbrev pub turn_of : {m : _} → Target → ℕ → Row_of-Stmt m → Val → Run → List ℕ → World → Outcome
+  abbrev pub turn_of : {m : _} → AssignmentTarget → ℕ → Row_of-Stmt m → Val → Run → List ℕ → World → Outcome
   turn_of t loops body v run out w = use_it (assign u run t v w) run out (λ _ world1. exec_all u loops body run out world1)
 
-  pub turn_ends : {m : _} → (t : Target) (loops : ℕ) (body : Row_of-Stmt m) (v : Val) (run : Run) (out : List ℕ) (w : World) → KeptEnds context.program.host w (turn_of t loops body v run out w)
+  pub turn_ends : {m : _} → (t : AssignmentTarget) (loops : ℕ) (body : Row_of-Stmt m) (v : Val) (run : Run) (out : List ℕ) (w : World) → OutcomeKeeps context.program.host w (turn_of t loops body v run out w)
   turn_ends t loops body v run out w = ends_use _ w (assign u run t v w) run out _ (assign_gives u (nest_ends setting) again_kept run t v w) (λ _ world1. execs_end u (nest_ends setting) again_kept loops body run out world1)
 
   -- what follows once all rounds are over, at the place behind the jump back
@@ -115,7 +115,7 @@ module _ (setting : Setting) where
       (q : Option TemplateId) (out : List ℕ) (x : World) (l : Loop) → Kept (in_loop_of (for_flags false) w) x → slice_get (shapes x.loops) (length w.loops) ≡ Some l → l.items ≡ items → D q out (pop x) → Go context (later (looped o s) q out) end stack x
 
   -- A loop's rounds, from where the next item is asked for.
-  pub rounds_run : {m : _} → (o : Option Return) (g : LoopFlags) (t : Target) (loops : ℕ) (body : Row_of-Stmt m) (l : Labels) (pc : ℕ) (rest : Fragment) → StmtsRun setting loops (round_labels l pc (round_code t body)) [] body → (items vs : List Val) (run : Run) (s : Spot) (stack : List Val) (w x : World) (r : Loop) (D L N : Then) →
+  pub rounds_run : {m : _} → (o : Option Return) (g : LoopFlags) (t : AssignmentTarget) (loops : ℕ) (body : Row_of-Stmt m) (l : Labels) (pc : ℕ) (rest : Fragment) → StmtsRun setting loops (round_labels l pc (round_code t body)) [] body → (items vs : List Val) (run : Run) (s : Spot) (stack : List Val) (w x : World) (r : Loop) (D L N : Then) →
       Stands context.base run s → Deep setting run s (in_loop_of (for_flags false) w) → Kept (in_loop_of (for_flags false) w) x → slice_get (shapes x.loops) (length w.loops) ≡ Some r → LeftOf r items vs → In setting s l pc (a_loop g (round_code t body) rest) →
       loops_before (beyond (pc + 1 + 1) (target_code t)) (context.program.code s.run.stream) ≡ loops → Rounded o s stack items w D (end_at pc (round_code t body)) → Ends context s.bed (rounds (turn_of t loops body) vs (as_at run s) s.out x) D L N → Go context (looped o s) (pc + 1) stack x
   rounds_run o g t loops body l pc rest part items [] run s stack w x r D L N fits d k e left is nth over_it h =
@@ -123,7 +123,7 @@ module _ (setting : Setting) where
       at context (i.Iterate end) (looped o s) (pc + 1) stack x is.1 (after_then context (told s) (tick x) _ (use_then context s.bed x (tick x) (as_at run s) s.out _ D L N _ (tick_gives _ x) h (λ _ world1 k1 h1.
       let kept = kept_then k k1 in
       let record1 = kept_record k1 (length w.loops) r e in
-      subst (λ n. Comes context (told s) n) (sym (iterate_is o (for_flags false) s s.parent s.out (pc + 1) end stack w world1 r None kept record1 (no_item r items left)))
+      subst (λ n. LeadsToEnd context (told s) n) (sym (iterate_is o (for_flags false) s s.parent s.out (pc + 1) end stack w world1 r None kept record1 (no_item r items left)))
       (silent context (told s) _ (over_it s.parent s.out (next_turn world1) (turned r) (kept_turned (for_flags false) w world1 kept) (next_record (for_flags false) w world1 r kept record1) (turned_items r items left)
       (so_far_then context s.bed (as_at run s) s.out (pop (next_turn world1)) D L N h1))))))
   rounds_run o g t loops body l pc rest part items (v ∷ vs) run s stack w x r D L N fits d k e left is nth over_it h =
@@ -155,7 +155,7 @@ module _ (setting : Setting) where
       (use_then context s.bed z (tick z) (record run { parent = q }) out1 _ D L N _ (tick_gives _ z) g1 (λ _ z1 kz1 g2.
       silent context (told_by s.bed out1) _
       (over_it q out1 z1 (turned r) (kept_then kept_y (kept_then kz kz1)) (kept_record (kept_then kz kz1) (length w.loops) (turned r) record_y) left_y.same (so_far_then context s.bed (record run { parent = q }) out1 (pop z1) D L N g2))))) in
-      subst (λ n. Comes context (told s) n) (sym (iterate_is o (for_flags false) s s.parent s.out again end stack w world1 r (Some v) kept record1 (next_item r items v vs left)))
+      subst (λ n. LeadsToEnd context (told s) n) (sym (iterate_is o (for_flags false) s s.parent s.out again end stack w world1 r (Some v) kept record1 (next_item r items v vs left)))
       (silent context (told s) _
       (target_runs setting t (as_at run s) (looped o s) inner (again + 1) v stack y (here setting run s y (deep_kept setting run s kept_y d)) is.2.0
       (use_then context s.bed y (assign u (as_at run s) t v y) (as_at run s) s.out (λ _ z. exec_all u loops body (as_at run s) s.out z) DoneThen LeaveThen DoneThen _ (assign_gives u (nest_ends setting) again_kept (as_at run s) t v y)
@@ -166,14 +166,14 @@ module _ (setting : Setting) where
 
   -- ---------------------------------------------------------------- items under a condition
   -- an item is stored, and its condition asked
-  abbrev condition_of : Run → Target → Expr → Val → World → Res Val
+  abbrev condition_of : Run → AssignmentTarget → Expr → Val → World → Res Val
   condition_of run t c v w = bind (assign u run t v w) (λ _ world1. eval u run c world1)
 
   abbrev after_pass : Fragment
   after_pass = straight (i.PopLoopFrame ∷ i.BuildList None ∷ [])
 
   -- From where the next item is asked for the pass comes behind its loop, with what it takes below the count.
-  pass_runs : (t : Target) (c : Expr) (k : Labels) (pc : ℕ) (items vs : List Val) (n : ℕ) (run : Run) (s : Spot) (below : List Val) (w x : World) (l : Loop) →
+  pass_runs : (t : AssignmentTarget) (c : Expr) (k : Labels) (pc : ℕ) (items vs : List Val) (n : ℕ) (run : Run) (s : Spot) (below : List Val) (w x : World) (l : Loop) →
       Here setting run s w → nat_lt (depth w.scopes) context.program.host.limit ≡ true → Kept (in_loop_of pass_flags w) x → slice_get (shapes x.loops) (length w.loops) ≡ Some l → LeftOf l items vs →
       In setting s k pc (a_loop pass_flags (pass_round t c) after_pass) →
       Follows context (told s) (selected context.program.host (condition_of run t c) n vs x) (λ us y. (m : ℕ) → m ≡ n + length us → Go context s (end_at pc (pass_round t c) + 1) (number (pos m) ∷ onto us below) y) →
@@ -184,7 +184,7 @@ module _ (setting : Setting) where
       at context (i.Iterate end) (looped None s) again (number (pos n) ∷ below) x is.1 (after_then context (told s) (tick x) _ (bind_then context (told s) x (tick x) _ _ _ (tick_gives _ x) h (λ _ world1 k1 h1.
       let all_kept = kept_then k k1 in
       let record1 = kept_record k1 (length w.loops) l e in
-      subst (λ a. Comes context (told s) a) (sym (iterate_is None pass_flags s s.parent s.out again end (number (pos n) ∷ below) w world1 l None all_kept record1 (no_item l items left)))
+      subst (λ a. LeadsToEnd context (told s) a) (sym (iterate_is None pass_flags s s.parent s.out again end (number (pos n) ∷ below) w world1 l None all_kept record1 (no_item l items left)))
       (silent context (told s) _
       (left_loop_then pass_flags s s.parent s.out _ (number (pos n) ∷ below) w (next_turn world1) (turned l) d.0.scopes (kept_turned pass_flags w world1 all_kept) (next_record pass_flags w world1 l all_kept record1) is.4.0
       (h1 n (omega arith)))))))
@@ -203,7 +203,7 @@ module _ (setting : Setting) where
       let kept_y : Kept (in_loop_of pass_flags w) y = kept_cleared (kept_turned pass_flags w world1 all_kept) in
       let record_y = next_record pass_flags w world1 l all_kept record1 in
       let left_y = left_then l items v vs left in
-      subst (λ a. Comes context (told s) a) (sym (iterate_is None pass_flags s s.parent s.out again end (count ∷ below) w world1 l (Some v) all_kept record1 (next_item l items v vs left)))
+      subst (λ a. LeadsToEnd context (told s) a) (sym (iterate_is None pass_flags s s.parent s.out again end (count ∷ below) w world1 l (Some v) all_kept record1 (next_item l items v vs left)))
       (silent context (told s) _
       (at context i.DupTop q (again + 1) (v ∷ count ∷ below) y is.2.0.0 (silent context (told s) _
       (target_runs setting t run q _ (again + 1 + 1) v (v ∷ count ∷ below) y (here_kept setting run s kept_y deep) is.2.1.0
@@ -237,10 +237,10 @@ module _ (setting : Setting) where
       (pass_runs t c labels pc items vs n run s below w world6 (turned l) d room (kept_then kept5 k6) (record5 world6 k6) left_y is h7))))))))))))))))))))))))
 
   -- What is iterated, up to where its loop's scope is opened.
-  pub iterable_runs : (recursive : Bool) (loops : ℕ) (t : Target) (e : Expr) (c : Option Expr) (run : Run) (s : Spot) (l : Labels) (pc : ℕ) (stack : List Val) (w : World) → Here setting run s w → In setting s l pc (iterable_code t e c) →
+  pub iterable_runs : (recursive : Bool) (loops : ℕ) (t : AssignmentTarget) (e : Expr) (c : Option Expr) (run : Run) (s : Spot) (l : Labels) (pc : ℕ) (stack : List Val) (w : World) → Here setting run s w → In setting s l pc (iterable_code t e c) →
       slice_get (context.program.code s.run.stream) (beyond pc (iterable_code t e c)) ≡ Some (i.PushLoop (for_flags recursive)) → loops_before pc (context.program.code s.run.stream) ≡ loops →
       Follows context (told s) (loop_items u loops run t e c w) (λ vs world1. (old : List Val) →
-      Comes context (told s) (after (open_loop context.program.host vs (for_flags recursive) (loops_before (beyond pc (iterable_code t e c)) (context.program.code s.run.stream)) world1) (λ _ y. goes stack y (looping (None ∷ s.run.loops) (cfg s (beyond pc (iterable_code t e c)) old world1))))) → Go context s pc stack w
+      LeadsToEnd context (told s) (after (open_loop context.program.host vs (for_flags recursive) (loops_before (beyond pc (iterable_code t e c)) (context.program.code s.run.stream)) world1) (λ _ y. goes stack y (looping (None ∷ s.run.loops) (cfg s (beyond pc (iterable_code t e c)) old world1))))) → Go context s pc stack w
   iterable_runs recursive loops t e None run s l pc stack w d is there nth h =
       expr_runs setting e run s l pc stack w d is
       (bind_then context (told s) w (eval u run e w) _ _ _ (eval_gives u (nest_ends setting) again_kept run e w) h (λ v world1 k1 h1.
@@ -258,9 +258,9 @@ module _ (setting : Setting) where
       at context (i.PushLoop pass_flags) s pc1 (v ∷ number (pos 0) ∷ stack) world2 is.1.1.0 (after_then context (told s) (items_over context.program.host v world2) _
       (bind_then context (told s) world2 (items_over context.program.host v world2) _ _ _ (items_give context.program.host v world2) h2 (λ vs world3 k3 h3.
       let deep_last = here_kept setting run s k3 (here_kept setting run s k2 (here_kept setting run s k1 d)) in
-      subst (λ m. Comes context (told s) (after (open_loop context.program.host vs pass_flags m world3) (λ _ y. goes (number (pos 0) ∷ stack) y (looping (None ∷ s.run.loops) (cfg s pc1 (v ∷ number (pos 0) ∷ stack) world3))))) (sym pass_number)
+      subst (λ m. LeadsToEnd context (told s) (after (open_loop context.program.host vs pass_flags m world3) (λ _ y. goes (number (pos 0) ∷ stack) y (looping (None ∷ s.run.loops) (cfg s pc1 (v ∷ number (pos 0) ∷ stack) world3))))) (sym pass_number)
       (after_then context (told s) (open_loop context.program.host vs pass_flags loops world3) _
-      (opened_follows context (told s) pass_flags loops world3 vs (nat_lt (depth world3.scopes) context.program.host.limit) _ _ (λ y. Comes context (told s) (goes (number (pos 0) ∷ stack) y (looping (None ∷ s.run.loops) (cfg s pc1 (v ∷ number (pos 0) ∷ stack) world3)))) h3 (λ room h4.
+      (opened_follows context (told s) pass_flags loops world3 vs (nat_lt (depth world3.scopes) context.program.host.limit) _ _ (λ y. LeadsToEnd context (told s) (goes (number (pos 0) ∷ stack) y (looping (None ∷ s.run.loops) (cfg s pc1 (v ∷ number (pos 0) ∷ stack) world3)))) h3 (λ room h4.
       silent context (told s) _
       (pass_runs t c l pc1 vs vs 0 run s stack world3 (opened pass_flags loops world3 vs) (new_loop vs pass_flags loops world3) deep_last room
       (opened_kept pass_flags loops world3 vs) (new_record pass_flags loops world3 vs) (record { before = []; same = refl; all = refl; turns = refl }) is.1.1
@@ -268,5 +268,5 @@ module _ (setting : Setting) where
       at context (i.BuildList None) s build (number (pos m) ∷ onto us stack) y is.1.1.4.1.0 (after_then context (told s) (tick y) _ (bind_then context (told s) y (tick y) _ _ _ (tick_gives _ y) h5 (λ _ y1 k6 h6.
       built_then setting list_of_values s build m us stack y1 (omega (arith, em))
       (at context (i.PushLoop (for_flags recursive)) s (build + 1) (list_of_values us ∷ stack) y1 there
-      (subst (λ zs. Comes context (told s) (after (open_loop context.program.host zs (for_flags recursive) (loops_before (build + 1) all) y1) (λ _ z. goes stack z (looping (None ∷ s.run.loops) (cfg s (build + 1) (list_of_values us ∷ stack) y1))))) (sym (items_back us))
+      (subst (λ zs. LeadsToEnd context (told s) (after (open_loop context.program.host zs (for_flags recursive) (loops_before (build + 1) all) y1) (λ _ z. goes stack z (looping (None ∷ s.run.loops) (cfg s (build + 1) (list_of_values us ∷ stack) y1))))) (sym (items_back us))
       (h6 (list_of_values us ∷ stack))))))))))))))))))))))

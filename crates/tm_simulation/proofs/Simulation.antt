@@ -6,7 +6,7 @@ use Rattle.std.proofs.lemmas.Option.{slice_get_past}
 use Rattle.tm_syntax.specs.declared.instruction.Instruction.TheVariants as i
 use Rattle.tm_syntax.specs.Fragments.{Fragment, beyond, whole_labels, assembled}
 use Rattle.tm_syntax.specs.Code.{statements_code}
-use Rattle.tm_meaning.specs.World.{Host, World}
+use Rattle.tm_meaning.specs.World.{HostValue, World}
 use Rattle.tm_meaning.specs.World.{Res, Good, Bad, tick}
 use Rattle.tm_meaning.specs.World.{captured_text}
 use Rattle.tm_meaning.specs.Calls.{Callee, whole}
@@ -28,10 +28,10 @@ use Rattle.tm_simulation.proofs.Begins.{Both, Match, match_at}
 use Rattle.tm_simulation.proofs.TreeLoops.{statements_begin}
 use Rattle.tm_simulation.proofs.Advances.{Kept, kept_frames, kept_then}
 use Rattle.tm_simulation.proofs.Advances.{within}
-use Rattle.tm_simulation.proofs.Gives.{EndsBy as EndsKept, ends_as, tick_gives}
+use Rattle.tm_simulation.proofs.Gives.{EndingKeeps, ends_as, tick_gives}
 use Rattle.tm_simulation.proofs.Executes.{execs_end}
 use Rattle.tm_simulation.proofs.Keeps.{again_end, nests_end}
-use Rattle.tm_simulation.proofs.Follow.{Context, Comes, follows_map_kept}
+use Rattle.tm_simulation.proofs.Follow.{RunContext, LeadsToEnd, follows_map_kept}
 use Rattle.tm_simulation.proofs.Follow.{Bed, air, inside, captures_of, told_by, Spot, told, cfg}
 use Rattle.tm_simulation.proofs.Follow.{later, Follows, Then, Ends, whole_of}
 use Rattle.tm_simulation.proofs.Follow.{ends_map, Go, silent, at, after_then, move}
@@ -56,11 +56,11 @@ stands_start : (id : StreamId) (b : Bed) (out : List ℕ) (heard : Bool) (w : Wo
 stands_start id b out heard w = (refl, omega arith, fits_start b out heard w)
 
 module _ (p : Program) (trees : Trees) (compiled : IsCompiled trees p) where
-  abbrev in_program : Base → Final → Context
+  abbrev in_program : Base → Final → RunContext
   in_program f end = record { program = p; base = f; final = end }
 
   -- a run from its start, up to an end
-  abbrev running : Bool → Bed → List ℕ → World → Final → Context
+  abbrev running : Bool → Bed → List ℕ → World → Final → RunContext
   running heard b out w end = in_program (base_of heard (captures_of b out) w) end
 
   -- behind the last instruction all is closed, and the run is over
@@ -79,15 +79,15 @@ module _ (p : Program) (trees : Trees) (compiled : IsCompiled trees p) where
       is_over (ap (λ o. act p f o c) past ∙ ends) e
 
   -- where a loop that isn't there is left, or goes on
-  abbrev Stops : Context → Bed → Then
+  abbrev Stops : RunContext → Bed → Then
   Stops context b q x v = Follows context (told_by b x) (tick v) (λ _ world1. context.final ≡ final (told_by b x) (Finished (captures_of b x) world1))
 
-  stopped_by : (context : Context) (b : Bed) (q : Option TemplateId) (x : List ℕ) (v : World) (e : Ending) (m : Res (Unit {0})) → context.final ≡ end_of b (done_by m (whole_of e q x v)) →
+  stopped_by : (context : RunContext) (b : Bed) (q : Option TemplateId) (x : List ℕ) (v : World) (e : Ending) (m : Res (Unit {0})) → context.final ≡ end_of b (done_by m (whole_of e q x v)) →
       Follows context (told_by b x) m (λ _ world1. context.final ≡ final (told_by b x) (Finished (captures_of b x) world1))
   stopped_by context b q x v e (Good _ world1) is = is
   stopped_by context b q x v e (Bad chain world1) is = is
 
-  end_then : (id : StreamId) (heard : Bool) (b : Bed) (out : List ℕ) (w : World) (e : Ending) (q : Option TemplateId) (x : List ℕ) (v : World) → EndsKept p.host w e v →
+  end_then : (id : StreamId) (heard : Bool) (b : Bed) (out : List ℕ) (w : World) (e : Ending) (q : Option TemplateId) (x : List ℕ) (v : World) → EndingKeeps p.host w e v →
       let context = running heard b out w (end_of b (at_end e (whole_of e q x v))) in
       Ends context b (whole_of e q x v) (λ q1 x1 v1. Go context (later (spot_of id b out) q1 x1) (length (p.code id)) [] v1) (Stops context b) (Stops context b)
   unfolding Ends
@@ -139,11 +139,11 @@ module _ (p : Program) (trees : Trees) (compiled : IsCompiled trees p) where
         called_as_value = lower.1;
       } in (
         λ m items run s pc stack old w0 w D L N d h g.
-            subst (λ q. Comes context (told s) (recursion p (cfg s pc old w0) false stack (captures_of s.bed s.out) m (slice_get (loop_places 0 (p.code q)) m) items w)) (sym d.2)
+            subst (λ q. LeadsToEnd context (told s) (recursion p (cfg s pc old w0) false stack (captures_of s.bed s.out) m (slice_get (loop_places 0 (p.code q)) m) items w)) (sym d.2)
             (recursed_in_place setting (slice_get (loops_in 0 (trees id).row) m) (slice_get (loop_places 0 (p.code id)) m) (all_match id m) m items run s pc stack old w0 w D L N d h g),
         λ m items run s pc stack old w0 w K d h g.
             let o = again_of p.host nests (trees id) (suc level) m items (capturing true run) [] w in
-            subst (λ q. Comes context (told s) (recursion p (cfg s pc old w0) true stack (new_capture true ∷ captures_of s.bed s.out) m (slice_get (loop_places 0 (p.code q)) m) items w)) (sym d.2)
+            subst (λ q. LeadsToEnd context (told s) (recursion p (cfg s pc old w0) true stack (new_capture true ∷ captures_of s.bed s.out) m (slice_get (loop_places 0 (p.code q)) m) items w)) (sym d.2)
             (recursed_as_value setting (slice_get (loops_in 0 (trees id).row) m) (slice_get (loop_places 0 (p.code id)) m) (all_match id m) m items run s pc stack old w0 w
             (λ q out1 x. K (captured_text out1 x) x) d (text_ends setting s o.ending o.parent o.text o.world K h) (λ q out1 x e. g (captured_text out1 x) x e)),
       )
@@ -226,7 +226,7 @@ nested_comes_to_meaning trees p n k heard (c ∷ ks) told w compiled enough =
     subst (λ e. RunsTo p k heard (c ∷ ks) told w e) (captured_end o.ending c.heard told ks o.text o.world) (level_runs p trees compiled n k heard (inside c.heard told ks) c.text w enough)
 
 -- Fragment comes to one end, whatever the levels.
-pub same_with_levels : (host : Host) (trees : Trees) (n m : ℕ) (k : Callee) (heard : Bool) (out : List ℕ) (w : World) → HasLevels host (suc n) w → HasLevels host (suc m) w →
+pub same_with_levels : (host : HostValue) (trees : Trees) (n m : ℕ) (k : Callee) (heard : Bool) (out : List ℕ) (w : World) → HasLevels host (suc n) w → HasLevels host (suc m) w →
     final_of (nests_of host trees (suc n) k heard out w) ≡ final_of (nests_of host trees (suc m) k heard out w)
 same_with_levels host trees n m k heard out w enough also =
     let p : Program = record { host = host; code = λ s. code_of (trees s) } in

@@ -46,7 +46,7 @@ use Rattle.tm_simulation.proofs.Evaluates.{eval_gives}
 use Rattle.tm_simulation.proofs.Evaluates.{loop_items_give}
 use Rattle.tm_simulation.proofs.Evaluates.{assign_gives, set_gives, set_each_gives}
 use Rattle.tm_simulation.proofs.Executes.{exec_ends, execs_end}
-use Rattle.tm_simulation.proofs.Follow.{Comes, leave_then, next_then}
+use Rattle.tm_simulation.proofs.Follow.{LeadsToEnd, leave_then, next_then}
 use Rattle.tm_simulation.proofs.Follow.{opened_then, told_by, Spot, told, cfg}
 use Rattle.tm_simulation.proofs.Follow.{later, Then, Ends, use_then, so_far_then}
 use Rattle.tm_simulation.proofs.Follow.{do_then, within_then, Closed, closed_then, captured_in, Dropped, captured_then}
@@ -104,10 +104,10 @@ module _ (setting : Setting) where
         let DoneThen : Then = λ q out1 x. Ends context s.bed (exec_behind_loop u (pasts (within_loop c loops) body) other (has_none vs) (record run { parent = q }) out1 x) D0 L N in
         let over_it = do_then context s.bed (as_at run s) world1 (loop_over context.program.host (loops + passes c) recursive turn vs (as_at run s) s.out world1) (λ run1 out1 world2. exec_behind_loop u (pasts (within_loop c loops) body) other (has_none vs) run1 out1 world2) D0 L N DoneThen
         (loop_ends context.program.host (loops + passes c) recursive world1 turn (turn_ends setting t (within_loop c loops) body) vs (as_at run s) s.out) h1 (λ q out1 x k3 h3. h3) in
-        subst (λ m. Comes context (told s) (after (open_loop context.program.host vs (for_flags recursive) m world1) (λ _ x. goes stack x (looping (None ∷ s.run.loops) (cfg s pc1 old world1))))) (sym number1)
+        subst (λ m. LeadsToEnd context (told s) (after (open_loop context.program.host vs (for_flags recursive) m world1) (λ _ x. goes stack x (looping (None ∷ s.run.loops) (cfg s pc1 old world1))))) (sym number1)
         (after_then context (told s) (open_loop context.program.host vs (for_flags recursive) (loops + passes c) world1) _
         (opened_then context s.bed (for_flags recursive) (loops + passes c) world1 vs (nat_lt (depth world1.scopes) context.program.host.limit) (as_at run s) s.out (λ _ x. rounds turn vs (as_at run s) s.out x) DoneThen L N
-        (λ x. Comes context (told s) (goes stack x (looping (None ∷ s.run.loops) (cfg s pc1 old world1)))) over_it (λ room h4.
+        (λ x. LeadsToEnd context (told s) (goes stack x (looping (None ∷ s.run.loops) (cfg s pc1 old world1)))) over_it (λ room h4.
         silent context (told s) _
         (rounds_run setting None (for_flags recursive) t (within_loop c loops) body l pc1 (after_loop_code os other) (stmts_run [] (within_loop c loops) inner body) vs vs run s stack world1 (opened (for_flags recursive) (loops + passes c) world1 vs) (new_loop vs (for_flags recursive) (loops + passes c) world1) DoneThen L N fits (deep_within setting run s (loop_scope (mark_behind (for_flags false) world1)) world1 room deep_behind)
         (opened_kept (for_flags recursive) (loops + passes c) world1 vs) (new_record (for_flags recursive) (loops + passes c) world1 vs) (record { before = []; same = refl; all = refl; turns = refl })
@@ -124,7 +124,7 @@ module _ (setting : Setting) where
         let a = plain_scope (undefined false) in
         let nth1 = (none_begin loops (straight (i.PushWith ∷ []) ⨾ assignments_code given) ((refl, tt), assignments_loopless given) (context.program.code s.run.stream) l pc (is.0, is.1.0) nth).number in
         at context i.PushWith s pc stack w is.0.0 (after_then context (told s) (push context.program.host a w) _
-        (within_then context s.bed w a (nat_lt (depth w.scopes) context.program.host.limit) (as_at run s) s.out _ _ L N (λ world1. Comes context (told s) (goes stack world1 (cfg s pc stack w))) h (λ room h1.
+        (within_then context s.bed w a (nat_lt (depth w.scopes) context.program.host.limit) (as_at run s) s.out _ _ L N (λ world1. LeadsToEnd context (told s) (goes stack world1 (cfg s pc stack w))) h (λ room h1.
         let deep1 = deep_within setting run s a w room d in
         silent context (told s) _ (sets_run setting given (as_at run s) s l (pc + 1) stack (within a w) (here setting run s (within a w) deep1) is.1.0
         (use_then context s.bed (within a w) (set_each u (as_at run s) given (within a w)) (as_at run s) s.out _ _ L N _ (set_each_gives u (nest_ends setting) again_kept (as_at run s) given (within a w)) h1 (λ _ world2 k2 h2.
@@ -149,7 +149,7 @@ module _ (setting : Setting) where
         expr_runs setting e (as_at run s) s l pc stack w (here setting run s w d) is.0
         (use_then context s.bed w (eval u (as_at run s) e w) (as_at run s) s.out _ _ L N _ (eval_gives u (nest_ends setting) again_kept (as_at run s) e w) h (λ v world1 k1 h1.
         at context i.PushAutoEscape s _ (v ∷ stack) world1 is.1.0.0
-        (subst (λ first. Comes context (told s) (after (answered (escape_for first v) world1) (λ x world2. goes stack (with_escape x world2) (replacing (world2.escape ∷ s.run.escapes) (cfg s (beyond pc (expr_code e)) (v ∷ stack) world1))))) fits.0
+        (subst (λ first. LeadsToEnd context (told s) (after (answered (escape_for first v) world1) (λ x world2. goes stack (with_escape x world2) (replacing (world2.escape ∷ s.run.escapes) (cfg s (beyond pc (expr_code e)) (v ∷ stack) world1))))) fits.0
         (after_then context (told s) (answered (escape_for run.first v) world1) _
         (use_then context s.bed world1 (answered (escape_for run.first v) world1) (as_at run s) s.out _ _ L N _ (escape_gives _ run.first v world1) h1 (λ x world2 k2 h2.
         let inner : Spot = record s { run = record s.run { escapes = world2.escape ∷ s.run.escapes } } in
@@ -211,7 +211,7 @@ module _ (setting : Setting) where
         let nth1 = after_one (end + 1 + 1) all _ is.1.0 ∙ after_one (end + 1) all _ is.0.1.0 ∙ after_one end all _ is.0.0 ∙ nth in
         let popped = kept_popped (loop_scope (mark_behind (for_flags false) w)) w x kept in
         at context i.PushDidNotIterate (later (looped None s) q out) end stack x is.0.0
-        (subst (λ n. Comes context (told_by s.bed out) n) (sym (did_not_is setting None (for_flags false) s q out end stack w x r vs kept e same))
+        (subst (λ n. LeadsToEnd context (told_by s.bed out) n) (sym (did_not_is setting None (for_flags false) s q out end stack w x r vs kept e same))
         (silent context (told_by s.bed out) _
         (left_loop_then setting (for_flags false) s q out (end + 1) (boolean b ∷ stack) w x r d.0.scopes kept e is.0.1.0
         (at context _ (later s q out) (end + 1 + 1) (boolean b ∷ stack) (pop x) is.1.0 (after_then context (told_by s.bed out) (tick (pop x)) _

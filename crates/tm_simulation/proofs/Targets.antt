@@ -5,8 +5,8 @@ use Rattle.std.specs.Prelude.{slice_get, ◌&&◌, nat_lt}
 use Rattle.tm_values.specs.Val.{Val, undefined}
 use Rattle.tm_values.specs.declared.escape.AutoEscape.{AutoEscape}
 use Rattle.tm_syntax.specs.declared.tree.Expr.{Expr}
-use Rattle.tm_syntax.specs.declared.tree.Target.{Target, Name as To, Unpack' as Items, Attribute as Member, Row_of-Target}
-use Rattle.tm_syntax.specs.declared.tree.Target.{end_of-Target as no_target, more_of-Target as target}
+use Rattle.tm_syntax.specs.declared.tree.AssignmentTarget.{AssignmentTarget, Name as To, Unpack' as Items, Attribute as Member, Row_of-AssignmentTarget}
+use Rattle.tm_syntax.specs.declared.tree.AssignmentTarget.{end_of-AssignmentTarget as no_target, more_of-AssignmentTarget as target}
 use Rattle.tm_syntax.specs.declared.tree.Assignment.{Assignment}
 use Rattle.tm_syntax.specs.declared.tree.Stmt.{Row_of-Stmt}
 use Rattle.tm_syntax.specs.declared.instruction.Instruction.TheVariants as i
@@ -18,7 +18,7 @@ use Rattle.tm_syntax.specs.declared.opened.Opened.{Opened}
 use Rattle.tm_syntax.specs.declared.opened.Opened.TheVariants.{Scope as a_scope, Escape as an_escape, Capture as a_capture}
 use Rattle.tm_meaning.specs.World.{choose, World}
 use Rattle.tm_meaning.specs.World.{top_mark, tick, pop, plain as plain_scope}
-use Rattle.tm_meaning.specs.World.{items_of, set_member, emitted, with_escape, captured_text}
+use Rattle.tm_meaning.specs.World.{unpacked_items, set_member, emitted, with_escape, captured_text}
 use Rattle.tm_meaning.specs.Calls.{enter_block}
 use Rattle.tm_meaning.specs.Meaning.{Run, Outcome}
 use Rattle.tm_meaning.specs.Meaning.{Under, so_far, say, use_it, in_place_of, block_tag, truth}
@@ -38,7 +38,7 @@ use Rattle.tm_simulation.proofs.Gives.{tick_gives}
 use Rattle.tm_simulation.proofs.Asks.{unpacked_gives, emitted_gives, block_asks}
 use Rattle.tm_simulation.proofs.Evaluates.{eval_gives}
 use Rattle.tm_simulation.proofs.Evaluates.{assign_gives, set_gives, truth_gives}
-use Rattle.tm_simulation.proofs.Follow.{Comes, follows_map_kept}
+use Rattle.tm_simulation.proofs.Follow.{LeadsToEnd, follows_map_kept}
 use Rattle.tm_simulation.proofs.Follow.{captures_of, told_by, Spot, told, cfg}
 use Rattle.tm_simulation.proofs.Follow.{later, Follows, Then, Ends, follows_map, bind_then, use_then, so_far_then}
 use Rattle.tm_simulation.proofs.Follow.{Closed, captured_in, Dropped}
@@ -60,7 +60,7 @@ module _ (setting : Setting) where
 
   mutual
     -- A target's code takes the value on top.
-    pub target_runs : (t : Target) (run : Run) (s : Spot) (l : Labels) (pc : ℕ) (v : Val) (stack : List Val) (w : World) → Here setting run s w → In setting s l pc (target_code t) →
+    pub target_runs : (t : AssignmentTarget) (run : Run) (s : Spot) (l : Labels) (pc : ℕ) (v : Val) (stack : List Val) (w : World) → Here setting run s w → In setting s l pc (target_code t) →
         Follows context (told s) (assign u run t v w) (λ _ world1. Go context s (beyond pc (target_code t)) stack world1) → Go context s pc (v ∷ stack) w
     target_runs (To x) run s l pc v stack w d is h =
         at context (i.StoreLocal x) s pc (v ∷ stack) w is.0 (after_then context (told s) (tick w) _ (bind_then context (told s) w (tick w) _ _ _ (tick_gives _ w) h (λ _ world1 k h1.
@@ -68,7 +68,7 @@ module _ (setting : Setting) where
     target_runs (Items _ ts) run s l pc v stack w d is h =
         let n = count_targets ts in
         at context (i.UnpackList n) s pc (v ∷ stack) w is.0.0 (after_then context (told s) (tick w) _ (bind_then context (told s) w (tick w) _ _ _ (tick_gives _ w) h (λ _ world1 k h1.
-        after_then context (told s) (items_of n v world1) _ (bind_long context (told s) world1 n (items_of n v world1) _ _ _ (unpacked_gives _ n v world1) (items_long n v world1) h1 (λ vs world2 k2 m h2.
+        after_then context (told s) (unpacked_items n v world1) _ (bind_long context (told s) world1 n (unpacked_items n v world1) _ _ _ (unpacked_gives _ n v world1) (items_long n v world1) h1 (λ vs world2 k2 m h2.
         silent context (told s) _ (targets_run ts run s l (pc + 1) vs stack world2 m (here_kept setting run s k2 (here_kept setting run s k d)) is.1 h2))))))
     target_runs (Member e x) run s l pc v stack w d is h =
         expr_runs setting e run s l pc (v ∷ stack) w d is.0
@@ -77,7 +77,7 @@ module _ (setting : Setting) where
         after_then context (told s) (set_member x v o world2) _ (follows_map context (told s) (set_member x v o world2) _ _ h2 (λ _ world3 g. silent context (told s) _ g)))))))
 
     -- Targets take as many values, the first on top.
-    targets_run : {m : _} → (ts : Row_of-Target m) (run : Run) (s : Spot) (l : Labels) (pc : ℕ) (vs stack : List Val) (w : World) → length vs ≡ count_targets ts → Here setting run s w → In setting s l pc (targets_code ts) →
+    targets_run : {m : _} → (ts : Row_of-AssignmentTarget m) (run : Run) (s : Spot) (l : Labels) (pc : ℕ) (vs stack : List Val) (w : World) → length vs ≡ count_targets ts → Here setting run s w → In setting s l pc (targets_code ts) →
         Follows context (told s) (assign_all u run ts vs w) (λ _ world1. Go context s (beyond pc (targets_code ts)) stack world1) → Go context s pc (vs ++ stack) w
     targets_run no_target run s l pc [] stack w n d is h = h
     targets_run no_target run s l pc (v ∷ vs) stack w n d is h = absurd (omega (arith, n))
@@ -87,7 +87,7 @@ module _ (setting : Setting) where
         (bind_then context (told s) w (assign u run t v w) _ _ _ (assign_gives u (nest_ends setting) again_kept run t v w) h (λ _ world1 k h1. targets_run ts run s l _ vs stack world1 (omega (arith, n)) (here_kept setting run s k d) is.1 h1))
 
   -- A value's code, and then its target's, leave the operands as they were.
-  pub set_runs : (t : Target) (e : Expr) (run : Run) (s : Spot) (l : Labels) (pc : ℕ) (stack : List Val) (w : World) → Here setting run s w → In setting s l pc (set_code t e) →
+  pub set_runs : (t : AssignmentTarget) (e : Expr) (run : Run) (s : Spot) (l : Labels) (pc : ℕ) (stack : List Val) (w : World) → Here setting run s w → In setting s l pc (set_code t e) →
       Follows context (told s) (set_to u run t e w) (λ _ world1. Go context s (beyond pc (set_code t e)) stack world1) → Go context s pc stack w
   set_runs t e run s l pc stack w d is h =
       expr_runs setting e run s l pc stack w d is.0
@@ -106,15 +106,15 @@ module _ (setting : Setting) where
   popped_then s pc stack w stands no_loop e g =
       let b : (nat_lt context.base.scopes (length w.scopes.frames) && is_no_loop (top_mark w.scopes.frames)) ≡ true = rw (lt-ltb context.base.scopes (length w.scopes.frames) stands, no_loop) refl in
       at context i.PopFrame s pc stack w e
-      (subst (λ b. Comes context (told s) (choose b (λ _. goes stack (pop w) (cfg s pc stack w)) (λ _. stuck w)))
+      (subst (λ b. LeadsToEnd context (told s) (choose b (λ _. goes stack (pop w) (cfg s pc stack w)) (λ _. stuck w)))
       (sym b) (silent context (told s) _ g))
 
   -- A capture above the run's floor is ended, and its text pushed.
   pub ended_then : (s : Spot) (q : Option TemplateId) (x : List ℕ) (pc : ℕ) (stack : List Val) (w : World) → s.run.floor < suc (length (captures_of s.bed s.out)) →
       Go context (later s q s.out) (pc + 1) (captured_text x w ∷ stack) w →
-      Comes context (told s) (end_capture_of (cfg (later (record s { bed = captured_in s.bed s.out; out = [] }) q x) pc stack w))
+      LeadsToEnd context (told s) (end_capture_of (cfg (later (record s { bed = captured_in s.bed s.out; out = [] }) q x) pc stack w))
   ended_then s q x pc stack w stands g =
-      subst (λ b. Comes context (told s) (choose b (λ _. goes (captured_text x w ∷ stack) w (cfg (later s q s.out) pc stack w)) (λ _. stuck w)))
+      subst (λ b. LeadsToEnd context (told s) (choose b (λ _. goes (captured_text x w ∷ stack) w (cfg (later s q s.out) pc stack w)) (λ _. stuck w)))
       (sym (lt-ltb s.run.floor (suc (length (captures_of s.bed s.out))) stands)) (silent context (told s) _ g)
 
   -- a run in a capture of its own
@@ -135,7 +135,7 @@ module _ (setting : Setting) where
       ((q1 : Option TemplateId) (out1 : List ℕ) (world1 : World) → D q1 out1 world1 → Go context (later s q1 out1) (pc + 1) stack world1) → Go context s pc stack w
   tag_then run s pc b stack w D L N fits d e h g =
       at context (i.CallBlock b) s pc stack w e (after_then context (told s) (tick w) _ (use_then context s.bed w (tick w) (as_at run s) s.out _ D L N _ (tick_gives _ w) h (λ _ world1 k h1.
-      subst (λ x. Comes context (told s) (choose (none_waits s.parent && x) (λ _. asked_in_place context.program context.base (cfg s pc stack world1) stack (enter_block context.program.host b world1)) (λ _. goes stack world1 (cfg s pc stack world1))))
+      subst (λ x. LeadsToEnd context (told s) (choose (none_waits s.parent && x) (λ _. asked_in_place context.program context.base (cfg s pc stack world1) stack (enter_block context.program.host b world1)) (λ _. goes stack world1 (cfg s pc stack world1))))
       (sym (audible_is context.base (as_at run s) s.run s.parent s.bed s.out pc stack world1 refl fits.2))
       (choose_ends context (none_waits s.parent && heard_here (as_at run s)) (in_place_of u (as_at run s) s.out (enter_block context.program.host b world1)) (so_far (as_at run s) s.out world1) _ _ (told s) s.bed D L N h1
       (λ h2. placed_then setting run s pc stack stack world1 world1 (enter_block context.program.host b world1) D L N fits.2 (block_asks context.program.host b world1) (deep_kept setting run s k d) h2 g)

@@ -16,8 +16,8 @@ use Rattle.tm_syntax.specs.declared.tree.Expr.{end_of-Step as no_step, more_of-S
 use Rattle.tm_syntax.specs.declared.tree.Expr.{end_of-Condition as no_condition}
 use Rattle.tm_syntax.specs.declared.tree.Argument.{Argument}
 use Rattle.tm_syntax.specs.declared.tree.Step.{Step, Attribute, Method', Row_of-Comparison, end_of-Comparison as no_comparison}
-use Rattle.tm_syntax.specs.declared.tree.Target.{Target, Name as To, Unpack' as Items, Attribute as Member, Row_of-Target}
-use Rattle.tm_syntax.specs.declared.tree.Target.{end_of-Target as no_target, more_of-Target as target}
+use Rattle.tm_syntax.specs.declared.tree.AssignmentTarget.{AssignmentTarget, Name as To, Unpack' as Items, Attribute as Member, Row_of-AssignmentTarget}
+use Rattle.tm_syntax.specs.declared.tree.AssignmentTarget.{end_of-AssignmentTarget as no_target, more_of-AssignmentTarget as target}
 use Rattle.tm_syntax.specs.declared.tree.Assignment.{Assignment}
 use Rattle.tm_syntax.specs.declared.tree.Stmt.{Stmt, EmitRaw, EmitExpr, EmitLoop, If', For', Break, Continue, Block', Set, SetBlock'}
 use Rattle.tm_syntax.specs.declared.tree.Stmt.{With', Do, AutoEscape', Row_of-Stmt, end_of-Stmt as no_statement}
@@ -122,12 +122,12 @@ mutual
 
 -- ---------------------------------------------------------------- nor do targets
 mutual
-  pub target_loopless : (t : Target) → Loopless (target_code t)
+  pub target_loopless : (t : AssignmentTarget) → Loopless (target_code t)
   target_loopless (To x) = (refl, tt)
   target_loopless (Items _ ts) = ((refl, tt), targets_loopless ts)
   target_loopless (Member e x) = (expr_loopless e, (refl, tt))
 
-  targets_loopless : {n : _} → (ts : Row_of-Target n) → Loopless (targets_code ts)
+  targets_loopless : {n : _} → (ts : Row_of-AssignmentTarget n) → Loopless (targets_code ts)
   targets_loopless no_target = tt
   targets_loopless (target t ts) = (target_loopless t, targets_loopless ts)
 
@@ -147,10 +147,10 @@ behind_exit : (all : List Instruction) (l : Labels) (end : ℕ) (os : List Opene
 behind_exit all l end os no_else h = inl h
 behind_exit all l end os (otherwise _ body) h = inr h.0
 
-abbrev pub found : {n : _} → ℕ → Option Expr → Bool → Target → Row_of-Stmt n → FoundLoop
+abbrev pub found : {n : _} → ℕ → Option Expr → Bool → AssignmentTarget → Row_of-Stmt n → FoundLoop
 found at c r t body = record { recursive = r; target = t; body = body_of body; at = within_loop c at }
 
-is_loop : {n : _} → (os : List Opened) (at : ℕ) (c : Option Expr) (r : Bool) (t : Target) (body : Row_of-Stmt n) (other : Otherwise) →
+is_loop : {n : _} → (os : List Opened) (at : ℕ) (c : Option Expr) (r : Bool) (t : AssignmentTarget) (body : Row_of-Stmt n) (other : Otherwise) →
     IsLoop (found at c r t body) (at + passes c) (for_flags r) (target_code t ⨾ statements_code [] body) (after_loop_code os other)
 is_loop os at c r t body other all l pc is first = (
   refl,
@@ -166,7 +166,7 @@ is_loop os at c r t body other all l pc is first = (
   ),
 )
 
-pass_loopless : (t : Target) (c : Expr) → Loopless (pass_round t c)
+pass_loopless : (t : AssignmentTarget) (c : Expr) → Loopless (pass_round t c)
 pass_loopless t c = ((refl, tt), (target_loopless t, (expr_loopless c, ((tt, ((refl, (refl, (refl, tt))), tt)), (refl, tt)))))
 
 -- the pass of a condition
@@ -174,7 +174,7 @@ abbrev pass_of : Option Expr → FoundLoop → List FoundLoop
 pass_of None l = []
 pass_of (Some c) l = record l { recursive = false } ∷ []
 
-pub iterable_begins : (at : ℕ) (t : Target) (e : Expr) (c : Option Expr) (l : FoundLoop) → Begins at (iterable_code t e c) (pass_of c l) (at + passes c)
+pub iterable_begins : (at : ℕ) (t : AssignmentTarget) (e : Expr) (c : Option Expr) (l : FoundLoop) → Begins at (iterable_code t e c) (pass_of c l) (at + passes c)
 iterable_begins at t e None l = let none : at ≡ at + 0 = omega arith in subst (λ n. Begins at (expr_code e) [] n) none (none_begin at (expr_code e) (expr_loopless e))
 iterable_begins at t e (Some c) l =
     after_none (straight _) (refl, tt) (after_none (expr_code e) (expr_loopless e)

@@ -7,7 +7,7 @@ use Rattle.tm_values.specs.Val.{Val}
 use Rattle.tm_values.specs.declared.error.ErrorKind.{ErrorKind}
 use Rattle.tm_values.specs.declared.error.ErrorKind.TheVariants as kinds
 use Rattle.tm_meaning.specs.Memory.{is_wrapping}
-use Rattle.tm_meaning.specs.World.{Host, View, Stated, Function, callers, languages}
+use Rattle.tm_meaning.specs.World.{HostValue, View, Stated, Function, callers, languages}
 use Rattle.tm_meaning.specs.declared.reply.Reply.{Reply}
 use Rattle.tm_meaning.specs.declared.reply.Reply.TheVariants.{Value as gives, Fault as faults}
 
@@ -26,7 +26,7 @@ is_raised kinds.OutOfFuel = true
 is_raised _ = false
 
 -- A chain arises in a render: it raises a kind, a kind wraps a chain that arises, or an object of the caller states it.
-pub data Arises (host : Host) : List ErrorKind → Type 0 where
+pub data Arises (host : HostValue) : List ErrorKind → Type 0 where
   raised : {kind : ErrorKind} → is_raised kind ≡ true → Arises host (kind ∷ [])
   wrapped : {kind : ErrorKind} {chain : List ErrorKind} → is_wrapping kind ≡ true → Arises host chain → Arises host (kind ∷ chain)
   by_function : {chain : List ErrorKind} (n : ℕ) (f : List Val → View → Stated) (args : List Val) (view : View) →
@@ -63,7 +63,7 @@ FormatterStates Has None = Unit {0}
 FormatterStates Has (Some f) = (v : Val) (view : View) → AnswersOnly Has (f v view)
 
 -- The functions and the formatter of the caller state only faults that have the property.
-pub record StatesOnly (Has : List ErrorKind → Type 0) (host : Host) : Type 0 where
+pub record StatesOnly (Has : List ErrorKind → Type 0) (host : HostValue) : Type 0 where
   pub functions : All (FunctionStates Has) host.functions
   pub formatter : FormatterStates Has host.formatter
 
@@ -79,7 +79,7 @@ abbrev pub MayWrap : ErrorKind → Type 0
 MayWrap kind = (kind ≡ kinds.EvalBlock) ⊎ (kind ≡ kinds.BadInclude) ⊎ (kind ≡ kinds.InvalidOperation)
 
 -- No function and no formatter of the caller states a fault that ends in OutOfMemory.
-abbrev pub StatesNoMemory : Host → Type 0
+abbrev pub StatesNoMemory : HostValue → Type 0
 StatesNoMemory host = StatesOnly (λ chain. ends_in_memory chain ≡ false) host
 
 -- ---------------------------------------------------------------- kinds of other things

@@ -1,6 +1,6 @@
 -- Runs of code, and the ends of what trees mean.
 use Rattle.std.specs.Prelude.{ℕ, ◌+◌, ◌≤◌, List, [], ◌∷◌, Bool, true}
-use Rattle.tm_meaning.specs.World.{World, Host, depth}
+use Rattle.tm_meaning.specs.World.{World, HostValue, depth}
 use Rattle.tm_meaning.specs.Calls.{Callee, whole}
 use Rattle.tm_meaning.specs.Meaning.{Ending, fault, Outcome}
 use Rattle.tm_meaning.specs.Machine.{Program, Capture, End, Finished, Failed, base_of, start}
@@ -46,5 +46,5 @@ abbrev pub final_of : Outcome → Final
 final_of o = final_in [] [] o
 
 -- So many levels of runs, one in the other, are enough from this world, since each stands a scope deeper and none beyond the limit. One more than the limit are from any world.
-abbrev pub HasLevels : Host → ℕ → World → Type 0
+abbrev pub HasLevels : HostValue → ℕ → World → Type 0
 HasLevels host n w = host.limit + 1 ≤ n + depth w.scopes

@@ -6,7 +6,7 @@ ghost use Rattle.tm_values.specs.declared.error.ErrorKind.{ErrorKind};
 ghost use Rattle.tm_values.specs.declared.error.ErrorKind.TheVariants as kinds;
 ghost use Rattle.std.specs.List.{All};
 ghost use Rattle.tm_meaning.specs.Memory.{is_want_of_memory};
-ghost use Rattle.tm_meaning.specs.World.{Host, World};
+ghost use Rattle.tm_meaning.specs.World.{HostValue, World};
 ghost use Rattle.tm_meaning.specs.Calls.{Callee};
 ghost use Rattle.tm_meaning.specs.Tree.{Body, Trees};
 ghost use Rattle.tm_meaning.specs.Meaning.{Run, block_tag, chain_of, nests_of, rendered, under};
@@ -36,7 +36,7 @@ pub fn nested_code_comes_to_its_meaning()
 
 /// What a run means is the same with any levels that are enough.
 pub fn levels_change_no_meaning()
-    ensures { (host : Host) (trees : Trees) (n m : ℕ) (k : Callee) (heard : Bool) (out : List ℕ)
+    ensures { (host : HostValue) (trees : Trees) (n m : ℕ) (k : Callee) (heard : Bool) (out : List ℕ)
         (w : World) → HasLevels host (suc n) w → HasLevels host (suc m) w →
         final_of (nests_of host trees (suc n) k heard out w) ≡
         final_of (nests_of host trees (suc m) k heard out w) }
@@ -51,30 +51,30 @@ pub fn code_is_never_stuck()
 /// A render keeps its state: it is the same one, no fuel comes back, and the scopes that stood are there; where the render is no fault
 /// there are no others, and only the names of the innermost one may differ.
 pub fn a_render_keeps_its_state()
-    ensures { (host : Host) (trees : Trees) (w : World) → Stays w (rendered host trees w) }
+    ensures { (host : HostValue) (trees : Trees) (w : World) → Stays w (rendered host trees w) }
 {}
 
 /// So does any run: the scopes below its own are the very same ones.
 pub fn a_run_keeps_its_state()
-    ensures { (host : Host) (trees : Trees) (n : ℕ) (k : Callee) (heard : Bool) (out : List ℕ)
+    ensures { (host : HostValue) (trees : Trees) (n : ℕ) (k : Callee) (heard : Bool) (out : List ℕ)
         (w : World) → Stays w (nests_of host trees n k heard out w) }
 {}
 
 /// A render loses nothing, also where it ends in a fault: no record, no kept value, no name loaded, and no template of a block's list;
 /// the block is as it was, and where it ends in no fault so is the escape.
 pub fn a_render_loses_nothing()
-    ensures { (host : Host) (trees : Trees) (w : World) → Grows w (rendered host trees w) }
+    ensures { (host : HostValue) (trees : Trees) (w : World) → Grows w (rendered host trees w) }
 {}
 
 /// A render ends in the stream in which it began, also where it ends in a fault.
 pub fn a_render_ends_in_its_stream()
-    ensures { (host : Host) (trees : Trees) (w : World) →
+    ensures { (host : HostValue) (trees : Trees) (w : World) →
         (rendered host trees w).world.stream ≡ w.stream }
 {}
 
 /// Whatever its run comes to, also a fault, a block's tag leaves the scopes, the stream, the block and the escape as they were before it.
 pub fn a_block_puts_back_what_it_replaced()
-    ensures { (host : Host) (trees : Trees) (n : ℕ) (body : Body) (run : Run) (b : List ℕ)
+    ensures { (host : HostValue) (trees : Trees) (n : ℕ) (body : Body) (run : Run) (b : List ℕ)
         (out : List ℕ) (w : World) →
         PutsBack w (block_tag (under host (nests_of host trees n) body) run b out w).world }
 {}
@@ -82,20 +82,20 @@ pub fn a_block_puts_back_what_it_replaced()
 /// The chain of a render's fault arises in it: what ends it is a kind that renders raise, or a chain that an object of the caller states,
 /// and before that stand kinds that wrap.
 pub fn a_fault_arises()
-    ensures { (host : Host) (trees : Trees) (w : World) →
+    ensures { (host : HostValue) (trees : Trees) (w : World) →
         IfAny (Arises host) (chain_of (rendered host trees w)) }
 {}
 
 /// So it has each property that the raised kinds have, that the kinds that wrap leave, and that the objects of the caller keep.
 pub fn a_fault_has_what_is_raised_or_stated()
-    ensures { (has : List ErrorKind → Bool) (host : Host) (trees : Trees) (w : World) →
+    ensures { (has : List ErrorKind → Bool) (host : HostValue) (trees : Trees) (w : World) →
         HasRaised (λ chain. has chain ≡ true) → StatesOnly (λ chain. has chain ≡ true) host →
         IfAny (λ chain. has chain ≡ true) (chain_of (rendered host trees w)) }
 {}
 
 /// A render's fault ends in OutOfMemory only where an object of the caller states one that does.
 pub fn want_of_memory_is_stated()
-    ensures { (host : Host) (trees : Trees) (w : World) → StatesNoMemory host →
+    ensures { (host : HostValue) (trees : Trees) (w : World) → StatesNoMemory host →
         ends_in_memory (chain_of (rendered host trees w)) ≡ false }
 {}
 
@@ -116,7 +116,7 @@ pub fn want_of_memory_ends_in_memory()
 /// In a render's fault stand SyntaxError, InvalidDelimiter, WriteFailure and BadStream only where an object of the caller states a fault
 /// with one of them.
 pub fn foreign_kinds_are_stated()
-    ensures stated { (host : Host) (trees : Trees) (w : World) → StatesOnly HasNoForeign host →
+    ensures stated { (host : HostValue) (trees : Trees) (w : World) → StatesOnly HasNoForeign host →
         HasNoForeign (chain_of (rendered host trees w)) }
     ensures foreign { (is_foreign kinds.SyntaxError ≡ true) × (is_foreign kinds.InvalidDelimiter ≡ true)
         × (is_foreign kinds.WriteFailure ≡ true) × (is_foreign kinds.BadStream ≡ true) }

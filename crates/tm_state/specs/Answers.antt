@@ -10,12 +10,12 @@ use Rattle.tm_tables.specs.declared.callable.Called.TheVariants as called
 use Rattle.tm_tables.specs.Stated.{is_for_memory}
 use Rattle.tm_meaning.specs.World.{World, Loop, Res, Good, Bad}
 use Rattle.tm_meaning.specs.Calls.{Asked, has, refused, recurs, ask, replied, given_by, is_changed}
-use Rattle.tm_state.specs.declared.calls.Outcome.{Outcome}
-use Rattle.tm_state.specs.declared.calls.Outcome.TheVariants as outcome
+use Rattle.tm_state.specs.declared.calls.CallResult.{CallResult}
+use Rattle.tm_state.specs.declared.calls.CallResult.TheVariants as outcome
 use Rattle.tm_state.specs.declared.calls.Recursion.{Recursion}
 
 -- What every answer keeps, also where it is a halt.
-pub record Keeps (old new : World) : Type 0 where
+pub record KeepsIdAndFuel (old new : World) : Type 0 where
   pub same_id : new.id ≡ old.id
   pub same_fuel_set : new.fuel_set ≡ old.fuel_set
   pub no_more_fuel : new.fuel ≤ old.fuel
@@ -42,7 +42,7 @@ Recurs (Ok r) asked w = asked ≡ recurs r.number r.items.value.items w
 Recurs (Err chain) asked w = is_want_of_memory chain ≡ false → asked ≡ refused chain w
 
 -- What a call came to, but for want of memory: a value, a loop that is called, or a fault, and the world behind it.
-abbrev pub Becomes : Result Outcome (List ErrorKind) → Asked → World → Type 0
+abbrev pub Becomes : Result CallResult (List ErrorKind) → Asked → World → Type 0
 Becomes (Ok (outcome.Value v)) asked w = asked ≡ has v w
 Becomes (Ok (outcome.Recursion r)) asked w = asked ≡ recurs r.number r.items.value.items w
 Becomes (Err chain) asked w = is_want_of_memory chain ≡ false → asked ≡ refused chain w

@@ -82,8 +82,8 @@ loop_record items depth number recursive stream = record {
 }
 
 -- a loop of a number more, in a scope of its own
-abbrev pub looped : List Val → LoopFlags → ℕ → World → World
-looped items flags number w =
+abbrev pub with_open_loop : List Val → LoopFlags → ℕ → World → World
+with_open_loop items flags number w =
     record (with_frames (loop_scope (record { number = length w.loops; variable = flags.variable }) ∷ w.scopes.frames) w) {
       loops = w.loops ++ new_loop items flags number w ∷ [];
     }

@@ -20,7 +20,7 @@ use tm_values::{Error, ErrorKind, Node, UndefinedBehavior, Value, find_namespace
 
 /// What a call came to.
 #[derive(Drop)]
-pub enum Outcome {
+pub enum CallResult {
     /// A value.
     Value(Value),
     /// A loop of the stream that runs is called, which the machine does.
@@ -47,7 +47,7 @@ impl StateData<'_> {
         host: &H,
         name: &Name,
         args: &[Value],
-    ) -> Result<Outcome, Error>
+    ) -> Result<CallResult, Error>
         ensures called { Becomes result
             (call_named (H.meaning host.now) name.now args.now self.old) self.new }
         ensures rest { self.new ≡ record self.old
@@ -58,10 +58,10 @@ impl StateData<'_> {
         };
         if let Node::Loop(state, number) = &found.node {
             let recursion = self.call_found(alloc, host, *state, *number, args)?;
-            return Ok(Outcome::Recursion(recursion));
+            return Ok(CallResult::Recursion(recursion));
         }
         let value = self.call_value(alloc, host, &found, args)?;
-        Ok(Outcome::Value(value))
+        Ok(CallResult::Value(value))
     }
 
     /// The innermost loop, which is called with a value. UnknownFunction outside of loops, and what a loop refuses.

@@ -6,6 +6,6 @@ mod records;
 mod saved;
 mod state;
 
-pub use calls::{Outcome, Recursion};
+pub use calls::{CallResult, Recursion};
 pub use saved::Saved;
 pub use state::StateData;

@@ -13,8 +13,8 @@ ghost use Rattle.tm_meaning.specs.Steps.{charge_of, pay};
 ghost use Rattle.tm_definitions.specs.Emitted.{emitted_text};
 ghost use Rattle.tm_tables.specs.Known.{AreFound, NamingFails};
 ghost use Rattle.tm_tables.specs.Scopes.{PushFails};
-ghost use Rattle.tm_state.specs.Answers.{Keeps, CanBeEmitted, Comes};
-ghost use Rattle.tm_state.specs.State.{looped, exported, started, put_back, saved_of, runs_block, IsBlockOf, scoped};
+ghost use Rattle.tm_state.specs.Answers.{KeepsIdAndFuel, CanBeEmitted, Comes};
+ghost use Rattle.tm_state.specs.State.{with_open_loop, exported, started, put_back, saved_of, runs_block, IsBlockOf, scoped};
 
 use crate::records::{add_loop, changed_at, keep_each, set_in, turn_at};
 use crate::saved::Saved;
@@ -133,7 +133,7 @@ impl<'env> StateData<'env> {
             × (pay instruction.now self.old ≡ Bad e self.new)) }
         ensures spent { OnOk result
             (self.new.fuel + charge_of instruction.now ≡ self.old.fuel) }
-        ensures kept { Keeps self.old self.new }
+        ensures kept { KeepsIdAndFuel self.old self.new }
         ensures rest { self.new ≡ record self.old { fuel = self.new.fuel } }
     {
         self.fuel.track(instruction)
@@ -324,7 +324,7 @@ impl<'env> StateData<'env> {
         ensures err { IfErr result (λ e. is_want_of_memory e ≡ false →
             enter_block (H.meaning host.now) name.now self.old ≡ refused e self.old) }
         ensures unchanged { OnErr result (self.new ≡ self.old) }
-        ensures kept { Keeps self.old self.new }
+        ensures kept { KeepsIdAndFuel self.old self.new }
     {
         let stream = self.block_stream(name)?;
         if host.is_required(&stream) {
@@ -373,7 +373,7 @@ impl<'env> StateData<'env> {
         number: usize,
         limit: usize,
     ) -> Result<(), Error>
-        ensures ok { OnOk result (self.new ≡ looped items.value.items flags number self.old) }
+        ensures ok { OnOk result (self.new ≡ with_open_loop items.value.items flags number self.old) }
         ensures fits { OnOk result (nat_lt (depth self.old.scopes) limit ≡ true) }
         ensures kind { IfErr result (PushFails (nat_lt (depth self.old.scopes) limit)) }
         ensures err { OnErr result (self.new ≡ self.old) }

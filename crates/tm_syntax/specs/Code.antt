@@ -13,8 +13,8 @@ use Rattle.tm_syntax.specs.declared.tree.Expr.{end_of-Step as no_step, more_of-S
 use Rattle.tm_syntax.specs.declared.tree.Expr.{end_of-Condition as no_condition}
 use Rattle.tm_syntax.specs.declared.tree.Argument.{Argument}
 use Rattle.tm_syntax.specs.declared.tree.Step.{Step, Attribute, Method', Row_of-Comparison, end_of-Comparison as no_comparison}
-use Rattle.tm_syntax.specs.declared.tree.Target.{Target, Name as To, Unpack' as Items, Attribute as Member, Row_of-Target}
-use Rattle.tm_syntax.specs.declared.tree.Target.{end_of-Target as no_target, more_of-Target as target}
+use Rattle.tm_syntax.specs.declared.tree.AssignmentTarget.{AssignmentTarget, Name as To, Unpack' as Items, Attribute as Member, Row_of-AssignmentTarget}
+use Rattle.tm_syntax.specs.declared.tree.AssignmentTarget.{end_of-AssignmentTarget as no_target, more_of-AssignmentTarget as target}
 use Rattle.tm_syntax.specs.declared.tree.Assignment.{Assignment}
 use Rattle.tm_syntax.specs.declared.tree.Stmt.{Stmt, EmitRaw, EmitExpr, EmitLoop, If', For', Break, Continue, Block', Set, SetBlock'}
 use Rattle.tm_syntax.specs.declared.tree.Stmt.{With', Do, AutoEscape', Row_of-Stmt, end_of-Stmt as no_statement}
@@ -143,22 +143,22 @@ abbrev mutual
 abbrev pub row_code : {n : _} → BinaryOperator → Row_of-Comparison n → Fragment
 row_code op cs = fork (links_code op cs) drop_right
 
-abbrev pub count_targets : {n : _} → Row_of-Target n → ℕ
+abbrev pub count_targets : {n : _} → Row_of-AssignmentTarget n → ℕ
 count_targets no_target = 0
 count_targets (target t more) = count_targets more + 1
 
 abbrev mutual
-  pub target_code : Target → Fragment
+  pub target_code : AssignmentTarget → Fragment
   target_code (To x) = straight (i.StoreLocal x ∷ [])
   target_code (Items _ ts) = straight (i.UnpackList (count_targets ts) ∷ []) ⨾ targets_code ts
   target_code (Member e x) = expr_code e ⨾ straight (i.SetAttr x ∷ [])
 
-  pub targets_code : {n : _} → Row_of-Target n → Fragment
+  pub targets_code : {n : _} → Row_of-AssignmentTarget n → Fragment
   targets_code no_target = straight []
   targets_code (target t ts) = target_code t ⨾ targets_code ts
 
 -- a value and what it is given to
-abbrev pub set_code : Target → Expr → Fragment
+abbrev pub set_code : AssignmentTarget → Expr → Fragment
 set_code t e = expr_code e ⨾ target_code t
 
 abbrev pub assignments_code : List Assignment → Fragment
@@ -187,11 +187,11 @@ abbrev pub take_item : Fragment
 take_item = over IfFalse (straight (i.Swap ∷ i.LoadConst (number (pos 1)) ∷ i.Add ∷ []) ⨾ next_round)
 
 -- of a round that takes its item where the condition is true, and drops it else
-abbrev pub pass_round : Target → Expr → Fragment
+abbrev pub pass_round : AssignmentTarget → Expr → Fragment
 pass_round t c = straight (i.DupTop ∷ []) ⨾ target_code t ⨾ expr_code c ⨾ take_item ⨾ straight (i.DiscardTop ∷ [])
 
 -- what is iterated: with a condition the items for which that is true
-abbrev pub iterable_code : Target → Expr → Option Expr → Fragment
+abbrev pub iterable_code : AssignmentTarget → Expr → Option Expr → Fragment
 iterable_code t e None = expr_code e
 iterable_code t e (Some c) =
     straight (i.LoadConst (number (pos 0)) ∷ []) ⨾ expr_code e ⨾ looped pass_flags (pass_round t c) (straight (i.PopLoopFrame ∷ i.BuildList None ∷ []))

@@ -5,7 +5,7 @@ use Rattle.tm_syntax.specs.declared.instruction.Instruction.TheVariants as i
 use Rattle.tm_syntax.specs.declared.instruction.LoopFlags.{LoopFlags}
 pub use Rattle.tm_syntax.specs.declared.instruction.LoopPlace.{LoopPlace}
 use Rattle.tm_syntax.specs.declared.tree.Expr.{Expr}
-use Rattle.tm_syntax.specs.declared.tree.Target.{Target}
+use Rattle.tm_syntax.specs.declared.tree.AssignmentTarget.{AssignmentTarget}
 use Rattle.tm_syntax.specs.declared.tree.Stmt.{EmitRaw, EmitExpr, EmitLoop, Break, Continue, Block', Set, Do}
 use Rattle.tm_syntax.specs.declared.tree.Stmt.{Stmt, If', For', SetBlock', With', AutoEscape', Row_of-Stmt, end_of-Stmt as no_statement, more_of-Stmt as statement, Held-Stmt-If-2 as Otherwise, None' as no_else, Some' as otherwise}
 use Rattle.tm_syntax.specs.Blocks.{Body, body_of}
@@ -47,7 +47,7 @@ abbrev mutual
 -- A loop of a tree: whether it can be called, its target, its body, and how many loops stand before that.
 pub record FoundLoop : Type 0 where
   pub recursive : Bool
-  pub target : Target
+  pub target : AssignmentTarget
   pub body : Body
   pub at : ℕ
 

@@ -8,6 +8,6 @@ IsRange source start end =
     (start ≤ end) × (0 < start → IsCharBoundary source start) × IsCharBoundary source end
 
 -- such a range, in which this text stands
-abbrev pub IsPart : List ℕ → ℕ → ℕ → List ℕ → Type 0
-IsPart source start end text =
+abbrev pub IsSlice : List ℕ → ℕ → ℕ → List ℕ → Type 0
+IsSlice source start end text =
     IsRange source start end × (slice_range source start end ≡ text)

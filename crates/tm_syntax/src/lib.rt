@@ -21,5 +21,5 @@ pub use raw_text::RawText;
 pub use token::{Sign, Tag, Token};
 pub use tree::{
     Argument, Assignment, BinaryOperator, Comparison, Condition, Expr, ForLoop, Keyword, Pair,
-    Step, Stmt, Target, Tree, UnaryOperator,
+    Step, Stmt, AssignmentTarget, Tree, UnaryOperator,
 };

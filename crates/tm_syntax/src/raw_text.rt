@@ -1,7 +1,7 @@
 //! Raw texts of a source that owners share.
 ghost use Rattle.std.specs.Prelude.{◌≡◌, IfOk, IfSome};
 ghost use Rattle.std.specs.Rc.{rc_str_bytes};
-ghost use Rattle.tm_syntax.specs.RawText.{IsPart};
+ghost use Rattle.tm_syntax.specs.RawText.{IsSlice};
 
 use std::alloc::{AllocError, Global};
 use std::marker::Model;
@@ -29,7 +29,7 @@ impl Model for RawText {
 
 /// Where the text that starts at this place of the source ends there; None where another one does.
 fn end_within(source: &str, start: usize, text: &str) -> Option<usize>
-    ensures { IfSome result (λ end. IsPart source.now start end text.now) }
+    ensures { IfSome result (λ end. IsSlice source.now start end text.now) }
 {
     let end = start.checked_add(text.len())?;
     if source.is_char_boundary(start)

@@ -146,11 +146,11 @@ pub enum Step {
 
 /// What a value is given to.
 #[derive(Drop)]
-pub enum Target {
+pub enum AssignmentTarget {
     /// A name of the innermost scope.
     Name(Name),
     /// As many targets as the value has items.
-    Unpack(Items<Target>),
+    Unpack(Items<AssignmentTarget>),
     /// The attribute of what an expression gives, a namespace.
     Attribute(Boxed<Expr>, Name),
 }
@@ -159,7 +159,7 @@ pub enum Target {
 #[derive(Drop)]
 pub struct Assignment {
     /// The target.
-    pub target: Target,
+    pub target: AssignmentTarget,
     /// The value.
     pub value: Boxed<Expr>,
 }
@@ -185,9 +185,9 @@ pub enum Stmt {
     /// A block of a name, and its body.
     Block(Name, Items<Stmt>),
     /// A value for a target.
-    Set(Target, Boxed<Expr>),
+    Set(AssignmentTarget, Boxed<Expr>),
     /// A target, and the body whose text it gets.
-    SetBlock(Target, Items<Stmt>),
+    SetBlock(AssignmentTarget, Items<Stmt>),
     /// Values for targets in a scope of their own, and what runs there.
     With(Items<Assignment>, Items<Stmt>),
     /// A call whose value is dropped.
@@ -201,7 +201,7 @@ pub enum Stmt {
 #[derive(Drop)]
 pub struct ForLoop {
     /// What each item is given to.
-    pub target: Target,
+    pub target: AssignmentTarget,
     /// What is iterated.
     pub iterable: Boxed<Expr>,
     /// The condition of an item that is taken.

@@ -7,7 +7,7 @@ use Rattle.tm_values.specs.Val.{Val, loop}
 use Rattle.tm_values.specs.declared.error.ErrorKind.{ErrorKind}
 use Rattle.tm_meaning.specs.World.{Scope, View, in_frames}
 use Rattle.tm_tables.specs.declared.context.Found.{Found}
-use Rattle.tm_tables.specs.declared.context.Found.TheVariants.{Held, Loop}
+use Rattle.tm_tables.specs.declared.context.Found.TheVariants.{Value, Loop}
 
 -- What is lent is what was stated: a value, none, or the chain of an error.
 abbrev pub IsHeld : Result (Option (Bor Val)) (List ErrorKind) → Answer (Option Val) → Type 0
@@ -17,7 +17,7 @@ IsHeld (Err chain) stated = stated ≡ Err chain
 
 -- what was found, as a value of the state of this id
 abbrev pub meant_by : ℕ → Found → Val
-meant_by id (Held v) = v.now
+meant_by id (Value v) = v.now
 meant_by id (Loop n) = loop id n
 
 -- The same of what may be a loop's value, which nothing holds.

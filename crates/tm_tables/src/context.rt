@@ -34,7 +34,7 @@ fn is_exported(name: &str) -> bool
 #[derive(Drop)]
 pub enum Found<'a> {
     /// A value that is held there.
-    Held(&'a Value),
+    Value(&'a Value),
     /// A scope's loop, by the number of its record.
     Loop(usize),
 }
@@ -45,7 +45,7 @@ impl Found<'_> {
         ensures { OkOrOutOfMemory result (λ v. v ≡ meant_by state self.now) }
     {
         match self {
-            Found::Held(value) => value.share(),
+            Found::Value(value) => value.share(),
             Found::Loop(number) => Ok(Value::loop_record(state, *number)),
         }
     }
@@ -117,13 +117,13 @@ impl Frame {
         ensures { IsFoundIn (R.records records.now) name.now (self.now ∷ []) result }
     {
         if let Some(own) = self.locals.get(name) {
-            return Ok(Some(Found::Held(own)));
+            return Ok(Some(Found::Value(own)));
         }
         if let Some(number) = self.named_loop(name.as_str()) {
             return Ok(Some(Found::Loop(number)));
         }
         match self.context_member(name.as_str(), records)? {
-            Some(member) => Ok(Some(Found::Held(member))),
+            Some(member) => Ok(Some(Found::Value(member))),
             None => Ok(None),
         }
     }

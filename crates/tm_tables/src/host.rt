@@ -1,7 +1,7 @@
 //! What the machine asks of the environment and the objects of the caller.
 ghost use Rattle.std.specs.Prelude.{◌≡◌, List, Some, None, MatchOption, IsSomeAnd, slice_get};
 ghost use Rattle.tm_syntax.specs.declared.instruction.Instruction.{Instruction};
-ghost use Rattle.tm_meaning.specs.World.{Host as Meaning, template_at, card_at};
+ghost use Rattle.tm_meaning.specs.World.{HostValue as Meaning, template_at, card_at};
 ghost use Rattle.tm_meaning.specs.declared.stream.StreamId.{StreamId as Stream};
 ghost use Rattle.tm_meaning.specs.Calls.{is_required};
 ghost use Rattle.tm_tables.specs.Stated.{IsCalled};

@@ -8,23 +8,23 @@ use Rattle.tm_values.specs.declared.undefined.UndefinedUse.{UndefinedUse}
 use Rattle.tm_values.specs.declared.undefined.UndefinedUse.TheVariants.{Emission, Iteration, Member, Truth, Comparison, Containment, Slice, KeywordSpread, ItemSpread, Arithmetic}
 
 -- the kind of the error, or none where the use goes on
-abbrev pub Refusal : Type 0
-Refusal = Option ErrorKind
+abbrev pub UndefinedRefusal : Type 0
+UndefinedRefusal = Option ErrorKind
 
-abbrev pub fails : Refusal
+abbrev pub fails : UndefinedRefusal
 fails = Some UndefinedError
 
-abbrev pub invalid : Refusal
+abbrev pub invalid : UndefinedRefusal
 invalid = Some InvalidOperation
 
-abbrev pub by_behavior : Refusal → Refusal → Refusal → Refusal → UndefinedBehavior → Refusal
+abbrev pub by_behavior : UndefinedRefusal → UndefinedRefusal → UndefinedRefusal → UndefinedRefusal → UndefinedBehavior → UndefinedRefusal
 by_behavior lenient chainable semi_strict strict Lenient = lenient
 by_behavior lenient chainable semi_strict strict Chainable = chainable
 by_behavior lenient chainable semi_strict strict SemiStrict = semi_strict
 by_behavior lenient chainable semi_strict strict Strict = strict
 
 -- a row for each use: under Lenient, Chainable, SemiStrict and Strict
-abbrev pub ordinary_refusal : UndefinedUse → UndefinedBehavior → Refusal
+abbrev pub ordinary_refusal : UndefinedUse → UndefinedBehavior → UndefinedRefusal
 ordinary_refusal Emission = by_behavior None None fails fails
 ordinary_refusal Iteration = by_behavior None None fails fails
 ordinary_refusal Member = by_behavior fails None fails fails
@@ -37,11 +37,11 @@ ordinary_refusal ItemSpread = by_behavior None None None None
 ordinary_refusal Arithmetic = by_behavior invalid invalid invalid invalid
 
 -- the silent undefined never fails in emission and truth, and is ordinary elsewhere
-abbrev pub silent_refusal : UndefinedUse → UndefinedBehavior → Refusal
+abbrev pub silent_refusal : UndefinedUse → UndefinedBehavior → UndefinedRefusal
 silent_refusal Emission b = None
 silent_refusal Truth b = None
 silent_refusal purpose b = ordinary_refusal purpose b
 
-abbrev pub undefined_refusal : UndefinedBehavior → UndefinedUse → Bool → Refusal
+abbrev pub undefined_refusal : UndefinedBehavior → UndefinedUse → Bool → UndefinedRefusal
 undefined_refusal b purpose false = ordinary_refusal purpose b
 undefined_refusal b purpose true = silent_refusal purpose b

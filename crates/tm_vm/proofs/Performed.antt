@@ -10,7 +10,7 @@ use Rattle.tm_meaning.specs.Meaning.{none_waits}
 use Rattle.tm_meaning.specs.declared.stream.StreamId.{StreamId}
 use Rattle.tm_meaning.specs.Steps.{act, effect, pay, step}
 use Rattle.tm_syntax.specs.declared.instruction.Instruction.{Instruction}
-use Rattle.tm_state.specs.Answers.{Keeps}
+use Rattle.tm_state.specs.Answers.{KeepsIdAndFuel}
 use Rattle.tm_vm.proofs.Loop.{kept_then}
 use Rattle.tm_meaning.specs.declared.base.Base.{Base}
 use Rattle.tm_parts.proofs.Pieces.{appends_nothing, beginning_nothing}
@@ -18,8 +18,8 @@ use Rattle.tm_parts.specs.declared.halt.Halt.{Halt}
 use Rattle.tm_parts.specs.declared.halt.Halt.TheVariants as halt
 use Rattle.tm_meaning.specs.World.{World, Good, block_of, choose}
 use Rattle.tm_state.specs.State.{runs_block, saved_of}
-use Rattle.tm_vm.specs.Answers.{Depths, Did, Enters, entered, OneDeeper, Performs, Writes, Silently, Opens, Shifts, Needs, SameScopes, NoFewer, Stays, output}
-use Rattle.tm_vm.specs.declared.flow.Entry.{Entry}
+use Rattle.tm_vm.specs.Answers.{Depths, Did, Enters, entered, OneDeeper, Performs, Writes, Silently, Opens, Shifts, Needs, SameScopes, NoFewer, KeepsBaseScopes, output}
+use Rattle.tm_vm.specs.declared.flow.NestedRun.{NestedRun}
 use Rattle.tm_vm.specs.declared.flow.Flow.{Flow}
 use Rattle.tm_vm.specs.declared.flow.Flow.TheVariants as flow
 
@@ -27,7 +27,7 @@ nothing_written : {n : Next} {c : Config} (told : Option (List ℕ)) → n ≡ M
 nothing_written {c = c} told at =
     (at ∙ ap (λ t. More t c) (sym (ap output at)), subst (λ t. Appends told told t) (sym (ap output at)) (appends_nothing told))
 
-stays : (f : Base) (old new : World) → SameScopes old new → Stays f old new
+stays : (f : Base) (old new : World) → SameScopes old new → KeepsBaseScopes f old new
 stays f old new same = (λ h. omega (arith, h, same.0), same.1)
 
 pub silent : {limit : ℕ} {f : Base} {n : Next} {old new : Config} {told : Option (List ℕ)} {faults : ℕ} (result : Result Flow Halt) → Silently n old new result
@@ -58,7 +58,7 @@ still {old = old} {new = new} result s =
     let same = s.same_scopes.0 in
     record { did = s.did; kept = s.kept; no_fewer = (omega (arith, same), s.same_scopes.1); same_stream = s.same_stream }
 
-stays_over : (f : Base) (old new : World) → NoFewer old new → Stays f old new
+stays_over : (f : Base) (old new : World) → NoFewer old new → KeepsBaseScopes f old new
 stays_over f old new more = let long = more.0 in (λ h. omega (arith, h, long), more.1)
 
 pub opened : {limit : ℕ} {f : Base} {n : Next} {old new : Config} {told : Option (List ℕ)} {faults : ℕ} (result : Result Flow Halt) → Opens n old new result
@@ -115,7 +115,7 @@ needed {f = f} {n = n} {old = old} {new = new} {told = told} (Err (halt.Fault ch
     record { did = (s.did, beginning_nothing told (output n)); counted = refl; kept = s.kept; depths = stays_over f old.world new.world s.deepens.0; same_stream = s.same_stream }
 
 -- one that needs a run, which is boxed
-pub boxed : {limit : ℕ} {n : Next} {old new : Config} (e : Entry) (b : Box Entry) → b.value ≡ e → Enters e new n → Keeps old.world new.world → OneDeeper limit e old.world new.world
+pub boxed : {limit : ℕ} {n : Next} {old new : Config} (e : NestedRun) (b : Box NestedRun) → b.value ≡ e → Enters e new n → KeepsIdAndFuel old.world new.world → OneDeeper limit e old.world new.world
     → new.run.stream ≡ old.run.stream → Needs limit n old new (Ok (flow.Enter b))
 boxed {limit = limit} {n = n} {old = old} {new = new} e b same enters kept deeper stream = record {
   did = subst (λ x. Enters x new n) (sym same) enters;
@@ -125,7 +125,7 @@ boxed {limit = limit} {n = n} {old = old} {new = new} e b same enters kept deepe
 }
 
 -- a block that is run in place
-same_entry : (e d : Entry) (b : World) (c : Config) → e ≡ d → d.saved ≡ saved_of b → (n : Next) → n ≡ entered d b c → Enters e c n
+same_entry : (e d : NestedRun) (b : World) (c : Config) → e ≡ d → d.saved ≡ saved_of b → (n : Next) → n ≡ entered d b c → Enters e c n
 same_entry e d b c same saved n at = subst (λ x. Enters x c n) (sym same) (b, saved, at)
 
 chosen : (b : Bool) (x y : Unit {0} → Next) → b ≡ true → choose b x y ≡ x tt
@@ -136,12 +136,12 @@ both : (a b : Bool) → a ≡ true → b ≡ true → a && b ≡ true
 both true b d e = e
 both false b d e = absurd cc
 
-pub block_entered : (p : Program) (f : Base) (old : Config) (x : List ℕ) (s : StreamId) (e : Entry) (new : Config) (w : World) → none_waits old.run.parent ≡ true → audible f old ≡ true
+pub block_entered : (p : Program) (f : Base) (old : Config) (x : List ℕ) (s : StreamId) (e : NestedRun) (new : Config) (w : World) → none_waits old.run.parent ≡ true → audible f old ≡ true
     → enter_block p.host x old.world ≡ runs_block s old.world w → new ≡ record { run = record old.run { place = old.run.place + 1 }; captures = old.captures; world = w }
     → e ≡ record { stream = s; heard = true; value = false; wrap = None; saved = saved_of old.world }
     → Enters e new (call_block_of p f x old)
 block_entered p f old x s e new w waits heard enters moved is =
-    let d : Entry = record { stream = s; heard = true; value = false; wrap = None; saved = saved_of old.world } in
+    let d : NestedRun = record { stream = s; heard = true; value = false; wrap = None; saved = saved_of old.world } in
     let call : Call = record { callee = whole s; undo = of_block old.world; wrap = None } in
     let mid : Config = record { run = record old.run { place = old.run.place + 1 }; captures = old.captures; world = w } in
     let goes : call_block_of p f x old ≡ entered d old.world mid =
@@ -163,7 +163,7 @@ abbrev paid_for : Config → ℕ → Config
 paid_for c left = record c { world = record c.world { fuel = left } }
 
 step_paid : {limit : ℕ} {told now : Option (List ℕ)} {faults count : ℕ} (p : Program) (f : Base) (x : Instruction) (old new : Config) (result : Result Flow Halt) (left : ℕ)
-    → slice_get (p.code old.run.stream) old.run.place ≡ Some x → pay x old.world ≡ Good tt (paid_for old left).world → Keeps old.world (paid_for old left).world
+    → slice_get (p.code old.run.stream) old.run.place ≡ Some x → pay x old.world ≡ Good tt (paid_for old left).world → KeepsIdAndFuel old.world (paid_for old left).world
     → Performs limit f (effect p f x (paid_for old left)) (paid_for old left) new told now faults count result → Performs limit f (step p f old) old new told now faults count result
 step_paid {limit = limit} {told = told} {now = now} p f x old new result left found paid kept h =
     let same : step p f old ≡ effect p f x (paid_for old left) =
@@ -178,10 +178,10 @@ step_paid {limit = limit} {told = told} {now = now} p f x old new result left fo
 
 -- an instruction did its part, behind its charge
 pub step_done : {limit : ℕ} {told now : Option (List ℕ)} {faults count : ℕ} (p : Program) (f : Base) (x : Instruction) (old mid new : Config) (result : Result Flow Halt)
-    → slice_get (p.code old.run.stream) old.run.place ≡ Some x → pay x old.world ≡ Good tt mid.world → Keeps old.world mid.world → mid ≡ record old { world = record old.world { fuel = mid.world.fuel } }
+    → slice_get (p.code old.run.stream) old.run.place ≡ Some x → pay x old.world ≡ Good tt mid.world → KeepsIdAndFuel old.world mid.world → mid ≡ record old { world = record old.world { fuel = mid.world.fuel } }
     → Performs limit f (effect p f x mid) mid new told now faults count result → Performs limit f (step p f old) old new told now faults count result
 step_done {limit = limit} {told = told} {now = now} {faults = faults} {count = count} p f x old mid new result found paid kept rest h =
-    step_paid p f x old new result mid.world.fuel found (paid ∙ ap (λ (c : Config). Good tt c.world) rest) (subst (λ (c : Config). Keeps old.world c.world) rest kept)
+    step_paid p f x old new result mid.world.fuel found (paid ∙ ap (λ (c : Config). Good tt c.world) rest) (subst (λ (c : Config). KeepsIdAndFuel old.world c.world) rest kept)
     (subst (λ (c : Config). Performs limit f (effect p f x c) c new told now faults count result) rest h)
 
 -- what stands at a place of a list

@@ -9,7 +9,7 @@ use Rattle.tm_syntax.specs.declared.instruction.Instruction.TheVariants as i
 use Rattle.tm_syntax.specs.declared.instruction.LoopPlace.{LoopPlace}
 use Rattle.tm_syntax.specs.declared.tree.BinaryOperator.TheVariants as binaries
 use Rattle.tm_syntax.specs.declared.tree.UnaryOperator.TheVariants as unaries
-use Rattle.tm_meaning.specs.World.{choose, World, Loop, Host, Res, Good, Bad, answered, emitted, looked_up, escape_for, items_over, items_of, set_member, open_loop, top_mark, top_loop, push, plain}
+use Rattle.tm_meaning.specs.World.{choose, World, Loop, HostValue, Res, Good, Bad, answered, emitted, looked_up, escape_for, items_over, unpacked_items, set_member, open_loop, top_mark, top_loop, push, plain}
 use Rattle.tm_meaning.specs.Calls.{Asked, has, refused, runs, recurs, call_named, call_first, call_innermost, enter_block}
 use Rattle.tm_meaning.specs.Meaning.{none_waits, truth, applied_unary, operated, attribute, item_at, slice_of}
 use Rattle.tm_meaning.specs.Instructions.{replaces_one, replaces_two, list_on, on_count, count_in, on_truth, iterate_with, end_capture_with, pop_auto_escape_with, is_no_loop, on_loop, pop_loop_with, returned, returns, with_text}
@@ -94,7 +94,7 @@ written_adds n c d f t same = choose_all (Adds n c) (ends_adds n c) (audible f d
 listed : (n k : ℕ) (us : List Val) (c : Config) → Adds n c (list_on k us c)
 listed n k us c = on_taken_all (Adds n c) (ends_adds n c) (taken k [] us) c.world _ (λ vs rest. none_more n c)
 
-on_truth_adds : (host : Host) (c : Config) (first other : Val → List Val → World → Next) → ((v : Val) (vs : List Val) (w : World) → Adds 1 c (first v vs w)) → ((v : Val) (vs : List Val) (w : World) → Adds 1 c (other v vs w)) →
+on_truth_adds : (host : HostValue) (c : Config) (first other : Val → List Val → World → Next) → ((v : Val) (vs : List Val) (w : World) → Adds 1 c (first v vs w)) → ((v : Val) (vs : List Val) (w : World) → Adds 1 c (other v vs w)) →
     Adds 1 c (on_truth host c (λ b v vs w. choose b (λ _. first v vs w) (λ _. other v vs w)))
 on_truth_adds host c first other h k =
     on_top_all (Adds 1 c) (ends_adds 1 c) c.run.operands c.world _ (λ v vs. after_all (Adds 1 c) (ends_adds 1 c) (truth host v c.world) _ (λ b w.
@@ -193,7 +193,7 @@ adds p f i.FastRecurse c = on_top_all (Adds 1 c) (ends_adds 1 c) c.run.operands 
 adds p f (i.CallBlock b) c =
     choose_all (Adds 1 c) (ends_adds 1 c) (none_waits c.run.parent && audible f c) _ _ (asked_in_place_adds p f c c.run.operands (enter_block p.host b c.world)) (none_more 1 c)
 adds p f (i.StoreLocal x) c = on_top_all (Adds 1 c) (ends_adds 1 c) c.run.operands c.world _ (λ v vs. none_more 1 c)
-adds p f (i.UnpackList n) c = on_top_all (Adds 1 c) (ends_adds 1 c) c.run.operands c.world _ (λ v vs. after_all (Adds 1 c) (ends_adds 1 c) (items_of n v c.world) _ (λ xs w. none_more 1 c))
+adds p f (i.UnpackList n) c = on_top_all (Adds 1 c) (ends_adds 1 c) c.run.operands c.world _ (λ v vs. after_all (Adds 1 c) (ends_adds 1 c) (unpacked_items n v c.world) _ (λ xs w. none_more 1 c))
 adds p f (i.SetAttr x) c =
     on_top_all (Adds 1 c) (ends_adds 1 c) c.run.operands c.world _ (λ o vs. on_top_all (Adds 1 c) (ends_adds 1 c) vs c.world _ (λ v rest.
     after_all (Adds 1 c) (ends_adds 1 c) (set_member x v o c.world) _ (λ _ w. none_more 1 c)))

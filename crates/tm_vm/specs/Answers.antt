@@ -3,7 +3,7 @@ use Rattle.std.specs.Prelude.{◌≡◌, ◌+◌, ◌<◌, ◌≤◌, ◌^◌, �
 use Rattle.std.specs.Io.KnownBytes.{Appends}
 use Rattle.tm_meaning.specs.Memory.{is_want_of_memory}
 use Rattle.tm_syntax.specs.declared.instruction.Instruction.{Instruction}
-use Rattle.tm_meaning.specs.World.{World, Host, depth}
+use Rattle.tm_meaning.specs.World.{World, HostValue, depth}
 use Rattle.tm_meaning.specs.Calls.{whole, of_block}
 use Rattle.tm_meaning.specs.Machine.{Return, Activation, Capture, Config, End, Finished, Failed, Stuck, Next, More, Over, Nest, Program, base_of, start, recursion, place_of_loop}
 use Rattle.tm_state.specs.declared.calls.Recursion.{Recursion}
@@ -15,14 +15,14 @@ use Rattle.tm_output.specs.Counts.{AppendsBeginning}
 use Rattle.tm_parts.specs.Halts.{faults_after}
 use Rattle.tm_parts.specs.declared.halt.Halt.{Halt}
 use Rattle.tm_parts.specs.declared.halt.Halt.TheVariants as halt
-use Rattle.tm_state.specs.Answers.{Keeps}
+use Rattle.tm_state.specs.Answers.{KeepsIdAndFuel}
 use Rattle.tm_state.specs.State.{saved_of}
-use Rattle.tm_vm.specs.declared.flow.Entry.{Entry}
+use Rattle.tm_vm.specs.declared.flow.NestedRun.{NestedRun}
 use Rattle.tm_vm.specs.declared.flow.Flow.{Flow}
 use Rattle.tm_vm.specs.declared.flow.Flow.TheVariants as flow
 
 -- the environment's meaning and the instructions of its streams
-abbrev pub program : Host → (StreamId → List Instruction) → Program
+abbrev pub program : HostValue → (StreamId → List Instruction) → Program
 program host code = record { host = host; code = code }
 
 -- ---------------------------------------------------------------- ends
@@ -38,8 +38,8 @@ EndsAs (Ok _) captures w Holds = Holds (Finished captures w)
 EndsAs (Err why) captures w Holds = HaltsAs why w Holds
 
 -- From here the machine comes to this end, by when the writer has got the text.
-abbrev pub Comes : Program → Base → Config → Option (List ℕ) → Option (List ℕ) → End → Type 0
-Comes p f c told now e = (text : List ℕ) × Appends told now text × Reaches p f [] c (final text e)
+abbrev pub ReachesEnd : Program → Base → Config → Option (List ℕ) → Option (List ℕ) → End → Type 0
+ReachesEnd p f c told now e = (text : List ℕ) × Appends told now text × Reaches p f [] c (final text e)
 
 -- ---------------------------------------------------------------- steps
 -- what a step writes itself
@@ -49,12 +49,12 @@ output (Over e) = []
 output (Nest f c back) = []
 
 -- the run that is needed first, where the world before it was b, and the configuration is c
-abbrev pub entered : Entry → World → Config → Next
+abbrev pub entered : NestedRun → World → Config → Next
 entered e b c =
     Nest (base_of e.heard c.captures c.world) (start (whole e.stream) c.captures c.world)
     (record { run = c.run; call = record { callee = whole e.stream; undo = of_block b; wrap = e.wrap }; value = e.value })
 
-abbrev pub Enters : Entry → Config → Next → Type 0
+abbrev pub Enters : NestedRun → Config → Next → Type 0
 Enters e c n = (b : World) × (e.saved ≡ saved_of b) × (n ≡ entered e b c)
 
 -- A step was done, of which the writer got the text; or it first needs a run of its own; or the run is over by it; or it halted, and the writer got a beginning.
@@ -73,27 +73,27 @@ abbrev pub NoFewer : World → World → Type 0
 NoFewer old new = (length old.scopes.frames ≤ length new.scopes.frames) × (new.scopes.outer ≡ old.scopes.outer)
 
 -- No scope that stood before the run is left, and they stand where they stood.
-abbrev pub Stays : Base → World → World → Type 0
-Stays f old new = (f.scopes ≤ length old.scopes.frames → f.scopes ≤ length new.scopes.frames) × (new.scopes.outer ≡ old.scopes.outer)
+abbrev pub KeepsBaseScopes : Base → World → World → Type 0
+KeepsBaseScopes f old new = (f.scopes ≤ length old.scopes.frames → f.scopes ≤ length new.scopes.frames) × (new.scopes.outer ≡ old.scopes.outer)
 
 -- There is a scope more, within the limit, for a run that is needed first. What it saves says how many there were, and where they stood.
-abbrev pub OneDeeper : ℕ → Entry → World → World → Type 0
+abbrev pub OneDeeper : ℕ → NestedRun → World → World → Type 0
 OneDeeper limit e old new =
     (length new.scopes.frames ≡ length old.scopes.frames + 1) × (new.scopes.outer ≡ old.scopes.outer) ×
     (e.saved.scopes ≡ length old.scopes.frames) × (e.saved.outer ≡ old.scopes.outer) × (depth new.scopes ≤ limit)
 
 -- How the scopes lie behind a step: none of before is left; there is one more, within the limit, where a run of its own is needed; and a run that is over has closed what it opened.
 abbrev pub Depths : ℕ → Base → Result Flow Halt → World → World → Type 0
-Depths limit f (Ok flow.GoOn) old new = Stays f old new
-Depths limit f (Ok flow.Done) old new = Stays f old new × (f.scopes ≡ length new.scopes.frames)
+Depths limit f (Ok flow.GoOn) old new = KeepsBaseScopes f old new
+Depths limit f (Ok flow.Done) old new = KeepsBaseScopes f old new × (f.scopes ≡ length new.scopes.frames)
 Depths limit f (Ok (flow.Enter e)) old new = OneDeeper limit e.value old new
-Depths limit f (Err why) old new = Stays f old new
+Depths limit f (Err why) old new = KeepsBaseScopes f old new
 
 -- An instruction, or a step, did what its definition says: by its answer, with the writer that had got `told` and has got `now`, and whose count of faults was `faults` and is `count`.
 pub record Performs (limit : ℕ) (f : Base) (n : Next) (old new : Config) (told now : Option (List ℕ)) (faults count : ℕ) (result : Result Flow Halt) : Type 0 where
   pub did : Did result told now new n
   pub counted : count ≡ faults_after result faults
-  pub kept : Keeps old.world new.world
+  pub kept : KeepsIdAndFuel old.world new.world
   pub depths : Depths limit f result old.world new.world
   pub same_stream : new.run.stream ≡ old.run.stream
 
@@ -127,7 +127,7 @@ Wrote (Err why) told now c n = HaltsAs why c.world (λ e. n ≡ Over e) × Appen
 pub record Writes (n : Next) (old new : Config) (told now : Option (List ℕ)) (faults count : ℕ) (result : Result Flow Halt) : Type 0 where
   pub did : Wrote result told now new n
   pub counted : count ≡ faults_after result faults
-  pub kept : Keeps old.world new.world
+  pub kept : KeepsIdAndFuel old.world new.world
   pub same_scopes : SameScopes old.world new.world
   pub same_stream : new.run.stream ≡ old.run.stream
 
@@ -142,22 +142,22 @@ Quietly (Err (halt.Fault chain)) c n = is_want_of_memory chain ≡ false → n �
 
 pub record Silently (n : Next) (old new : Config) (result : Result Flow Halt) : Type 0 where
   pub did : Quietly result new n
-  pub kept : Keeps old.world new.world
+  pub kept : KeepsIdAndFuel old.world new.world
   pub same_scopes : SameScopes old.world new.world
   pub same_stream : new.run.stream ≡ old.run.stream
 
 -- And of one that may open a scope, and leaves none.
 pub record Opens (n : Next) (old new : Config) (result : Result Flow Halt) : Type 0 where
   pub did : Quietly result new n
-  pub kept : Keeps old.world new.world
+  pub kept : KeepsIdAndFuel old.world new.world
   pub no_fewer : NoFewer old.world new.world
   pub same_stream : new.run.stream ≡ old.run.stream
 
 -- And of one that may leave a scope that the run opened.
 pub record Shifts (f : Base) (n : Next) (old new : Config) (result : Result Flow Halt) : Type 0 where
   pub did : Quietly result new n
-  pub kept : Keeps old.world new.world
-  pub stays : Stays f old.world new.world
+  pub kept : KeepsIdAndFuel old.world new.world
+  pub stays : KeepsBaseScopes f old.world new.world
   pub same_stream : new.run.stream ≡ old.run.stream
 
 -- And of one that may need a run of its own.
@@ -179,7 +179,7 @@ Deepens limit (Err (halt.Fault chain)) old new = NoFewer old new × (is_want_of_
 
 pub record Needs (limit : ℕ) (n : Next) (old new : Config) (result : Result Flow Halt) : Type 0 where
   pub did : Needed result new n
-  pub kept : Keeps old.world new.world
+  pub kept : KeepsIdAndFuel old.world new.world
   pub deepens : Deepens limit result old.world new.world
   pub same_stream : new.run.stream ≡ old.run.stream
 
@@ -213,6 +213,6 @@ abbrev pub CanGoOn : Activation → Type 0
 CanGoOn run = run.place < 2 ^ 64 - 1
 
 -- Goes on at a place where the topmost value has this truth, and leaves it there; else pops it.
-abbrev pub jump_or_pop_of : Host → Bool → ℕ → Config → Next
+abbrev pub jump_or_pop_of : HostValue → Bool → ℕ → Config → Next
 jump_or_pop_of host true = jump_if_true_or_pop_of host
 jump_or_pop_of host false = jump_if_false_or_pop_of host

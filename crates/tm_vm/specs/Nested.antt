@@ -12,26 +12,26 @@ use Rattle.tm_meaning.specs.declared.base.Base.{Base}
 use Rattle.tm_output.specs.Counts.{AppendsBeginning}
 use Rattle.tm_parts.specs.declared.halt.Halt.{Halt}
 use Rattle.tm_parts.specs.declared.halt.Halt.TheVariants as halt
-use Rattle.tm_vm.specs.Answers.{Comes, HaltsAs}
+use Rattle.tm_vm.specs.Answers.{ReachesEnd, HaltsAs}
 use Rattle.tm_state.specs.State.{put_back}
 use Rattle.tm_state.specs.declared.saved.Saved.{Saved}
-use Rattle.tm_vm.specs.declared.flow.Entry.{Entry}
+use Rattle.tm_vm.specs.declared.flow.NestedRun.{NestedRun}
 
 -- what the run stands on, and where it starts, where the configuration is c
-abbrev pub base_in : Entry → Config → Base
+abbrev pub base_in : NestedRun → Config → Base
 base_in e c = base_of e.heard c.captures c.world
 
-abbrev pub start_in : Entry → Config → Config
+abbrev pub start_in : NestedRun → Config → Config
 start_in e c = start (whole e.stream) c.captures c.world
 
 -- What its end leads to, behind what is put back, for the run that waits: as it was, or with the captured text on top; or that ends so too.
-abbrev pub behind : Entry → Activation → End → Next
+abbrev pub behind : NestedRun → Activation → End → Next
 behind e r (Finished ks w) = back_with e.value r ks (put_back e.saved w)
 behind e r (Failed chain w) = Over (Failed (wrapped e.wrap chain) (put_back e.saved w))
 behind e r (Stuck w) = stuck (put_back e.saved w)
 
 -- The run was done, the writer got its text, and the run that waited goes on.
-pub record Went (p : Program) (e : Entry) (old new : Config) (told now : Option (List ℕ)) : Type 0 where
+pub record Went (p : Program) (e : NestedRun) (old new : Config) (told now : Option (List ℕ)) : Type 0 where
   pub text : List ℕ
   pub captures : List Capture
   pub world : World
@@ -44,13 +44,13 @@ abbrev pub IsBack : Saved → World → Type 0
 IsBack saved w = (length w.scopes.frames ≡ saved.scopes) × (w.scopes.outer ≡ saved.outer)
 
 -- The run came to an end that leads to the end of the run that waits.
-abbrev pub EndsIn : Program → Entry → Config → Option (List ℕ) → Option (List ℕ) → End → Type 0
-EndsIn p e old told now x = (inner : End) × Comes p (base_in e old) (start_in e old) told now inner × (behind e old.run inner ≡ Over x)
+abbrev pub EndsIn : Program → NestedRun → Config → Option (List ℕ) → Option (List ℕ) → End → Type 0
+EndsIn p e old told now x = (inner : End) × ReachesEnd p (base_in e old) (start_in e old) told now inner × (behind e old.run inner ≡ Over x)
 
 -- The run was done, or the halt is the end that it leads to.
-abbrev pub Ran : Program → Entry → Config → Config → Option (List ℕ) → Option (List ℕ) → Result (Unit {0}) Halt → Type 0
-Ran p e old new told now (Ok _) = Went p e old new told now
-Ran p e old new told now (Err why) = HaltsAs why new.world (EndsIn p e old told now)
+abbrev pub RanNested : Program → NestedRun → Config → Config → Option (List ℕ) → Option (List ℕ) → Result (Unit {0}) Halt → Type 0
+RanNested p e old new told now (Ok _) = Went p e old new told now
+RanNested p e old new told now (Err why) = HaltsAs why new.world (EndsIn p e old told now)
 
 -- A kind is put before a fault, and touches neither the writer's failure nor what is stuck; no memory may be found for it.
 abbrev pub IsWrapped : Option Wrapping → Halt → Halt → Type 0
@@ -66,5 +66,5 @@ IsCaptured (Err halt.Stuck) old new = old.captures ≡ []
 IsCaptured (Err (halt.Fault chain)) old new = is_want_of_memory chain ≡ true
 
 -- What the writer has got is a beginning of all that the run writes.
-abbrev pub Begins : Program → Base → Config → Option (List ℕ) → Option (List ℕ) → Type 0
-Begins p f c told now = (o : Final) → Reaches p f [] c o → AppendsBeginning told now o.text
+abbrev pub WroteBeginning : Program → Base → Config → Option (List ℕ) → Option (List ℕ) → Type 0
+WroteBeginning p f c told now = (o : Final) → Reaches p f [] c o → AppendsBeginning told now o.text

@@ -4,12 +4,12 @@ ghost use Rattle.tm_meaning.specs.Machine.{goes};
 ghost use Rattle.tm_meaning.specs.Instructions.{call_function_of, call_method_of, call_block_of, fast_recurse_of};
 ghost use Rattle.tm_vm.specs.Answers.{program, recurses, CanGoOn, Silently, Opens, Needs};
 
-use crate::flow::{Entry, Flow};
+use crate::flow::{NestedRun, Flow};
 use crate::machine::Machine;
 use std::alloc::Global;
 use tm_meaning::Base;
 use tm_parts::Halt;
-use tm_state::{Outcome, Recursion};
+use tm_state::{CallResult, Recursion};
 use tm_syntax::{CaptureMode, Code, Name};
 use tm_tables::Host;
 use tm_values::{Error, ErrorKind, Value};
@@ -35,8 +35,8 @@ impl Machine<'_> {
             return Err(Halt::Stuck);
         };
         match self.state.call(alloc, host, name, args)? {
-            Outcome::Value(value) => self.replace(count, value),
-            Outcome::Recursion(recursion) => {
+            CallResult::Value(value) => self.replace(count, value),
+            CallResult::Recursion(recursion) => {
                 self.run.drop_operands(count);
                 self.captures.begin(alloc, CaptureMode::Capture)?;
                 self.recurse(alloc, host, code, recursion, true)
@@ -154,7 +154,7 @@ impl Machine<'_> {
             Ok(entered) => entered,
             Err(error) => return Err(Halt::Fault(error)),
         };
-        let entry = Entry {
+        let entry = NestedRun {
             stream,
             heard,
             value: false,

@@ -8,7 +8,7 @@ use tm_values::{Error, ErrorKind};
 
 /// A run that an instruction needs before the next.
 #[derive(Drop)]
-pub struct Entry {
+pub struct NestedRun {
     /// What runs.
     pub stream: StreamId,
     /// Whether its text is heard.
@@ -21,9 +21,9 @@ pub struct Entry {
     pub saved: Saved,
 }
 
-impl Entry {
+impl NestedRun {
     /// This, boxed; OutOfMemory where there is no memory for it.
-    pub(crate) fn boxed(self, alloc: Global) -> Result<Box<Entry>, Error>
+    pub(crate) fn boxed(self, alloc: Global) -> Result<Box<NestedRun>, Error>
         ensures ok { IfOk result (λ boxed. boxed.value ≡ self) }
         ensures kind { IfErr result (λ e. e ≡ ErrorKind.OutOfMemory ∷ []) }
     {
@@ -37,7 +37,7 @@ pub enum Flow {
     /// At its place.
     GoOn,
     /// Behind a run that is needed first. Boxed, since each step hands its answer on.
-    Enter(Box<Entry>),
+    Enter(Box<NestedRun>),
     /// Nowhere: its stream is at the end.
     Done,
 }

@@ -13,5 +13,5 @@ mod run;
 mod scopes;
 mod steps;
 
-pub use flow::{Entry, Flow};
+pub use flow::{NestedRun, Flow};
 pub use machine::Machine;

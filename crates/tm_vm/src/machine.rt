@@ -3,12 +3,12 @@ ghost use Rattle.std.specs.Prelude.{◌≡◌, ◌+◌, length, OnOk};
 ghost use Rattle.tm_meaning.specs.Calls.{whole};
 ghost use Rattle.tm_meaning.specs.Machine.{audible, base_of, start};
 ghost use Rattle.tm_parts.specs.Halts.{faults_after};
-ghost use Rattle.tm_vm.specs.Answers.{program, EndsAs, Comes, SameScopes, NoFewer};
-ghost use Rattle.tm_state.specs.Answers.{Keeps};
+ghost use Rattle.tm_vm.specs.Answers.{program, EndsAs, ReachesEnd, SameScopes, NoFewer};
+ghost use Rattle.tm_state.specs.Answers.{KeepsIdAndFuel};
 ghost use Rattle.tm_state.specs.State.{put_back};
-ghost use Rattle.tm_vm.specs.Nested.{Ran, Begins, IsBack, IsWrapped, IsCaptured, base_in, start_in};
+ghost use Rattle.tm_vm.specs.Nested.{RanNested, WroteBeginning, IsBack, IsWrapped, IsCaptured, base_in, start_in};
 
-use crate::flow::{Entry, Flow};
+use crate::flow::{NestedRun, Flow};
 use crate::run::Run;
 use std::alloc::Global;
 use std::marker::Model;
@@ -120,23 +120,23 @@ impl<'env> Machine<'env> {
         &mut self,
         alloc: Global,
         host: &H,
-        entry: Entry,
+        entry: NestedRun,
         writer: &mut W,
     ) -> Result<(), Halt>
         requires scopes { entry.saved.scopes + 1 ≡ length self.old.world.scopes.frames }
         requires outer { entry.saved.outer ≡ self.old.world.scopes.outer }
-        ensures ran { Ran (program (H.meaning host.now) (H.code host.now)) entry self.old self.new
+        ensures ran { RanNested (program (H.meaning host.now) (H.code host.now)) entry self.old self.new
             (W.told writer.old) (W.told writer.new) result }
-        ensures beginning { Begins (program (H.meaning host.now) (H.code host.now))
+        ensures beginning { WroteBeginning (program (H.meaning host.now) (H.code host.now))
             (base_in entry self.old) (start_in entry self.old)
             (W.told writer.old) (W.told writer.new) }
         ensures faults { W.faults writer.new ≡ faults_after result (W.faults writer.old) }
-        ensures kept { Keeps self.old.world self.new.world }
+        ensures kept { KeepsIdAndFuel self.old.world self.new.world }
         ensures back { IsBack entry.saved self.new.world }
         ensures same_stream { self.new.run.stream ≡ self.old.run.stream }
         ensures same_loops { self.new.run.loops ≡ self.old.run.loops }
     {
-        let Entry {
+        let NestedRun {
             stream,
             heard,
             value,
@@ -211,14 +211,14 @@ impl<'env> Machine<'env> {
         writer: &mut W,
     ) -> Result<(), Halt>
         ensures ended { EndsAs result self.new.captures self.new.world
-            (Comes (program (H.meaning host.now) (H.code host.now))
+            (ReachesEnd (program (H.meaning host.now) (H.code host.now))
             (base_of heard self.old.captures self.old.world) self.old
             (W.told writer.old) (W.told writer.new)) }
-        ensures beginning { Begins (program (H.meaning host.now) (H.code host.now))
+        ensures beginning { WroteBeginning (program (H.meaning host.now) (H.code host.now))
             (base_of heard self.old.captures self.old.world) self.old
             (W.told writer.old) (W.told writer.new) }
         ensures faults { W.faults writer.new ≡ faults_after result (W.faults writer.old) }
-        ensures kept { Keeps self.old.world self.new.world }
+        ensures kept { KeepsIdAndFuel self.old.world self.new.world }
         ensures no_fewer { NoFewer self.old.world self.new.world }
         ensures closed { OnOk result (SameScopes self.old.world self.new.world) }
     {

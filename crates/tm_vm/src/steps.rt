@@ -3,7 +3,7 @@ ghost use Rattle.std.specs.Prelude.{◌≡◌, ◌+◌, [], ◌∷◌, OnOk, IfE
 ghost use Rattle.tm_meaning.specs.World.{Good, Bad};
 ghost use Rattle.tm_meaning.specs.Steps.{charge_of, pay, effect, finish, step};
 ghost use Rattle.tm_vm.specs.Answers.{program, CanGoOn, Performs, Finishes, Paid};
-ghost use Rattle.tm_state.specs.Answers.{Keeps};
+ghost use Rattle.tm_state.specs.Answers.{KeepsIdAndFuel};
 
 use crate::flow::Flow;
 use crate::machine::Machine;
@@ -114,7 +114,7 @@ impl Machine<'_> {
             × (pay instruction.now self.old.world ≡ Bad e self.new.world)) }
         ensures spent { OnOk result
             (self.new.world.fuel + charge_of instruction.now ≡ self.old.world.fuel) }
-        ensures kept { Keeps self.old.world self.new.world }
+        ensures kept { KeepsIdAndFuel self.old.world self.new.world }
         ensures rest { self.new ≡ record self.old {
           world = record self.old.world { fuel = self.new.world.fuel };
         } }

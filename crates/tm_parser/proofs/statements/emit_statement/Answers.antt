@@ -1,7 +1,7 @@
 use Rattle.std.proofs.Common.{sym, ap, ◌∙◌}
 use Rattle.tm_parser.specs.Statements as spec
 use Rattle.tm_parser.proofs.Calls.{called_with, is_called}
-use Rattle.tm_parser.proofs.statements.emitted.Goals as goal
+use Rattle.tm_parser.proofs.statements.emit_statement.Goals as goal
 
 pub unreachable-requires-in_default-pop : goal.unreachable-requires-in_default-pop
 unreachable-requires-in_default-pop c =
@@ -10,4 +10,4 @@ unreachable-requires-in_default-pop c =
 pub returns : goal.returns
 returns c =
     called_with _ _ _ _ _ _ _ (sym c.is_call_of_loop.ensures ∙ c.if-not-is_call_of_loop.false) (c.get.ensures ∙ sym c.into_inner.ensures ∙ c.in-Call.is) c.in-Some-Plain.ensures
-    ∙ ap spec.emitted c.get.ensures
+    ∙ ap spec.emit_statement c.get.ensures
