@@ -4,7 +4,8 @@ use Rattle.serde_json.specs.Data as json
 use Rattle.serde_json.specs.Written.{compact_text, comma_if}
 use Rattle.json.specs.Print.{quoted}
 use Rattle.tm_values.specs.Records.{RecordData, namespace_at}
-use Rattle.tm_values.specs.Val.{Val, undefined, none, boolean, number, text, list, map, keywords, exports, function, macro, loop, namespace, text_in, Vals, no_vals, val, Pairs, no_pairs, pair}
+use Rattle.tm_values.specs.Val.{Val, undefined, none, boolean, number, text, list, map, keywords, exports, function, macro, loop, namespace}
+use Rattle.tm_values.specs.Val.{text_in, Vals, no_vals, val, Pairs, no_pairs, pair}
 use Rattle.tm_definitions.specs.Printed.{entered}
 
 abbrev pub number_data : ℤ → json.Num

@@ -1,5 +1,6 @@
 -- Attributes and items of values.
-use Rattle.std.specs.Prelude.{ℕ, ◌+◌, ◌-◌, ◌==◌, pos, Bool, true, false, cond, List, [], ◌∷◌, length, Option, None, Some, Ok, nat_eq, slice_index_or, codes}
+use Rattle.std.specs.Prelude.{ℕ, ◌+◌, ◌-◌, ◌==◌, pos, Bool, true, false, cond, List, [], ◌∷◌, length, Option, None, Some, Ok, nat_eq}
+use Rattle.std.specs.Prelude.{slice_index_or, codes}
 use Rattle.std.specs.Char.{encode_utf8}
 use Rattle.std.specs.Cmp.Lexicographic.{pointwise}
 use Rattle.std.specs.Str.{chars}
@@ -10,7 +11,8 @@ use Rattle.tm_primitives.specs.Places.{place_of}
 use Rattle.tm_values.specs.Answer.{Answer, invalid}
 use Rattle.tm_values.specs.Map.{find}
 use Rattle.tm_values.specs.Records.{RecordData, LoopData, loop_at, namespace_at}
-use Rattle.tm_values.specs.Val.{MacroData, Val, undefined, none, boolean, number, text, list, map, keywords, exports, function, macro, loop, namespace, vals_of, list_of, entries_of, text_in}
+use Rattle.tm_values.specs.Val.{MacroData, Val, undefined, none, boolean, number, text, list, map, keywords, exports, function, macro, loop}
+use Rattle.tm_values.specs.Val.{namespace, vals_of, list_of, entries_of, text_in}
 use Rattle.tm_values.specs.declared.undefined.UndefinedBehavior.{UndefinedBehavior}
 use Rattle.tm_values.specs.declared.undefined.UndefinedUse.TheVariants as use_of
 

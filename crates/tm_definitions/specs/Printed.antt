@@ -2,7 +2,8 @@
 use Rattle.std.specs.Prelude.{ℕ, zero, suc, Bool, true, false, List, [], ◌∷◌, ◌++◌, Option, None, Some, codes, length, unwrap_or}
 use Rattle.std.specs.Fmt.{signed_decimal}
 use Rattle.tm_values.specs.Records.{RecordData, namespace_at}
-use Rattle.tm_values.specs.Val.{Val, undefined, none, boolean, number, text, list, map, keywords, exports, function, macro, loop, namespace, MacroData, Vals, no_vals, val, Pairs, no_pairs, pair, pairs_of}
+use Rattle.tm_values.specs.Val.{Val, undefined, none, boolean, number, text, list, map, keywords, exports, function, macro, loop, namespace}
+use Rattle.tm_values.specs.Val.{MacroData, Vals, no_vals, val, Pairs, no_pairs, pair, pairs_of}
 use Rattle.tm_definitions.specs.Texts.{quoted}
 use Rattle.tm_definitions.specs.Loops.{loop_text}
 

@@ -1,5 +1,6 @@
 -- What `range` answers: numbers by steps.
-use Rattle.std.specs.Prelude.{◌≡◌, ◌≢◌, ℕ, ℤ, pos, negsuc, ◌^◌, ◌<◌, nat_lt, Bool, true, false, not, ◌&&◌, cond, List, length, map as each, Option, None, Some, Ok, Err, slice_get, slice_index_or}
+use Rattle.std.specs.Prelude.{◌≡◌, ◌≢◌, ℕ, ℤ, pos, negsuc, ◌^◌, ◌<◌, nat_lt, Bool, true, false, not, ◌&&◌, cond, List, length, map as each}
+use Rattle.std.specs.Prelude.{Option, None, Some, Ok, Err, slice_get, slice_index_or}
 use Rattle.std.specs.List.{All, range_with_len}
 use Rattle.std.specs.Option.{unwrap_or}
 use Rattle.std.specs.Ordering.{int_eq}

@@ -3,7 +3,8 @@
 use Rattle.std.specs.Prelude.{ℕ, zero, suc, Bool, true, false, cond, ◌==◌, ℤ, pos, negsuc, ◌^◌, nat_lt, length, Ok, Err, is_some}
 use Rattle.tm_values.specs.Answer.{Answer, refused, invalid}
 use Rattle.tm_values.specs.Records.{RecordData, namespace_at, loop_at}
-use Rattle.tm_values.specs.Val.{Val, undefined, none, boolean, number, text, list, map, keywords, exports, function, macro, loop, namespace, Vals, no_vals, val, Pairs, no_pairs, pair}
+use Rattle.tm_values.specs.Val.{Val, undefined, none, boolean, number, text, list, map, keywords, exports, function, macro, loop, namespace}
+use Rattle.tm_values.specs.Val.{Vals, no_vals, val, Pairs, no_pairs, pair}
 use Rattle.tm_values.specs.declared.error.ErrorKind.TheVariants.{BadSerialization}
 use Rattle.tm_definitions.specs.Printed.{entered}
 use Rattle.tm_definitions.specs.declared.form.Form.{Form}

@@ -1,5 +1,6 @@
 -- A search for start delimiters by their first bytes.
-use Rattle.std.proofs.Common.{◌≡◌, ◌≢◌, ◌⊎◌, inl, inr, ℕ, zero, suc, ◌+◌, ◌-◌, ◌<◌, ◌≤◌, List, [], ◌∷◌, Bool, true, false, nat_eq, Option, Some, None, length, drop, take, get_or, refl, sym, ◌∙◌, ap, arith, length-drop}
+use Rattle.std.proofs.Common.{◌≡◌, ◌≢◌, ◌⊎◌, inl, inr, ℕ, zero, suc, ◌+◌, ◌-◌, ◌<◌, ◌≤◌, List, [], ◌∷◌, Bool, true, false, nat_eq, Option}
+use Rattle.std.proofs.Common.{Some, None, length, drop, take, get_or, refl, sym, ◌∙◌, ap, arith, length-drop}
 use Rattle.std.specs.Prelude.{◌||◌, ◌&&◌, ◌==◌, slice_index, option_map, is_some, if◌then◌else◌}
 use Rattle.std.specs.List.{starts_with}
 use Rattle.std.specs.Cmp.Lexicographic.{pointwise}
@@ -52,21 +53,36 @@ one_of s c = is_byte3 (slice_index s.block_start 0) (slice_index s.variable_star
 
 -- where a start delimiter stands, the first byte of one stands
 begins_by : (s : Syntax) (bs : List ℕ) → HasAll s → begins s bs ≡ true → (0 < length bs) × (one_of s (slice_index bs 0) ≡ true)
-begins_by s bs u h = by_word (either (starts_with nat_eq bs s.block_start) (starts_with nat_eq bs s.variable_start) (starts_with nat_eq bs s.comment_start) h)
+begins_by s bs u h = by_word (either (starts_with nat_eq bs s.block_start) (starts_with nat_eq bs s.variable_start)
+    (starts_with nat_eq bs s.comment_start) h)
   where
-    by_word : (starts_with nat_eq bs s.block_start ≡ true) ⊎ ((starts_with nat_eq bs s.variable_start ≡ true) ⊎ (starts_with nat_eq bs s.comment_start ≡ true)) → (0 < length bs) × (one_of s (slice_index bs 0) ≡ true)
+    by_word : (starts_with nat_eq bs s.block_start
+        ≡ true) ⊎ ((starts_with nat_eq bs s.variable_start ≡ true) ⊎ (starts_with nat_eq bs s.comment_start ≡ true)) →
+        (0 < length bs) × (one_of s (slice_index bs 0) ≡ true)
     by_word (inl k) =
-        let f = first_byte bs s.block_start u.block_start k in
-        (f.0, ap (λ t. t || (slice_index bs 0 == slice_index s.variable_start 0) || (slice_index bs 0 == slice_index s.comment_start 0)) (eq-eqb _ _ f.1))
+        let f = first_byte bs s.block_start u.block_start k in (
+          f.0,
+          ap (λ t. t || (slice_index bs 0 == slice_index s.variable_start 0) || (slice_index bs 0 == slice_index s.comment_start 0))
+              (eq-eqb _ _ f.1),
+        )
     by_word (inr (inl k)) =
-        let f = first_byte bs s.variable_start u.variable_start k in
-        (f.0, ap (λ t. (slice_index bs 0 == slice_index s.block_start 0) || t || (slice_index bs 0 == slice_index s.comment_start 0)) (eq-eqb _ _ f.1) ∙ middle_or (slice_index bs 0 == slice_index s.block_start 0) (slice_index bs 0 == slice_index s.comment_start 0))
+        let f = first_byte bs s.variable_start u.variable_start k in (
+          f.0,
+          ap (λ t. (slice_index bs 0 == slice_index s.block_start 0) || t || (slice_index bs 0 == slice_index s.comment_start 0))
+              (eq-eqb _ _ f.1) ∙ middle_or (slice_index bs 0 == slice_index s.block_start 0)
+              (slice_index bs 0 == slice_index s.comment_start 0),
+        )
     by_word (inr (inr k)) =
-        let f = first_byte bs s.comment_start u.comment_start k in
-        (f.0, ap (λ t. (slice_index bs 0 == slice_index s.block_start 0) || (slice_index bs 0 == slice_index s.variable_start 0) || t) (eq-eqb _ _ f.1) ∙ last_or (slice_index bs 0 == slice_index s.block_start 0) (slice_index bs 0 == slice_index s.variable_start 0))
+        let f = first_byte bs s.comment_start u.comment_start k in (
+          f.0,
+          ap (λ t. (slice_index bs 0 == slice_index s.block_start 0) || (slice_index bs 0 == slice_index s.variable_start 0) || t)
+              (eq-eqb _ _ f.1) ∙ last_or (slice_index bs 0 == slice_index s.block_start 0)
+              (slice_index bs 0 == slice_index s.variable_start 0),
+        )
 
 -- none stands before the first such byte
-none_before : (s : Syntax) (bs rest : List ℕ) (from n : ℕ) → HasAll s → rest ≡ take (length bs - from) (drop from bs) → Nowhere (BeginsAt s bs) 0 from → Nowhere (Passes (one_of s) rest) 0 n → n ≤ length bs - from → Nowhere (BeginsAt s bs) 0 (from + n)
+none_before : (s : Syntax) (bs rest : List ℕ) (from n : ℕ) → HasAll s → rest ≡ take (length bs - from) (drop from bs) →
+    Nowhere (BeginsAt s bs) 0 from → Nowhere (Passes (one_of s) rest) 0 n → n ≤ length bs - from → Nowhere (BeginsAt s bs) 0 (from + n)
 none_before s bs rest from n u e old h fits k low high p = by_place (suc k - from) refl
   where
     by_place : (j : ℕ) → suc k - from ≡ j → ⊥
@@ -74,7 +90,8 @@ none_before s bs rest from n u e old h fits k low high p = by_place (suc k - fro
     by_place (suc j) f =
         let small : j < n = omega (arith, f, high) in
         let same : get_or rest j 0 ≡ get_or (drop k bs) 0 0 =
-        ap (λ w. get_or w j 0) e ∙ get_or-take (length bs - from) (drop from bs) j 0 (omega (arith, small, fits)) ∙ get_or-drop from bs j 0 ∙ ap (λ i. get_or bs i 0) (omega (arith, f)) ∙ sym (get_or-drop k bs 0 0) in
+        ap (λ w. get_or w j 0) e ∙ get_or-take (length bs - from) (drop from bs) j 0 (omega (arith, small, fits)) ∙ get_or-drop from bs j 0
+        ∙ ap (λ i. get_or bs i 0) (omega (arith, f)) ∙ sym (get_or-drop k bs 0 0) in
         let b = begins_by s (drop k bs) u p in
         h j (omega arith) small (ap (one_of s) same ∙ b.1)
 
@@ -83,20 +100,24 @@ left : (bs rest : List ℕ) (from : ℕ) → rest ≡ take (length bs - from) (d
 left bs rest from e = omega (arith, ap length e, length-take (length bs - from) (drop from bs), length-drop from bs)
 
 -- the search found no such byte
-ended : (s : Syntax) (bs rest : List ℕ) (from : ℕ) → HasAll s → rest ≡ take (length bs - from) (drop from bs) → Nowhere (BeginsAt s bs) 0 from → Nowhere (Passes (one_of s) rest) 0 (length rest) → Nowhere (BeginsAt s bs) 0 (length bs)
+ended : (s : Syntax) (bs rest : List ℕ) (from : ℕ) → HasAll s → rest ≡ take (length bs - from) (drop from bs) →
+    Nowhere (BeginsAt s bs) 0 from → Nowhere (Passes (one_of s) rest) 0 (length rest) → Nowhere (BeginsAt s bs) 0 (length bs)
 ended s bs rest from u e old h k low high p =
     let n = left bs rest from e in
     none_before s bs rest from (length bs - from) u e old (λ j a b. h j a (omega (arith, n, b))) (omega arith) k low (omega (arith, high)) p
 
 -- the search found one
-later : (s : Syntax) (bs rest : List ℕ) (from at : ℕ) → HasAll s → rest ≡ take (length bs - from) (drop from bs) → Nowhere (BeginsAt s bs) 0 from → NoneBefore (Passes (one_of s) rest) 0 (length rest) at → (from + at < length bs) × Nowhere (BeginsAt s bs) 0 (from + at)
+later : (s : Syntax) (bs rest : List ℕ) (from at : ℕ) → HasAll s → rest ≡ take (length bs - from) (drop from bs) →
+    Nowhere (BeginsAt s bs) 0 from → NoneBefore (Passes (one_of s) rest) 0 (length rest) at →
+    (from + at < length bs) × Nowhere (BeginsAt s bs) 0 (from + at)
 later s bs rest from at u e old h =
     let n = left bs rest from e in
     let small : at < length bs - from = omega (arith, n, h.high) in
     (omega (arith, small), none_before s bs rest from at u e old h.before (omega (arith, small)))
 
 -- and none stands there
-pub past_it : (s : Syntax) (bs : List ℕ) (k : ℕ) → Nowhere (BeginsAt s bs) 0 k → begins s (drop k bs) ≡ false → Nowhere (BeginsAt s bs) 0 (k + 1)
+pub past_it : (s : Syntax) (bs : List ℕ) (k : ℕ) → Nowhere (BeginsAt s bs) 0 k → begins s (drop k bs) ≡ false →
+    Nowhere (BeginsAt s bs) 0 (k + 1)
 past_it s bs k old none j low high p = by_place (k - j) refl
   where
     by_place : (d : ℕ) → k - j ≡ d → ⊥
@@ -110,33 +131,52 @@ pub rest_is : (bs rest : List ℕ) (k : ℕ) → rest ≡ take (length bs - k) (
 rest_is bs rest k e = e ∙ take_all (length bs - k) (drop k bs) (omega (arith, length-drop k bs))
 
 -- a place where a start delimiter stands is between characters, since it begins with one
-pub boundary_at : (s : Syntax) (bs : List ℕ) (k : ℕ) → HasAll s → IsUtf8 s.block_start → IsUtf8 s.variable_start → IsUtf8 s.comment_start → k ≤ length bs → BeginsAt s bs k → IsCharBoundary bs k
-boundary_at s bs k u ub uv uc fits h = (fits, λ inside high. by_word inside high (either (starts_with nat_eq (drop k bs) s.block_start) (starts_with nat_eq (drop k bs) s.variable_start) (starts_with nat_eq (drop k bs) s.comment_start) h))
+pub boundary_at : (s : Syntax) (bs : List ℕ) (k : ℕ) → HasAll s → IsUtf8 s.block_start → IsUtf8 s.variable_start → IsUtf8 s.comment_start →
+    k ≤ length bs → BeginsAt s bs k → IsCharBoundary bs k
+boundary_at s bs k u ub uv uc fits h = (
+  fits,
+  λ inside high. by_word inside high
+      (either (starts_with nat_eq (drop k bs) s.block_start) (starts_with nat_eq (drop k bs) s.variable_start)
+      (starts_with nat_eq (drop k bs) s.comment_start) h),
+)
   where
     by : (w : List ℕ) → w ≢ [] → IsUtf8 w → starts_with nat_eq (drop k bs) w ≡ true → 128 ≤ slice_index bs k → 192 ≤ slice_index bs k
     by w some utf8 starts high =
-        let same : slice_index w 0 ≡ slice_index bs k = sym (first_byte (drop k bs) w some starts).1 ∙ get_or-drop k bs 0 0 ∙ ap (λ i. get_or bs i 0) (omega arith) in
+        let same : slice_index w 0 ≡ slice_index bs k = sym (first_byte (drop k bs) w some starts).1 ∙ get_or-drop k bs 0 0
+        ∙ ap (λ i. get_or bs i 0) (omega arith) in
         rw (← same) ((IsCharBoundary-start w utf8).1 (some_bytes w some) (rw same high))
 
-    by_word : k < length bs → 128 ≤ slice_index bs k → (starts_with nat_eq (drop k bs) s.block_start ≡ true) ⊎ ((starts_with nat_eq (drop k bs) s.variable_start ≡ true) ⊎ (starts_with nat_eq (drop k bs) s.comment_start ≡ true)) → 192 ≤ slice_index bs k
+    by_word : k < length bs → 128 ≤ slice_index bs k →
+        (starts_with nat_eq (drop k bs) s.block_start
+        ≡ true) ⊎ ((starts_with nat_eq (drop k bs) s.variable_start ≡ true) ⊎ (starts_with nat_eq (drop k bs) s.comment_start ≡ true)) →
+        192 ≤ slice_index bs k
     by_word inside high (inl w) = by s.block_start u.block_start ub w high
     by_word inside high (inr (inl w)) = by s.variable_start u.variable_start uv w high
     by_word inside high (inr (inr w)) = by s.comment_start u.comment_start uc w high
 
 -- the test of first bytes, by delimiters that are held elsewhere
-by_bytes : (s : Syntax) (x y z rest : List ℕ) (n at : ℕ) → s.block_start ≡ x → s.variable_start ≡ y → s.comment_start ≡ z → NoneBefore (Passes (is_byte3 (slice_index x 0) (slice_index y 0) (slice_index z 0)) rest) 0 n at → NoneBefore (Passes (one_of s) rest) 0 n at
+by_bytes : (s : Syntax) (x y z rest : List ℕ) (n at : ℕ) → s.block_start ≡ x → s.variable_start ≡ y → s.comment_start ≡ z →
+    NoneBefore (Passes (is_byte3 (slice_index x 0) (slice_index y 0) (slice_index z 0)) rest) 0 n at →
+    NoneBefore (Passes (one_of s) rest) 0 n at
 by_bytes s x y z rest n at ex ey ez h = rw (ex, ey, ez) h
 
-no_bytes : (s : Syntax) (x y z rest : List ℕ) (n : ℕ) → s.block_start ≡ x → s.variable_start ≡ y → s.comment_start ≡ z → Nowhere (Passes (is_byte3 (slice_index x 0) (slice_index y 0) (slice_index z 0)) rest) 0 n → Nowhere (Passes (one_of s) rest) 0 n
+no_bytes : (s : Syntax) (x y z rest : List ℕ) (n : ℕ) → s.block_start ≡ x → s.variable_start ≡ y → s.comment_start ≡ z →
+    Nowhere (Passes (is_byte3 (slice_index x 0) (slice_index y 0) (slice_index z 0)) rest) 0 n → Nowhere (Passes (one_of s) rest) 0 n
 no_bytes s x y z rest n ex ey ez h = rw (ex, ey, ez) h
 
 -- what the search found
-pub found_at : (s : Syntax) (bs x y z : List ℕ) (from at : ℕ) → HasAll s → s.block_start ≡ x → s.variable_start ≡ y → s.comment_start ≡ z → Nowhere (BeginsAt s bs) 0 from → NoneBefore (Passes (is_byte3 (slice_index x 0) (slice_index y 0) (slice_index z 0)) (take (length bs - from) (drop from bs))) 0 (length (take (length bs - from) (drop from bs))) at → (from + at < length bs) × Nowhere (BeginsAt s bs) 0 (from + at)
+pub found_at : (s : Syntax) (bs x y z : List ℕ) (from at : ℕ) → HasAll s → s.block_start ≡ x → s.variable_start ≡ y → s.comment_start ≡ z →
+    Nowhere (BeginsAt s bs) 0 from →
+    NoneBefore (Passes (is_byte3 (slice_index x 0) (slice_index y 0) (slice_index z 0)) (take (length bs - from) (drop from bs))) 0
+    (length (take (length bs - from) (drop from bs))) at → (from + at < length bs) × Nowhere (BeginsAt s bs) 0 (from + at)
 found_at s bs x y z from at u ex ey ez old h =
     let rest = take (length bs - from) (drop from bs) in
     later s bs rest from at u refl old (by_bytes s x y z rest (length rest) at ex ey ez h)
 
-pub found_none : (s : Syntax) (bs x y z : List ℕ) (from : ℕ) → HasAll s → s.block_start ≡ x → s.variable_start ≡ y → s.comment_start ≡ z → Nowhere (BeginsAt s bs) 0 from → Nowhere (Passes (is_byte3 (slice_index x 0) (slice_index y 0) (slice_index z 0)) (take (length bs - from) (drop from bs))) 0 (length (take (length bs - from) (drop from bs))) → Nowhere (BeginsAt s bs) 0 (length bs)
+pub found_none : (s : Syntax) (bs x y z : List ℕ) (from : ℕ) → HasAll s → s.block_start ≡ x → s.variable_start ≡ y → s.comment_start ≡ z →
+    Nowhere (BeginsAt s bs) 0 from →
+    Nowhere (Passes (is_byte3 (slice_index x 0) (slice_index y 0) (slice_index z 0)) (take (length bs - from) (drop from bs))) 0
+    (length (take (length bs - from) (drop from bs))) → Nowhere (BeginsAt s bs) 0 (length bs)
 found_none s bs x y z from u ex ey ez old h =
     let rest = take (length bs - from) (drop from bs) in
     ended s bs rest from u refl old (no_bytes s x y z rest (length rest) ex ey ez h)
@@ -150,7 +190,8 @@ starts_is cs [] = refl
 starts_is [] (w ∷ ws) = refl
 starts_is (c ∷ cs) (w ∷ ws) = by_test (starts_is cs ws) (nat_eq w c)
   where
-    by_test : pointwise nat_eq ws (take (length ws) cs) ≡ is_some (behind ws cs) → (same : Bool) → (same && pointwise nat_eq ws (take (length ws) cs)) ≡ is_some {T = List ℕ} (if same then behind ws cs else None)
+    by_test : pointwise nat_eq ws (take (length ws) cs) ≡ is_some (behind ws cs) → (same : Bool) →
+        (same && pointwise nat_eq ws (take (length ws) cs)) ≡ is_some {T = List ℕ} (if same then behind ws cs else None)
     by_test ih true = ih
     by_test ih false = refl
 
@@ -192,11 +233,13 @@ neither true y z h = cc
 
 pub no_block_start : (s : Syntax) (cs : List ℕ) → begins s cs ≡ false → behind s.block_start cs ≡ None
 no_block_start s cs h =
-    nothing_behind s.block_start cs (neither (starts_with nat_eq cs s.block_start) (starts_with nat_eq cs s.variable_start) (starts_with nat_eq cs s.comment_start) h).0
+    nothing_behind s.block_start cs
+    (neither (starts_with nat_eq cs s.block_start) (starts_with nat_eq cs s.variable_start) (starts_with nat_eq cs s.comment_start) h).0
 
 no_opening : (s : Syntax) (cs : List ℕ) → begins s cs ≡ false → opening s cs ≡ None
 no_opening s cs h =
-    let no = neither (starts_with nat_eq cs s.block_start) (starts_with nat_eq cs s.variable_start) (starts_with nat_eq cs s.comment_start) h in
+    let no = neither (starts_with nat_eq cs s.block_start) (starts_with nat_eq cs s.variable_start)
+    (starts_with nat_eq cs s.comment_start) h in
     rw (nothing_behind s.block_start cs no.0, nothing_behind s.variable_start cs no.1.0, nothing_behind s.comment_start cs no.1.1) refl
 
 -- what is found stands where a start delimiter does
@@ -210,7 +253,8 @@ pub never_at_end : (s : Syntax) (cs : List ℕ) → HasAll s → length cs ≡ 0
 never_at_end s cs u e = not_true (begins s cs) (λ h. omega (arith, e, (begins_by s cs u h).0))
 
 -- where no start delimiter stands from here on, nothing is found there
-pub none_found : {A : Type 0} (s : Syntax) (find : List ℕ → Option A) (bs : List ℕ) (k : ℕ) → HasAll s → AtStart s find → Nowhere (BeginsAt s bs) 0 (length bs) → k ≤ length bs → find (drop k bs) ≡ None
+pub none_found : {A : Type 0} (s : Syntax) (find : List ℕ → Option A) (bs : List ℕ) (k : ℕ) → HasAll s → AtStart s find →
+    Nowhere (BeginsAt s bs) 0 (length bs) → k ≤ length bs → find (drop k bs) ≡ None
 none_found s find bs k u at none fits = by_place (length bs - k) refl
   where
     by_place : (left : ℕ) → length bs - k ≡ left → find (drop k bs) ≡ None
@@ -221,9 +265,12 @@ none_found s find bs k u at none fits = by_place (length bs - k) refl
 pub next_none : (s : Syntax) (bs : List ℕ) → HasAll s → Nowhere (BeginsAt s bs) 0 (length bs) → first_of (tag_start s) bs ≡ None
 next_none s bs u none = first_of-nowhere (tag_start s) bs (λ k fits. none_found s (tag_start s) bs k u (tags_start s) none fits)
 
-pub next_some : (s : Syntax) (bs : List ℕ) (k : ℕ) (x : Side × List ℕ) → NoneBefore (BeginsAt s bs) 0 (length bs) k → tag_start s (drop k bs) ≡ Some x → first_of (tag_start s) bs ≡ Some (take k bs, x)
+pub next_some : (s : Syntax) (bs : List ℕ) (k : ℕ) (x : Side × List ℕ) → NoneBefore (BeginsAt s bs) 0 (length bs) k →
+    tag_start s (drop k bs) ≡ Some x → first_of (tag_start s) bs ≡ Some (take k bs, x)
 next_some s bs k x first here =
-    first_of-at (tag_start s) bs k x (λ j less. tags_start s (drop j bs) (not_true (begins s (drop j bs)) (first.before j (omega arith) less))) (omega (arith, first.high)) here
+    first_of-at (tag_start s) bs k x
+    (λ j less. tags_start s (drop j bs) (not_true (begins s (drop j bs)) (first.before j (omega arith) less)))
+    (omega (arith, first.high)) here
 
 -- where a start delimiter stands, a tag starts
 pub tag_there : (s : Syntax) (cs : List ℕ) → begins s cs ≡ true → None ≡ tag_start s cs → ⊥

@@ -1,5 +1,6 @@
 -- The indent of a text's last line.
-use Rattle.std.proofs.Common.{◌≡◌, ℕ, zero, suc, ◌-◌, ◌<◌, ◌≤◌, List, [], ◌∷◌, Bool, true, false, length, drop, take, get_or, refl, sym, ◌∙◌, ap, arith, subst}
+use Rattle.std.proofs.Common.{◌≡◌, ℕ, zero, suc, ◌-◌, ◌<◌, ◌≤◌, List, [], ◌∷◌, Bool, true, false, length, drop, take, get_or, refl, sym}
+use Rattle.std.proofs.Common.{◌∙◌, ap, arith, subst}
 use Rattle.std.specs.Prelude.{◌&&◌, ◌||◌, ◌==◌, if◌then◌else◌}
 use Rattle.std.proofs.lemmas.Bool.{eqb-true}
 use Rattle.tm_delimiters.proofs.Places.{not_true}
@@ -48,9 +49,11 @@ pub first_line : (b : Bool) (cs : List ℕ) → is_indent cs ≡ true → withou
 first_line true cs h = goes cs h
 first_line false cs h = stays cs h
 
-pub last_line : (b : Bool) (cs : List ℕ) (k : ℕ) → k < length cs → is_indent (drop (suc k) cs) ≡ true → is_space (get_or cs k 0) ≡ false → without_indent b cs ≡ cut_at (get_or cs k 0 == 10) cs (suc k)
+pub last_line : (b : Bool) (cs : List ℕ) (k : ℕ) → k < length cs → is_indent (drop (suc k) cs) ≡ true → is_space (get_or cs k 0) ≡ false →
+    without_indent b cs ≡ cut_at (get_or cs k 0 == 10) cs (suc k)
 last_line b [] k small rest other = absurd (omega (arith, small))
-last_line b (c ∷ cs) zero small rest other = one_kept b c cs (broken (c ∷ cs) zero small other) ∙ ap (λ w. c ∷ w) (first_line (c == 10) cs rest) ∙ by_test (c == 10)
+last_line b (c ∷ cs) zero small rest other = one_kept b c cs (broken (c ∷ cs) zero small other)
+    ∙ ap (λ w. c ∷ w) (first_line (c == 10) cs rest) ∙ by_test (c == 10)
   where
     by_test : (w : Bool) → c ∷ cut_at w cs 0 ≡ cut_at w (c ∷ cs) 1
     by_test true = refl
@@ -64,7 +67,8 @@ last_line b (c ∷ cs) (suc k) small rest other =
     by_test false = refl
 
 -- one byte more
-pub one_more : (cs : List ℕ) (k : ℕ) → k < length cs → is_space (get_or cs k 0) ≡ true → is_indent (drop (suc k) cs) ≡ true → is_indent (drop k cs) ≡ true
+pub one_more : (cs : List ℕ) (k : ℕ) → k < length cs → is_space (get_or cs k 0) ≡ true → is_indent (drop (suc k) cs) ≡ true →
+    is_indent (drop k cs) ≡ true
 one_more [] k small here rest = absurd (omega (arith, small))
 one_more (c ∷ cs) zero small here rest = ap (λ b. b && is_indent cs) here ∙ rest
 one_more (c ∷ cs) (suc k) small here rest = one_more cs k (omega (arith, small)) here rest
@@ -88,15 +92,20 @@ whole_gone b cs k e h starts = sym (rw starts (goes cs (subst (λ (n : ℕ). is_
 pub whole_stays : (b : Bool) (cs : List ℕ) (k : ℕ) → k ≡ 0 → is_indent (drop k cs) ≡ true → b ≡ false → cs ≡ without_indent b cs
 whole_stays b cs k e h starts = sym (rw starts (stays cs (subst (λ (n : ℕ). is_indent (drop n cs) ≡ true) e h)))
 
-before_last : (b : Bool) (cs : List ℕ) (k : ℕ) → (k ≡ 0 → ⊥) → k ≤ length cs → is_indent (drop k cs) ≡ true → (0 < k → is_space (get_or cs (k - 1) 0) ≡ false) → without_indent b cs ≡ cut_at (get_or cs (k - 1) 0 == 10) cs k
+before_last : (b : Bool) (cs : List ℕ) (k : ℕ) → (k ≡ 0 → ⊥) → k ≤ length cs → is_indent (drop k cs) ≡ true →
+    (0 < k → is_space (get_or cs (k - 1) 0) ≡ false) → without_indent b cs ≡ cut_at (get_or cs (k - 1) 0 == 10) cs k
 before_last b cs zero some fits h other = absurd (some refl)
 before_last b cs (suc k) some fits h other =
     let place : suc k - 1 ≡ k = omega arith in
-    last_line b cs k (omega (arith, fits)) h (ap (λ n. is_space (get_or cs n 0)) (sym place) ∙ other (omega arith)) ∙ ap (λ n. cut_at (get_or cs n 0 == 10) cs (suc k)) (sym place)
+    last_line b cs k (omega (arith, fits)) h (ap (λ n. is_space (get_or cs n 0)) (sym place) ∙ other (omega arith))
+    ∙ ap (λ n. cut_at (get_or cs n 0 == 10) cs (suc k)) (sym place)
 
-pub last_gone : (b : Bool) (cs : List ℕ) (k : ℕ) → (k ≡ 0 → ⊥) → k ≤ length cs → is_indent (drop k cs) ≡ true → (0 < k → is_space (get_or cs (k - 1) 0) ≡ false) → get_or cs (k - 1) 0 ≡ 10 → take k cs ≡ without_indent b cs
+pub last_gone : (b : Bool) (cs : List ℕ) (k : ℕ) → (k ≡ 0 → ⊥) → k ≤ length cs → is_indent (drop k cs) ≡ true →
+    (0 < k → is_space (get_or cs (k - 1) 0) ≡ false) → get_or cs (k - 1) 0 ≡ 10 → take k cs ≡ without_indent b cs
 last_gone b cs k some fits h other line = sym (before_last b cs k some fits h other ∙ ap (λ c. cut_at (c == 10) cs k) line)
 
-pub last_stays : (b : Bool) (cs : List ℕ) (k : ℕ) → (k ≡ 0 → ⊥) → k ≤ length cs → is_indent (drop k cs) ≡ true → (0 < k → is_space (get_or cs (k - 1) 0) ≡ false) → (get_or cs (k - 1) 0 ≡ 10 → ⊥) → cs ≡ without_indent b cs
+pub last_stays : (b : Bool) (cs : List ℕ) (k : ℕ) → (k ≡ 0 → ⊥) → k ≤ length cs → is_indent (drop k cs) ≡ true →
+    (0 < k → is_space (get_or cs (k - 1) 0) ≡ false) → (get_or cs (k - 1) 0 ≡ 10 → ⊥) → cs ≡ without_indent b cs
 last_stays b cs k some fits h other line =
-    sym (before_last b cs k some fits h other ∙ ap (λ w. cut_at w cs k) (not_true (get_or cs (k - 1) 0 == 10) (λ e. line (eqb-true (get_or cs (k - 1) 0) 10 e))))
+    sym (before_last b cs k some fits h other
+    ∙ ap (λ w. cut_at w cs k) (not_true (get_or cs (k - 1) 0 == 10) (λ e. line (eqb-true (get_or cs (k - 1) 0) 10 e))))

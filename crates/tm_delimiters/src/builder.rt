@@ -4,7 +4,7 @@ ghost use Rattle.tm_delimiters.specs.Syntax.{IsUsable, default_syntax};
 ghost use Rattle.tm_values.specs.declared.error.ErrorKind.TheVariants.{InvalidDelimiter};
 
 use crate::delimiter::Delimiter;
-use crate::syntax::{UncheckedSyntax, SyntaxConfig};
+use crate::syntax::{SyntaxConfig, UncheckedSyntax};
 use std::marker::Model;
 use tm_values::{Error, ErrorKind};
 

@@ -11,7 +11,8 @@ use Rattle.tm_syntax.specs.Fragments.{beyond, Labels, outward, inward, ending_at
 use Rattle.tm_syntax.proofs.Standing.{beyond_is}
 use Rattle.tm_generator.specs.declared.builder.Out.{Out}
 use Rattle.tm_generator.specs.declared.builder.Exit.{Exit}
-use Rattle.tm_generator.specs.Building.{Builder, put, with_one, with_all, jumped, left, continued, begun, bound, joined, place_of, outs_of, outer_of, loop_begun, rounds_ended}
+use Rattle.tm_generator.specs.Building.{Builder, put, with_one, with_all, jumped, left, continued, begun, bound, joined, place_of, outs_of}
+use Rattle.tm_generator.specs.Building.{outer_of, loop_begun, rounds_ended}
 use Rattle.tm_generator.specs.Building.{settled, led, finished, aside_begun, aside_ended}
 use Rattle.tm_generator.proofs.Settled.{outs_in, exits_in, settles, leads}
 
@@ -24,10 +25,13 @@ added c b =
     let pc = length b.code in
     record b { code = b.code ++ assemble unset pc c; outs = b.outs ++ outs_in pc c; exits = b.exits ++ exits_in pc c }
 
-built : {code code1 : List Instruction} {outs outs1 : List Out} {exits exits1 : List Exit} → (b : Builder) → code ≡ code1 → outs ≡ outs1 → exits ≡ exits1 →
+built : {code code1 : List Instruction} {outs outs1 : List Out} {exits exits1 : List Exit} → (b : Builder) → code ≡ code1 → outs ≡ outs1 →
+    exits ≡ exits1 →
     ◌≡◌ {A = Builder} (record b { code = code; outs = outs; exits = exits }) (record b { code = code1; outs = outs1; exits = exits1 })
 built {code1 = code1} {outs = outs} {outs1 = outs1} {exits = exits} b x y z =
-    ap {B = Builder} (λ c. record b { code = c; outs = outs; exits = exits }) x ∙ ap {B = Builder} (λ o. record b { code = code1; outs = o; exits = exits }) y ∙ ap {B = Builder} (λ e. record b { code = code1; outs = outs1; exits = e }) z
+    ap {B = Builder} (λ c. record b { code = c; outs = outs; exits = exits }) x
+    ∙ ap {B = Builder} (λ o. record b { code = code1; outs = o; exits = exits }) y
+    ∙ ap {B = Builder} (λ e. record b { code = code1; outs = outs1; exits = e }) z
 
 -- where code is put its end is
 long : (l : Labels) (xs : List Instruction) (c : Fragment) → length (xs ++ assemble l (length xs) c) ≡ beyond (length xs) c
@@ -42,11 +46,18 @@ all_added (x ∷ is) b = all_added is (with_one x b) ∙ built b (append_assoc b
 both_added : (c d : Fragment) (b : Builder) → added d (added c b) ≡ added (c ⨾ d) b
 both_added c d b =
     let pc = length b.code in
-    ap {A = ℕ} {B = Builder} (λ m. record b { code = (b.code ++ assemble unset pc c) ++ assemble unset m d; outs = (b.outs ++ outs_in pc c) ++ outs_in m d; exits = (b.exits ++ exits_in pc c) ++ exits_in m d }) (long unset b.code c)
-    ∙ built b (append_assoc b.code (assemble unset pc c) (assemble unset (beyond pc c) d)) (append_assoc b.outs (outs_in pc c) (outs_in (beyond pc c) d)) (append_assoc b.exits (exits_in pc c) (exits_in (beyond pc c) d))
+    ap {A = ℕ} {B = Builder} (λ m. record b {
+      code = (b.code ++ assemble unset pc c) ++ assemble unset m d;
+      outs = (b.outs ++ outs_in pc c) ++ outs_in m d;
+      exits = (b.exits ++ exits_in pc c) ++ exits_in m d;
+    }) (long unset b.code c)
+    ∙ built b (append_assoc b.code (assemble unset pc c) (assemble unset (beyond pc c) d))
+    (append_assoc b.outs (outs_in pc c) (outs_in (beyond pc c) d)) (append_assoc b.exits (exits_in pc c) (exits_in (beyond pc c) d))
 
 -- the jumps out of what was put last lead to a place
-settled_here : (c : Fragment) (base tail : List Instruction) (to : ℕ) → settled (base ++ (assemble unset (length base) c ++ tail)) (outs_in (length base) c) to ≡ base ++ (assemble (outward to unset) (length base) c ++ tail)
+settled_here : (c : Fragment) (base tail : List Instruction) (to : ℕ) →
+    settled (base ++ (assemble unset (length base) c ++ tail)) (outs_in (length base) c) to
+    ≡ base ++ (assemble (outward to unset) (length base) c ++ tail)
 settled_here c base tail to = (settles to unset (length base) c).set base tail refl
 
 bounded_added : (c : Fragment) (b : Builder) → bound (outs_of b) (added c (begun b)) ≡ added (bounded c) b
@@ -56,7 +67,8 @@ bounded_added c b =
     let a = assemble unset pc c in
     built b
     (ap (λ l. settled l (outs_in pc c) (length (b.code ++ a))) (ap (λ l. b.code ++ l) (sym (append-nil a)))
-    ∙ settled_here c b.code [] (length (b.code ++ a)) ∙ ap (λ l. b.code ++ l) (append-nil (assemble (outward (length (b.code ++ a)) unset) pc c))
+    ∙ settled_here c b.code [] (length (b.code ++ a))
+    ∙ ap (λ l. b.code ++ l) (append-nil (assemble (outward (length (b.code ++ a)) unset) pc c))
     ∙ ap (λ n. b.code ++ assemble (outward n unset) pc c) (long unset b.code c))
     (sym (append-nil b.outs)) refl
 
@@ -89,12 +101,15 @@ fork_added c d b =
     let base = b.code ++ a in
     let front = b.code ++ (a ++ i.Jump 0 ∷ []) in
     let at : length base ≡ beyond pc c = long (outward second unset) b.code c in
-    let n : length front ≡ second = omega (arith, length-append b.code (a ++ i.Jump 0 ∷ []), length-append a (i.Jump 0 ∷ []), length-append b.code a, at) in
+    let n : length front ≡ second = omega
+    (arith, length-append b.code (a ++ i.Jump 0 ∷ []), length-append a (i.Jump 0 ∷ []), length-append b.code a, at) in
     let is : front ++ assemble unset (length front) d ≡ base ++ i.Jump 0 ∷ rest =
-    ap (λ m. front ++ assemble unset m d) n ∙ append_assoc b.code (a ++ i.Jump 0 ∷ []) rest ∙ ap (λ x. b.code ++ x) (append_assoc a (i.Jump 0 ∷ []) rest) ∙ sym (append_assoc b.code a (i.Jump 0 ∷ rest)) in
+    ap (λ m. front ++ assemble unset m d) n ∙ append_assoc b.code (a ++ i.Jump 0 ∷ []) rest
+    ∙ ap (λ x. b.code ++ x) (append_assoc a (i.Jump 0 ∷ []) rest) ∙ sym (append_assoc b.code a (i.Jump 0 ∷ rest)) in
     let end : length (front ++ assemble unset (length front) d) ≡ beyond second d = long unset front d ∙ ap (λ m. beyond m d) n in
     built b
-    (ap (λ k. slice_set (front ++ assemble unset (length front) d) k (i.Jump (length (front ++ assemble unset (length front) d)))) (long unset b.code c ∙ sym at)
+    (ap (λ k. slice_set (front ++ assemble unset (length front) d) k (i.Jump (length (front ++ assemble unset (length front) d))))
+    (long unset b.code c ∙ sym at)
     ∙ ap (λ e. slice_set (front ++ assemble unset (length front) d) (length base) (i.Jump e)) end
     ∙ ap (λ x. slice_set x (length base) (i.Jump (beyond second d))) is
     ∙ set-append_seam base (i.Jump 0) rest (i.Jump (beyond second d))
@@ -113,14 +128,16 @@ rounds_of g c b =
     }
 
 -- code with the jumps out of the last round set
-led_here : (c : Fragment) (base tail : List Instruction) (pc again after : ℕ) → length base ≡ pc → led (base ++ (assemble unset pc c ++ tail)) (exits_in pc c) again after ≡ base ++ (assemble (inward again after unset) pc c ++ tail)
+led_here : (c : Fragment) (base tail : List Instruction) (pc again after : ℕ) → length base ≡ pc →
+    led (base ++ (assemble unset pc c ++ tail)) (exits_in pc c) again after ≡ base ++ (assemble (inward again after unset) pc c ++ tail)
 led_here c base tail pc again after at = (leads again after unset pc c).set base tail at
 
 rounds_code : (g : LoopFlags) (c : Fragment) (base : List Instruction) → (
     let again = length base + 1 in
     let code = ((base ++ i.PushLoop g ∷ i.Iterate 0 ∷ []) ++ assemble unset (again + 1) c) ++ i.Jump again ∷ [] in
     led (slice_set code again (i.Iterate (length code))) (exits_in (again + 1) c) again (length code)
-    ≡ base ++ i.PushLoop g ∷ i.Iterate (beyond (again + 1) c + 1) ∷ (assemble (inward again (beyond (again + 1) c + 1) unset) (again + 1) c ++ i.Jump again ∷ []))
+    ≡ base ++ i.PushLoop g ∷ i.Iterate (beyond (again + 1) c + 1) ∷
+    (assemble (inward again (beyond (again + 1) c + 1) unset) (again + 1) c ++ i.Jump again ∷ []))
 rounds_code g c base =
     let again = length base + 1 in
     let first = again + 1 in
@@ -131,8 +148,10 @@ rounds_code g c base =
     let base2 = base ++ i.PushLoop g ∷ [] in
     let long2 : length base2 ≡ again = length-append base (i.PushLoop g ∷ []) in
     let flat : code ≡ base2 ++ i.Iterate 0 ∷ (a ++ back) =
-    append_assoc (base ++ head) a back ∙ append_assoc base head (a ++ back) ∙ sym (append_assoc base (i.PushLoop g ∷ []) (i.Iterate 0 ∷ (a ++ back))) in
-    let end : length code ≡ beyond first c + 1 = omega (arith, ap length flat, length-append base2 (i.Iterate 0 ∷ (a ++ back)), length-append a back, long2, beyond_is unset first c) in
+    append_assoc (base ++ head) a back ∙ append_assoc base head (a ++ back)
+    ∙ sym (append_assoc base (i.PushLoop g ∷ []) (i.Iterate 0 ∷ (a ++ back))) in
+    let end : length code ≡ beyond first c + 1 = omega
+    (arith, ap length flat, length-append base2 (i.Iterate 0 ∷ (a ++ back)), length-append a back, long2, beyond_is unset first c) in
     let after = length code in
     let base3 = base2 ++ i.Iterate after ∷ [] in
     let long3 : length base3 ≡ first = omega (arith, length-append base2 (i.Iterate after ∷ []), long2) in
@@ -140,7 +159,8 @@ rounds_code g c base =
     let b1 = assemble (inward again after unset) first c ++ back in
     ap (λ l. led (slice_set l again (i.Iterate after)) (exits_in first c) again after) flat
     ∙ ap (λ n. led (slice_set (base2 ++ i.Iterate 0 ∷ (a ++ back)) n (i.Iterate after)) (exits_in first c) again after) (sym long2)
-    ∙ ap (λ l. led l (exits_in first c) again after) (set-append_seam base2 (i.Iterate 0) (a ++ back) (i.Iterate after) ∙ sym (append_assoc base2 (i.Iterate after ∷ []) (a ++ back)))
+    ∙ ap (λ l. led l (exits_in first c) again after) (set-append_seam base2 (i.Iterate 0) (a ++ back) (i.Iterate after)
+    ∙ sym (append_assoc base2 (i.Iterate after ∷ []) (a ++ back)))
     ∙ led_here c base3 back first again after long3
     ∙ append_assoc base2 (i.Iterate after ∷ []) b1 ∙ append_assoc base (i.PushLoop g ∷ []) (i.Iterate after ∷ b1)
     ∙ ap (λ n. base ++ loop n) end
@@ -153,7 +173,8 @@ rounds_added g c b =
     let n : length head ≡ again + 1 = omega (arith, length-append b.code (i.PushLoop g ∷ i.Iterate 0 ∷ [])) in
     let code : ℕ → List Instruction = λ m. (head ++ assemble unset m c) ++ i.Jump again ∷ [] in
     built b
-    (ap (λ m. led (slice_set (code m) again (i.Iterate (length (code m)))) (exits_in m c) again (length (code m))) n ∙ rounds_code g c b.code)
+    (ap (λ m. led (slice_set (code m) again (i.Iterate (length (code m)))) (exits_in m c) again (length (code m))) n
+    ∙ rounds_code g c b.code)
     (ap (λ m. b.outs ++ outs_in m c) n) refl
 
 loop_added : (g : LoopFlags) (c d : Fragment) (b : Builder) → added d (rounds_of g c b) ≡ added (looped g c d) b
@@ -164,10 +185,17 @@ loop_added g c d b =
     let a = assemble (inward (pc + 1) end unset) first c in
     let back = i.Jump (pc + 1) ∷ [] in
     let loop = i.PushLoop g ∷ i.Iterate end ∷ (a ++ back) in
-    let front : length (b.code ++ loop) ≡ end = omega (arith, length-append b.code loop, length-append a back, beyond_is (inward (pc + 1) end unset) first c) in
+    let front : length (b.code ++ loop)
+    ≡ end = omega (arith, length-append b.code loop, length-append a back, beyond_is (inward (pc + 1) end unset) first c) in
     let rest = assemble unset end d in
-    ap {A = ℕ} {B = Builder} (λ n. record b { code = (b.code ++ loop) ++ assemble unset n d; outs = (b.outs ++ outs_in first c) ++ outs_in n d; exits = b.exits ++ exits_in n d }) front
-    ∙ built b (append_assoc b.code loop rest ∙ ap (λ l. b.code ++ i.PushLoop g ∷ i.Iterate end ∷ l) (append_assoc a back rest)) (append_assoc b.outs (outs_in first c) (outs_in end d)) refl
+    ap {A = ℕ} {B = Builder} (λ n. record b {
+      code = (b.code ++ loop) ++ assemble unset n d;
+      outs = (b.outs ++ outs_in first c) ++ outs_in n d;
+      exits = b.exits ++ exits_in n d;
+    }) front
+    ∙ built b (append_assoc b.code loop rest
+    ∙ ap (λ l. b.code ++ i.PushLoop g ∷ i.Iterate end ∷ l) (append_assoc a back rest))
+    (append_assoc b.outs (outs_in first c) (outs_in end d)) refl
 
 -- ---------------------------------------------------------------- code on its own
 finished_here : (c : Fragment) (base : List Instruction) → (
@@ -224,5 +252,6 @@ put_is (aside c) b = ap {B = Builder} (λ m. aside_ended b m) (put_is c (aside_b
 pub made_whole : (c : Fragment) (b : Builder) → b.code ≡ [] → b.outs ≡ [] → b.exits ≡ [] → finished (put c b) ≡ assembled c
 made_whole c b x y z =
     ap (λ (m : Builder). finished m) (put_is c b ∙ built b
-    (ap (λ l. l ++ assemble unset (length l) c) x) (ap (λ n. b.outs ++ outs_in n c) (ap length x) ∙ ap (λ l. l ++ outs_in 0 c) y) (ap (λ n. b.exits ++ exits_in n c) (ap length x) ∙ ap (λ l. l ++ exits_in 0 c) z))
+    (ap (λ l. l ++ assemble unset (length l) c) x) (ap (λ n. b.outs ++ outs_in n c) (ap length x)
+    ∙ ap (λ l. l ++ outs_in 0 c) y) (ap (λ n. b.exits ++ exits_in n c) (ap length x) ∙ ap (λ l. l ++ exits_in 0 c) z))
     ∙ finished_here c []

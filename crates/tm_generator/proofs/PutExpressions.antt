@@ -65,15 +65,18 @@ together-is [] = refl
 together-is (x ∷ xs) = omega (arith)
 
 -- ---------------------------------------------------------------- expressions
-pub put-list : (b : Builder) (xs : List Expr) → put (expr_code (e.List xs)) b ≡ with_one (i.BuildList (Some (length xs))) (put (exprs_code (exprs xs)) b)
+pub put-list : (b : Builder) (xs : List Expr) →
+    put (expr_code (e.List xs)) b ≡ with_one (i.BuildList (Some (length xs))) (put (exprs_code (exprs xs)) b)
 unfolding hidden
 put-list b xs = ap {B = Builder} (λ n. with_one (i.BuildList (Some n)) (put (exprs_code (exprs xs)) b)) (count-exprs xs)
 
-pub put-tuple : (b : Builder) (xs : List Expr) → put (expr_code (e.Tuple xs)) b ≡ with_one (i.BuildTuple (length xs)) (put (exprs_code (exprs xs)) b)
+pub put-tuple : (b : Builder) (xs : List Expr) →
+    put (expr_code (e.Tuple xs)) b ≡ with_one (i.BuildTuple (length xs)) (put (exprs_code (exprs xs)) b)
 unfolding hidden
 put-tuple b xs = ap {B = Builder} (λ n. with_one (i.BuildTuple n) (put (exprs_code (exprs xs)) b)) (count-exprs xs)
 
-pub put-map : (b : Builder) (xs : List Pair) → put (expr_code (e.Map xs)) b ≡ with_one (i.BuildMap (length xs)) (put (pairs_code (pairs xs)) b)
+pub put-map : (b : Builder) (xs : List Pair) →
+    put (expr_code (e.Map xs)) b ≡ with_one (i.BuildMap (length xs)) (put (pairs_code (pairs xs)) b)
 unfolding hidden
 put-map b xs = ap {B = Builder} (λ n. with_one (i.BuildMap n) (put (pairs_code (pairs xs)) b)) (count-pairs xs)
 
@@ -81,14 +84,18 @@ pub put-call : (b : Builder) (f : List ℕ) (xs : List Argument) (ks : List Keyw
     with_one (i.CallFunction f (length xs + min (length ks) 1)) (put (named_code (keywords ks)) (put (arguments_code (arguments xs)) b))
 unfolding hidden
 put-call b f xs ks =
-    ap {B = Builder} (λ n. with_one (i.CallFunction f (n + together (keywords ks))) (put (named_code (keywords ks)) (put (arguments_code (arguments xs)) b))) (count-arguments xs)
-    ∙ ap {B = Builder} (λ n. with_one (i.CallFunction f (length xs + n)) (put (named_code (keywords ks)) (put (arguments_code (arguments xs)) b))) (together-is ks)
+    ap {B = Builder} (λ n. with_one (i.CallFunction f (n + together (keywords ks)))
+    (put (named_code (keywords ks)) (put (arguments_code (arguments xs)) b))) (count-arguments xs)
+    ∙ ap {B = Builder} (λ n. with_one (i.CallFunction f (length xs + n))
+    (put (named_code (keywords ks)) (put (arguments_code (arguments xs)) b))) (together-is ks)
 
-pub put-unary : (b : Builder) (op : UnaryOperator) (x : Expr) → put (expr_code (e.Unary op x)) b ≡ with_one (unary_code op) (put (expr_code x) b)
+pub put-unary : (b : Builder) (op : UnaryOperator) (x : Expr) →
+    put (expr_code (e.Unary op x)) b ≡ with_one (unary_code op) (put (expr_code x) b)
 unfolding hidden hidden-the_row-Expr-0
 put-unary b op x = refl
 
-pub put-chain : (b : Builder) (x : Expr) (ss : List Step) → put (expr_code (e.Chain x ss)) b ≡ put (steps_code (steps ss)) (put (expr_code x) b)
+pub put-chain : (b : Builder) (x : Expr) (ss : List Step) →
+    put (expr_code (e.Chain x ss)) b ≡ put (steps_code (steps ss)) (put (expr_code x) b)
 unfolding hidden hidden-the_row-Expr-0
 put-chain b x ss = refl
 
@@ -97,22 +104,27 @@ pub put-method : (b : Builder) (f : List ℕ) (xs : List Argument) (ks : List Ke
     with_one (i.CallMethod f (length xs + min (length ks) 1 + 1)) (put (named_code (keywords ks)) (put (arguments_code (arguments xs)) b))
 unfolding hidden
 put-method b f xs ks =
-    ap {B = Builder} (λ n. with_one (i.CallMethod f (n + together (keywords ks) + 1)) (put (named_code (keywords ks)) (put (arguments_code (arguments xs)) b))) (count-arguments xs)
-    ∙ ap {B = Builder} (λ n. with_one (i.CallMethod f (length xs + n + 1)) (put (named_code (keywords ks)) (put (arguments_code (arguments xs)) b))) (together-is ks)
+    ap {B = Builder} (λ n. with_one (i.CallMethod f (n + together (keywords ks) + 1))
+    (put (named_code (keywords ks)) (put (arguments_code (arguments xs)) b))) (count-arguments xs)
+    ∙ ap {B = Builder} (λ n. with_one (i.CallMethod f (length xs + n + 1))
+    (put (named_code (keywords ks)) (put (arguments_code (arguments xs)) b))) (together-is ks)
 
 pub put-item : (b : Builder) (x : Expr) → put (step_code (s.Item x)) b ≡ with_one i.GetItem (put (expr_code x) b)
 unfolding hidden hidden-the_row-Expr-0
 put-item b x = refl
 
-pub put-slice : (b : Builder) (x y z : Expr) → put (step_code (s.Slice x y z)) b ≡ with_one i.Slice (put (expr_code z) (put (expr_code y) (put (expr_code x) b)))
+pub put-slice : (b : Builder) (x y z : Expr) →
+    put (step_code (s.Slice x y z)) b ≡ with_one i.Slice (put (expr_code z) (put (expr_code y) (put (expr_code x) b)))
 unfolding hidden hidden-the_row-Expr-0
 put-slice b x y z = refl
 
-pub put-binary : (b : Builder) (op : BinaryOperator) (x : Expr) → put (step_code (s.Binary op x)) b ≡ put (straight (binary_code op)) (put (expr_code x) b)
+pub put-binary : (b : Builder) (op : BinaryOperator) (x : Expr) →
+    put (step_code (s.Binary op x)) b ≡ put (straight (binary_code op)) (put (expr_code x) b)
 unfolding hidden hidden-the_row-Expr-0
 put-binary b op x = refl
 
-pub put-compare : (b : Builder) (op : BinaryOperator) (x : Expr) (cs : List Comparison) → put (step_code (s.Compare op x cs)) b ≡ put (row_code op (comparisons cs)) (put (expr_code x) b)
+pub put-compare : (b : Builder) (op : BinaryOperator) (x : Expr) (cs : List Comparison) →
+    put (step_code (s.Compare op x cs)) b ≡ put (row_code op (comparisons cs)) (put (expr_code x) b)
 unfolding hidden hidden-the_row-Expr-0
 put-compare b op x cs = refl
 
@@ -131,66 +143,90 @@ put-plain b x = refl
 pub ruleset expressions = (put-list, put-tuple, put-map, put-item, put-and, put-or)
 
 -- ---------------------------------------------------------------- parts of a form, one after the other
-pub made-call : (b m1 m2 m3 : Builder) (f g : List ℕ) (n n1 n2 : ℕ) (xs : List Argument) (ks : List Keyword) → m1 ≡ put (arguments_code (arguments xs)) b → m2 ≡ put (named_code (keywords ks)) m1 → n1 ≡ length xs → n2 ≡ length ks →
+pub made-call : (b m1 m2 m3 : Builder) (f g : List ℕ) (n n1 n2 : ℕ) (xs : List Argument) (ks : List Keyword) →
+    m1 ≡ put (arguments_code (arguments xs)) b → m2 ≡ put (named_code (keywords ks)) m1 → n1 ≡ length xs → n2 ≡ length ks →
     n ≡ n1 + min n2 1 → g ≡ f → m3 ≡ with_one (i.CallFunction g n) m2 → m3 ≡ put (expr_code (e.Call f xs ks)) b
 made-call b m1 m2 m3 f g n n1 n2 xs ks p q l1 l2 l h r =
-    r ∙ ap {B = Builder} (λ k. with_one (i.CallFunction k n) m2) h ∙ ap {B = Builder} (λ k. with_one (i.CallFunction f k) m2) (l ∙ ap (λ k. k + min n2 1) l1 ∙ ap (λ k. length xs + min k 1) l2)
-    ∙ ap {B = Builder} (λ m. with_one (i.CallFunction f (length xs + min (length ks) 1)) m) (q ∙ ap {B = Builder} (λ m. put (named_code (keywords ks)) m) p) ∙ sym (put-call b f xs ks)
+    r ∙ ap {B = Builder} (λ k. with_one (i.CallFunction k n) m2) h
+    ∙ ap {B = Builder} (λ k. with_one (i.CallFunction f k) m2) (l ∙ ap (λ k. k + min n2 1) l1 ∙ ap (λ k. length xs + min k 1) l2)
+    ∙ ap {B = Builder} (λ m. with_one (i.CallFunction f (length xs + min (length ks) 1)) m) (q
+    ∙ ap {B = Builder} (λ m. put (named_code (keywords ks)) m) p) ∙ sym (put-call b f xs ks)
 
-pub made-method : (b m1 m2 m3 : Builder) (f g : List ℕ) (n n1 n2 : ℕ) (xs : List Argument) (ks : List Keyword) → m1 ≡ put (arguments_code (arguments xs)) b → m2 ≡ put (named_code (keywords ks)) m1 → n1 ≡ length xs → n2 ≡ length ks →
+pub made-method : (b m1 m2 m3 : Builder) (f g : List ℕ) (n n1 n2 : ℕ) (xs : List Argument) (ks : List Keyword) →
+    m1 ≡ put (arguments_code (arguments xs)) b → m2 ≡ put (named_code (keywords ks)) m1 → n1 ≡ length xs → n2 ≡ length ks →
     n ≡ n1 + min n2 1 + 1 → g ≡ f → m3 ≡ with_one (i.CallMethod g n) m2 → m3 ≡ put (step_code (s.Method f xs ks)) b
 made-method b m1 m2 m3 f g n n1 n2 xs ks p q l1 l2 l h r =
-    r ∙ ap {B = Builder} (λ k. with_one (i.CallMethod k n) m2) h ∙ ap {B = Builder} (λ k. with_one (i.CallMethod f k) m2) (l ∙ ap (λ k. k + min n2 1 + 1) l1 ∙ ap (λ k. length xs + min k 1 + 1) l2)
-    ∙ ap {B = Builder} (λ m. with_one (i.CallMethod f (length xs + min (length ks) 1 + 1)) m) (q ∙ ap {B = Builder} (λ m. put (named_code (keywords ks)) m) p) ∙ sym (put-method b f xs ks)
+    r ∙ ap {B = Builder} (λ k. with_one (i.CallMethod k n) m2) h
+    ∙ ap {B = Builder} (λ k. with_one (i.CallMethod f k) m2) (l ∙ ap (λ k. k + min n2 1 + 1) l1 ∙ ap (λ k. length xs + min k 1 + 1) l2)
+    ∙ ap {B = Builder} (λ m. with_one (i.CallMethod f (length xs + min (length ks) 1 + 1)) m) (q
+    ∙ ap {B = Builder} (λ m. put (named_code (keywords ks)) m) p) ∙ sym (put-method b f xs ks)
 
-pub made-unary : (b m1 m2 : Builder) (o : Instruction) (op : UnaryOperator) (x : Expr) → m1 ≡ put (expr_code x) b → o ≡ unary_code op → m2 ≡ with_one o m1 → m2 ≡ put (expr_code (e.Unary op x)) b
-made-unary b m1 m2 o op x p h q = q ∙ ap {B = Builder} (λ k. with_one k m1) h ∙ ap {B = Builder} (λ m. with_one (unary_code op) m) p ∙ sym (put-unary b op x)
+pub made-unary : (b m1 m2 : Builder) (o : Instruction) (op : UnaryOperator) (x : Expr) → m1 ≡ put (expr_code x) b → o ≡ unary_code op →
+    m2 ≡ with_one o m1 → m2 ≡ put (expr_code (e.Unary op x)) b
+made-unary b m1 m2 o op x p h q = q ∙ ap {B = Builder} (λ k. with_one k m1) h ∙ ap {B = Builder} (λ m. with_one (unary_code op) m) p
+    ∙ sym (put-unary b op x)
 
-pub made-chain : (b m1 m2 : Builder) (x : Expr) (ss : List Step) → m1 ≡ put (expr_code x) b → m2 ≡ put (steps_code (steps ss)) m1 → m2 ≡ put (expr_code (e.Chain x ss)) b
+pub made-chain : (b m1 m2 : Builder) (x : Expr) (ss : List Step) → m1 ≡ put (expr_code x) b → m2 ≡ put (steps_code (steps ss)) m1 →
+    m2 ≡ put (expr_code (e.Chain x ss)) b
 made-chain b m1 m2 x ss p q = q ∙ ap {B = Builder} (λ m. put (steps_code (steps ss)) m) p ∙ sym (put-chain b x ss)
 
-pub made-slice : (b m1 m2 m3 m4 : Builder) (x y z : Expr) → m1 ≡ put (expr_code x) b → m2 ≡ put (expr_code y) m1 → m3 ≡ put (expr_code z) m2 → m4 ≡ with_one i.Slice m3 → m4 ≡ put (step_code (s.Slice x y z)) b
+pub made-slice : (b m1 m2 m3 m4 : Builder) (x y z : Expr) → m1 ≡ put (expr_code x) b → m2 ≡ put (expr_code y) m1 →
+    m3 ≡ put (expr_code z) m2 → m4 ≡ with_one i.Slice m3 → m4 ≡ put (step_code (s.Slice x y z)) b
 made-slice b m1 m2 m3 m4 x y z p q r t =
-    t ∙ ap {B = Builder} (λ m. with_one i.Slice m) (r ∙ ap {B = Builder} (λ m. put (expr_code z) m) (q ∙ ap {B = Builder} (λ m. put (expr_code y) m) p)) ∙ sym (put-slice b x y z)
+    t ∙ ap {B = Builder} (λ m. with_one i.Slice m) (r
+    ∙ ap {B = Builder} (λ m. put (expr_code z) m) (q ∙ ap {B = Builder} (λ m. put (expr_code y) m) p)) ∙ sym (put-slice b x y z)
 
-pub made-binary : (b m1 m2 : Builder) (op : BinaryOperator) (x : Expr) → m1 ≡ put (expr_code x) b → m2 ≡ put (straight (binary_code op)) m1 → m2 ≡ put (step_code (s.Binary op x)) b
+pub made-binary : (b m1 m2 : Builder) (op : BinaryOperator) (x : Expr) → m1 ≡ put (expr_code x) b →
+    m2 ≡ put (straight (binary_code op)) m1 → m2 ≡ put (step_code (s.Binary op x)) b
 made-binary b m1 m2 op x p q = q ∙ ap {B = Builder} (λ m. put (straight (binary_code op)) m) p ∙ sym (put-binary b op x)
 
-pub made-compare : (b m1 m2 : Builder) (op : BinaryOperator) (x : Expr) (cs : List Comparison) → m1 ≡ put (expr_code x) b → m2 ≡ put (row_code op (comparisons cs)) m1 → m2 ≡ put (step_code (s.Compare op x cs)) b
+pub made-compare : (b m1 m2 : Builder) (op : BinaryOperator) (x : Expr) (cs : List Comparison) → m1 ≡ put (expr_code x) b →
+    m2 ≡ put (row_code op (comparisons cs)) m1 → m2 ≡ put (step_code (s.Compare op x cs)) b
 made-compare b m1 m2 op x cs p q = q ∙ ap {B = Builder} (λ m. put (row_code op (comparisons cs)) m) p ∙ sym (put-compare b op x cs)
 
-pub made-plain : (b m : Builder) (x : Argument) (h : _) (y : Expr) → y ≡ (values_d the_enum 0 h x).0 → m ≡ put (expr_code y) b → m ≡ put (argument_code x) b
-made-plain b m x h y is p = p ∙ ap {B = Builder} (λ z. put (expr_code z) b) is ∙ ap {B = Builder} (λ z. put (argument_code z) b) (sym (whole x h))
+pub made-plain : (b m : Builder) (x : Argument) (h : _) (y : Expr) → y ≡ (values_d the_enum 0 h x).0 → m ≡ put (expr_code y) b →
+    m ≡ put (argument_code x) b
+made-plain b m x h y is p = p ∙ ap {B = Builder} (λ z. put (expr_code z) b) is
+    ∙ ap {B = Builder} (λ z. put (argument_code z) b) (sym (whole x h))
 
 -- one part after another
 pub put_two : (c d : Fragment) (b m1 m2 : Builder) → m1 ≡ put c b → m2 ≡ put d m1 → m2 ≡ put (c ⨾ d) b
 put_two c d b m1 m2 p q = q ∙ ap {B = Builder} (λ m. put d m) p
 
-pub made-keyword : (b m1 m2 : Builder) (x : Keyword) (f : List ℕ) (t : Val) → f ≡ x.name → t ≡ text f false → m1 ≡ with_one (i.LoadConst t) b → m2 ≡ put (expr_code x.value) m1 → m2 ≡ put (straight (i.LoadConst (text x.name false) ∷ []) ⨾ expr_code x.value) b
-made-keyword b m1 m2 x f t h is p q = q ∙ ap {B = Builder} (λ m. put (expr_code x.value) m) (p ∙ ap {B = Builder} (λ v. with_one (i.LoadConst v) b) (is ∙ ap (λ n. text n false) h))
+pub made-keyword : (b m1 m2 : Builder) (x : Keyword) (f : List ℕ) (t : Val) → f ≡ x.name → t ≡ text f false →
+    m1 ≡ with_one (i.LoadConst t) b → m2 ≡ put (expr_code x.value) m1 →
+    m2 ≡ put (straight (i.LoadConst (text x.name false) ∷ []) ⨾ expr_code x.value) b
+made-keyword b m1 m2 x f t h is p q = q
+    ∙ ap {B = Builder} (λ m. put (expr_code x.value) m) (p
+    ∙ ap {B = Builder} (λ v. with_one (i.LoadConst v) b) (is ∙ ap (λ n. text n false) h))
 
 -- ---------------------------------------------------------------- conditions
 conditions-nil : (v : Fragment) → conditions_code (conditions []) v ≡ v
 unfolding hidden conditions shape-the_row-Condition-6
 conditions-nil v = refl
 
-conditions-cons : (v : Fragment) (c : Condition) (cs : List Condition) → conditions_code (conditions (c ∷ cs)) v ≡ conditions_code (conditions cs) (expr_code c.test ⨾ either v (expr_code c.otherwise))
+conditions-cons : (v : Fragment) (c : Condition) (cs : List Condition) →
+    conditions_code (conditions (c ∷ cs)) v ≡ conditions_code (conditions cs) (expr_code c.test ⨾ either v (expr_code c.otherwise))
 unfolding hidden conditions shape-the_row-Condition-6
 conditions-cons v c cs = refl
 
 -- the tests, the value, and what stands for it where one is false
-put-conditions : (b : Builder) (v : Fragment) (cs : List Condition) → put (conditions_code (conditions cs) v) b ≡ answered (kept cs b) cs (put v (asked cs b))
+put-conditions : (b : Builder) (v : Fragment) (cs : List Condition) →
+    put (conditions_code (conditions cs) v) b ≡ answered (kept cs b) cs (put v (asked cs b))
 put-conditions b v [] = ap {B = Builder} (λ c. put c b) (conditions-nil v)
-put-conditions b v (c ∷ cs) = ap {B = Builder} (λ k. put k b) (conditions-cons v c cs) ∙ put-conditions b (expr_code c.test ⨾ either v (expr_code c.otherwise)) cs
+put-conditions b v (c ∷ cs) = ap {B = Builder} (λ k. put k b) (conditions-cons v c cs)
+    ∙ put-conditions b (expr_code c.test ⨾ either v (expr_code c.otherwise)) cs
 
 code-conditional : (x : Expr) (cs : List Condition) → expr_code (e.Conditional x cs) ≡ conditions_code (conditions cs) (expr_code x)
 unfolding hidden hidden-the_row-Expr-0
 code-conditional x cs = refl
 
-pub made-conditional : (b m1 m2 m3 : Builder) (outers0 outers : List (List Out)) (x : Expr) (cs : List Condition) → m1 ≡ asked cs b → outers0 ≡ [] → outers ≡ outers0 ++ reverse (kept cs b) → m2 ≡ put (expr_code x) m1 → m3 ≡ answered (reverse outers) cs m2 →
+pub made-conditional : (b m1 m2 m3 : Builder) (outers0 outers : List (List Out)) (x : Expr) (cs : List Condition) → m1 ≡ asked cs b →
+    outers0 ≡ [] → outers ≡ outers0 ++ reverse (kept cs b) → m2 ≡ put (expr_code x) m1 → m3 ≡ answered (reverse outers) cs m2 →
     m3 ≡ put (expr_code (e.Conditional x cs)) b
 made-conditional b m1 m2 m3 outers0 outers x cs p n o q r =
-    r ∙ ap {B = Builder} (λ os. answered (reverse os) cs m2) (o ∙ ap (λ os. os ++ reverse (kept cs b)) n) ∙ ap {B = Builder} (λ os. answered os cs m2) (reverse-reverse (kept cs b))
+    r ∙ ap {B = Builder} (λ os. answered (reverse os) cs m2) (o ∙ ap (λ os. os ++ reverse (kept cs b)) n)
+    ∙ ap {B = Builder} (λ os. answered os cs m2) (reverse-reverse (kept cs b))
     ∙ ap {B = Builder} (λ m. answered (kept cs b) cs m) (q ∙ ap {B = Builder} (λ m. put (expr_code x) m) p)
     ∙ sym (ap {B = Builder} (λ c. put c b) (code-conditional x cs) ∙ put-conditions b (expr_code x) cs)
 
@@ -200,8 +236,11 @@ next xs k x lt d = grind (arith, drop-cons xs k x lt, d)
 
 -- one more of a row, and no more
 module _ {X : Type 0} (one : X → Fragment) (row : List X → Fragment) where
-  pub more : ((b : Builder) (x : X) (xs : List X) → put (row (x ∷ xs)) b ≡ put (row xs) (put (one x) b)) → (all rest : List X) (x : X) (m m1 goal : Builder) → all ≡ x ∷ rest → m1 ≡ put (one x) m → put (row all) m ≡ goal → put (row rest) m1 ≡ goal
-  more cons all rest x m m1 goal left p g = ap {B = Builder} (λ b. put (row rest) b) p ∙ sym (cons m x rest) ∙ ap {B = Builder} (λ l. put (row l) m) (sym left) ∙ g
+  pub more : ((b : Builder) (x : X) (xs : List X) → put (row (x ∷ xs)) b ≡ put (row xs) (put (one x) b)) →
+      (all rest : List X) (x : X) (m m1 goal : Builder) → all ≡ x ∷ rest → m1 ≡ put (one x) m → put (row all) m ≡ goal →
+      put (row rest) m1 ≡ goal
+  more cons all rest x m m1 goal left p g = ap {B = Builder} (λ b. put (row rest) b) p ∙ sym (cons m x rest)
+      ∙ ap {B = Builder} (λ l. put (row l) m) (sym left) ∙ g
 
   pub no_more : ((b : Builder) → put (row []) b ≡ b) → (rest : List X) (m goal : Builder) → rest ≡ [] → put (row rest) m ≡ goal → m ≡ goal
   no_more nil rest m goal none g = sym (nil m) ∙ ap {B = Builder} (λ l. put (row l) m) (sym none) ∙ g
@@ -210,11 +249,13 @@ put-exprs-nil : (b : Builder) → put (exprs_code (exprs [])) b ≡ b
 unfolding hidden exprs shape-the_row-Expr-1
 put-exprs-nil b = refl
 
-put-exprs-cons : (b : Builder) (x : Expr) (xs : List Expr) → put (exprs_code (exprs (x ∷ xs))) b ≡ put (exprs_code (exprs xs)) (put (expr_code x) b)
+put-exprs-cons : (b : Builder) (x : Expr) (xs : List Expr) →
+    put (exprs_code (exprs (x ∷ xs))) b ≡ put (exprs_code (exprs xs)) (put (expr_code x) b)
 unfolding hidden exprs shape-the_row-Expr-1
 put-exprs-cons b x xs = refl
 
-pub more-exprs : (all rest : List Expr) (x : Expr) (m m1 goal : Builder) → all ≡ x ∷ rest → m1 ≡ put (expr_code x) m → put (exprs_code (exprs all)) m ≡ goal → put (exprs_code (exprs rest)) m1 ≡ goal
+pub more-exprs : (all rest : List Expr) (x : Expr) (m m1 goal : Builder) → all ≡ x ∷ rest → m1 ≡ put (expr_code x) m →
+    put (exprs_code (exprs all)) m ≡ goal → put (exprs_code (exprs rest)) m1 ≡ goal
 more-exprs = more expr_code (λ xs. exprs_code (exprs xs)) put-exprs-cons
 
 pub no_more-exprs : (rest : List Expr) (m goal : Builder) → rest ≡ [] → put (exprs_code (exprs rest)) m ≡ goal → m ≡ goal
@@ -224,11 +265,13 @@ put-pairs-nil : (b : Builder) → put (pairs_code (pairs [])) b ≡ b
 unfolding hidden pairs shape-the_row-Pair-2
 put-pairs-nil b = refl
 
-put-pairs-cons : (b : Builder) (x : Pair) (xs : List Pair) → put (pairs_code (pairs (x ∷ xs))) b ≡ put (pairs_code (pairs xs)) (put (expr_code x.key ⨾ expr_code x.value) b)
+put-pairs-cons : (b : Builder) (x : Pair) (xs : List Pair) →
+    put (pairs_code (pairs (x ∷ xs))) b ≡ put (pairs_code (pairs xs)) (put (expr_code x.key ⨾ expr_code x.value) b)
 unfolding hidden pairs shape-the_row-Pair-2
 put-pairs-cons b x xs = refl
 
-pub more-pairs : (all rest : List Pair) (x : Pair) (m m1 goal : Builder) → all ≡ x ∷ rest → m1 ≡ put (expr_code x.key ⨾ expr_code x.value) m → put (pairs_code (pairs all)) m ≡ goal → put (pairs_code (pairs rest)) m1 ≡ goal
+pub more-pairs : (all rest : List Pair) (x : Pair) (m m1 goal : Builder) → all ≡ x ∷ rest →
+    m1 ≡ put (expr_code x.key ⨾ expr_code x.value) m → put (pairs_code (pairs all)) m ≡ goal → put (pairs_code (pairs rest)) m1 ≡ goal
 more-pairs = more (λ x. expr_code x.key ⨾ expr_code x.value) (λ xs. pairs_code (pairs xs)) put-pairs-cons
 
 pub no_more-pairs : (rest : List Pair) (m goal : Builder) → rest ≡ [] → put (pairs_code (pairs rest)) m ≡ goal → m ≡ goal
@@ -238,11 +281,13 @@ put-arguments-nil : (b : Builder) → put (arguments_code (arguments [])) b ≡ 
 unfolding hidden arguments shape-the_row-Argument-3
 put-arguments-nil b = refl
 
-put-arguments-cons : (b : Builder) (x : Argument) (xs : List Argument) → put (arguments_code (arguments (x ∷ xs))) b ≡ put (arguments_code (arguments xs)) (put (argument_code x) b)
+put-arguments-cons : (b : Builder) (x : Argument) (xs : List Argument) →
+    put (arguments_code (arguments (x ∷ xs))) b ≡ put (arguments_code (arguments xs)) (put (argument_code x) b)
 unfolding hidden arguments shape-the_row-Argument-3
 put-arguments-cons b x xs = refl
 
-pub more-arguments : (all rest : List Argument) (x : Argument) (m m1 goal : Builder) → all ≡ x ∷ rest → m1 ≡ put (argument_code x) m → put (arguments_code (arguments all)) m ≡ goal → put (arguments_code (arguments rest)) m1 ≡ goal
+pub more-arguments : (all rest : List Argument) (x : Argument) (m m1 goal : Builder) → all ≡ x ∷ rest → m1 ≡ put (argument_code x) m →
+    put (arguments_code (arguments all)) m ≡ goal → put (arguments_code (arguments rest)) m1 ≡ goal
 more-arguments = more argument_code (λ xs. arguments_code (arguments xs)) put-arguments-cons
 
 pub no_more-arguments : (rest : List Argument) (m goal : Builder) → rest ≡ [] → put (arguments_code (arguments rest)) m ≡ goal → m ≡ goal
@@ -252,25 +297,33 @@ put-keywords-nil : (b : Builder) → put (keywords_code (keywords [])) b ≡ b
 unfolding hidden keywords shape-the_row-Keyword-4
 put-keywords-nil b = refl
 
-put-keywords-cons : (b : Builder) (x : Keyword) (xs : List Keyword) → put (keywords_code (keywords (x ∷ xs))) b ≡ put (keywords_code (keywords xs)) (put (straight (i.LoadConst (text x.name false) ∷ []) ⨾ expr_code x.value) b)
+put-keywords-cons : (b : Builder) (x : Keyword) (xs : List Keyword) →
+    put (keywords_code (keywords (x ∷ xs))) b
+    ≡ put (keywords_code (keywords xs)) (put (straight (i.LoadConst (text x.name false) ∷ []) ⨾ expr_code x.value) b)
 unfolding hidden keywords shape-the_row-Keyword-4
 put-keywords-cons b x xs = refl
 
-pub more-keywords : (all rest : List Keyword) (x : Keyword) (m m1 goal : Builder) → all ≡ x ∷ rest → m1 ≡ put (straight (i.LoadConst (text x.name false) ∷ []) ⨾ expr_code x.value) m → put (keywords_code (keywords all)) m ≡ goal → put (keywords_code (keywords rest)) m1 ≡ goal
-more-keywords = more (λ x. straight (i.LoadConst (text x.name false) ∷ []) ⨾ expr_code x.value) (λ xs. keywords_code (keywords xs)) put-keywords-cons
+pub more-keywords : (all rest : List Keyword) (x : Keyword) (m m1 goal : Builder) → all ≡ x ∷ rest →
+    m1 ≡ put (straight (i.LoadConst (text x.name false) ∷ []) ⨾ expr_code x.value) m → put (keywords_code (keywords all)) m ≡ goal →
+    put (keywords_code (keywords rest)) m1 ≡ goal
+more-keywords = more (λ x. straight (i.LoadConst (text x.name false) ∷ []) ⨾ expr_code x.value)
+    (λ xs. keywords_code (keywords xs)) put-keywords-cons
 
 pub no_more-keywords : (rest : List Keyword) (m goal : Builder) → rest ≡ [] → put (keywords_code (keywords rest)) m ≡ goal → m ≡ goal
-no_more-keywords = no_more (λ x. straight (i.LoadConst (text x.name false) ∷ []) ⨾ expr_code x.value) (λ xs. keywords_code (keywords xs)) put-keywords-nil
+no_more-keywords = no_more (λ x. straight (i.LoadConst (text x.name false) ∷ []) ⨾ expr_code x.value)
+    (λ xs. keywords_code (keywords xs)) put-keywords-nil
 
 put-steps-nil : (b : Builder) → put (steps_code (steps [])) b ≡ b
 unfolding hidden steps shape-the_row-Step-5
 put-steps-nil b = refl
 
-put-steps-cons : (b : Builder) (x : Step) (xs : List Step) → put (steps_code (steps (x ∷ xs))) b ≡ put (steps_code (steps xs)) (put (step_code x) b)
+put-steps-cons : (b : Builder) (x : Step) (xs : List Step) →
+    put (steps_code (steps (x ∷ xs))) b ≡ put (steps_code (steps xs)) (put (step_code x) b)
 unfolding hidden steps shape-the_row-Step-5
 put-steps-cons b x xs = refl
 
-pub more-steps : (all rest : List Step) (x : Step) (m m1 goal : Builder) → all ≡ x ∷ rest → m1 ≡ put (step_code x) m → put (steps_code (steps all)) m ≡ goal → put (steps_code (steps rest)) m1 ≡ goal
+pub more-steps : (all rest : List Step) (x : Step) (m m1 goal : Builder) → all ≡ x ∷ rest → m1 ≡ put (step_code x) m →
+    put (steps_code (steps all)) m ≡ goal → put (steps_code (steps rest)) m1 ≡ goal
 more-steps = more step_code (λ xs. steps_code (steps xs)) put-steps-cons
 
 pub no_more-steps : (rest : List Step) (m goal : Builder) → rest ≡ [] → put (steps_code (steps rest)) m ≡ goal → m ≡ goal
@@ -281,7 +334,9 @@ put-named-nil : (b : Builder) → put (named_code (keywords [])) b ≡ b
 unfolding hidden keywords shape-the_row-Keyword-4
 put-named-nil b = refl
 
-put-named-cons : (b : Builder) (x : Keyword) (xs : List Keyword) → put (named_code (keywords (x ∷ xs))) b ≡ with_one (i.BuildKwargs (count_keywords (keywords xs) + 1)) (put (keywords_code (keywords (x ∷ xs))) b)
+put-named-cons : (b : Builder) (x : Keyword) (xs : List Keyword) →
+    put (named_code (keywords (x ∷ xs))) b
+    ≡ with_one (i.BuildKwargs (count_keywords (keywords xs) + 1)) (put (keywords_code (keywords (x ∷ xs))) b)
 unfolding hidden keywords shape-the_row-Keyword-4
 put-named-cons b x xs = refl
 
@@ -289,27 +344,34 @@ pub no-named : (b : Builder) (xs : List Keyword) → (length xs == 0) ≡ true �
 no-named b [] none = sym (put-named-nil b)
 no-named b (x ∷ xs) none = absurd (omega (arith, eqb-true (length (x ∷ xs)) 0 none))
 
-pub made-named : (b m1 m2 : Builder) (n : ℕ) (xs : List Keyword) → (length xs == 0) ≡ false → m1 ≡ put (keywords_code (keywords xs)) b → n ≡ length xs → m2 ≡ with_one (i.BuildKwargs n) m1 → m2 ≡ put (named_code (keywords xs)) b
+pub made-named : (b m1 m2 : Builder) (n : ℕ) (xs : List Keyword) → (length xs == 0) ≡ false → m1 ≡ put (keywords_code (keywords xs)) b →
+    n ≡ length xs → m2 ≡ with_one (i.BuildKwargs n) m1 → m2 ≡ put (named_code (keywords xs)) b
 made-named b m1 m2 n [] some p k q = absurd (cc some)
 made-named b m1 m2 n (x ∷ xs) some p k q =
     let count : n ≡ count_keywords (keywords xs) + 1 = omega (arith, k, count-keywords xs) in
-    q ∙ ap {B = Builder} (λ j. with_one (i.BuildKwargs j) m1) count ∙ ap {B = Builder} (λ m. with_one (i.BuildKwargs (count_keywords (keywords xs) + 1)) m) p ∙ sym (put-named-cons b x xs)
+    q ∙ ap {B = Builder} (λ j. with_one (i.BuildKwargs j) m1) count
+    ∙ ap {B = Builder} (λ m. with_one (i.BuildKwargs (count_keywords (keywords xs) + 1)) m) p ∙ sym (put-named-cons b x xs)
 
 -- ---------------------------------------------------------------- comparisons in a row
 links-nil : (op : BinaryOperator) → links_code op (comparisons []) ≡ straight (binary_code op)
 unfolding hidden comparisons shape-the_row-Comparison-7
 links-nil op = refl
 
-put-links-cons : (b : Builder) (op : BinaryOperator) (x : Comparison) (xs : List Comparison) → put (links_code op (comparisons (x ∷ xs))) b ≡
+put-links-cons : (b : Builder) (op : BinaryOperator) (x : Comparison) (xs : List Comparison) →
+    put (links_code op (comparisons (x ∷ xs))) b ≡
     put (links_code x.operator (comparisons xs)) (put (expr_code x.right) (jumped IfFalseOrPop (with_one (i.CompareAndPreserve op) b)))
 unfolding hidden comparisons shape-the_row-Comparison-7
 put-links-cons b op x xs = refl
 
-pub more-links : (all rest : List Comparison) (x : Comparison) (op : BinaryOperator) (m m1 m2 m3 goal : Builder) → all ≡ x ∷ rest → m1 ≡ with_one (i.CompareAndPreserve op) m → m2 ≡ jumped IfFalseOrPop m1 → m3 ≡ put (expr_code x.right) m2 →
+pub more-links : (all rest : List Comparison) (x : Comparison) (op : BinaryOperator) (m m1 m2 m3 goal : Builder) → all ≡ x ∷ rest →
+    m1 ≡ with_one (i.CompareAndPreserve op) m → m2 ≡ jumped IfFalseOrPop m1 → m3 ≡ put (expr_code x.right) m2 →
     put (links_code op (comparisons all)) m ≡ goal → put (links_code x.operator (comparisons rest)) m3 ≡ goal
 more-links all rest x op m m1 m2 m3 goal left p q r g =
-    ap {B = Builder} (λ b. put (links_code x.operator (comparisons rest)) b) (r ∙ ap {B = Builder} (λ b. put (expr_code x.right) b) (q ∙ ap {B = Builder} (λ b. jumped IfFalseOrPop b) p))
+    ap {B = Builder} (λ b. put (links_code x.operator (comparisons rest)) b) (r
+    ∙ ap {B = Builder} (λ b. put (expr_code x.right) b) (q ∙ ap {B = Builder} (λ b. jumped IfFalseOrPop b) p))
     ∙ sym (put-links-cons m op x rest) ∙ ap {B = Builder} (λ l. put (links_code op (comparisons l)) m) (sym left) ∙ g
 
-pub no_more-links : (rest : List Comparison) (op : BinaryOperator) (m m1 goal : Builder) → rest ≡ [] → put (links_code op (comparisons rest)) m ≡ goal → m1 ≡ put (straight (binary_code op)) m → m1 ≡ goal
-no_more-links rest op m m1 goal none g p = p ∙ ap {B = Builder} (λ c. put c m) (sym (ap (λ l. links_code op (comparisons l)) none ∙ links-nil op)) ∙ g
+pub no_more-links : (rest : List Comparison) (op : BinaryOperator) (m m1 goal : Builder) → rest ≡ [] →
+    put (links_code op (comparisons rest)) m ≡ goal → m1 ≡ put (straight (binary_code op)) m → m1 ≡ goal
+no_more-links rest op m m1 goal none g p = p
+    ∙ ap {B = Builder} (λ c. put c m) (sym (ap (λ l. links_code op (comparisons l)) none ∙ links-nil op)) ∙ g

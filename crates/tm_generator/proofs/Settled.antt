@@ -37,7 +37,8 @@ exits_in pc next_round = Next pc ∷ []
 exits_in pc (aside c) = []
 
 module _ {E : Type 0} (place : E → ℕ) (made : E → Instruction) where
-  patched-append : (code : List Instruction) (es fs : List E) → patched place made code (es ++ fs) ≡ patched place made (patched place made code es) fs
+  patched-append : (code : List Instruction) (es fs : List E) →
+      patched place made code (es ++ fs) ≡ patched place made (patched place made code es) fs
   patched-append code [] fs = refl
   patched-append code (e ∷ es) fs = patched-append (slice_set code (place e) (made e)) es fs
 
@@ -51,11 +52,13 @@ module _ {E : Type 0} (place : E → ℕ) (made : E → Instruction) where
   -- one jump
   pub one_set : (pc : ℕ) (x y : Instruction) (e : E) → place e ≡ pc → made e ≡ y → Becomes pc (x ∷ []) (e ∷ []) (y ∷ [])
   one_set pc x y e here is = record {
-    set = λ base tail m. ap (λ n. slice_set (base ++ x ∷ tail) n (made e)) (here ∙ sym m) ∙ set-append_seam base x tail (made e) ∙ ap (λ z. base ++ z ∷ tail) is;
+    set = λ base tail m. ap (λ n. slice_set (base ++ x ∷ tail) n (made e)) (here ∙ sym m) ∙ set-append_seam base x tail (made e)
+        ∙ ap (λ z. base ++ z ∷ tail) is;
   }
 
   -- one part after another
-  pub both : (pc m : ℕ) (xs xs1 ys ys1 : List Instruction) {es fs : List E} → m ≡ pc + length xs1 → Becomes pc xs es xs1 → Becomes m ys fs ys1 → Becomes pc (xs ++ ys) (es ++ fs) (xs1 ++ ys1)
+  pub both : (pc m : ℕ) (xs xs1 ys ys1 : List Instruction) {es fs : List E} → m ≡ pc + length xs1 → Becomes pc xs es xs1 →
+      Becomes m ys fs ys1 → Becomes pc (xs ++ ys) (es ++ fs) (xs1 ++ ys1)
   both pc m xs xs1 ys ys1 {es = es} {fs = fs} there x y = record {
     set = λ base tail n.
         let at : length (base ++ xs1) ≡ m = omega (arith, length-append base xs1, n, there) in
@@ -74,12 +77,15 @@ Settles to pc xs es ys = Becomes out_place (out_jump to) pc xs es ys
 same : (to pc : ℕ) (xs : List Instruction) → Settles to pc xs [] xs
 same to pc xs = as_is out_place (out_jump to) pc xs
 
-two : (to pc m : ℕ) (xs xs1 ys ys1 : List Instruction) {es fs : List Out} → m ≡ pc + length xs1 → Settles to pc xs es xs1 → Settles to m ys fs ys1 → Settles to pc (xs ++ ys) (es ++ fs) (xs1 ++ ys1)
+two : (to pc m : ℕ) (xs xs1 ys ys1 : List Instruction) {es fs : List Out} → m ≡ pc + length xs1 → Settles to pc xs es xs1 →
+    Settles to m ys fs ys1 → Settles to pc (xs ++ ys) (es ++ fs) (xs1 ++ ys1)
 two to pc m xs xs1 ys ys1 there x y = both out_place (out_jump to) pc m xs xs1 ys ys1 there x y
 
-pub settles : (to : ℕ) (l : Labels) (pc : ℕ) (c : Fragment) → Settles to pc (assemble (outward 0 l) pc c) (outs_in pc c) (assemble (outward to l) pc c)
+pub settles : (to : ℕ) (l : Labels) (pc : ℕ) (c : Fragment) →
+    Settles to pc (assemble (outward 0 l) pc c) (outs_in pc c) (assemble (outward to l) pc c)
 settles to l pc (straight is) = same to pc is
-settles to l pc (c ⨾ d) = two to pc (beyond pc c) (assemble (outward 0 l) pc c) (assemble (outward to l) pc c) _ _ (beyond_is (outward to l) pc c) (settles to l pc c) (settles to l (beyond pc c) d)
+settles to l pc (c ⨾ d) = two to pc (beyond pc c) (assemble (outward 0 l) pc c) (assemble (outward to l) pc c) _ _
+    (beyond_is (outward to l) pc c) (settles to l pc c) (settles to l (beyond pc c) d)
 settles to l pc (jump_out j) = one_set out_place (out_jump to) pc (jump j 0) (jump j to) (record { kind = j; place = pc }) refl refl
 settles to l pc (bounded c) = same to pc (assemble (outward (beyond pc c) l) pc c)
 settles to l pc (fork c d) =
@@ -87,7 +93,8 @@ settles to l pc (fork c d) =
     let a = assemble (outward second l) pc c in
     let one = i.Jump (beyond second d) ∷ [] in
     two to pc (beyond pc c) a a _ _ (beyond_is (outward second l) pc c) (same to pc a)
-    (two to (beyond pc c) second one one (assemble (outward 0 l) second d) (assemble (outward to l) second d) refl (same to (beyond pc c) one) (settles to l second d))
+    (two to (beyond pc c) second one one (assemble (outward 0 l) second d) (assemble (outward to l) second d) refl
+    (same to (beyond pc c) one) (settles to l second d))
 settles to l pc (looped g c d) =
     let first = pc + 1 + 1 in
     let end = beyond first c + 1 in
@@ -96,8 +103,10 @@ settles to l pc (looped g c d) =
     let back = i.Jump (pc + 1) ∷ [] in
     let front_long : first ≡ pc + length front = omega arith in
     two to pc first front front _ _ front_long (same to pc front)
-    (two to first (beyond first c) (assemble (outward 0 k) first c) (assemble (outward to k) first c) _ _ (beyond_is (outward to k) first c) (settles to k first c)
-    (two to (beyond first c) end back back (assemble (outward 0 l) end d) (assemble (outward to l) end d) refl (same to (beyond first c) back) (settles to l end d)))
+    (two to first (beyond first c) (assemble (outward 0 k) first c) (assemble (outward to k) first c) _ _ (beyond_is (outward to k) first c)
+    (settles to k first c)
+    (two to (beyond first c) end back back (assemble (outward 0 l) end d) (assemble (outward to l) end d) refl
+    (same to (beyond first c) back) (settles to l end d)))
 settles to l pc break_loop = same to pc (i.Jump l.after ∷ [])
 settles to l pc next_round = same to pc (i.Jump l.again ∷ [])
 settles to l pc (aside c) = same to pc (assemble l pc (aside c))
@@ -109,20 +118,25 @@ Leads x y pc xs es ys = Becomes exit_place (exit_jump x y) pc xs es ys
 stays : (x y pc : ℕ) (xs : List Instruction) → Leads x y pc xs [] xs
 stays x y pc xs = as_is exit_place (exit_jump x y) pc xs
 
-goes : (x y pc m : ℕ) (xs xs1 ys ys1 : List Instruction) {es fs : List Exit} → m ≡ pc + length xs1 → Leads x y pc xs es xs1 → Leads x y m ys fs ys1 → Leads x y pc (xs ++ ys) (es ++ fs) (xs1 ++ ys1)
+goes : (x y pc m : ℕ) (xs xs1 ys ys1 : List Instruction) {es fs : List Exit} → m ≡ pc + length xs1 → Leads x y pc xs es xs1 →
+    Leads x y m ys fs ys1 → Leads x y pc (xs ++ ys) (es ++ fs) (xs1 ++ ys1)
 goes x y pc m xs xs1 ys ys1 there a b = both exit_place (exit_jump x y) pc m xs xs1 ys ys1 there a b
 
-pub leads : (x y : ℕ) (l : Labels) (pc : ℕ) (c : Fragment) → Leads x y pc (assemble (inward 0 0 l) pc c) (exits_in pc c) (assemble (inward x y l) pc c)
+pub leads : (x y : ℕ) (l : Labels) (pc : ℕ) (c : Fragment) →
+    Leads x y pc (assemble (inward 0 0 l) pc c) (exits_in pc c) (assemble (inward x y l) pc c)
 leads x y l pc (straight is) = stays x y pc is
-leads x y l pc (c ⨾ d) = goes x y pc (beyond pc c) (assemble (inward 0 0 l) pc c) (assemble (inward x y l) pc c) _ _ (beyond_is (inward x y l) pc c) (leads x y l pc c) (leads x y l (beyond pc c) d)
+leads x y l pc (c ⨾ d) = goes x y pc (beyond pc c) (assemble (inward 0 0 l) pc c) (assemble (inward x y l) pc c) _ _
+    (beyond_is (inward x y l) pc c) (leads x y l pc c) (leads x y l (beyond pc c) d)
 leads x y l pc (jump_out j) = stays x y pc (jump j l.out ∷ [])
 leads x y l pc (bounded c) = leads x y (outward (beyond pc c) l) pc c
 leads x y l pc (fork c d) =
     let second = beyond pc c + 1 in
     let k = outward second l in
     let one = i.Jump (beyond second d) ∷ [] in
-    goes x y pc (beyond pc c) (assemble (inward 0 0 k) pc c) (assemble (inward x y k) pc c) _ _ (beyond_is (inward x y k) pc c) (leads x y k pc c)
-    (goes x y (beyond pc c) second one one (assemble (inward 0 0 l) second d) (assemble (inward x y l) second d) refl (stays x y (beyond pc c) one) (leads x y l second d))
+    goes x y pc (beyond pc c) (assemble (inward 0 0 k) pc c) (assemble (inward x y k) pc c) _ _ (beyond_is (inward x y k) pc c)
+    (leads x y k pc c)
+    (goes x y (beyond pc c) second one one (assemble (inward 0 0 l) second d) (assemble (inward x y l) second d) refl
+    (stays x y (beyond pc c) one) (leads x y l second d))
 leads x y l pc (looped g c d) =
     let first = pc + 1 + 1 in
     let end = beyond first c + 1 in
@@ -133,7 +147,8 @@ leads x y l pc (looped g c d) =
     let front_long : first ≡ pc + length front = omega arith in
     goes x y pc first front front _ _ front_long (stays x y pc front)
     (goes x y first (beyond first c) a a _ _ (beyond_is k first c) (stays x y first a)
-    (goes x y (beyond first c) end back back (assemble (inward 0 0 l) end d) (assemble (inward x y l) end d) refl (stays x y (beyond first c) back) (leads x y l end d)))
+    (goes x y (beyond first c) end back back (assemble (inward 0 0 l) end d) (assemble (inward x y l) end d) refl
+    (stays x y (beyond first c) back) (leads x y l end d)))
 leads x y l pc break_loop = one_set exit_place (exit_jump x y) pc (i.Jump 0) (i.Jump y) (Leave pc) refl refl
 leads x y l pc next_round = one_set exit_place (exit_jump x y) pc (i.Jump 0) (i.Jump x) (Next pc) refl refl
 leads x y l pc (aside c) = stays x y pc (assemble l pc (aside c))

@@ -146,4 +146,5 @@ kept (c ∷ cs) b = outs_of (put (expr_code c.test) (asked cs b)) ∷ kept cs b
 abbrev pub answered : List (List Out) → List Condition → Builder → Builder
 answered outers [] b = b
 answered [] (c ∷ cs) b = b
-answered (outer ∷ outers) (c ∷ cs) b = answered outers cs (joined (place_of b) (put (expr_code c.otherwise) (bound outer (with_one (i.Jump 0) b))))
+answered (outer ∷ outers) (c ∷ cs) b = answered outers cs
+    (joined (place_of b) (put (expr_code c.otherwise) (bound outer (with_one (i.Jump 0) b))))

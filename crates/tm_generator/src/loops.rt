@@ -8,7 +8,7 @@ use crate::builder::Builder;
 use crate::expressions::push_expr;
 use crate::targets::push_target;
 use sqlite_items::Boxed;
-use tm_syntax::{Expr, Instruction, JumpKind, LoopFlags, AssignmentTarget};
+use tm_syntax::{AssignmentTarget, Expr, Instruction, JumpKind, LoopFlags};
 use tm_values::{Error, Value};
 
 /// Adds the code of what a loop goes over: with a condition the items for which that is true. A
@@ -40,7 +40,11 @@ pub(crate) fn push_iterable(
 }
 
 /// Adds the round that takes its item where a condition is true, and drops it else; OutOfMemory.
-fn push_pass_round(code: &mut Builder, target: &AssignmentTarget, condition: &Expr) -> Result<(), Error>
+fn push_pass_round(
+    code: &mut Builder,
+    target: &AssignmentTarget,
+    condition: &Expr,
+) -> Result<(), Error>
     ensures ok { OnOk result (code.new ≡ put (pass_round target.now condition.now) code.old) }
     ensures err { IfErr result (λ e. e ≡ OutOfMemory ∷ []) }
 {

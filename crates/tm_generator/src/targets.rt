@@ -7,7 +7,7 @@ ghost use Rattle.tm_values.specs.declared.error.ErrorKind.TheVariants.{OutOfMemo
 
 use crate::builder::Builder;
 use crate::expressions::push_expr;
-use tm_syntax::{Assignment, Expr, Instruction, AssignmentTarget};
+use tm_syntax::{Assignment, AssignmentTarget, Expr, Instruction};
 use tm_values::Error;
 
 /// Adds the code that gives the topmost value to a target; OutOfMemory.
@@ -42,7 +42,11 @@ fn push_targets(code: &mut Builder, parts: &[AssignmentTarget]) -> Result<(), Er
 }
 
 /// Adds the code of a value that is given to a target; OutOfMemory.
-pub(crate) fn push_set(code: &mut Builder, target: &AssignmentTarget, value: &Expr) -> Result<(), Error>
+pub(crate) fn push_set(
+    code: &mut Builder,
+    target: &AssignmentTarget,
+    value: &Expr,
+) -> Result<(), Error>
     ensures ok { OnOk result (code.new ≡ put (set_code target.now value.now) code.old) }
     ensures err { IfErr result (λ e. e ≡ OutOfMemory ∷ []) }
 {

@@ -1,5 +1,6 @@
 -- Numbers by steps: that those before the stop are counted, and that what is asked for decides.
-use Rattle.std.proofs.Common.{◌≡◌, ◌≢◌, ◌<◌, ◌≤◌, ◌*◌, ◌≤ℤ◌, ◌*ℤ◌, ◌^◌, ◌&&◌, not, nat_lt, slice_get, ℕ, ℤ, pos, negsuc, Bool, true, false, Option, Some, None, Ok, List, length, refl, sym, ap, ◌∙◌, arith, suc}
+use Rattle.std.proofs.Common.{◌≡◌, ◌≢◌, ◌<◌, ◌≤◌, ◌*◌, ◌≤ℤ◌, ◌*ℤ◌, ◌^◌, ◌&&◌, not, nat_lt, slice_get, ℕ, ℤ, pos, negsuc, Bool, true, false}
+use Rattle.std.proofs.Common.{Option, Some, None, Ok, List, length, refl, sym, ap, ◌∙◌, arith, suc}
 use Rattle.std.proofs.lemmas.Bool.Decides.{nat_tests}
 use Rattle.std.proofs.lemmas.Int.{ints}
 use Rattle.std.proofs.lemmas.List.FromFn.{length-map-range_with_len, get_or-map-range_with_len}
@@ -12,7 +13,8 @@ use Rattle.std.specs.Option.{option_copied, unwrap_or}
 use Rattle.std.specs.Ordering.{int_eq}
 use Rattle.std.specs.Slice.{IsItemAt}
 use Rattle.std.specs.Borrow.{Bor}
-use Rattle.tm_definitions.specs.Ranges.{Span, count_of, numbers_of, is_served, served, ranged, required_in, later_in, span_of, range_of, AreStepped, StandBefore, LeaveNoneOut}
+use Rattle.tm_definitions.specs.Ranges.{Span, count_of, numbers_of, is_served, served, ranged, required_in, later_in, span_of, range_of}
+use Rattle.tm_definitions.specs.Ranges.{AreStepped, StandBefore, LeaveNoneOut}
 use Rattle.tm_primitives.proofs.Laws.{before_at, past_at}
 use Rattle.tm_primitives.specs.Places.{step_to}
 use Rattle.tm_values.specs.Answer.{invalid}
@@ -69,7 +71,8 @@ pub step_fits : (x z : ℤ) (k : ℕ) → FitsSigned w64 x → FitsSigned w64 z 
 step_fits x z k f g l =
     let start = near x f in
     let steps = steps_near z k g l in
-    fits_between (step_to x z k) (omega (arith, ints, start.0, start.1, steps.0, steps.1)) (omega (arith, ints, start.0, start.1, steps.0, steps.1))
+    fits_between (step_to x z k) (omega (arith, ints, start.0, start.1, steps.0, steps.1))
+    (omega (arith, ints, start.0, start.1, steps.0, steps.1))
 
 -- too many numbers
 too_long : (e : Bool) (s : Span) → 100000 < count_of s → e && not (nat_lt 100000 (count_of s)) ≡ false
@@ -93,16 +96,19 @@ copied vs i None h = sym (slice_get_past vs i h.3)
 copied vs i (Some x) h = sym (slice_get_read vs (length vs) i x.now refl h.3.0 h.1)
 
 -- at most three arguments, each as it has to be
-asked : (vs : List Val) (a : ℤ) (b z : Option ℤ) → required_in (slice_get vs 0) ≡ Ok a → later_in (slice_get vs 1) ≡ Ok b → later_in (slice_get vs 2) ≡ Ok z
+asked : (vs : List Val) (a : ℤ) (b z : Option ℤ) → required_in (slice_get vs 0) ≡ Ok a → later_in (slice_get vs 1) ≡ Ok b →
+    later_in (slice_get vs 2) ≡ Ok z
     → length vs ≤ 3 → range_of vs ≡ ranged (span_of a b z)
 asked vs a b z e f g h =
     let long : nat_lt 3 (length vs) ≡ false = grind (arith, nat_tests) in
     rw (e, f, g, long)
 
-pub asked_both : (vs : List Val) (a y step : ℤ) (b z : Option ℤ) → required_in (slice_get vs 0) ≡ Ok a → later_in (slice_get vs 1) ≡ Ok b → later_in (slice_get vs 2) ≡ Ok z
+pub asked_both : (vs : List Val) (a y step : ℤ) (b z : Option ℤ) → required_in (slice_get vs 0) ≡ Ok a → later_in (slice_get vs 1) ≡ Ok b →
+    later_in (slice_get vs 2) ≡ Ok z
     → length vs ≤ 3 → b ≡ Some y → step ≡ unwrap_or z (pos 1) → range_of vs ≡ ranged (record { start = a; stop = y; step = step })
 asked_both vs a y step b z e f g h i s = asked vs a b z e f g h ∙ rw (i, s)
 
-pub asked_one : (vs : List Val) (a step : ℤ) (b z : Option ℤ) → required_in (slice_get vs 0) ≡ Ok a → later_in (slice_get vs 1) ≡ Ok b → later_in (slice_get vs 2) ≡ Ok z
+pub asked_one : (vs : List Val) (a step : ℤ) (b z : Option ℤ) → required_in (slice_get vs 0) ≡ Ok a → later_in (slice_get vs 1) ≡ Ok b →
+    later_in (slice_get vs 2) ≡ Ok z
     → length vs ≤ 3 → b ≡ None → step ≡ unwrap_or z (pos 1) → range_of vs ≡ ranged (record { start = pos 0; stop = a; step = step })
 asked_one vs a step b z e f g h i s = asked vs a b z e f g h ∙ rw (i, s)

@@ -14,7 +14,8 @@ begins-front : (n b : List ℕ) → begins n (n ++ b) ≡ true
 begins-front [] b = refl
 begins-front (x ∷ n) b = rw (same x, begins-front n b)
 
-one_more : (x y : ℕ) (n s : List ℕ) (e : Bool) → eqb x y ≡ e → e && begins n s ≡ true → (begins n s ≡ true → (b : List ℕ) × (s ≡ n ++ b)) → (b : List ℕ) × (y ∷ s ≡ (x ∷ n) ++ b)
+one_more : (x y : ℕ) (n s : List ℕ) (e : Bool) → eqb x y ≡ e → e && begins n s ≡ true → (begins n s ≡ true → (b : List ℕ) × (s ≡ n ++ b)) →
+    (b : List ℕ) × (y ∷ s ≡ (x ∷ n) ++ b)
 one_more x y n s true e h rest = let found = rest h in (found.0, both_same (equal x y e) found.1)
   where
     both_same : {x y : ℕ} {s t : List ℕ} → x ≡ y → s ≡ t → y ∷ s ≡ x ∷ t
@@ -41,7 +42,8 @@ has-cut (x ∷ a) n b = behind (begins n (x ∷ (a ++ (n ++ b)))) (has_part n (a
 pub has-part : (n s : List ℕ) → HasSubslice s n → has_part n s ≡ true
 has-part n s h = subst (λ (l : List ℕ). has_part n l ≡ true) (sym h.2) (has-cut h.0 n h.1)
 
-front_or_behind : (n : List ℕ) (y : ℕ) (s : List ℕ) (e : Bool) → begins n (y ∷ s) ≡ e → e || has_part n s ≡ true → (has_part n s ≡ true → HasSubslice s n) → HasSubslice (y ∷ s) n
+front_or_behind : (n : List ℕ) (y : ℕ) (s : List ℕ) (e : Bool) → begins n (y ∷ s) ≡ e → e || has_part n s ≡ true →
+    (has_part n s ≡ true → HasSubslice s n) → HasSubslice (y ∷ s) n
 front_or_behind n y s true e h rest = let front = front-begins n (y ∷ s) e in ([], front.0, front.1)
 front_or_behind n y s false e h rest = let found = rest h in (y ∷ found.0, found.1, ap (λ (l : List ℕ). y ∷ l) found.2)
 

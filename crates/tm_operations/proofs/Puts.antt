@@ -1,7 +1,9 @@
 -- Keywords behind plain arguments, and maps put one after the other.
-use Rattle.std.proofs.Common.{Vec, Global, ◌≡◌, ◌++◌, nat_lt, Bool, true, false, cond, List, [], ◌∷◌, length, Ok, Err, Less, Greater, refl, sym, ap, subst, ◌∙◌, append_assoc, slice_get}
+use Rattle.std.proofs.Common.{Vec, Global, ◌≡◌, ◌++◌, nat_lt, Bool, true, false, cond, List, [], ◌∷◌, length, Ok, Err, Less, Greater, refl}
+use Rattle.std.proofs.Common.{sym, ap, subst, ◌∙◌, append_assoc, slice_get}
 use Rattle.std.proofs.lemmas.List.{append-nil}
-use Rattle.tm_definitions.specs.Maps.{keyword_pairs, plain_alone, keywords_of, plain_of, base_of, dict_of, has_text_key, text_pairs, namespace_of, IsMapWithKeywords}
+use Rattle.tm_definitions.specs.Maps.{keyword_pairs, plain_alone, keywords_of, plain_of, base_of, dict_of, has_text_key, text_pairs}
+use Rattle.tm_definitions.specs.Maps.{namespace_of, IsMapWithKeywords}
 use Rattle.tm_definitions.specs.Ranges.{given, at_most_arguments}
 use Rattle.tm_values.proofs.Maps.{turned, map-put}
 use Rattle.tm_values.specs.Answer.{Answer, refused, IsAnswer, OkOrOutOfMemory}
@@ -74,7 +76,8 @@ map-put_each : (m ps : List (Val × Val)) → IsMap m → IsMap (put_each m ps)
 map-put_each m [] h = h
 map-put_each m (p ∷ ps) h = map-put_each (put p.0 p.1 m) ps (map-put p.0 p.1 m h)
 
-above_if : (e : Bool) (k : Val) (p : Val × Val) (ps : List (Val × Val)) → val_cmp k p.0 ≡ Less → IsAbove k ps → IsAbove k (cond e (p ∷ ps) ps)
+above_if : (e : Bool) (k : Val) (p : Val × Val) (ps : List (Val × Val)) → val_cmp k p.0 ≡ Less → IsAbove k ps →
+    IsAbove k (cond e (p ∷ ps) ps)
 above_if true k p ps h a = (h, a)
 above_if false k p ps h a = a
 
@@ -94,7 +97,8 @@ counted : (e : Bool) (m ps : List (Val × Val)) → IsMap m → cond e (refused 
 counted true m ps h e = absurd (cc)
 counted false m ps h e = let same : m ≡ ps = cc in subst IsMap same h
 
-joined : (base : Answer (List (Val × Val))) (plain : List Val) (ks ps : List (Val × Val)) → given base (λ qs. at_most_arguments 1 plain (Ok (put_all (qs ++ ks)))) ≡ Ok ps → IsMap ps
+joined : (base : Answer (List (Val × Val))) (plain : List Val) (ks ps : List (Val × Val)) →
+    given base (λ qs. at_most_arguments 1 plain (Ok (put_all (qs ++ ks)))) ≡ Ok ps → IsMap ps
 joined (Ok qs) plain ks ps e = counted (nat_lt 1 (length plain)) (put_all (qs ++ ks)) ps (map-put_each [] (qs ++ ks) tt) e
 joined (Err chain) plain ks ps e = absurd (cc)
 
@@ -102,16 +106,19 @@ dict_is_map : (r : RecordData) (vs : List Val) (ps : List (Val × Val)) → dict
 dict_is_map r vs ps e = joined (base_of r (slice_get (plain_of vs) 0)) (plain_of vs) (keywords_of vs) ps e
 
 -- the texts among a map's keys make a map at once
-pub named : (r : RecordData) (vs : List Val) (ps kept : List (Val × Val)) (result : Answer (List (Val × Val))) → dict_of r vs ≡ Ok ps → kept ≡ text_pairs ps
+pub named : (r : RecordData) (vs : List Val) (ps kept : List (Val × Val)) (result : Answer (List (Val × Val))) → dict_of r vs ≡ Ok ps →
+    kept ≡ text_pairs ps
     → OkOrOutOfMemory result (λ m. m ≡ put_all kept) → IsAnswer result (namespace_of r vs)
 named r vs ps kept (Ok m) e k h =
-    let same : put_all (text_pairs ps) ≡ text_pairs ps = put_each-behind [] (text_pairs ps) (none_below (text_pairs ps)) (map-text_pairs ps (dict_is_map r vs ps e)) in
+    let same : put_all (text_pairs ps)
+    ≡ text_pairs ps = put_each-behind [] (text_pairs ps) (none_below (text_pairs ps)) (map-text_pairs ps (dict_is_map r vs ps e)) in
     rw e (ap Ok (sym (h ∙ (ap put_all k ∙ same))))
 named r vs ps kept (Err chain) e k h = λ m. absurd (cc (m, h))
 
 -- ---- arguments and their last one
 
-pub split : (vs before : List Val) (v : Val) (ps : List (Val × Val)) → vs ≡ before ++ v ∷ [] → v ≡ keywords (pairs_of ps) → (before ≡ plain_of vs) × (ps ≡ keywords_of vs)
+pub split : (vs before : List Val) (v : Val) (ps : List (Val × Val)) → vs ≡ before ++ v ∷ [] → v ≡ keywords (pairs_of ps) →
+    (before ≡ plain_of vs) × (ps ≡ keywords_of vs)
 split vs before v ps w e =
     (rw (w, plain-last before v, e) (sym (append-nil before)), rw (w, keywords-last before v, e) (sym (entries_of-pairs_of ps)))
 
@@ -119,11 +126,13 @@ abbrev Keyed : Type 0
 Keyed = Rc (Vec (Val × Val) Global) Global
 
 -- a value that is no keyword map stays
-pub unsplit : (vs before : List Val) (n : Node) (v : Val) → vs ≡ before ++ v ∷ [] → node_view n ≡ v → ((x : Keyed) → n ≡ node.Keywords x → ⊥) → (vs ≡ plain_of vs) × ([] ≡ keywords_of vs)
+pub unsplit : (vs before : List Val) (n : Node) (v : Val) → vs ≡ before ++ v ∷ [] → node_view n ≡ v →
+    ((x : Keyed) → n ≡ node.Keywords x → ⊥) → (vs ≡ plain_of vs) × ([] ≡ keywords_of vs)
 unsplit vs before n v w e h =
     let alone = stays n h in
     (rw (w, plain-last before v, ← e, alone.0), rw (w, keywords-last before v, ← e, alone.1))
   where
-    stays : (n : Node) → ((x : Keyed) → n ≡ node.Keywords x → ⊥) → (plain_alone (node_view n) ≡ node_view n ∷ []) × (keyword_pairs (node_view n) ≡ [])
+    stays : (n : Node) → ((x : Keyed) → n ≡ node.Keywords x → ⊥) →
+        (plain_alone (node_view n) ≡ node_view n ∷ []) × (keyword_pairs (node_view n) ≡ [])
     stays (node.Keywords x) h = absurd (h x refl)
     stays _ h = (refl, refl)

@@ -1,6 +1,7 @@
 //! Arithmetic.
 ghost use Rattle.std.specs.Prelude.{◌≡◌, ◌∷◌, [], MatchOption, string_bytes};
-ghost use Rattle.tm_definitions.specs.Arithmetic.{both, number_answer, added, subtracted, multiplied, floor_divided, remaining, raised, negated, divided, text_added, list_added};
+ghost use Rattle.tm_definitions.specs.Arithmetic.{both, number_answer, added, subtracted, multiplied, floor_divided, remaining, raised};
+ghost use Rattle.tm_definitions.specs.Arithmetic.{negated, divided, text_added, list_added};
 ghost use Rattle.tm_values.specs.Answer.{IsAnswer};
 ghost use Rattle.tm_values.specs.Val.{whole_in, text_in, list_in};
 

@@ -1,7 +1,8 @@
 //! What `for` goes over, and what unpacks into several targets.
 ghost use Rattle.std.specs.Prelude.{◌≡◌, ◌∷◌, [], Ok, map as each};
 ghost use Rattle.std.specs.Str.{chars};
-ghost use Rattle.tm_definitions.specs.Iteration.{IsAnswerRead, UnpacksAsIterated, keys_of, character_texts, items_or, items_of, iterated, exactly, unpacked};
+ghost use Rattle.tm_definitions.specs.Iteration.{IsAnswerRead, UnpacksAsIterated, keys_of, character_texts, items_or, items_of, iterated};
+ghost use Rattle.tm_definitions.specs.Iteration.{exactly, unpacked};
 ghost use Rattle.tm_definitions.specs.Members.{text_values};
 ghost use Rattle.tm_definitions.specs.Names.{loop_names, macro_names};
 

@@ -1,7 +1,8 @@
 //! Attributes and items.
 ghost use Rattle.std.specs.Prelude.{◌≡◌, ◌∷◌, [], Some, Ok, option_map, slice_get, map as each};
 ghost use Rattle.std.specs.Rc.{rc_str_bytes};
-ghost use Rattle.tm_definitions.specs.Members.{or_undefined, loop_attribute_named, at_item, loop_member, macro_member, member_of_undefined, attribute_of, item_of, list_item, text_item, loop_item, settable, is_callable, text_values};
+ghost use Rattle.tm_definitions.specs.Members.{or_undefined, loop_attribute_named, at_item, loop_member, macro_member, member_of_undefined};
+ghost use Rattle.tm_definitions.specs.Members.{attribute_of, item_of, list_item, text_item, loop_item, settable, is_callable, text_values};
 ghost use Rattle.tm_values.specs.Answer.{IsAnswer};
 ghost use Rattle.tm_values.specs.Records.{LoopData, loop_at};
 ghost use Rattle.tm_values.specs.Position.{position_of};

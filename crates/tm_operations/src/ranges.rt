@@ -1,7 +1,8 @@
 //! `range`: numbers by steps.
 ghost use Rattle.std.specs.Prelude.{◌≡◌, ◌≢◌, ◌≤◌, ◌∷◌, [], Ok, pos};
 ghost use Rattle.std.specs.Option.{option_copied};
-ghost use Rattle.tm_definitions.specs.Ranges.{bound_in, required_in, later_in, ranged, number_list, numbers_from, range_of, AreStepped, StandBefore, LeaveNoneOut};
+ghost use Rattle.tm_definitions.specs.Ranges.{bound_in, required_in, later_in, ranged, number_list, numbers_from, range_of, AreStepped};
+ghost use Rattle.tm_definitions.specs.Ranges.{StandBefore, LeaveNoneOut};
 ghost use Rattle.tm_primitives.specs.Places.{distance, count_before, step_to};
 ghost use Rattle.tm_values.specs.Answer.{IsAnswer};
 

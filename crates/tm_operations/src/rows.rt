@@ -1,6 +1,7 @@
 //! Worked calls, of `range`, `dict` and `namespace`, and the order of values that no template makes.
 ghost use Rattle.std.specs.Prelude.{[], ◌∷◌, pos, negsuc, true, Some, None, codes};
-ghost use Rattle.tm_operations.specs.Rows.{RangeIs, RangeFails, DictIs, DictFails, NamespaceIs, numbers, letter, a_is, b_is, map_of, keywords_given, macro_at, IsBelow};
+ghost use Rattle.tm_operations.specs.Rows.{RangeIs, RangeFails, DictIs, DictFails, NamespaceIs, numbers, letter, a_is, b_is, map_of};
+ghost use Rattle.tm_operations.specs.Rows.{keywords_given, macro_at, IsBelow};
 ghost use Rattle.tm_values.specs.Val.{none, boolean, number, exports, function, loop, namespace, pairs_of};
 ghost use Rattle.tm_values.specs.declared.error.ErrorKind.TheVariants.{InvalidOperation, MissingArgument, TooManyArguments};
 

@@ -1,5 +1,6 @@
 -- The laws of the places that a slice takes.
-use Rattle.std.proofs.Common.{◌≡◌, ◌≢◌, ◌<◌, ◌≤◌, ◌+◌, ◌*◌, ◌<ℤ◌, ◌≤ℤ◌, ◌+ℤ◌, ◌-ℤ◌, ◌*ℤ◌, ℕ, ℤ, pos, negsuc, neg_ℤ, Option, List, length, get_or, inl, inr, refl, sym, ap, ◌∙◌, arith, zero, suc, unsigned_abs}
+use Rattle.std.proofs.Common.{◌≡◌, ◌≢◌, ◌<◌, ◌≤◌, ◌+◌, ◌*◌, ◌<ℤ◌, ◌≤ℤ◌, ◌+ℤ◌, ◌-ℤ◌, ◌*ℤ◌, ℕ, ℤ, pos, negsuc, neg_ℤ, Option, List, length}
+use Rattle.std.proofs.Common.{get_or, inl, inr, refl, sym, ap, ◌∙◌, arith, zero, suc, unsigned_abs}
 use Rattle.std.proofs.lemmas.Int.{ints}
 use Rattle.std.proofs.lemmas.Grind.{div_ceil_times}
 use Rattle.std.proofs.lemmas.Nat.{mul-le}
@@ -8,7 +9,8 @@ use Rattle.std.proofs.Math.IntN.{pos-*ℤ-pos, pos-*ℤ-negsuc}
 use Rattle.std.specs.List.{All}
 use Rattle.std.specs.Int.{div_ceil}
 use Rattle.tm_primitives.proofs.Steps.{length-places_from, slice_within, abs_is, distance_is, count_up, not_negative}
-use Rattle.tm_primitives.specs.Places.{places_from, places_of, Within, slice_start, stop_of, distance, count_before, IsBefore, step_to, AreSpaced, AreBefore, IsDone, GoTheWay}
+use Rattle.tm_primitives.specs.Places.{places_from, places_of, Within, slice_start, stop_of, distance, count_before, IsBefore, step_to}
+use Rattle.tm_primitives.specs.Places.{AreSpaced, AreBefore, IsDone, GoTheWay}
 
 -- k steps up, or down
 up_to : (x : ℤ) (a k : ℕ) → step_to x (pos a) k ≡ x +ℤ pos (k * a)
@@ -121,17 +123,21 @@ go_the_way (negsuc a) x ps h s = λ j k d l m. falling x a j k (get_or ps j d) (
 -- ---- of a slice
 
 pub within : (n : ℕ) (start stop : Option ℤ) (z : ℤ) → z ≢ pos 0 → All (λ p. p < n) (places_of n start stop z)
-within n start stop z h k d l = all_within n (slice_start n z start) z (count_before z (slice_start n z start) (stop_of n z stop)) k d (slice_within n start stop z h) (rw length-places_from at l)
+within n start stop z h k d l = all_within n (slice_start n z start) z (count_before z (slice_start n z start) (stop_of n z stop)) k d
+    (slice_within n start stop z h) (rw length-places_from at l)
 
 pub spaced : (n : ℕ) (start stop : Option ℤ) (z : ℤ) → z ≢ pos 0 → AreSpaced n start z (places_of n start stop z)
 spaced n start stop z h k d l =
-    at_step n (slice_start n z start) z (count_before z (slice_start n z start) (stop_of n z stop)) k d (slice_within n start stop z h) (rw length-places_from at l)
+    at_step n (slice_start n z start) z (count_before z (slice_start n z start) (stop_of n z stop)) k d (slice_within n start stop z h)
+    (rw length-places_from at l)
 
 pub before : (n : ℕ) (start stop : Option ℤ) (z : ℤ) → z ≢ pos 0 → AreBefore n stop z (places_of n start stop z)
-before n start stop z h k d l = rw (spaced n start stop z h k d l) (before_at z (slice_start n z start) (stop_of n z stop) k h (rw length-places_from at l))
+before n start stop z h k d l = rw (spaced n start stop z h k d l)
+    (before_at z (slice_start n z start) (stop_of n z stop) k h (rw length-places_from at l))
 
 pub done : (n : ℕ) (start stop : Option ℤ) (z : ℤ) → z ≢ pos 0 → IsDone n start stop z (places_of n start stop z)
-done n start stop z h l = past_at z (slice_start n z start) (stop_of n z stop) (count_before z (slice_start n z start) (stop_of n z stop)) h refl (rw length-places_from at l)
+done n start stop z h l = past_at z (slice_start n z start) (stop_of n z stop)
+    (count_before z (slice_start n z start) (stop_of n z stop)) h refl (rw length-places_from at l)
 
 pub strict : (n : ℕ) (start stop : Option ℤ) (z : ℤ) → z ≢ pos 0 → GoTheWay z (places_of n start stop z)
 strict n start stop z h = go_the_way z (slice_start n z start) (places_of n start stop z) h (spaced n start stop z h)

@@ -1,5 +1,6 @@
 -- Numbers in range: what std's checked methods say, and powers.
-use Rattle.std.proofs.Common.{◌≡◌, ◌<◌, ◌≤◌, ℕ, ℤ, pos, negsuc, ◌^◌, ◌%◌, ◌==◌, Bool, true, false, cond, Option, Some, None, refl, ap, arith, zero, suc, neg_ℤ, lit<}
+use Rattle.std.proofs.Common.{◌≡◌, ◌<◌, ◌≤◌, ℕ, ℤ, pos, negsuc, ◌^◌, ◌%◌, ◌==◌, Bool, true, false, cond, Option, Some, None, refl, ap}
+use Rattle.std.proofs.Common.{arith, zero, suc, neg_ℤ, lit<}
 use Rattle.std.proofs.lemmas.Bool.Decides.{nat_tests}
 use Rattle.std.specs.Option.{SomeIff}
 use Rattle.std.specs.Int.RustNames.{FitsSigned}
@@ -60,6 +61,7 @@ power_of_zero a e h k = rw (h, zero_pow e k)
 pub power_of_one : (a : ℤ) (e : ℕ) → a ≡ pos 1 → Some a ≡ if_in_range (int_pow a e)
 power_of_one a e h = rw (h, one_pow e)
 
-pub power_of_minus_one : (a : ℤ) (e : ℕ) (even : Bool) → a ≡ negsuc 0 → (e % 2 == 0) ≡ even → cond even (Some (pos 1)) (Some (negsuc 0)) ≡ if_in_range (int_pow a e)
+pub power_of_minus_one : (a : ℤ) (e : ℕ) (even : Bool) → a ≡ negsuc 0 → (e % 2 == 0) ≡ even →
+    cond even (Some (pos 1)) (Some (negsuc 0)) ≡ if_in_range (int_pow a e)
 power_of_minus_one a e true h k = rw (h, one_pow e, k)
 power_of_minus_one a e false h k = rw (h, one_pow e, k)

@@ -1,5 +1,7 @@
 -- Numbers by steps: that those before the stop are places, and where they stand.
-use Rattle.std.proofs.Common.{◌≡◌, ◌≢◌, ◌<◌, ◌≤◌, ◌+◌, ◌*◌, ◌<ℤ◌, ◌≤ℤ◌, ◌+ℤ◌, ◌-ℤ◌, ℕ, ℤ, pos, negsuc, neg_ℤ, int_lt, ◌⊎◌, ◌^◌, Bool, true, false, cond, Option, Some, None, List, ◌∷◌, length, get_or, inl, inr, refl, ap, ◌∙◌, arith, zero, suc, unsigned_abs}
+use Rattle.std.proofs.Common.{◌≡◌, ◌≢◌, ◌<◌, ◌≤◌, ◌+◌, ◌*◌, ◌<ℤ◌, ◌≤ℤ◌, ◌+ℤ◌, ◌-ℤ◌, ℕ, ℤ, pos, negsuc, neg_ℤ, int_lt, ◌⊎◌, ◌^◌, Bool, true}
+use Rattle.std.proofs.Common.{false, cond, Option, Some, None, List, ◌∷◌, length, get_or, inl, inr, refl, ap, ◌∙◌, arith, zero, suc}
+use Rattle.std.proofs.Common.{unsigned_abs}
 use Rattle.std.proofs.lemmas.Int.{ints}
 use Rattle.std.proofs.lemmas.Grind.{div_ceil_times}
 use Rattle.std.proofs.Math.Nat.{suc-mul}
@@ -50,7 +52,8 @@ pub stop_up : (n : ℕ) (z : ℤ) (s : Option ℤ) → is_negative z ≡ false �
 stop_up n z None e = rw e (omega (arith, ints), omega (arith, ints))
 stop_up n z (Some i) e = rw e (cut_in (pos 0) (pos n) (from_start n i) (omega (arith, ints)))
 
-pub start_down : (n : ℕ) (z : ℤ) (s : Option ℤ) → is_negative z ≡ true → (negsuc 0 ≤ℤ slice_start n z s) × (slice_start n z s ≤ℤ (pos n -ℤ pos 1))
+pub start_down : (n : ℕ) (z : ℤ) (s : Option ℤ) → is_negative z ≡ true →
+    (negsuc 0 ≤ℤ slice_start n z s) × (slice_start n z s ≤ℤ (pos n -ℤ pos 1))
 start_down n z None e = rw e (omega (arith, ints), omega (arith, ints))
 start_down n z (Some i) e = rw e (cut_in (negsuc 0) (pos n -ℤ pos 1) (from_start n i) (omega (arith, ints)))
 
@@ -62,7 +65,8 @@ pub abs_is : (z : ℤ) → pos 0 ≤ℤ z → pos (unsigned_abs z) ≡ z
 abs_is (pos n) h = refl
 abs_is (negsuc n) h = absurd (omega (arith, ints, h))
 
-distance_if : (b : Bool) (x y : ℤ) → int_lt x y ≡ b → ((x <ℤ y) × (pos (cond b (unsigned_abs (y -ℤ x)) 0) ≡ y -ℤ x)) ⊎ ((y ≤ℤ x) × (cond b (unsigned_abs (y -ℤ x)) 0 ≡ 0))
+distance_if : (b : Bool) (x y : ℤ) → int_lt x y ≡ b →
+    ((x <ℤ y) × (pos (cond b (unsigned_abs (y -ℤ x)) 0) ≡ y -ℤ x)) ⊎ ((y ≤ℤ x) × (cond b (unsigned_abs (y -ℤ x)) 0 ≡ 0))
 distance_if true x y e =
     let h : x <ℤ y = grind (arith, ints) in
     inl (h, abs_is (y -ℤ x) (omega (arith, ints, h)))
@@ -96,18 +100,23 @@ pub count_up : (z x y : ℤ) → is_negative z ≡ false → count_before z x y 
 count_up z x y e = rw e
 
 -- each place that a slice takes is one
-pub slice_within : (n : ℕ) (start stop : Option ℤ) (z : ℤ) → z ≢ pos 0 → Within n (slice_start n z start) z (count_before z (slice_start n z start) (stop_of n z stop))
+pub slice_within : (n : ℕ) (start stop : Option ℤ) (z : ℤ) → z ≢ pos 0 →
+    Within n (slice_start n z start) z (count_before z (slice_start n z start) (stop_of n z stop))
 slice_within n start stop (pos zero) h = absurd (h refl)
 slice_within n start stop (pos (suc k)) h =
     let e = not_negative (suc k) in
     let s = start_up n (pos (suc k)) start e in
     let t = stop_up n (pos (suc k)) stop e in
-    up_within n (suc k) (count_before (pos (suc k)) (slice_start n (pos (suc k)) start) (stop_of n (pos (suc k)) stop)) (slice_start n (pos (suc k)) start) s.0
-    (up_short n (suc k) (count_before (pos (suc k)) (slice_start n (pos (suc k)) start) (stop_of n (pos (suc k)) stop)) (slice_start n (pos (suc k)) start) (stop_of n (pos (suc k)) stop) (omega arith) (count_up (pos (suc k)) (slice_start n (pos (suc k)) start) (stop_of n (pos (suc k)) stop) e) s.1 t.1)
+    up_within n (suc k) (count_before (pos (suc k)) (slice_start n (pos (suc k)) start) (stop_of n (pos (suc k)) stop))
+    (slice_start n (pos (suc k)) start) s.0
+    (up_short n (suc k) (count_before (pos (suc k)) (slice_start n (pos (suc k)) start) (stop_of n (pos (suc k)) stop))
+    (slice_start n (pos (suc k)) start) (stop_of n (pos (suc k)) stop) (omega arith)
+    (count_up (pos (suc k)) (slice_start n (pos (suc k)) start) (stop_of n (pos (suc k)) stop) e) s.1 t.1)
 slice_within n start stop (negsuc k) h =
     let s = start_down n (negsuc k) start refl in
     let t = stop_down n (negsuc k) stop refl in
-    down_within n k (count_before (negsuc k) (slice_start n (negsuc k) start) (stop_of n (negsuc k) stop)) (slice_start n (negsuc k) start) (omega (arith, ints, s.1))
+    down_within n k (count_before (negsuc k) (slice_start n (negsuc k) start) (stop_of n (negsuc k) stop)) (slice_start n (negsuc k) start)
+    (omega (arith, ints, s.1))
     (down_short k (slice_start n (negsuc k) start) (stop_of n (negsuc k) stop) s.0 t.0)
 
 pub within_more : (n m : ℕ) (x z : ℤ) (count : ℕ) → n ≤ m → Within n x z count → Within m x z count
@@ -125,15 +134,19 @@ bounds_near n start stop z h = near_if (is_negative z) refl
     near_if true e =
         let s = start_down n z start e in
         let t = stop_down n z stop e in
-        small (stop_of n z stop -ℤ slice_start n z start) (omega (arith, ints, s.0, s.1, t.0, t.1)) (omega (arith, ints, s.0, s.1, t.0, t.1))
+        small (stop_of n z stop -ℤ slice_start n z start) (omega (arith, ints, s.0, s.1, t.0, t.1))
+        (omega (arith, ints, s.0, s.1, t.0, t.1))
     near_if false e =
         let s = start_up n z start e in
         let t = stop_up n z stop e in
-        small (stop_of n z stop -ℤ slice_start n z start) (omega (arith, ints, s.0, s.1, t.0, t.1)) (omega (arith, ints, s.0, s.1, t.0, t.1))
+        small (stop_of n z stop -ℤ slice_start n z start) (omega (arith, ints, s.0, s.1, t.0, t.1))
+        (omega (arith, ints, s.0, s.1, t.0, t.1))
 
 pub slice_inside : (n : ℕ) (start stop : Option ℤ) (z x y : ℤ) (count : ℕ) → z ≢ pos 0 → n < 2 ^ 64
     → x ≡ slice_start n z start → y ≡ stop_of n z stop → count ≡ count_before z x y → Within (2 ^ 64) x z count
-slice_inside n start stop z x y count h l ex ey ec = rw (ec, ex, ey) (within_more n (2 ^ 64) (slice_start n z start) z (count_before z (slice_start n z start) (stop_of n z stop)) (omega (arith, l)) (slice_within n start stop z h))
+slice_inside n start stop z x y count h l ex ey ec = rw (ec, ex, ey)
+    (within_more n (2 ^ 64) (slice_start n z start) z (count_before z (slice_start n z start) (stop_of n z stop)) (omega (arith, l))
+    (slice_within n start stop z h))
 
 -- places one by one
 pub run_is : (x : ℤ) (m : ℕ) → Within (2 ^ 64) x (pos 1) m → 0 < m → places_from x (pos 1) m ≡ range_with_len (unsigned_abs x) m
@@ -149,14 +162,17 @@ run_is x m w h = by_ones x m (first_at_least x m w h)
 
     by_ones : (x : ℤ) (m : ℕ) → pos 0 ≤ℤ x → places_from x (pos 1) m ≡ range_with_len (unsigned_abs x) m
     by_ones x zero h = refl
-    by_ones x (suc m) h = ap (λ (l : List ℕ). unsigned_abs x ∷ l) (by_ones (x +ℤ pos 1) m (omega (arith, ints, h)) ∙ ap (λ (a : ℕ). range_with_len a m) (after x h))
+    by_ones x (suc m) h = ap (λ (l : List ℕ). unsigned_abs x ∷ l) (by_ones (x +ℤ pos 1) m (omega (arith, ints, h))
+        ∙ ap (λ (a : ℕ). range_with_len a m) (after x h))
 
 -- places of which the second is not next to the first
 pub no_run : (x z : ℤ) (m : ℕ) → Within (2 ^ 64) x z m → m ≢ 0 → m ≢ 1 → z ≢ pos 1 → (p n : ℕ) → places_from x z m ≢ range_with_len p n
 no_run x z zero w h k l p n e = h refl
 no_run x z (suc zero) w h k l p n e = k refl
-no_run x z (suc (suc m)) w h k l p zero e = let lengths : suc (length (places_from (x +ℤ z) z (suc m))) ≡ 0 = ap length e in absurd (omega (arith, lengths))
-no_run x z (suc (suc m)) w h k l p (suc zero) e = let lengths : suc (suc (length (places_from (x +ℤ z +ℤ z) z m))) ≡ 1 = ap length e in absurd (omega (arith, lengths))
+no_run x z (suc (suc m)) w h k l p zero e = let lengths : suc (length (places_from (x +ℤ z) z (suc m)))
+    ≡ 0 = ap length e in absurd (omega (arith, lengths))
+no_run x z (suc (suc m)) w h k l p (suc zero) e = let lengths : suc (suc (length (places_from (x +ℤ z +ℤ z) z m)))
+    ≡ 1 = ap length e in absurd (omega (arith, lengths))
 no_run x z (suc (suc m)) w h k l p (suc (suc n)) e =
     let first : unsigned_abs x ≡ p = ap (λ (ps : List ℕ). get_or ps 0 0) e in
     let second : unsigned_abs (x +ℤ z) ≡ p + 1 = ap (λ (ps : List ℕ). get_or ps 1 0) e in

@@ -1,12 +1,14 @@
 -- Texts by their characters: where they may be cut, what the parts are, and how many characters they have.
-use Rattle.std.proofs.Common.{◌≡◌, ◌<◌, ◌≤◌, ◌+◌, ◌-◌, ◌/◌, ◌%◌, ℕ, Bool, true, false, cond, nat_lt, List, [], ◌∷◌, ◌++◌, length, take, drop, Option, Some, None, is_some, MatchOption, refl, sym, ap, ◌∙◌, arith, suc, subst, length-append}
+use Rattle.std.proofs.Common.{◌≡◌, ◌<◌, ◌≤◌, ◌+◌, ◌-◌, ◌/◌, ◌%◌, ℕ, Bool, true, false, cond, nat_lt, List, [], ◌∷◌, ◌++◌, length, take}
+use Rattle.std.proofs.Common.{drop, Option, Some, None, is_some, MatchOption, refl, sym, ap, ◌∙◌, arith, suc, subst, length-append}
 use Rattle.std.proofs.Math.Seq.{take-append_seam, drop-append_seam}
 use Rattle.std.proofs.lemmas.Bool.{false≢true}
 use Rattle.std.proofs.lemmas.Bool.Decides.{nat_tests}
 use Rattle.std.proofs.lemmas.List.{take-append-drop, length-take-le}
 use Rattle.std.proofs.lemmas.List.Sums.{sum_by-append}
 use Rattle.std.proofs.lemmas.Nat.{mod_below}
-use Rattle.std.proofs.lemmas.Str.{chars-IsAscii, chars-append, chars_past_char, encodes-chars, encodes-append, encodes_same, IsUtf8-from_ascii, IsCharBoundary-at_seam, IsCharBoundary-from_take, IsUtf8-past_char, length-encode}
+use Rattle.std.proofs.lemmas.Str.{chars-IsAscii, chars-append, chars_past_char, encodes-chars, encodes-append, encodes_same}
+use Rattle.std.proofs.lemmas.Str.{IsUtf8-from_ascii, IsCharBoundary-at_seam, IsCharBoundary-from_take, IsUtf8-past_char, length-encode}
 use Rattle.std.specs.Char.{encode_utf8, len_utf8}
 use Rattle.std.specs.List.{count_by}
 use Rattle.std.specs.Str.{chars, IsUtf8, IsAscii, IsCharBoundary, encode_utf8_all}
@@ -17,7 +19,8 @@ use Rattle.tm_primitives.specs.Characters.{starts_character}
 -- the text is its first n characters, and then the rest
 seam : (bs r : List ℕ) (n : ℕ) → IsUtf8 bs → IsUtf8 r → chars r ≡ drop n (chars bs) → bs ≡ encode_utf8_all (take n (chars bs)) ++ r
 seam bs r n u v e =
-    sym (encodes-chars bs u) ∙ (ap encode_utf8_all (sym (take-append-drop n (chars bs))) ∙ (encodes-append (take n (chars bs)) (drop n (chars bs))
+    sym (encodes-chars bs u) ∙ (ap encode_utf8_all (sym (take-append-drop n (chars bs)))
+    ∙ (encodes-append (take n (chars bs)) (drop n (chars bs))
     ∙ ap (λ (s : List ℕ). encode_utf8_all (take n (chars bs)) ++ s) (ap encode_utf8_all (sym e) ∙ encodes-chars r v)))
 
 cut_at : (bs xs r : List ℕ) → bs ≡ xs ++ r → length bs ≡ length xs + length r
@@ -35,7 +38,8 @@ cut_boundary bs r n u v e =
     let at : length front ≡ length bs - length r = omega (arith, s) in
     subst (IsCharBoundary bs) at (IsCharBoundary-at_seam bs front r (seam bs r n u v e) v)
 
-pub first_is : (bs r p : List ℕ) (n : ℕ) → IsUtf8 bs → IsUtf8 r → IsUtf8 p → chars r ≡ drop n (chars bs) → p ≡ take (length bs - length r) bs → chars p ≡ take n (chars bs)
+pub first_is : (bs r p : List ℕ) (n : ℕ) → IsUtf8 bs → IsUtf8 r → IsUtf8 p → chars r ≡ drop n (chars bs) →
+    p ≡ take (length bs - length r) bs → chars p ≡ take n (chars bs)
 first_is bs r p n u v w e f =
     let front = encode_utf8_all (take n (chars bs)) in
     let whole : bs ≡ front ++ r = seam bs r n u v e in
@@ -62,7 +66,8 @@ pub some_from : (r : Option ℕ) (P : Type 0) (Q : ℕ → Type 0) → is_some r
 some_from None P Q e m = absurd (false≢true e)
 some_from (Some c) P Q e m = (c, m)
 
-pub drop_more : (bs rest cs : List ℕ) (c left : ℕ) → IsUtf8 bs → bs ≡ encode_utf8 c ++ rest → 0 < left → drop left (chars bs) ≡ cs → drop (left - 1) (chars rest) ≡ cs
+pub drop_more : (bs rest cs : List ℕ) (c left : ℕ) → IsUtf8 bs → bs ≡ encode_utf8 c ++ rest → 0 < left → drop left (chars bs) ≡ cs →
+    drop (left - 1) (chars rest) ≡ cs
 drop_more bs rest cs c left u e h k =
     let one : left ≡ suc (left - 1) = omega arith in
     let more : drop (suc (left - 1)) (chars bs) ≡ cs = subst (λ (n : ℕ). drop n (chars bs) ≡ cs) one k in
@@ -83,7 +88,11 @@ ascii_leads b h = grind (arith, nat_tests)
 follows : (n : ℕ) → starts_character (128 + n % 64) ≡ false
 follows n = let h = mod_below n 64 (omega arith) in grind (arith, nat_tests, h)
 
-one_of : (x y z : Bool) (c : ℕ) → (x ≡ true → c < 128) → count_by starts_character (cond x (c ∷ []) (cond y ((192 + c / 64) ∷ (128 + c % 64) ∷ []) (cond z ((224 + c / 4096) ∷ (128 + c / 64 % 64) ∷ (128 + c % 64) ∷ []) ((240 + c / 262144) ∷ (128 + c / 4096 % 64) ∷ (128 + c / 64 % 64) ∷ (128 + c % 64) ∷ [])))) ≡ 1
+one_of : (x y z : Bool) (c : ℕ) → (x ≡ true → c < 128) →
+    count_by starts_character (cond x (c ∷ [])
+    (cond y ((192 + c / 64) ∷ (128 + c % 64) ∷ [])
+    (cond z ((224 + c / 4096) ∷ (128 + c / 64 % 64) ∷ (128 + c % 64) ∷ [])
+    ((240 + c / 262144) ∷ (128 + c / 4096 % 64) ∷ (128 + c / 64 % 64) ∷ (128 + c % 64) ∷ [])))) ≡ 1
 one_of true y z c h = rw (ascii_leads c (h refl))
 one_of false true z c h = rw (leads (192 + c / 64) (omega arith), follows c)
 one_of false false true c h = rw (leads (224 + c / 4096) (omega arith), follows (c / 64), follows c)

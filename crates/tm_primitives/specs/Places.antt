@@ -1,5 +1,6 @@
 -- Which places of a sequence an index and a slice take.
-use Rattle.std.specs.Prelude.{◌≡◌, ◌≢◌, ◌<◌, ◌≤ℤ◌, ◌<ℤ◌, unsigned_abs, int_lt, ℕ, zero, suc, ℤ, pos, negsuc, ◌+ℤ◌, ◌-ℤ◌, ◌*ℤ◌, cond, Option, Some, None, List, [], ◌∷◌, length, slice_index_or, ⊤}
+use Rattle.std.specs.Prelude.{◌≡◌, ◌≢◌, ◌<◌, ◌≤ℤ◌, ◌<ℤ◌, unsigned_abs, int_lt, ℕ, zero, suc, ℤ, pos, negsuc, ◌+ℤ◌, ◌-ℤ◌, ◌*ℤ◌, cond, Option}
+use Rattle.std.specs.Prelude.{Some, None, List, [], ◌∷◌, length, slice_index_or, ⊤}
 use Rattle.std.specs.List.{All, AllPairs, range_with_len}
 use Rattle.std.specs.Int.{is_negative, div_ceil}
 

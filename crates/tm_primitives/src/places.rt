@@ -2,7 +2,8 @@
 ghost use Rattle.std.specs.Prelude.{◌≡◌, ◌≢◌, ◌<◌, ◌<ℤ◌, ◌-ℤ◌, ◌∷◌, [], pos, unsigned_abs, length, IfSome, IfNone, ◌^◌, All};
 ghost use Rattle.std.specs.List.{range_with_len};
 ghost use Rattle.std.specs.Int.{div_ceil, is_negative};
-ghost use Rattle.tm_primitives.specs.Places.{from_start, place_of, lowest, highest, bound_of, slice_start, stop_of, distance, count_before, places_of, IsNoRun, AreSpaced, AreBefore, IsDone, GoTheWay};
+ghost use Rattle.tm_primitives.specs.Places.{from_start, place_of, lowest, highest, bound_of, slice_start, stop_of, distance, count_before};
+ghost use Rattle.tm_primitives.specs.Places.{places_of, IsNoRun, AreSpaced, AreBefore, IsDone, GoTheWay};
 
 use std::marker::Model;
 

@@ -4,7 +4,8 @@
 
 ghost use Rattle.std.specs.Prelude.{◌≡◌, ◌≤◌};
 ghost use Rattle.std.specs.Int.{int_pow};
-ghost use Rattle.tm_primitives.specs.Whole.{sum_of, difference_of, product_of, negation_of, quotient_of, remainder_of, power_of, if_in_range, IsEuclidean};
+ghost use Rattle.tm_primitives.specs.Whole.{sum_of, difference_of, product_of, negation_of, quotient_of, remainder_of, power_of};
+ghost use Rattle.tm_primitives.specs.Whole.{if_in_range, IsEuclidean};
 
 /// `a + b`; none where the sum is out of range.
 pub fn add(a: i128, b: i128) -> Option<i128>

@@ -1,5 +1,6 @@
 -- A text that is spelled run by run: bytes wait from start on, until one comes that is spelled another way.
-use Rattle.std.proofs.Common.{◌≡◌, ◌≤◌, ◌<◌, ◌+◌, ◌-◌, ◌++◌, ℕ, List, [], ◌∷◌, length, get_or, take, drop, flat_map, length-drop, append-nil, append_assoc, take_all, sym, ap, ◌∙◌, arith}
+use Rattle.std.proofs.Common.{◌≡◌, ◌≤◌, ◌<◌, ◌+◌, ◌-◌, ◌++◌, ℕ, List, [], ◌∷◌, length, get_or, take, drop, flat_map, length-drop}
+use Rattle.std.proofs.Common.{append-nil, append_assoc, take_all, sym, ap, ◌∙◌, arith}
 use Rattle.std.proofs.lemmas.List.{drop_all, drop_more, take_more, get_or-drop}
 
 -- the bytes that wait
@@ -16,22 +17,28 @@ waits bs start i le h =
     let within : i - start < length (drop start bs) = omega (arith, length-drop start bs) in
     let place : start + (i - start) ≡ i = omega arith in
     let more : i + 1 - start ≡ i - start + 1 = omega arith in
-    let byte : get_or (drop start bs) (i - start) 0 ≡ get_or bs i 0 = get_or-drop start bs (i - start) 0 ∙ ap (λ (k : ℕ). get_or bs k 0) place in
-    ap (λ (k : ℕ). take k (drop start bs)) more ∙ (take_more (drop start bs) (i - start) 0 within ∙ ap (λ (b : ℕ). run bs start i ++ b ∷ []) byte)
+    let byte : get_or (drop start bs) (i - start) 0 ≡ get_or bs i 0 = get_or-drop start bs (i - start) 0
+    ∙ ap (λ (k : ℕ). get_or bs k 0) place in
+    ap (λ (k : ℕ). take k (drop start bs)) more
+    ∙ (take_more (drop start bs) (i - start) 0 within ∙ ap (λ (b : ℕ). run bs start i ++ b ∷ []) byte)
 
 module _ (spelled : ℕ → List ℕ) (bs : List ℕ) where
   next : (i : ℕ) → i < length bs → flat_map spelled (drop i bs) ≡ spelled (get_or bs i 0) ++ flat_map spelled (drop (i + 1) bs)
   next i h = ap (flat_map spelled) (drop_more bs i 0 h)
 
   -- a byte that stands for itself waits too
-  pub plain_step : (start i : ℕ) → start ≤ i → i < length bs → spelled (get_or bs i 0) ≡ get_or bs i 0 ∷ [] → left spelled bs start i ≡ left spelled bs start (i + 1)
+  pub plain_step : (start i : ℕ) → start ≤ i → i < length bs → spelled (get_or bs i 0) ≡ get_or bs i 0 ∷ [] →
+      left spelled bs start i ≡ left spelled bs start (i + 1)
   plain_step start i le h plain =
       let behind = flat_map spelled (drop (i + 1) bs) in
       let same = next i h ∙ ap (λ (l : List ℕ). l ++ behind) plain in
-      ap (λ (l : List ℕ). run bs start i ++ l) same ∙ (sym (append_assoc (run bs start i) (get_or bs i 0 ∷ []) behind) ∙ ap (λ (l : List ℕ). l ++ behind) (sym (waits bs start i le h)))
+      ap (λ (l : List ℕ). run bs start i ++ l) same
+      ∙ (sym (append_assoc (run bs start i) (get_or bs i 0 ∷ []) behind)
+      ∙ ap (λ (l : List ℕ). l ++ behind) (sym (waits bs start i le h)))
 
   -- one that doesn't ends the run
-  pub spelled_step : (start i : ℕ) → i < length bs → left spelled bs start i ≡ run bs start i ++ (spelled (get_or bs i 0) ++ left spelled bs (i + 1) (i + 1))
+  pub spelled_step : (start i : ℕ) → i < length bs →
+      left spelled bs start i ≡ run bs start i ++ (spelled (get_or bs i 0) ++ left spelled bs (i + 1) (i + 1))
   spelled_step start i h =
       let none : i + 1 - (i + 1) ≡ 0 = omega arith in
       rw none (ap (λ (l : List ℕ). run bs start i ++ l) (next i h))

@@ -2,7 +2,8 @@
 ghost use Rattle.serde_json.specs.Written.{compact_text, number_text, comma_if};
 ghost use Rattle.tm_output.specs.Targets.{Takes};
 ghost use Rattle.tm_values.specs.Val.{vals_of, pairs_of};
-ghost use Rattle.tm_definitions.specs.Json.{json_text, data_of, array_text, object_text, item_json, member_json, key_text, namespace_data, number_data};
+ghost use Rattle.tm_definitions.specs.Json.{json_text, data_of, array_text, object_text, item_json, member_json, key_text, namespace_data};
+ghost use Rattle.tm_definitions.specs.Json.{number_data};
 
 use crate::text::write_json_text;
 use tm_output::{Target, TargetFailed};

@@ -4,7 +4,8 @@ ghost use Rattle.tm_output.specs.Targets.{Takes};
 ghost use Rattle.tm_values.specs.Val.{vals_of, pairs_of};
 ghost use Rattle.tm_definitions.specs.Emitted.{html_text};
 ghost use Rattle.tm_definitions.specs.Loops.{loop_text, position_text, progress_text};
-ghost use Rattle.tm_definitions.specs.Printed.{printed, bare_text, inner, item_text, pair_text, comma_after, list_text, map_text, namespace_text, macro_text};
+ghost use Rattle.tm_definitions.specs.Printed.{printed, bare_text, inner, item_text, pair_text, comma_after, list_text, map_text};
+ghost use Rattle.tm_definitions.specs.Printed.{namespace_text, macro_text};
 
 use crate::spelling::{Escape, Html, Verbatim};
 use crate::text::{write_number, write_quoted, write_spelled};

@@ -17,12 +17,14 @@ abbrev pub End : Type 0
 End = Whitespace × List ℕ
 
 -- where a quote stands and no text, there is no token
-pub no_literal : (cs behind : List ℕ) (q : Quote) → Some (q, behind) ≡ quote_at cs → ((v : Val) (rest : List ℕ) → IsLiteral q behind v rest → ⊥) → (t : Token) (rest : List ℕ) → IsToken cs t rest → ⊥
+pub no_literal : (cs behind : List ℕ) (q : Quote) → Some (q, behind) ≡ quote_at cs →
+    ((v : Val) (rest : List ℕ) → IsLiteral q behind v rest → ⊥) → (t : Token) (rest : List ℕ) → IsToken cs t rest → ⊥
 no_literal cs behind q e none t rest h =
     let text : IsTokenBehind (Some (q, behind)) cs t rest = subst (λ (o : Option (Quote × List ℕ)). IsTokenBehind o cs t rest) (sym e) h in
     none text.0 rest text.1
 
-one_token_behind : (q : Option (Quote × List ℕ)) (cs : List ℕ) (t u : Token) (r s : List ℕ) → IsTokenBehind q cs t r → IsTokenBehind q cs u s → (t ≡ u) × (r ≡ s)
+one_token_behind : (q : Option (Quote × List ℕ)) (cs : List ℕ) (t u : Token) (r s : List ℕ) → IsTokenBehind q cs t r →
+    IsTokenBehind q cs u s → (t ≡ u) × (r ≡ s)
 one_token_behind None cs t u r s h k = same_result t u r s (sym h ∙ k)
 one_token_behind (Some x) cs t u r s h k =
     let same = one_literal x.0 x.1 h.0 k.0 r s h.1 k.1 in
@@ -56,28 +58,37 @@ begins end cs old rest e = record {
   items = sym (append-nil old);
 }
 
-pub goes_on : (end cs : List ℕ) (old new more : List Token) (rest next blank : List ℕ) (depth deeper : ℕ) (t : Token) → ContentSoFar end cs old new rest depth → past_end end rest depth ≡ None → IsToken rest t next → depth_behind t depth ≡ Some deeper → blank ≡ past_blanks next → more ≡ new ++ t ∷ [] → ContentSoFar end cs old more blank deeper
+pub goes_on : (end cs : List ℕ) (old new more : List Token) (rest next blank : List ℕ) (depth deeper : ℕ) (t : Token) →
+    ContentSoFar end cs old new rest depth → past_end end rest depth ≡ None → IsToken rest t next → depth_behind t depth ≡ Some deeper →
+    blank ≡ past_blanks next → more ≡ new ++ t ∷ [] → ContentSoFar end cs old more blank deeper
 goes_on end cs old new more rest next blank depth deeper t here unended token deep blanks grown = record {
   added = here.added ++ t ∷ [];
-  steps = steps_last (Passes end) (record { rest = past_blanks cs; depth = 0 }) here.added (record { rest = rest; depth = depth }) t (record { rest = blank; depth = deeper }) here.steps
+  steps = steps_last (Passes end) (record { rest = past_blanks cs; depth = 0 }) here.added (record { rest = rest; depth = depth }) t
+      (record { rest = blank; depth = deeper }) here.steps
       (record { goes_on = unended; next = next; token = token; depth = deep; rest = blanks });
   items = grown ∙ ap (λ w. w ++ t ∷ []) here.items ∙ append_assoc old here.added (t ∷ []);
 }
 
-pub ends : (end cs : List ℕ) (old new : List Token) (rest : List ℕ) (depth : ℕ) (x : End) → ContentSoFar end cs old new rest depth → past_end end rest depth ≡ Some x → (ts : List Token) × Content end cs ts x × (new ≡ old ++ ts)
+pub ends : (end cs : List ℕ) (old new : List Token) (rest : List ℕ) (depth : ℕ) (x : End) → ContentSoFar end cs old new rest depth →
+    past_end end rest depth ≡ Some x → (ts : List Token) × Content end cs ts x × (new ≡ old ++ ts)
 ends end cs old new rest depth x here e = (here.added, (record { rest = rest; depth = depth }, here.steps, e), here.items)
 
 -- where the content neither ends nor goes on, there is none
-pub no_content : (end cs : List ℕ) (old new : List Token) (rest : List ℕ) (depth : ℕ) → ContentSoFar end cs old new rest depth → past_end end rest depth ≡ None → NoStep (Passes end) (record { rest = rest; depth = depth }) → (ts : List Token) (x : End) → Content end cs ts x → ⊥
+pub no_content : (end cs : List ℕ) (old new : List Token) (rest : List ℕ) (depth : ℕ) → ContentSoFar end cs old new rest depth →
+    past_end end rest depth ≡ None → NoStep (Passes end) (record { rest = rest; depth = depth }) → (ts : List Token) (x : End) →
+    Content end cs ts x → ⊥
 no_content end cs old new rest depth here unended stuck ts x h =
     let start : ContentPlace = record { rest = past_blanks cs; depth = 0 } in
-    let same = one_end (Passes end) start here.added (record { rest = rest; depth = depth }) ts h.0 (one_pass end) here.steps stuck h.1 (no_pass end h.0 x h.2) in
+    let same = one_end (Passes end) start here.added (record { rest = rest; depth = depth }) ts h.0 (one_pass end) here.steps stuck h.1
+    (no_pass end h.0 x h.2) in
     cc (sym unended ∙ ap (λ (p : ContentPlace). past_end end p.rest p.depth) same.1 ∙ h.2)
 
-pub no_token : (end rest : List ℕ) (depth : ℕ) → ((t : Token) (next : List ℕ) → IsToken rest t next → ⊥) → NoStep (Passes end) (record { rest = rest; depth = depth })
+pub no_token : (end rest : List ℕ) (depth : ℕ) → ((t : Token) (next : List ℕ) → IsToken rest t next → ⊥) →
+    NoStep (Passes end) (record { rest = rest; depth = depth })
 no_token end rest depth none = λ t u h. none t h.next h.token
 
-pub too_deep : (end rest next : List ℕ) (depth : ℕ) (t : Token) → IsToken rest t next → depth_behind t depth ≡ None → NoStep (Passes end) (record { rest = rest; depth = depth })
+pub too_deep : (end rest next : List ℕ) (depth : ℕ) (t : Token) → IsToken rest t next → depth_behind t depth ≡ None →
+    NoStep (Passes end) (record { rest = rest; depth = depth })
 too_deep end rest next depth t token deep = λ w u h.
     let same = one_token rest t w next h.next token h.token in
     cc (sym deep ∙ ap (λ x. depth_behind x depth) same.0 ∙ h.depth)

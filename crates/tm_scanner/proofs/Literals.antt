@@ -23,7 +23,8 @@ begins q cs front rest e = record {
   bytes = ap (λ (r : List ℕ × List ℕ). r.0) e ∙ sym (append-nil (run q cs).0);
 }
 
-pub goes_on : (q : Quote) (cs content rest next more left new : List ℕ) (c : ℕ) → LiteralSoFar q cs content rest → escape rest ≡ Some (c, next) → (more, left) ≡ run q next → new ≡ (content ++ encode_utf8 c) ++ more → LiteralSoFar q cs new left
+pub goes_on : (q : Quote) (cs content rest next more left new : List ℕ) (c : ℕ) → LiteralSoFar q cs content rest →
+    escape rest ≡ Some (c, next) → (more, left) ≡ run q next → new ≡ (content ++ encode_utf8 c) ++ more → LiteralSoFar q cs new left
 goes_on q cs content rest next more left new c here e split grown =
     let step : part q rest ≡ Some (encode_utf8 c ++ more, left) =
     ap (λ r. r >>= (λ (x : ℕ × List ℕ). Some (encode_utf8 x.0 ++ (run q x.1).0, (run q x.1).1))) e
@@ -36,9 +37,14 @@ goes_on q cs content rest next more left new c here e split grown =
           ∙ ap (λ w. (run q cs).0 ++ w) (sym (joined_last here.parts (encode_utf8 c ++ more)));
     }
 
-pub ends : (q : Quote) (cs content rest behind : List ℕ) → LiteralSoFar q cs content rest → past_quote q rest ≡ Some behind → IsText q cs content behind
-ends q cs content rest behind here e =
-    (here.parts, subst (λ (w : List ℕ). Steps (IsPart q) (run q cs).1 here.parts w) (behind-split (byte_of q ∷ []) rest behind e) here.steps, here.bytes)
+pub ends : (q : Quote) (cs content rest behind : List ℕ) → LiteralSoFar q cs content rest → past_quote q rest ≡ Some behind →
+    IsText q cs content behind
+ends q cs content rest behind here e = (
+  here.parts,
+  subst (λ (w : List ℕ). Steps (IsPart q) (run q cs).1 here.parts w)
+      (behind-split (byte_of q ∷ []) rest behind e) here.steps,
+  here.bytes,
+)
 
 one_part : (q : Quote) → OneStep (IsPart q)
 one_part q = λ s x y t u h k. same_result x y t u (sym h ∙ k)
@@ -52,10 +58,12 @@ stuck_part : (q : Quote) (rest : List ℕ) → escape rest ≡ None → NoStep (
 stuck_part q rest e = λ x t h. cc (sym (ap (λ r. r >>= (λ (x : ℕ × List ℕ). Some (encode_utf8 x.0 ++ (run q x.1).0, (run q x.1).1))) e) ∙ h)
 
 -- where neither an escape nor the closing quote stands, there is no text
-pub no_text : (q : Quote) (cs content rest : List ℕ) → LiteralSoFar q cs content rest → escape rest ≡ None → past_quote q rest ≡ None → (v : Val) (left : List ℕ) → IsLiteral q cs v left → ⊥
+pub no_text : (q : Quote) (cs content rest : List ℕ) → LiteralSoFar q cs content rest → escape rest ≡ None → past_quote q rest ≡ None →
+    (v : Val) (left : List ℕ) → IsLiteral q cs v left → ⊥
 no_text q cs content rest here e f v left h =
     let text = h.1 in
-    let same = one_end (IsPart q) (run q cs).1 here.parts rest text.0 (byte_of q ∷ left) (one_part q) here.steps (stuck_part q rest e) text.1 (no_part q left) in
+    let same = one_end (IsPart q) (run q cs).1 here.parts rest text.0 (byte_of q ∷ left) (one_part q) here.steps
+    (stuck_part q rest e) text.1 (no_part q left) in
     cc (sym f ∙ ap (past_quote q) same.1 ∙ behind-append (byte_of q ∷ []) left)
 
 one_text : (q : Quote) (cs a b r s : List ℕ) → IsText q cs a r → IsText q cs b s → (a ≡ b) × (r ≡ s)

@@ -25,7 +25,8 @@ without_one (c ∷ []) h = by_test (nat_eq c 13) refl
     by_test : (b : Bool) → nat_eq c 13 ≡ b → without_final_newline (c ∷ 10 ∷ []) ≡ c ∷ []
     by_test true e = absurd (h [] (ap (λ w. w ∷ 10 ∷ []) (eqb-true c 13 e)))
     by_test false e = stays c (10 ∷ []) (ap (λ b. b && true) e)
-without_one (c ∷ d ∷ cs) h = stays c (d ∷ (cs ++ 10 ∷ [])) (three c d 10 cs []) ∙ ap (λ w. c ∷ w) (without_one (d ∷ cs) (λ front e. h (c ∷ front) (ap (λ w. c ∷ w) e)))
+without_one (c ∷ d ∷ cs) h = stays c (d ∷ (cs ++ 10 ∷ [])) (three c d 10 cs [])
+    ∙ ap (λ w. c ∷ w) (without_one (d ∷ cs) (λ front e. h (c ∷ front) (ap (λ w. c ∷ w) e)))
 
 pub without_none : (cs : List ℕ) → ((front : List ℕ) → cs ≢ front ++ 10 ∷ []) → without_final_newline cs ≡ cs
 without_none [] h = refl

@@ -15,7 +15,8 @@ use Rattle.std.proofs.lemmas.Map.Lookups.{exact_bytes}
 use Rattle.std.proofs.lemmas.Map.Text.{is_eq-slice_cmp}
 use Rattle.tm_scanner.specs.NamePool.{holds, texts_of, IsWith}
 
-pub holds-keys : (text : List ℕ) (ks : List (RcStr Global)) → list_any (is_at (λ k. slice_cmp nat_cmp text (rc_str_bytes k))) ks ≡ holds (texts_of ks) text
+pub holds-keys : (text : List ℕ) (ks : List (RcStr Global)) →
+    list_any (is_at (λ k. slice_cmp nat_cmp text (rc_str_bytes k))) ks ≡ holds (texts_of ks) text
 holds-keys text [] = refl
 holds-keys text (k ∷ ks) = rw (is_eq-slice_cmp text (rc_str_bytes k)) (rw (holds-keys text ks) refl)
 
@@ -39,13 +40,17 @@ pub with_held : (text : List ℕ) (texts : List (List ℕ)) → holds texts text
 with_held text texts h = λ q. or_within (holds texts q) (pointwise nat_eq q text) (λ e. ap (holds texts) ((bytes_decides q text).0 e) ∙ h)
 
 -- a new key
-pub with_key : (k : RcStr Global) (ks : List (RcStr Global)) → IsWith (rc_str_bytes k) (texts_of ks) (texts_of (insert_key (λ x y. slice_cmp nat_cmp (rc_str_bytes x) (rc_str_bytes y)) ks k))
+pub with_key : (k : RcStr Global) (ks : List (RcStr Global)) →
+    IsWith (rc_str_bytes k) (texts_of ks) (texts_of (insert_key (λ x y. slice_cmp nat_cmp (rc_str_bytes x) (rc_str_bytes y)) ks k))
 with_key k [] = λ q. or_swapped (pointwise nat_eq q (rc_str_bytes k)) false
 with_key k (x ∷ xs) = λ q. by_order q (with_key k xs q) (slice_cmp nat_cmp (rc_str_bytes k) (rc_str_bytes x)) refl
   where
-    by_order : (q : List ℕ) → holds (texts_of (insert_key (λ y z. slice_cmp nat_cmp (rc_str_bytes y) (rc_str_bytes z)) xs k)) q ≡ (holds (texts_of xs) q || pointwise nat_eq q (rc_str_bytes k))
+    by_order : (q : List ℕ) → holds (texts_of (insert_key (λ y z. slice_cmp nat_cmp (rc_str_bytes y) (rc_str_bytes z)) xs k)) q
+        ≡ (holds (texts_of xs) q || pointwise nat_eq q (rc_str_bytes k))
         → (o : Ordering) → slice_cmp nat_cmp (rc_str_bytes k) (rc_str_bytes x) ≡ o
-        → holds (texts_of (match_ordering o (k ∷ x ∷ xs) (x ∷ xs) (x ∷ insert_key (λ y z. slice_cmp nat_cmp (rc_str_bytes y) (rc_str_bytes z)) xs k))) q ≡ (holds (texts_of (x ∷ xs)) q || pointwise nat_eq q (rc_str_bytes k))
+        → holds (texts_of (match_ordering o (k ∷ x ∷ xs) (x ∷ xs)
+        (x ∷ insert_key (λ y z. slice_cmp nat_cmp (rc_str_bytes y) (rc_str_bytes z)) xs k))) q
+        ≡ (holds (texts_of (x ∷ xs)) q || pointwise nat_eq q (rc_str_bytes k))
     by_order q others Less e = or_swapped (pointwise nat_eq q (rc_str_bytes k)) (holds (texts_of (x ∷ xs)) q)
     by_order q others Equal e = or_within (holds (texts_of (x ∷ xs)) q) (pointwise nat_eq q (rc_str_bytes k))
         (λ h. ap (λ b. b || holds (texts_of xs) q) (ap (pointwise nat_eq q) (sym (exact_bytes (rc_str_bytes k) (rc_str_bytes x) e)) ∙ h))

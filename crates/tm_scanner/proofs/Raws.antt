@@ -1,5 +1,6 @@
 -- A search for the first `endraw` tag.
-use Rattle.std.proofs.Common.{◌≡◌, ℕ, zero, suc, ◌+◌, ◌-◌, ◌<◌, ◌≤◌, List, Some, None, length, drop, take, refl, sym, ◌∙◌, ap, arith, length-drop}
+use Rattle.std.proofs.Common.{◌≡◌, ℕ, zero, suc, ◌+◌, ◌-◌, ◌<◌, ◌≤◌, List, Some, None, length, drop, take, refl, sym, ◌∙◌, ap, arith}
+use Rattle.std.proofs.Common.{length-drop}
 use Rattle.std.proofs.lemmas.List.{drop-drop}
 use Rattle.memchr.specs.Find.{Nowhere, NoneBefore}
 use Rattle.tm_delimiters.specs.declared.whitespace.Whitespace.{Whitespace}
@@ -25,7 +26,8 @@ not_up_to s bs from at old none j less = by_place (suc j - from) refl
     by_place zero e = old j (omega (arith, e))
     by_place (suc d) e =
         let same : drop d (drop from bs) ≡ drop j bs = drop-drop d from bs ∙ ap (λ n. drop n bs) (omega (arith, e)) in
-        ap (endraw s) (sym same) ∙ endraws_start s (drop d (drop from bs)) (not_true (begins s (drop d (drop from bs))) (none d (omega arith) (omega (arith, e, less))))
+        ap (endraw s) (sym same) ∙ endraws_start s (drop d (drop from bs))
+        (not_true (begins s (drop d (drop from bs))) (none d (omega arith) (omega (arith, e, less))))
 
 past_it : (s : Syntax) (bs : List ℕ) (k : ℕ) → NotYet s bs k → endraw s (drop k bs) ≡ None → NotYet s bs (k + 1)
 past_it s bs k old none j less = by_place (k - j) refl
@@ -34,7 +36,8 @@ past_it s bs k old none j less = by_place (k - j) refl
     by_place (suc d) e = old j (omega (arith, e))
     by_place zero e = ap (λ i. endraw s (drop i bs)) (omega (arith, e, less)) ∙ none
 
-never : (s : Syntax) (bs : List ℕ) (from : ℕ) → HasAll s → from ≤ length bs → NotYet s bs from → Nowhere (BeginsAt s (drop from bs)) 0 (length (drop from bs)) → first_of (endraw s) bs ≡ None
+never : (s : Syntax) (bs : List ℕ) (from : ℕ) → HasAll s → from ≤ length bs → NotYet s bs from →
+    Nowhere (BeginsAt s (drop from bs)) 0 (length (drop from bs)) → first_of (endraw s) bs ≡ None
 never s bs from u fits old none = first_of-nowhere (endraw s) bs (λ k within. by_place k within (length bs - k) refl)
   where
     all : NotYet s bs (from + length (drop from bs))
@@ -45,15 +48,23 @@ never s bs from u fits old none = first_of-nowhere (endraw s) bs (λ k within. b
     by_place k within (suc left) e = all k (omega (arith, e, fits, length-drop from bs))
 
 -- The same of what is left as a slice.
-pub found_at : (s : Syntax) (bs : List ℕ) (from at : ℕ) (x : Whitespace × (Whitespace × List ℕ)) → from ≤ length bs → NotYet s bs from → NoneBefore (BeginsAt s (take (length bs - from) (drop from bs))) 0 (length (take (length bs - from) (drop from bs))) at → endraw s (drop (from + at) bs) ≡ Some x → first_of (endraw s) bs ≡ Some (take (from + at) bs, x)
+pub found_at : (s : Syntax) (bs : List ℕ) (from at : ℕ) (x : Whitespace × (Whitespace × List ℕ)) → from ≤ length bs → NotYet s bs from →
+    NoneBefore (BeginsAt s (take (length bs - from) (drop from bs))) 0 (length (take (length bs - from) (drop from bs))) at →
+    endraw s (drop (from + at) bs) ≡ Some x → first_of (endraw s) bs ≡ Some (take (from + at) bs, x)
 found_at s bs from at x fits old first here =
     let next = rw (rest_is bs (take (length bs - from) (drop from bs)) from refl) at first in
-    first_of-at (endraw s) bs (from + at) x (not_up_to s bs from at old next.before) (omega (arith, fits, next.high, length-drop from bs)) here
+    first_of-at (endraw s) bs (from + at) x (not_up_to s bs from at old next.before)
+    (omega (arith, fits, next.high, length-drop from bs)) here
 
-pub past_this : (s : Syntax) (bs : List ℕ) (from at : ℕ) → from ≤ length bs → NotYet s bs from → NoneBefore (BeginsAt s (take (length bs - from) (drop from bs))) 0 (length (take (length bs - from) (drop from bs))) at → endraw s (drop (from + at) bs) ≡ None → (from + at + 1 ≤ length bs) × NotYet s bs (from + at + 1)
+pub past_this : (s : Syntax) (bs : List ℕ) (from at : ℕ) → from ≤ length bs → NotYet s bs from →
+    NoneBefore (BeginsAt s (take (length bs - from) (drop from bs))) 0 (length (take (length bs - from) (drop from bs))) at →
+    endraw s (drop (from + at) bs) ≡ None → (from + at + 1 ≤ length bs) × NotYet s bs (from + at + 1)
 past_this s bs from at fits old first here =
     let next = rw (rest_is bs (take (length bs - from) (drop from bs)) from refl) at first in
     (omega (arith, fits, next.high, length-drop from bs), past_it s bs (from + at) (not_up_to s bs from at old next.before) here)
 
-pub found_none : (s : Syntax) (bs : List ℕ) (from : ℕ) → HasAll s → from ≤ length bs → NotYet s bs from → Nowhere (BeginsAt s (take (length bs - from) (drop from bs))) 0 (length (take (length bs - from) (drop from bs))) → first_of (endraw s) bs ≡ None
-found_none s bs from u fits old none = never s bs from u fits old (rw (rest_is bs (take (length bs - from) (drop from bs)) from refl) at none)
+pub found_none : (s : Syntax) (bs : List ℕ) (from : ℕ) → HasAll s → from ≤ length bs → NotYet s bs from →
+    Nowhere (BeginsAt s (take (length bs - from) (drop from bs))) 0 (length (take (length bs - from) (drop from bs))) →
+    first_of (endraw s) bs ≡ None
+found_none s bs from u fits old none = never s bs from u fits old
+    (rw (rest_is bs (take (length bs - from) (drop from bs)) from refl) at none)

@@ -20,13 +20,15 @@ use Rattle.tm_scanner.proofs.Steps.{OneStep, NoStep, joined_last, same_some, sam
 use Rattle.tm_scanner.proofs.Contents.{End, one_content}
 
 -- where no content stands behind the word, there is no block tag
-pub no_block : (by cs behind : List ℕ) (t : Tag) → Some (t, behind) ≡ tag_word cs → ((ts : List Token) (e : End) → Content by behind ts e → ⊥) → (ts : List Token) (e : End) → IsBlockTag by cs ts e → ⊥
+pub no_block : (by cs behind : List ℕ) (t : Tag) → Some (t, behind) ≡ tag_word cs →
+    ((ts : List Token) (e : End) → Content by behind ts e → ⊥) → (ts : List Token) (e : End) → IsBlockTag by cs ts e → ⊥
 no_block by cs behind t e none ts end h =
     let same : h.0 ≡ (t, behind) = same_some h.0 (t, behind) (sym (e ∙ h.1)) in
     none h.2 end (subst (λ (w : Tag × List ℕ). Content by w.1 h.2 end) same h.3)
 
 -- where no block stands behind what the word `raw` leaves, there is none
-pub no_block_behind : (s : Syntax) (cs : List ℕ) (o : Option (List ℕ)) → o ≡ past_word (codes "raw") cs → ((ts : List Token) (e : End) → IsBlockBehind s o cs ts e → ⊥) → (ts : List Token) (e : End) → IsBlock s cs ts e → ⊥
+pub no_block_behind : (s : Syntax) (cs : List ℕ) (o : Option (List ℕ)) → o ≡ past_word (codes "raw") cs →
+    ((ts : List Token) (e : End) → IsBlockBehind s o cs ts e → ⊥) → (ts : List Token) (e : End) → IsBlock s cs ts e → ⊥
 no_block_behind s cs o same none ts e h = none ts e (subst (λ (w : Option (List ℕ)). IsBlockBehind s w cs ts e) (sym same) h)
 
 one_emission : (by cs : List ℕ) (ts us : List Token) (r t : End) → IsEmission by cs ts r → IsEmission by cs us t → (ts ≡ us) × (r ≡ t)
@@ -43,13 +45,15 @@ one_block_tag by cs ts us r t h k =
       same.1,
     )
 
-one_block_behind : (s : Syntax) (o : Option (List ℕ)) (cs : List ℕ) (ts us : List Token) (r t : End) → IsBlockBehind s o cs ts r → IsBlockBehind s o cs us t → (ts ≡ us) × (r ≡ t)
+one_block_behind : (s : Syntax) (o : Option (List ℕ)) (cs : List ℕ) (ts us : List Token) (r t : End) → IsBlockBehind s o cs ts r →
+    IsBlockBehind s o cs us t → (ts ≡ us) × (r ≡ t)
 one_block_behind s None cs ts us r t h k = one_block_tag s.block_end cs ts us r t h k
 one_block_behind s (Some rest) cs ts us r t h k =
     let same = same_result h.0 k.0 r t (sym h.1 ∙ k.1) in
     (h.2 ∙ ap raw same.0 ∙ sym k.2, same.1)
 
-one_tag : (s : Syntax) (x : Kind) (cs : List ℕ) (ts us : List Token) (r t : End) → IsTag s x cs ts r → IsTag s x cs us t → (ts ≡ us) × (r ≡ t)
+one_tag : (s : Syntax) (x : Kind) (cs : List ℕ) (ts us : List Token) (r t : End) → IsTag s x cs ts r → IsTag s x cs us t →
+    (ts ≡ us) × (r ≡ t)
 one_tag s kind.Block cs ts us r t h k = one_block_behind s (past_word (codes "raw") cs) cs ts us r t h k
 one_tag s kind.Variable cs ts us r t h k = one_emission s.variable_end cs ts us r t h k
 one_tag s kind.Comment cs ts us r t h k = (h.0 ∙ sym k.0, same_some r t (sym h.1 ∙ k.1))
@@ -67,7 +71,8 @@ one_piece s = λ p ts us q r h k.
     let x : Next = (h.text, (h.start, h.behind)) in
     let y : Next = (k.text, (k.start, k.behind)) in
     let next : y ≡ x = same_some y x (sym k.next ∙ h.next) in
-    let same = one_tag s h.start.kind h.behind h.inside k.inside h.end k.end h.tag (subst (λ (w : Next). IsTag s w.1.0.kind w.1.1 k.inside k.end) next k.tag) in (
+    let same = one_tag s h.start.kind h.behind h.inside k.inside h.end k.end h.tag
+    (subst (λ (w : Next). IsTag s w.1.0.kind w.1.1 k.inside k.end) next k.tag) in (
       h.tokens ∙ ap (λ (w : List Token). raw (trimmed s p.before (Some h.start) h.text) ++ w) same.0
           ∙ ap (λ (w : Next). raw (trimmed s p.before (Some w.1.0) w.0) ++ k.inside) (sym next) ∙ sym k.tokens,
       h.place ∙ ap (λ (w : End). behind_tag h.start w) same.1 ∙ ap (λ (w : Next). behind_tag w.1.0 k.end) (sym next) ∙ sym k.place,
@@ -77,7 +82,8 @@ no_next : (s : Syntax) (p : SourcePlace) → first_of (tag_start s) p.rest ≡ N
 no_next s p e = λ ts q h. cc (sym e ∙ h.next)
 
 -- where a tag starts that is none, there is no piece
-no_tag : (s : Syntax) (p : SourcePlace) (x : Next) → first_of (tag_start s) p.rest ≡ Some x → ((ts : List Token) (e : End) → IsTag s x.1.0.kind x.1.1 ts e → ⊥) → NoStep (IsPiece s) p
+no_tag : (s : Syntax) (p : SourcePlace) (x : Next) → first_of (tag_start s) p.rest ≡ Some x →
+    ((ts : List Token) (e : End) → IsTag s x.1.0.kind x.1.1 ts e → ⊥) → NoStep (IsPiece s) p
 no_tag s p x e none = λ ts q h.
     let y : Next = (h.text, (h.start, h.behind)) in
     let next : y ≡ x = same_some y x (sym h.next ∙ e) in
@@ -95,28 +101,56 @@ pub record SourceSoFar (s : Syntax) (cs : List ℕ) (found : List Token) (before
 pub begins : (s : Syntax) (cs : List ℕ) (found : List Token) (rest : List ℕ) → found ≡ [] → rest ≡ cs → SourceSoFar s cs found None rest
 begins s cs found rest e f = record { pieces = []; steps = ap start_of (sym f); items = e }
 
-pub goes_on : (s : Syntax) (cs : List ℕ) (old mid new : List Token) (before : Option Side) (rest : List ℕ) (x : Next) (inside : List Token) (e : End) → SourceSoFar s cs old before rest → first_of (tag_start s) rest ≡ Some x → mid ≡ old ++ raw (trimmed s before (Some x.1.0) x.0) → IsTag s x.1.0.kind x.1.1 inside e → new ≡ mid ++ inside → SourceSoFar s cs new (Some (record { kind = x.1.0.kind; whitespace = e.0 })) e.1
+pub goes_on : (s : Syntax) (cs : List ℕ) (old mid new : List Token) (before : Option Side) (rest : List ℕ) (x : Next) (inside : List Token)
+    (e : End) → SourceSoFar s cs old before rest → first_of (tag_start s) rest ≡ Some x →
+    mid ≡ old ++ raw (trimmed s before (Some x.1.0) x.0) → IsTag s x.1.0.kind x.1.1 inside e → new ≡ mid ++ inside →
+    SourceSoFar s cs new (Some (record { kind = x.1.0.kind; whitespace = e.0 })) e.1
 goes_on s cs old mid new before rest x inside e here next texts tag grown =
     let text = raw (trimmed s before (Some x.1.0) x.0) in
     record {
       pieces = here.pieces ++ (text ++ inside) ∷ [];
-      steps = steps_last (IsPiece s) (start_of cs) here.pieces (record { before = before; rest = rest }) (text ++ inside) (behind_tag x.1.0 e) here.steps
-          (record { text = x.0; start = x.1.0; behind = x.1.1; next = next; inside = inside; end = e; tag = tag; tokens = refl; place = refl });
-      items = grown ∙ ap (λ w. w ++ inside) (texts ∙ ap (λ w. w ++ text) here.items) ∙ append_assoc (joined here.pieces) text inside ∙ sym (joined_last here.pieces (text ++ inside));
+      steps = steps_last (IsPiece s) (start_of cs) here.pieces (record { before = before; rest = rest }) (text ++ inside)
+          (behind_tag x.1.0 e) here.steps
+          (record {
+            text = x.0;
+            start = x.1.0;
+            behind = x.1.1;
+            next = next;
+            inside = inside;
+            end = e;
+            tag = tag;
+            tokens = refl;
+            place = refl;
+          });
+      items = grown ∙ ap (λ w. w ++ inside) (texts ∙ ap (λ w. w ++ text) here.items) ∙ append_assoc (joined here.pieces) text inside
+          ∙ sym (joined_last here.pieces (text ++ inside));
     }
 
-pub ends : (s : Syntax) (source : List ℕ) (old new : List Token) (before : Option Side) (rest : List ℕ) → SourceSoFar s (read_of s source) old before rest → first_of (tag_start s) rest ≡ None → new ≡ old ++ raw (trimmed s before None rest) → SpellsTokens s source new
-ends s source old new before rest here none grown =
-    (here.pieces, record { before = before; rest = rest }, here.steps, none, grown ∙ ap (λ w. w ++ raw (trimmed s before None rest)) here.items)
+pub ends : (s : Syntax) (source : List ℕ) (old new : List Token) (before : Option Side) (rest : List ℕ) →
+    SourceSoFar s (read_of s source) old before rest → first_of (tag_start s) rest ≡ None → new ≡ old ++ raw (trimmed s before None rest) →
+    SpellsTokens s source new
+ends s source old new before rest here none grown = (
+  here.pieces,
+  record { before = before; rest = rest },
+  here.steps,
+  none,
+  grown
+      ∙ ap (λ w. w ++ raw (trimmed s before None rest)) here.items,
+)
 
 -- where a tag starts that is none, the source spells nothing
-pub no_tokens : (s : Syntax) (source : List ℕ) (found : List Token) (before : Option Side) (rest : List ℕ) (x : Next) → SourceSoFar s (read_of s source) found before rest → first_of (tag_start s) rest ≡ Some x → ((ts : List Token) (e : End) → IsTag s x.1.0.kind x.1.1 ts e → ⊥) → (ts : List Token) → SpellsTokens s source ts → ⊥
+pub no_tokens : (s : Syntax) (source : List ℕ) (found : List Token) (before : Option Side) (rest : List ℕ) (x : Next) →
+    SourceSoFar s (read_of s source) found before rest → first_of (tag_start s) rest ≡ Some x →
+    ((ts : List Token) (e : End) → IsTag s x.1.0.kind x.1.1 ts e → ⊥) → (ts : List Token) → SpellsTokens s source ts → ⊥
 no_tokens s source found before rest x here next none ts h =
     let p : SourcePlace = record { before = before; rest = rest } in
-    let same = one_end (IsPiece s) (start_of (read_of s source)) here.pieces p h.0 h.1 (one_piece s) here.steps (no_tag s p x next none) h.2 (no_next s h.1 h.3) in
+    let same = one_end (IsPiece s) (start_of (read_of s source)) here.pieces p h.0 h.1 (one_piece s) here.steps (no_tag s p x next none) h.2
+    (no_next s h.1 h.3) in
     cc (sym next ∙ ap (λ (q : SourcePlace). first_of (tag_start s) q.rest) same.1 ∙ h.3)
 
 pub one_list_of : (s : Syntax) (source : List ℕ) (ts us : List Token) → SpellsTokens s source ts → SpellsTokens s source us → ts ≡ us
 one_list_of s source ts us h k =
-    let same = one_end (IsPiece s) (start_of (read_of s source)) h.0 h.1 k.0 k.1 (one_piece s) h.2 (no_next s h.1 h.3) k.2 (no_next s k.1 k.3) in
-    h.4 ∙ ap (λ w. joined w ++ raw (trimmed s h.1.before None h.1.rest)) same.0 ∙ ap (λ (q : SourcePlace). joined k.0 ++ raw (trimmed s q.before None q.rest)) same.1 ∙ sym k.4
+    let same = one_end (IsPiece s) (start_of (read_of s source)) h.0 h.1 k.0 k.1 (one_piece s) h.2 (no_next s h.1 h.3) k.2
+    (no_next s k.1 k.3) in
+    h.4 ∙ ap (λ w. joined w ++ raw (trimmed s h.1.before None h.1.rest)) same.0
+    ∙ ap (λ (q : SourcePlace). joined k.0 ++ raw (trimmed s q.before None q.rest)) same.1 ∙ sym k.4

@@ -28,12 +28,14 @@ same_result {A = A} {B = B} x y r s e =
     (ap (λ (w : A × B). w.0) pair, ap (λ (w : A × B). w.1) pair)
 
 -- one more step at the end
-pub steps_last : {S A : Type 0} (step : S → A → S → Type 0) (s : S) (xs : List A) (t : S) (x : A) (u : S) → Steps step s xs t → step t x u → Steps step s (xs ++ x ∷ []) u
+pub steps_last : {S A : Type 0} (step : S → A → S → Type 0) (s : S) (xs : List A) (t : S) (x : A) (u : S) → Steps step s xs t → step t x u →
+    Steps step s (xs ++ x ∷ []) u
 steps_last {S = S} step s [] t x u h k = (u, subst (λ (w : S). step w x u) (sym h) k, refl)
 steps_last step s (y ∷ xs) t x u h k = (h.0, h.1, steps_last step h.0 xs t x u h.2 k)
 
 -- what leads to where no step is goes on where other items led
-pub further : {S A : Type 0} (step : S → A → S → Type 0) (s : S) (xs : List A) (t : S) (ys : List A) (u : S) → OneStep step → Steps step s xs t → Steps step s ys u → NoStep step u → (zs : List A) × (ys ≡ xs ++ zs) × Steps step t zs u
+pub further : {S A : Type 0} (step : S → A → S → Type 0) (s : S) (xs : List A) (t : S) (ys : List A) (u : S) → OneStep step →
+    Steps step s xs t → Steps step s ys u → NoStep step u → (zs : List A) × (ys ≡ xs ++ zs) × Steps step t zs u
 further {S = S} step s [] t ys u one h k none = (ys, refl, subst (λ (w : S). Steps step w ys u) h k)
 further {S = S} step s (x ∷ xs) t [] u one h k none = absurd (none x h.0 (subst (λ (w : S). step w x h.0) k h.1))
 further {S = S} step s (x ∷ xs) t (y ∷ ys) u one h k none =
@@ -42,7 +44,8 @@ further {S = S} step s (x ∷ xs) t (y ∷ ys) u one h k none =
     (rest.0, ap (λ w. w ∷ ys) (sym same.0) ∙ ap (λ w. x ∷ w) rest.1, rest.2)
 
 -- two lists of items that each lead to where no step is
-pub one_end : {S A : Type 0} (step : S → A → S → Type 0) (s : S) (xs : List A) (t : S) (ys : List A) (u : S) → OneStep step → Steps step s xs t → NoStep step t → Steps step s ys u → NoStep step u → (xs ≡ ys) × (t ≡ u)
+pub one_end : {S A : Type 0} (step : S → A → S → Type 0) (s : S) (xs : List A) (t : S) (ys : List A) (u : S) → OneStep step →
+    Steps step s xs t → NoStep step t → Steps step s ys u → NoStep step u → (xs ≡ ys) × (t ≡ u)
 one_end {S = S} {A = A} step s xs t ys u one h stops k none =
     let more = further step s xs t ys u one h k none in
     by_more more.0 more.1 more.2

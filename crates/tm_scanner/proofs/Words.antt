@@ -13,6 +13,7 @@ pub not_found : {A : Type 0} (xs : List (List ℕ × A)) (name : List ℕ) → D
 not_found [] name d = refl
 not_found (x ∷ xs) name d = by_test (not_found xs name d.1) (pointwise nat_eq x.0 name) refl
   where
-    by_test : None ≡ look_up xs name → (same : Bool) → pointwise nat_eq x.0 name ≡ same → None ≡ (if same then Some x.1 else look_up xs name)
+    by_test : None ≡ look_up xs name → (same : Bool) → pointwise nat_eq x.0 name ≡ same →
+        None ≡ (if same then Some x.1 else look_up xs name)
     by_test others true e = absurd (d.0 (sym ((bytes_decides x.0 name).0 e)))
     by_test others false e = others

@@ -48,7 +48,8 @@ put_case : (a k v : Val) (p : Val × Val) (ps : List (Val × Val)) (o : Ordering
     → entry k (match_ordering o ((a, v) ∷ p ∷ ps) ((p.0, v) ∷ ps) (p ∷ put a v ps)) ≡ after (val_cmp k a) (entry k (p ∷ ps)) (a, v)
 put_case a k v p ps Less e rest = below_all a k v p ps (val_cmp k a) e refl
 put_case a k v p ps Equal e rest = rw (alike_right val_cmp_total a p.0 k e) (at_first a v p (entry k ps) (val_cmp k p.0))
-put_case a k v p ps Greater e rest = above_first a k v p (entry k ps) (entry k (put a v ps)) (val_cmp k p.0) (turned a p.0 Greater e) refl rest
+put_case a k v p ps Greater e rest = above_first a k v p (entry k ps) (entry k (put a v ps)) (val_cmp k p.0)
+    (turned a p.0 Greater e) refl rest
 
 -- what one pair leaves at each key
 entry-put : (a k v : Val) (ps : List (Val × Val)) → entry k (put a v ps) ≡ after (val_cmp k a) (entry k ps) (a, v)
@@ -110,7 +111,8 @@ same_rest k p ps qs Equal e a b h = no_entry k ps (like_above k p.0 ps e a) ∙ 
 same_rest k p ps qs Greater e a b h = h
 
 same_first : (p q : Val × Val) (ps qs : List (Val × Val)) (o : Ordering) → val_cmp p.0 q.0 ≡ o
-    → Some p ≡ match_ordering o None (Some q) (entry p.0 qs) → match_ordering (val_cmp q.0 p.0) None (Some p) (entry q.0 ps) ≡ Some q → p ≡ q
+    → Some p ≡ match_ordering o None (Some q) (entry p.0 qs) → match_ordering (val_cmp q.0 p.0) None (Some p) (entry q.0 ps) ≡ Some q →
+    p ≡ q
 same_first p q ps qs Less e h k = cc
 same_first p q ps qs Equal e h k = cc
 same_first p q ps qs Greater e h k =
@@ -149,7 +151,8 @@ find-entry : (k : Val) (ps : List (Val × Val)) → find k ps ≡ value_in (entr
 find-entry k [] = refl
 find-entry k (p ∷ ps) = by_case (find-entry k ps) (val_cmp k p.0)
   where
-    by_case : find k ps ≡ value_in (entry k ps) → (o : Ordering) → match_ordering o None (Some p.1) (find k ps) ≡ value_in (match_ordering o None (Some p) (entry k ps))
+    by_case : find k ps ≡ value_in (entry k ps) → (o : Ordering) →
+        match_ordering o None (Some p.1) (find k ps) ≡ value_in (match_ordering o None (Some p) (entry k ps))
     by_case h Less = refl
     by_case h Equal = refl
     by_case h Greater = h

@@ -34,7 +34,8 @@ fewer-items (x ∷ xs) (y ∷ ys) zero h k = absurd (omega arith)
 fewer-items (x ∷ xs) (y ∷ ys) (suc i) h k = fewer-items xs ys i (omega arith) (omega arith)
 
 -- the same of pairs
-pub fewer-pairs : (xs ys : List (Val × Val)) (i : ℕ) → length xs ≤ i → i < length ys → Less ≡ pairs_cmp (pairs_of (drop i xs)) (pairs_of (drop i ys))
+pub fewer-pairs : (xs ys : List (Val × Val)) (i : ℕ) → length xs ≤ i → i < length ys →
+    Less ≡ pairs_cmp (pairs_of (drop i xs)) (pairs_of (drop i ys))
 fewer-pairs xs [] i h k = absurd (omega arith)
 fewer-pairs [] (y ∷ ys) zero h k = refl
 fewer-pairs [] (y ∷ ys) (suc i) h k = rw (drop-none {A = Val × Val} i) at (fewer-pairs [] ys i (omega arith) (omega arith))

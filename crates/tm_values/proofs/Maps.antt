@@ -1,5 +1,6 @@
 -- What a place in a map gives, and that `put` keeps the order.
-use Rattle.std.proofs.Common.{◌≡◌, ◌≤◌, ◌<◌, ◌-◌, ℕ, zero, suc, true, List, [], ◌∷◌, length, get_or, set, Some, None, MatchResult, Result, Ok, Err, Ordering, Less, Equal, Greater, refl, sym, ap, ◌∙◌, arith}
+use Rattle.std.proofs.Common.{◌≡◌, ◌≤◌, ◌<◌, ◌-◌, ℕ, zero, suc, true, List, [], ◌∷◌, length, get_or, set, Some, None, MatchResult, Result}
+use Rattle.std.proofs.Common.{Ok, Err, Ordering, Less, Equal, Greater, refl, sym, ap, ◌∙◌, arith}
 use Rattle.std.proofs.lemmas.Cmp.{alike_right}
 use Rattle.std.specs.Bool.{◌==◌}
 use Rattle.std.specs.List.{insert}
@@ -33,7 +34,8 @@ find-there k (p ∷ ps) (suc i) d m t =
     let lower : val_cmp p.0 k ≡ Less = sym (alike_right val_cmp_total (get_or ps i d).0 k p.0 key) ∙ above-at p.0 ps i d m.0 in_range in
     rw (turned p.0 k Less lower) (find-there k ps i d m.1 (record { in_range = in_range; same_key = λ e. t.same_key e }))
 
-pub find-read : (k : Val) (ps : List (Val × Val)) (i : ℕ) (x : Val × Val) → IsMap ps → IsThere k ps i → x ≡ get_or ps i x → find k ps ≡ Some x.1
+pub find-read : (k : Val) (ps : List (Val × Val)) (i : ℕ) (x : Val × Val) → IsMap ps → IsThere k ps i → x ≡ get_or ps i x →
+    find k ps ≡ Some x.1
 find-read k ps i x m t e = find-there k ps i x m t ∙ ap (λ (p : Val × Val). Some p.1) (sym e)
 
 -- and one that is not there isn't
@@ -49,7 +51,8 @@ find-gap k (p ∷ ps) (suc i) g =
     }))
 
 -- `put` writes over the value of a key that is there
-pub put-there : (k v : Val) (ps : List (Val × Val)) (i : ℕ) (d : Val × Val) → IsMap ps → IsThere k ps i → put k v ps ≡ set ps i ((get_or ps i d).0, v)
+pub put-there : (k v : Val) (ps : List (Val × Val)) (i : ℕ) (d : Val × Val) → IsMap ps → IsThere k ps i →
+    put k v ps ≡ set ps i ((get_or ps i d).0, v)
 put-there k v [] i d m t = absurd (omega (arith, t.in_range))
 put-there k v (p ∷ ps) zero d m t = rw (turned p.0 k Equal (t.same_key d))
 put-there k v (p ∷ ps) (suc i) d m t =
@@ -58,7 +61,8 @@ put-there k v (p ∷ ps) (suc i) d m t =
     let lower : val_cmp p.0 k ≡ Less = sym (alike_right val_cmp_total (get_or ps i d).0 k p.0 key) ∙ above-at p.0 ps i d m.0 in_range in
     rw (turned p.0 k Less lower) (ap (λ l. p ∷ l) (put-there k v ps i d m.1 (record { in_range = in_range; same_key = λ e. t.same_key e })))
 
-pub put-read : (k v : Val) (ps : List (Val × Val)) (i : ℕ) (x : Val × Val) → IsMap ps → IsThere k ps i → x ≡ get_or ps i x → put k v ps ≡ set ps i (x.0, v)
+pub put-read : (k v : Val) (ps : List (Val × Val)) (i : ℕ) (x : Val × Val) → IsMap ps → IsThere k ps i → x ≡ get_or ps i x →
+    put k v ps ≡ set ps i (x.0, v)
 put-read k v ps i x m t e = put-there k v ps i x m t ∙ ap (λ (p : Val × Val). set ps i (p.0, v)) (sym e)
 
 -- and puts a new pair into the gap
@@ -74,7 +78,8 @@ put-gap k v (p ∷ ps) (suc i) g =
       higher_after = λ j d h l. g.higher_after (suc j) d (omega arith) (omega arith);
     })))
 
-above_case : (o : Ordering) (l k v : Val) (p : Val × Val) (ps : List (Val × Val)) → val_cmp l k ≡ Less → IsAbove l (p ∷ ps) → IsAbove l (put k v ps)
+above_case : (o : Ordering) (l k v : Val) (p : Val × Val) (ps : List (Val × Val)) → val_cmp l k ≡ Less → IsAbove l (p ∷ ps) →
+    IsAbove l (put k v ps)
     → IsAbove l (match_ordering o ((k, v) ∷ p ∷ ps) ((p.0, v) ∷ ps) (p ∷ put k v ps))
 above_case Less l k v p ps h a rest = (h, a)
 above_case Equal l k v p ps h a rest = a
@@ -109,12 +114,14 @@ rises a b k Greater h e = rw e (at_most_two (val_cmp a k))
 keys_rise : (k : Val) (ps : List (Val × Val)) → IsMap ps → IsNonDecreasingBy (λ p. ordering_index (val_cmp p.0 k)) ps
 keys_rise k [] m i j d le h = absurd (omega arith)
 keys_rise k (p ∷ ps) m zero zero d le h = omega arith
-keys_rise k (p ∷ ps) m zero (suc j) d le h = rises p.0 (get_or ps j d).0 k (val_cmp (get_or ps j d).0 k) (above-at p.0 ps j d m.0 (omega arith)) refl
+keys_rise k (p ∷ ps) m zero (suc j) d le h = rises p.0 (get_or ps j d).0 k (val_cmp (get_or ps j d).0 k)
+    (above-at p.0 ps j d m.0 (omega arith)) refl
 keys_rise k (p ∷ ps) m (suc i) zero d le h = absurd (omega arith)
 keys_rise k (p ∷ ps) m (suc i) (suc j) d le h = keys_rise k ps m.1 i j d (omega arith) (omega arith)
 
 -- what a binary search for the key answers
-pub searched : (k : Val) (ps : List (Val × Val)) → IsMap ps → (r : Result ℕ ℕ) → IsSearchInRange r (length ps) → IsBinarySearchResult (λ p. val_cmp p.0 k) ps r → MatchResult r (IsThere k ps) (IsGapFor k ps)
+pub searched : (k : Val) (ps : List (Val × Val)) → IsMap ps → (r : Result ℕ ℕ) → IsSearchInRange r (length ps) →
+    IsBinarySearchResult (λ p. val_cmp p.0 k) ps r → MatchResult r (IsThere k ps) (IsGapFor k ps)
 searched k ps m (Ok i) h found = record { in_range = h; same_key = λ d. found d }
 searched k ps m (Err i) h parted = record {
   in_range = h;
@@ -123,14 +130,16 @@ searched k ps m (Err i) h parted = record {
 }
 
 -- so it does where a value is written over
-pub kept-there : (k v : Val) (ps : List (Val × Val)) (i : ℕ) (x : Val × Val) → IsMap ps → IsThere k ps i → x ≡ get_or ps i x → IsMap (set ps i (x.0, v))
+pub kept-there : (k v : Val) (ps : List (Val × Val)) (i : ℕ) (x : Val × Val) → IsMap ps → IsThere k ps i → x ≡ get_or ps i x →
+    IsMap (set ps i (x.0, v))
 kept-there k v ps i x m t e = rw (← put-read k v ps i x m t e) (map-put k v ps m)
 
 -- and where a pair is put into a gap
 pub kept-gap : (k v : Val) (ps : List (Val × Val)) (i : ℕ) → IsMap ps → IsGapFor k ps i → IsMap (insert ps i (k, v))
 kept-gap k v ps i m g = rw (← put-gap k v ps i g) (map-put k v ps m)
 
-below_last : (k : Val) (ps : List (Val × Val)) (i j : ℕ) (d x : Val × Val) → IsMap ps → j ≤ i → i < length ps → x ≡ get_or ps i d → val_cmp x.0 k ≡ Less → val_cmp (get_or ps j d).0 k ≡ Less
+below_last : (k : Val) (ps : List (Val × Val)) (i j : ℕ) (d x : Val × Val) → IsMap ps → j ≤ i → i < length ps → x ≡ get_or ps i d →
+    val_cmp x.0 k ≡ Less → val_cmp (get_or ps j d).0 k ≡ Less
 below_last k [] i j d x m le h e low = absurd (omega arith)
 below_last k (p ∷ ps) zero zero d x m le h e low = rw (← e) low
 below_last k (p ∷ ps) zero (suc j) d x m le h e low = absurd (omega arith)
@@ -143,7 +152,8 @@ less_by_index Equal h = cc
 less_by_index Greater h = cc
 
 -- a key above the last one has its gap at the end
-pub end-gap : (k : Val) (ps : List (Val × Val)) (x : Val × Val) → IsMap ps → ((d : Val × Val) → x ≡ get_or ps (length ps - 1) d) → val_cmp x.0 k ≡ Less → IsGapFor k ps (length ps)
+pub end-gap : (k : Val) (ps : List (Val × Val)) (x : Val × Val) → IsMap ps → ((d : Val × Val) → x ≡ get_or ps (length ps - 1) d) →
+    val_cmp x.0 k ≡ Less → IsGapFor k ps (length ps)
 end-gap k ps x m e low = record {
   in_range = omega arith;
   lower_before = λ j d h. below_last k ps (length ps - 1) j d x m (omega arith) (omega arith) (e d) low;

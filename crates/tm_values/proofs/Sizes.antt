@@ -27,7 +27,8 @@ pairs_joined [] qs = omega arith
 pairs_joined (p ∷ ps) qs = omega (arith, pairs_joined ps qs)
 
 -- and what a pop takes from pairs
-pub pairs_popped : (ps qs : List (Val × Val)) (k v : Val) → ps ≡ qs ++ ((k, v) ∷ []) → pairs_size (pairs_of ps) ≡ pairs_size (pairs_of qs) + (val_size k + val_size v + 2)
+pub pairs_popped : (ps qs : List (Val × Val)) (k v : Val) → ps ≡ qs ++ ((k, v) ∷ []) →
+    pairs_size (pairs_of ps) ≡ pairs_size (pairs_of qs) + (val_size k + val_size v + 2)
 pairs_popped ps qs k v e = rw e (omega (arith, pairs_joined qs ((k, v) ∷ [])))
 
 pub ruleset joined_sizes = (vals_joined, pairs_joined)

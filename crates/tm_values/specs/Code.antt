@@ -2,7 +2,8 @@
 use Rattle.std.specs.Prelude.{◌≡◌, ◌==◌, cond, ℕ, ℤ, pos, Bool, false, List, [], ◌∷◌, Option, refl}
 use Rattle.std.proofs.Common.{◌∙◌}
 use Rattle.std.specs.Coded.{Coded, code_by, coded×, coded_ℕ, coded_ℤ, coded_bool, coded_list, coded_option}
-use Rattle.tm_values.specs.Val.{MacroData, Val, undefined, none, boolean, number, text, list, map, keywords, exports, function, macro, loop, namespace, Vals, no_vals, val, Pairs, no_pairs, pair}
+use Rattle.tm_values.specs.Val.{MacroData, Val, undefined, none, boolean, number, text, list, map, keywords, exports, function, macro, loop}
+use Rattle.tm_values.specs.Val.{namespace, Vals, no_vals, val, Pairs, no_pairs, pair}
 
 -- the parts of a macro, and the macro of its parts
 abbrev Parts : Type 0
@@ -15,7 +16,8 @@ abbrev macro_of : Parts → MacroData
 macro_of (state, (stream, (entry, (closure, (name, (arguments, caller)))))) =
     record { state = state; stream = stream; entry = entry; closure = closure; name = name; arguments = arguments; caller = caller }
 
--- A step: its tag, which says what it builds of a flag, a whole number, bytes, two numbers and a macro's parts, and of what lies on the stacks.
+-- A step: its tag, which says what it builds of a flag, a whole number, bytes, two numbers and a macro's parts, and of what lies on the
+-- stacks.
 abbrev Step : Type 0
 Step = ℕ × (Bool × (ℤ × (List ℕ × (ℕ × (ℕ × List Parts)))))
 
@@ -124,12 +126,14 @@ mutual
   built-steps (loop i n) rest k = refl
   built-steps (namespace i n) rest k = refl
 
-  built-vals_steps : (x : Vals) (rest : List Step) (k : Stacks) → built (vals_steps x rest) k ≡ built rest (record k { items = x ∷ k.items })
+  built-vals_steps : (x : Vals) (rest : List Step) (k : Stacks) →
+      built (vals_steps x rest) k ≡ built rest (record k { items = x ∷ k.items })
   built-vals_steps no_vals rest k = refl
   built-vals_steps (val v vs) rest k =
       built-vals_steps vs (steps v (plain 10 ∷ rest)) k ∙ built-steps v (plain 10 ∷ rest) (record k { items = vs ∷ k.items })
 
-  built-pairs_steps : (x : Pairs) (rest : List Step) (k : Stacks) → built (pairs_steps x rest) k ≡ built rest (record k { pairs = x ∷ k.pairs })
+  built-pairs_steps : (x : Pairs) (rest : List Step) (k : Stacks) →
+      built (pairs_steps x rest) k ≡ built rest (record k { pairs = x ∷ k.pairs })
   built-pairs_steps no_pairs rest k = refl
   built-pairs_steps (pair w v ps) rest k =
       let last : List Step = plain 13 ∷ rest in
@@ -147,10 +151,12 @@ pub built-back : (v : Val) → top (built (steps v []) empty).values ≡ v
 built-back v = rw (built-steps v [] empty) refl
 
 abbrev coded_Parts : Coded Parts
-coded_Parts = coded× coded_ℕ (coded× coded_ℕ (coded× coded_ℕ (coded× (coded_option coded_ℕ) (coded× (coded_list coded_ℕ) (coded× (coded_list (coded_list coded_ℕ)) coded_bool)))))
+coded_Parts = coded× coded_ℕ (coded× coded_ℕ
+    (coded× coded_ℕ (coded× (coded_option coded_ℕ) (coded× (coded_list coded_ℕ) (coded× (coded_list (coded_list coded_ℕ)) coded_bool)))))
 
 abbrev coded_Step : Coded Step
-coded_Step = coded× coded_ℕ (coded× coded_bool (coded× coded_ℤ (coded× (coded_list coded_ℕ) (coded× coded_ℕ (coded× coded_ℕ (coded_list coded_Parts))))))
+coded_Step = coded× coded_ℕ (coded× coded_bool
+    (coded× coded_ℤ (coded× (coded_list coded_ℕ) (coded× coded_ℕ (coded× coded_ℕ (coded_list coded_Parts))))))
 
 abbrev pub coded_Val : Coded Val
 coded_Val = code_by (List Step) (coded_list coded_Step) (λ v. steps v []) (λ s. top (built s empty).values) built-back

@@ -1,13 +1,16 @@
 -- The order of values is total: each value has a key, a list of whole numbers, and keys are ordered as their values are.
-use Rattle.std.proofs.Common.{◌≡◌, ℕ, ℤ, zero, suc, pos, ◌+◌, Bool, true, false, List, [], ◌∷◌, Option, Some, None, Ordering, Less, Equal, Greater, nat_cmp, refl, sym, ap, ◌∙◌, arith}
+use Rattle.std.proofs.Common.{◌≡◌, ℕ, ℤ, zero, suc, pos, ◌+◌, Bool, true, false, List, [], ◌∷◌, Option, Some, None, Ordering, Less, Equal}
+use Rattle.std.proofs.Common.{Greater, nat_cmp, refl, sym, ap, ◌∙◌, arith}
 use Rattle.std.proofs.lemmas.Bool.Decides.{nat_tests}
 use Rattle.std.proofs.lemmas.Cmp.{lists_total, int_cmp_total}
 use Rattle.std.specs.Cmp.{IsTotalOrder}
 use Rattle.std.specs.Cmp.Lexicographic.{slice_cmp}
 use Rattle.std.specs.Option.{option_cmp}
 use Rattle.std.specs.Ordering.{int_cmp, bool_cmp, ordering_then, ordering_reverse}
-use Rattle.tm_values.specs.Order.{rank, within, val_cmp, vals_cmp, pairs_cmp, macro_cmp, record_cmp, bytes_in, whole_or_zero, function_in, state_in, record_in, macro_against}
-use Rattle.tm_values.specs.Val.{MacroData, Val, undefined, none, boolean, number, text, list, map, keywords, exports, function, macro, loop, namespace, Vals, no_vals, val, Pairs, no_pairs, pair, vals_in, pairs_in, whole_of}
+use Rattle.tm_values.specs.Order.{rank, within, val_cmp, vals_cmp, pairs_cmp, macro_cmp, record_cmp, bytes_in, whole_or_zero, function_in}
+use Rattle.tm_values.specs.Order.{state_in, record_in, macro_against}
+use Rattle.tm_values.specs.Val.{MacroData, Val, undefined, none, boolean, number, text, list, map, keywords, exports, function, macro, loop}
+use Rattle.tm_values.specs.Val.{namespace, Vals, no_vals, val, Pairs, no_pairs, pair, vals_in, pairs_in, whole_of}
 
 -- 0 ends a text, items and pairs; what stands before a byte, and what begins a value, is above it
 abbrev text_key : List ℕ → List ℤ → List ℤ
@@ -79,7 +82,8 @@ same_order : (x y : ℕ) → int_cmp (pos x) (pos y) ≡ nat_cmp x y
 same_order x y = grind (arith, nat_tests)
 
 -- two keys that begin with numbers
-step : (x y : ℕ) (r s : List ℤ) (c d : Ordering) → keys_cmp r s ≡ ordering_then c d → keys_cmp (pos x ∷ r) (pos y ∷ s) ≡ ordering_then (ordering_then (nat_cmp x y) c) d
+step : (x y : ℕ) (r s : List ℤ) (c d : Ordering) → keys_cmp r s ≡ ordering_then c d →
+    keys_cmp (pos x ∷ r) (pos y ∷ s) ≡ ordering_then (ordering_then (nat_cmp x y) c) d
 step x y r s c d h = ap (λ o. ordering_then o (keys_cmp r s)) (same_order x y) ∙ behind (nat_cmp x y) (keys_cmp r s) c d h
 
 last : (x y : ℕ) (r s : List ℤ) → keys_cmp (pos x ∷ r) (pos y ∷ s) ≡ ordering_then (nat_cmp x y) (keys_cmp r s)
@@ -91,15 +95,18 @@ text-holds [] (y ∷ ys) r s = refl
 text-holds (x ∷ xs) [] r s = refl
 text-holds (x ∷ xs) (y ∷ ys) r s = step x y (text_key xs r) (text_key ys s) (slice_cmp nat_cmp xs ys) (keys_cmp r s) (text-holds xs ys r s)
 
-texts-hold : (x y : List (List ℕ)) (r s : List ℤ) → keys_cmp (texts_key x r) (texts_key y s) ≡ ordering_then (slice_cmp (slice_cmp nat_cmp) x y) (keys_cmp r s)
+texts-hold : (x y : List (List ℕ)) (r s : List ℤ) →
+    keys_cmp (texts_key x r) (texts_key y s) ≡ ordering_then (slice_cmp (slice_cmp nat_cmp) x y) (keys_cmp r s)
 texts-hold [] [] r s = refl
 texts-hold [] (y ∷ ys) r s = refl
 texts-hold (x ∷ xs) [] r s = refl
 texts-hold (x ∷ xs) (y ∷ ys) r s =
     text-holds x y (texts_key xs r) (texts_key ys s)
-    ∙ behind (slice_cmp nat_cmp x y) (keys_cmp (texts_key xs r) (texts_key ys s)) (slice_cmp (slice_cmp nat_cmp) xs ys) (keys_cmp r s) (texts-hold xs ys r s)
+    ∙ behind (slice_cmp nat_cmp x y) (keys_cmp (texts_key xs r) (texts_key ys s)) (slice_cmp (slice_cmp nat_cmp) xs ys) (keys_cmp r s)
+    (texts-hold xs ys r s)
 
-option-holds : (x y : Option ℕ) (r s : List ℤ) → keys_cmp (option_key x r) (option_key y s) ≡ ordering_then (option_cmp nat_cmp x y) (keys_cmp r s)
+option-holds : (x y : Option ℕ) (r s : List ℤ) →
+    keys_cmp (option_key x r) (option_key y s) ≡ ordering_then (option_cmp nat_cmp x y) (keys_cmp r s)
 option-holds None None r s = refl
 option-holds None (Some y) r s = refl
 option-holds (Some x) None r s = refl
@@ -128,11 +135,16 @@ macro-holds x y r s =
     let closure : Ordering = ordering_then (option_cmp nat_cmp x.closure y.closure) name in
     let entry : Ordering = ordering_then (nat_cmp x.entry y.entry) closure in
     let by_flag : keys_cmp flag_x flag_y ≡ ordering_then flags z = flag-holds x.caller y.caller r s in
-    let by_names : keys_cmp names_x names_y ≡ ordering_then names z = texts-hold x.arguments y.arguments flag_x flag_y ∙ behind (slice_cmp (slice_cmp nat_cmp) x.arguments y.arguments) (keys_cmp flag_x flag_y) flags z by_flag in
-    let by_name : keys_cmp name_x name_y ≡ ordering_then name z = text-holds x.name y.name names_x names_y ∙ behind (slice_cmp nat_cmp x.name y.name) (keys_cmp names_x names_y) names z by_names in
-    let by_closure : keys_cmp closure_x closure_y ≡ ordering_then closure z = option-holds x.closure y.closure name_x name_y ∙ behind (option_cmp nat_cmp x.closure y.closure) (keys_cmp name_x name_y) name z by_name in
-    step x.state y.state (pos x.stream ∷ pos x.entry ∷ closure_x) (pos y.stream ∷ pos y.entry ∷ closure_y) (ordering_then (nat_cmp x.stream y.stream) entry) z
-    (step x.stream y.stream (pos x.entry ∷ closure_x) (pos y.entry ∷ closure_y) entry z (step x.entry y.entry closure_x closure_y closure z by_closure))
+    let by_names : keys_cmp names_x names_y ≡ ordering_then names z = texts-hold x.arguments y.arguments flag_x flag_y
+    ∙ behind (slice_cmp (slice_cmp nat_cmp) x.arguments y.arguments) (keys_cmp flag_x flag_y) flags z by_flag in
+    let by_name : keys_cmp name_x name_y ≡ ordering_then name z = text-holds x.name y.name names_x names_y
+    ∙ behind (slice_cmp nat_cmp x.name y.name) (keys_cmp names_x names_y) names z by_names in
+    let by_closure : keys_cmp closure_x closure_y ≡ ordering_then closure z = option-holds x.closure y.closure name_x name_y
+    ∙ behind (option_cmp nat_cmp x.closure y.closure) (keys_cmp name_x name_y) name z by_name in
+    step x.state y.state (pos x.stream ∷ pos x.entry ∷ closure_x) (pos y.stream ∷ pos y.entry ∷ closure_y)
+    (ordering_then (nat_cmp x.stream y.stream) entry) z
+    (step x.stream y.stream (pos x.entry ∷ closure_x) (pos y.entry ∷ closure_y) entry z
+    (step x.entry y.entry closure_x closure_y closure z by_closure))
 
 -- the other value of one kind, by its parts
 body-text : (b : Val) (s : List ℤ) → rank b ≡ 3 → body b s ≡ text_key (bytes_in b) s
@@ -164,7 +176,8 @@ body-function : (b : Val) (s : List ℤ) → rank b ≡ 8 → body b s ≡ pos (
 body-function (function n) s h = refl
 body-function _ s h = absurd (omega arith)
 
-same-macro : (m : MacroData) (b : Val) (r s : List ℤ) → rank b ≡ 9 → keys_cmp (macro_key m r) (body b s) ≡ ordering_then (macro_against m b) (keys_cmp r s)
+same-macro : (m : MacroData) (b : Val) (r s : List ℤ) → rank b ≡ 9 →
+    keys_cmp (macro_key m r) (body b s) ≡ ordering_then (macro_against m b) (keys_cmp r s)
 same-macro m (macro n) r s h = macro-holds m n r s
 same-macro m _ r s h = absurd (omega arith)
 
@@ -193,7 +206,8 @@ where_equal Greater x y z h = refl
 same_rank : (m n : ℕ) → nat_cmp m n ≡ Equal → n ≡ m
 same_rank m n h = grind (arith, nat_tests)
 
-by_rank : (m n : ℕ) (r s : List ℤ) (y z : Ordering) → (n ≡ m → keys_cmp r s ≡ ordering_then y z) → keys_cmp (pos m ∷ r) (pos n ∷ s) ≡ ordering_then (ordering_then (nat_cmp m n) y) z
+by_rank : (m n : ℕ) (r s : List ℤ) (y z : Ordering) → (n ≡ m → keys_cmp r s ≡ ordering_then y z) →
+    keys_cmp (pos m ∷ r) (pos n ∷ s) ≡ ordering_then (ordering_then (nat_cmp m n) y) z
 by_rank m n r s y z h = last m n r s ∙ where_equal (nat_cmp m n) (keys_cmp r s) y z (λ e. h (same_rank m n e))
 
 mutual
@@ -208,11 +222,15 @@ mutual
   same (keywords ps) b r s e = rw (body-keywords b s e) (pairs-hold ps (pairs_in b) r s)
   same (exports ps t) b r s e =
       rw (body-exports b s e)
-      (pairs-hold ps (pairs_in b) (text_key t r) (text_key (bytes_in b) s) ∙ behind (pairs_cmp ps (pairs_in b)) (keys_cmp (text_key t r) (text_key (bytes_in b) s)) (slice_cmp nat_cmp t (bytes_in b)) (keys_cmp r s) (text-holds t (bytes_in b) r s))
+      (pairs-hold ps (pairs_in b) (text_key t r) (text_key (bytes_in b) s)
+      ∙ behind (pairs_cmp ps (pairs_in b)) (keys_cmp (text_key t r) (text_key (bytes_in b) s)) (slice_cmp nat_cmp t (bytes_in b))
+      (keys_cmp r s) (text-holds t (bytes_in b) r s))
   same (function n) b r s e = rw (body-function b s e) (last n (function_in b) r s)
   same (macro m) b r s e = same-macro m b r s e
-  same (loop i n) b r s e = rw (body-loop b s e) (step i (state_in b) (pos n ∷ r) (pos (record_in b) ∷ s) (nat_cmp n (record_in b)) (keys_cmp r s) (last n (record_in b) r s))
-  same (namespace i n) b r s e = rw (body-namespace b s e) (step i (state_in b) (pos n ∷ r) (pos (record_in b) ∷ s) (nat_cmp n (record_in b)) (keys_cmp r s) (last n (record_in b) r s))
+  same (loop i n) b r s e = rw (body-loop b s e)
+      (step i (state_in b) (pos n ∷ r) (pos (record_in b) ∷ s) (nat_cmp n (record_in b)) (keys_cmp r s) (last n (record_in b) r s))
+  same (namespace i n) b r s e = rw (body-namespace b s e)
+      (step i (state_in b) (pos n ∷ r) (pos (record_in b) ∷ s) (nat_cmp n (record_in b)) (keys_cmp r s) (last n (record_in b) r s))
 
   vals-hold : (x y : Vals) (r s : List ℤ) → keys_cmp (vals_key x r) (vals_key y s) ≡ ordering_then (vals_cmp x y) (keys_cmp r s)
   vals-hold no_vals no_vals r s = refl

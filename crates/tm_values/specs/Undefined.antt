@@ -5,7 +5,8 @@ use Rattle.tm_values.specs.declared.error.ErrorKind.TheVariants.{InvalidOperatio
 use Rattle.tm_values.specs.declared.undefined.UndefinedBehavior.{UndefinedBehavior}
 use Rattle.tm_values.specs.declared.undefined.UndefinedBehavior.TheVariants.{Lenient, Chainable, SemiStrict, Strict}
 use Rattle.tm_values.specs.declared.undefined.UndefinedUse.{UndefinedUse}
-use Rattle.tm_values.specs.declared.undefined.UndefinedUse.TheVariants.{Emission, Iteration, Member, Truth, Comparison, Containment, Slice, KeywordSpread, ItemSpread, Arithmetic}
+use Rattle.tm_values.specs.declared.undefined.UndefinedUse.TheVariants.{Emission, Iteration, Member, Truth, Comparison, Containment, Slice}
+use Rattle.tm_values.specs.declared.undefined.UndefinedUse.TheVariants.{KeywordSpread, ItemSpread, Arithmetic}
 
 -- the kind of the error, or none where the use goes on
 abbrev pub UndefinedRefusal : Type 0

@@ -2,7 +2,8 @@
 use Rattle.std.specs.Prelude.{List, map as each}
 use Rattle.std.specs.Rc.{rc_str_bytes}
 use Rattle.tm_values.specs.Map.{IsMap}
-use Rattle.tm_values.specs.Val.{Val, undefined, none, boolean, number, text, list, map, keywords, exports, function, macro, loop, namespace, vals_of, pairs_of}
+use Rattle.tm_values.specs.Val.{Val, undefined, none, boolean, number, text, list, map, keywords, exports, function, macro, loop, namespace}
+use Rattle.tm_values.specs.Val.{vals_of, pairs_of}
 use Rattle.tm_values.specs.declared.value.Node.{Node}
 use Rattle.tm_values.specs.declared.value.Node.TheVariants as node
 

@@ -6,7 +6,8 @@ ghost use Rattle.tm_values.specs.Order.{rank, bytes_in, whole_or_zero};
 ghost use Rattle.tm_values.specs.Answer.{OkOrOutOfMemory, IsLent};
 ghost use Rattle.tm_values.specs.Held.{held_size};
 ghost use Rattle.tm_values.specs.declared.error.ErrorKind.{ErrorKind};
-ghost use Rattle.tm_values.specs.Val.{Val, undefined, none, boolean, number, text, list, function, macro, loop, namespace, val_size, vals_of, text_in, list_in, entries_in, items_in, whole_in};
+ghost use Rattle.tm_values.specs.Val.{Val, undefined, none, boolean, number, text, list, function, macro, loop, namespace, val_size};
+ghost use Rattle.tm_values.specs.Val.{vals_of, text_in, list_in, entries_in, items_in, whole_in};
 
 use crate::dropping::{Held, drop_all, drop_pairs};
 use crate::error::Error;

@@ -15,9 +15,17 @@ decreases-order::compare_pairs l = pairs_size (pairs_of l.left.now)
 -- the items from i on compare as all of them do
 abbrev pub invariant-order::compare_items-loop-i : goal.invariant-order::compare_items-loop-i
 invariant-order::compare_items-loop-i l =
-    record { within : l.i ≤ length l.right; rest : vals_cmp (vals_of (drop l.i l.left)) (vals_of (drop l.i l.right)) ≡ vals_cmp (vals_of l.left) (vals_of l.right) }
+    record {
+      within : l.i ≤ length l.right;
+      rest : vals_cmp (vals_of (drop l.i l.left)) (vals_of (drop l.i l.right))
+          ≡ vals_cmp (vals_of l.left) (vals_of l.right);
+    }
 
 -- the pairs from i on compare as all of them do
 abbrev pub invariant-order::compare_pairs-loop-i : goal.invariant-order::compare_pairs-loop-i
 invariant-order::compare_pairs-loop-i l =
-    record { within : l.i ≤ length l.right; rest : pairs_cmp (pairs_of (drop l.i l.left)) (pairs_of (drop l.i l.right)) ≡ pairs_cmp (pairs_of l.left) (pairs_of l.right) }
+    record {
+      within : l.i ≤ length l.right;
+      rest : pairs_cmp (pairs_of (drop l.i l.left)) (pairs_of (drop l.i l.right))
+          ≡ pairs_cmp (pairs_of l.left) (pairs_of l.right);
+    }

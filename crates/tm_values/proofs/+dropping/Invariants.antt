@@ -28,7 +28,8 @@ abbrev pub invariant-dropping::put_items_aside-loop-item : goal.invariant-droppi
 invariant-dropping::put_items_aside-loop-item l =
     record {
       fewer : vals_size (vals_of l.items.items) ≤ vals_size (vals_of l.fn.items.items);
-      moved : vals_size (vals_of l.left.items) + vals_size (vals_of l.items.items) ≤ vals_size (vals_of l.fn.left.items) + vals_size (vals_of l.fn.items.items);
+      moved : vals_size (vals_of l.left.items) + vals_size (vals_of l.items.items) ≤ vals_size (vals_of l.fn.left.items) + vals_size
+          (vals_of l.fn.items.items);
     }
 
 abbrev pub decreases-dropping::put_items_aside-loop-item : goal.decreases-dropping::put_items_aside-loop-item
@@ -38,7 +39,8 @@ abbrev pub invariant-dropping::put_pairs_aside-loop-key : goal.invariant-droppin
 invariant-dropping::put_pairs_aside-loop-key l =
     record {
       fewer : pairs_size (pairs_of l.pairs.items) ≤ pairs_size (pairs_of l.fn.pairs.items);
-      moved : vals_size (vals_of l.left.items) + pairs_size (pairs_of l.pairs.items) ≤ vals_size (vals_of l.fn.left.items) + pairs_size (pairs_of l.fn.pairs.items);
+      moved : vals_size (vals_of l.left.items) + pairs_size (pairs_of l.pairs.items) ≤ vals_size (vals_of l.fn.left.items) + pairs_size
+          (pairs_of l.fn.pairs.items);
     }
 
 abbrev pub decreases-dropping::put_pairs_aside-loop-key : goal.decreases-dropping::put_pairs_aside-loop-key

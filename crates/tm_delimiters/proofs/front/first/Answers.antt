@@ -12,7 +12,8 @@ returns-in-Some-clause-value c =
     let text = c.args.text.now in
     let rest = c.next.new.self.rest.now in
     let split = sym c.chars.ensures.rest ∙ c.in-Some.ensures.steps.0 in
-    let cut_off : c.range_from.result.now ≡ rest = c.range_from.ensures.value ∙ ap (λ n. drop n text) (c.len_utf8.ensures.value ∙ sym (zero-add _)) ∙ drop_past_char text rest 0 c.in-Some.c split in
+    let cut_off : c.range_from.result.now ≡ rest = c.range_from.ensures.value
+    ∙ ap (λ n. drop n text) (c.len_utf8.ensures.value ∙ sym (zero-add _)) ∙ drop_past_char text rest 0 c.in-Some.c split in
     rw cut_off (chars_past_char text rest c.in-Some.c c.utf8.text split, split)
 
 pub returns-in-Some-clause-shorter : goal.returns-in-Some-clause-shorter
@@ -20,5 +21,6 @@ returns-in-Some-clause-shorter c =
     let text = c.args.text.now in
     let rest = c.next.new.self.rest.now in
     let split = sym c.chars.ensures.rest ∙ c.in-Some.ensures.steps.0 in
-    let cut_off : c.range_from.result.now ≡ rest = c.range_from.ensures.value ∙ ap (λ n. drop n text) (c.len_utf8.ensures.value ∙ sym (zero-add _)) ∙ drop_past_char text rest 0 c.in-Some.c split in
+    let cut_off : c.range_from.result.now ≡ rest = c.range_from.ensures.value
+    ∙ ap (λ n. drop n text) (c.len_utf8.ensures.value ∙ sym (zero-add _)) ∙ drop_past_char text rest 0 c.in-Some.c split in
     rw cut_off (omega (arith, ap length split, length-append {A = ℕ}, length-encode c.in-Some.c, (len_utf8_bounds c.in-Some.c).0))

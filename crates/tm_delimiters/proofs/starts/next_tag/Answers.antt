@@ -18,4 +18,5 @@ pub returns-clause-value : goal.returns-clause-value
 returns-clause-value c =
     let first = rw c.as_bytes.ensures.value at c.in_ok-place.ensures.first in
     let here = rw c.split_at.ensures.back at c.in_ok-side.ensures.value in
-    rw c.split_at.ensures.front (sym (next_some c.args.syntax.now c.args.text.now c.in_ok-place.place (c.in_ok-side.side, c.in_ok-side.rest.now) first.0 (sym here)))
+    rw c.split_at.ensures.front (sym
+    (next_some c.args.syntax.now c.args.text.now c.in_ok-place.place (c.in_ok-side.side, c.in_ok-side.rest.now) first.0 (sym here)))

@@ -5,67 +5,87 @@ use Rattle.tm_syntax.specs.declared.tree.Comparison.{Comparison}
 use Rattle.tm_syntax.specs.declared.tree.Argument.TheBlock.{hidden-the_row-Comparison-7 as comparisons}
 use Rattle.tm_syntax.specs.Code.{expr_code, row_code}
 use Rattle.tm_generator.specs.Building.{put}
-use Rattle.tm_generator.proofs.PutExpressions.{made-call, made-method, made-unary, made-chain, made-slice, made-binary, made-compare, made-plain}
-use Rattle.tm_generator.proofs.PutExpressions.{put_two, made-keyword, made-conditional, no-named, made-named, next, more-links, no_more-links}
+use Rattle.tm_generator.proofs.PutExpressions.{made-call, made-method, made-unary, made-chain, made-slice, made-binary, made-compare}
+use Rattle.tm_generator.proofs.PutExpressions.{made-plain}
+use Rattle.tm_generator.proofs.PutExpressions.{put_two, made-keyword, made-conditional, no-named, made-named, next, more-links}
+use Rattle.tm_generator.proofs.PutExpressions.{no_more-links}
 use Rattle.tm_generator.proofs.PutExpressions.{more-exprs, no_more-exprs, more-pairs, no_more-pairs, more-arguments, no_more-arguments}
 use Rattle.tm_generator.proofs.PutExpressions.{more-keywords, no_more-keywords, more-steps, no_more-steps}
 use Rattle.tm_generator.proofs.expressions.+expressions.Goals as goal
 
 pub push_argument-returns-clause-ok : goal.push_argument-returns-clause-ok
 push_argument-returns-clause-ok t c =
-    on_ok_weaker c.push_expr.result (made-plain c.args.code.now c.push_expr.new.code c.args.argument.now _ c.get.result.now c.get.ensures) c.push_expr.ensures.ok
+    on_ok_weaker c.push_expr.result
+    (made-plain c.args.code.now c.push_expr.new.code c.args.argument.now _ c.get.result.now c.get.ensures) c.push_expr.ensures.ok
 
 pub push_expr-returns-in_ok-share-in-Call-clause-ok : goal.push_expr-returns-in_ok-share-in-Call-clause-ok
 push_expr-returns-in_ok-share-in-Call-clause-ok t c =
-    rw c.in-Call.is (on_ok_weaker c.emit-in-Call.result (made-call c.args.code.now c.push_arguments.new.code c.push_named.new.code c.emit-in-Call.new.self c.in-Call.name _ _ _ _ c.in-Call.given c.in-Call.named
-    (rw (← c.as_slice-in-Call.ensures) c.in_ok-push_arguments-in-Call.ensures.ok) (rw (← c.as_slice-in-Call-2.ensures) c.in_ok-push_named-in-Call.ensures.ok) c.len-in-Call.ensures c.len-in-Call-2.ensures
+    rw c.in-Call.is (on_ok_weaker c.emit-in-Call.result
+    (made-call c.args.code.now c.push_arguments.new.code c.push_named.new.code c.emit-in-Call.new.self c.in-Call.name _ _ _ _ c.in-Call.given c.in-Call.named
+    (rw (← c.as_slice-in-Call.ensures) c.in_ok-push_arguments-in-Call.ensures.ok)
+    (rw (← c.as_slice-in-Call-2.ensures) c.in_ok-push_named-in-Call.ensures.ok) c.len-in-Call.ensures c.len-in-Call-2.ensures
     c.in_ok-count-in-Call.ensures.ok c.in_ok-share-in-Call.ensures) c.emit-in-Call.ensures.ok)
 
 pub push_expr-returns-in_ok-push_expr-in-Unary-clause-ok : goal.push_expr-returns-in_ok-push_expr-in-Unary-clause-ok
 push_expr-returns-in_ok-push_expr-in-Unary-clause-ok t c =
-    rw c.in-Unary.is (on_ok_weaker c.emit-in-Unary.result (made-unary c.args.code.now c.push_expr.new.code c.emit-in-Unary.new.self c.unary.result c.in-Unary.operator c.in-Unary.operand
+    rw c.in-Unary.is (on_ok_weaker c.emit-in-Unary.result
+    (made-unary c.args.code.now c.push_expr.new.code c.emit-in-Unary.new.self c.unary.result c.in-Unary.operator c.in-Unary.operand
     (rw (← c.get.ensures) c.in_ok-push_expr-in-Unary.ensures.ok) c.unary.ensures) c.emit-in-Unary.ensures.ok)
 
 pub push_expr-returns-in_ok-push_expr-in-Chain-clause-ok : goal.push_expr-returns-in_ok-push_expr-in-Chain-clause-ok
 push_expr-returns-in_ok-push_expr-in-Chain-clause-ok t c =
-    rw c.in-Chain.is (on_ok_weaker c.push_steps.result (made-chain c.args.code.now c.push_expr-in-Chain.new.code c.push_steps.new.code c.in-Chain.first c.in-Chain.after
+    rw c.in-Chain.is (on_ok_weaker c.push_steps.result
+    (made-chain c.args.code.now c.push_expr-in-Chain.new.code c.push_steps.new.code c.in-Chain.first c.in-Chain.after
     (rw (← c.get-in-Chain.ensures) c.in_ok-push_expr-in-Chain.ensures.ok)) (rw (← c.as_slice-in-Chain.ensures) c.push_steps.ensures.ok))
 
 pub push_expr-returns-in_ok-push_expr-in-Conditional-clause-ok : goal.push_expr-returns-in_ok-push_expr-in-Conditional-clause-ok
 push_expr-returns-in_ok-push_expr-in-Conditional-clause-ok t c =
-    rw c.in-Conditional.is (on_ok_weaker c.push_otherwise.result (made-conditional c.args.code.now c.push_tests.new.code c.push_expr-in-Conditional.new.code c.push_otherwise.new.code c.new-outers.result c.push_tests.new.outers c.in-Conditional.value c.in-Conditional.conditions
-    (rw (← c.as_slice-conditions.ensures) c.in_ok-push_tests-in-Conditional.ensures.ok) c.new-outers.ensures (rw (← c.as_slice-conditions.ensures) c.in_ok-push_tests-in-Conditional.ensures.outers)
-    (rw (← c.get-in-Conditional.ensures) c.in_ok-push_expr-in-Conditional.ensures.ok)) (rw (← c.as_slice-conditions.ensures) c.push_otherwise.ensures.ok))
+    rw c.in-Conditional.is (on_ok_weaker c.push_otherwise.result
+    (made-conditional c.args.code.now c.push_tests.new.code c.push_expr-in-Conditional.new.code c.push_otherwise.new.code c.new-outers.result c.push_tests.new.outers c.in-Conditional.value c.in-Conditional.conditions
+    (rw (← c.as_slice-conditions.ensures) c.in_ok-push_tests-in-Conditional.ensures.ok) c.new-outers.ensures
+    (rw (← c.as_slice-conditions.ensures) c.in_ok-push_tests-in-Conditional.ensures.outers)
+    (rw (← c.get-in-Conditional.ensures) c.in_ok-push_expr-in-Conditional.ensures.ok))
+    (rw (← c.as_slice-conditions.ensures) c.push_otherwise.ensures.ok))
 
 pub push_named-returns-then-is_empty-clause-ok : goal.push_named-returns-then-is_empty-clause-ok
 push_named-returns-then-is_empty-clause-ok t c = no-named c.args.code.now c.args.named.now (sym c.is_empty.ensures ∙ c.if-is_empty.true)
 
 pub push_named-returns-clause-ok : goal.push_named-returns-clause-ok
 push_named-returns-clause-ok t c =
-    on_ok_weaker c.emit.result (made-named c.args.code.now c.push_keywords.new.code c.emit.new.self _ c.args.named.now (sym c.is_empty.ensures ∙ c.if-is_empty.false) c.in_ok-push_keywords.ensures.ok refl) c.emit.ensures.ok
+    on_ok_weaker c.emit.result (made-named c.args.code.now c.push_keywords.new.code c.emit.new.self _ c.args.named.now
+    (sym c.is_empty.ensures ∙ c.if-is_empty.false) c.in_ok-push_keywords.ensures.ok refl) c.emit.ensures.ok
 
 pub push_step-returns-in_ok-share-in-Method-clause-ok : goal.push_step-returns-in_ok-share-in-Method-clause-ok
 push_step-returns-in_ok-share-in-Method-clause-ok t c =
-    rw c.in-Method.is (on_ok_weaker c.emit-in-Method.result (made-method c.args.code.now c.push_arguments.new.code c.push_named.new.code c.emit-in-Method.new.self c.in-Method.name _ _ _ _ c.in-Method.given c.in-Method.named
-    (rw (← c.as_slice.ensures) c.in_ok-push_arguments-in-Method.ensures.ok) (rw (← c.as_slice-in-Method.ensures) c.in_ok-push_named-in-Method.ensures.ok) c.len.ensures c.len-in-Method.ensures
+    rw c.in-Method.is (on_ok_weaker c.emit-in-Method.result
+    (made-method c.args.code.now c.push_arguments.new.code c.push_named.new.code c.emit-in-Method.new.self c.in-Method.name _ _ _ _ c.in-Method.given c.in-Method.named
+    (rw (← c.as_slice.ensures) c.in_ok-push_arguments-in-Method.ensures.ok)
+    (rw (← c.as_slice-in-Method.ensures) c.in_ok-push_named-in-Method.ensures.ok) c.len.ensures c.len-in-Method.ensures
     c.in_ok-count-in-Method.ensures.ok c.in_ok-share-in-Method.ensures) c.emit-in-Method.ensures.ok)
 
 pub push_step-returns-in_ok-push_expr-in-Slice-3-clause-ok : goal.push_step-returns-in_ok-push_expr-in-Slice-3-clause-ok
 push_step-returns-in_ok-push_expr-in-Slice-3-clause-ok t c =
-    rw c.in-Slice.is (on_ok_weaker c.emit-in-Slice.result (made-slice c.args.code.now c.push_expr-in-Slice.new.code c.push_expr-in-Slice-2.new.code c.push_expr-in-Slice-3.new.code c.emit-in-Slice.new.self
+    rw c.in-Slice.is (on_ok_weaker c.emit-in-Slice.result
+    (made-slice c.args.code.now c.push_expr-in-Slice.new.code c.push_expr-in-Slice-2.new.code c.push_expr-in-Slice-3.new.code c.emit-in-Slice.new.self
     c.in-Slice.start c.in-Slice.stop c.in-Slice.step
-    (rw (← c.get-in-Slice.ensures) c.in_ok-push_expr-in-Slice.ensures.ok) (rw (← c.get-in-Slice-2.ensures) c.in_ok-push_expr-in-Slice-2.ensures.ok)
+    (rw (← c.get-in-Slice.ensures) c.in_ok-push_expr-in-Slice.ensures.ok)
+    (rw (← c.get-in-Slice-2.ensures) c.in_ok-push_expr-in-Slice-2.ensures.ok)
     (rw (← c.get-in-Slice-3.ensures) c.in_ok-push_expr-in-Slice-3.ensures.ok)) c.emit-in-Slice.ensures.ok)
 
 pub push_step-returns-in_ok-push_expr-in-Binary-clause-ok : goal.push_step-returns-in_ok-push_expr-in-Binary-clause-ok
 push_step-returns-in_ok-push_expr-in-Binary-clause-ok t c =
-    rw c.in-Binary.is (on_ok_weaker c.push_binary.result (made-binary c.args.code.now c.push_expr-in-Binary.new.code c.push_binary.new.code c.in-Binary.operator c.in-Binary.operand
+    rw c.in-Binary.is (on_ok_weaker c.push_binary.result
+    (made-binary c.args.code.now c.push_expr-in-Binary.new.code c.push_binary.new.code c.in-Binary.operator c.in-Binary.operand
     (rw (← c.get-in-Binary.ensures) c.in_ok-push_expr-in-Binary.ensures.ok)) c.push_binary.ensures.ok)
 
 pub push_step-returns-in_ok-push_expr-in-Compare-clause-ok : goal.push_step-returns-in_ok-push_expr-in-Compare-clause-ok
 push_step-returns-in_ok-push_expr-in-Compare-clause-ok t c =
-    rw c.in-Compare.is (on_ok_weaker c.push_comparisons.result (made-compare c.args.code.now c.push_expr-in-Compare.new.code c.push_comparisons.new.code c.in-Compare.operator c.in-Compare.right c.in-Compare.after
-    (rw (← c.get-in-Compare.ensures) c.in_ok-push_expr-in-Compare.ensures.ok)) (subst (λ (xs : List Comparison). OnOk c.push_comparisons.result (c.push_comparisons.new.code ≡ put (row_code c.in-Compare.operator (comparisons xs)) c.push_expr-in-Compare.new.code)) c.as_slice-in-Compare.ensures c.push_comparisons.ensures.ok))
+    rw c.in-Compare.is (on_ok_weaker c.push_comparisons.result
+    (made-compare c.args.code.now c.push_expr-in-Compare.new.code c.push_comparisons.new.code c.in-Compare.operator c.in-Compare.right c.in-Compare.after
+    (rw (← c.get-in-Compare.ensures) c.in_ok-push_expr-in-Compare.ensures.ok))
+    (subst (λ (xs : List Comparison). OnOk c.push_comparisons.result (c.push_comparisons.new.code
+    ≡ put (row_code c.in-Compare.operator
+    (comparisons xs)) c.push_expr-in-Compare.new.code)) c.as_slice-in-Compare.ensures c.push_comparisons.ensures.ok))
 
 pub push_links-loop-comparison-preserved : goal.push_links-loop-comparison-preserved
 push_links-loop-comparison-preserved t c =
@@ -76,42 +96,56 @@ push_links-loop-comparison-preserved t c =
 pub push_links-returns-clause-ok : goal.push_links-returns-clause-ok
 push_links-returns-clause-ok t c =
     on_ok_weaker c.push_binary.result
-    (no_more-links _ c.loop-comparison.operator c.loop-comparison.code c.push_binary.new.code _ (drop_all c.loop-comparison.comparison-index c.args.after.now c.loop-comparison-test.false) c.loop-comparison.invariant)
+    (no_more-links _ c.loop-comparison.operator c.loop-comparison.code c.push_binary.new.code _
+    (drop_all c.loop-comparison.comparison-index c.args.after.now c.loop-comparison-test.false) c.loop-comparison.invariant)
     c.push_binary.ensures.ok
 
 pub push_exprs-loop-item-preserved : goal.push_exprs-loop-item-preserved
 push_exprs-loop-item-preserved t c =
-    more-exprs _ _ c.item-item.result _ _ _ (next c.args.items.now c.loop-item.item-index c.item-item.result c.loop-item-test.true c.item-item.is) c.in_ok-push_expr.ensures.ok c.loop-item.invariant
+    more-exprs _ _ c.item-item.result _ _ _
+    (next c.args.items.now c.loop-item.item-index c.item-item.result c.loop-item-test.true c.item-item.is) c.in_ok-push_expr.ensures.ok c.loop-item.invariant
 
 pub push_exprs-returns-clause-ok : goal.push_exprs-returns-clause-ok
-push_exprs-returns-clause-ok t c = no_more-exprs _ _ _ (drop_all c.loop-item.item-index c.args.items.now c.loop-item-test.false) c.loop-item.invariant
+push_exprs-returns-clause-ok t c = no_more-exprs _ _ _
+    (drop_all c.loop-item.item-index c.args.items.now c.loop-item-test.false) c.loop-item.invariant
 
 pub push_arguments-loop-argument-preserved : goal.push_arguments-loop-argument-preserved
 push_arguments-loop-argument-preserved t c =
-    more-arguments _ _ c.argument-item.result _ _ _ (next c.args.given.now c.loop-argument.argument-index c.argument-item.result c.loop-argument-test.true c.argument-item.is) c.in_ok-push_argument.ensures.ok c.loop-argument.invariant
+    more-arguments _ _ c.argument-item.result _ _ _
+    (next c.args.given.now c.loop-argument.argument-index c.argument-item.result c.loop-argument-test.true c.argument-item.is) c.in_ok-push_argument.ensures.ok c.loop-argument.invariant
 
 pub push_arguments-returns-clause-ok : goal.push_arguments-returns-clause-ok
-push_arguments-returns-clause-ok t c = no_more-arguments _ _ _ (drop_all c.loop-argument.argument-index c.args.given.now c.loop-argument-test.false) c.loop-argument.invariant
+push_arguments-returns-clause-ok t c = no_more-arguments _ _ _
+    (drop_all c.loop-argument.argument-index c.args.given.now c.loop-argument-test.false) c.loop-argument.invariant
 
 pub push_steps-loop-step-preserved : goal.push_steps-loop-step-preserved
 push_steps-loop-step-preserved t c =
-    more-steps _ _ c.step-item.result _ _ _ (next c.args.after.now c.loop-step.step-index c.step-item.result c.loop-step-test.true c.step-item.is) c.in_ok-push_step.ensures.ok c.loop-step.invariant
+    more-steps _ _ c.step-item.result _ _ _
+    (next c.args.after.now c.loop-step.step-index c.step-item.result c.loop-step-test.true c.step-item.is) c.in_ok-push_step.ensures.ok c.loop-step.invariant
 
 pub push_steps-returns-clause-ok : goal.push_steps-returns-clause-ok
-push_steps-returns-clause-ok t c = no_more-steps _ _ _ (drop_all c.loop-step.step-index c.args.after.now c.loop-step-test.false) c.loop-step.invariant
+push_steps-returns-clause-ok t c = no_more-steps _ _ _
+    (drop_all c.loop-step.step-index c.args.after.now c.loop-step-test.false) c.loop-step.invariant
 
 pub push_pairs-loop-entry-preserved : goal.push_pairs-loop-entry-preserved
 push_pairs-loop-entry-preserved t c =
-    more-pairs _ _ c.entry-item.result _ _ _ (next c.args.entries.now c.loop-entry.entry-index c.entry-item.result c.loop-entry-test.true c.entry-item.is)
-    (put_two (expr_code c.entry-item.result.key) (expr_code c.entry-item.result.value) c.loop-entry.code c.push_expr.new.code c.push_expr-in-loop-entry.new.code (rw (← c.get.ensures) c.in_ok-push_expr.ensures.ok) (rw (← c.get-in-loop-entry.ensures) c.in_ok-push_expr-2.ensures.ok)) c.loop-entry.invariant
+    more-pairs _ _ c.entry-item.result _ _ _
+    (next c.args.entries.now c.loop-entry.entry-index c.entry-item.result c.loop-entry-test.true c.entry-item.is)
+    (put_two (expr_code c.entry-item.result.key)
+    (expr_code c.entry-item.result.value) c.loop-entry.code c.push_expr.new.code c.push_expr-in-loop-entry.new.code
+    (rw (← c.get.ensures) c.in_ok-push_expr.ensures.ok)
+    (rw (← c.get-in-loop-entry.ensures) c.in_ok-push_expr-2.ensures.ok)) c.loop-entry.invariant
 
 pub push_pairs-returns-clause-ok : goal.push_pairs-returns-clause-ok
-push_pairs-returns-clause-ok t c = no_more-pairs _ _ _ (drop_all c.loop-entry.entry-index c.args.entries.now c.loop-entry-test.false) c.loop-entry.invariant
+push_pairs-returns-clause-ok t c = no_more-pairs _ _ _
+    (drop_all c.loop-entry.entry-index c.args.entries.now c.loop-entry-test.false) c.loop-entry.invariant
 
 pub push_keywords-loop-keyword-preserved : goal.push_keywords-loop-keyword-preserved
 push_keywords-loop-keyword-preserved t c =
-    more-keywords _ _ c.keyword-item.result _ _ _ (next c.args.named.now c.loop-keyword.keyword-index c.keyword-item.result c.loop-keyword-test.true c.keyword-item.is)
+    more-keywords _ _ c.keyword-item.result _ _ _
+    (next c.args.named.now c.loop-keyword.keyword-index c.keyword-item.result c.loop-keyword-test.true c.keyword-item.is)
     (made-keyword c.loop-keyword.code c.emit.new.self c.push_expr.new.code c.keyword-item.result _ _ c.as_str.ensures c.in_ok-name.ensures c.in_ok-emit.ensures.ok (rw (← c.get.ensures) c.in_ok-push_expr.ensures.ok)) c.loop-keyword.invariant
 
 pub push_keywords-returns-clause-ok : goal.push_keywords-returns-clause-ok
-push_keywords-returns-clause-ok t c = no_more-keywords _ _ _ (drop_all c.loop-keyword.keyword-index c.args.named.now c.loop-keyword-test.false) c.loop-keyword.invariant
+push_keywords-returns-clause-ok t c = no_more-keywords _ _ _
+    (drop_all c.loop-keyword.keyword-index c.args.named.now c.loop-keyword-test.false) c.loop-keyword.invariant

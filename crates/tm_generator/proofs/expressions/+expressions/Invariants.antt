@@ -13,20 +13,24 @@ abbrev pub invariant-push_exprs-loop-item : goal.invariant-push_exprs-loop-item
 invariant-push_exprs-loop-item l = put (exprs_code (exprs (drop l.item-index l.items))) l.code ≡ put (exprs_code (exprs l.items)) l.fn.code
 
 abbrev pub invariant-push_pairs-loop-entry : goal.invariant-push_pairs-loop-entry
-invariant-push_pairs-loop-entry l = put (pairs_code (pairs (drop l.entry-index l.entries))) l.code ≡ put (pairs_code (pairs l.entries)) l.fn.code
+invariant-push_pairs-loop-entry l = put (pairs_code (pairs (drop l.entry-index l.entries))) l.code
+    ≡ put (pairs_code (pairs l.entries)) l.fn.code
 
 abbrev pub invariant-push_arguments-loop-argument : goal.invariant-push_arguments-loop-argument
-invariant-push_arguments-loop-argument l = put (arguments_code (arguments (drop l.argument-index l.given))) l.code ≡ put (arguments_code (arguments l.given)) l.fn.code
+invariant-push_arguments-loop-argument l = put (arguments_code (arguments (drop l.argument-index l.given))) l.code
+    ≡ put (arguments_code (arguments l.given)) l.fn.code
 
 abbrev pub invariant-push_keywords-loop-keyword : goal.invariant-push_keywords-loop-keyword
-invariant-push_keywords-loop-keyword l = put (keywords_code (keywords (drop l.keyword-index l.named))) l.code ≡ put (keywords_code (keywords l.named)) l.fn.code
+invariant-push_keywords-loop-keyword l = put (keywords_code (keywords (drop l.keyword-index l.named))) l.code
+    ≡ put (keywords_code (keywords l.named)) l.fn.code
 
 abbrev pub invariant-push_steps-loop-step : goal.invariant-push_steps-loop-step
 invariant-push_steps-loop-step l = put (steps_code (steps (drop l.step-index l.after))) l.code ≡ put (steps_code (steps l.after)) l.fn.code
 
 abbrev pub invariant-push_links-loop-comparison : goal.invariant-push_links-loop-comparison
 invariant-push_links-loop-comparison l =
-    put (links_code l.operator (comparisons (drop l.comparison-index l.after))) l.code ≡ put (links_code l.fn.first (comparisons l.after)) l.fn.code
+    put (links_code l.operator (comparisons (drop l.comparison-index l.after))) l.code
+    ≡ put (links_code l.fn.first (comparisons l.after)) l.fn.code
 
 abbrev pub invariant-push_tests-loop-left : goal.invariant-push_tests-loop-left
 invariant-push_tests-loop-left l =

@@ -2,7 +2,8 @@ use Rattle.std.proofs.Common.{◌∙◌, ap, refl}
 use Rattle.std.proofs.lemmas.List.{drop_all}
 use Rattle.std.proofs.lemmas.Result.{on_ok_weaker}
 use Rattle.tm_generator.proofs.PutExpressions.{next}
-use Rattle.tm_generator.proofs.PutStatements.{more-statements, no_more-statements, made-stream, else-blocks, for-else-blocks, block-blocks, more-blocks, no_more-blocks}
+use Rattle.tm_generator.proofs.PutStatements.{more-statements, no_more-statements, made-stream, else-blocks, for-else-blocks, block-blocks}
+use Rattle.tm_generator.proofs.PutStatements.{more-blocks, no_more-blocks}
 use Rattle.tm_generator.proofs.statements.+statements.Goals as goal
 
 pub push_if-returns-clause-blocks : goal.push_if-returns-clause-blocks
@@ -12,12 +13,14 @@ push_if-returns-clause-blocks t c =
 
 pub push_for-returns-clause-blocks : goal.push_for-returns-clause-blocks
 push_for-returns-clause-blocks t c =
-    on_ok_weaker c.push_if_true.result (for-else-blocks c.args.for_loop.now c.in-Some.other c.args.blocks.now c.push_rounds.new.blocks c.push_if_true.new.blocks c.in-Some.is
+    on_ok_weaker c.push_if_true.result
+    (for-else-blocks c.args.for_loop.now c.in-Some.other c.args.blocks.now c.push_rounds.new.blocks c.push_if_true.new.blocks c.in-Some.is
     c.in_ok-push_rounds.ensures.blocks) (rw (← c.as_slice.ensures) c.push_if_true.ensures.blocks)
 
 pub push_statement-returns-in_ok-share-in-Block-clause-blocks : goal.push_statement-returns-in_ok-share-in-Block-clause-blocks
 push_statement-returns-in_ok-share-in-Block-clause-blocks t c =
-    rw c.in-Block.is (on_ok_weaker c.emit-in-Block.result (λ e. block-blocks c.in-Block.name c.in-Block.body c.args.blocks.now c.push_block.new.blocks
+    rw c.in-Block.is (on_ok_weaker c.emit-in-Block.result
+    (λ e. block-blocks c.in-Block.name c.in-Block.body c.args.blocks.now c.push_block.new.blocks
     (rw (← c.as_slice-in-Block.ensures) c.in_ok-push_block-in-Block.ensures.blocks)) c.emit-in-Block.ensures.ok)
 
 pub push_statements-loop-statement-preserved : goal.push_statements-loop-statement-preserved
@@ -31,12 +34,15 @@ push_statements-loop-statement-preserved t c =
 
 pub push_statements-returns-clause-code : goal.push_statements-returns-clause-code
 push_statements-returns-clause-code t c =
-    no_more-statements c.args.stream.now.enclosing _ _ _ (drop_all c.loop-statement.statement-index c.args.body.now c.loop-statement-test.false) c.loop-statement.invariant.1
+    no_more-statements c.args.stream.now.enclosing _ _ _
+    (drop_all c.loop-statement.statement-index c.args.body.now c.loop-statement-test.false) c.loop-statement.invariant.1
 
 pub push_statements-returns-clause-blocks : goal.push_statements-returns-clause-blocks
-push_statements-returns-clause-blocks t c = no_more-blocks _ _ _ (drop_all c.loop-statement.statement-index c.args.body.now c.loop-statement-test.false) c.loop-statement.invariant.2
+push_statements-returns-clause-blocks t c = no_more-blocks _ _ _
+    (drop_all c.loop-statement.statement-index c.args.body.now c.loop-statement-test.false) c.loop-statement.invariant.2
 
 pub stream-returns-clause-code : goal.stream-returns-clause-code
 stream-returns-clause-code t c =
     c.in_ok-new.ensures ∙ c.finish.ensures
-    ∙ made-stream c.new.result _ c.push_statements.new.stream c.args.body.now refl (ap (λ b. b.code) c.new.ensures) (ap (λ b. b.outs) c.new.ensures) (ap (λ b. b.exits) c.new.ensures) c.new-2.ensures c.in_ok-push_statements.ensures.code
+    ∙ made-stream c.new.result _ c.push_statements.new.stream c.args.body.now refl (ap (λ b. b.code) c.new.ensures)
+    (ap (λ b. b.outs) c.new.ensures) (ap (λ b. b.exits) c.new.ensures) c.new-2.ensures c.in_ok-push_statements.ensures.code

@@ -12,8 +12,10 @@ abbrev pub invariant-push_statements-loop-statement : goal.invariant-push_statem
 invariant-push_statements-loop-statement l =
     let left = drop l.statement-index l.body in
     (l.stream.enclosing ≡ l.fn.stream.enclosing)
-    × (put_in (statements_code l.fn.stream.enclosing (statements left)) l.stream ≡ put_in (statements_code l.fn.stream.enclosing (statements l.body)) l.fn.stream)
-    × (put_each (compiled_blocks (blocks_in (statements left))) l.blocks ≡ put_each (compiled_blocks (blocks_in (statements l.body))) l.fn.blocks)
+    × (put_in (statements_code l.fn.stream.enclosing (statements left)) l.stream
+    ≡ put_in (statements_code l.fn.stream.enclosing (statements l.body)) l.fn.stream)
+    × (put_each (compiled_blocks (blocks_in (statements left))) l.blocks
+    ≡ put_each (compiled_blocks (blocks_in (statements l.body))) l.fn.blocks)
 
 -- a list of statements is as deep as the deepest of them
 abbrev pub decreases-push_statements : goal.decreases-push_statements

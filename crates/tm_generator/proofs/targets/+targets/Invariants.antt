@@ -5,4 +5,5 @@ use Rattle.tm_generator.specs.Building.{put}
 use Rattle.tm_generator.proofs.targets.+targets.Given as goal
 
 abbrev pub invariant-push_targets-loop-part : goal.invariant-push_targets-loop-part
-invariant-push_targets-loop-part l = put (targets_code (targets (drop l.part-index l.parts))) l.code ≡ put (targets_code (targets l.parts)) l.fn.code
+invariant-push_targets-loop-part l = put (targets_code (targets (drop l.part-index l.parts))) l.code
+    ≡ put (targets_code (targets l.parts)) l.fn.code

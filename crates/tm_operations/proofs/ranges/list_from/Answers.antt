@@ -18,8 +18,11 @@ loop-place-preserved c =
     let k = c.loop-place.place in
     let start : FitsSigned w64 x = c.ranges.start in
     let step : FitsSigned w64 z = c.ranges.step in
-    let more : numbers_from x z (k + 1) ≡ numbers_from x z k ++ step_to x z k ∷ [] = map-range_with_len_more (step_to x z) 0 k k (omega arith) in
-    let listed : each number (numbers_from x z (k + 1)) ≡ each number (numbers_from x z k) ++ number (step_to x z k) ∷ [] = ap (each number) more ∙ map-append number (numbers_from x z k) (step_to x z k ∷ []) in
+    let more : numbers_from x z (k + 1)
+    ≡ numbers_from x z k ++ step_to x z k ∷ [] = map-range_with_len_more (step_to x z) 0 k k (omega arith) in
+    let listed : each number (numbers_from x z (k + 1))
+    ≡ each number (numbers_from x z k) ++ number (step_to x z k) ∷ [] = ap (each number) more
+    ∙ map-append number (numbers_from x z k) (step_to x z k ∷ []) in
     let made : c.number.result ≡ number (step_to x z k) = search (arith, to_z-of_z, c.number.ensures, c.number_at.ensures) in
     let done = simp to_z-of_z at c.loop-place.invariant in
     let items = c.in_ok-push.ensures.items in

@@ -14,9 +14,11 @@ returns-in-Some c =
     let vs = c.args.arguments.now in
     let first : required_in (slice_get vs 0) ≡ Ok c.in_ok-first.first = search rules in
     let second-is : c.later.result ≡ Ok c.in_ok-second.second = search rules in
-    let second : later_in (slice_get vs 1) ≡ Ok c.in_ok-second.second = cc (ap later_in (copied vs 1 c.get.result c.get.ensures.lookup), c.later.ensures, second-is) in
+    let second : later_in (slice_get vs 1)
+    ≡ Ok c.in_ok-second.second = cc (ap later_in (copied vs 1 c.get.result c.get.ensures.lookup), c.later.ensures, second-is) in
     let step-is : c.later-2.result ≡ Ok c.in_ok-step.step = search rules in
-    let third : later_in (slice_get vs 2) ≡ Ok c.in_ok-step.step = cc (ap later_in (copied vs 2 c.get-2.result c.get-2.ensures.lookup), c.later-2.ensures, step-is) in
+    let third : later_in (slice_get vs 2)
+    ≡ Ok c.in_ok-step.step = cc (ap later_in (copied vs 2 c.get-2.result c.get-2.ensures.lookup), c.later-2.ensures, step-is) in
     let few : length vs ≤ 3 = omega arith in
     let stop : c.in_ok-second.second ≡ Some c.in-Some.stop = c.in-Some.is in
     let step : c.unwrap_or-step.result ≡ unwrap_or c.in_ok-step.step (pos 1) = search rules in
@@ -32,9 +34,11 @@ returns-in-None c =
     let vs = c.args.arguments.now in
     let first : required_in (slice_get vs 0) ≡ Ok c.in_ok-first.first = search rules in
     let second-is : c.later.result ≡ Ok c.in_ok-second.second = search rules in
-    let second : later_in (slice_get vs 1) ≡ Ok c.in_ok-second.second = cc (ap later_in (copied vs 1 c.get.result c.get.ensures.lookup), c.later.ensures, second-is) in
+    let second : later_in (slice_get vs 1)
+    ≡ Ok c.in_ok-second.second = cc (ap later_in (copied vs 1 c.get.result c.get.ensures.lookup), c.later.ensures, second-is) in
     let step-is : c.later-2.result ≡ Ok c.in_ok-step.step = search rules in
-    let third : later_in (slice_get vs 2) ≡ Ok c.in_ok-step.step = cc (ap later_in (copied vs 2 c.get-2.result c.get-2.ensures.lookup), c.later-2.ensures, step-is) in
+    let third : later_in (slice_get vs 2)
+    ≡ Ok c.in_ok-step.step = cc (ap later_in (copied vs 2 c.get-2.result c.get-2.ensures.lookup), c.later-2.ensures, step-is) in
     let few : length vs ≤ 3 = omega arith in
     let step : c.unwrap_or-step.result ≡ unwrap_or c.in_ok-step.step (pos 1) = search rules in
     let a : FitsSigned w64 c.in_ok-first.first = search rules in

@@ -25,7 +25,8 @@ loop-place-preserved c =
     let is : old ≡ p ∷ ps = c.in-Some.ensures.some in
     let inside = c.loop-place.invariant.inside in
     let same : v ≡ get_or xs p c.index-items-place.result = c.in_ok-share.ensures ∙ c.index-items-place.is in
-    let rest = next_item xs c.loop-place.picked.items p ps old v c.index-items-place.result (items_at xs c.args.places) is (inside_first n p old ps is inside) same c.loop-place.invariant.rest in
+    let rest = next_item xs c.loop-place.picked.items p ps old v c.index-items-place.result (items_at xs c.args.places) is
+    (inside_first n p old ps is inside) same c.loop-place.invariant.rest in
     record { inside = inside_more n p old ps is inside; rest = rw c.in_ok-push.ensures.items rest }
 
 pub returns-in_err-picked : goal.returns-in_err-picked

@@ -12,16 +12,22 @@ returns-in-Some c =
 
 pub pick_bytes-requires-clause-inside : goal.pick_bytes-requires-clause-inside
 pick_bytes-requires-clause-inside c =
-    table_inside c.as_bytes.result.now (chars c.args.text.now) c.args.places (c.as_bytes.ensures.value ∙ sym (chars-IsAscii c.args.text.now c.if-is_ascii.ensures.cases)) c.requires.inside
+    table_inside c.as_bytes.result.now (chars c.args.text.now) c.args.places (c.as_bytes.ensures.value
+    ∙ sym (chars-IsAscii c.args.text.now c.if-is_ascii.ensures.cases)) c.requires.inside
 
 pub returns-then-is_ascii : goal.returns-then-is_ascii
 returns-then-is_ascii c =
-    table_picked c.pick_bytes.result c.as_bytes.result.now (chars c.args.text.now) c.args.places (c.as_bytes.ensures.value ∙ sym (chars-IsAscii c.args.text.now c.if-is_ascii.ensures.cases)) c.pick_bytes.ensures
+    table_picked c.pick_bytes.result c.as_bytes.result.now (chars c.args.text.now) c.args.places (c.as_bytes.ensures.value
+    ∙ sym (chars-IsAscii c.args.text.now c.if-is_ascii.ensures.cases)) c.pick_bytes.ensures
 
 pub pick_chars-requires : goal.pick_chars-requires
 pick_chars-requires c =
-    record { inside = table_inside c.deref.result.now (chars c.args.text.now) c.args.places (c.deref.ensures.value ∙ c.in_ok-table.ensures) c.requires.inside }
+    record {
+      inside = table_inside c.deref.result.now (chars c.args.text.now) c.args.places (c.deref.ensures.value
+          ∙ c.in_ok-table.ensures) c.requires.inside;
+    }
 
 pub returns : goal.returns
 returns c =
-    table_picked c.pick_chars.result c.deref.result.now (chars c.args.text.now) c.args.places (c.deref.ensures.value ∙ c.in_ok-table.ensures) c.pick_chars.ensures
+    table_picked c.pick_chars.result c.deref.result.now (chars c.args.text.now) c.args.places (c.deref.ensures.value
+    ∙ c.in_ok-table.ensures) c.pick_chars.ensures

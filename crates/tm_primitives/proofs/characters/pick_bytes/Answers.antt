@@ -9,5 +9,6 @@ loop-place-preserved c =
     let pushed = c.in_ok-push.ensures.bytes in
     record {
       inside = inside_more (length c.args.text.now) c.in-Some.place c.loop-place.places c.next.new.self next c.loop-place.invariant.inside;
-      whole = picked_more c.args.text.now c.loop-place.places c.next.new.self (string_bytes c.loop-place.out) (string_bytes c.push.new.self) _ c.in-Some.place next pushed c.loop-place.invariant.whole;
+      whole = picked_more c.args.text.now c.loop-place.places c.next.new.self (string_bytes c.loop-place.out)
+          (string_bytes c.push.new.self) _ c.in-Some.place next pushed c.loop-place.invariant.whole;
     }

@@ -14,5 +14,6 @@ loop-place-preserved c =
     let pushed = c.in_ok-push.ensures.bytes ∙ ap (λ (x : ℕ). string_bytes c.loop-place.out ++ encode_utf8 x) read in
     record {
       inside = inside_more (length table) c.in-Some.place c.loop-place.places c.next.new.self next c.loop-place.invariant.inside;
-      whole = picked_more table c.loop-place.places c.next.new.self (string_bytes c.loop-place.out) (string_bytes c.push.new.self) _ c.in-Some.place next pushed c.loop-place.invariant.whole;
+      whole = picked_more table c.loop-place.places c.next.new.self (string_bytes c.loop-place.out)
+          (string_bytes c.push.new.self) _ c.in-Some.place next pushed c.loop-place.invariant.whole;
     }

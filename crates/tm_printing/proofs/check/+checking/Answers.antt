@@ -1,11 +1,13 @@
 use mathlib.Core.Path.{fun_ext}
-use Rattle.std.proofs.Common.{arith, ◌≡◌, ◌+◌, ◌*◌, drop, get_or, ap, sym, ◌∙◌, suc, ℕ, List, Bool, true, false, cond, not, Some, Ok, Err, subst, nat_eq}
+use Rattle.std.proofs.Common.{arith, ◌≡◌, ◌+◌, ◌*◌, drop, get_or, ap, sym, ◌∙◌, suc, ℕ, List, Bool, true, false, cond, not, Some, Ok, Err}
+use Rattle.std.proofs.Common.{subst, nat_eq}
 use Rattle.std.specs.HashSet.{contains}
 use Rattle.tm_values.proofs.Sizes.{item-smaller}
 use Rattle.tm_values.specs.Answer.{Answer, is_memory_alone}
 use Rattle.tm_values.specs.Val.{Val, val_size, vals_of, pairs_of}
 use Rattle.tm_values.specs.View.{node_view}
-use Rattle.tm_definitions.specs.Refused.{Way, Verdict, and_then, in_json, verdict_within, pair_verdict, items_verdict, pairs_verdict, through, namespace_verdict}
+use Rattle.tm_definitions.specs.Refused.{Way, Verdict, and_then, in_json, verdict_within, pair_verdict, items_verdict, pairs_verdict}
+use Rattle.tm_definitions.specs.Refused.{through, namespace_verdict}
 use Rattle.tm_printing.proofs.Parts.{pair-smaller}
 use Rattle.tm_printing.proofs.Verdicts.{passed, item_first, pair_first, namespace-there, restored, not_there}
 use Rattle.tm_printing.proofs.Weights.{weight, level-heavier}
@@ -15,9 +17,12 @@ pub check-returns-in-Exports-clause-answer : goal.check-returns-in-Exports-claus
 check-returns-in-Exports-clause-answer g t c =
     let r = g.R.Records.records c.args.records.now in
     let inside = namespace_verdict c.args.form r c.args.levels (contains nat_eq c.args.way.now) in
-    let pairs = ap (λ (l : List (Val × Val)). in_json c.args.form (pairs_verdict c.args.form r inside (pairs_of l))) (c.as_slice-in-Exports.ensures.value ∙ ap (λ v. v.items) c.deref-in-Exports.ensures) in
-    let same : verdict_within c.args.form r c.args.levels (contains nat_eq c.args.way.now) c.args.value.now ≡ in_json c.args.form (pairs_verdict c.args.form r inside (pairs_of c.as_slice-in-Exports.result.now)) =
-    ap (verdict_within c.args.form r c.args.levels (contains nat_eq c.args.way.now)) (sym c.value.view_is ∙ ap node_view c.in-Exports.is) ∙ sym pairs in
+    let pairs = ap (λ (l : List (Val × Val)). in_json c.args.form (pairs_verdict c.args.form r inside (pairs_of l)))
+    (c.as_slice-in-Exports.ensures.value ∙ ap (λ v. v.items) c.deref-in-Exports.ensures) in
+    let same : verdict_within c.args.form r c.args.levels (contains nat_eq c.args.way.now) c.args.value.now
+    ≡ in_json c.args.form (pairs_verdict c.args.form r inside (pairs_of c.as_slice-in-Exports.result.now)) =
+    ap (verdict_within c.args.form r c.args.levels (contains nat_eq c.args.way.now)) (sym c.value.view_is ∙ ap node_view c.in-Exports.is)
+    ∙ sym pairs in
     rw same c.check_module.ensures.answer
 
 pub check_items-check-requires : goal.check_items-check-requires
@@ -37,7 +42,8 @@ check_items-returns-in_err-check-clause-answer g t c =
     let x = c.item-item.result in
     let e = c.in_err-check.field-0.0 in
     let behind = items_verdict form r inside (vals_of (drop (i + 1) c.args.items.now)) in
-    let here = subst (λ (w : Way). is_memory_alone e ≡ false → verdict_within form r c.args.levels w x ≡ Err e) c.loop-item.invariant.way c.in_err-check.ensures.answer in
+    let here = subst (λ (w : Way). is_memory_alone e ≡ false →
+    verdict_within form r c.args.levels w x ≡ Err e) c.loop-item.invariant.way c.in_err-check.ensures.answer in
     let first = c.loop-item.invariant.rest ∙ item_first form r inside c.args.items.now i x c.loop-item-test.true c.item-item.is in
     passed _ e _ c.from_residual.ensures.1 (λ m. first ∙ ap (λ (v : Verdict). and_then v behind) (here m))
 
@@ -55,7 +61,9 @@ check_pairs-returns-in_err-check_pair-clause-answer g t c =
     let x = c.pair-item.result in
     let e = c.in_err-check_pair.field-0.0 in
     let behind = pairs_verdict form r inside (pairs_of (drop (i + 1) c.args.pairs.now)) in
-    let here = subst (λ (w : Way). is_memory_alone e ≡ false → pair_verdict form r (namespace_verdict form r c.args.levels w) x ≡ Err e) c.loop-pair.invariant.way c.in_err-check_pair.ensures.answer in
+    let here = subst (λ (w : Way). is_memory_alone e ≡ false →
+    pair_verdict form r (namespace_verdict form r c.args.levels w) x
+    ≡ Err e) c.loop-pair.invariant.way c.in_err-check_pair.ensures.answer in
     let first = c.loop-pair.invariant.rest ∙ pair_first form r inside c.args.pairs.now i x c.loop-pair-test.true c.pair-item.is in
     passed _ e _ c.from_residual.ensures.1 (λ m. first ∙ ap (λ (v : Verdict). and_then v behind) (here m))
 
@@ -68,7 +76,8 @@ check_pairs-loop-pair-preserved g t c =
     let x = c.pair-item.result in
     let u = c.in_ok-check_pair.field-0 in
     let behind = pairs_verdict form r inside (pairs_of (drop (i + 1) c.args.pairs.now)) in
-    let here = subst (λ (w : Way). pair_verdict form r (namespace_verdict form r c.args.levels w) x ≡ Ok u) c.loop-pair.invariant.way c.in_ok-check_pair.ensures.answer in
+    let here = subst (λ (w : Way). pair_verdict form r (namespace_verdict form r c.args.levels w) x
+    ≡ Ok u) c.loop-pair.invariant.way c.in_ok-check_pair.ensures.answer in
     let first = c.loop-pair.invariant.rest ∙ pair_first form r inside c.args.pairs.now i x c.loop-pair-test.true c.pair-item.is in
     record { way = c.in_ok-check_pair.ensures.way ∙ c.loop-pair.invariant.way; rest = first ∙ ap (λ (v : Verdict). and_then v behind) here }
 
@@ -93,8 +102,11 @@ check_namespace-returns-in_err-check_pairs-clause-answer g t c =
     let more : c.args.levels ≡ suc below = omega (arith, c.in-Some.ensures) in
     let added : contains nat_eq c.insert.new.self ≡ through c.args.index old = fun_ext (λ q. c.in_ok-insert.ensures.updates.0 q) in
     let fresh : old c.args.index ≡ false = not_there _ _ c.in_ok-insert.ensures.added c.if-not-branch.false in
-    let here = subst (λ (w : Way). is_memory_alone e ≡ false → pairs_verdict form r (namespace_verdict form r below w) (pairs_of c.pairs.result.now) ≡ Err e) added c.in_err-check_pairs.ensures.answer in
-    passed _ e _ c.from_residual-in_err-check_pairs.ensures.1 (λ m. namespace-there form r c.args.levels below old c.args.state c.args.index c.pairs.result.now more is fresh ∙ here m)
+    let here = subst (λ (w : Way). is_memory_alone e ≡ false →
+    pairs_verdict form r (namespace_verdict form r below w) (pairs_of c.pairs.result.now)
+    ≡ Err e) added c.in_err-check_pairs.ensures.answer in
+    passed _ e _ c.from_residual-in_err-check_pairs.ensures.1
+    (λ m. namespace-there form r c.args.levels below old c.args.state c.args.index c.pairs.result.now more is fresh ∙ here m)
 
 pub check_namespace-returns-clause-way : goal.check_namespace-returns-clause-way
 check_namespace-returns-clause-way g t c =

@@ -8,5 +8,6 @@ use Rattle.tm_printing.proofs.check.check_json.Goals as goal
 pub returns : goal.returns
 returns g c =
     let none = λ (q : ℕ). ap (λ (ks : List ℕ). list_any (nat_eq q) ks) c.new-way.ensures.empty in
-    let same = at_start Json (g.R.Records.records c.args.records.now) _ (contains nat_eq c.new-way.result) c.args.value.now c.namespace_count-levels.ensures none in
+    let same = at_start Json (g.R.Records.records c.args.records.now) _
+    (contains nat_eq c.new-way.result) c.args.value.now c.namespace_count-levels.ensures none in
     rw (← same) (search rules fits 100)

@@ -19,14 +19,18 @@ write_data-returns-in-List g t c =
 
 pub write_data-returns-in-Map : goal.write_data-returns-in-Map
 write_data-returns-in-Map g t c =
-    let pairs = ap (λ (l : List (Val × Val)). map (pairs_of l)) (c.as_slice-in-Map.ensures.value ∙ ap (λ v. v.items) c.deref-in-Map.ensures) in
-    let same : c.args.value.now ≡ map (pairs_of c.as_slice-in-Map.result.now) = sym c.value.view_is ∙ (ap node_view c.in-Map.is ∙ sym pairs) in
+    let pairs = ap (λ (l : List (Val × Val)). map (pairs_of l)) (c.as_slice-in-Map.ensures.value
+    ∙ ap (λ v. v.items) c.deref-in-Map.ensures) in
+    let same : c.args.value.now ≡ map (pairs_of c.as_slice-in-Map.result.now) = sym c.value.view_is
+    ∙ (ap node_view c.in-Map.is ∙ sym pairs) in
     rw same c.write_object.ensures
 
 pub write_data-returns-in-Keywords : goal.write_data-returns-in-Keywords
 write_data-returns-in-Keywords g t c =
-    let pairs = ap (λ (l : List (Val × Val)). keywords (pairs_of l)) (c.as_slice-in-Keywords.ensures.value ∙ ap (λ v. v.items) c.deref-in-Keywords.ensures) in
-    let same : c.args.value.now ≡ keywords (pairs_of c.as_slice-in-Keywords.result.now) = sym c.value.view_is ∙ (ap node_view c.in-Keywords.is ∙ sym pairs) in
+    let pairs = ap (λ (l : List (Val × Val)). keywords (pairs_of l)) (c.as_slice-in-Keywords.ensures.value
+    ∙ ap (λ v. v.items) c.deref-in-Keywords.ensures) in
+    let same : c.args.value.now ≡ keywords (pairs_of c.as_slice-in-Keywords.result.now) = sym c.value.view_is
+    ∙ (ap node_view c.in-Keywords.is ∙ sym pairs) in
     rw same c.write_object-in-Keywords.ensures
 
 pub write_array-write_item-requires : goal.write_array-write_item-requires
@@ -41,7 +45,9 @@ write_array-returns-in_err-write_item g t c =
     let inside = namespace_data (g.R.Records.records c.args.records.now) c.args.levels in
     let i = c.loop-i.i in
     let begins = item_first inside (nat_lt 0 i) c.args.items.now i c.index-items-i.result c.loop-i-test.true c.index-items-i.is in
-    failed _ (items_text true (items_of inside (vals_of (drop (i + 1) c.args.items.now)))) g.met.T.Target.laws c.from_residual-in_err-write_item.ensures.0 (rest_is begins c.loop-i.invariant) c.in_err-write_item.ensures
+    failed _ (items_text true (items_of inside
+    (vals_of (drop (i + 1) c.args.items.now)))) g.met.T.Target.laws c.from_residual-in_err-write_item.ensures.0
+    (rest_is begins c.loop-i.invariant) c.in_err-write_item.ensures
 
 pub write_array-loop-i-preserved : goal.write_array-loop-i-preserved
 write_array-loop-i-preserved g t c =
@@ -61,7 +67,9 @@ write_object-returns-in_err-write_member g t c =
     let inside = namespace_data (g.R.Records.records c.args.records.now) c.args.levels in
     let i = c.loop-i.i in
     let begins = member_first inside (nat_lt 0 i) c.args.pairs.now i c.index-pairs-i.result c.loop-i-test.true c.index-pairs-i.is in
-    failed _ (members_text true (members_of inside (pairs_of (drop (i + 1) c.args.pairs.now)))) g.met.T.Target.laws c.from_residual-in_err-write_member.ensures.0 (rest_is begins c.loop-i.invariant) c.in_err-write_member.ensures
+    failed _ (members_text true (members_of inside
+    (pairs_of (drop (i + 1) c.args.pairs.now)))) g.met.T.Target.laws c.from_residual-in_err-write_member.ensures.0
+    (rest_is begins c.loop-i.invariant) c.in_err-write_member.ensures
 
 pub write_object-loop-i-preserved : goal.write_object-loop-i-preserved
 write_object-loop-i-preserved g t c =
@@ -91,7 +99,8 @@ write_namespace-returns-in-Some-find_namespace g t c =
 pub write_data-returns-in-Exports : goal.write_data-returns-in-Exports
 write_data-returns-in-Exports g t c =
     let inside = namespace_data (g.R.Records.records c.args.records.now) c.args.levels in
-    let pairs = ap (λ (l : List (Val × Val)). json.object (members_of inside (pairs_of l))) (c.as_slice-in-Exports.ensures.value ∙ ap (λ v. v.items) c.deref-in-Exports.ensures) in
+    let pairs = ap (λ (l : List (Val × Val)). json.object (members_of inside (pairs_of l))) (c.as_slice-in-Exports.ensures.value
+    ∙ ap (λ v. v.items) c.deref-in-Exports.ensures) in
     let same : data_of inside c.args.value.now ≡ json.object (members_of inside (pairs_of c.as_slice-in-Exports.result.now)) =
     ap (data_of inside) (sym c.value.view_is ∙ ap node_view c.in-Exports.is) ∙ sym pairs in
     rw same c.write_object-in-Exports.ensures
@@ -99,7 +108,8 @@ write_data-returns-in-Exports g t c =
 pub write_array-returns-in_err-take_text : goal.write_array-returns-in_err-take_text
 write_array-returns-in_err-take_text g t c =
     let inside = namespace_data (g.R.Records.records c.args.records.now) c.args.levels in
-    at_opening _ (91 ∷ []) (items_text false (items_of inside (vals_of c.args.items.now))) g.met.T.Target.laws c.from_residual.ensures.0 c.in_err-take_text.ensures
+    at_opening _ (91 ∷ []) (items_text false
+    (items_of inside (vals_of c.args.items.now))) g.met.T.Target.laws c.from_residual.ensures.0 c.in_err-take_text.ensures
 
 pub write_array-loop-i-init : goal.write_array-loop-i-init
 write_array-loop-i-init g t c = past g.met.T.Target.laws all_ahead c.in_ok-take_text.ensures
@@ -107,7 +117,8 @@ write_array-loop-i-init g t c = past g.met.T.Target.laws all_ahead c.in_ok-take_
 pub write_object-returns-in_err-take_text : goal.write_object-returns-in_err-take_text
 write_object-returns-in_err-take_text g t c =
     let inside = namespace_data (g.R.Records.records c.args.records.now) c.args.levels in
-    at_opening _ (123 ∷ []) (members_text false (members_of inside (pairs_of c.args.pairs.now))) g.met.T.Target.laws c.from_residual.ensures.0 c.in_err-take_text.ensures
+    at_opening _ (123 ∷ []) (members_text false
+    (members_of inside (pairs_of c.args.pairs.now))) g.met.T.Target.laws c.from_residual.ensures.0 c.in_err-take_text.ensures
 
 pub write_object-loop-i-init : goal.write_object-loop-i-init
 write_object-loop-i-init g t c = past g.met.T.Target.laws all_ahead c.in_ok-take_text.ensures
@@ -122,10 +133,12 @@ pub write_member-returns-in_err-take_text : goal.write_member-returns-in_err-tak
 write_member-returns-in_err-take_text g t c =
     let inside = namespace_data (g.R.Records.records c.args.records.now) c.args.levels in
     let text = compact_text (data_of inside c.args.pair.now.1) in
-    failed _ text g.met.T.Target.laws c.from_residual-in_err-take_text.ensures.0 (past_two (58 ∷ text) g.met.T.Target.laws c.in_ok-write_comma.ensures c.in_ok-write_key.ensures) c.in_err-take_text.ensures
+    failed _ text g.met.T.Target.laws c.from_residual-in_err-take_text.ensures.0
+    (past_two (58 ∷ text) g.met.T.Target.laws c.in_ok-write_comma.ensures c.in_ok-write_key.ensures) c.in_err-take_text.ensures
 
 pub write_member-returns : goal.write_member-returns
 write_member-returns g t c =
     let inside = namespace_data (g.R.Records.records c.args.records.now) c.args.levels in
     let text = compact_text (data_of inside c.args.pair.now.1) in
-    last _ _ (past g.met.T.Target.laws (past_two (58 ∷ text) g.met.T.Target.laws c.in_ok-write_comma.ensures c.in_ok-write_key.ensures) c.in_ok-take_text.ensures) c.write_data.ensures
+    last _ _ (past g.met.T.Target.laws
+    (past_two (58 ∷ text) g.met.T.Target.laws c.in_ok-write_comma.ensures c.in_ok-write_key.ensures) c.in_ok-take_text.ensures) c.write_data.ensures

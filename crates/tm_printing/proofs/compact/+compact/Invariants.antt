@@ -28,10 +28,12 @@ decreases-write_namespace g l = l.levels * weight (g.R.Records.records l.records
 abbrev pub invariant-write_array-loop-i : goal.invariant-write_array-loop-i
 invariant-write_array-loop-i g l =
     let inside = namespace_data (g.R.Records.records l.records) l.levels in
-    Ahead g.T.Target.took g.T.Target.stopped l.fn.target (array_text inside (vals_of l.items)) l.target (items_text (nat_lt 0 l.i) (items_of inside (vals_of (drop l.i l.items))))
+    Ahead g.T.Target.took g.T.Target.stopped l.fn.target (array_text inside (vals_of l.items)) l.target
+    (items_text (nat_lt 0 l.i) (items_of inside (vals_of (drop l.i l.items))))
 
 -- and the same of the pairs
 abbrev pub invariant-write_object-loop-i : goal.invariant-write_object-loop-i
 invariant-write_object-loop-i g l =
     let inside = namespace_data (g.R.Records.records l.records) l.levels in
-    Ahead g.T.Target.took g.T.Target.stopped l.fn.target (object_text inside (pairs_of l.pairs)) l.target (members_text (nat_lt 0 l.i) (members_of inside (pairs_of (drop l.i l.pairs))))
+    Ahead g.T.Target.took g.T.Target.stopped l.fn.target (object_text inside (pairs_of l.pairs)) l.target
+    (members_text (nat_lt 0 l.i) (members_of inside (pairs_of (drop l.i l.pairs))))

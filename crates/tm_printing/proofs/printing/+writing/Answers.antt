@@ -17,14 +17,18 @@ write_inner-returns-in-List g t c =
 
 pub write_inner-returns-in-Map : goal.write_inner-returns-in-Map
 write_inner-returns-in-Map g t c =
-    let pairs = ap (λ (l : List (Val × Val)). map (pairs_of l)) (c.as_slice-in-Map.ensures.value ∙ ap (λ v. v.items) c.deref-in-Map.ensures) in
-    let same : c.args.value.now ≡ map (pairs_of c.as_slice-in-Map.result.now) = sym c.value.view_is ∙ (ap node_view c.in-Map.is ∙ sym pairs) in
+    let pairs = ap (λ (l : List (Val × Val)). map (pairs_of l)) (c.as_slice-in-Map.ensures.value
+    ∙ ap (λ v. v.items) c.deref-in-Map.ensures) in
+    let same : c.args.value.now ≡ map (pairs_of c.as_slice-in-Map.result.now) = sym c.value.view_is
+    ∙ (ap node_view c.in-Map.is ∙ sym pairs) in
     rw same c.write_map.ensures
 
 pub write_inner-returns-in-Keywords : goal.write_inner-returns-in-Keywords
 write_inner-returns-in-Keywords g t c =
-    let pairs = ap (λ (l : List (Val × Val)). keywords (pairs_of l)) (c.as_slice-in-Keywords.ensures.value ∙ ap (λ v. v.items) c.deref-in-Keywords.ensures) in
-    let same : c.args.value.now ≡ keywords (pairs_of c.as_slice-in-Keywords.result.now) = sym c.value.view_is ∙ (ap node_view c.in-Keywords.is ∙ sym pairs) in
+    let pairs = ap (λ (l : List (Val × Val)). keywords (pairs_of l)) (c.as_slice-in-Keywords.ensures.value
+    ∙ ap (λ v. v.items) c.deref-in-Keywords.ensures) in
+    let same : c.args.value.now ≡ keywords (pairs_of c.as_slice-in-Keywords.result.now) = sym c.value.view_is
+    ∙ (ap node_view c.in-Keywords.is ∙ sym pairs) in
     rw same c.write_map-in-Keywords.ensures
 
 pub write_list-write_item-requires : goal.write_list-write_item-requires
@@ -40,7 +44,9 @@ write_list-returns-in_err-write_item g t c =
     let inside = namespace_text r c.args.levels in
     let i = c.loop-i.i in
     let begins = item_first r inside (nat_lt 0 i) c.args.items.now i c.index-items-i.result c.loop-i-test.true c.index-items-i.is in
-    failed _ (inner_items r inside true (vals_of (drop (i + 1) c.args.items.now))) (spelled_laws g.E.Spelling.spelled g.met.T.Target.laws) c.from_residual-in_err-write_item.ensures.0 (rest_is begins c.loop-i.invariant) c.in_err-write_item.ensures
+    failed _ (inner_items r inside true (vals_of (drop (i + 1) c.args.items.now)))
+    (spelled_laws g.E.Spelling.spelled g.met.T.Target.laws) c.from_residual-in_err-write_item.ensures.0
+    (rest_is begins c.loop-i.invariant) c.in_err-write_item.ensures
 
 pub write_list-loop-i-preserved : goal.write_list-loop-i-preserved
 write_list-loop-i-preserved g t c =
@@ -62,7 +68,9 @@ write_map-returns-in_err-write_pair g t c =
     let inside = namespace_text r c.args.levels in
     let i = c.loop-i.i in
     let begins = pair_first r inside (nat_lt 0 i) c.args.pairs.now i c.index-pairs-i.result c.loop-i-test.true c.index-pairs-i.is in
-    failed _ (inner_pairs r inside true (pairs_of (drop (i + 1) c.args.pairs.now))) (spelled_laws g.E.Spelling.spelled g.met.T.Target.laws) c.from_residual-in_err-write_pair.ensures.0 (rest_is begins c.loop-i.invariant) c.in_err-write_pair.ensures
+    failed _ (inner_pairs r inside true (pairs_of (drop (i + 1) c.args.pairs.now)))
+    (spelled_laws g.E.Spelling.spelled g.met.T.Target.laws) c.from_residual-in_err-write_pair.ensures.0
+    (rest_is begins c.loop-i.invariant) c.in_err-write_pair.ensures
 
 pub write_map-loop-i-preserved : goal.write_map-loop-i-preserved
 write_map-loop-i-preserved g t c =

@@ -29,11 +29,13 @@ abbrev pub invariant-write_list-loop-i : goal.invariant-write_list-loop-i
 invariant-write_list-loop-i g l =
     let r = g.R.Records.records l.records in
     let inside = namespace_text r l.levels in
-    Ahead (spelled g.E.Spelling.spelled g.T.Target.took) (spelled g.E.Spelling.spelled g.T.Target.stopped) l.fn.target (list_text r inside (vals_of l.items)) l.target (inner_items r inside (nat_lt 0 l.i) (vals_of (drop l.i l.items)))
+    Ahead (spelled g.E.Spelling.spelled g.T.Target.took) (spelled g.E.Spelling.spelled g.T.Target.stopped) l.fn.target
+    (list_text r inside (vals_of l.items)) l.target (inner_items r inside (nat_lt 0 l.i) (vals_of (drop l.i l.items)))
 
 -- and the same of the pairs
 abbrev pub invariant-write_map-loop-i : goal.invariant-write_map-loop-i
 invariant-write_map-loop-i g l =
     let r = g.R.Records.records l.records in
     let inside = namespace_text r l.levels in
-    Ahead (spelled g.E.Spelling.spelled g.T.Target.took) (spelled g.E.Spelling.spelled g.T.Target.stopped) l.fn.target (map_text r inside (pairs_of l.pairs)) l.target (inner_pairs r inside (nat_lt 0 l.i) (pairs_of (drop l.i l.pairs)))
+    Ahead (spelled g.E.Spelling.spelled g.T.Target.took) (spelled g.E.Spelling.spelled g.T.Target.stopped) l.fn.target
+    (map_text r inside (pairs_of l.pairs)) l.target (inner_pairs r inside (nat_lt 0 l.i) (pairs_of (drop l.i l.pairs)))

@@ -7,5 +7,6 @@ returns-in-None g c =
     let r = g.R.Records.records c.args.records.now in
     let v = c.args.value.now in
     let same : printed r v ≡ inner r (namespace_text r c.namespace_count.result) v =
-    ap (λ (o : Option (List ℕ)). unwrap_or o (inner r (namespace_text r (length r.namespaces)) v)) c.in-None.ensures ∙ ap (λ (l : ℕ). inner r (namespace_text r l) v) (sym c.namespace_count.ensures) in
+    ap (λ (o : Option (List ℕ)). unwrap_or o (inner r (namespace_text r (length r.namespaces)) v)) c.in-None.ensures
+    ∙ ap (λ (l : ℕ). inner r (namespace_text r l) v) (sym c.namespace_count.ensures) in
     rw same (search rules fits 100)

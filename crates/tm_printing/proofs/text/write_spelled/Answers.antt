@@ -27,9 +27,14 @@ loop-i-preserved g c =
           let begins : left spelled bs start i ≡ w.range.result.now ++ (w.in-Some.spelling.now ++ left spelled bs (i + 1) (i + 1)) =
           rw (w.range.ensures.value, is) (spelled_step spelled bs start i within) in
           let run = past laws (rest_is begins so_far) w.in_ok-take_text.ensures in
-          rw (w.start-is, w.target-is) (record { in_order = omega arith; boundary = IsCharBoundary-after_ascii bs i c.utf8.text within low; ahead = past laws run w.in_ok-take_text-2.ensures })
+          rw (w.start-is, w.target-is) (record {
+            in_order = omega arith;
+            boundary = IsCharBoundary-after_ascii bs i c.utf8.text within low;
+            ahead = past laws run w.in_ok-take_text-2.ensures;
+          })
       | in_default w ↦
-          let plain : spelled (get_or bs i 0) ≡ get_or bs i 0 ∷ [] = subst (λ (b : ℕ). spelled b ≡ b ∷ []) same w.in_default.ensures.spelled in
+          let plain : spelled (get_or bs i 0)
+          ≡ get_or bs i 0 ∷ [] = subst (λ (b : ℕ). spelled b ≡ b ∷ []) same w.in_default.ensures.spelled in
           let waits = rest_is (plain_step spelled bs start i (omega arith) within plain) so_far in
           rw (w.start-is, w.target-is) (record { in_order = omega arith; boundary = c.loop-i.invariant.boundary; ahead = waits })
     ]

@@ -8,5 +8,6 @@ abbrev pub invariant-loop-i : goal.invariant-loop-i
 invariant-loop-i g l = record {
   in_order : l.start ≤ l.i;
   boundary : IsCharBoundary l.text l.start;
-  ahead : Ahead g.T.Target.took g.T.Target.stopped l.initial.target (flat_map g.S.Spelling.spelled l.text) l.target (left g.S.Spelling.spelled l.text l.start l.i);
+  ahead : Ahead g.T.Target.took g.T.Target.stopped l.initial.target (flat_map g.S.Spelling.spelled l.text) l.target
+      (left g.S.Spelling.spelled l.text l.start l.i);
 }

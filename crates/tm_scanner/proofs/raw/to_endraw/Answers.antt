@@ -8,7 +8,9 @@ returns-in-Some-endraw-clause-value c =
     let loop = rw c.as_bytes-bytes.ensures.value at c.loop-at.invariant in
     let first = rw c.as_bytes-bytes.ensures.value at c.in-Some.ensures.first in
     let here = rw c.split_at.ensures.back at c.in-Some-endraw.ensures.value in
-    rw c.split_at.ensures.front (sym (found_at c.args.syntax.now c.args.text.now c.loop-at.from c.in-Some.at (end.0, (end.1.0, end.1.1.now)) loop.0 loop.1 first.0 (sym here)))
+    rw c.split_at.ensures.front (sym
+    (found_at c.args.syntax.now c.args.text.now c.loop-at.from c.in-Some.at (end.0, (end.1.0, end.1.1.now)) loop.0 loop.1 first.0
+    (sym here)))
 
 pub loop-at-preserved : goal.loop-at-preserved
 loop-at-preserved c =

@@ -9,8 +9,10 @@ loop-text-preserved c =
     let next : Next = (c.in-Some.text.now, (c.in-Some.start, c.in-Some.behind.now)) in
     let found = c.in_ok-whitespace.ensures.found in (
       search rules,
-      goes_on c.args.syntax.now _ _ _ _ c.loop-text.before c.loop-text.rest.now next found.0 (c.in_ok-whitespace.whitespace, c.in_ok-whitespace.left.now)
-          c.loop-text.invariant.1 (sym c.in-Some.ensures.value) (rw c.part.ensures at rw c.trimmed-part.ensures at c.in_ok-raw.ensures.added) found.1 found.2,
+      goes_on c.args.syntax.now _ _ _ _ c.loop-text.before c.loop-text.rest.now next found.0
+          (c.in_ok-whitespace.whitespace, c.in_ok-whitespace.left.now)
+          c.loop-text.invariant.1 (sym c.in-Some.ensures.value)
+          (rw c.part.ensures at rw c.trimmed-part.ensures at c.in_ok-raw.ensures.added) found.1 found.2,
     )
 
 pub returns-in_err-whitespace-clause-refused : goal.returns-in_err-whitespace-clause-refused
@@ -18,4 +20,6 @@ returns-in_err-whitespace-clause-refused c =
     let e = c.in_err-whitespace.field-0.0 in
     let next : Next = (c.in-Some.text.now, (c.in-Some.start, c.in-Some.behind.now)) in
     passed c.from_residual-in_err-whitespace.result _ e c.from_residual-in_err-whitespace.ensures.1
-    (refused_by e (no_tokens c.args.syntax.now (rc_str_bytes c.args.source.now) _ c.loop-text.before c.loop-text.rest.now next c.loop-text.invariant.1 (sym c.in-Some.ensures.value)) c.in_err-whitespace.ensures.refused)
+    (refused_by e (no_tokens c.args.syntax.now
+    (rc_str_bytes c.args.source.now) _ c.loop-text.before c.loop-text.rest.now next c.loop-text.invariant.1
+    (sym c.in-Some.ensures.value)) c.in_err-whitespace.ensures.refused)

@@ -11,7 +11,8 @@ returns-in-Some c =
 pub returns-in-Some-strip_suffix : goal.returns-in-Some-strip_suffix
 returns-in-Some-strip_suffix c =
     let split = before_word c.args.source.now (10 ∷ []) c.in-Some-strip_suffix.text.now c.in-Some-strip_suffix.ensures.cases in
-    sym (ap without_final_newline split ∙ without_one c.in-Some-strip_suffix.text.now (λ front e. c.in_default.ensures.cases front (split ∙ e)))
+    sym (ap without_final_newline split
+    ∙ without_one c.in-Some-strip_suffix.text.now (λ front e. c.in_default.ensures.cases front (split ∙ e)))
 
 pub returns-in-None : goal.returns-in-None
 returns-in-None c = sym (without_none c.args.source.now c.in-None.ensures.cases)

@@ -12,4 +12,7 @@ loop-character-preserved c = (
 )
 
 pub returns-clause-refused : goal.returns-clause-refused
-returns-clause-refused c = inr (c.from.ensures, no_text _ _ _ _ c.loop-character.invariant.1 (sym c.in_default-escape.ensures.value) (sym c.in-None.ensures.value))
+returns-clause-refused c = inr (
+  c.from.ensures,
+  no_text _ _ _ _ c.loop-character.invariant.1 (sym c.in_default-escape.ensures.value) (sym c.in-None.ensures.value),
+)

@@ -5,7 +5,8 @@ use Rattle.tm_scanner.proofs.Contents.{ContentSoFar}
 use Rattle.tm_scanner.proofs.tokens.content.Given as goal
 
 abbrev pub invariant-next : goal.invariant-next
-invariant-next l = shadow (Utf8 l.rest) × ContentSoFar l.by l.text l.fn.tokens.items l.tokens.items l.rest l.depth × (length l.rest ≤ length l.text)
+invariant-next l = shadow (Utf8 l.rest) × ContentSoFar l.by l.text l.fn.tokens.items l.tokens.items l.rest l.depth
+    × (length l.rest ≤ length l.text)
 
 abbrev pub decreases-next : goal.decreases-next
 decreases-next l = length l.rest

@@ -7,7 +7,9 @@ use Rattle.std.specs.declared.alloc.Global.{Global}
 use Rattle.tm_values.proofs.macros.compare_texts.Goals as goal
 
 -- texts compare as their bytes do
-by_bytes : (xs ys : List (RcStr Global)) → slice_cmp (λ x y. slice_cmp nat_cmp (rc_str_bytes x) (rc_str_bytes y)) xs ys ≡ slice_cmp (slice_cmp nat_cmp) (each rc_str_bytes xs) (each rc_str_bytes ys)
+by_bytes : (xs ys : List (RcStr Global)) →
+    slice_cmp (λ x y. slice_cmp nat_cmp (rc_str_bytes x) (rc_str_bytes y)) xs ys
+    ≡ slice_cmp (slice_cmp nat_cmp) (each rc_str_bytes xs) (each rc_str_bytes ys)
 by_bytes [] [] = refl
 by_bytes [] (y ∷ ys) = refl
 by_bytes (x ∷ xs) [] = refl

@@ -9,5 +9,6 @@ use Rattle.tm_values.proofs.map.place_of_text.Goals as goal
 pub returns : goal.returns
 returns c =
     let facts = c.binary_search_by.ensures in
-    let by_key = facts.position (λ (p : Val × Val). val_cmp p.0 (text c.args.name.now false)) (always_returns_same _ _ _ (λ a r f called. search rules)) in
+    let by_key = facts.position (λ (p : Val × Val). val_cmp p.0 (text c.args.name.now false))
+    (always_returns_same _ _ _ (λ a r f called. search rules)) in
     searched (text c.args.name.now false) c.args.pairs.now c.requires c.binary_search_by.result facts.bound by_key

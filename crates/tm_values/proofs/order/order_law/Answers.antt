@@ -1,7 +1,8 @@
 use Rattle.std.proofs.Common.{◌≡◌, Bool, refl}
 use Rattle.tm_values.specs.Order.{val_cmp}
 use Rattle.tm_values.specs.Total.{val_cmp_total}
-use Rattle.tm_values.specs.Val.{Val, undefined, none, boolean, number, text, list, map, keywords, exports, function, macro, loop, namespace, whole_of}
+use Rattle.tm_values.specs.Val.{Val, undefined, none, boolean, number, text, list, map, keywords, exports, function, macro, loop, namespace}
+use Rattle.tm_values.specs.Val.{whole_of}
 use Rattle.tm_values.proofs.order.order_law.Goals as goal
 
 as_whole : (b : Bool) (v : Val) → val_cmp v (boolean b) ≡ val_cmp v (number (whole_of b))

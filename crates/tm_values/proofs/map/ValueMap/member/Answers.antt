@@ -15,4 +15,5 @@ returns-in-Ok c =
 pub returns-in-Err : goal.returns-in-Err
 returns-in-Err c =
     let k = text c.args.name.now false in
-    subst (λ (l : List (Val × Val)). find k l ≡ None) (c.deref.ensures.value ∙ c.self.view_is) (find-gap k c.deref.result.now c.in-Err.field-0 c.in-Err.ensures)
+    subst (λ (l : List (Val × Val)). find k l ≡ None) (c.deref.ensures.value
+    ∙ c.self.view_is) (find-gap k c.deref.result.now c.in-Err.field-0 c.in-Err.ensures)

@@ -9,9 +9,11 @@ returns-in-Ok c =
     let k = text c.args.name.now false in
     let x = c.index-pairs-at.result in
     let found = find-read k c.pairs-pairs.result.now c.in-Ok.at x c.pairs-pairs.ensures.ordered c.in-Ok.ensures c.index-pairs-at.is in
-    subst (λ (l : List (Val × Val)). find k l ≡ Some x.1) c.pairs-pairs.ensures.pairs found ∙ ap (λ (p : Val × Val). Some p.1) c.index-pairs-at.is
+    subst (λ (l : List (Val × Val)). find k l ≡ Some x.1) c.pairs-pairs.ensures.pairs found
+    ∙ ap (λ (p : Val × Val). Some p.1) c.index-pairs-at.is
 
 pub returns-in-Err : goal.returns-in-Err
 returns-in-Err c =
     let k = text c.args.name.now false in
-    subst (λ (l : List (Val × Val)). find k l ≡ None) c.pairs-pairs.ensures.pairs (find-gap k c.pairs-pairs.result.now c.in-Err.field-0 c.in-Err.ensures)
+    subst (λ (l : List (Val × Val)). find k l
+    ≡ None) c.pairs-pairs.ensures.pairs (find-gap k c.pairs-pairs.result.now c.in-Err.field-0 c.in-Err.ensures)
