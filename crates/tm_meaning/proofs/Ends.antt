@@ -16,11 +16,13 @@ one_end {p = p} {f = f} {t = t} {q = q} (more {d = d'} {c = c1} x y) (more {d = 
 one_end (more x y) (nest z u v) = cc
 one_end (nest x y w) (over z u) = cc
 one_end (nest x y w) (more z u) = cc
-one_end {p = p} {f = f} {t = t} {q = q} (nest {g = g1} {c = c1} {back = b1} {e = e1} x y w) (nest {g = g2} {c = c2} {back = b2} {e = e2} z u v) =
+one_end {p = p} {f = f} {t = t} {q = q} (nest {g = g1} {c = c1} {back = b1} {e = e1} x y w)
+    (nest {g = g2} {c = c2} {back = b2} {e = e2} z u v) =
     let kg : g2 ≡ g1 = cc in
     let kc : c2 ≡ c1 = cc in
     let kb : b2 ≡ b1 = cc in
-    let u1 : Leads p g1 t (step p g1 c1) e2 = subst (λ c. Leads p g1 t (step p g1 c) e2) kc (subst (λ g. Leads p g t (step p g c2) e2) kg u) in
+    let u1 : Leads p g1 t (step p g1 c1) e2 = subst (λ c. Leads p g1 t (step p g1 c) e2) kc
+    (subst (λ g. Leads p g t (step p g c2) e2) kg u) in
     let ke : e2 ≡ e1 = sym (one_end y u1) in
     one_end w (subst (λ (e : Final). Leads p f e.text (back_to b1 e.end) q) ke (subst (λ b. Leads p f e2.text (back_to b e2.end) q) kb v))
 
@@ -36,7 +38,8 @@ text_grows {t = t} (nest x y z) =
     (inner.0 ++ outer.0, outer.1 ∙ ap (λ w. w ++ outer.0) inner.1 ∙ append_assoc t inner.0 outer.0)
 
 -- a step that goes on leads where the next place leads
-pub more_only : {p : Program} {f : Base} {t d : List ℕ} {n : Next} {c : Config} {o : Final} → n ≡ More d c → Leads p f t n o → Leads p f (t ++ d) (step p f c) o
+pub more_only : {p : Program} {f : Base} {t d : List ℕ} {n : Next} {c : Config} {o : Final} → n ≡ More d c → Leads p f t n o →
+    Leads p f (t ++ d) (step p f c) o
 more_only e (over x y) = cc
 more_only {p = p} {f = f} {t = t} {d = d} {c = c} {o = o} e (more {d = d''} {c = c2} x y) =
     let kd : d'' ≡ d = cc in

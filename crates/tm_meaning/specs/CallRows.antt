@@ -59,7 +59,8 @@ with_functions f g p = record p {
 
 -- {{ f("a", 1) }}
 abbrev pub called_with_two : Expr
-called_with_two = Call' (codes "f") (tt ∷ tt ∷ []) (argument (plain (literal (codes "a"))) (argument (plain (Const (number (pos 1)))) no_argument)) [] no_keyword
+called_with_two = Call' (codes "f") (tt ∷ tt ∷ []) (argument (plain (literal (codes "a")))
+    (argument (plain (Const (number (pos 1)))) no_argument)) [] no_keyword
 
 abbrev pub calling : Function → Page
 calling f = with_functions f f (page (one (EmitExpr called_with_two)) nothing)
@@ -109,7 +110,8 @@ abbrev pub summed : Page
 summed =
     with_languages (page (body_of
     (statement (Set (To (codes "ns")) (one_named (codes "namespace") (codes "n") (literal_number 0)))
-    (statement (for_x (numbers 1 2) (Set (Member ns (codes "n")) (chained ns (tt ∷ tt ∷ []) (step (Attribute (codes "n")) (step (binary binaries.Add x) no_step)))) no_else)
+    (statement (for_x (numbers 1 2) (Set (Member ns (codes "n")) (chained ns (tt ∷ tt ∷ [])
+    (step (Attribute (codes "n")) (step (binary binaries.Add x) no_step)))) no_else)
     (statement (EmitExpr ns_n) no_statement)))) nothing)
 
 -- {% do f() %}x
@@ -118,7 +120,8 @@ do_call = with_functions last_function last_function (page (two (Do (call_none (
 
 -- a{{ nope(f()) }}
 abbrev pub unknown_behind : Function → Page
-unknown_behind f = with_functions f f (page (two (raw (codes "a")) (EmitExpr (Call' (codes "nope") (tt ∷ []) (argument (plain (call_none (codes "f"))) no_argument) [] no_keyword))) nothing)
+unknown_behind f = with_functions f f (page (two (raw (codes "a")) (EmitExpr
+    (Call' (codes "nope") (tt ∷ []) (argument (plain (call_none (codes "f"))) no_argument) [] no_keyword))) nothing)
 
 -- a method of no argument, and of these
 abbrev pub method_none : Expr → List ℕ → Expr
@@ -133,14 +136,18 @@ method_two e m a b = and_one e (Method' m (tt ∷ tt ∷ []) (argument (plain a)
 -- {% for x in [1,1,2] %}{{ loop.changed(x) }} {% endfor %}
 abbrev pub changed_or_not : Page
 changed_or_not =
-    page (one (For' (To (codes "x")) (List' (tt ∷ tt ∷ tt ∷ []) (expr (literal_number 1) (expr (literal_number 1) (expr (literal_number 2) no_expr)))) None false (tt ∷ tt ∷ [])
-    (statement (EmitExpr (method_one (named (codes "loop")) (codes "changed") x)) (statement (raw (codes " ")) no_statement)) no_else)) nothing
+    page (one (For' (To (codes "x")) (List' (tt ∷ tt ∷ tt ∷ []) (expr (literal_number 1)
+    (expr (literal_number 1) (expr (literal_number 2) no_expr)))) None false (tt ∷ tt ∷ [])
+    (statement (EmitExpr (method_one (named (codes "loop")) (codes "changed") x)) (statement (raw (codes " ")) no_statement)) no_else))
+    nothing
 
 -- {% for x in [1,1,2] %}{{ loop.cycle("x", "y") }}{% endfor %}
 abbrev pub by_turns : Page
 by_turns =
-    page (one (For' (To (codes "x")) (List' (tt ∷ tt ∷ tt ∷ []) (expr (literal_number 1) (expr (literal_number 1) (expr (literal_number 2) no_expr)))) None false (tt ∷ [])
-    (statement (EmitExpr (method_two (named (codes "loop")) (codes "cycle") (literal (codes "x")) (literal (codes "y")))) no_statement) no_else)) nothing
+    page (one (For' (To (codes "x")) (List' (tt ∷ tt ∷ tt ∷ []) (expr (literal_number 1)
+    (expr (literal_number 1) (expr (literal_number 2) no_expr)))) None false (tt ∷ [])
+    (statement (EmitExpr (method_two (named (codes "loop")) (codes "cycle") (literal (codes "x")) (literal (codes "y")))) no_statement)
+    no_else)) nothing
 
 -- {% for x in [1,2] %}{{ loop.cycle() }}{% endfor %}
 abbrev pub by_no_turns : Page
@@ -154,7 +161,8 @@ no_method_of_loops = page (one (for_x (numbers 1 2) (EmitExpr (method_none (name
 abbrev pub method_of_map : Val → Page
 method_of_map f =
     with_functions last_function last_function
-    (page (one (EmitExpr (method_one (named (codes "m")) (codes "f") (literal (codes "a"))))) (with_value (codes "m") (map (pairs_of ((text (codes "f") false, f) ∷ [])))))
+    (page (one (EmitExpr (method_one (named (codes "m")) (codes "f") (literal (codes "a")))))
+    (with_value (codes "m") (map (pairs_of ((text (codes "f") false, f) ∷ [])))))
 
 -- {{ nope.m() }}
 abbrev pub method_of_undefined : Page
@@ -189,13 +197,15 @@ no_loop_to_call = page (one (EmitLoop (List' [] no_expr))) nothing
 -- {% for x in [[]] recursive %}{{ loop(x, 1) }}{% endfor %}
 abbrev pub called_with_too_many : Page
 called_with_too_many =
-    page (one (recursive_one nothing_in_list (EmitExpr (Call' (codes "loop") (tt ∷ tt ∷ []) (argument (plain x) (argument (plain (literal_number 1)) no_argument)) [] no_keyword)))) nothing
+    page (one (recursive_one nothing_in_list (EmitExpr (Call' (codes "loop") (tt ∷ tt ∷ [])
+    (argument (plain x) (argument (plain (literal_number 1)) no_argument)) [] no_keyword)))) nothing
 
 -- {% for x in [1] recursive %}{% for y in [2] %}{{ loop.depth }}{% endfor %}{% endfor %}
 abbrev pub depth_inside_recursive : Page
 depth_inside_recursive =
     page (one (recursive_one (alone_in_list (literal_number 1))
-    (For' (To (codes "y")) (alone_in_list (literal_number 2)) None false (tt ∷ []) (statement (EmitExpr (and_one (named (codes "loop")) (Attribute (codes "depth")))) no_statement) no_else))) nothing
+    (For' (To (codes "y")) (alone_in_list (literal_number 2)) None false (tt ∷ [])
+    (statement (EmitExpr (and_one (named (codes "loop")) (Attribute (codes "depth")))) no_statement) no_else))) nothing
 
 -- a node: what it shows, and the nodes below it
 abbrev pub node : List ℕ → List Val → Val
@@ -214,13 +224,15 @@ x_c = and_one x (Attribute (codes "c"))
 abbrev pub tree_in_place : Page
 tree_in_place =
     page (one (For' (To (codes "x")) (named (codes "tree")) None true (tt ∷ tt ∷ tt ∷ tt ∷ [])
-    (statement (EmitExpr x_v) (statement (raw (codes "(")) (statement (EmitLoop x_c) (statement (raw (codes ")")) no_statement)))) (else_one (raw (codes "E"))))) (with_value (codes "tree") tree)
+    (statement (EmitExpr x_v) (statement (raw (codes "(")) (statement (EmitLoop x_c) (statement (raw (codes ")")) no_statement))))
+    (else_one (raw (codes "E"))))) (with_value (codes "tree") tree)
 
 -- {% for x in tree recursive %}{{ x.v ~ "[" ~ loop(x.c) ~ "]" }}{% endfor %}
 abbrev pub tree_as_value : Page
 tree_as_value =
     page (one (recursive_one (named (codes "tree")) (EmitExpr (chained x (tt ∷ tt ∷ tt ∷ tt ∷ [])
-    (step (Attribute (codes "v")) (step (binary binaries.Concatenate (literal (codes "["))) (step (binary binaries.Concatenate (called (codes "loop") x_c))
+    (step (Attribute (codes "v")) (step (binary binaries.Concatenate (literal (codes "[")))
+    (step (binary binaries.Concatenate (called (codes "loop") x_c))
     (step (binary binaries.Concatenate (literal (codes "]"))) no_step)))))))) (with_value (codes "tree") tree)
 
 -- {% set ns = namespace() %}{% for x in ["1"] recursive %}{{ x }}{% set ns.l = loop %}{% endfor %}{% set l = ns.l %}{{ l(["2", "3"]) }}
@@ -230,4 +242,5 @@ called_behind_its_end =
     (statement (Set (To (codes "ns")) (call_none (codes "namespace")))
     (statement (recursive_two (alone_in_list (literal (codes "1"))) (EmitExpr x) (Set (Member ns (codes "l")) (named (codes "loop"))))
     (statement (Set (To (codes "l")) (and_one ns (Attribute (codes "l"))))
-    (statement (EmitExpr (called (codes "l") (List' (tt ∷ tt ∷ []) (expr (literal (codes "2")) (expr (literal (codes "3")) no_expr))))) no_statement))))) nothing)
+    (statement (EmitExpr (called (codes "l") (List' (tt ∷ tt ∷ []) (expr (literal (codes "2")) (expr (literal (codes "3")) no_expr)))))
+    no_statement))))) nothing)

@@ -24,7 +24,8 @@ for_y e s = For' (To (codes "y")) e None false (tt ∷ []) (statement s no_state
 
 -- {% for x in [1] %}{% for y in [2] %}{{ loop.depth }}{% endfor %}{% endfor %}
 abbrev pub depth_inside_plain : Page
-depth_inside_plain = page (one (for_x (alone_in_list (literal_number 1)) (for_y (alone_in_list (literal_number 2)) (EmitExpr (of_loop (codes "depth")))) no_else)) nothing
+depth_inside_plain = page (one (for_x (alone_in_list (literal_number 1)) (for_y (alone_in_list (literal_number 2))
+    (EmitExpr (of_loop (codes "depth")))) no_else)) nothing
 
 -- {% for x in [1,2] %}{{ loop.changed() }}{% endfor %}
 abbrev pub changed_without : Page
@@ -33,7 +34,8 @@ changed_without = page (one (for_x (numbers 1 2) (EmitExpr (method_none (named (
 -- {% for loop in [1] %}{{ loop }}{% endfor %}
 abbrev pub named_loop : Page
 named_loop =
-    page (one (For' (To (codes "loop")) (alone_in_list (literal_number 1)) None false (tt ∷ []) (statement (EmitExpr (named (codes "loop"))) no_statement) no_else)) nothing
+    page (one (For' (To (codes "loop")) (alone_in_list (literal_number 1)) None false (tt ∷ [])
+    (statement (EmitExpr (named (codes "loop"))) no_statement) no_else)) nothing
 
 -- {% for x in [1,2] %}{{ loop.attribute }};{% endfor %}
 abbrev pub each_of_loop : List ℕ → Page
@@ -44,12 +46,14 @@ each_of_loop attribute =
 -- {% with %}{% set a = 1 %}{{ a }}{% endwith %}{{ a }}, where the context has a as 2
 abbrev pub inner_before_outer : Page
 inner_before_outer =
-    page (two (With' [] (tt ∷ tt ∷ []) (statement (Set (To (codes "a")) (literal_number 1)) (statement (EmitExpr (named (codes "a"))) no_statement)))
+    page (two (With' [] (tt ∷ tt ∷ []) (statement (Set (To (codes "a")) (literal_number 1))
+    (statement (EmitExpr (named (codes "a"))) no_statement)))
     (EmitExpr (named (codes "a")))) (with_value (codes "a") (number (pos 2)))
 
 -- {{ a }}, where the context has a as 2, and the globals as 3
 abbrev pub context_before_globals : Page
-context_before_globals = record (page (one (EmitExpr (named (codes "a")))) (with_value (codes "a") (number (pos 2)))) { globals = (codes "a", number (pos 3)) ∷ [] }
+context_before_globals = record (page (one (EmitExpr (named (codes "a")))) (with_value (codes "a") (number (pos 2))))
+    { globals = (codes "a", number (pos 3)) ∷ [] }
 
 -- {{ a }}, where the globals have a as 3
 abbrev pub of_globals : Page
@@ -115,17 +119,20 @@ formatted_under behavior e =
 -- {% for x in [[]] recursive %}{% block b %}{{ loop(x) }}{% endblock %}{% endfor %}: a block is another stream
 abbrev pub called_in_block : Page
 called_in_block =
-    page (one (recursive_one (alone_in_list (List' [] no_expr)) (Block' (codes "b") (tt ∷ []) (statement (EmitLoop x) no_statement)))) nothing
+    page (one (recursive_one (alone_in_list (List' [] no_expr)) (Block' (codes "b") (tt ∷ []) (statement (EmitLoop x) no_statement))))
+    nothing
 
 -- {% autoescape "html" %}{% block b %}{{ "<" }}{% endblock %}{% endautoescape %}{{ "<" }}
 abbrev pub block_under_escape : Page
 block_under_escape =
-    page (two (AutoEscape' (literal (codes "html")) (tt ∷ []) (statement (Block' (codes "b") (tt ∷ []) (statement (EmitExpr (literal (codes "<"))) no_statement)) no_statement))
+    page (two (AutoEscape' (literal (codes "html")) (tt ∷ []) (statement (Block' (codes "b") (tt ∷ [])
+    (statement (EmitExpr (literal (codes "<"))) no_statement)) no_statement))
     (EmitExpr (literal (codes "<")))) nothing
 
 -- {% set a = 1 %}{% block b %}{% set a = 2 %}{{ a }}{% endblock %}{{ a }}
 abbrev pub stored_in_block : Page
 stored_in_block =
     page (body_of (statement (Set (To (codes "a")) (literal_number 1))
-    (statement (Block' (codes "b") (tt ∷ tt ∷ []) (statement (Set (To (codes "a")) (literal_number 2)) (statement (EmitExpr (named (codes "a"))) no_statement)))
+    (statement (Block' (codes "b") (tt ∷ tt ∷ []) (statement (Set (To (codes "a")) (literal_number 2))
+    (statement (EmitExpr (named (codes "a"))) no_statement)))
     (statement (EmitExpr (named (codes "a"))) no_statement)))) nothing

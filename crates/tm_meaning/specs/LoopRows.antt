@@ -35,12 +35,14 @@ broken_round = page (one (for_x (alone_in_list (literal_number 1)) Break (else_o
 abbrev pub break_in_capture : Page
 break_in_capture =
     page (body_of
-    (statement (for_x (alone_in_list (literal_number 1)) (SetBlock' (To (codes "y")) (tt ∷ tt ∷ []) (statement (raw (codes "a")) (statement Break no_statement))) no_else)
+    (statement (for_x (alone_in_list (literal_number 1)) (SetBlock' (To (codes "y")) (tt ∷ tt ∷ [])
+    (statement (raw (codes "a")) (statement Break no_statement))) no_else)
     (statement (raw (codes "[")) (statement (EmitExpr (named (codes "y"))) (statement (raw (codes "]")) no_statement))))) nothing
 
 -- {% for x in [1,2] %}{% with %}{{ x }}{% continue %}{% endwith %}{% endfor %}
 abbrev pub continue_in_scope : Page
-continue_in_scope = page (one (for_x (numbers 1 2) (With' [] (tt ∷ tt ∷ []) (statement (EmitExpr x) (statement Continue no_statement))) no_else)) nothing
+continue_in_scope = page (one (for_x (numbers 1 2) (With' [] (tt ∷ tt ∷ []) (statement (EmitExpr x) (statement Continue no_statement)))
+    no_else)) nothing
 
 -- {% for x in [1,2] %}{{ loop.revindex }}{{ loop.previtem }}{% endfor %}
 abbrev pub loop_members : Page
@@ -60,18 +62,22 @@ abbrev pub above : ℕ → Expr
 above n = and_one x (binary binaries.Greater (literal_number n))
 
 abbrev pub chosen : ℕ → Page
-chosen n = page (one (For' (To (codes "x")) (numbers 1 2) (Some (above n)) false (tt ∷ []) (statement (EmitExpr x) no_statement) (else_one (raw (codes "E"))))) nothing
+chosen n = page (one (For' (To (codes "x")) (numbers 1 2) (Some (above n)) false (tt ∷ []) (statement (EmitExpr x) no_statement)
+    (else_one (raw (codes "E"))))) nothing
 
 abbrev pub chosen_alone : Page
-chosen_alone = page (one (For' (To (codes "x")) (numbers 1 2) (Some (above 1)) false (tt ∷ []) (statement (EmitExpr x) no_statement) no_else)) nothing
+chosen_alone = page (one (For' (To (codes "x")) (numbers 1 2) (Some (above 1)) false (tt ∷ []) (statement (EmitExpr x) no_statement)
+    no_else)) nothing
 
 -- {% for x in [1,2] if x > 1 %}{{ loop.index }}{% endfor %}
 abbrev pub chosen_index : Page
-chosen_index = page (one (For' (To (codes "x")) (numbers 1 2) (Some (above 1)) false (tt ∷ []) (statement (EmitExpr (and_one (named (codes "loop")) (Attribute (codes "index")))) no_statement) no_else)) nothing
+chosen_index = page (one (For' (To (codes "x")) (numbers 1 2) (Some (above 1)) false (tt ∷ [])
+    (statement (EmitExpr (and_one (named (codes "loop")) (Attribute (codes "index")))) no_statement) no_else)) nothing
 
 -- {% for x in [1,2] if loop %}{{ x }}{% else %}E{% endfor %}
 abbrev pub chosen_by_loop : Page
-chosen_by_loop = page (one (For' (To (codes "x")) (numbers 1 2) (Some (named (codes "loop"))) false (tt ∷ []) (statement (EmitExpr x) no_statement) (else_one (raw (codes "E"))))) nothing
+chosen_by_loop = page (one (For' (To (codes "x")) (numbers 1 2) (Some (named (codes "loop"))) false (tt ∷ [])
+    (statement (EmitExpr x) no_statement) (else_one (raw (codes "E"))))) nothing
 
 -- {% for x in 1 %}{% endfor %}
 abbrev pub over_a_number : Page

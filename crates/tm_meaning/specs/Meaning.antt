@@ -1,5 +1,6 @@
 -- What trees mean. No stream's place and no operand stands here.
-use Rattle.std.specs.Prelude.{ℕ, zero, suc, ◌+◌, ◌^◌, ◌-◌, pos, List, [], ◌∷◌, ◌++◌, Option, Some, None, Bool, true, false, not, ◌&&◌, nat_lt, if◌then◌else◌, Ok, slice_get}
+use Rattle.std.specs.Prelude.{ℕ, zero, suc, ◌+◌, ◌^◌, ◌-◌, pos, List, [], ◌∷◌, ◌++◌, Option, Some, None, Bool, true, false, not, ◌&&◌}
+use Rattle.std.specs.Prelude.{nat_lt, if◌then◌else◌, Ok, slice_get}
 use Rattle.std.specs.Result.{result_map_both}
 use Rattle.tm_values.specs.Answer.{Answer, invalid}
 use Rattle.tm_values.specs.Map.{put_all}
@@ -21,21 +22,34 @@ use Rattle.tm_syntax.specs.declared.tree.UnaryOperator.{UnaryOperator}
 use Rattle.tm_syntax.specs.declared.tree.UnaryOperator.TheVariants as unaries
 use Rattle.tm_syntax.specs.declared.tree.BinaryOperator.{BinaryOperator}
 use Rattle.tm_syntax.specs.declared.tree.BinaryOperator.TheVariants as binaries
-use Rattle.tm_syntax.specs.declared.tree.Expr.{Expr, Var, Const, List', Tuple', Map', Call', Row_of-Expr, end_of-Expr as no_expr, more_of-Expr as expr, Row_of-Pair, end_of-Pair as no_pair, Row_of-Argument, end_of-Argument as no_argument, more_of-Argument as argument, Row_of-Keyword, end_of-Keyword as no_keyword, Row_of-Step, end_of-Step as no_step, more_of-Step as step, Row_of-Condition, end_of-Condition as no_condition}
+use Rattle.tm_syntax.specs.declared.tree.Expr.{Expr, Var, Const, List', Tuple', Map', Call', Row_of-Expr, end_of-Expr as no_expr}
+use Rattle.tm_syntax.specs.declared.tree.Expr.{more_of-Expr as expr, Row_of-Pair, end_of-Pair as no_pair, Row_of-Argument}
+use Rattle.tm_syntax.specs.declared.tree.Expr.{end_of-Argument as no_argument, more_of-Argument as argument, Row_of-Keyword}
+use Rattle.tm_syntax.specs.declared.tree.Expr.{end_of-Keyword as no_keyword, Row_of-Step, end_of-Step as no_step, more_of-Step as step}
+use Rattle.tm_syntax.specs.declared.tree.Expr.{Row_of-Condition, end_of-Condition as no_condition}
 use Rattle.tm_syntax.specs.declared.tree.Argument.{Argument}
 use Rattle.tm_syntax.specs.declared.tree.Step.{Step, Attribute, Method', Row_of-Comparison, end_of-Comparison as no_comparison}
-use Rattle.tm_syntax.specs.declared.tree.AssignmentTarget.{AssignmentTarget, Name as To, Unpack' as Items, Attribute as Member, Row_of-AssignmentTarget, end_of-AssignmentTarget as no_target, more_of-AssignmentTarget as target}
+use Rattle.tm_syntax.specs.declared.tree.AssignmentTarget.{AssignmentTarget, Name as To, Unpack' as Items, Attribute as Member, Row_of-AssignmentTarget}
+use Rattle.tm_syntax.specs.declared.tree.AssignmentTarget.{end_of-AssignmentTarget as no_target, more_of-AssignmentTarget as target}
 use Rattle.tm_syntax.specs.declared.tree.Assignment.{Assignment}
-use Rattle.tm_syntax.specs.declared.tree.Stmt.{Stmt, EmitRaw, EmitExpr, EmitLoop, If', For', Break, Continue, Block', Set, SetBlock', With', Do, AutoEscape', Row_of-Stmt, end_of-Stmt as no_statement, more_of-Stmt as statement, Held-Stmt-If-2 as Otherwise, None' as no_else, Some' as otherwise}
-use Rattle.tm_syntax.specs.Forms.{unary, chained, conditional, with_condition, with_comparison, with_pair, plain, with_keyword, item, slice, binary, compare, and_then, or_else}
+use Rattle.tm_syntax.specs.declared.tree.Stmt.{Stmt, EmitRaw, EmitExpr, EmitLoop, If', For', Break, Continue, Block', Set, SetBlock'}
+use Rattle.tm_syntax.specs.declared.tree.Stmt.{With', Do, AutoEscape', Row_of-Stmt, end_of-Stmt as no_statement}
+use Rattle.tm_syntax.specs.declared.tree.Stmt.{more_of-Stmt as statement, Held-Stmt-If-2 as Otherwise, None' as no_else}
+use Rattle.tm_syntax.specs.declared.tree.Stmt.{Some' as otherwise}
+use Rattle.tm_syntax.specs.Forms.{unary, chained, conditional, with_condition, with_comparison, with_pair, plain, with_keyword, item}
+use Rattle.tm_syntax.specs.Forms.{slice, binary, compare, and_then, or_else}
 use Rattle.tm_syntax.specs.Code.{count_targets, for_flags, pass_flags}
 use Rattle.tm_syntax.specs.Loops.{passes, within_loop, past, pasts, FoundLoop, loops_in}
-use Rattle.tm_meaning.specs.World.{choose, TemplateId, root_of, World, HostValue, Res, Good, Bad, bind, answered, tick, ticked, looked_up, records_of, template_at, emitted, escape_for, with_escape, captured_text, open_loop, next_turn, cleared, items_over, store, set_member, unpacked_items, push, pop, plain as plain_scope}
-use Rattle.tm_meaning.specs.Calls.{Callee, whole, Call, Asked, has, refused, runs, recurs, undone, wrapped, enter_block, call_named, call_method, call_innermost, own_blocks}
+use Rattle.tm_meaning.specs.World.{choose, TemplateId, root_of, World, HostValue, Res, Good, Bad, bind, answered, tick, ticked, looked_up}
+use Rattle.tm_meaning.specs.World.{records_of, template_at, emitted, escape_for, with_escape, captured_text, open_loop, next_turn}
+use Rattle.tm_meaning.specs.World.{cleared, items_over, store, set_member, unpacked_items, push, pop, plain as plain_scope}
+use Rattle.tm_meaning.specs.Calls.{Callee, whole, Call, Asked, has, refused, runs, recurs, undone, wrapped, enter_block, call_named}
+use Rattle.tm_meaning.specs.Calls.{call_method, call_innermost, own_blocks}
 use Rattle.tm_meaning.specs.Tree.{Body, Trees}
 
 -- ---------------------------------------------------------------- runs and outcomes
--- A run of a stream's tree: the escape at its start, whether it is heard, whether this stands inside a capture of its own, the parent that waits. Its stream is the world's.
+-- A run of a stream's tree: the escape at its start, whether it is heard, whether this stands inside a capture of its own, the parent that
+-- waits. Its stream is the world's.
 pub record Run : Type 0 where
   pub first : AutoEscape
   pub heard : Bool
@@ -179,7 +193,8 @@ operated host op x y w = answered (result_of op host.undefined (records_of w) x 
 
 -- the same in an expression, where `not in` is `in` and then `not`, which is charged too
 abbrev pub applied_binary : HostValue → BinaryOperator → Val → Val → World → Res Val
-applied_binary host binaries.NotIn x y w = bind (operated host binaries.In x y w) (λ v world1. ticked world1 (λ world2. applied_unary host unaries.Not v world2))
+applied_binary host binaries.NotIn x y w =
+    bind (operated host binaries.In x y w) (λ v world1. ticked world1 (λ world2. applied_unary host unaries.Not v world2))
 applied_binary host op x y w = operated host op x y w
 
 abbrev pub attribute : HostValue → Val → List ℕ → World → Res Val
@@ -228,7 +243,8 @@ abbrev mutual
   pub eval_conditions : {n : _} → Under → Run → Row_of-Condition n → (World → Res Val) → World → Res Val
   eval_conditions u run no_condition guarded w = guarded w
   eval_conditions u run (with_condition c e more) guarded w =
-      eval_conditions u run more (λ world1. under_condition u.host (λ world2. eval u run c world2) guarded (λ world2. eval u run e world2) world1) w
+      eval_conditions u run more
+      (λ world1. under_condition u.host (λ world2. eval u run c world2) guarded (λ world2. eval u run e world2) world1) w
 
   -- from the first to the last
   pub eval_all : {n : _} → Under → Run → Row_of-Expr n → World → Res (List Val)
@@ -272,7 +288,8 @@ abbrev mutual
       ticked world2 (λ world3. value_of u run (call_method u.host x v (vs ++ ks) world3))))
   eval_step u run (item a) v w = bind (eval u run a w) (λ k world1. ticked world1 (λ world2. item_at u.host v k world2))
   eval_step u run (slice a b c) v w =
-      bind (eval u run a w) (λ x world1. bind (eval u run b world1) (λ y world2. bind (eval u run c world2) (λ z world3. ticked world3 (λ world4. slice_of u.host v x y z world4))))
+      bind (eval u run a w) (λ x world1. bind (eval u run b world1) (λ y world2.
+      bind (eval u run c world2) (λ z world3. ticked world3 (λ world4. slice_of u.host v x y z world4))))
   eval_step u run (binary op a) v w = bind (eval u run a w) (λ y world1. ticked world1 (λ world2. applied_binary u.host op v y world2))
   eval_step u run (compare op a _ cs) v w = bind (eval u run a w) (λ y world1. eval_links u run op cs v y world1)
   eval_step u run (and_then a) v w =
@@ -280,12 +297,17 @@ abbrev mutual
   eval_step u run (or_else a) v w =
       ticked w (λ world1. bind (truth u.host v world1) (λ b world2. choose b (λ _. Good v world2) (λ _. eval u run a world2)))
 
-  -- Comparisons in a row, from the first: each but the last charges its test; where it is false it is the value, and dropping its right side is charged. Behind the last one the jump is.
+  -- Comparisons in a row, from the first: each but the last charges its test; where it is false it is the value, and dropping its right
+  -- side is charged. Behind the last one the jump is.
   pub eval_links : {n : _} → Under → Run → BinaryOperator → Row_of-Comparison n → Val → Val → World → Res Val
-  eval_links u run op no_comparison x y w = ticked w (λ world1. bind (applied_binary u.host op x y world1) (λ v world2. ticked world2 (λ world3. Good v world3)))
+  eval_links u run op no_comparison x y w =
+      ticked w (λ world1. bind (applied_binary u.host op x y world1) (λ v world2. ticked world2 (λ world3. Good v world3)))
   eval_links u run op (with_comparison op1 a more) x y w =
-      ticked w (λ world1. bind (operated u.host op x y world1) (λ v world2. ticked world2 (λ world3. bind (truth u.host v world3) (λ b world4.
-      choose b (λ _. bind (eval u run a world4) (λ z world5. eval_links u run op1 more y z world5)) (λ _. ticked world4 (λ world5. Good v world5))))))
+      ticked w (λ world1. bind (operated u.host op x y world1) (λ v world2.
+      ticked world2 (λ world3. bind (truth u.host v world3) (λ b world4.
+      choose b
+      (λ _. bind (eval u run a world4) (λ z world5. eval_links u run op1 more y z world5))
+      (λ _. ticked world4 (λ world5. Good v world5))))))
 
   pub eval_steps : {n : _} → Under → Run → Row_of-Step n → Val → World → Res Val
   eval_steps u run no_step v w = Good v w
@@ -295,7 +317,8 @@ abbrev mutual
 abbrev mutual
   pub assign : Under → Run → AssignmentTarget → Val → World → Res (Unit {0})
   assign u run (To x) v w = ticked w (λ world1. Good tt (store x v world1))
-  assign u run (Items _ ts) v w = ticked w (λ world1. bind (unpacked_items (count_targets ts) v world1) (λ vs world2. assign_all u run ts vs world2))
+  assign u run (Items _ ts) v w =
+      ticked w (λ world1. bind (unpacked_items (count_targets ts) v world1) (λ vs world2. assign_all u run ts vs world2))
   assign u run (Member e x) v w = bind (eval u run e w) (λ o world1. ticked world1 (λ world2. set_member x v o world2))
 
   -- to each its own; there are as many
@@ -321,7 +344,8 @@ closing_by e close o = record o { world = close o.world }
 abbrev pub closing : (World → World) → Outcome → Outcome
 closing close o = closing_by o.ending close o
 
--- A capture: its text goes on; where its body left a loop or went on with the next item the text is dropped, behind the charge of the capture's end.
+-- A capture: its text goes on; where its body left a loop or went on with the next item the text is dropped, behind the charge of the
+-- capture's end.
 abbrev pub captured_by : Ending → Outcome → Run → List ℕ → (Run → List ℕ → World → Outcome) → Outcome
 captured_by done o run out f = f run o.text o.world
 captured_by (fault chain) o run out f = ended (fault chain) run out o.world
@@ -338,7 +362,8 @@ emit u run out v w =
 -- behind the first part of an `if` that has a second
 abbrev pub behind_first : Otherwise → Run → Outcome → Outcome
 behind_first no_else run o = o
-behind_first (otherwise _ body) run o = then_do run o (λ run1 out1 world1. use_it (tick world1) run1 out1 (λ _ world2. so_far run1 out1 world2))
+behind_first (otherwise _ body) run o =
+    then_do run o (λ run1 out1 world1. use_it (tick world1) run1 out1 (λ _ world2. so_far run1 out1 world2))
 
 -- ---------------------------------------------------------------- loops
 -- a round's end, charged: its loop is left, or goes on
@@ -347,7 +372,8 @@ round_end (fault chain) run o f = o
 round_end leave run o f = use_it (tick o.world) run o.text (λ _ world1. so_far run o.text (pop world1))
 round_end e run o f = use_it (tick o.world) run o.text (λ _ world1. f run o.text world1)
 
--- A round for each item: the next one is asked for, charged, the scope loses its names, and the body runs. Where no item is left the loop is.
+-- A round for each item: the next one is asked for, charged, the scope loses its names, and the body runs. Where no item is left the loop
+-- is.
 abbrev pub rounds : (Val → Run → List ℕ → World → Outcome) → List Val → Run → List ℕ → World → Outcome
 rounds turn [] run out w = use_it (tick w) run out (λ _ world1. so_far run out (pop (next_turn world1)))
 rounds turn (v ∷ vs) run out w =
@@ -356,7 +382,8 @@ rounds turn (v ∷ vs) run out w =
     round_end o.ending (record run { parent = o.parent }) o (λ run1 out1 world2. rounds turn vs run1 out1 world2))
 
 abbrev pub loop_over : HostValue → ℕ → Bool → (Val → Run → List ℕ → World → Outcome) → List Val → Run → List ℕ → World → Outcome
-loop_over host n recursive turn vs run out w = use_it (open_loop host vs (for_flags recursive) n w) run out (λ _ world1. rounds turn vs run out world1)
+loop_over host n recursive turn vs run out w =
+    use_it (open_loop host vs (for_flags recursive) n w) run out (λ _ world1. rounds turn vs run out world1)
 
 -- A count as a value, one more than it was: InvalidOperation beyond the whole numbers.
 abbrev pub incremented : ℕ → Answer Val
@@ -367,14 +394,17 @@ abbrev pub one_counted : ℕ → World → Res Val
 one_counted n w =
     ticked w (λ world1. ticked world1 (λ world2. ticked world2 (λ world3. answered (incremented n) world3)))
 
--- Of items those whose condition is true, of which so many are taken already: the next item is asked for, charged, the scope loses its names, the condition is tested, charged,
+-- Of items those whose condition is true, of which so many are taken already: the next item is asked for, charged, the scope loses its
+-- names, the condition is tested, charged,
 -- and what is taken is counted; then the jump back is charged. Where no item is left the loop is.
 abbrev pub selected : HostValue → (Val → World → Res Val) → ℕ → List Val → World → Res (List Val)
 selected host condition n [] w = ticked w (λ world1. Good [] (pop (next_turn world1)))
 selected host condition n (v ∷ vs) w =
-    ticked w (λ world1. bind (condition v (cleared (next_turn world1))) (λ c world2. ticked world2 (λ world3. bind (truth host c world3) (λ b world4.
+    ticked w (λ world1. bind (condition v (cleared (next_turn world1))) (λ c world2.
+    ticked world2 (λ world3. bind (truth host c world3) (λ b world4.
     choose b
-    (λ _. bind (one_counted n world4) (λ _ world5. ticked world5 (λ world6. bind (selected host condition (n + 1) vs world6) (λ us world7. Good (v ∷ us) world7))))
+    (λ _. bind (one_counted n world4) (λ _ world5. ticked world5 (λ world6.
+    bind (selected host condition (n + 1) vs world6) (λ us world7. Good (v ∷ us) world7))))
     (λ _. ticked world4 (λ world5. selected host condition n vs world5))))))
 
 -- what a loop goes over: with a condition the items for which that is true, in a loop without the name `loop` before it
@@ -395,14 +425,18 @@ abbrev mutual
   exec u at (EmitRaw t) run out w = use_it (tick w) run out (λ _ world1. so_far run (say run t out) world1)
   exec u at (EmitExpr e) run out w = use_it (eval u run e w) run out (λ v world1. emit u run out v world1)
   exec u at (EmitLoop e) run out w =
-      use_it (eval u run e w) run out (λ v world1. use_it (tick world1) run out (λ _ world2. in_place_of u run out (call_innermost u.host v world2)))
+      use_it (eval u run e w) run out (λ v world1.
+      use_it (tick world1) run out (λ _ world2. in_place_of u run out (call_innermost u.host v world2)))
   exec u at (If' c _ body other) run out w =
-      use_it (eval u run c w) run out (λ v world1. use_it (tick world1) run out (λ _ world2. use_it (truth u.host v world2) run out (λ b world3.
+      use_it (eval u run c w) run out (λ v world1. use_it (tick world1) run out (λ _ world2.
+      use_it (truth u.host v world2) run out (λ b world3.
       choose b (λ _. behind_first other run (exec_all u at body run out world3)) (λ _. exec_else u (pasts at body) other run out world3))))
   exec u at (For' t e c recursive _ body other) run out w =
       use_it (loop_items u at run t e c w) run out (λ vs world1.
       then_do run
-      (loop_over u.host (at + passes c) recursive (λ item run1 out1 world2. use_it (assign u run1 t item world2) run1 out1 (λ _ world3. exec_all u (within_loop c at) body run1 out1 world3)) vs run out world1)
+      (loop_over u.host (at + passes c) recursive (λ item run1 out1 world2.
+      use_it (assign u run1 t item world2) run1 out1 (λ _ world3. exec_all u (within_loop c at) body run1 out1 world3))
+      vs run out world1)
       (λ run1 out1 world2. exec_behind_loop u (pasts (within_loop c at) body) other (has_none vs) run1 out1 world2))
   exec u at Break run out w = ended leave run out w
   exec u at Continue run out w = ended next run out w
@@ -423,7 +457,8 @@ abbrev mutual
 
   pub exec_all : {n : _} → Under → ℕ → Row_of-Stmt n → Run → List ℕ → World → Outcome
   exec_all u at no_statement run out w = so_far run out w
-  exec_all u at (statement s ss) run out w = then_do run (exec u at s run out w) (λ run1 out1 world1. exec_all u (past at s) ss run1 out1 world1)
+  exec_all u at (statement s ss) run out w =
+      then_do run (exec u at s run out w) (λ run1 out1 world1. exec_all u (past at s) ss run1 out1 world1)
 
   pub exec_else : Under → ℕ → Otherwise → Run → List ℕ → World → Outcome
   exec_else u at no_else run out w = so_far run out w
@@ -465,9 +500,11 @@ turn_of u l v run out w = use_it (assign u run l.target v w) run out (λ _ world
 
 abbrev pub again_in : Under → Option FoundLoop → Again
 again_in u None n items run out w = failed InvalidOperation run out w
-again_in u (Some l) n items run out w = choose l.recursive (λ _. loop_over u.host n true (turn_of u l) items run out w) (λ _. failed InvalidOperation run out w)
+again_in u (Some l) n items run out w =
+    choose l.recursive (λ _. loop_over u.host n true (turn_of u l) items run out w) (λ _. failed InvalidOperation run out w)
 
--- the loops of a stream, over as many levels: level zero isn't reached, since each call opens a scope within the limit, and there is one level more than the limit
+-- the loops of a stream, over as many levels: level zero isn't reached, since each call opens a scope within the limit, and there is one
+-- level more than the limit
 abbrev pub again_of : HostValue → Nests → Body → ℕ → Again
 again_of host nests body zero n items run out w = failed InvalidOperation run out w
 again_of host nests body (suc k) n items run out w =
@@ -476,7 +513,8 @@ again_of host nests body (suc k) n items run out w =
 abbrev pub under : HostValue → Nests → Body → Under
 under host nests body = over host nests (again_of host nests body (host.limit + 1))
 
--- what nests, over as many levels of depth: level zero isn't reached, since each run that nests stands at least one deeper, and within the limit
+-- what nests, over as many levels of depth: level zero isn't reached, since each run that nests stands at least one deeper, and within the
+-- limit
 abbrev pub nests_of : HostValue → Trees → ℕ → Nests
 nests_of host trees zero callee heard out w = failed InvalidOperation (new_run heard w) out w
 nests_of host trees (suc n) (whole s) heard out w =
@@ -487,7 +525,8 @@ abbrev pub first_fuel : Option ℕ → ℕ
 first_fuel None = 2 ^ 64 - 1
 first_fuel (Some fuel) = fuel
 
--- What a render starts from: one scope over the context value, no records, the template's blocks each alone, and the fuel that was set, else the greatest u64.
+-- What a render starts from: one scope over the context value, no records, the template's blocks each alone, and the fuel that was set,
+-- else the greatest u64.
 abbrev pub first_world : HostValue → TemplateId → ℕ → Option ℕ → Val → World
 first_world host t id fuel context = record {
   id = id;

@@ -39,7 +39,15 @@ pub record Page : Type 0 where
   pub limit : ℕ
 
 abbrev pub page : Body → Val → Page
-page body context = record { body = body; context = context; globals = []; functions = []; formatter = None; undefined = Lenient; limit = 500 }
+page body context = record {
+  body = body;
+  context = context;
+  globals = [];
+  functions = [];
+  formatter = None;
+  undefined = Lenient;
+  limit = 500;
+}
 
 abbrev pub tree_of : Page → TemplateTree
 tree_of p = record { name = codes "page"; escape = escapes.None; root = p.body }
@@ -184,7 +192,8 @@ text_alone t = page (one (raw t)) nothing
 
 -- {{ a }}{{ b }}
 abbrev pub two_names : Page
-two_names = page (two (EmitExpr a) (EmitExpr b)) (map (pairs_of ((text (codes "a") false, text (codes "A") false) ∷ (text (codes "b") false, text (codes "B") false) ∷ [])))
+two_names = page (two (EmitExpr a) (EmitExpr b)) (map (pairs_of ((text (codes "a") false, text (codes "A") false) ∷
+    (text (codes "b") false, text (codes "B") false) ∷ [])))
 
 -- the same where b is undefined
 abbrev pub one_name : Page
@@ -192,7 +201,8 @@ one_name = page (two (EmitExpr a) (EmitExpr b)) (with_value (codes "a") (text (c
 
 -- Hello {{ name }}!
 abbrev pub hello : Page
-hello = page (body_of (statement (raw (codes "Hello ")) (statement (EmitExpr (named (codes "name"))) (statement (raw (codes "!")) no_statement)))) (with_value (codes "name") (text (codes "World") false))
+hello = page (body_of (statement (raw (codes "Hello ")) (statement (EmitExpr (named (codes "name")))
+    (statement (raw (codes "!")) no_statement)))) (with_value (codes "name") (text (codes "World") false))
 
 abbrev pub else_one : Stmt → Otherwise
 else_one s = otherwise (tt ∷ []) (statement s no_statement)
@@ -283,7 +293,8 @@ in_block limit = record (page (two block_of_two (raw (codes "y"))) nothing) { li
 
 -- {% if a %}{% block b %}x{% endblock %}{% endif %}[
 abbrev pub block_not_reached : Page
-block_not_reached = page (two (if_one a (Block' (codes "b") (tt ∷ []) (statement (raw (codes "x")) no_statement)) no_else) (raw (codes "["))) nothing
+block_not_reached = page (two (if_one a (Block' (codes "b") (tt ∷ []) (statement (raw (codes "x")) no_statement)) no_else)
+    (raw (codes "["))) nothing
 
 -- x{% block b %}{% autoescape "html" %}{% with a = 1 %}{{ nope() }}{% endwith %}{% endautoescape %}{% endblock %}
 abbrev pub fault_in_block : Page
@@ -331,7 +342,8 @@ x = named (codes "x")
 
 -- {% set x %}a{{ 1 }}{% endset %}{{ x }}
 abbrev pub set_block : Page
-set_block = page (two (SetBlock' (To (codes "x")) (tt ∷ tt ∷ []) (statement (raw (codes "a")) (statement (EmitExpr (literal_number 1)) no_statement))) (EmitExpr x)) nothing
+set_block = page (two (SetBlock' (To (codes "x")) (tt ∷ tt ∷ []) (statement (raw (codes "a"))
+    (statement (EmitExpr (literal_number 1)) no_statement))) (EmitExpr x)) nothing
 
 -- {% autoescape e %}{% set x %}<{% endset %}{% endautoescape %}{% autoescape "html" %}{{ x }}{% endautoescape %}
 abbrev pub set_under : Expr → Page
@@ -347,7 +359,8 @@ escaped_by e =
 
 -- b{% set x %}a{{ nope() }}{% endset %}
 abbrev pub fault_in_capture : Page
-fault_in_capture = page (two (raw (codes "b")) (SetBlock' (To (codes "x")) (tt ∷ tt ∷ []) (statement (raw (codes "a")) (statement (EmitExpr (Call' (codes "nope") [] no_argument [] no_keyword)) no_statement)))) nothing
+fault_in_capture = page (two (raw (codes "b")) (SetBlock' (To (codes "x")) (tt ∷ tt ∷ [])
+    (statement (raw (codes "a")) (statement (EmitExpr (Call' (codes "nope") [] no_argument [] no_keyword)) no_statement)))) nothing
 
 -- {% set a, b %}1{% endset %}
 abbrev pub set_block_of_two : Page

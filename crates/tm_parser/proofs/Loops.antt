@@ -36,9 +36,11 @@ module _ {T A B : Type 0} (p : Look T A) (part : A → B → Rule T B) where
 
   pub grows_not : (x : B) (ts : List T) (whole : Read T B) (a : A) (behind : List T) (chain : List ErrorKind) →
       becomes x ts ≡ whole → p.sees ts ≡ got a behind → Refused chain ((part a x).reads behind ≡ None) → Refused chain (whole ≡ None)
-  grows_not x ts whole a behind chain so seen refused = because chain (λ none. sym so ∙ growth.grow_fails p part x ts a behind seen none) refused
+  grows_not x ts whole a behind chain so seen refused = because chain (λ none. sym so ∙ growth.grow_fails p part x ts a behind seen none)
+      refused
 
-  pub is_grown : (x : B) (ts : List T) (whole : Read T B) (rest : List T) → becomes x ts ≡ whole → (p.sees ts ≡ None) × (rest ≡ ts) → whole ≡ got x rest
+  pub is_grown : (x : B) (ts : List T) (whole : Read T B) (rest : List T) → becomes x ts ≡ whole → (p.sees ts ≡ None) × (rest ≡ ts) →
+      whole ≡ got x rest
   is_grown x ts whole rest so h = sym so ∙ growth.grow_none p part x ts h.0 ∙ ap (got x) (sym h.1)
 
 -- the same of a list that grows by an item
@@ -58,15 +60,18 @@ module _ {T A B : Type 0} (p : Look T A) (item : A → Rule T B) where
   comes_nearer = grows_nearer p longer
 
   pub refuses : (xs : List B) (ts : List T) (whole : Read T (List B)) (a : A) (behind : List T) (chain : List ErrorKind) →
-      reads xs ts ≡ whole → p.sees ts ≡ got a behind → Refused chain ((one_more (item a) xs).reads behind ≡ None) → Refused chain (whole ≡ None)
+      reads xs ts ≡ whole → p.sees ts ≡ got a behind → Refused chain ((one_more (item a) xs).reads behind ≡ None) →
+      Refused chain (whole ≡ None)
   refuses = grows_not p longer
 
-  pub ends : (xs : List B) (ts : List T) (whole : Read T (List B)) (rest : List T) → reads xs ts ≡ whole → (p.sees ts ≡ None) × (rest ≡ ts) → whole ≡ got xs rest
+  pub ends : (xs : List B) (ts : List T) (whole : Read T (List B)) (rest : List T) → reads xs ts ≡ whole →
+      (p.sees ts ≡ None) × (rest ≡ ts) → whole ≡ got xs rest
   ends = is_grown p longer
 
 -- the same of items between commas
 module _ {A : Type 0} (close : Sign) (item : Rule Token A) where
-  pub comma_goes_on : (xs ys : List A) (ts behind rest : List Token) (whole : Read Token (List A)) → (more_items close item xs).reads ts ≡ whole →
+  pub comma_goes_on : (xs ys : List A) (ts behind rest : List Token) (whole : Read Token (List A)) →
+      (more_items close item xs).reads ts ≡ whole →
       (comma close).sees ts ≡ got tt behind → (one_more item xs).reads behind ≡ got ys rest → (more_items close item ys).reads rest ≡ whole
   unfolding more_items
   comma_goes_on xs ys ts behind rest whole = goes_on (comma close) (λ _. item) xs ts whole tt behind ys rest
@@ -75,7 +80,8 @@ module _ {A : Type 0} (close : Sign) (item : Rule Token A) where
       (one_more item xs).reads behind ≡ got ys rest → length rest < length ts
   comma_comes_nearer xs ys ts behind rest = comes_nearer (comma close) (λ _. item) xs ts tt behind ys rest
 
-  pub comma_refuses : (xs : List A) (ts behind : List Token) (whole : Read Token (List A)) (chain : List ErrorKind) → (more_items close item xs).reads ts ≡ whole →
+  pub comma_refuses : (xs : List A) (ts behind : List Token) (whole : Read Token (List A)) (chain : List ErrorKind) →
+      (more_items close item xs).reads ts ≡ whole →
       (comma close).sees ts ≡ got tt behind → Refused chain ((one_more item xs).reads behind ≡ None) → Refused chain (whole ≡ None)
   unfolding more_items
   comma_refuses xs ts behind whole chain = refuses (comma close) (λ _. item) xs ts whole tt behind chain
@@ -89,7 +95,8 @@ pub ruleset commas = (comma_goes_on, comma_comes_nearer, comma_refuses, comma_en
 
 -- the same of targets
 module _ (i : Inside) where
-  pub target_goes_on : (xs ys : List AssignmentTarget) (ts behind rest : List Token) (whole : Read Token (List AssignmentTarget)) → (more_targets i xs).reads ts ≡ whole →
+  pub target_goes_on : (xs ys : List AssignmentTarget) (ts behind rest : List Token) (whole : Read Token (List AssignmentTarget)) →
+      (more_targets i xs).reads ts ≡ whole →
       target_comma.sees ts ≡ got tt behind → (one_more (single i) xs).reads behind ≡ got ys rest → (more_targets i ys).reads rest ≡ whole
   unfolding more_targets
   target_goes_on xs ys ts behind rest whole = goes_on target_comma (λ _. single i) xs ts whole tt behind ys rest
@@ -98,7 +105,8 @@ module _ (i : Inside) where
       (one_more (single i) xs).reads behind ≡ got ys rest → length rest < length ts
   target_comes_nearer xs ys ts behind rest = comes_nearer target_comma (λ _. single i) xs ts tt behind ys rest
 
-  pub target_refuses : (xs : List AssignmentTarget) (ts behind : List Token) (whole : Read Token (List AssignmentTarget)) (chain : List ErrorKind) → (more_targets i xs).reads ts ≡ whole →
+  pub target_refuses : (xs : List AssignmentTarget) (ts behind : List Token) (whole : Read Token (List AssignmentTarget)) (chain : List ErrorKind) →
+      (more_targets i xs).reads ts ≡ whole →
       target_comma.sees ts ≡ got tt behind → Refused chain ((one_more (single i) xs).reads behind ≡ None) → Refused chain (whole ≡ None)
   unfolding more_targets
   target_refuses xs ts behind whole chain = refuses target_comma (λ _. single i) xs ts whole tt behind chain
@@ -121,7 +129,8 @@ module _ (i : Inside) where
       (one_passed i x).reads behind ≡ got y rest → length rest < length ts
   passed_comes_nearer x y ts behind rest = grows_nearer (comma sign.CloseRound) (λ _ xs. one_passed i xs) x ts tt behind y rest
 
-  pub passed_refuses : (x : Passed) (ts behind : List Token) (all : Read Token Passed) (chain : List ErrorKind) → (more_passed i x).reads ts ≡ all →
+  pub passed_refuses : (x : Passed) (ts behind : List Token) (all : Read Token Passed) (chain : List ErrorKind) →
+      (more_passed i x).reads ts ≡ all →
       (comma sign.CloseRound).sees ts ≡ got tt behind → Refused chain ((one_passed i x).reads behind ≡ None) → Refused chain (all ≡ None)
   unfolding more_passed
   passed_refuses x ts behind all chain = grows_not (comma sign.CloseRound) (λ _ xs. one_passed i xs) x ts all tt behind chain
@@ -135,7 +144,8 @@ pub ruleset arguments = (passed_goes_on, passed_comes_nearer, passed_refuses, pa
 
 -- the same of what a loop goes over
 module _ (i : Inside) where
-  pub iterated_goes_on : (xs ys : List Expr) (ts behind rest : List Token) (all : Read Token (List Expr)) → (more_iterated i xs).reads ts ≡ all →
+  pub iterated_goes_on : (xs ys : List Expr) (ts behind rest : List Token) (all : Read Token (List Expr)) →
+      (more_iterated i xs).reads ts ≡ all →
       iterated_comma.sees ts ≡ got tt behind → (one_more (whole i) xs).reads behind ≡ got ys rest → (more_iterated i ys).reads rest ≡ all
   unfolding more_iterated
   iterated_goes_on xs ys ts behind rest all = goes_on iterated_comma (λ _. whole i) xs ts all tt behind ys rest
@@ -144,7 +154,8 @@ module _ (i : Inside) where
       (one_more (whole i) xs).reads behind ≡ got ys rest → length rest < length ts
   iterated_comes_nearer xs ys ts behind rest = comes_nearer iterated_comma (λ _. whole i) xs ts tt behind ys rest
 
-  pub iterated_refuses : (xs : List Expr) (ts behind : List Token) (all : Read Token (List Expr)) (chain : List ErrorKind) → (more_iterated i xs).reads ts ≡ all →
+  pub iterated_refuses : (xs : List Expr) (ts behind : List Token) (all : Read Token (List Expr)) (chain : List ErrorKind) →
+      (more_iterated i xs).reads ts ≡ all →
       iterated_comma.sees ts ≡ got tt behind → Refused chain ((one_more (whole i) xs).reads behind ≡ None) → Refused chain (all ≡ None)
   unfolding more_iterated
   iterated_refuses xs ts behind all chain = refuses iterated_comma (λ _. whole i) xs ts all tt behind chain

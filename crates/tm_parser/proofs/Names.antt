@@ -1,5 +1,6 @@
 -- The names of the blocks of statements, and a set of those that were seen.
-use Rattle.std.proofs.Common.{◌≡◌, ℕ, ◌+◌, ◌<◌, ◌≤◌, Bool, true, false, cond, not, List, [], ◌∷◌, ◌++◌, length, drop, Option, Some, None, Bor, Ordering, refl, sym, ap, subst, ◌∙◌, arith, append_assoc, drop-cons}
+use Rattle.std.proofs.Common.{◌≡◌, ℕ, ◌+◌, ◌<◌, ◌≤◌, Bool, true, false, cond, not, List, [], ◌∷◌, ◌++◌, length, drop, Option, Some, None}
+use Rattle.std.proofs.Common.{Bor, Ordering, refl, sym, ap, subst, ◌∙◌, arith, append_assoc, drop-cons}
 use Rattle.std.proofs.lemmas.List.{append-nil, drop_all}
 use Rattle.std.proofs.lemmas.Map.Text.{is_eq-slice_cmp}
 use Rattle.std.specs.Prelude.{get_or, ◌↔◌}
@@ -40,7 +41,8 @@ pub names_behind : Option (List Stmt) → List (List ℕ)
 names_behind None = []
 names_behind (Some other) = block_names other
 
-for_either : (l : ForLoop) (other : Option (List Stmt)) → names_of (stmts.For (record l { other = other })) ≡ block_names l.body ++ names_behind other
+for_either : (l : ForLoop) (other : Option (List Stmt)) → names_of (stmts.For (record l { other = other })) ≡ block_names l.body ++
+    names_behind other
 unfolding hidden row shape-the_row-Stmt-0 names_behind
 for_either l None = refl
 for_either l (Some other) = refl
@@ -67,14 +69,17 @@ names_of_autoescape x body = refl
 pub ruleset forms = (names_of_if, names_of_if_else, names_of_for, names_of_block, names_of_set_block, names_of_with, names_of_autoescape)
 
 -- the loop over statements: what is left behind one, and behind the last
-pub one_more : (old new goal : List (List ℕ)) (ss : List Stmt) (k : ℕ) (s : Stmt) → k < length ss → s ≡ get_or ss k s → new ≡ old ++ names_of s →
+pub one_more : (old new goal : List (List ℕ)) (ss : List Stmt) (k : ℕ) (s : Stmt) → k < length ss → s ≡ get_or ss k s →
+    new ≡ old ++ names_of s →
     old ++ block_names (drop k ss) ≡ goal → new ++ block_names (drop (k + 1) ss) ≡ goal
 one_more old new goal ss k s lt is d g =
     let e : drop k ss ≡ s ∷ drop (k + 1) ss = grind (arith, drop-cons ss k s lt, is) in
-    ap (λ l. l ++ block_names (drop (k + 1) ss)) d ∙ append_assoc old _ _ ∙ ap (λ l. old ++ l) (sym (names-cons s (drop (k + 1) ss))) ∙ ap (λ l. old ++ block_names l) (sym e) ∙ g
+    ap (λ l. l ++ block_names (drop (k + 1) ss)) d ∙ append_assoc old _ _ ∙ ap (λ l. old ++ l) (sym (names-cons s (drop (k + 1) ss))) ∙ ap
+    (λ l. old ++ block_names l) (sym e) ∙ g
 
 pub no_more : (old goal : List (List ℕ)) (ss : List Stmt) (k : ℕ) → length ss ≤ k → old ++ block_names (drop k ss) ≡ goal → old ≡ goal
-no_more old goal ss k le g = sym (append-nil old) ∙ ap (λ l. old ++ l) (sym names-nil) ∙ ap (λ l. old ++ block_names l) (sym (drop_all k ss le)) ∙ g
+no_more old goal ss k le g = sym (append-nil old) ∙ ap (λ l. old ++ l) (sym names-nil) ∙ ap (λ l. old ++ block_names l)
+    (sym (drop_all k ss le)) ∙ g
 
 -- the order of names behind references
 abbrev pub order : Bor (List ℕ) → Bor (List ℕ) → Ordering
@@ -93,7 +98,8 @@ same_name x y = is_eq-slice_cmp x.now y.now
 
 -- a name more is in the set: what is new to the larger one
 module _ (old new : BTreeSet (Bor (List ℕ))) (x : Bor (List ℕ)) (added : Updates order old new x true) where
-  smaller_at : (y : Bor (List ℕ)) (same : Bool) → bytes_eq x.now y.now ≡ same → contains order new y ≡ false → (bytes_eq x.now y.now ≡ false) × (contains order old y ≡ false)
+  smaller_at : (y : Bor (List ℕ)) (same : Bool) → bytes_eq x.now y.now ≡ same → contains order new y ≡ false →
+      (bytes_eq x.now y.now ≡ false) × (contains order old y ≡ false)
   smaller_at y true e h = absurd (let g = sym h ∙ added.0 y ∙ ap (λ b. cond b true (contains order old y)) (same_name x y ∙ e) in cc)
   smaller_at y false e h = (e, sym (added.0 y ∙ ap (λ b. cond b true (contains order old y)) (same_name x y ∙ e)) ∙ h)
 
@@ -108,7 +114,8 @@ module _ (old new : BTreeSet (Bor (List ℕ))) (x : Bor (List ℕ)) (added : Upd
       let behind = smaller ys h.1 in
       ((here.0, behind.0), (here.1, behind.1))
 
-  larger : (xs : List (Bor (List ℕ))) → AllByRecursion (λ y. bytes_eq x.now y ≡ false) (texts xs) → AllByRecursion (λ y. contains order old y ≡ false) xs →
+  larger : (xs : List (Bor (List ℕ))) → AllByRecursion (λ y. bytes_eq x.now y ≡ false) (texts xs) →
+      AllByRecursion (λ y. contains order old y ≡ false) xs →
       AllByRecursion (λ y. contains order new y ≡ false) xs
   larger [] apart h = tt
   larger (y ∷ ys) apart h = (larger_at y apart.0 h.0, larger ys apart.1 h.1)
@@ -124,9 +131,11 @@ is_false false h = refl
 
 -- one turn of the loop over names, behind which P is still the question
 pub turn : (P : Type 0) (old new : BTreeSet (Bor (List ℕ))) (names : List (Bor (List ℕ))) (k : ℕ) (d : Bor (List ℕ)) → k < length names →
-    not (contains order old (get_or names k d)) ≡ true → Updates order old new (get_or names k d) true → AreNew old (drop k names) ↔ P → AreNew new (drop (k + 1) names) ↔ P
+    not (contains order old (get_or names k d)) ≡ true → Updates order old new (get_or names k d) true → AreNew old (drop k names) ↔ P →
+    AreNew new (drop (k + 1) names) ↔ P
 turn P old new names k d lt fresh added so =
     let e : drop k names ≡ get_or names k d ∷ drop (k + 1) names = grind (arith, drop-cons names k d lt) in
-    let s : AreNew old (get_or names k d ∷ drop (k + 1) names) ↔ AreNew new (drop (k + 1) names) = one_seen old new (get_or names k d) added (drop (k + 1) names) (is_false _ fresh) in
+    let s : AreNew old (get_or names k d ∷ drop (k + 1) names) ↔ AreNew new (drop (k + 1) names) = one_seen old new (get_or names k d)
+    added (drop (k + 1) names) (is_false _ fresh) in
     let g : AreNew old (get_or names k d ∷ drop (k + 1) names) ↔ P = subst (λ l. AreNew old l ↔ P) e so in
     ((λ h. g.0 (s.1 h)), (λ h. s.0 (g.1 h)))

@@ -13,7 +13,8 @@ use Rattle.tm_syntax.specs.declared.tree.Step.TheVariants as steps
 use Rattle.tm_syntax.specs.declared.tree.AssignmentTarget.TheVariants as target_forms
 use Rattle.tm_rules.specs.Meanings.{got}
 use Rattle.tm_rules.specs.Combinators.{branch, ◌>>=◌, pure}
-use Rattle.tm_parser.specs.Grammar.{Inside, inside, expr, operand, expr_at, primary, prefix, chained, compared, conditional, target, target_of, lone_target, last_target, attribute_name, split_last, are_none}
+use Rattle.tm_parser.specs.Grammar.{Inside, inside, expr, operand, expr_at, primary, prefix, chained, compared, conditional, target}
+use Rattle.tm_parser.specs.Grammar.{target_of, lone_target, last_target, attribute_name, split_last, are_none}
 use Rattle.tm_parser.specs.Statements.{inner, body, rest, else_or_end, loop_head}
 
 suc-sub-one : (n : ℕ) → suc n - 1 ≡ n
@@ -41,7 +42,8 @@ pub no_operand : (depth level : ℕ) (ts : List Token) → depth ≡ 0 → ((ins
 unfolding inside
 no_operand depth level ts h = ap (λ k. ((inside k).operand level).reads ts) h
 
-pub inner_operand : (depth level : ℕ) (ts : List Token) → ¬ (depth ≡ 0) → ((inside depth).operand level).reads ts ≡ (operand (inside (depth - 1)) level).reads ts
+pub inner_operand : (depth level : ℕ) (ts : List Token) → ¬ (depth ≡ 0) → ((inside depth).operand level).reads ts ≡
+    (operand (inside (depth - 1)) level).reads ts
 unfolding inside
 inner_operand zero level ts h = absurd (h refl)
 inner_operand (suc depth) level ts h = ap (λ k. (operand (inside k) level).reads ts) (sym (suc-sub-one depth))
@@ -53,11 +55,13 @@ unfolding operand
 tightest i level ts h = ap (λ k. (operand i k).reads ts) h
 
 pub tighter : (i : Inside) (level : ℕ) (ts : List Token) → ¬ (level ≡ 0) →
-    (operand i level).reads ts ≡ (branch (prefix level) (λ op. i.operand level >>= (λ x. pure (exprs.Unary op x))) (expr_at i (level - 1))).reads ts
+    (operand i level).reads ts ≡ (branch (prefix level) (λ op. i.operand level >>= (λ x. pure (exprs.Unary op x)))
+    (expr_at i (level - 1))).reads ts
 unfolding operand expr_at
 tighter i zero ts h = absurd (h refl)
 tighter i (suc level) ts h =
-    ap (λ k. (branch (prefix (suc level)) (λ op. i.operand (suc level) >>= (λ x. pure (exprs.Unary op x))) (expr_at i k)).reads ts) (sym (suc-sub-one level))
+    ap (λ k. (branch (prefix (suc level)) (λ op. i.operand (suc level) >>= (λ x. pure (exprs.Unary op x))) (expr_at i k)).reads ts)
+    (sym (suc-sub-one level))
 
 pub ruleset levels = (tightest, tighter)
 
@@ -111,11 +115,13 @@ behind_all x (b ∷ before) s = ap (λ (w : List Step × Step). last_target x w.
     last_split b (c ∷ before) s = ap (λ (w : List Step × Step). (b ∷ w.0, w.1)) (last_split c before s)
 
 pub no_attribute : (x : Expr) (ss before : List Step) (s : Step) → ss ≡ before ++ s ∷ [] → attribute_name s ≡ None → target_of x ss ≡ None
-no_attribute x ss before s h none = ap (target_of x) h ∙ behind_all x before s ∙ ap (option_map (λ name. target_forms.Attribute (chained x before) name)) none
+no_attribute x ss before s h none = ap (target_of x) h ∙ behind_all x before s ∙ ap
+    (option_map (λ name. target_forms.Attribute (chained x before) name)) none
 
 pub an_attribute : (x : Expr) (ss before : List Step) (s : Step) (name : List ℕ) → ss ≡ before ++ s ∷ [] → attribute_name s ≡ Some name →
     target_of x ss ≡ Some (target_forms.Attribute (chained x before) name)
-an_attribute x ss before s name h some = ap (target_of x) h ∙ behind_all x before s ∙ ap (option_map (λ name. target_forms.Attribute (chained x before) name)) some
+an_attribute x ss before s name h some = ap (target_of x) h ∙ behind_all x before s ∙ ap
+    (option_map (λ name. target_forms.Attribute (chained x before) name)) some
 
 pub ruleset members = (lone_of, no_attribute, an_attribute)
 
@@ -139,7 +145,8 @@ unfolding inner
 inner_rest zero looping ts h = absurd (h refl)
 inner_rest (suc depth) looping ts h = ap (λ k. (rest (inside k) (inner k) looping).reads ts) (sym (suc-sub-one depth))
 
-pub no_else_or_end : (depth : ℕ) (end : Tag) (looping : Bool) (ts : List Token) → depth ≡ 0 → ((inner depth).else_or_end end looping).reads ts ≡ None
+pub no_else_or_end : (depth : ℕ) (end : Tag) (looping : Bool) (ts : List Token) → depth ≡ 0 →
+    ((inner depth).else_or_end end looping).reads ts ≡ None
 unfolding inner
 no_else_or_end depth end looping ts h = ap (λ k. ((inner k).else_or_end end looping).reads ts) h
 

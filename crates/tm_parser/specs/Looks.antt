@@ -10,11 +10,13 @@ abbrev pub or_seen : {T A : Type 0} → Read T A → Read T A → Read T A
 or_seen None other = other
 or_seen (Some x) other = Some x
 
-pub or_nearer : {T A : Type 0} (p q : Look T A) (ts : List T) (seen : Read T A) → p.sees ts ≡ seen → (a : A) (rest : List T) → or_seen seen (q.sees ts) ≡ got a rest → length rest < length ts
+pub or_nearer : {T A : Type 0} (p q : Look T A) (ts : List T) (seen : Read T A) → p.sees ts ≡ seen → (a : A) (rest : List T) →
+    or_seen seen (q.sees ts) ≡ got a rest → length rest < length ts
 or_nearer p q ts None e a rest h = q.nearer ts a rest h
 or_nearer p q ts (Some x) e a rest h = p.nearer ts a rest (e ∙ h)
 
-pub behind_nearer : {T A B : Type 0} (p : T → Option A) (q : T → Option B) (ts : List T) (seen : Read T A) → first_sees p ts ≡ seen → (b : B) (rest : List T) →
+pub behind_nearer : {T A B : Type 0} (p : T → Option A) (q : T → Option B) (ts : List T) (seen : Read T A) → first_sees p ts ≡ seen →
+    (b : B) (rest : List T) →
     option_and_then (λ x. first_sees q x.1) seen ≡ got b rest → length rest < length ts
 behind_nearer p q ts None e b rest h = absurd (not_got b rest h)
 behind_nearer p q ts (Some x) e b rest h = omega (arith, first_nearer p ts x.0 x.1 e, first_nearer q x.1 b rest h)
@@ -27,7 +29,8 @@ or_else p q = record { sees = λ ts. or_seen (p.sees ts) (q.sees ts); nearer = �
 abbrev pub before : {T A B : Type 0} → (T → Option A) → (T → Option B) → Look T B
 before p q = record { sees = bind_reads (first_sees p) (λ _. first_sees q); nearer = λ ts. behind_nearer p q ts (first_sees p ts) refl }
 
-pub followed_nearer : {T A B : Type 0} (p : T → Option A) (q : T → Option B) (ts : List T) (seen : Read T A) → first_sees p ts ≡ seen → (a : A) (rest : List T) →
+pub followed_nearer : {T A B : Type 0} (p : T → Option A) (q : T → Option B) (ts : List T) (seen : Read T A) → first_sees p ts ≡ seen →
+    (a : A) (rest : List T) →
     option_and_then (λ x. option_map (λ y. (x.0, y.1)) (first_sees q x.1)) seen ≡ got a rest → length rest < length ts
 followed_nearer p q ts None e a rest h = absurd (not_got a rest h)
 followed_nearer p q ts (Some x) e a rest h = behind (first_sees q x.1) refl h

@@ -3,7 +3,9 @@ ghost use Rattle.std.specs.Prelude.{◌≡◌, false, is_some};
 ghost use Rattle.tm_parser.specs.Gives.{Parses};
 ghost use Rattle.tm_parser.specs.Grammar.{inside};
 ghost use Rattle.tm_parser.specs.Statements as spec;
-ghost use Rattle.tm_parser.specs.Statements.{autoescape_tag, block_end, block_tag, body, do_tag, elif_tag, else_or_end, else_tag, emission, for_tag, if_tag, inner, jump, rest, set_block, set_tag, set_value, statement, with_tag};
+ghost use Rattle.tm_parser.specs.Statements.{autoescape_tag, block_end, block_tag, body, do_tag, elif_tag, else_or_end, else_tag};
+ghost use Rattle.tm_parser.specs.Statements.{emission, for_tag, if_tag, inner, jump, rest, set_block, set_tag, set_value, statement};
+ghost use Rattle.tm_parser.specs.Statements.{with_tag};
 ghost use Rattle.tm_rules.specs.Combinators.{one_more, provided};
 ghost use Rattle.tm_syntax.specs.declared.tree.Stmt.TheVariants.{Break, Continue};
 ghost use Rattle.tm_syntax.specs.declared.tree.Argument.TheBlock.{hidden-the_row-Step-5 as row_of_steps};
@@ -13,7 +15,7 @@ use crate::tables::Start;
 use crate::targets::LoopHead;
 use sqlite_items::{Boxed, Items};
 use std::alloc::Global;
-use tm_syntax::{Argument, Expr, ForLoop, Sign, Step, Stmt, Tag, AssignmentTarget};
+use tm_syntax::{Argument, AssignmentTarget, Expr, ForLoop, Sign, Step, Stmt, Tag};
 use tm_values::Error;
 
 // Each method reads one rule, with `depth` nestings to go, and where `looping` with a loop around
@@ -312,7 +314,12 @@ impl Cursor<'_> {
 
     /// The value of a `set` behind its `=`, and its end.
     #[tactic(auto, unfolding(crate::specs::Statements::set_value))]
-    fn set_value(&mut self, alloc: Global, depth: u8, target: AssignmentTarget) -> Result<Stmt, Error>
+    fn set_value(
+        &mut self,
+        alloc: Global,
+        depth: u8,
+        target: AssignmentTarget,
+    ) -> Result<Stmt, Error>
         ensures { Parses result self.new ((set_value (inside depth) target).reads self.old) }
     {
         let value = self.bare(alloc, depth)?;

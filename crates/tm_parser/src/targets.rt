@@ -3,7 +3,8 @@ ghost use Rattle.std.specs.Prelude.{◌≡◌, [], MatchResult, None, Some};
 ghost use Rattle.tm_parser.specs.Gives.{Parses, Refused};
 ghost use Rattle.tm_parser.specs.Grammar as grammar;
 ghost use Rattle.tm_parser.specs.Grammar.{inside, expr, items, member, more_items, more_targets, several, single, target, whole};
-ghost use Rattle.tm_parser.specs.Statements.{assignment, bare, bare_tuple, loop_condition, inner, iterated, iterated_tuple, loop_head, more_iterated};
+ghost use Rattle.tm_parser.specs.Statements.{assignment, bare, bare_tuple, loop_condition, inner, iterated, iterated_tuple, loop_head};
+ghost use Rattle.tm_parser.specs.Statements.{more_iterated};
 ghost use Rattle.tm_rules.specs.Combinators.{one_more};
 ghost use Rattle.tm_syntax.specs.declared.token.Sign.TheVariants as sign;
 
@@ -12,7 +13,7 @@ use crate::expressions::chained;
 use crate::tables::POSTFIX_LEVEL;
 use sqlite_items::{Boxed, Items};
 use std::alloc::Global;
-use tm_syntax::{Assignment, Expr, Name, Sign, Step, AssignmentTarget};
+use tm_syntax::{Assignment, AssignmentTarget, Expr, Name, Sign, Step};
 use tm_values::Error;
 
 /// What a loop goes over, and how.
@@ -56,7 +57,12 @@ impl Cursor<'_> {
     /// Several targets behind the first one, with a comma behind the last one or none.
     #[cycle(targets)]
     #[tactic(auto, unfolding(crate::specs::Grammar::several))]
-    fn several(&mut self, alloc: Global, depth: u8, first: AssignmentTarget) -> Result<AssignmentTarget, Error>
+    fn several(
+        &mut self,
+        alloc: Global,
+        depth: u8,
+        first: AssignmentTarget,
+    ) -> Result<AssignmentTarget, Error>
         ensures { Parses result self.new ((several (inside depth) first).reads self.old) }
     {
         let mut targets = Items::new(alloc);
@@ -374,7 +380,11 @@ impl Cursor<'_> {
 
 /// What a value and its steps are as a target. SyntaxError where they are none, OutOfMemory.
 #[tactic(auto, using(crate::proofs::Nesting::members))]
-fn target_of(alloc: Global, value: Boxed<Expr>, steps: Items<Step>) -> Result<AssignmentTarget, Error>
+fn target_of(
+    alloc: Global,
+    value: Boxed<Expr>,
+    steps: Items<Step>,
+) -> Result<AssignmentTarget, Error>
     ensures { MatchResult result
         (λ target. grammar.target_of value steps ≡ Some target)
         (λ e. Refused e (grammar.target_of value steps ≡ None)) }

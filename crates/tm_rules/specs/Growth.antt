@@ -38,8 +38,8 @@ module _ {T A B : Type 0} (p : Look T A) (part : A → B → Rule T B) where
   only_by : (n : ℕ) (x : B) (ts : List T) (z : B) (rest : List T) → length ts < n → spelled x ts z rest → read_by n x ts ≡ got z rest
   unfolding grow_reads_by
   only_by zero x ts z rest small h = absurd (omega (arith, small))
-  only_by (suc n) x ts z rest small (stops e same left) = ap (turn (λ a y. (part a y).reads) (read_by n) x ts) e
-      ∙ pure_only x ts z rest (same, left)
+  only_by (suc n) x ts z rest small (stops e same left) = ap (turn (λ a y. (part a y).reads) (read_by n) x ts) e ∙ pure_only x ts z rest
+      (same, left)
   only_by (suc n) x ts z rest small (grows {behind = behind} {between = between} {a = a} {y = y} e spells more) =
       let closer : length behind < length ts = p.nearer ts a behind e in
       let left : length between ≤ length behind = (part a x).shorter behind y between spells in

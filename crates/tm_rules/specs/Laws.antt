@@ -58,13 +58,13 @@ pub not_before_nearer : {T A B : Type 0} (p : Look T A) (q : T → Option B) →
 not_before_nearer p q ts a rest h = p.nearer ts a rest (not_before_got q (p.sees ts) a rest h)
 
 module _ {T A B : Type 0} (f : A → Rule T B) (other : Rule T B) where
-  pub branch_found : (seen : Read T A) →
-      Sound (branch_spells (λ a. (f a).spells) other.spells seen) (branch_reads (λ a. (f a).reads) other.reads seen)
+  pub branch_found : (seen : Read T A) → Sound (branch_spells (λ a. (f a).spells) other.spells seen)
+      (branch_reads (λ a. (f a).reads) other.reads seen)
   branch_found None ts b rest h = other.sound ts b rest h
   branch_found (Some x) ts b rest h = (f x.0).sound x.1 b rest h
 
-  pub branch_only : (seen : Read T A) →
-      Complete (branch_spells (λ a. (f a).spells) other.spells seen) (branch_reads (λ a. (f a).reads) other.reads seen)
+  pub branch_only : (seen : Read T A) → Complete (branch_spells (λ a. (f a).spells) other.spells seen)
+      (branch_reads (λ a. (f a).reads) other.reads seen)
   branch_only None ts b rest h = other.complete ts b rest h
   branch_only (Some x) ts b rest h = (f x.0).complete x.1 b rest h
 

@@ -17,18 +17,21 @@ use Rattle.tm_syntax.specs.Code.{target_code, statements_code}
 use Rattle.tm_syntax.proofs.Standing.{HasAt, At, beyond_is}
 
 -- ---------------------------------------------------------------- numbers
-one_more_out : (o : Option LoopFlags) (g : Option LoopFlags) (n : ℕ) → one_more_loop o (one_more_loop g n) ≡ one_more_loop g (one_more_loop o n)
+one_more_out : (o : Option LoopFlags) (g : Option LoopFlags) (n : ℕ) → one_more_loop o (one_more_loop g n) ≡ one_more_loop g
+    (one_more_loop o n)
 one_more_out None g n = refl
 one_more_out (Some a) None n = refl
 one_more_out (Some a) (Some b) n = refl
 
-pub after_one : (pc : ℕ) (all : List Instruction) (x : Instruction) → slice_get all pc ≡ Some x → loops_before (pc + 1) all ≡ one_more_loop (begins x) (loops_before pc all)
+pub after_one : (pc : ℕ) (all : List Instruction) (x : Instruction) → slice_get all pc ≡ Some x →
+    loops_before (pc + 1) all ≡ one_more_loop (begins x) (loops_before pc all)
 after_one zero [] x e = absurd (cc e)
 after_one zero (y ∷ all) x e = let same : y ≡ x = cc e in ap (λ z. one_more_loop (begins z) 0) same
 after_one (suc pc) [] x e = absurd (cc e)
 after_one (suc pc) (y ∷ all) x e =
     let place : suc pc + 1 ≡ suc (pc + 1) = omega arith in
-    ap (λ n. loops_before n (y ∷ all)) place ∙ ap (one_more_loop (begins y)) (after_one pc all x e) ∙ one_more_out (begins y) (begins x) (loops_before pc all)
+    ap (λ n. loops_before n (y ∷ all)) place ∙ ap (one_more_loop (begins y)) (after_one pc all x e) ∙ one_more_out (begins y) (begins x)
+    (loops_before pc all)
 
 -- ---------------------------------------------------------------- places
 with_place_front : (o : Option LoopFlags) (pc : ℕ) (a b : List LoopPlace) → with_place o pc (a ++ b) ≡ with_place o pc a ++ b
@@ -41,11 +44,14 @@ places_both pc [] b =
     ap (λ n. loop_places n b) place
 places_both pc (x ∷ a) b =
     let place : pc + 1 + length a ≡ pc + length (x ∷ a) = omega arith in
-    ap (with_place (begins x) pc) (places_both (pc + 1) a b) ∙ with_place_front (begins x) pc (loop_places (pc + 1) a) (loop_places (pc + 1 + length a) b)
+    ap (with_place (begins x) pc) (places_both (pc + 1) a b) ∙ with_place_front (begins x) pc (loop_places (pc + 1) a)
+    (loop_places (pc + 1 + length a) b)
     ∙ ap (λ n. loop_places pc (x ∷ a) ++ loop_places n b) place
 
-places_then : (l : Labels) (pc : ℕ) (c : Fragment) (b : List Instruction) → loop_places pc (assemble l pc c ++ b) ≡ loop_places pc (assemble l pc c) ++ loop_places (beyond pc c) b
-places_then l pc c b = places_both pc (assemble l pc c) b ∙ ap (λ n. loop_places pc (assemble l pc c) ++ loop_places n b) (sym (beyond_is l pc c))
+places_then : (l : Labels) (pc : ℕ) (c : Fragment) (b : List Instruction) →
+    loop_places pc (assemble l pc c ++ b) ≡ loop_places pc (assemble l pc c) ++ loop_places (beyond pc c) b
+places_then l pc c b = places_both pc (assemble l pc c) b ∙ ap (λ n. loop_places pc (assemble l pc c) ++ loop_places n b)
+    (sym (beyond_is l pc c))
 
 -- ---------------------------------------------------------------- matches
 -- Where a loop's code stands that can be called, and what stands after its rounds.
@@ -53,7 +59,8 @@ pub record Looped (all : List Instruction) (l : FoundLoop) (place : ℕ) : Type 
   pub labels : Labels
   pub after : Fragment
   pub code : At all labels place (looped (for_flags true) (target_code l.target ⨾ statements_code [] l.body.row) after)
-  pub exit : let end = beyond (place + 1 + 1) (target_code l.target ⨾ statements_code [] l.body.row) + 1 in HasAt all end (i.PopLoopFrame ∷ []) ⊎ HasAt all end (i.PushDidNotIterate ∷ i.PopLoopFrame ∷ [])
+  pub exit : let end = beyond (place + 1 + 1) (target_code l.target ⨾ statements_code [] l.body.row) + 1 in HasAt all end
+      (i.PopLoopFrame ∷ []) ⊎ HasAt all end (i.PushDidNotIterate ∷ i.PopLoopFrame ∷ [])
   pub numbered : loops_before (beyond (place + 1 + 1) (target_code l.target)) all ≡ l.at
 
 -- A loop of a tree is this one of the code.
@@ -66,7 +73,8 @@ Match all [] (p ∷ ps) = ⊥
 Match all (l ∷ ls) [] = ⊥
 Match all (l ∷ ls) (p ∷ ps) = IsAt all l p × Match all ls ps
 
-match_both : (all : List Instruction) (a b : List FoundLoop) (p q : List LoopPlace) → Match all a p → Match all b q → Match all (a ++ b) (p ++ q)
+match_both : (all : List Instruction) (a b : List FoundLoop) (p q : List LoopPlace) → Match all a p → Match all b q →
+    Match all (a ++ b) (p ++ q)
 match_both all [] b [] q h k = k
 match_both all [] b (y ∷ p) q h k = absurd h
 match_both all (x ∷ a) b [] q h k = absurd h
@@ -79,7 +87,8 @@ Both all (Some l) (Some p) = IsAt all l p
 Both all None (Some p) = ⊥
 Both all (Some l) None = ⊥
 
-pub match_at : (all : List Instruction) (ls : List FoundLoop) (ps : List LoopPlace) (n : ℕ) → Match all ls ps → Both all (slice_get ls n) (slice_get ps n)
+pub match_at : (all : List Instruction) (ls : List FoundLoop) (ps : List LoopPlace) (n : ℕ) → Match all ls ps →
+    Both all (slice_get ls n) (slice_get ps n)
 match_at all [] [] n h = tt
 match_at all [] (p ∷ ps) n h = absurd h
 match_at all (l ∷ ls) [] n h = absurd h
@@ -96,23 +105,34 @@ abbrev pub Begins : ℕ → Fragment → List FoundLoop → ℕ → Type 0
 Begins at c ls to = (all : List Instruction) (l : Labels) (pc : ℕ) → At all l pc c → loops_before pc all ≡ at → Begun all l pc c ls to
 
 -- one, and then the other
-pub both_begin : {at m to : ℕ} {c d : Fragment} {ls ks : List FoundLoop} → Begins at c ls m → Begins m d ks to → Begins at (c ⨾ d) (ls ++ ks) to
+pub both_begin : {at m to : ℕ} {c d : Fragment} {ls ks : List FoundLoop} → Begins at c ls m → Begins m d ks to →
+    Begins at (c ⨾ d) (ls ++ ks) to
 both_begin {c = c} {d = d} {ls = ls} {ks = ks} f g all l pc is e =
     let a = f all l pc is.0 e in
     let b = g all l (beyond pc c) is.1 a.number in
-    record { number = b.number; found = subst (λ ps. Match all (ls ++ ks) ps) (sym (places_then l pc c (assemble l (beyond pc c) d))) (match_both all ls ks _ _ a.found b.found) }
+    record {
+      number = b.number;
+      found = subst (λ ps. Match all (ls ++ ks) ps) (sym (places_then l pc c (assemble l (beyond pc c) d)))
+          (match_both all ls ks _ _ a.found b.found);
+    }
 
 pub bounded_begins : {at to : ℕ} {c : Fragment} {ls : List FoundLoop} → Begins at c ls to → Begins at (bounded c) ls to
 bounded_begins {c = c} f all l pc is e =
     let a = f all (outward (beyond pc c) l) pc is e in
     record { number = a.number; found = a.found }
 
-pub fork_begins : {at m to : ℕ} {c d : Fragment} {ls ks : List FoundLoop} → Begins at c ls m → Begins m d ks to → Begins at (fork c d) (ls ++ ks) to
+pub fork_begins : {at m to : ℕ} {c d : Fragment} {ls ks : List FoundLoop} → Begins at c ls m → Begins m d ks to →
+    Begins at (fork c d) (ls ++ ks) to
 fork_begins {c = c} {d = d} {ls = ls} {ks = ks} f g all l pc is e =
     let second = beyond pc c + 1 in
     let a = f all (outward second l) pc is.0 e in
     let b = g all l second is.2 (after_one (beyond pc c) all (i.Jump (beyond second d)) is.1 ∙ a.number) in
-    record { number = b.number; found = subst (λ ps. Match all (ls ++ ks) ps) (sym (places_then (outward second l) pc c (i.Jump (beyond second d) ∷ assemble l second d))) (match_both all ls ks _ _ a.found b.found) }
+    record {
+      number = b.number;
+      found = subst (λ ps. Match all (ls ++ ks) ps)
+          (sym (places_then (outward second l) pc c (i.Jump (beyond second d) ∷ assemble l second d)))
+          (match_both all ls ks _ _ a.found b.found);
+    }
 
 pub aside_begins : {at to : ℕ} {c : Fragment} {ls : List FoundLoop} → Begins at c ls to → Begins at (aside c) ls to
 aside_begins {c = c} f all l pc is e =
@@ -122,9 +142,11 @@ aside_begins {c = c} f all l pc is e =
 
 -- A loop of code is this one of the tree.
 abbrev pub IsLoop : FoundLoop → ℕ → LoopFlags → Fragment → Fragment → Type 0
-IsLoop f at g c d = (all : List Instruction) (l : Labels) (pc : ℕ) → At all l pc (looped g c d) → loops_before (pc + 1 + 1) all ≡ at + 1 → IsAt all f (record { place = pc; flags = g })
+IsLoop f at g c d = (all : List Instruction) (l : Labels) (pc : ℕ) → At all l pc (looped g c d) → loops_before (pc + 1 + 1) all ≡ at + 1 →
+    IsAt all f (record { place = pc; flags = g })
 
-pub loop_begins : {at m to : ℕ} {f : FoundLoop} {g : LoopFlags} {c d : Fragment} {ls ks : List FoundLoop} → IsLoop f at g c d → Begins (at + 1) c ls m → Begins m d ks to → Begins at (looped g c d) (f ∷ (ls ++ ks)) to
+pub loop_begins : {at m to : ℕ} {f : FoundLoop} {g : LoopFlags} {c d : Fragment} {ls ks : List FoundLoop} → IsLoop f at g c d →
+    Begins (at + 1) c ls m → Begins m d ks to → Begins at (looped g c d) (f ∷ (ls ++ ks)) to
 loop_begins {f = f} {g = g} {c = c} {d = d} {ls = ls} {ks = ks} one r s all l pc is e =
     let end = beyond (pc + 1 + 1) c + 1 in
     let k = inward (pc + 1) end l in
@@ -135,7 +157,8 @@ loop_begins {f = f} {g = g} {c = c} {d = d} {ls = ls} {ks = ks} one r s all l pc
       number = b.number;
       found = (
         one all l pc is first,
-        subst (λ ps. Match all (ls ++ ks) ps) (sym (places_then k (pc + 1 + 1) c (i.Jump (pc + 1) ∷ assemble l end d))) (match_both all ls ks _ _ a.found b.found),
+        subst (λ ps. Match all (ls ++ ks) ps) (sym (places_then k (pc + 1 + 1) c (i.Jump (pc + 1) ∷ assemble l end d)))
+            (match_both all ls ks _ _ a.found b.found),
       );
     }
 
@@ -155,10 +178,12 @@ Loopless break_loop = Unit {0}
 Loopless next_round = Unit {0}
 Loopless (aside c) = Loopless c
 
-one_begins : (all : List Instruction) (pc at : ℕ) (x : Instruction) → begins x ≡ None → slice_get all pc ≡ Some x → loops_before pc all ≡ at → loops_before (pc + 1) all ≡ at
+one_begins : (all : List Instruction) (pc at : ℕ) (x : Instruction) → begins x ≡ None → slice_get all pc ≡ Some x →
+    loops_before pc all ≡ at → loops_before (pc + 1) all ≡ at
 one_begins all pc at x none is e = after_one pc all x is ∙ ap (λ o. one_more_loop o (loops_before pc all)) none ∙ e
 
-none_number : (all : List Instruction) (pc at : ℕ) (is : List Instruction) → NoneBegins is → HasAt all pc is → loops_before pc all ≡ at → loops_before (beyond_all pc is) all ≡ at
+none_number : (all : List Instruction) (pc at : ℕ) (is : List Instruction) → NoneBegins is → HasAt all pc is → loops_before pc all ≡ at →
+    loops_before (beyond_all pc is) all ≡ at
 none_number all pc at [] n h e = e
 none_number all pc at (x ∷ is) n h e = none_number all (pc + 1) at is n.1 h.1 (one_begins all pc at x n.0 h.0 e)
 
@@ -172,11 +197,17 @@ jump_none IfFalseOrPop to = refl
 jump_none IfTrueOrPop to = refl
 
 straight_begins : (at : ℕ) (is : List Instruction) → NoneBegins is → Begins at (straight is) [] at
-straight_begins at is n all l pc h e = record { number = none_number all pc at is n h e; found = subst (λ ps. Match all [] ps) (sym (none_places pc is n)) tt }
+straight_begins at is n all l pc h e = record {
+  number = none_number all pc at is n h e;
+  found = subst (λ ps. Match all [] ps) (sym (none_places pc is n)) tt;
+}
 
 jump_begins : (at : ℕ) (j : JumpKind) → Begins at (jump_out j) [] at
 jump_begins at j all l pc h e =
-    record { number = one_begins all pc at (jump j l.out) (jump_none j l.out) h e; found = subst (λ ps. Match all [] ps) (sym (none_places pc (jump j l.out ∷ []) (jump_none j l.out, tt))) tt }
+    record {
+      number = one_begins all pc at (jump j l.out) (jump_none j l.out) h e;
+      found = subst (λ ps. Match all [] ps) (sym (none_places pc (jump j l.out ∷ []) (jump_none j l.out, tt))) tt;
+    }
 
 pub none_begin : (at : ℕ) (c : Fragment) → Loopless c → Begins at c [] at
 none_begin at (straight is) n = straight_begins at is n
@@ -194,7 +225,8 @@ pub over_begins : {at to : ℕ} {c : Fragment} {ls : List FoundLoop} (j : JumpKi
 over_begins {at = at} j f = bounded_begins (both_begin (jump_begins at j) f)
 
 -- either of two
-pub either_begins : {at m to : ℕ} {c d : Fragment} {ls ks : List FoundLoop} → Begins at c ls m → Begins m d ks to → Begins at (either c d) (ls ++ ks) to
+pub either_begins : {at m to : ℕ} {c d : Fragment} {ls ks : List FoundLoop} → Begins at c ls m → Begins m d ks to →
+    Begins at (either c d) (ls ++ ks) to
 either_begins {at = at} f g = fork_begins (both_begin (jump_begins at IfFalse) f) g
 
 -- after and before code that begins none
@@ -202,4 +234,5 @@ pub after_none : {at to : ℕ} {d : Fragment} {ls : List FoundLoop} (c : Fragmen
 after_none {at = at} c n g = both_begin (none_begin at c n) g
 
 pub before_none : {at to : ℕ} {c : Fragment} {ls : List FoundLoop} (d : Fragment) → Loopless d → Begins at c ls to → Begins at (c ⨾ d) ls to
-before_none {at = at} {to = to} {c = c} {ls = ls} d n f = subst (λ ks. Begins at (c ⨾ d) ks to) (append-nil ls) (both_begin f (none_begin to d n))
+before_none {at = at} {to = to} {c = c} {ls = ls} d n f = subst (λ ks. Begins at (c ⨾ d) ks to) (append-nil ls)
+    (both_begin f (none_begin to d n))

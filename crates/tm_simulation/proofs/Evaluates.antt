@@ -1,5 +1,6 @@
 -- What expressions and targets keep, and of which kinds their faults are.
-use Rattle.std.proofs.Common.{◌≡◌, ℕ, zero, suc, ◌+◌, List, [], ◌∷◌, length, Option, Some, None, Bool, true, false, Ok, nat_lt, ◌++◌, refl, ap, arith}
+use Rattle.std.proofs.Common.{◌≡◌, ℕ, zero, suc, ◌+◌, List, [], ◌∷◌, length, Option, Some, None, Bool, true, false, Ok, nat_lt, ◌++◌}
+use Rattle.std.proofs.Common.{refl, ap, arith}
 use Rattle.std.specs.Prelude.{if◌then◌else◌}
 use Rattle.tm_values.specs.Answer.{invalid}
 use Rattle.tm_values.specs.Val.{Val}
@@ -87,7 +88,8 @@ one_counted_gives host n w =
     (λ world2. ticked_gives host world2 _ (λ world3. operation_gives host _ world3 (one_more_raises _ _))))
 
 -- The pass over items leaves what lies around its loop.
-pub selected_gives : (host : HostValue) (w : World) (condition : Val → World → Res Val) → ((v : Val) (x : World) → Gives host x (condition v x)) →
+pub selected_gives : (host : HostValue) (w : World) (condition : Val → World → Res Val) →
+    ((v : Val) (x : World) → Gives host x (condition v x)) →
     (n : ℕ) (vs : List Val) (x : World) → Kept (in_loop_of pass_flags w) x →
     Gives host w (selected host condition n vs x)
 selected_gives host w condition given n [] x i =
@@ -202,7 +204,8 @@ module _ (u : Under) (nest_ends : (k : Callee) (heard : Bool) (out : List ℕ) (
         ((w : World) → Gives u.host w (guarded w)) → (w : World) → Gives u.host w (eval_conditions u run cs guarded w)
     conditions_give run no_condition guarded given w = given w
     conditions_give run (with_condition c e more) guarded given w =
-        conditions_give run more (λ world1. under_condition u.host (λ world2. eval u run c world2) guarded (λ world2. eval u run e world2) world1)
+        conditions_give run more (λ world1. under_condition u.host (λ world2. eval u run c world2) guarded (λ world2. eval u run e world2)
+        world1)
         (λ world1. condition_gives u.host _ _ _ (λ world2. eval_gives run c world2) given (λ world2. eval_gives run e world2) world1) w
 
     pub all_give : {n : _} → (run : Run) (es : Row_of-Expr n) (w : World) → Gives u.host w (eval_all u run es w)

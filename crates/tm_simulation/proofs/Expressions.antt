@@ -50,7 +50,8 @@ use Rattle.tm_simulation.proofs.Follow.{LeadsToEnd}
 use Rattle.tm_simulation.proofs.Follow.{Spot, told, cfg}
 use Rattle.tm_simulation.proofs.Follow.{Follows, follows_bind, bind_then}
 use Rattle.tm_simulation.proofs.Follow.{Go, silent, at, after_then, move, pushes, choose_then}
-use Rattle.tm_simulation.proofs.Operands.{all_long, arguments_long, bind_long, flat, flat_long, keywords_long, named_long, onto, onto_both, paired_flat, pairs_long, taken_all}
+use Rattle.tm_simulation.proofs.Operands.{all_long, arguments_long, bind_long, flat, flat_long, keywords_long, named_long, onto}
+use Rattle.tm_simulation.proofs.Operands.{onto_both, paired_flat, pairs_long, taken_all}
 use Rattle.tm_simulation.proofs.Levels.{Here, Setting, asked_then, here_kept, meaning, nest_ends}
 
 module _ (setting : Setting) where
@@ -60,26 +61,34 @@ module _ (setting : Setting) where
   u = meaning setting
 
   -- an operator behind its operands
-  unary_then : (op : UnaryOperator) (s : Spot) (pc : ℕ) (v : Val) (stack : List Val) (w : World) → slice_get (context.program.code s.run.stream) pc ≡ Some (unary_code op) →
-      Follows context (told s) (bind (tick w) (λ _ world1. applied_unary context.program.host op v world1)) (λ x world1. Go context s (pc + 1) (x ∷ stack) world1) → Go context s pc (v ∷ stack) w
+  unary_then : (op : UnaryOperator) (s : Spot) (pc : ℕ) (v : Val) (stack : List Val) (w : World) →
+      slice_get (context.program.code s.run.stream) pc ≡ Some (unary_code op) →
+      Follows context (told s) (bind (tick w) (λ _ world1. applied_unary context.program.host op v world1))
+      (λ x world1. Go context s (pc + 1) (x ∷ stack) world1) → Go context s pc (v ∷ stack) w
   unary_then unaries.Not s pc v stack w e h =
-      at context i.Not s pc (v ∷ stack) w e (after_then context (told s) (tick w) _ (bind_then context (told s) w (tick w) _ _ _ (tick_gives _ w) h (λ _ world1 k h1.
+      at context i.Not s pc (v ∷ stack) w e (after_then context (told s) (tick w) _
+      (bind_then context (told s) w (tick w) _ _ _ (tick_gives _ w) h (λ _ world1 k h1.
       pushes context s pc stack (v ∷ stack) world1 (applied_unary context.program.host unaries.Not v world1) h1)))
   unary_then unaries.Negate s pc v stack w e h =
-      at context i.Neg s pc (v ∷ stack) w e (after_then context (told s) (tick w) _ (bind_then context (told s) w (tick w) _ _ _ (tick_gives _ w) h (λ _ world1 k h1.
+      at context i.Neg s pc (v ∷ stack) w e (after_then context (told s) (tick w) _
+      (bind_then context (told s) w (tick w) _ _ _ (tick_gives _ w) h (λ _ world1 k h1.
       pushes context s pc stack (v ∷ stack) world1 (applied_unary context.program.host unaries.Negate v world1) h1)))
 
   -- an instruction that is an operator
-  operates : (op : BinaryOperator) (x : Instruction) → ((c : Config) → act context.program context.base (Some x) c ≡ after (tick c.world) (λ _ world1. binary_of context.program.host op (with_world world1 c))) →
+  operates : (op : BinaryOperator) (x : Instruction) → ((c : Config) → act context.program context.base (Some x) c ≡ after (tick c.world)
+      (λ _ world1. binary_of context.program.host op (with_world world1 c))) →
       (s : Spot) (pc : ℕ) (a b : Val) (stack : List Val) (w : World) → slice_get (context.program.code s.run.stream) pc ≡ Some x →
-      Follows context (told s) (bind (tick w) (λ _ world1. operated context.program.host op a b world1)) (λ y world1. Go context s (pc + 1) (y ∷ stack) world1) → Go context s pc (b ∷ a ∷ stack) w
+      Follows context (told s) (bind (tick w) (λ _ world1. operated context.program.host op a b world1))
+      (λ y world1. Go context s (pc + 1) (y ∷ stack) world1) → Go context s pc (b ∷ a ∷ stack) w
   operates op x is s pc a b stack w e h =
       at context x s pc (b ∷ a ∷ stack) w e (subst (λ n. LeadsToEnd context (told s) n) (sym (is (cfg s pc (b ∷ a ∷ stack) w)))
       (after_then context (told s) (tick w) _ (bind_then context (told s) w (tick w) _ _ _ (tick_gives _ w) h (λ _ world1 k h1.
       pushes context s pc stack (b ∷ a ∷ stack) world1 (operated context.program.host op a b world1) h1))))
 
-  binary_then : (op : BinaryOperator) (s : Spot) (pc : ℕ) (a b : Val) (stack : List Val) (w : World) → HasAt (context.program.code s.run.stream) pc (binary_code op) →
-      Follows context (told s) (bind (tick w) (λ _ world1. applied_binary context.program.host op a b world1)) (λ x world1. Go context s (beyond_all pc (binary_code op)) (x ∷ stack) world1) → Go context s pc (b ∷ a ∷ stack) w
+  binary_then : (op : BinaryOperator) (s : Spot) (pc : ℕ) (a b : Val) (stack : List Val) (w : World) →
+      HasAt (context.program.code s.run.stream) pc (binary_code op) →
+      Follows context (told s) (bind (tick w) (λ _ world1. applied_binary context.program.host op a b world1))
+      (λ x world1. Go context s (beyond_all pc (binary_code op)) (x ∷ stack) world1) → Go context s pc (b ∷ a ∷ stack) w
   binary_then binaries.Equal s pc a b stack w is h = operates binaries.Equal i.Eq (λ c. refl) s pc a b stack w is.0 h
   binary_then binaries.NotEqual s pc a b stack w is h = operates binaries.NotEqual i.Ne (λ c. refl) s pc a b stack w is.0 h
   binary_then binaries.Less s pc a b stack w is h = operates binaries.Less i.Lt (λ c. refl) s pc a b stack w is.0 h
@@ -88,8 +97,11 @@ module _ (setting : Setting) where
   binary_then binaries.GreaterOrEqual s pc a b stack w is h = operates binaries.GreaterOrEqual i.Gte (λ c. refl) s pc a b stack w is.0 h
   binary_then binaries.In s pc a b stack w is h = operates binaries.In i.In (λ c. refl) s pc a b stack w is.0 h
   binary_then binaries.NotIn s pc a b stack w is h =
-      at context i.In s pc (b ∷ a ∷ stack) w is.0 (after_then context (told s) (tick w) _ (bind_then context (told s) w (tick w) _ _ _ (tick_gives _ w) h (λ _ world1 k h1.
-      pushes context s pc stack (b ∷ a ∷ stack) world1 (operated context.program.host binaries.In a b world1) (bind_then context (told s) world1 (operated context.program.host binaries.In a b world1) _ _ _ (operated_gives context.program.host binaries.In a b world1) h1 (λ v world2 k2 h2.
+      at context i.In s pc (b ∷ a ∷ stack) w is.0 (after_then context (told s) (tick w) _
+      (bind_then context (told s) w (tick w) _ _ _ (tick_gives _ w) h (λ _ world1 k h1.
+      pushes context s pc stack (b ∷ a ∷ stack) world1 (operated context.program.host binaries.In a b world1)
+      (bind_then context (told s) world1 (operated context.program.host binaries.In a b world1) _ _ _
+      (operated_gives context.program.host binaries.In a b world1) h1 (λ v world2 k2 h2.
       unary_then unaries.Not s (pc + 1) v stack world2 is.1.0 h2)))))
   binary_then binaries.Add s pc a b stack w is h = operates binaries.Add i.Add (λ c. refl) s pc a b stack w is.0 h
   binary_then binaries.Subtract s pc a b stack w is h = operates binaries.Subtract i.Sub (λ c. refl) s pc a b stack w is.0 h
@@ -101,16 +113,21 @@ module _ (setting : Setting) where
   binary_then binaries.Power s pc a b stack w is h = operates binaries.Power i.Pow (λ c. refl) s pc a b stack w is.0 h
 
   -- values become one
-  pub built_then : (made : List Val → Val) (s : Spot) (pc n : ℕ) (vs stack : List Val) (w : World) → length vs ≡ n → Go context s (pc + 1) (made vs ∷ stack) w →
+  pub built_then : (made : List Val → Val) (s : Spot) (pc n : ℕ) (vs stack : List Val) (w : World) → length vs ≡ n →
+      Go context s (pc + 1) (made vs ∷ stack) w →
       LeadsToEnd context (told s) (on_taken (taken n [] (onto vs stack)) w (λ xs rest. goes (made xs ∷ rest) w (cfg s pc (onto vs stack) w)))
   built_then made s pc n vs stack w l g =
-      subst (λ t. LeadsToEnd context (told s) (on_taken t w (λ xs rest. goes (made xs ∷ rest) w (cfg s pc (onto vs stack) w)))) (sym (taken_all vs n stack l)) (silent context (told s) _ g)
+      subst (λ t. LeadsToEnd context (told s) (on_taken t w (λ xs rest. goes (made xs ∷ rest) w (cfg s pc (onto vs stack) w))))
+      (sym (taken_all vs n stack l)) (silent context (told s) _ g)
 
   -- behind a false comparison its right side is dropped, which is free
-  dropped_then : (s : Spot) (end : ℕ) (v y : Val) (stack : List Val) (w : World) → HasAt (context.program.code s.run.stream) end (i.Swap ∷ i.DiscardTop ∷ []) →
-      Follows context (told s) (bind (tick w) (λ _ world1. Good v world1)) (λ x world1. Go context s (end + 1 + 1) (x ∷ stack) world1) → Go context s end (v ∷ y ∷ stack) w
+  dropped_then : (s : Spot) (end : ℕ) (v y : Val) (stack : List Val) (w : World) →
+      HasAt (context.program.code s.run.stream) end (i.Swap ∷ i.DiscardTop ∷ []) →
+      Follows context (told s) (bind (tick w) (λ _ world1. Good v world1)) (λ x world1. Go context s (end + 1 + 1) (x ∷ stack) world1) →
+      Go context s end (v ∷ y ∷ stack) w
   dropped_then s end v y stack w is h =
-      at context i.Swap s end (v ∷ y ∷ stack) w is.0 (after_then context (told s) (tick w) _ (bind_then context (told s) w (tick w) _ _ _ (tick_gives _ w) h (λ _ world1 k g.
+      at context i.Swap s end (v ∷ y ∷ stack) w is.0 (after_then context (told s) (tick w) _
+      (bind_then context (told s) w (tick w) _ _ _ (tick_gives _ w) h (λ _ world1 k g.
       silent context (told s) _ (at context i.DiscardTop s (end + 1) (y ∷ v ∷ stack) world1 is.1.0 (silent context (told s) _ g)))))
 
   -- code that stands in the stream of a spot
@@ -131,71 +148,99 @@ module _ (setting : Setting) where
   condition_runs run first code last test guarded other tested given before part behind s l pc stack w d is h =
       before s l pc stack w d is.0
       (bind_then context (told s) w (test w) _ _ _ (tested w) h (λ v world1 k1 h1.
-      at context _ s _ (v ∷ stack) world1 is.1.0.0 (after_then context (told s) (tick world1) _ (bind_then context (told s) world1 (tick world1) _ _ _ (tick_gives _ world1) h1 (λ _ world2 k2 h2.
-      after_then context (told s) (truth context.program.host v world2) _ (bind_then context (told s) world2 (truth context.program.host v world2) _ _ _ (truth_gives context.program.host v world2) h2 (λ b world3 k3 h3.
+      at context _ s _ (v ∷ stack) world1 is.1.0.0 (after_then context (told s) (tick world1) _
+      (bind_then context (told s) world1 (tick world1) _ _ _ (tick_gives _ world1) h1 (λ _ world2 k2 h2.
+      after_then context (told s) (truth context.program.host v world2) _ (bind_then context (told s) world2
+      (truth context.program.host v world2) _ _ _ (truth_gives context.program.host v world2) h2 (λ b world3 k3 h3.
       let deep3 = here_kept setting run s k3 (here_kept setting run s k2 (here_kept setting run s k1 d)) in
-      choose_then context b (bind (guarded world3) (λ x world4. bind (tick world4) (λ _ world5. Good x world5))) (other world3) _ _ (told s) _ h3
+      choose_then context b (bind (guarded world3) (λ x world4. bind (tick world4) (λ _ world5. Good x world5))) (other world3) _ _
+      (told s) _ h3
       (λ h4. silent context (told s) _ (part s _ _ stack world3 deep3 is.1.0.1
       (bind_then context (told s) world3 (guarded world3) _ _ _ (given world3) h4 (λ x world4 k4 h5.
-      at context _ s _ (x ∷ stack) world4 is.1.1 (after_then context (told s) (tick world4) _ (bind_then context (told s) world4 (tick world4) _ _ _ (tick_gives _ world4) h5 (λ _ world5 k5 g. silent context (told s) _ g)))))))
+      at context _ s _ (x ∷ stack) world4 is.1.1 (after_then context (told s) (tick world4) _
+      (bind_then context (told s) world4 (tick world4) _ _ _ (tick_gives _ world4) h5 (λ _ world5 k5 g. silent context (told s) _ g)))))))
       (λ h4. silent context (told s) _ (behind s _ _ stack world3 deep3 is.1.2 h4)))))))))
 
   mutual
     -- An expression's code pushes what it means, over any operands.
-    pub expr_runs : (e : Expr) (run : Run) (s : Spot) (l : Labels) (pc : ℕ) (stack : List Val) (w : World) → Here setting run s w → In s l pc (expr_code e) →
-        Follows context (told s) (eval u run e w) (λ v world1. Go context s (beyond pc (expr_code e)) (v ∷ stack) world1) → Go context s pc stack w
+    pub expr_runs : (e : Expr) (run : Run) (s : Spot) (l : Labels) (pc : ℕ) (stack : List Val) (w : World) → Here setting run s w →
+        In s l pc (expr_code e) →
+        Follows context (told s) (eval u run e w) (λ v world1. Go context s (beyond pc (expr_code e)) (v ∷ stack) world1) →
+        Go context s pc stack w
     expr_runs (Var x) run s l pc stack w d is h =
-        at context (i.Lookup x) s pc stack w is.0 (after_then context (told s) (tick w) _ (bind_then context (told s) w (tick w) _ _ _ (tick_gives _ w) h (λ _ world1 k h1.
+        at context (i.Lookup x) s pc stack w is.0 (after_then context (told s) (tick w) _
+        (bind_then context (told s) w (tick w) _ _ _ (tick_gives _ w) h (λ _ world1 k h1.
         pushes context s pc stack stack world1 (looked_up context.program.host x world1) h1)))
     expr_runs (Const v) run s l pc stack w d is h =
-        at context (i.LoadConst v) s pc stack w is.0 (after_then context (told s) (tick w) _ (bind_then context (told s) w (tick w) _ _ _ (tick_gives _ w) h (λ _ world1 k h1.
+        at context (i.LoadConst v) s pc stack w is.0 (after_then context (told s) (tick w) _
+        (bind_then context (told s) w (tick w) _ _ _ (tick_gives _ w) h (λ _ world1 k h1.
         silent context (told s) _ h1)))
     expr_runs (List' _ es) run s l pc stack w d is h =
         exprs_run es run s l pc stack w d is.0
-        (bind_long context (told s) w (count_exprs es) (eval_all u run es w) _ _ _ (all_give u (nest_ends setting) again_kept run es w) (all_long u run es w) h (λ vs world1 k n h1.
-        at context _ s _ (onto vs stack) world1 is.1.0 (after_then context (told s) (tick world1) _ (bind_then context (told s) world1 (tick world1) _ _ _ (tick_gives _ world1) h1 (λ _ world2 k2 h2.
+        (bind_long context (told s) w (count_exprs es) (eval_all u run es w) _ _ _ (all_give u (nest_ends setting) again_kept run es w)
+        (all_long u run es w) h (λ vs world1 k n h1.
+        at context _ s _ (onto vs stack) world1 is.1.0 (after_then context (told s) (tick world1) _
+        (bind_then context (told s) world1 (tick world1) _ _ _ (tick_gives _ world1) h1 (λ _ world2 k2 h2.
         built_then list_of_values s _ (count_exprs es) vs stack world2 n h2)))))
     expr_runs (Tuple' _ es) run s l pc stack w d is h =
         exprs_run es run s l pc stack w d is.0
-        (bind_long context (told s) w (count_exprs es) (eval_all u run es w) _ _ _ (all_give u (nest_ends setting) again_kept run es w) (all_long u run es w) h (λ vs world1 k n h1.
-        at context _ s _ (onto vs stack) world1 is.1.0 (after_then context (told s) (tick world1) _ (bind_then context (told s) world1 (tick world1) _ _ _ (tick_gives _ world1) h1 (λ _ world2 k2 h2.
+        (bind_long context (told s) w (count_exprs es) (eval_all u run es w) _ _ _ (all_give u (nest_ends setting) again_kept run es w)
+        (all_long u run es w) h (λ vs world1 k n h1.
+        at context _ s _ (onto vs stack) world1 is.1.0 (after_then context (told s) (tick world1) _
+        (bind_then context (told s) world1 (tick world1) _ _ _ (tick_gives _ world1) h1 (λ _ world2 k2 h2.
         built_then list_of_values s _ (count_exprs es) vs stack world2 n h2)))))
     expr_runs (Map' _ ps) run s l pc stack w d is h =
         let n = count_pairs ps in
         let pc1 = beyond pc (pairs_code ps) in
         pairs_run ps run s l pc stack w d is.0
-        (bind_long context (told s) w n (eval_pairs u run ps w) _ _ _ (pairs_give u (nest_ends setting) again_kept run ps w) (pairs_long u run ps w) h (λ xs world1 k m h1.
-        at context _ s _ (onto (flat xs) stack) world1 is.1.0 (after_then context (told s) (tick world1) _ (bind_then context (told s) world1 (tick world1) _ _ _ (tick_gives _ world1) h1 (λ _ world2 k2 h2.
-        built_then (λ vs. map_of_pairs (paired vs)) s pc1 (n + n) (flat xs) stack world2 (flat_long n xs m) (subst (λ ys. Go context s (pc1 + 1) (map_of_pairs ys ∷ stack) world2) (sym (paired_flat xs)) h2))))))
+        (bind_long context (told s) w n (eval_pairs u run ps w) _ _ _ (pairs_give u (nest_ends setting) again_kept run ps w)
+        (pairs_long u run ps w) h (λ xs world1 k m h1.
+        at context _ s _ (onto (flat xs) stack) world1 is.1.0 (after_then context (told s) (tick world1) _
+        (bind_then context (told s) world1 (tick world1) _ _ _ (tick_gives _ world1) h1 (λ _ world2 k2 h2.
+        built_then (λ vs. map_of_pairs (paired vs)) s pc1 (n + n) (flat xs) stack world2 (flat_long n xs m)
+        (subst (λ ys. Go context s (pc1 + 1) (map_of_pairs ys ∷ stack) world2) (sym (paired_flat xs)) h2))))))
     expr_runs (Call' g _ given _ named) run s l pc stack w d is h =
         let n = count given + together named in
         let pc1 = beyond (beyond pc (arguments_code given)) (named_code named) in
         arguments_run given run s l pc stack w d is.0
-        (bind_long context (told s) w (count given) (eval_arguments u run given w) _ _ _ (arguments_give u (nest_ends setting) again_kept run given w) (arguments_long u run given w) h (λ vs world1 k m h1.
+        (bind_long context (told s) w (count given) (eval_arguments u run given w) _ _ _
+        (arguments_give u (nest_ends setting) again_kept run given w) (arguments_long u run given w) h (λ vs world1 k m h1.
         named_runs named run s l _ (onto vs stack) world1 (here_kept setting run s k d) is.1.0
-        (bind_long context (told s) world1 (together named) (eval_named u run named world1) _ _ _ (named_give u (nest_ends setting) again_kept run named world1) (named_long u run named world1) h1 (λ ks world2 k2 left_last h2.
+        (bind_long context (told s) world1 (together named) (eval_named u run named world1) _ _ _
+        (named_give u (nest_ends setting) again_kept run named world1) (named_long u run named world1) h1 (λ ks world2 k2 left_last h2.
         let long : length (vs ++ ks) ≡ n = omega (arith, length-append vs ks, m, left_last) in
         subst (λ us. Go context s pc1 us world2) (onto_both vs ks stack)
         (at context (i.CallFunction g n) s pc1 (onto (vs ++ ks) stack) world2 is.1.1.0
-        (after_then context (told s) (tick world2) _ (bind_then context (told s) world2 (tick world2) _ _ _ (tick_gives _ world2) h2 (λ _ world3 k3 h3.
-        subst (λ t. LeadsToEnd context (told s) (on_taken t world3 (λ xs rest. asked context.program (cfg s pc1 (onto (vs ++ ks) stack) world3) rest (call_named context.program.host g xs world3)))) (sym (taken_all (vs ++ ks) n stack long))
-        (asked_then setting run s pc1 stack (onto (vs ++ ks) stack) world3 world3 (call_named context.program.host g (vs ++ ks) world3) (named_asks context.program.host g (vs ++ ks) world3) (here_kept setting run s k3 (here_kept setting run s k2 (here_kept setting run s k d))) h3)))))))))
+        (after_then context (told s) (tick world2) _ (bind_then context (told s) world2 (tick world2) _ _ _ (tick_gives _ world2) h2
+        (λ _ world3 k3 h3.
+        subst (λ t. LeadsToEnd context (told s) (on_taken t world3 (λ xs rest. asked context.program (cfg s pc1 (onto (vs ++ ks) stack) world3)
+        rest (call_named context.program.host g xs world3)))) (sym (taken_all (vs ++ ks) n stack long))
+        (asked_then setting run s pc1 stack (onto (vs ++ ks) stack) world3 world3 (call_named context.program.host g (vs ++ ks) world3)
+        (named_asks context.program.host g (vs ++ ks) world3) (here_kept setting run s k3
+        (here_kept setting run s k2 (here_kept setting run s k d))) h3)))))))))
     expr_runs (unary op a) run s l pc stack w d is h =
         expr_runs a run s l pc stack w d is.0
-        (bind_then context (told s) w (eval u run a w) _ _ _ (eval_gives u (nest_ends setting) again_kept run a w) h (λ v world1 k h1. unary_then op s _ v stack world1 is.1.0 h1))
+        (bind_then context (told s) w (eval u run a w) _ _ _ (eval_gives u (nest_ends setting) again_kept run a w) h
+        (λ v world1 k h1. unary_then op s _ v stack world1 is.1.0 h1))
     expr_runs (chained a _ ss) run s l pc stack w d is h =
         expr_runs a run s l pc stack w d is.0
-        (bind_then context (told s) w (eval u run a w) _ _ _ (eval_gives u (nest_ends setting) again_kept run a w) h (λ v world1 k h1. steps_run ss run s l _ v stack world1 (here_kept setting run s k d) is.1 h1))
+        (bind_then context (told s) w (eval u run a w) _ _ _ (eval_gives u (nest_ends setting) again_kept run a w) h
+        (λ v world1 k h1. steps_run ss run s l _ v stack world1 (here_kept setting run s k d) is.1 h1))
     expr_runs (conditional a _ cs) run s l pc stack w d is h =
-        conditions_run cs run (expr_code a) (λ world1. eval u run a world1) (λ world1. eval_gives u (nest_ends setting) again_kept run a world1)
+        conditions_run cs run (expr_code a) (λ world1. eval u run a world1)
+        (λ world1. eval_gives u (nest_ends setting) again_kept run a world1)
         (λ s1 l1 pc1 stack1 world1 deep1 is1 h1. expr_runs a run s1 l1 pc1 stack1 world1 deep1 is1 h1) s l pc stack w d is h
 
     -- conditions before code that pushes a value, and what stands for that behind it
-    conditions_run : {m : _} → (cs : Row_of-Condition m) (run : Run) (code : Fragment) (guarded : World → Res Val) → ((w : World) → Gives context.program.host w (guarded w)) → Runs run code guarded → Runs run (conditions_code cs code) (eval_conditions u run cs guarded)
+    conditions_run : {m : _} → (cs : Row_of-Condition m) (run : Run) (code : Fragment) (guarded : World → Res Val) →
+        ((w : World) → Gives context.program.host w (guarded w)) → Runs run code guarded →
+        Runs run (conditions_code cs code) (eval_conditions u run cs guarded)
     conditions_run no_condition run code guarded given part s l pc stack w d is h = part s l pc stack w d is h
     conditions_run (with_condition c e more) run code guarded given part s l pc stack w d is h =
-        conditions_run more run (expr_code c ⨾ either code (expr_code e)) (λ world1. under_condition u.host (λ world2. eval u run c world2) guarded (λ world2. eval u run e world2) world1)
-        (λ world1. condition_gives u.host _ _ _ (λ world2. eval_gives u (nest_ends setting) again_kept run c world2) given (λ world2. eval_gives u (nest_ends setting) again_kept run e world2) world1)
+        conditions_run more run (expr_code c ⨾ either code (expr_code e)) (λ world1. under_condition u.host
+        (λ world2. eval u run c world2) guarded (λ world2. eval u run e world2) world1)
+        (λ world1. condition_gives u.host _ _ _ (λ world2. eval_gives u (nest_ends setting) again_kept run c world2) given
+        (λ world2. eval_gives u (nest_ends setting) again_kept run e world2) world1)
         (λ s1 l1 pc1 stack1 world1 deep1 is1 h1.
         condition_runs run (expr_code c) code (expr_code e) (λ world2. eval u run c world2) guarded (λ world2. eval u run e world2)
         (λ world2. eval_gives u (nest_ends setting) again_kept run c world2) given
@@ -203,107 +248,147 @@ module _ (setting : Setting) where
         (λ s2 l2 pc2 stack2 world2 deep2 is2 h2. expr_runs e run s2 l2 pc2 stack2 world2 deep2 is2 h2)
         s1 l1 pc1 stack1 world1 deep1 is1 h1) s l pc stack w d is h
 
-    exprs_run : {m : _} → (es : Row_of-Expr m) (run : Run) (s : Spot) (l : Labels) (pc : ℕ) (stack : List Val) (w : World) → Here setting run s w → In s l pc (exprs_code es) →
-        Follows context (told s) (eval_all u run es w) (λ vs world1. Go context s (beyond pc (exprs_code es)) (onto vs stack) world1) → Go context s pc stack w
+    exprs_run : {m : _} → (es : Row_of-Expr m) (run : Run) (s : Spot) (l : Labels) (pc : ℕ) (stack : List Val) (w : World) →
+        Here setting run s w → In s l pc (exprs_code es) →
+        Follows context (told s) (eval_all u run es w) (λ vs world1. Go context s (beyond pc (exprs_code es)) (onto vs stack) world1) →
+        Go context s pc stack w
     exprs_run no_expr run s l pc stack w d is h = h
     exprs_run (expr e more) run s l pc stack w d is h =
         expr_runs e run s l pc stack w d is.0
         (bind_then context (told s) w (eval u run e w) _ _ _ (eval_gives u (nest_ends setting) again_kept run e w) h (λ v world1 k h1.
         exprs_run more run s l _ (v ∷ stack) world1 (here_kept setting run s k d) is.1
-        (bind_then context (told s) world1 (eval_all u run more world1) _ _ _ (all_give u (nest_ends setting) again_kept run more world1) h1 (λ vs world2 k2 g. g))))
+        (bind_then context (told s) world1 (eval_all u run more world1) _ _ _ (all_give u (nest_ends setting) again_kept run more world1)
+        h1 (λ vs world2 k2 g. g))))
 
     -- A pair's code pushes its key and then its value.
-    pairs_run : {m : _} → (ps : Row_of-Pair m) (run : Run) (s : Spot) (l : Labels) (pc : ℕ) (stack : List Val) (w : World) → Here setting run s w → In s l pc (pairs_code ps) →
-        Follows context (told s) (eval_pairs u run ps w) (λ xs world1. Go context s (beyond pc (pairs_code ps)) (onto (flat xs) stack) world1) → Go context s pc stack w
+    pairs_run : {m : _} → (ps : Row_of-Pair m) (run : Run) (s : Spot) (l : Labels) (pc : ℕ) (stack : List Val) (w : World) →
+        Here setting run s w → In s l pc (pairs_code ps) →
+        Follows context (told s) (eval_pairs u run ps w) (λ xs world1. Go context s (beyond pc (pairs_code ps)) (onto (flat xs) stack)
+        world1) → Go context s pc stack w
     pairs_run no_pair run s l pc stack w d is h = h
     pairs_run (with_pair k v more) run s l pc stack w d is h =
         expr_runs k run s l pc stack w d is.0
         (bind_then context (told s) w (eval u run k w) _ _ _ (eval_gives u (nest_ends setting) again_kept run k w) h (λ x world1 k1 h1.
         expr_runs v run s l _ (x ∷ stack) world1 (here_kept setting run s k1 d) is.1.0
-        (bind_then context (told s) world1 (eval u run v world1) _ _ _ (eval_gives u (nest_ends setting) again_kept run v world1) h1 (λ y world2 k2 h2.
+        (bind_then context (told s) world1 (eval u run v world1) _ _ _ (eval_gives u (nest_ends setting) again_kept run v world1) h1
+        (λ y world2 k2 h2.
         pairs_run more run s l _ (y ∷ x ∷ stack) world2 (here_kept setting run s k2 (here_kept setting run s k1 d)) is.1.1
-        (bind_then context (told s) world2 (eval_pairs u run more world2) _ _ _ (pairs_give u (nest_ends setting) again_kept run more world2) h2 (λ xs world3 k3 g. g))))))
+        (bind_then context (told s) world2 (eval_pairs u run more world2) _ _ _
+        (pairs_give u (nest_ends setting) again_kept run more world2) h2 (λ xs world3 k3 g. g))))))
 
-    argument_runs : (a : Argument) (run : Run) (s : Spot) (l : Labels) (pc : ℕ) (stack : List Val) (w : World) → Here setting run s w → In s l pc (argument_code a) →
-        Follows context (told s) (eval_argument u run a w) (λ v world1. Go context s (beyond pc (argument_code a)) (v ∷ stack) world1) → Go context s pc stack w
+    argument_runs : (a : Argument) (run : Run) (s : Spot) (l : Labels) (pc : ℕ) (stack : List Val) (w : World) → Here setting run s w →
+        In s l pc (argument_code a) →
+        Follows context (told s) (eval_argument u run a w) (λ v world1. Go context s (beyond pc (argument_code a)) (v ∷ stack) world1) →
+        Go context s pc stack w
     argument_runs (plain a) run s l pc stack w d is h = expr_runs a run s l pc stack w d is h
 
-    arguments_run : {m : _} → (given : Row_of-Argument m) (run : Run) (s : Spot) (l : Labels) (pc : ℕ) (stack : List Val) (w : World) → Here setting run s w → In s l pc (arguments_code given) →
-        Follows context (told s) (eval_arguments u run given w) (λ vs world1. Go context s (beyond pc (arguments_code given)) (onto vs stack) world1) → Go context s pc stack w
+    arguments_run : {m : _} → (given : Row_of-Argument m) (run : Run) (s : Spot) (l : Labels) (pc : ℕ) (stack : List Val) (w : World) →
+        Here setting run s w → In s l pc (arguments_code given) →
+        Follows context (told s) (eval_arguments u run given w) (λ vs world1. Go context s (beyond pc (arguments_code given))
+        (onto vs stack) world1) → Go context s pc stack w
     arguments_run no_argument run s l pc stack w d is h = h
     arguments_run (argument a more) run s l pc stack w d is h =
         argument_runs a run s l pc stack w d is.0
-        (bind_then context (told s) w (eval_argument u run a w) _ _ _ (argument_gives u (nest_ends setting) again_kept run a w) h (λ v world1 k h1.
+        (bind_then context (told s) w (eval_argument u run a w) _ _ _ (argument_gives u (nest_ends setting) again_kept run a w) h
+        (λ v world1 k h1.
         arguments_run more run s l _ (v ∷ stack) world1 (here_kept setting run s k d) is.1
-        (bind_then context (told s) world1 (eval_arguments u run more world1) _ _ _ (arguments_give u (nest_ends setting) again_kept run more world1) h1 (λ vs world2 k2 g. g))))
+        (bind_then context (told s) world1 (eval_arguments u run more world1) _ _ _
+        (arguments_give u (nest_ends setting) again_kept run more world1) h1 (λ vs world2 k2 g. g))))
 
     -- A keyword's code pushes its name and then its value.
-    keywords_run : {m : _} → (ks : Row_of-Keyword m) (run : Run) (s : Spot) (l : Labels) (pc : ℕ) (stack : List Val) (w : World) → Here setting run s w → In s l pc (keywords_code ks) →
-        Follows context (told s) (eval_keywords u run ks w) (λ xs world1. Go context s (beyond pc (keywords_code ks)) (onto (flat xs) stack) world1) → Go context s pc stack w
+    keywords_run : {m : _} → (ks : Row_of-Keyword m) (run : Run) (s : Spot) (l : Labels) (pc : ℕ) (stack : List Val) (w : World) →
+        Here setting run s w → In s l pc (keywords_code ks) →
+        Follows context (told s) (eval_keywords u run ks w) (λ xs world1. Go context s (beyond pc (keywords_code ks))
+        (onto (flat xs) stack) world1) → Go context s pc stack w
     keywords_run no_keyword run s l pc stack w d is h = h
     keywords_run (with_keyword x a more) run s l pc stack w d is h =
-        at context (i.LoadConst (text x false)) s pc stack w is.0.0 (after_then context (told s) (tick w) _ (bind_then context (told s) w (tick w) _ _ _ (tick_gives _ w) h (λ _ world1 k1 h1.
+        at context (i.LoadConst (text x false)) s pc stack w is.0.0 (after_then context (told s) (tick w) _
+        (bind_then context (told s) w (tick w) _ _ _ (tick_gives _ w) h (λ _ world1 k1 h1.
         silent context (told s) _
         (expr_runs a run s l (pc + 1) (text x false ∷ stack) world1 (here_kept setting run s k1 d) is.1.0
-        (bind_then context (told s) world1 (eval u run a world1) _ _ _ (eval_gives u (nest_ends setting) again_kept run a world1) h1 (λ v world2 k2 h2.
+        (bind_then context (told s) world1 (eval u run a world1) _ _ _ (eval_gives u (nest_ends setting) again_kept run a world1) h1
+        (λ v world2 k2 h2.
         keywords_run more run s l _ (v ∷ text x false ∷ stack) world2 (here_kept setting run s k2 (here_kept setting run s k1 d)) is.1.1
-        (bind_then context (told s) world2 (eval_keywords u run more world2) _ _ _ (keywords_give u (nest_ends setting) again_kept run more world2) h2 (λ ks world3 k3 g. g))))))))
+        (bind_then context (told s) world2 (eval_keywords u run more world2) _ _ _
+        (keywords_give u (nest_ends setting) again_kept run more world2) h2 (λ ks world3 k3 g. g))))))))
 
     -- keywords become one argument
-    named_runs : {m : _} → (ks : Row_of-Keyword m) (run : Run) (s : Spot) (l : Labels) (pc : ℕ) (stack : List Val) (w : World) → Here setting run s w → In s l pc (named_code ks) →
-        Follows context (told s) (eval_named u run ks w) (λ vs world1. Go context s (beyond pc (named_code ks)) (onto vs stack) world1) → Go context s pc stack w
+    named_runs : {m : _} → (ks : Row_of-Keyword m) (run : Run) (s : Spot) (l : Labels) (pc : ℕ) (stack : List Val) (w : World) →
+        Here setting run s w → In s l pc (named_code ks) →
+        Follows context (told s) (eval_named u run ks w) (λ vs world1. Go context s (beyond pc (named_code ks)) (onto vs stack) world1) →
+        Go context s pc stack w
     named_runs no_keyword run s l pc stack w d is h = h
     named_runs (with_keyword x a more) run s l pc stack w d is h =
         let n = count_keywords more + 1 in
         let pc1 = beyond (beyond (pc + 1) (expr_code a)) (keywords_code more) in
-        at context (i.LoadConst (text x false)) s pc stack w is.0.0 (after_then context (told s) (tick w) _ (bind_then context (told s) w (tick w) _ _ _ (tick_gives _ w) h (λ _ world1 k1 h1.
+        at context (i.LoadConst (text x false)) s pc stack w is.0.0 (after_then context (told s) (tick w) _
+        (bind_then context (told s) w (tick w) _ _ _ (tick_gives _ w) h (λ _ world1 k1 h1.
         silent context (told s) _
         (expr_runs a run s l (pc + 1) (text x false ∷ stack) world1 (here_kept setting run s k1 d) is.1.0
-        (bind_then context (told s) world1 (eval u run a world1) _ _ _ (eval_gives u (nest_ends setting) again_kept run a world1) h1 (λ v world2 k2 h2.
+        (bind_then context (told s) world1 (eval u run a world1) _ _ _ (eval_gives u (nest_ends setting) again_kept run a world1) h1
+        (λ v world2 k2 h2.
         keywords_run more run s l _ (v ∷ text x false ∷ stack) world2 (here_kept setting run s k2 (here_kept setting run s k1 d)) is.1.1.0
-        (bind_long context (told s) world2 (count_keywords more) (eval_keywords u run more world2) _ _ _ (keywords_give u (nest_ends setting) again_kept run more world2) (keywords_long u run more world2) h2 (λ ks world3 k3 m h3.
+        (bind_long context (told s) world2 (count_keywords more) (eval_keywords u run more world2) _ _ _
+        (keywords_give u (nest_ends setting) again_kept run more world2) (keywords_long u run more world2) h2 (λ ks world3 k3 m h3.
         let xs = (text x false, v) ∷ ks in
         let long : length xs ≡ n = omega (arith, m) in
         at context (i.BuildKwargs n) s pc1 (onto (flat xs) stack) world3 is.1.1.1.0
-        (after_then context (told s) (tick world3) _ (bind_then context (told s) world3 (tick world3) _ _ _ (tick_gives _ world3) h3 (λ _ world4 k4 h4.
-        built_then (λ vs. keyword_map (paired vs)) s pc1 (n + n) (flat xs) stack world4 (flat_long n xs long) (subst (λ zs. Go context s (pc1 + 1) (keyword_map zs ∷ stack) world4) (sym (paired_flat xs)) h4))))))))))))
+        (after_then context (told s) (tick world3) _ (bind_then context (told s) world3 (tick world3) _ _ _ (tick_gives _ world3) h3
+        (λ _ world4 k4 h4.
+        built_then (λ vs. keyword_map (paired vs)) s pc1 (n + n) (flat xs) stack world4 (flat_long n xs long)
+        (subst (λ zs. Go context s (pc1 + 1) (keyword_map zs ∷ stack) world4) (sym (paired_flat xs)) h4))))))))))))
 
     -- A step's code replaces the value on top.
-    step_runs : (x : Step) (run : Run) (s : Spot) (l : Labels) (pc : ℕ) (v : Val) (stack : List Val) (w : World) → Here setting run s w → In s l pc (step_code x) →
-        Follows context (told s) (eval_step u run x v w) (λ y world1. Go context s (beyond pc (step_code x)) (y ∷ stack) world1) → Go context s pc (v ∷ stack) w
+    step_runs : (x : Step) (run : Run) (s : Spot) (l : Labels) (pc : ℕ) (v : Val) (stack : List Val) (w : World) → Here setting run s w →
+        In s l pc (step_code x) →
+        Follows context (told s) (eval_step u run x v w) (λ y world1. Go context s (beyond pc (step_code x)) (y ∷ stack) world1) →
+        Go context s pc (v ∷ stack) w
     step_runs (Attribute x) run s l pc v stack w d is h =
-        at context (i.GetAttr x) s pc (v ∷ stack) w is.0 (after_then context (told s) (tick w) _ (bind_then context (told s) w (tick w) _ _ _ (tick_gives _ w) h (λ _ world1 k h1.
+        at context (i.GetAttr x) s pc (v ∷ stack) w is.0 (after_then context (told s) (tick w) _
+        (bind_then context (told s) w (tick w) _ _ _ (tick_gives _ w) h (λ _ world1 k h1.
         pushes context s pc stack (v ∷ stack) world1 (attribute context.program.host v x world1) h1)))
     step_runs (Method' x _ given _ named) run s l pc v stack w d is h =
         let n = count given + together named + 1 in
         let pc1 = beyond (beyond pc (arguments_code given)) (named_code named) in
         arguments_run given run s l pc (v ∷ stack) w d is.0
-        (bind_long context (told s) w (count given) (eval_arguments u run given w) _ _ _ (arguments_give u (nest_ends setting) again_kept run given w) (arguments_long u run given w) h (λ vs world1 k m h1.
+        (bind_long context (told s) w (count given) (eval_arguments u run given w) _ _ _
+        (arguments_give u (nest_ends setting) again_kept run given w) (arguments_long u run given w) h (λ vs world1 k m h1.
         named_runs named run s l _ (onto vs (v ∷ stack)) world1 (here_kept setting run s k d) is.1.0
-        (bind_long context (told s) world1 (together named) (eval_named u run named world1) _ _ _ (named_give u (nest_ends setting) again_kept run named world1) (named_long u run named world1) h1 (λ ks world2 k2 left_last h2.
+        (bind_long context (told s) world1 (together named) (eval_named u run named world1) _ _ _
+        (named_give u (nest_ends setting) again_kept run named world1) (named_long u run named world1) h1 (λ ks world2 k2 left_last h2.
         let long : length (v ∷ (vs ++ ks)) ≡ n = omega (arith, length-append vs ks, m, left_last) in
         subst (λ us. Go context s pc1 us world2) (onto_both vs ks (v ∷ stack))
         (at context (i.CallMethod x n) s pc1 (onto (v ∷ (vs ++ ks)) stack) world2 is.1.1.0
-        (after_then context (told s) (tick world2) _ (bind_then context (told s) world2 (tick world2) _ _ _ (tick_gives _ world2) h2 (λ _ world3 k3 h3.
-        subst (λ t. LeadsToEnd context (told s) (on_taken t world3 (λ xs rest. asked context.program (cfg s pc1 (onto (v ∷ (vs ++ ks)) stack) world3) rest (call_first context.program.host x xs world3)))) (sym (taken_all (v ∷ (vs ++ ks)) n stack long))
-        (asked_then setting run s pc1 stack (onto (v ∷ (vs ++ ks)) stack) world3 world3 (call_method context.program.host x v (vs ++ ks) world3) (method_asks context.program.host x v (vs ++ ks) world3) (here_kept setting run s k3 (here_kept setting run s k2 (here_kept setting run s k d))) h3)))))))))
+        (after_then context (told s) (tick world2) _ (bind_then context (told s) world2 (tick world2) _ _ _ (tick_gives _ world2) h2
+        (λ _ world3 k3 h3.
+        subst (λ t. LeadsToEnd context (told s) (on_taken t world3 (λ xs rest. asked context.program
+        (cfg s pc1 (onto (v ∷ (vs ++ ks)) stack) world3) rest (call_first context.program.host x xs world3))))
+        (sym (taken_all (v ∷ (vs ++ ks)) n stack long))
+        (asked_then setting run s pc1 stack (onto (v ∷ (vs ++ ks)) stack) world3 world3
+        (call_method context.program.host x v (vs ++ ks) world3) (method_asks context.program.host x v (vs ++ ks) world3)
+        (here_kept setting run s k3 (here_kept setting run s k2 (here_kept setting run s k d))) h3)))))))))
     step_runs (item a) run s l pc v stack w d is h =
         expr_runs a run s l pc (v ∷ stack) w d is.0
         (bind_then context (told s) w (eval u run a w) _ _ _ (eval_gives u (nest_ends setting) again_kept run a w) h (λ k world1 e h1.
-        at context i.GetItem s _ (k ∷ v ∷ stack) world1 is.1.0 (after_then context (told s) (tick world1) _ (bind_then context (told s) world1 (tick world1) _ _ _ (tick_gives _ world1) h1 (λ _ world2 e2 h2.
+        at context i.GetItem s _ (k ∷ v ∷ stack) world1 is.1.0 (after_then context (told s) (tick world1) _
+        (bind_then context (told s) world1 (tick world1) _ _ _ (tick_gives _ world1) h1 (λ _ world2 e2 h2.
         pushes context s _ stack (k ∷ v ∷ stack) world2 (item_at context.program.host v k world2) h2)))))
     step_runs (slice a b c) run s l pc v stack w d is h =
         expr_runs a run s l pc (v ∷ stack) w d is.0
         (bind_then context (told s) w (eval u run a w) _ _ _ (eval_gives u (nest_ends setting) again_kept run a w) h (λ x world1 k1 h1.
         expr_runs b run s l _ (x ∷ v ∷ stack) world1 (here_kept setting run s k1 d) is.1.0
-        (bind_then context (told s) world1 (eval u run b world1) _ _ _ (eval_gives u (nest_ends setting) again_kept run b world1) h1 (λ y world2 k2 h2.
+        (bind_then context (told s) world1 (eval u run b world1) _ _ _ (eval_gives u (nest_ends setting) again_kept run b world1) h1
+        (λ y world2 k2 h2.
         expr_runs c run s l _ (y ∷ x ∷ v ∷ stack) world2 (here_kept setting run s k2 (here_kept setting run s k1 d)) is.1.1.0
-        (bind_then context (told s) world2 (eval u run c world2) _ _ _ (eval_gives u (nest_ends setting) again_kept run c world2) h2 (λ z world3 k3 h3.
-        at context i.Slice s _ (z ∷ y ∷ x ∷ v ∷ stack) world3 is.1.1.1.0 (after_then context (told s) (tick world3) _ (bind_then context (told s) world3 (tick world3) _ _ _ (tick_gives _ world3) h3 (λ _ world4 k4 h4.
+        (bind_then context (told s) world2 (eval u run c world2) _ _ _ (eval_gives u (nest_ends setting) again_kept run c world2) h2
+        (λ z world3 k3 h3.
+        at context i.Slice s _ (z ∷ y ∷ x ∷ v ∷ stack) world3 is.1.1.1.0 (after_then context (told s) (tick world3) _
+        (bind_then context (told s) world3 (tick world3) _ _ _ (tick_gives _ world3) h3 (λ _ world4 k4 h4.
         pushes context s _ stack (z ∷ y ∷ x ∷ v ∷ stack) world4 (slice_of context.program.host v x y z world4) h4)))))))))
     step_runs (binary op a) run s l pc v stack w d is h =
         expr_runs a run s l pc (v ∷ stack) w d is.0
-        (bind_then context (told s) w (eval u run a w) _ _ _ (eval_gives u (nest_ends setting) again_kept run a w) h (λ y world1 k h1. binary_then op s _ v y stack world1 is.1 h1))
+        (bind_then context (told s) w (eval u run a w) _ _ _ (eval_gives u (nest_ends setting) again_kept run a w) h
+        (λ y world1 k h1. binary_then op s _ v y stack world1 is.1 h1))
     step_runs (compare op a _ cs) run s l pc v stack w d is h =
         let pc1 = beyond pc (expr_code a) in
         let jump = beyond pc1 (links_code op cs) in
@@ -313,44 +398,67 @@ module _ (setting : Setting) where
     step_runs (and_then a) run s l pc v stack w d is h =
         at context _ s pc (v ∷ stack) w is.0
         (after_then context (told s) (tick w) _ (bind_then context (told s) w (tick w) _ _ _ (tick_gives _ w) h (λ _ world1 k h1.
-        after_then context (told s) (truth context.program.host v world1) _ (bind_then context (told s) world1 (truth context.program.host v world1) _ _ _ (truth_gives context.program.host v world1) h1 (λ b world2 k2 h2.
+        after_then context (told s) (truth context.program.host v world1) _
+        (bind_then context (told s) world1 (truth context.program.host v world1) _ _ _ (truth_gives context.program.host v world1) h1
+        (λ b world2 k2 h2.
         choose_then context b (eval u run a world2) (Good v world2) _ _ (told s) _ h2
-        (λ h3. silent context (told s) _ (expr_runs a run s _ (pc + 1) stack world2 (here_kept setting run s k2 (here_kept setting run s k d)) is.1 h3))
+        (λ h3. silent context (told s) _ (expr_runs a run s _ (pc + 1) stack world2
+        (here_kept setting run s k2 (here_kept setting run s k d)) is.1 h3))
         (λ g. silent context (told s) _ g))))))
     step_runs (or_else a) run s l pc v stack w d is h =
         at context _ s pc (v ∷ stack) w is.0
         (after_then context (told s) (tick w) _ (bind_then context (told s) w (tick w) _ _ _ (tick_gives _ w) h (λ _ world1 k h1.
-        after_then context (told s) (truth context.program.host v world1) _ (bind_then context (told s) world1 (truth context.program.host v world1) _ _ _ (truth_gives context.program.host v world1) h1 (λ b world2 k2 h2.
+        after_then context (told s) (truth context.program.host v world1) _
+        (bind_then context (told s) world1 (truth context.program.host v world1) _ _ _ (truth_gives context.program.host v world1) h1
+        (λ b world2 k2 h2.
         choose_then context b (Good v world2) (eval u run a world2) _ _ (told s) _ h2
         (λ g. silent context (told s) _ g)
-        (λ h3. silent context (told s) _ (expr_runs a run s _ (pc + 1) stack world2 (here_kept setting run s k2 (here_kept setting run s k d)) is.1 h3)))))))
+        (λ h3. silent context (told s) _ (expr_runs a run s _ (pc + 1) stack world2
+        (here_kept setting run s k2 (here_kept setting run s k d)) is.1 h3)))))))
 
     -- Comparisons in a row replace both sides of the first. Behind them stands a jump over the dropping of the right side of a false one.
-    links_run : {m : _} → (op : BinaryOperator) (cs : Row_of-Comparison m) (run : Run) (s : Spot) (l : Labels) (pc jump : ℕ) (x y : Val) (stack : List Val) (w : World) → Here setting run s w → In s l pc (links_code op cs) → beyond pc (links_code op cs) ≡ jump →
-        slice_get (context.program.code s.run.stream) jump ≡ Some (i.Jump (l.out + 1 + 1)) → HasAt (context.program.code s.run.stream) l.out (i.Swap ∷ i.DiscardTop ∷ []) →
-        Follows context (told s) (eval_links u run op cs x y w) (λ v world1. Go context s (l.out + 1 + 1) (v ∷ stack) world1) → Go context s pc (y ∷ x ∷ stack) w
+    links_run : {m : _} → (op : BinaryOperator) (cs : Row_of-Comparison m) (run : Run) (s : Spot) (l : Labels) (pc jump : ℕ) (x y : Val)
+        (stack : List Val) (w : World) → Here setting run s w → In s l pc (links_code op cs) → beyond pc (links_code op cs) ≡ jump →
+        slice_get (context.program.code s.run.stream) jump ≡ Some (i.Jump (l.out + 1 + 1)) →
+        HasAt (context.program.code s.run.stream) l.out (i.Swap ∷ i.DiscardTop ∷ []) →
+        Follows context (told s) (eval_links u run op cs x y w) (λ v world1. Go context s (l.out + 1 + 1) (v ∷ stack) world1) →
+        Go context s pc (y ∷ x ∷ stack) w
     links_run op no_comparison run s l pc jump x y stack w d is place over_drop drop h =
         binary_then op s pc x y stack w is
         (follows_bind context (told s) (tick w) _ _ (bind_then context (told s) w (tick w) _ _ _ (tick_gives _ w) h (λ _ world1 k h1.
-        bind_then context (told s) world1 (applied_binary context.program.host op x y world1) _ _ _ (binary_gives context.program.host op x y world1) h1 (λ v world2 k2 h2.
+        bind_then context (told s) world1 (applied_binary context.program.host op x y world1) _ _ _
+        (binary_gives context.program.host op x y world1) h1 (λ v world2 k2 h2.
         move context s _ _ (v ∷ stack) world2 place
-        (at context _ s jump (v ∷ stack) world2 over_drop (after_then context (told s) (tick world2) _ (bind_then context (told s) world2 (tick world2) _ _ _ (tick_gives _ world2) h2 (λ _ world3 k3 g. silent context (told s) _ g))))))))
+        (at context _ s jump (v ∷ stack) world2 over_drop (after_then context (told s) (tick world2) _
+        (bind_then context (told s) world2 (tick world2) _ _ _ (tick_gives _ world2) h2
+        (λ _ world3 k3 g. silent context (told s) _ g))))))))
     links_run op (with_comparison op1 a more) run s l pc jump x y stack w d is place over_drop drop h =
-        at context (i.CompareAndPreserve op) s pc (y ∷ x ∷ stack) w is.0.0 (after_then context (told s) (tick w) _ (bind_then context (told s) w (tick w) _ _ _ (tick_gives _ w) h (λ _ world1 k1 h1.
-        after_then context (told s) (operated context.program.host op x y world1) _ (bind_then context (told s) world1 (operated context.program.host op x y world1) _ _ _ (operated_gives context.program.host op x y world1) h1 (λ v world2 k2 h2.
+        at context (i.CompareAndPreserve op) s pc (y ∷ x ∷ stack) w is.0.0 (after_then context (told s) (tick w) _
+        (bind_then context (told s) w (tick w) _ _ _ (tick_gives _ w) h (λ _ world1 k1 h1.
+        after_then context (told s) (operated context.program.host op x y world1) _
+        (bind_then context (told s) world1 (operated context.program.host op x y world1) _ _ _
+        (operated_gives context.program.host op x y world1) h1 (λ v world2 k2 h2.
         silent context (told s) _ (at context _ s (pc + 1) (v ∷ y ∷ stack) world2 is.1.0
-        (after_then context (told s) (tick world2) _ (bind_then context (told s) world2 (tick world2) _ _ _ (tick_gives _ world2) h2 (λ _ world3 k3 h3.
-        after_then context (told s) (truth context.program.host v world3) _ (bind_then context (told s) world3 (truth context.program.host v world3) _ _ _ (truth_gives context.program.host v world3) h3 (λ b world4 k4 h4.
+        (after_then context (told s) (tick world2) _ (bind_then context (told s) world2 (tick world2) _ _ _ (tick_gives _ world2) h2
+        (λ _ world3 k3 h3.
+        after_then context (told s) (truth context.program.host v world3) _
+        (bind_then context (told s) world3 (truth context.program.host v world3) _ _ _ (truth_gives context.program.host v world3) h3
+        (λ b world4 k4 h4.
         let deep4 = here_kept setting run s k4 (here_kept setting run s k3 (here_kept setting run s k2 (here_kept setting run s k1 d))) in
-        choose_then context b (bind (eval u run a world4) (λ z world5. eval_links u run op1 more y z world5)) (bind (tick world4) (λ _ world5. Good v world5)) _ _ (told s) _ h4
+        choose_then context b (bind (eval u run a world4) (λ z world5. eval_links u run op1 more y z world5))
+        (bind (tick world4) (λ _ world5. Good v world5)) _ _ (told s) _ h4
         (λ h5. silent context (told s) _ (expr_runs a run s l (pc + 1 + 1) (y ∷ stack) world4 deep4 is.1.1.0
-        (bind_then context (told s) world4 (eval u run a world4) _ _ _ (eval_gives u (nest_ends setting) again_kept run a world4) h5 (λ z world5 k5 h6.
+        (bind_then context (told s) world4 (eval u run a world4) _ _ _ (eval_gives u (nest_ends setting) again_kept run a world4) h5
+        (λ z world5 k5 h6.
         links_run op1 more run s l _ jump y z stack world5 (here_kept setting run s k5 deep4) is.1.1.1 place over_drop drop h6))))
         (λ h5. silent context (told s) _ (dropped_then s l.out v y stack world4 drop h5)))))))))))))
 
-    steps_run : {m : _} → (ss : Row_of-Step m) (run : Run) (s : Spot) (l : Labels) (pc : ℕ) (v : Val) (stack : List Val) (w : World) → Here setting run s w → In s l pc (steps_code ss) →
-        Follows context (told s) (eval_steps u run ss v w) (λ y world1. Go context s (beyond pc (steps_code ss)) (y ∷ stack) world1) → Go context s pc (v ∷ stack) w
+    steps_run : {m : _} → (ss : Row_of-Step m) (run : Run) (s : Spot) (l : Labels) (pc : ℕ) (v : Val) (stack : List Val) (w : World) →
+        Here setting run s w → In s l pc (steps_code ss) →
+        Follows context (told s) (eval_steps u run ss v w) (λ y world1. Go context s (beyond pc (steps_code ss)) (y ∷ stack) world1) →
+        Go context s pc (v ∷ stack) w
     steps_run no_step run s l pc v stack w d is h = h
     steps_run (step_and x ss) run s l pc v stack w d is h =
         step_runs x run s l pc v stack w d is.0
-        (bind_then context (told s) w (eval_step u run x v w) _ _ _ (step_gives u (nest_ends setting) again_kept run x v w) h (λ y world1 k h1. steps_run ss run s l _ y stack world1 (here_kept setting run s k d) is.1 h1))
+        (bind_then context (told s) w (eval_step u run x v w) _ _ _ (step_gives u (nest_ends setting) again_kept run x v w) h
+        (λ y world1 k h1. steps_run ss run s l _ y stack world1 (here_kept setting run s k d) is.1 h1))

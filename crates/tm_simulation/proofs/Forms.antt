@@ -14,7 +14,8 @@ use Rattle.tm_meaning.specs.declared.base.Base.{Base}
 abbrev pub Fits : Base → Run → Bed → Type 0
 Fits f run air = (run.inside ≡ false) × (f.captures ≡ 0) × (run.heard ≡ f.heard)
 Fits f run (inside h t ks) =
-    ((run.inside ≡ false) × (f.captures ≡ suc (length ks)) × (run.heard ≡ f.heard)) ⊎ ((run.inside ≡ true) × (f.captures < suc (length ks)) × (run.heard ≡ h))
+    ((run.inside ≡ false) × (f.captures ≡ suc (length ks)) × (run.heard ≡ f.heard)) ⊎
+    ((run.inside ≡ true) × (f.captures < suc (length ks)) × (run.heard ≡ h))
 
 -- the captures of a run's start stand, in a capture of its own too
 pub captures_stand : (f : Base) (run : Run) (b : Bed) (out : List ℕ) → Fits f run b → f.captures ≤ length (captures_of b out)
@@ -25,13 +26,15 @@ captures_stand f run (inside x t ks) out (inr (i, n, h)) = omega (arith, n)
 pub fits_captured : (f : Base) (run : Run) (b : Bed) (out : List ℕ) → Fits f run b → Fits f (capturing true run) (captured_in b out)
 fits_captured f run b out fits = inr (refl, omega (arith, captures_stand f run b out fits), refl)
 
--- How a spot of the machine and the run of a meaning stand to each other: the escape at the start, the captures that stay, and where the text goes.
+-- How a spot of the machine and the run of a meaning stand to each other: the escape at the start, the captures that stay, and where the
+-- text goes.
 abbrev pub Stands : Base → Run → Spot → Type 0
 Stands f run s = (run.first ≡ f.first) × (s.run.floor ≤ length (captures_of s.bed s.out)) × Fits f run s.bed
 
 -- ---------------------------------------------------------------- what is heard
 -- The machine hears where the meaning does.
-pub audible_is : (f : Base) (run : Run) (a : Activation) (q : Option TemplateId) (b : Bed) (out : List ℕ) (pc : ℕ) (stack : List Val) (w : World) → q ≡ run.parent → Fits f run b →
+pub audible_is : (f : Base) (run : Run) (a : Activation) (q : Option TemplateId) (b : Bed) (out : List ℕ) (pc : ℕ) (stack : List Val)
+    (w : World) → q ≡ run.parent → Fits f run b →
     audible f (cfg (record { run = a; parent = q; bed = b; out = out }) pc stack w) ≡ heard_here run
 audible_is f run a q air out pc stack w e (i, n, h) = rw (e, n, i, h) refl
 audible_is f run a q (inside x t ks) out pc stack w e (inl (i, n, h)) =
@@ -40,22 +43,27 @@ audible_is f run a q (inside x t ks) out pc stack w e (inr (i, n, h)) =
     let l : nat_lt f.captures (suc (length ks)) ≡ true = lt-ltb _ _ n in rw (l, i, h) refl
 
 module _ (context : RunContext) where
-  writes_by : (x : Bool) (t : List ℕ) (a : Activation) (q : Option TemplateId) (b : Bed) (out : List ℕ) (pc : ℕ) (stack : List Val) (w : World) →
+  writes_by : (x : Bool) (t : List ℕ) (a : Activation) (q : Option TemplateId) (b : Bed) (out : List ℕ) (pc : ℕ) (stack : List Val)
+      (w : World) →
       Go context (record { run = a; parent = q; bed = b; out = choose x (λ _. out ++ t) (λ _. out) }) pc stack w →
       LeadsToEnd context (told_by b out)
       (choose x
-      (λ _. More (put_out (captures_of b out) t) (record (cfg (record { run = a; parent = q; bed = b; out = out }) pc stack w) { captures = put_in (captures_of b out) t }))
+      (λ _. More (put_out (captures_of b out) t) (record (cfg (record { run = a; parent = q; bed = b; out = out }) pc stack w)
+      { captures = put_in (captures_of b out) t }))
       (λ _. More [] (cfg (record { run = a; parent = q; bed = b; out = out }) pc stack w)))
   writes_by true t a q air out pc stack w g = more refl g
   writes_by true t a q (inside h u ks) out pc stack w g = silent context u _ g
   writes_by false t a q b out pc stack w g = silent context (told_by b out) _ g
 
   -- What is said is written.
-  pub writes_then : (run : Run) (t : List ℕ) (s : Spot) (pc : ℕ) (stack : List Val) (w : World) → s.parent ≡ run.parent → Fits context.base run s.bed →
+  pub writes_then : (run : Run) (t : List ℕ) (s : Spot) (pc : ℕ) (stack : List Val) (w : World) → s.parent ≡ run.parent →
+      Fits context.base run s.bed →
       Go context (later s s.parent (say run t s.out)) pc stack w → LeadsToEnd context (told s) (writes context.base t (cfg s pc stack w))
   writes_then run t s pc stack w q fits g =
-      subst (λ x. LeadsToEnd context (told s) (choose x (λ _. More (put_out (captures_of s.bed s.out) t) (record (cfg s pc stack w) { captures = put_in (captures_of s.bed s.out) t })) (λ _. More [] (cfg s pc stack w))))
-      (sym (audible_is context.base run s.run s.parent s.bed s.out pc stack w q fits)) (writes_by (heard_here run) t s.run s.parent s.bed s.out pc stack w g)
+      subst (λ x. LeadsToEnd context (told s) (choose x (λ _. More (put_out (captures_of s.bed s.out) t)
+      (record (cfg s pc stack w) { captures = put_in (captures_of s.bed s.out) t })) (λ _. More [] (cfg s pc stack w))))
+      (sym (audible_is context.base run s.run s.parent s.bed s.out pc stack w q fits))
+      (writes_by (heard_here run) t s.run s.parent s.bed s.out pc stack w g)
 
 -- ---------------------------------------------------------------- nested runs
 -- the end of a run that an outcome stands for
@@ -69,19 +77,24 @@ end_of b o = end_by o.ending b o.text o.world
 -- A callee's run comes to what it means.
 abbrev pub Entered : Program → Callee → Bool → Bed → List ℕ → World → Outcome → Type 0
 Entered p k heard b out w o =
-    Leads p (base_of heard (captures_of b out) w) (told_by b out) (step p (base_of heard (captures_of b out) w) (start k (captures_of b out) w)) (end_of b o)
+    Leads p (base_of heard (captures_of b out) w) (told_by b out) (step p (base_of heard (captures_of b out) w)
+    (start k (captures_of b out) w)) (end_of b o)
 
 module _ (context : RunContext) where
-  in_place_by : (k : Call) (run : Run) (a : Activation) (b : Bed) (e : Ending) (parent : Option TemplateId) (out : List ℕ) (w : World) (D L N : Then) →
-      Ends context b (behind e k run (whole_of e parent out w)) D L N → (D run.parent out (undone k.undo w) → LeadsToEnd context (told_by b out) (More [] (record { run = a; captures = captures_of b out; world = undone k.undo w }))) →
+  in_place_by : (k : Call) (run : Run) (a : Activation) (b : Bed) (e : Ending) (parent : Option TemplateId) (out : List ℕ) (w : World)
+      (D L N : Then) →
+      Ends context b (behind e k run (whole_of e parent out w)) D L N → (D run.parent out (undone k.undo w) →
+      LeadsToEnd context (told_by b out) (More [] (record { run = a; captures = captures_of b out; world = undone k.undo w }))) →
       LeadsToEnd context (end_by e b out w).text (back_to (record { run = a; call = k; value = false }) (end_by e b out w).end)
   in_place_by k run a b done parent out w D L N h g = g (so_far_then context b run out _ D L N h)
   in_place_by k run a b leave parent out w D L N h g = g (so_far_then context b run out _ D L N h)
   in_place_by k run a b next parent out w D L N h g = g (so_far_then context b run out _ D L N h)
-  in_place_by k run a b (fault chain) parent out w D L N h g = over refl (fault_then context b run out (undone k.undo w) (wrapped k.wrap chain) D L N h)
+  in_place_by k run a b (fault chain) parent out w D L N h g = over refl (fault_then context b run out (undone k.undo w)
+      (wrapped k.wrap chain) D L N h)
 
   -- a call in place: its text is heard where the call is
-  pub call_in_place : (u : Under) (k : Call) (run : Run) (s : Spot) (pc : ℕ) (stack vs : List Val) (w v : World) (D L N : Then) → s.parent ≡ run.parent → Fits context.base run s.bed →
+  pub call_in_place : (u : Under) (k : Call) (run : Run) (s : Spot) (pc : ℕ) (stack vs : List Val) (w v : World) (D L N : Then) →
+      s.parent ≡ run.parent → Fits context.base run s.bed →
       Entered context.program k.callee (heard_here run) s.bed s.out v (u.nests k.callee (heard_here run) s.out v) →
       Ends context s.bed (in_place_of u run s.out (runs k v)) D L N →
       ((out1 : List ℕ) (world1 : World) → D run.parent out1 world1 → Go context (later s s.parent out1) (pc + 1) vs world1) →
@@ -89,23 +102,31 @@ module _ (context : RunContext) where
   call_in_place u k run s pc stack vs w v D L N q fits entered h g =
       let o = u.nests k.callee (heard_here run) s.out v in
       let back : Back = record { run = waiting vs (cfg s pc stack w); call = k; value = false } in
-      let rest = in_place_by k run back.run s.bed o.ending o.parent o.text o.world D L N h (λ d. silent context _ _ (g o.text (undone k.undo o.world) d)) in
+      let rest = in_place_by k run back.run s.bed o.ending o.parent o.text o.world D L N h
+      (λ d. silent context _ _ (g o.text (undone k.undo o.world) d)) in
       let e = audible_is context.base run s.run s.parent s.bed s.out pc stack w q fits in
-      subst (λ x. LeadsToEnd context (told s) (Nest (base_of x (captures_of s.bed s.out) v) (start k.callee (captures_of s.bed s.out) v) back)) (sym e) (nest refl entered rest)
+      subst (λ x. LeadsToEnd context (told s) (Nest (base_of x (captures_of s.bed s.out) v) (start k.callee (captures_of s.bed s.out) v) back))
+      (sym e) (nest refl entered rest)
 
   value_by : (k : Call) (a : Activation) (b : Bed) (out0 : List ℕ) (e : Ending) (o : Outcome) (K : Val → World → Type 0) →
       Follows context (told_by b out0) (value_behind e k o) K →
       (K (captured_text o.text (undone k.undo o.world)) (undone k.undo o.world) →
-      LeadsToEnd context (told_by b out0) (More [] (record { run = pushed (captured_text o.text (undone k.undo o.world)) a; captures = captures_of b out0; world = undone k.undo o.world }))) →
+      LeadsToEnd context (told_by b out0) (More [] (record {
+        run = pushed (captured_text o.text (undone k.undo o.world)) a;
+        captures = captures_of b out0;
+        world = undone k.undo o.world;
+      }))) →
       LeadsToEnd context (end_by e (inside true (told_by b out0) (captures_of b out0)) o.text o.world).text
-      (back_to (record { run = a; call = k; value = true }) (end_by e (inside true (told_by b out0) (captures_of b out0)) o.text o.world).end)
+      (back_to (record { run = a; call = k; value = true }) (end_by e (inside true (told_by b out0) (captures_of b out0)) o.text
+      o.world).end)
   value_by k a b out0 done o K h g = g h
   value_by k a b out0 leave o K h g = g h
   value_by k a b out0 next o K h g = g h
   value_by k a b out0 (fault chain) o K h g = over refl h
 
   -- a call whose text is a value
-  pub call_as_value : (u : Under) (run : Run) (k : Call) (s : Spot) (pc : ℕ) (stack vs : List Val) (w v : World) (K : Val → World → Type 0) →
+  pub call_as_value : (u : Under) (run : Run) (k : Call) (s : Spot) (pc : ℕ) (stack vs : List Val) (w v : World)
+      (K : Val → World → Type 0) →
       Entered context.program k.callee true (inside true (told s) (captures_of s.bed s.out)) [] v (u.nests k.callee true [] v) →
       Follows context (told s) (value_of u run (runs k v)) K →
       ((x : Val) (world1 : World) → K x world1 → Go context s (pc + 1) (x ∷ vs) world1) →

@@ -27,10 +27,12 @@ pub record LeftOf (l : Loop) (items vs : List Val) : Type 0 where
   pub turns : l.turns ≡ length before
 
 pub next_item : (l : Loop) (items : List Val) (v : Val) (vs : List Val) → LeftOf l items (v ∷ vs) → slice_get l.items l.turns ≡ Some v
-next_item l items v vs left = ap (λ xs. slice_get xs l.turns) (left.same ∙ left.all) ∙ ap (slice_get (left.before ++ v ∷ vs)) left.turns ∙ seam_some left.before vs v
+next_item l items v vs left = ap (λ xs. slice_get xs l.turns) (left.same ∙ left.all) ∙ ap (slice_get (left.before ++ v ∷ vs)) left.turns ∙
+    seam_some left.before vs v
 
 pub no_item : (l : Loop) (items : List Val) → LeftOf l items [] → slice_get l.items l.turns ≡ None
-no_item l items left = ap (λ xs. slice_get xs l.turns) (left.same ∙ left.all) ∙ ap (slice_get (left.before ++ [])) left.turns ∙ seam_none left.before
+no_item l items left = ap (λ xs. slice_get xs l.turns) (left.same ∙ left.all) ∙ ap (slice_get (left.before ++ [])) left.turns ∙ seam_none
+    left.before
 
 -- asked for once more
 more_turns : (l : Loop) (b : Bool) → nat_lt (length l.items) l.turns ≡ b → b ≡ false → turned l ≡ record l { turns = l.turns + 1 }
@@ -63,26 +65,31 @@ top_is : (g : LoopFlags) (w0 w : World) → Kept (in_loop_of g w0) w → top_mar
 top_is g w0 w k = kept_top k
 
 -- what is asked of a record of its items and turns
-of_record : (n : ℕ) (ls : List Loop) (l : Loop) → slice_get (shapes ls) n ≡ Some l → (o : Option Return) (rs : List (Option Return)) (w : World) (f : List Val → ℕ → Next) →
+of_record : (n : ℕ) (ls : List Loop) (l : Loop) → slice_get (shapes ls) n ≡ Some l →
+    (o : Option Return) (rs : List (Option Return)) (w : World) (f : List Val → ℕ → Next) →
     on_loop (o ∷ rs) (slice_get ls n) w (λ m. f m.items m.turns) ≡ f l.items l.turns
 of_record n [] l e o rs w f = absurd (cc e)
 of_record zero (x ∷ ls) l e o rs w f = let same : shape x ≡ l = cc e in ap (λ (m : Loop). f m.items m.turns) same
 of_record (suc n) (x ∷ ls) l e o rs w f = of_record n ls l e o rs w f
 
-pub on_top_loop : (g : LoopFlags) (w0 w : World) (l : Loop) → Kept (in_loop_of g w0) w → slice_get (shapes w.loops) (length w0.loops) ≡ Some l → (o : Option Return) (rs : List (Option Return)) (f : List Val → ℕ → Next) →
+pub on_top_loop : (g : LoopFlags) (w0 w : World) (l : Loop) → Kept (in_loop_of g w0) w →
+    slice_get (shapes w.loops) (length w0.loops) ≡ Some l → (o : Option Return) (rs : List (Option Return)) (f : List Val → ℕ → Next) →
     on_loop (o ∷ rs) (top_loop w) w (λ m. f m.items m.turns) ≡ f l.items l.turns
 on_top_loop g w0 w l k e o rs f =
-    ap (λ (mark : Option LoopMark). on_loop (o ∷ rs) (option_and_then (λ (m : LoopMark). slice_get w.loops m.number) mark) w (λ m. f m.items m.turns)) (top_is g w0 w k)
+    ap (λ (mark : Option LoopMark). on_loop (o ∷ rs) (option_and_then (λ (m : LoopMark). slice_get w.loops m.number) mark) w
+    (λ m. f m.items m.turns)) (top_is g w0 w k)
     ∙ of_record (length w0.loops) w.loops l e o rs w f
 
-pub next_record : (g : LoopFlags) (w0 w : World) (l : Loop) → Kept (in_loop_of g w0) w → slice_get (shapes w.loops) (length w0.loops) ≡ Some l → slice_get (shapes (next_turn w).loops) (length w0.loops) ≡ Some (turned l)
+pub next_record : (g : LoopFlags) (w0 w : World) (l : Loop) → Kept (in_loop_of g w0) w →
+    slice_get (shapes w.loops) (length w0.loops) ≡ Some l → slice_get (shapes (next_turn w).loops) (length w0.loops) ≡ Some (turned l)
 next_record g w0 w l k e =
     ap (λ m. slice_get (shapes (turned_of m w).loops) (length w0.loops)) (top_is g w0 w k)
     ∙ ap (λ ls. slice_get ls (length w0.loops)) (turned_shapes (length w0.loops) w.loops)
     ∙ turned_record (length w0.loops) (shapes w.loops) l e
 
 -- the record of a loop that was opened
-pub new_record : (g : LoopFlags) (n : ℕ) (w : World) (vs : List Val) → slice_get (shapes (opened g n w vs).loops) (length w.loops) ≡ Some (new_loop vs g n w)
+pub new_record : (g : LoopFlags) (n : ℕ) (w : World) (vs : List Val) → slice_get (shapes (opened g n w vs).loops) (length w.loops) ≡ Some
+    (new_loop vs g n w)
 new_record g n w vs =
     ap (λ ls. slice_get ls (length w.loops)) (shapes_behind w.loops (new_loop vs g n w ∷ []))
     ∙ ap (slice_get (shapes w.loops ++ new_loop vs g n w ∷ [])) (sym (shapes_long w.loops))

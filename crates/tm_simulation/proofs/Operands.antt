@@ -53,7 +53,8 @@ abbrev IsLong : {A : Type 0} → ℕ → Res (List A) → Type 0
 IsLong n (Good xs w) = length xs ≡ n
 IsLong n (Bad chain w) = Unit {0}
 
-long_bind : {A B : Type 0} (n : ℕ) (m : Res A) (g : A → World → Res (List B)) → ((a : A) (w : World) → IsLong n (g a w)) → IsLong n (bind m g)
+long_bind : {A B : Type 0} (n : ℕ) (m : Res A) (g : A → World → Res (List B)) → ((a : A) (w : World) → IsLong n (g a w)) →
+    IsLong n (bind m g)
 long_bind n (Good a w) g k = k a w
 long_bind n (Bad chain w) g k = tt
 
@@ -61,12 +62,15 @@ long_more : {A : Type 0} (x : A) (n : ℕ) (m : Res (List A)) → IsLong n m →
 long_more x n (Good xs w) e = omega (arith, e)
 long_more x n (Bad chain w) e = tt
 
-pub arguments_long : {n : _} → (u : Under) (run : Run) (given : Row_of-Argument n) (w : World) → IsLong (count given) (eval_arguments u run given w)
+pub arguments_long : {n : _} → (u : Under) (run : Run) (given : Row_of-Argument n) (w : World) →
+    IsLong (count given) (eval_arguments u run given w)
 arguments_long u run no_argument w = refl
 arguments_long u run (argument a more) w =
-    long_bind _ (eval_argument u run a w) _ (λ v world1. long_more v (count more) (eval_arguments u run more world1) (arguments_long u run more world1))
+    long_bind _ (eval_argument u run a w) _ (λ v world1. long_more v (count more) (eval_arguments u run more world1)
+    (arguments_long u run more world1))
 
-pub keywords_long : {n : _} → (u : Under) (run : Run) (ks : Row_of-Keyword n) (w : World) → IsLong (count_keywords ks) (eval_keywords u run ks w)
+pub keywords_long : {n : _} → (u : Under) (run : Run) (ks : Row_of-Keyword n) (w : World) →
+    IsLong (count_keywords ks) (eval_keywords u run ks w)
 keywords_long u run no_keyword w = refl
 keywords_long u run (with_keyword x a more) w =
     long_bind _ (tick w) _ (λ _ world1. long_bind _ (eval u run a world1) _ (λ v world2.
@@ -90,7 +94,8 @@ pairs_long u run (with_pair k v more) w =
     long_more (x, y) (count_pairs more) (eval_pairs u run more world2) (pairs_long u run more world2)))
 
 -- so many items of a value
-counted : (n : ℕ) (vs : List Val) (b : Bool) (w : World) → (length vs == n) ≡ b → IsLong n (answered (cond b (Ok vs) (Err (CannotUnpack ∷ []))) w)
+counted : (n : ℕ) (vs : List Val) (b : Bool) (w : World) → (length vs == n) ≡ b →
+    IsLong n (answered (cond b (Ok vs) (Err (CannotUnpack ∷ []))) w)
 counted n vs true w e = eqb-true (length vs) n e
 counted n vs false w e = tt
 
@@ -102,8 +107,11 @@ pub items_long : (n : ℕ) (v : Val) (w : World) → IsLong n (unpacked_items n 
 items_long n v w = exactly_long n _ w
 
 -- the same as `bind_then`, of as many as were asked for
-pub bind_long : {A B : Type 0} (context : RunContext) (t : List ℕ) (w : World) (n : ℕ) (m : Res (List A)) (g : List A → World → Res B) (K : B → World → Type 0) (L : List A → World → Type 0) →
-    Gives context.program.host w m → IsLong n m → Follows context t (bind m g) K → ((xs : List A) (world1 : World) → Kept w world1 → length xs ≡ n → Follows context t (g xs world1) K → L xs world1) → Follows context t m L
+pub bind_long : {A B : Type 0} (context : RunContext) (t : List ℕ) (w : World) (n : ℕ) (m : Res (List A)) (g : List A → World → Res B)
+    (K : B → World → Type 0) (L : List A → World → Type 0) →
+    Gives context.program.host w m → IsLong n m → Follows context t (bind m g) K →
+    ((xs : List A) (world1 : World) → Kept w world1 → length xs ≡ n → Follows context t (g xs world1) K → L xs world1) →
+    Follows context t m L
 bind_long context t w n (Good xs world1) g K L e l h k = k xs world1 e l h
 bind_long context t w n (Bad chain world1) g K L e l h k = h
 
@@ -121,12 +129,14 @@ paired_flat [] = refl
 paired_flat ((k, v) ∷ xs) = ap (λ l. (k, v) ∷ l) (paired_flat xs)
 
 -- one more than a count, where that is a number still
-counted_by : (context : RunContext) (t : List ℕ) (z : ℤ) (fits : Bool) (w : World) (K L : Val → World → Type 0) → Follows context t (answered (if fits then Ok (number z) else invalid) w) K → (K (number z) w → L (number z) w) →
+counted_by : (context : RunContext) (t : List ℕ) (z : ℤ) (fits : Bool) (w : World) (K L : Val → World → Type 0) →
+    Follows context t (answered (if fits then Ok (number z) else invalid) w) K → (K (number z) w → L (number z) w) →
     Follows context t (answered (number_answer (cond fits (Some z) None)) w) L
 counted_by context t z true w K L h k = k h
 counted_by context t z false w K L h k = h
 
-pub one_more_then : (context : RunContext) (t : List ℕ) (n : ℕ) (w : World) (K L : Val → World → Type 0) → Follows context t (answered (incremented n) w) K → (K (number (pos (n + 1))) w → L (number (pos (n + 1))) w) →
+pub one_more_then : (context : RunContext) (t : List ℕ) (n : ℕ) (w : World) (K L : Val → World → Type 0) →
+    Follows context t (answered (incremented n) w) K → (K (number (pos (n + 1))) w → L (number (pos (n + 1))) w) →
     Follows context t (answered (added (number (pos n)) (number (pos 1))) w) L
 one_more_then context t n w K L h k = counted_by context t (pos (n + 1)) _ w K L h k
 

@@ -52,7 +52,8 @@ fits_start : (b : Bed) (out : List ℕ) (heard : Bool) (w : World) → Fits (bas
 fits_start air out heard w = (refl, refl, refl)
 fits_start (inside x t ks) out heard w = inl (refl, refl, refl)
 
-stands_start : (id : StreamId) (b : Bed) (out : List ℕ) (heard : Bool) (w : World) → Stands (base_of heard (captures_of b out) w) (new_run heard w) (spot_of id b out)
+stands_start : (id : StreamId) (b : Bed) (out : List ℕ) (heard : Bool) (w : World) →
+    Stands (base_of heard (captures_of b out) w) (new_run heard w) (spot_of id b out)
 stands_start id b out heard w = (refl, omega arith, fits_start b out heard w)
 
 module _ (p : Program) (trees : Trees) (compiled : IsCompiled trees p) where
@@ -64,7 +65,8 @@ module _ (p : Program) (trees : Trees) (compiled : IsCompiled trees p) where
   running heard b out w end = in_program (base_of heard (captures_of b out) w) end
 
   -- behind the last instruction all is closed, and the run is over
-  finishes : (id : StreamId) (heard : Bool) (b : Bed) (out : List ℕ) (w : World) (q : Option TemplateId) (x : List ℕ) (v : World) (end : Final) → Kept w v →
+  finishes : (id : StreamId) (heard : Bool) (b : Bed) (out : List ℕ) (w : World) (q : Option TemplateId) (x : List ℕ) (v : World)
+      (end : Final) → Kept w v →
       end ≡ final (told_by b x) (Finished (captures_of b x) v) →
       Go (running heard b out w end) (later (spot_of id b out) q x) (length (p.code id)) [] v
   finishes id heard b out w q x v end k e =
@@ -74,26 +76,33 @@ module _ (p : Program) (trees : Trees) (compiled : IsCompiled trees p) where
       let past : slice_get (p.code id) (length (p.code id)) ≡ None = slice_get_past (p.code id) (length (p.code id)) (omega arith) in
       let place : nat_eq (length (p.code id)) (length (p.code id)) ≡ true = eq-eqb (length (p.code id)) (length (p.code id)) refl in
       let captures : nat_eq (length (captures_of b out)) (length (captures_of b x)) ≡ true = eq-eqb _ _ (same_captures b out x) in
-      let scopes : nat_eq (length w.scopes.frames) (length v.scopes.frames) ≡ true = eq-eqb (length w.scopes.frames) (length v.scopes.frames) (sym (kept_frames k)) in
+      let scopes : nat_eq (length w.scopes.frames) (length v.scopes.frames) ≡ true = eq-eqb (length w.scopes.frames)
+      (length v.scopes.frames) (sym (kept_frames k)) in
       let ends : finish (length (p.code id)) f c ≡ Over (Finished (captures_of b x) v) = rw (place, captures, scopes) refl in
       is_over (ap (λ o. act p f o c) past ∙ ends) e
 
   -- where a loop that isn't there is left, or goes on
   abbrev Stops : RunContext → Bed → Then
-  Stops context b q x v = Follows context (told_by b x) (tick v) (λ _ world1. context.final ≡ final (told_by b x) (Finished (captures_of b x) world1))
+  Stops context b q x v = Follows context (told_by b x) (tick v) (λ _ world1. context.final ≡ final (told_by b x)
+      (Finished (captures_of b x) world1))
 
-  stopped_by : (context : RunContext) (b : Bed) (q : Option TemplateId) (x : List ℕ) (v : World) (e : Ending) (m : Res (Unit {0})) → context.final ≡ end_of b (done_by m (whole_of e q x v)) →
+  stopped_by : (context : RunContext) (b : Bed) (q : Option TemplateId) (x : List ℕ) (v : World) (e : Ending) (m : Res (Unit {0})) →
+      context.final ≡ end_of b (done_by m (whole_of e q x v)) →
       Follows context (told_by b x) m (λ _ world1. context.final ≡ final (told_by b x) (Finished (captures_of b x) world1))
   stopped_by context b q x v e (Good _ world1) is = is
   stopped_by context b q x v e (Bad chain world1) is = is
 
-  end_then : (id : StreamId) (heard : Bool) (b : Bed) (out : List ℕ) (w : World) (e : Ending) (q : Option TemplateId) (x : List ℕ) (v : World) → EndingKeeps p.host w e v →
+  end_then : (id : StreamId) (heard : Bool) (b : Bed) (out : List ℕ) (w : World) (e : Ending) (q : Option TemplateId) (x : List ℕ)
+      (v : World) → EndingKeeps p.host w e v →
       let context = running heard b out w (end_of b (at_end e (whole_of e q x v))) in
-      Ends context b (whole_of e q x v) (λ q1 x1 v1. Go context (later (spot_of id b out) q1 x1) (length (p.code id)) [] v1) (Stops context b) (Stops context b)
+      Ends context b (whole_of e q x v) (λ q1 x1 v1. Go context (later (spot_of id b out) q1 x1) (length (p.code id)) [] v1)
+      (Stops context b) (Stops context b)
   unfolding Ends
   end_then id heard b out w done q x v k = finishes id heard b out w q x v _ k refl
-  end_then id heard b out w leave q x v k = stopped_by (running heard b out w (end_of b (at_end leave (whole_of leave q x v)))) b q x v leave (tick v) refl
-  end_then id heard b out w next q x v k = stopped_by (running heard b out w (end_of b (at_end next (whole_of next q x v)))) b q x v next (tick v) refl
+  end_then id heard b out w leave q x v k = stopped_by (running heard b out w (end_of b (at_end leave (whole_of leave q x v)))) b q x v
+      leave (tick v) refl
+  end_then id heard b out w next q x v k = stopped_by (running heard b out w (end_of b (at_end next (whole_of next q x v)))) b q x v next
+      (tick v) refl
   end_then id heard b out w (fault chain) q x v k = refl
 
   -- the code of a stream, and that it stands there
@@ -110,12 +119,16 @@ module _ (p : Program) (trees : Trees) (compiled : IsCompiled trees p) where
   all_match : (id : StreamId) (m : ℕ) → Both (p.code id) (slice_get (loops_in 0 (trees id).row) m) (slice_get (loop_places 0 (p.code id)) m)
   all_match id m =
       let row = (trees id).row in
-      match_at (p.code id) _ _ m (subst (λ c. Match (p.code id) (loops_in 0 row) (loop_places 0 c)) (sym (coded id)) (statements_begin [] 0 row (p.code id) (whole_labels (code_at id)) 0 (stands_at id) refl).found)
+      match_at (p.code id) _ _ m (subst (λ c. Match (p.code id) (loops_in 0 row) (loop_places 0 c)) (sym (coded id))
+      (statements_begin [] 0 row (p.code id) (whole_labels (code_at id)) 0 (stands_at id) refl).found)
 
-  -- Loops that are called come behind their calls. Level zero isn't reached: each call opens a scope within the limit, and there is one level more than the limit.
+  -- Loops that are called come behind their calls. Level zero isn't reached: each call opens a scope within the limit, and there is one
+  -- level more than the limit.
   again_runs : (f : Base) (end : Final) (n : ℕ) →
       AllNested p trees n →
-      (id : StreamId) (level : ℕ) → CalledInPlace (in_program f end) n id level (again_of p.host (nests_of p.host trees n) (trees id) level) × CalledAsValue (in_program f end) n id level (again_of p.host (nests_of p.host trees n) (trees id) level)
+      (id : StreamId) (level : ℕ) → CalledInPlace (in_program f end) n id level
+      (again_of p.host (nests_of p.host trees n) (trees id) level) × CalledAsValue (in_program f end) n id level
+      (again_of p.host (nests_of p.host trees n) (trees id) level)
   again_runs f end n below id zero = (
     λ m items run s pc stack old w0 w D L N d h g. absurd (none_left (in_program f end) n w d.0),
     λ m items run s pc stack old w0 w K d h g. absurd (none_left (in_program f end) n w d.0),
@@ -139,13 +152,18 @@ module _ (p : Program) (trees : Trees) (compiled : IsCompiled trees p) where
         called_as_value = lower.1;
       } in (
         λ m items run s pc stack old w0 w D L N d h g.
-            subst (λ q. LeadsToEnd context (told s) (recursion p (cfg s pc old w0) false stack (captures_of s.bed s.out) m (slice_get (loop_places 0 (p.code q)) m) items w)) (sym d.2)
-            (recursed_in_place setting (slice_get (loops_in 0 (trees id).row) m) (slice_get (loop_places 0 (p.code id)) m) (all_match id m) m items run s pc stack old w0 w D L N d h g),
+            subst (λ q. LeadsToEnd context (told s) (recursion p (cfg s pc old w0) false stack (captures_of s.bed s.out) m
+            (slice_get (loop_places 0 (p.code q)) m) items w)) (sym d.2)
+            (recursed_in_place setting (slice_get (loops_in 0 (trees id).row) m) (slice_get (loop_places 0 (p.code id)) m)
+            (all_match id m) m items run s pc stack old w0 w D L N d h g),
         λ m items run s pc stack old w0 w K d h g.
             let o = again_of p.host nests (trees id) (suc level) m items (capturing true run) [] w in
-            subst (λ q. LeadsToEnd context (told s) (recursion p (cfg s pc old w0) true stack (new_capture true ∷ captures_of s.bed s.out) m (slice_get (loop_places 0 (p.code q)) m) items w)) (sym d.2)
-            (recursed_as_value setting (slice_get (loops_in 0 (trees id).row) m) (slice_get (loop_places 0 (p.code id)) m) (all_match id m) m items run s pc stack old w0 w
-            (λ q out1 x. K (captured_text out1 x) x) d (text_ends setting s o.ending o.parent o.text o.world K h) (λ q out1 x e. g (captured_text out1 x) x e)),
+            subst (λ q. LeadsToEnd context (told s) (recursion p (cfg s pc old w0) true stack (new_capture true ∷ captures_of s.bed s.out) m
+            (slice_get (loop_places 0 (p.code q)) m) items w)) (sym d.2)
+            (recursed_as_value setting (slice_get (loops_in 0 (trees id).row) m) (slice_get (loop_places 0 (p.code id)) m)
+            (all_match id m) m items run s pc stack old w0 w
+            (λ q out1 x. K (captured_text out1 x) x) d (text_ends setting s o.ending o.parent o.text o.world K h)
+            (λ q out1 x e. g (captured_text out1 x) x e)),
       )
 
   -- A stream's run comes to what its tree means, where what nests does so a level below.
@@ -164,13 +182,17 @@ module _ (p : Program) (trees : Trees) (compiled : IsCompiled trees p) where
       let c = code_at id in
       let stop = beyond 0 c in
       let size : stop ≡ length (p.code id) = beyond_is (whole_labels c) 0 c ∙ ap (λ is. 0 + length is) (sym (coded id)) ∙ omega arith in
-      let ends = end_then id heard b out w o.ending o.parent o.text o.world (ends_as _ w o (execs_end u (nests_end p.host trees n) kept_again 0 (trees id).row (new_run heard w) out w)) in
-      let placed = ends_map context b o _ (λ q x v. Go context (later s q x) stop [] v) (Stops context b) (Stops context b) ends (λ q x v g. move context (later s q x) _ _ [] v size g) in
-      let stops : (q : Option TemplateId) (x : List ℕ) (v : World) (pc : ℕ) → Kept w v → Unit {0} → slice_get (p.code id) pc ≡ Some (i.Jump stop) → Stops context b q x v → Go context (later s q x) pc [] v =
+      let ends = end_then id heard b out w o.ending o.parent o.text o.world
+      (ends_as _ w o (execs_end u (nests_end p.host trees n) kept_again 0 (trees id).row (new_run heard w) out w)) in
+      let placed = ends_map context b o _ (λ q x v. Go context (later s q x) stop [] v) (Stops context b) (Stops context b) ends
+      (λ q x v g. move context (later s q x) _ _ [] v size g) in
+      let stops : (q : Option TemplateId) (x : List ℕ) (v : World) (pc : ℕ) → Kept w v → Unit {0} →
+      slice_get (p.code id) pc ≡ Some (i.Jump stop) → Stops context b q x v → Go context (later s q x) pc [] v =
       λ q x v pc kept none is l.
       at context (i.Jump stop) (later s q x) pc [] v is (after_then context (told_by b x) (tick v) _
       (follows_map_kept context (told_by b x) v (tick v) _ _ (tick_gives _ v) l (λ _ v1 k1 e.
-      silent context (told_by b x) _ (move context (later s q x) _ _ [] v1 size (finishes id heard b out w q x v1 context.final (kept_then kept k1) e))))) in
+      silent context (told_by b x) _ (move context (later s q x) _ _ [] v1 size
+      (finishes id heard b out w q x v1 context.final (kept_then kept k1) e))))) in
       let calls = again_runs context.base context.final n below id (p.host.limit + 1) in
       let setting : Setting = record {
         context = context;
@@ -184,24 +206,31 @@ module _ (p : Program) (trees : Trees) (compiled : IsCompiled trees p) where
         called_in_place = calls.0;
         called_as_value = calls.1;
       } in
-      stmts_run setting [] 0 (whole_labels c) row (new_run heard w) s 0 [] w (Stops context b) (Stops context b) (stands_start id b out heard w)
-      (record { nests = deep; scopes = omega arith; calls = omega arith; within_call = λ called. absurd (omega (arith, called)) }, stands_start id b out heard w, refl)
+      stmts_run setting [] 0 (whole_labels c) row (new_run heard w) s 0 [] w (Stops context b) (Stops context b)
+      (stands_start id b out heard w) (
+        record { nests = deep; scopes = omega arith; calls = omega arith; within_call = λ called. absurd (omega (arith, called)) },
+        stands_start id b out heard w,
+        refl,
+      )
       (stops, stops) (stands_at id) refl placed
 
-  -- What nests comes to what it means. Level zero isn't reached, since a run stands one level deeper than the one that needs it, within the limit.
+  -- What nests comes to what it means. Level zero isn't reached, since a run stands one level deeper than the one that needs it, within the
+  -- limit.
   nests_run : (n : ℕ) → AllNested p trees n
   nests_run zero k heard b out w deep within = absurd (omega (arith, deep, within))
   nests_run (suc n) (whole id) heard b out w deep within = stream_runs n id heard b out w deep (nests_run n)
 
   -- And so does any run that has levels enough, from any world, heard or not.
-  level_runs : (n : ℕ) (k : Callee) (heard : Bool) (b : Bed) (out : List ℕ) (w : World) → HasLevels p.host (suc n) w → Entered p k heard b out w (nests_of p.host trees (suc n) k heard out w)
+  level_runs : (n : ℕ) (k : Callee) (heard : Bool) (b : Bed) (out : List ℕ) (w : World) → HasLevels p.host (suc n) w →
+      Entered p k heard b out w (nests_of p.host trees (suc n) k heard out w)
   level_runs n (whole id) heard b out w deep = stream_runs n id heard b out w deep (nests_run n)
 
   -- A render's run comes to what its trees mean, heard by the writer or by captures.
   pub render_runs : (b : Bed) (w : World) → Entered p (whole w.stream) true b [] w (rendered p.host trees w)
   render_runs b w =
       let e : suc p.host.limit ≡ p.host.limit + 1 = omega arith in
-      subst (λ n. Entered p (whole w.stream) true b [] w (nests_of p.host trees n (whole w.stream) true [] w)) e (level_runs p.host.limit (whole w.stream) true b [] w (omega arith))
+      subst (λ n. Entered p (whole w.stream) true b [] w (nests_of p.host trees n (whole w.stream) true [] w)) e
+      (level_runs p.host.limit (whole w.stream) true b [] w (omega arith))
 
 -- ---------------------------------------------------------------- over any captures
 unheard_end : (e : Ending) (out : List ℕ) (w : World) → bed_end e air out w ≡ final out (end_by e [] w)
@@ -210,28 +239,34 @@ unheard_end leave out w = refl
 unheard_end next out w = refl
 unheard_end (fault chain) out w = refl
 
-captured_end : (e : Ending) (h : Bool) (told : List ℕ) (ks : List OpenCapture) (out : List ℕ) (w : World) → bed_end e (inside h told ks) out w ≡ final told (end_by e (record { heard = h; text = out } ∷ ks) w)
+captured_end : (e : Ending) (h : Bool) (told : List ℕ) (ks : List OpenCapture) (out : List ℕ) (w : World) →
+    bed_end e (inside h told ks) out w ≡ final told (end_by e (record { heard = h; text = out } ∷ ks) w)
 captured_end done h told ks out w = refl
 captured_end leave h told ks out w = refl
 captured_end next h told ks out w = refl
 captured_end (fault chain) h told ks out w = refl
 
-pub nested_comes_to_meaning : (trees : Trees) (p : Program) (n : ℕ) (k : Callee) (heard : Bool) (captures : List OpenCapture) (told : List ℕ) (w : World) → IsCompiled trees p → HasLevels p.host (suc n) w →
+pub nested_comes_to_meaning : (trees : Trees) (p : Program) (n : ℕ) (k : Callee) (heard : Bool) (captures : List OpenCapture)
+    (told : List ℕ) (w : World) → IsCompiled trees p → HasLevels p.host (suc n) w →
     RunsTo p k heard captures told w (final_in captures told (nests_of p.host trees (suc n) k heard (text_in captures told) w))
 nested_comes_to_meaning trees p n k heard [] told w compiled enough =
     let o = nests_of p.host trees (suc n) k heard told w in
-    subst (λ e. RunsTo p k heard [] told w e) (unheard_end o.ending o.text o.world) (level_runs p trees compiled n k heard air told w enough)
+    subst (λ e. RunsTo p k heard [] told w e) (unheard_end o.ending o.text o.world)
+    (level_runs p trees compiled n k heard air told w enough)
 nested_comes_to_meaning trees p n k heard (c ∷ ks) told w compiled enough =
     let o = nests_of p.host trees (suc n) k heard c.text w in
-    subst (λ e. RunsTo p k heard (c ∷ ks) told w e) (captured_end o.ending c.heard told ks o.text o.world) (level_runs p trees compiled n k heard (inside c.heard told ks) c.text w enough)
+    subst (λ e. RunsTo p k heard (c ∷ ks) told w e) (captured_end o.ending c.heard told ks o.text o.world)
+    (level_runs p trees compiled n k heard (inside c.heard told ks) c.text w enough)
 
 -- Fragment comes to one end, whatever the levels.
-pub same_with_levels : (host : HostValue) (trees : Trees) (n m : ℕ) (k : Callee) (heard : Bool) (out : List ℕ) (w : World) → HasLevels host (suc n) w → HasLevels host (suc m) w →
+pub same_with_levels : (host : HostValue) (trees : Trees) (n m : ℕ) (k : Callee) (heard : Bool) (out : List ℕ) (w : World) →
+    HasLevels host (suc n) w → HasLevels host (suc m) w →
     final_of (nests_of host trees (suc n) k heard out w) ≡ final_of (nests_of host trees (suc m) k heard out w)
 same_with_levels host trees n m k heard out w enough also =
     let p : Program = record { host = host; code = λ s. code_of (trees s) } in
     let compiled : IsCompiled trees p = λ s. refl in
-    one_end (nested_comes_to_meaning trees p n k heard [] out w compiled enough) (nested_comes_to_meaning trees p m k heard [] out w compiled also)
+    one_end (nested_comes_to_meaning trees p n k heard [] out w compiled enough)
+    (nested_comes_to_meaning trees p m k heard [] out w compiled also)
 
 -- ---------------------------------------------------------------- renders
 pub comes_to_meaning : (trees : Trees) (p : Program) (w : World) → IsCompiled trees p → Renders p w (final_of (rendered p.host trees w))
@@ -245,7 +280,8 @@ not_stuck_by leave w left e = cc
 not_stuck_by next w left e = cc
 not_stuck_by (fault chain) w left e = cc
 
-pub never_stuck : (trees : Trees) (p : Program) (w left : World) (got : List ℕ) → IsCompiled trees p → Renders p w (final got (Stuck left)) → ⊥
+pub never_stuck : (trees : Trees) (p : Program) (w left : World) (got : List ℕ) → IsCompiled trees p →
+    Renders p w (final got (Stuck left)) → ⊥
 never_stuck trees p w left got compiled reached =
     let o = rendered p.host trees w in
     not_stuck_by o.ending o.world left (ap (λ (f : Final). f.end) (one_end (comes_to_meaning trees p w compiled) reached))

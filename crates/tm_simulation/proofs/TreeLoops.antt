@@ -143,7 +143,9 @@ closed_loopless (an_escape ∷ os) = (refl, closed_loopless os)
 closed_loopless (a_capture ∷ os) = (refl, (refl, closed_loopless os))
 
 -- what stands behind the rounds of a loop that is called
-behind_exit : (all : List Instruction) (l : Labels) (end : ℕ) (os : List Opened) (other : Otherwise) → At all l end (after_loop_code os other) → HasAt all end (i.PopLoopFrame ∷ []) ⊎ HasAt all end (i.PushDidNotIterate ∷ i.PopLoopFrame ∷ [])
+behind_exit : (all : List Instruction) (l : Labels) (end : ℕ) (os : List Opened) (other : Otherwise) →
+    At all l end (after_loop_code os other) → HasAt all end (i.PopLoopFrame ∷ []) ⊎ HasAt all end
+    (i.PushDidNotIterate ∷ i.PopLoopFrame ∷ [])
 behind_exit all l end os no_else h = inl h
 behind_exit all l end os (otherwise _ body) h = inr h.0
 
@@ -174,11 +176,14 @@ abbrev pass_of : Option Expr → FoundLoop → List FoundLoop
 pass_of None l = []
 pass_of (Some c) l = record l { recursive = false } ∷ []
 
-pub iterable_begins : (at : ℕ) (t : AssignmentTarget) (e : Expr) (c : Option Expr) (l : FoundLoop) → Begins at (iterable_code t e c) (pass_of c l) (at + passes c)
-iterable_begins at t e None l = let none : at ≡ at + 0 = omega arith in subst (λ n. Begins at (expr_code e) [] n) none (none_begin at (expr_code e) (expr_loopless e))
+pub iterable_begins : (at : ℕ) (t : AssignmentTarget) (e : Expr) (c : Option Expr) (l : FoundLoop) →
+    Begins at (iterable_code t e c) (pass_of c l) (at + passes c)
+iterable_begins at t e None l = let none : at ≡ at + 0 = omega arith in subst (λ n. Begins at (expr_code e) [] n) none
+    (none_begin at (expr_code e) (expr_loopless e))
 iterable_begins at t e (Some c) l =
     after_none (straight _) (refl, tt) (after_none (expr_code e) (expr_loopless e)
-    (loop_begins {f = record l { recursive = false }} (λ all k pc is first. (refl, λ never. absurd (cc never))) (none_begin (at + 1) (pass_round t c) (pass_loopless t c)) (none_begin (at + 1) (straight _) (refl, (refl, tt)))))
+    (loop_begins {f = record l { recursive = false }} (λ all k pc is first. (refl, λ never. absurd (cc never)))
+    (none_begin (at + 1) (pass_round t c) (pass_loopless t c)) (none_begin (at + 1) (straight _) (refl, (refl, tt)))))
 
 with_pass_is : (c : Option Expr) (l : FoundLoop) (ls : List FoundLoop) → pass_of c l ++ l ∷ ls ≡ with_pass c l ls
 with_pass_is None l ls = refl
@@ -189,33 +194,44 @@ mutual
   statement_begins os at (EmitRaw t) = none_begin at (statement_code os (EmitRaw t)) (refl, tt)
   statement_begins os at (EmitExpr e) = none_begin at (statement_code os (EmitExpr e)) (expr_loopless e, (refl, tt))
   statement_begins os at (EmitLoop e) = none_begin at (statement_code os (EmitLoop e)) (expr_loopless e, (refl, tt))
-  statement_begins os at (If' c _ body other) = after_none (expr_code c) (expr_loopless c) (branches_begin os at (statements_code os body) (loops_in at body) (pasts at body) (statements_begin os at body) other)
+  statement_begins os at (If' c _ body other) = after_none (expr_code c) (expr_loopless c)
+      (branches_begin os at (statements_code os body) (loops_in at body) (pasts at body) (statements_begin os at body) other)
   statement_begins os at Break = none_begin at (statement_code os Break) (closed_loopless os, tt)
   statement_begins os at Continue = none_begin at (statement_code os Continue) (closed_loopless os, tt)
   statement_begins os at (Block' x _ body) = none_begin at (straight (i.CallBlock x ∷ [])) (refl, tt)
   statement_begins os at (Set t e) = none_begin at (set_code t e) (expr_loopless e, target_loopless t)
   statement_begins os at (SetBlock' t _ body) =
-      after_none (straight _) (refl, tt) (before_none (straight (i.EndCapture ∷ []) ⨾ target_code t) ((refl, tt), target_loopless t) (statements_begin (a_capture ∷ os) at body))
+      after_none (straight _) (refl, tt) (before_none (straight (i.EndCapture ∷ []) ⨾ target_code t) ((refl, tt), target_loopless t)
+      (statements_begin (a_capture ∷ os) at body))
   statement_begins os at (With' given _ body) =
-      after_none (straight _) (refl, tt) (after_none (assignments_code given) (assignments_loopless given) (before_none (straight (i.PopFrame ∷ [])) (refl, tt) (statements_begin (a_scope ∷ os) at body)))
+      after_none (straight _) (refl, tt) (after_none (assignments_code given) (assignments_loopless given)
+      (before_none (straight (i.PopFrame ∷ [])) (refl, tt) (statements_begin (a_scope ∷ os) at body)))
   statement_begins os at (Do e) = none_begin at (statement_code os (Do e)) (expr_loopless e, (refl, tt))
   statement_begins os at (AutoEscape' e _ body) =
-      after_none (expr_code e) (expr_loopless e) (after_none (straight _) (refl, tt) (before_none (straight (i.PopAutoEscape ∷ [])) (refl, tt) (statements_begin (an_escape ∷ os) at body)))
+      after_none (expr_code e) (expr_loopless e) (after_none (straight _) (refl, tt)
+      (before_none (straight (i.PopAutoEscape ∷ [])) (refl, tt) (statements_begin (an_escape ∷ os) at body)))
   statement_begins os at (For' t e c r n body other) =
       let l = found at c r t body in
       let m = within_loop c at in
       let rounds = after_none (target_code t) (target_loopless t) (statements_begin [] m body) in
-      subst (λ ls. Begins at (statement_code os (For' t e c r n body other)) ls (past at (For' t e c r n body other))) (with_pass_is c l (loops_in m body ++ loops_else (pasts m body) other))
-      (both_begin (iterable_begins at t e c l) (loop_begins (is_loop os at c r t body other) rounds (behind_loop_begins os (pasts m body) other)))
+      subst (λ ls. Begins at (statement_code os (For' t e c r n body other)) ls (past at (For' t e c r n body other)))
+      (with_pass_is c l (loops_in m body ++ loops_else (pasts m body) other))
+      (both_begin (iterable_begins at t e c l) (loop_begins (is_loop os at c r t body other) rounds
+      (behind_loop_begins os (pasts m body) other)))
 
-  pub statements_begin : {n : _} → (os : List Opened) (at : ℕ) (ss : Row_of-Stmt n) → Begins at (statements_code os ss) (loops_in at ss) (pasts at ss)
+  pub statements_begin : {n : _} → (os : List Opened) (at : ℕ) (ss : Row_of-Stmt n) →
+      Begins at (statements_code os ss) (loops_in at ss) (pasts at ss)
   statements_begin os at no_statement = none_begin at (straight []) tt
   statements_begin os at (statement s ss) = both_begin (statement_begins os at s) (statements_begin os (past at s) ss)
 
-  branches_begin : (os : List Opened) (at : ℕ) (first : Fragment) (ls : List FoundLoop) (m : ℕ) → Begins at first ls m → (other : Otherwise) → Begins at (branches_code os first other) (ls ++ loops_else m other) (past_else m other)
-  branches_begin os at first ls m f no_else = subst (λ ks. Begins at (branches_code os first no_else) ks m) (sym (append-nil ls)) (over_begins IfFalse f)
+  branches_begin : (os : List Opened) (at : ℕ) (first : Fragment) (ls : List FoundLoop) (m : ℕ) → Begins at first ls m →
+      (other : Otherwise) → Begins at (branches_code os first other) (ls ++ loops_else m other) (past_else m other)
+  branches_begin os at first ls m f no_else = subst (λ ks. Begins at (branches_code os first no_else) ks m) (sym (append-nil ls))
+      (over_begins IfFalse f)
   branches_begin os at first ls m f (otherwise _ eb) = either_begins f (statements_begin os m eb)
 
-  behind_loop_begins : (os : List Opened) (at : ℕ) (other : Otherwise) → Begins at (after_loop_code os other) (loops_else at other) (past_else at other)
+  behind_loop_begins : (os : List Opened) (at : ℕ) (other : Otherwise) → Begins at (after_loop_code os other) (loops_else at other)
+      (past_else at other)
   behind_loop_begins os at no_else = none_begin at (straight (i.PopLoopFrame ∷ [])) (refl, tt)
-  behind_loop_begins os at (otherwise _ body) = after_none (straight _) (refl, (refl, tt)) (over_begins IfFalse (statements_begin os at body))
+  behind_loop_begins os at (otherwise _ body) = after_none (straight _) (refl, (refl, tt))
+      (over_begins IfFalse (statements_begin os at body))

@@ -7,7 +7,8 @@ use Rattle.tm_meaning.specs.Machine.{Program, Capture, End, Finished, Failed, ba
 use Rattle.tm_meaning.specs.Steps.{Final, final, Reaches}
 
 -- ---------------------------------------------------------------- runs
--- A run of a callee, heard or not, over these open captures and what the writer has got by then, comes from its start in this world to this end.
+-- A run of a callee, heard or not, over these open captures and what the writer has got by then, comes from its start in this world to this
+-- end.
 abbrev pub RunsTo : Program → Callee → Bool → List Capture → List ℕ → World → Final → Type 0
 RunsTo p k heard captures told w end = Reaches p (base_of heard captures w) told (start k captures w) end
 
@@ -45,6 +46,7 @@ final_in captures told o = final (told_with captures told o.text) (end_by o.endi
 abbrev pub final_of : Outcome → Final
 final_of o = final_in [] [] o
 
--- So many levels of runs, one in the other, are enough from this world, since each stands a scope deeper and none beyond the limit. One more than the limit are from any world.
+-- So many levels of runs, one in the other, are enough from this world, since each stands a scope deeper and none beyond the limit. One
+-- more than the limit are from any world.
 abbrev pub HasLevels : HostValue → ℕ → World → Type 0
 HasLevels host n w = host.limit + 1 ≤ n + depth w.scopes

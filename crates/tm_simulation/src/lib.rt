@@ -1,4 +1,5 @@
-//! Proofs: the code of trees comes to what the trees mean. The functions here are laws: they run nothing, and their contracts say what is proved.
+//! Proofs: the code of trees comes to what the trees mean. The functions here are laws: they run
+//! nothing, and their contracts say what is proved.
 #![tactic(auto)]
 
 ghost use Rattle.std.specs.Prelude.{◌≡◌, ◌++◌, ℕ, suc, List, [], ◌∷◌, Bool, true, false};
@@ -25,7 +26,9 @@ pub fn code_comes_to_its_meaning()
         Renders p w (final_of (rendered p.host trees w)) }
 {}
 
-/// So does the code of a stream in any run of its own: heard or not, from any world, over any open captures and whatever the writer has got, where the levels are enough. Of the captures the innermost one's text alone changes.
+/// So does the code of a stream in any run of its own: heard or not, from any world, over any open
+/// captures and whatever the writer has got, where the levels are enough. Of the captures the
+/// innermost one's text alone changes.
 pub fn nested_code_comes_to_its_meaning()
     ensures { (trees : Trees) (p : Program) (n : ℕ) (k : Callee) (heard : Bool)
         (captures : List Capture) (told : List ℕ) (w : World) →

@@ -1,5 +1,6 @@
 -- Maps by name, whose keys lie in memory, against the pairs that contracts see.
-use Rattle.std.proofs.Common.{◌≡◌, ◌≢◌, ◌∙◌, ℕ, List, [], ◌∷◌, map, refl, sym, ap, Option, Some, None, MatchOption, Bor, Bool, true, false, cond}
+use Rattle.std.proofs.Common.{◌≡◌, ◌≢◌, ◌∙◌, ℕ, List, [], ◌∷◌, map, refl, sym, ap, Option, Some, None, MatchOption, Bor, Bool, true}
+use Rattle.std.proofs.Common.{false, cond}
 use Rattle.std.proofs.lemmas.Map.Text.{is_eq-slice_cmp}
 use Rattle.std.proofs.lemmas.Slice.Eq.{bytes_eq-Decides}
 use Rattle.std.specs.Option.{option_copied}
@@ -13,7 +14,8 @@ use Rattle.std.specs.BTreeMap.{insert_entry, is_at}
 use Rattle.std.specs.Map.{keys_of, lookup, remove_entry}
 use Rattle.tm_syntax.specs.Named.{Named, name_cmp, find, put, without, named_of}
 
-map_match_ordering : {A B : Type 0} (f : A → B) (o : Ordering) (x y z : List A) → map f (match_ordering o x y z) ≡ match_ordering o (map f x) (map f y) (map f z)
+map_match_ordering : {A B : Type 0} (f : A → B) (o : Ordering) (x y z : List A) →
+    map f (match_ordering o x y z) ≡ match_ordering o (map f x) (map f y) (map f z)
 map_match_ordering f Less x y z = refl
 map_match_ordering f Equal x y z = refl
 map_match_ordering f Greater x y z = refl

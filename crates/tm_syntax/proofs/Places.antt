@@ -1,5 +1,6 @@
 -- Where loops begin in code: in order, within it, and as many before a place as are counted.
-use Rattle.std.proofs.Common.{◌≡◌, ◌≤◌, ◌<◌, ◌+◌, ◌-◌, ◌++◌, ℕ, zero, suc, List, [], ◌∷◌, length, get_or, drop, append_assoc, Option, Some, None, Bool, true, false, ltb, refl, sym, ap, subst, ◌∙◌, arith, slice_get}
+use Rattle.std.proofs.Common.{◌≡◌, ◌≤◌, ◌<◌, ◌+◌, ◌-◌, ◌++◌, ℕ, zero, suc, List, [], ◌∷◌, length, get_or, drop, append_assoc, Option}
+use Rattle.std.proofs.Common.{Some, None, Bool, true, false, ltb, refl, sym, ap, subst, ◌∙◌, arith, slice_get}
 use Rattle.std.proofs.Math.Seq.{drop-cons}
 use Rattle.std.proofs.lemmas.Bool.Decides.{nat_tests}
 use Rattle.std.proofs.lemmas.List.Sums.{prefix_len_is}
@@ -36,7 +37,8 @@ first_rises (Some flags) pc ls later rise (suc i) (suc j) d below h = rise i j d
 -- the places rise
 in_order : (pc : ℕ) (is : List Instruction) → Rise (loop_places pc is)
 in_order pc [] i j d below h = absurd (omega (arith, h))
-in_order pc (x ∷ is) i j d below h = first_rises (begins x) pc (loop_places (pc + 1) is) (not_before (pc + 1) is) (in_order (pc + 1) is) i j d below h
+in_order pc (x ∷ is) i j d below h = first_rises (begins x) pc (loop_places (pc + 1) is) (not_before (pc + 1) is) (in_order (pc + 1) is) i
+    j d below h
 
 pub made_in_order : (is : List Instruction) (ls : List LoopPlace) → ls ≡ loop_places 0 is → Rise ls
 made_in_order is ls same i j d below h = subst Rise (sym same) (in_order 0 is) i j d below h
@@ -49,7 +51,8 @@ none_below : (b : Option LoopFlags) (m pc : ℕ) (ls : List LoopPlace) → m ≤
 none_below None m pc ls h e = e
 none_below (Some flags) m pc ls h e = let no : ltb pc m ≡ false = grind (arith, nat_tests) in rw no refl
 
-one_below : (b : Option LoopFlags) (m pc n : ℕ) (ls : List LoopPlace) → pc < m → below m ls ≡ n → below m (with_place b pc ls) ≡ one_more_loop b n
+one_below : (b : Option LoopFlags) (m pc n : ℕ) (ls : List LoopPlace) → pc < m → below m ls ≡ n →
+    below m (with_place b pc ls) ≡ one_more_loop b n
 one_below None m pc n ls h e = e
 one_below (Some flags) m pc n ls h e = let yes : ltb pc m ≡ true = grind (arith, nat_tests) in rw (yes, e) (omega arith)
 
@@ -57,7 +60,8 @@ counted_none : (n : ℕ) → loops_before n [] ≡ 0
 counted_none zero = refl
 counted_none (suc n) = refl
 
-counted_first : (n m pc : ℕ) (x : Instruction) (is : List Instruction) → m - pc ≡ n → below m (loop_places (pc + 1) is) ≡ loops_before (m - (pc + 1)) is →
+counted_first : (n m pc : ℕ) (x : Instruction) (is : List Instruction) → m - pc ≡ n →
+    below m (loop_places (pc + 1) is) ≡ loops_before (m - (pc + 1)) is →
     below m (with_place (begins x) pc (loop_places (pc + 1) is)) ≡ loops_before n (x ∷ is)
 counted_first zero m pc x is e later =
     let none : m - (pc + 1) ≡ 0 = omega (arith, e) in
@@ -78,16 +82,19 @@ no_loop = record { place = 0; flags = record { variable = false; recursive = fal
 pub numbered : (is : List Instruction) (ls : List LoopPlace) (m i : ℕ) → ls ≡ loop_places 0 is → i ≤ length ls →
     IsPartitionPoint (λ (l : LoopPlace). ltb l.place m ≡ true) (λ (l : LoopPlace). ltb l.place m ≡ false) ls i → i ≡ loops_before m is
 numbered is ls m i same bound point =
-    let first = prefix_len_is (λ (l : LoopPlace). ltb l.place m) ls i no_loop bound (λ k h. point.0 k no_loop (omega arith) h) (λ h. point.1 i no_loop (omega arith) h) in
+    let first = prefix_len_is (λ (l : LoopPlace). ltb l.place m) ls i no_loop bound (λ k h. point.0 k no_loop (omega arith) h)
+    (λ h. point.1 i no_loop (omega arith) h) in
     let whole : m - 0 ≡ m = omega arith in
     sym first ∙ ap (below m) same ∙ counted 0 m is ∙ ap (λ k. loops_before k is) whole
 
 -- ---------------------------------------------------------------- places
-first_within : (b : Option LoopFlags) (pc size : ℕ) (ls : List LoopPlace) → ((n : ℕ) (l : LoopPlace) → slice_get ls n ≡ Some l → l.place < pc + 1 + size) →
+first_within : (b : Option LoopFlags) (pc size : ℕ) (ls : List LoopPlace) →
+    ((n : ℕ) (l : LoopPlace) → slice_get ls n ≡ Some l → l.place < pc + 1 + size) →
     (n : ℕ) (l : LoopPlace) → slice_get (with_place b pc ls) n ≡ Some l → l.place < pc + (size + 1)
 first_within None pc size ls later n l e = let h = later n l e in omega (arith, h)
 first_within (Some flags) pc size ls later zero l e =
-    let same : l ≡ record { place = pc; flags = flags } = cc in subst (λ (k : LoopPlace). k.place < pc + (size + 1)) (sym same) (omega arith)
+    let same : l ≡ record { place = pc; flags = flags } = cc in subst (λ (k : LoopPlace). k.place < pc + (size + 1)) (sym same)
+    (omega arith)
 first_within (Some flags) pc size ls later (suc n) l e = let h = later n l e in omega (arith, h)
 
 -- where a loop begins there is an instruction
@@ -102,15 +109,18 @@ there_at (k ∷ ls) zero l d h e = ap Some (sym e)
 there_at (k ∷ ls) (suc n) l d h e = there_at ls n l d (omega (arith, h)) e
 
 -- a loop's place that was read
-pub read_at : (ls all : List LoopPlace) (n : ℕ) (l d : LoopPlace) → ls ≡ all → true ≡ ltb n (length ls) → l ≡ get_or ls n d → slice_get all n ≡ Some l
+pub read_at : (ls all : List LoopPlace) (n : ℕ) (l d : LoopPlace) → ls ≡ all → true ≡ ltb n (length ls) → l ≡ get_or ls n d →
+    slice_get all n ≡ Some l
 read_at ls all n l d same h e = ap (λ ks. slice_get ks n) (sym same) ∙ there_at ls n l d (grind (arith, nat_tests, sym h)) e
 
 -- what stands at a place of code begins a loop there, or none
-pub found_then : (ps all : List LoopPlace) (k : ℕ) (is : List Instruction) (x : Instruction) → k < length is → x ≡ get_or is k x → ps ++ loop_places k (drop k is) ≡ all →
+pub found_then : (ps all : List LoopPlace) (k : ℕ) (is : List Instruction) (x : Instruction) → k < length is → x ≡ get_or is k x →
+    ps ++ loop_places k (drop k is) ≡ all →
     ps ++ with_place (begins x) k (loop_places (k + 1) (drop (k + 1) is)) ≡ all
 found_then ps all k is x h same e =
     let next : suc k ≡ k + 1 = omega arith in
-    let there : drop k is ≡ x ∷ drop (k + 1) is = drop-cons is k x h ∙ ap (λ y. y ∷ drop (suc k) is) (sym same) ∙ ap (λ n. x ∷ drop n is) next in
+    let there : drop k is ≡ x ∷ drop (k + 1) is = drop-cons is k x h ∙ ap (λ y. y ∷ drop (suc k) is) (sym same) ∙ ap (λ n. x ∷ drop n is)
+    next in
     ap (λ rest. ps ++ loop_places k rest) (sym there) ∙ e
 
 pub one_found : (ps all : List LoopPlace) (l : LoopPlace) (rest : List LoopPlace) → ps ++ l ∷ rest ≡ all → (ps ++ l ∷ []) ++ rest ≡ all

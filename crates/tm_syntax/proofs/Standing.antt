@@ -21,7 +21,8 @@ At all l pc (c ⨾ d) = At all l pc c × At all l (beyond pc c) d
 At all l pc (jump_out j) = slice_get all pc ≡ Some (jump j l.out)
 At all l pc (bounded c) = At all (outward (beyond pc c) l) pc c
 At all l pc (fork c d) =
-    At all (outward (beyond pc c + 1) l) pc c × (slice_get all (beyond pc c) ≡ Some (i.Jump (beyond (beyond pc c + 1) d))) × At all l (beyond pc c + 1) d
+    At all (outward (beyond pc c + 1) l) pc c × (slice_get all (beyond pc c) ≡ Some (i.Jump (beyond (beyond pc c + 1) d))) × At all l
+    (beyond pc c + 1) d
 At all l pc (looped g c d) =
     (slice_get all pc ≡ Some (i.PushLoop g)) × (slice_get all (pc + 1) ≡ Some (i.Iterate (beyond (pc + 1 + 1) c + 1)))
     × At all (inward (pc + 1) (beyond (pc + 1 + 1) c + 1) l) (pc + 1 + 1) c
@@ -69,10 +70,12 @@ has_behind all pc (i ∷ a) b h =
     let e : pc + 1 + length a ≡ pc + length (i ∷ a) = omega arith in
     subst (λ n. HasAt all n b) e (has_behind all (pc + 1) a b h.1)
 
-stands_front : (all : List Instruction) (l : Labels) (pc : ℕ) (c : Fragment) (b : List Instruction) → HasAt all pc (assemble l pc c ++ b) → HasAt all pc (assemble l pc c)
+stands_front : (all : List Instruction) (l : Labels) (pc : ℕ) (c : Fragment) (b : List Instruction) →
+    HasAt all pc (assemble l pc c ++ b) → HasAt all pc (assemble l pc c)
 stands_front all l pc c b h = has_front all pc (assemble l pc c) b h
 
-stands_behind : (all : List Instruction) (l : Labels) (pc : ℕ) (c : Fragment) (b : List Instruction) → HasAt all pc (assemble l pc c ++ b) → HasAt all (beyond pc c) b
+stands_behind : (all : List Instruction) (l : Labels) (pc : ℕ) (c : Fragment) (b : List Instruction) →
+    HasAt all pc (assemble l pc c ++ b) → HasAt all (beyond pc c) b
 stands_behind all l pc c b h = subst (λ n. HasAt all n b) (sym (beyond_is l pc c)) (has_behind all pc (assemble l pc c) b h)
 
 pub stands : (all : List Instruction) (l : Labels) (pc : ℕ) (c : Fragment) → HasAt all pc (assemble l pc c) → At all l pc c

@@ -13,7 +13,8 @@ use Rattle.tm_syntax.specs.declared.tree.Expr.{end_of-Step as no_step, more_of-S
 use Rattle.tm_syntax.specs.declared.tree.Expr.{end_of-Condition as no_condition}
 use Rattle.tm_syntax.specs.declared.tree.Argument.{Argument}
 use Rattle.tm_syntax.specs.declared.tree.Step.{Step, Attribute, Method', Row_of-Comparison, end_of-Comparison as no_comparison}
-use Rattle.tm_syntax.specs.declared.tree.AssignmentTarget.{AssignmentTarget, Name as To, Unpack' as Items, Attribute as Member, Row_of-AssignmentTarget}
+use Rattle.tm_syntax.specs.declared.tree.AssignmentTarget.{AssignmentTarget, Name as To, Unpack' as Items, Attribute as Member}
+use Rattle.tm_syntax.specs.declared.tree.AssignmentTarget.{Row_of-AssignmentTarget}
 use Rattle.tm_syntax.specs.declared.tree.AssignmentTarget.{end_of-AssignmentTarget as no_target, more_of-AssignmentTarget as target}
 use Rattle.tm_syntax.specs.declared.tree.Assignment.{Assignment}
 use Rattle.tm_syntax.specs.declared.tree.Stmt.{Stmt, EmitRaw, EmitExpr, EmitLoop, If', For', Break, Continue, Block', Set, SetBlock'}
@@ -85,7 +86,8 @@ abbrev mutual
   expr_code (List' _ es) = exprs_code es ⨾ straight (i.BuildList (Some (count_exprs es)) ∷ [])
   expr_code (Tuple' _ es) = exprs_code es ⨾ straight (i.BuildTuple (count_exprs es) ∷ [])
   expr_code (Map' _ ps) = pairs_code ps ⨾ straight (i.BuildMap (count_pairs ps) ∷ [])
-  expr_code (Call' f _ given _ named) = arguments_code given ⨾ named_code named ⨾ straight (i.CallFunction f (count given + together named) ∷ [])
+  expr_code (Call' f _ given _ named) = arguments_code given ⨾ named_code named ⨾ straight
+      (i.CallFunction f (count given + together named) ∷ [])
   expr_code (unary op a) = expr_code a ⨾ straight (unary_code op ∷ [])
   expr_code (chained a _ ss) = expr_code a ⨾ steps_code ss
   expr_code (conditional a _ cs) = conditions_code cs (expr_code a)
@@ -118,12 +120,14 @@ abbrev mutual
   pub named_code : {n : _} → Row_of-Keyword n → Fragment
   named_code no_keyword = straight []
   named_code (with_keyword x a more) =
-      straight (i.LoadConst (text x false) ∷ []) ⨾ expr_code a ⨾ keywords_code more ⨾ straight (i.BuildKwargs (count_keywords more + 1) ∷ [])
+      straight (i.LoadConst (text x false) ∷ []) ⨾ expr_code a ⨾ keywords_code more ⨾ straight
+      (i.BuildKwargs (count_keywords more + 1) ∷ [])
 
   pub step_code : Step → Fragment
   step_code (Attribute x) = straight (i.GetAttr x ∷ [])
   step_code (item a) = expr_code a ⨾ straight (i.GetItem ∷ [])
-  step_code (Method' x _ given _ named) = arguments_code given ⨾ named_code named ⨾ straight (i.CallMethod x (count given + together named + 1) ∷ [])
+  step_code (Method' x _ given _ named) = arguments_code given ⨾ named_code named ⨾ straight
+      (i.CallMethod x (count given + together named + 1) ∷ [])
   step_code (slice a b c) = expr_code a ⨾ expr_code b ⨾ expr_code c ⨾ straight (i.Slice ∷ [])
   step_code (binary op a) = expr_code a ⨾ straight (binary_code op)
   step_code (compare op a _ cs) = expr_code a ⨾ fork (links_code op cs) drop_right
@@ -133,7 +137,8 @@ abbrev mutual
   -- A comparison and those after it: each but the last leaves its right side below its answer, and jumps out where that is false.
   pub links_code : {n : _} → BinaryOperator → Row_of-Comparison n → Fragment
   links_code op no_comparison = straight (binary_code op)
-  links_code op (with_comparison op1 a more) = straight (i.CompareAndPreserve op ∷ []) ⨾ jump_out IfFalseOrPop ⨾ expr_code a ⨾ links_code op1 more
+  links_code op (with_comparison op1 a more) = straight
+      (i.CompareAndPreserve op ∷ []) ⨾ jump_out IfFalseOrPop ⨾ expr_code a ⨾ links_code op1 more
 
   pub steps_code : {n : _} → Row_of-Step n → Fragment
   steps_code no_step = straight []
@@ -194,7 +199,8 @@ pass_round t c = straight (i.DupTop ∷ []) ⨾ target_code t ⨾ expr_code c �
 abbrev pub iterable_code : AssignmentTarget → Expr → Option Expr → Fragment
 iterable_code t e None = expr_code e
 iterable_code t e (Some c) =
-    straight (i.LoadConst (number (pos 0)) ∷ []) ⨾ expr_code e ⨾ looped pass_flags (pass_round t c) (straight (i.PopLoopFrame ∷ i.BuildList None ∷ []))
+    straight (i.LoadConst (number (pos 0)) ∷ []) ⨾ expr_code e ⨾ looped pass_flags (pass_round t c)
+    (straight (i.PopLoopFrame ∷ i.BuildList None ∷ []))
 
 -- in a loop's body, where these were opened since it began, innermost first
 abbrev mutual
@@ -209,10 +215,13 @@ abbrev mutual
   statement_code os Continue = straight (close_all os) ⨾ next_round
   statement_code os (Block' x _ body) = straight (i.CallBlock x ∷ [])
   statement_code os (Set t e) = set_code t e
-  statement_code os (SetBlock' t _ body) = straight (i.BeginCapture Capture ∷ []) ⨾ statements_code (a_capture ∷ os) body ⨾ straight (i.EndCapture ∷ []) ⨾ target_code t
-  statement_code os (With' given _ body) = straight (i.PushWith ∷ []) ⨾ assignments_code given ⨾ statements_code (a_scope ∷ os) body ⨾ straight (i.PopFrame ∷ [])
+  statement_code os (SetBlock' t _ body) = straight (i.BeginCapture Capture ∷ []) ⨾ statements_code (a_capture ∷ os) body ⨾ straight
+      (i.EndCapture ∷ []) ⨾ target_code t
+  statement_code os (With' given _ body) = straight (i.PushWith ∷ []) ⨾ assignments_code given ⨾ statements_code
+      (a_scope ∷ os) body ⨾ straight (i.PopFrame ∷ [])
   statement_code os (Do e) = expr_code e ⨾ straight (i.DiscardTop ∷ [])
-  statement_code os (AutoEscape' e _ body) = expr_code e ⨾ straight (i.PushAutoEscape ∷ []) ⨾ statements_code (an_escape ∷ os) body ⨾ straight (i.PopAutoEscape ∷ [])
+  statement_code os (AutoEscape' e _ body) = expr_code e ⨾ straight (i.PushAutoEscape ∷ []) ⨾ statements_code
+      (an_escape ∷ os) body ⨾ straight (i.PopAutoEscape ∷ [])
 
   pub statements_code : {n : _} → List Opened → Row_of-Stmt n → Fragment
   statements_code os no_statement = straight []

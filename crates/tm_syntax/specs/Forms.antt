@@ -16,7 +16,8 @@ unary op a = Unary' op tt (more_of-Expr a end_of-Expr)
 pattern abbrev pub chained : Expr → (n : (items.the_former (this {0})).Shape) → Row_of-Step (arity (items.the_former (this {0})) n) → Expr
 chained a n ss = Chain' tt (more_of-Expr a end_of-Expr) n ss
 
-pattern abbrev pub conditional : Expr → (n : (items.the_former (this {0})).Shape) → Row_of-Condition (arity (items.the_former (this {0})) n) → Expr
+pattern abbrev pub conditional : Expr → (n : (items.the_former (this {0})).Shape) →
+    Row_of-Condition (arity (items.the_former (this {0})) n) → Expr
 conditional a n cs = Conditional' tt (more_of-Expr a end_of-Expr) n cs
 
 pattern abbrev pub with_condition : {n : _} → Expr → Expr → Row_of-Condition n → Row_of-Condition (one_more n)
@@ -43,7 +44,8 @@ slice a b c = Slice' tt (more_of-Expr a end_of-Expr) tt (more_of-Expr b end_of-E
 pattern abbrev pub binary : BinaryOperator → Expr → Step
 binary op a = Binary' op tt (more_of-Expr a end_of-Expr)
 
-pattern abbrev pub compare : BinaryOperator → Expr → (n : (items.the_former (this {0})).Shape) → Row_of-Comparison (arity (items.the_former (this {0})) n) → Step
+pattern abbrev pub compare : BinaryOperator → Expr → (n : (items.the_former (this {0})).Shape) →
+    Row_of-Comparison (arity (items.the_former (this {0})) n) → Step
 compare op a n cs = Compare' op tt (more_of-Expr a end_of-Expr) n cs
 
 pattern abbrev pub and_then : Expr → Step

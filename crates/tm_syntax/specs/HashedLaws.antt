@@ -20,8 +20,10 @@ behind_equal Greater second e = absurd (true≢false (ap is_gt e))
 
 pub hashed_ties : (x y : List ℕ) → pointwise nat_eq x y ≡ eq_by_cmp hashed_cmp x y
 hashed_ties x y =
-    let alike : pointwise nat_eq x y ≡ true → hashed_cmp x y ≡ Equal = λ same. subst (λ z. hashed_cmp x z ≡ Equal) ((bytes_decides x y).0 same) (tied_itself hashed_total x) in
-    let told : hashed_cmp x y ≡ Equal → pointwise nat_eq x y ≡ true = λ e. texts_ties x y ∙ ap is_eq (behind_equal (nat_cmp (hash_of x) (hash_of y)) (name_cmp x y) e) in
+    let alike : pointwise nat_eq x y ≡ true → hashed_cmp x y ≡ Equal = λ same. subst (λ z. hashed_cmp x z ≡ Equal)
+    ((bytes_decides x y).0 same) (tied_itself hashed_total x) in
+    let told : hashed_cmp x y ≡ Equal → pointwise nat_eq x y ≡ true = λ e. texts_ties x y ∙ ap is_eq
+    (behind_equal (nat_cmp (hash_of x) (hash_of y)) (name_cmp x y) e) in
     one_answer (pointwise nat_eq x y) (eq_by_cmp hashed_cmp x y) (alike, told) (Equal-is (hashed_cmp x y))
 
 pub hashed_po : IsPartialOrder (pointwise nat_eq) (λ x y. Some (hashed_cmp x y))

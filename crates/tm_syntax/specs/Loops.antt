@@ -1,4 +1,5 @@
--- Loops by their numbers: in the order of the source, in their own stream, where the pass that takes the items of a condition counts as a loop before its own.
+-- Loops by their numbers: in the order of the source, in their own stream, where the pass that takes the items of a condition counts as a
+-- loop before its own.
 use Rattle.std.specs.Prelude.{ℕ, zero, suc, ◌+◌, List, [], ◌∷◌, ◌++◌, Option, Some, None, Bool, false}
 use Rattle.tm_syntax.specs.declared.instruction.Instruction.{Instruction}
 use Rattle.tm_syntax.specs.declared.instruction.Instruction.TheVariants as i
@@ -7,7 +8,9 @@ pub use Rattle.tm_syntax.specs.declared.instruction.LoopPlace.{LoopPlace}
 use Rattle.tm_syntax.specs.declared.tree.Expr.{Expr}
 use Rattle.tm_syntax.specs.declared.tree.AssignmentTarget.{AssignmentTarget}
 use Rattle.tm_syntax.specs.declared.tree.Stmt.{EmitRaw, EmitExpr, EmitLoop, Break, Continue, Block', Set, Do}
-use Rattle.tm_syntax.specs.declared.tree.Stmt.{Stmt, If', For', SetBlock', With', AutoEscape', Row_of-Stmt, end_of-Stmt as no_statement, more_of-Stmt as statement, Held-Stmt-If-2 as Otherwise, None' as no_else, Some' as otherwise}
+use Rattle.tm_syntax.specs.declared.tree.Stmt.{Stmt, If', For', SetBlock', With', AutoEscape', Row_of-Stmt, end_of-Stmt as no_statement}
+use Rattle.tm_syntax.specs.declared.tree.Stmt.{more_of-Stmt as statement, Held-Stmt-If-2 as Otherwise, None' as no_else}
+use Rattle.tm_syntax.specs.declared.tree.Stmt.{Some' as otherwise}
 use Rattle.tm_syntax.specs.Blocks.{Body, body_of}
 
 -- ---------------------------------------------------------------- of trees
@@ -61,7 +64,8 @@ abbrev mutual
   pub loops_of : ℕ → Stmt → List FoundLoop
   loops_of at (If' c _ body other) = loops_in at body ++ loops_else (pasts at body) other
   loops_of at (For' t e c r _ body other) =
-      with_pass c (record { recursive = r; target = t; body = body_of body; at = within_loop c at }) (loops_in (within_loop c at) body ++ loops_else (pasts (within_loop c at) body) other)
+      with_pass c (record { recursive = r; target = t; body = body_of body; at = within_loop c at })
+      (loops_in (within_loop c at) body ++ loops_else (pasts (within_loop c at) body) other)
   loops_of at (SetBlock' t _ body) = loops_in at body
   loops_of at (With' given _ body) = loops_in at body
   loops_of at (AutoEscape' e _ body) = loops_in at body

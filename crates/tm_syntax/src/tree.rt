@@ -1,4 +1,6 @@
-//! Syntax trees. What goes on with a value is a list. Lists of different levels of operators lie in one another within one nesting of the source, so a tree is as deep as its source nests, times these levels.
+//! Syntax trees. What goes on with a value is a list. Lists of different levels of operators lie in
+//! one another within one nesting of the source, so a tree is as deep as its source nests, times
+//! these levels.
 use crate::name::Name;
 use crate::raw_text::RawText;
 use sqlite_items::{Boxed, Items};

@@ -21,7 +21,8 @@ push_argument-returns-clause-ok t c =
 pub push_expr-returns-in_ok-share-in-Call-clause-ok : goal.push_expr-returns-in_ok-share-in-Call-clause-ok
 push_expr-returns-in_ok-share-in-Call-clause-ok t c =
     rw c.in-Call.is (on_ok_weaker c.emit-in-Call.result
-    (made-call c.args.code.now c.push_arguments.new.code c.push_named.new.code c.emit-in-Call.new.self c.in-Call.name _ _ _ _ c.in-Call.given c.in-Call.named
+    (made-call c.args.code.now c.push_arguments.new.code c.push_named.new.code c.emit-in-Call.new.self c.in-Call.name _ _ _ _
+    c.in-Call.given c.in-Call.named
     (rw (← c.as_slice-in-Call.ensures) c.in_ok-push_arguments-in-Call.ensures.ok)
     (rw (← c.as_slice-in-Call-2.ensures) c.in_ok-push_named-in-Call.ensures.ok) c.len-in-Call.ensures c.len-in-Call-2.ensures
     c.in_ok-count-in-Call.ensures.ok c.in_ok-share-in-Call.ensures) c.emit-in-Call.ensures.ok)
@@ -41,7 +42,8 @@ push_expr-returns-in_ok-push_expr-in-Chain-clause-ok t c =
 pub push_expr-returns-in_ok-push_expr-in-Conditional-clause-ok : goal.push_expr-returns-in_ok-push_expr-in-Conditional-clause-ok
 push_expr-returns-in_ok-push_expr-in-Conditional-clause-ok t c =
     rw c.in-Conditional.is (on_ok_weaker c.push_otherwise.result
-    (made-conditional c.args.code.now c.push_tests.new.code c.push_expr-in-Conditional.new.code c.push_otherwise.new.code c.new-outers.result c.push_tests.new.outers c.in-Conditional.value c.in-Conditional.conditions
+    (made-conditional c.args.code.now c.push_tests.new.code c.push_expr-in-Conditional.new.code c.push_otherwise.new.code
+    c.new-outers.result c.push_tests.new.outers c.in-Conditional.value c.in-Conditional.conditions
     (rw (← c.as_slice-conditions.ensures) c.in_ok-push_tests-in-Conditional.ensures.ok) c.new-outers.ensures
     (rw (← c.as_slice-conditions.ensures) c.in_ok-push_tests-in-Conditional.ensures.outers)
     (rw (← c.get-in-Conditional.ensures) c.in_ok-push_expr-in-Conditional.ensures.ok))
@@ -58,7 +60,8 @@ push_named-returns-clause-ok t c =
 pub push_step-returns-in_ok-share-in-Method-clause-ok : goal.push_step-returns-in_ok-share-in-Method-clause-ok
 push_step-returns-in_ok-share-in-Method-clause-ok t c =
     rw c.in-Method.is (on_ok_weaker c.emit-in-Method.result
-    (made-method c.args.code.now c.push_arguments.new.code c.push_named.new.code c.emit-in-Method.new.self c.in-Method.name _ _ _ _ c.in-Method.given c.in-Method.named
+    (made-method c.args.code.now c.push_arguments.new.code c.push_named.new.code c.emit-in-Method.new.self c.in-Method.name _ _ _ _
+    c.in-Method.given c.in-Method.named
     (rw (← c.as_slice.ensures) c.in_ok-push_arguments-in-Method.ensures.ok)
     (rw (← c.as_slice-in-Method.ensures) c.in_ok-push_named-in-Method.ensures.ok) c.len.ensures c.len-in-Method.ensures
     c.in_ok-count-in-Method.ensures.ok c.in_ok-share-in-Method.ensures) c.emit-in-Method.ensures.ok)
@@ -66,7 +69,8 @@ push_step-returns-in_ok-share-in-Method-clause-ok t c =
 pub push_step-returns-in_ok-push_expr-in-Slice-3-clause-ok : goal.push_step-returns-in_ok-push_expr-in-Slice-3-clause-ok
 push_step-returns-in_ok-push_expr-in-Slice-3-clause-ok t c =
     rw c.in-Slice.is (on_ok_weaker c.emit-in-Slice.result
-    (made-slice c.args.code.now c.push_expr-in-Slice.new.code c.push_expr-in-Slice-2.new.code c.push_expr-in-Slice-3.new.code c.emit-in-Slice.new.self
+    (made-slice c.args.code.now c.push_expr-in-Slice.new.code c.push_expr-in-Slice-2.new.code c.push_expr-in-Slice-3.new.code
+    c.emit-in-Slice.new.self
     c.in-Slice.start c.in-Slice.stop c.in-Slice.step
     (rw (← c.get-in-Slice.ensures) c.in_ok-push_expr-in-Slice.ensures.ok)
     (rw (← c.get-in-Slice-2.ensures) c.in_ok-push_expr-in-Slice-2.ensures.ok)
@@ -81,7 +85,8 @@ push_step-returns-in_ok-push_expr-in-Binary-clause-ok t c =
 pub push_step-returns-in_ok-push_expr-in-Compare-clause-ok : goal.push_step-returns-in_ok-push_expr-in-Compare-clause-ok
 push_step-returns-in_ok-push_expr-in-Compare-clause-ok t c =
     rw c.in-Compare.is (on_ok_weaker c.push_comparisons.result
-    (made-compare c.args.code.now c.push_expr-in-Compare.new.code c.push_comparisons.new.code c.in-Compare.operator c.in-Compare.right c.in-Compare.after
+    (made-compare c.args.code.now c.push_expr-in-Compare.new.code c.push_comparisons.new.code c.in-Compare.operator c.in-Compare.right
+    c.in-Compare.after
     (rw (← c.get-in-Compare.ensures) c.in_ok-push_expr-in-Compare.ensures.ok))
     (subst (λ (xs : List Comparison). OnOk c.push_comparisons.result (c.push_comparisons.new.code
     ≡ put (row_code c.in-Compare.operator
@@ -89,7 +94,8 @@ push_step-returns-in_ok-push_expr-in-Compare-clause-ok t c =
 
 pub push_links-loop-comparison-preserved : goal.push_links-loop-comparison-preserved
 push_links-loop-comparison-preserved t c =
-    more-links _ _ c.comparison-item.result c.loop-comparison.operator c.loop-comparison.code c.emit.new.self c.jump_out.new.self c.push_expr.new.code _
+    more-links _ _ c.comparison-item.result c.loop-comparison.operator c.loop-comparison.code c.emit.new.self c.jump_out.new.self
+    c.push_expr.new.code _
     (next c.args.after.now c.loop-comparison.comparison-index c.comparison-item.result c.loop-comparison-test.true c.comparison-item.is)
     c.in_ok-emit.ensures.ok c.in_ok-jump_out.ensures.ok (rw (← c.get.ensures) c.in_ok-push_expr.ensures.ok) c.loop-comparison.invariant
 
@@ -103,7 +109,8 @@ push_links-returns-clause-ok t c =
 pub push_exprs-loop-item-preserved : goal.push_exprs-loop-item-preserved
 push_exprs-loop-item-preserved t c =
     more-exprs _ _ c.item-item.result _ _ _
-    (next c.args.items.now c.loop-item.item-index c.item-item.result c.loop-item-test.true c.item-item.is) c.in_ok-push_expr.ensures.ok c.loop-item.invariant
+    (next c.args.items.now c.loop-item.item-index c.item-item.result c.loop-item-test.true c.item-item.is) c.in_ok-push_expr.ensures.ok
+    c.loop-item.invariant
 
 pub push_exprs-returns-clause-ok : goal.push_exprs-returns-clause-ok
 push_exprs-returns-clause-ok t c = no_more-exprs _ _ _
@@ -112,7 +119,8 @@ push_exprs-returns-clause-ok t c = no_more-exprs _ _ _
 pub push_arguments-loop-argument-preserved : goal.push_arguments-loop-argument-preserved
 push_arguments-loop-argument-preserved t c =
     more-arguments _ _ c.argument-item.result _ _ _
-    (next c.args.given.now c.loop-argument.argument-index c.argument-item.result c.loop-argument-test.true c.argument-item.is) c.in_ok-push_argument.ensures.ok c.loop-argument.invariant
+    (next c.args.given.now c.loop-argument.argument-index c.argument-item.result c.loop-argument-test.true c.argument-item.is)
+    c.in_ok-push_argument.ensures.ok c.loop-argument.invariant
 
 pub push_arguments-returns-clause-ok : goal.push_arguments-returns-clause-ok
 push_arguments-returns-clause-ok t c = no_more-arguments _ _ _
@@ -121,7 +129,8 @@ push_arguments-returns-clause-ok t c = no_more-arguments _ _ _
 pub push_steps-loop-step-preserved : goal.push_steps-loop-step-preserved
 push_steps-loop-step-preserved t c =
     more-steps _ _ c.step-item.result _ _ _
-    (next c.args.after.now c.loop-step.step-index c.step-item.result c.loop-step-test.true c.step-item.is) c.in_ok-push_step.ensures.ok c.loop-step.invariant
+    (next c.args.after.now c.loop-step.step-index c.step-item.result c.loop-step-test.true c.step-item.is) c.in_ok-push_step.ensures.ok
+    c.loop-step.invariant
 
 pub push_steps-returns-clause-ok : goal.push_steps-returns-clause-ok
 push_steps-returns-clause-ok t c = no_more-steps _ _ _
@@ -144,7 +153,8 @@ pub push_keywords-loop-keyword-preserved : goal.push_keywords-loop-keyword-prese
 push_keywords-loop-keyword-preserved t c =
     more-keywords _ _ c.keyword-item.result _ _ _
     (next c.args.named.now c.loop-keyword.keyword-index c.keyword-item.result c.loop-keyword-test.true c.keyword-item.is)
-    (made-keyword c.loop-keyword.code c.emit.new.self c.push_expr.new.code c.keyword-item.result _ _ c.as_str.ensures c.in_ok-name.ensures c.in_ok-emit.ensures.ok (rw (← c.get.ensures) c.in_ok-push_expr.ensures.ok)) c.loop-keyword.invariant
+    (made-keyword c.loop-keyword.code c.emit.new.self c.push_expr.new.code c.keyword-item.result _ _ c.as_str.ensures c.in_ok-name.ensures
+    c.in_ok-emit.ensures.ok (rw (← c.get.ensures) c.in_ok-push_expr.ensures.ok)) c.loop-keyword.invariant
 
 pub push_keywords-returns-clause-ok : goal.push_keywords-returns-clause-ok
 push_keywords-returns-clause-ok t c = no_more-keywords _ _ _

@@ -8,7 +8,8 @@ use Rattle.tm_generator.proofs.statements.+statements.Goals as goal
 
 pub push_if-returns-clause-blocks : goal.push_if-returns-clause-blocks
 push_if-returns-clause-blocks t c =
-    rw c.in-Some.is (else-blocks c.args.condition.now c.args.body.now c.in-Some.other c.args.blocks.now c.push_statements.new.blocks c.push_statements-2.new.blocks
+    rw c.in-Some.is (else-blocks c.args.condition.now c.args.body.now c.in-Some.other c.args.blocks.now c.push_statements.new.blocks
+    c.push_statements-2.new.blocks
     c.in_ok-push_statements.ensures.blocks (rw (← c.as_slice.ensures) c.in_ok-push_statements-2.ensures.blocks))
 
 pub push_for-returns-clause-blocks : goal.push_for-returns-clause-blocks
@@ -25,10 +26,12 @@ push_statement-returns-in_ok-share-in-Block-clause-blocks t c =
 
 pub push_statements-loop-statement-preserved : goal.push_statements-loop-statement-preserved
 push_statements-loop-statement-preserved t c =
-    let left = next c.args.body.now c.loop-statement.statement-index c.statement-item.result c.loop-statement-test.true c.statement-item.is in
+    let left = next c.args.body.now c.loop-statement.statement-index c.statement-item.result c.loop-statement-test.true c.statement-item.is
+    in
     let same = c.loop-statement.invariant.0 in (
       ap (λ s. s.enclosing) c.in_ok-push_statement.ensures.code ∙ same,
-      more-statements c.args.stream.now.enclosing c.loop-statement.stream.enclosing _ _ c.statement-item.result _ _ _ left same c.in_ok-push_statement.ensures.code c.loop-statement.invariant.1,
+      more-statements c.args.stream.now.enclosing c.loop-statement.stream.enclosing _ _ c.statement-item.result _ _ _ left same
+          c.in_ok-push_statement.ensures.code c.loop-statement.invariant.1,
       more-blocks _ _ _ _ _ c.statement-item.result left c.in_ok-push_statement.ensures.blocks c.loop-statement.invariant.2,
     )
 

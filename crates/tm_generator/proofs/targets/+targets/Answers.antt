@@ -13,7 +13,8 @@ push_target-returns-in_ok-emit-in-Unpack-clause-ok t c =
 pub push_targets-loop-part-preserved : goal.push_targets-loop-part-preserved
 push_targets-loop-part-preserved t c =
     more-targets _ _ c.part-item.result _ _ _
-    (next c.args.parts.now c.loop-part.part-index c.part-item.result c.loop-part-test.true c.part-item.is) c.in_ok-push_target.ensures.ok c.loop-part.invariant
+    (next c.args.parts.now c.loop-part.part-index c.part-item.result c.loop-part-test.true c.part-item.is) c.in_ok-push_target.ensures.ok
+    c.loop-part.invariant
 
 pub push_targets-returns-clause-ok : goal.push_targets-returns-clause-ok
 push_targets-returns-clause-ok t c = no_more-targets _ _ _

@@ -8,4 +8,7 @@ loop-name-preserved c =
     (sym c.in_ok-insert.ensures.added ∙ c.if-not-branch.false) c.in_ok-insert.ensures.updates c.loop-name.invariant
 
 pub returns : goal.returns
-returns c = (λ _. c.loop-name.invariant.0 (all_seen c.loop-name.seen c.args.names.now c.loop-name.name-index c.loop-name-test.false), λ _. refl)
+returns c = (
+  λ _. c.loop-name.invariant.0 (all_seen c.loop-name.seen c.args.names.now c.loop-name.name-index c.loop-name-test.false),
+  λ _. refl,
+)

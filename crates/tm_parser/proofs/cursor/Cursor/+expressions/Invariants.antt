@@ -137,14 +137,16 @@ decreases-conditions-loop-alloc l = length l.self
 
 abbrev pub invariant-comparisons-loop-link : goal.invariant-comparisons-loop-link
 invariant-comparisons-loop-link l =
-    (comparisons_from (operand (inside l.depth) l.level) l.level l.comparisons).reads l.self ≡ (comparisons_from (operand (inside l.depth) l.level) l.level []).reads l.fn.self
+    (comparisons_from (operand (inside l.depth) l.level) l.level l.comparisons).reads l.self ≡
+    (comparisons_from (operand (inside l.depth) l.level) l.level []).reads l.fn.self
 
 abbrev pub decreases-comparisons-loop-link : goal.decreases-comparisons-loop-link
 decreases-comparisons-loop-link l = length l.self
 
 abbrev pub invariant-steps-loop-link : goal.invariant-steps-loop-link
 invariant-steps-loop-link l =
-    (steps_from (inside l.depth) (operand (inside l.depth) l.level) l.level l.steps).reads l.self ≡ (steps_from (inside l.depth) (operand (inside l.depth) l.level) l.level []).reads l.fn.self
+    (steps_from (inside l.depth) (operand (inside l.depth) l.level) l.level l.steps).reads l.self ≡
+    (steps_from (inside l.depth) (operand (inside l.depth) l.level) l.level []).reads l.fn.self
 
 abbrev pub decreases-steps-loop-link : goal.decreases-steps-loop-link
 decreases-steps-loop-link l = length l.self
@@ -165,7 +167,8 @@ decreases-more_exprs-loop-alloc l = length l.self
 
 abbrev pub invariant-more_pairs-loop-alloc : goal.invariant-more_pairs-loop-alloc
 invariant-more_pairs-loop-alloc l =
-    (more_items sign.CloseCurly (pair (inside l.depth)) l.pairs).reads l.self ≡ (more_items sign.CloseCurly (pair (inside l.depth)) l.fn.first).reads l.fn.self
+    (more_items sign.CloseCurly (pair (inside l.depth)) l.pairs).reads l.self ≡
+    (more_items sign.CloseCurly (pair (inside l.depth)) l.fn.first).reads l.fn.self
 
 abbrev pub decreases-more_pairs-loop-alloc : goal.decreases-more_pairs-loop-alloc
 decreases-more_pairs-loop-alloc l = length l.self

@@ -59,7 +59,8 @@ abbrev pub decreases-body : goal.decreases-body
 decreases-body l = nesting_room * l.depth + 5
 
 abbrev pub invariant-body-loop-body : goal.invariant-body-loop-body
-invariant-body-loop-body l = (more_statements (inside l.depth) (inner l.depth) l.looping l.body).reads l.self ≡ (body (inside l.depth) (inner l.depth) l.looping).reads l.fn.self
+invariant-body-loop-body l = (more_statements (inside l.depth) (inner l.depth) l.looping l.body).reads l.self ≡
+    (body (inside l.depth) (inner l.depth) l.looping).reads l.fn.self
 
 abbrev pub decreases-body-loop-body : goal.decreases-body-loop-body
 decreases-body-loop-body l = length l.self

@@ -5,7 +5,8 @@ use Rattle.tm_parser.specs.Statements.{assignment}
 use Rattle.tm_parser.proofs.cursor.Cursor.more_assignments.Given as goal
 
 abbrev pub invariant-loop-alloc : goal.invariant-loop-alloc
-invariant-loop-alloc l = (more_items sign.BlockEnd (assignment (inside l.depth)) l.assignments).reads l.self ≡ (more_items sign.BlockEnd (assignment (inside l.depth)) l.fn.first).reads l.fn.self
+invariant-loop-alloc l = (more_items sign.BlockEnd (assignment (inside l.depth)) l.assignments).reads l.self ≡
+    (more_items sign.BlockEnd (assignment (inside l.depth)) l.fn.first).reads l.fn.self
 
 abbrev pub decreases-loop-alloc : goal.decreases-loop-alloc
 decreases-loop-alloc l = length l.self

@@ -4,7 +4,8 @@ use Rattle.tm_parser.specs.Grammar.{inside, expr, more_items}
 use Rattle.tm_parser.proofs.cursor.Cursor.more_bare_items.Given as goal
 
 abbrev pub invariant-loop-alloc : goal.invariant-loop-alloc
-invariant-loop-alloc l = (more_items sign.BlockEnd (expr (inside l.depth)) l.items).reads l.self ≡ (more_items sign.BlockEnd (expr (inside l.depth)) l.fn.first).reads l.fn.self
+invariant-loop-alloc l = (more_items sign.BlockEnd (expr (inside l.depth)) l.items).reads l.self ≡
+    (more_items sign.BlockEnd (expr (inside l.depth)) l.fn.first).reads l.fn.self
 
 abbrev pub decreases-loop-alloc : goal.decreases-loop-alloc
 decreases-loop-alloc l = length l.self
