@@ -6,10 +6,10 @@ use Rattle.tm_syntax.specs.declared.token.Sign.{Sign}
 use Rattle.tm_syntax.specs.declared.token.Sign.TheVariants as sign
 use Rattle.tm_syntax.specs.declared.tree.Expr.{Expr}
 use Rattle.tm_syntax.specs.declared.tree.AssignmentTarget.{AssignmentTarget}
-use Rattle.tm_rules.specs.Meanings.{Read, got}
-use Rattle.tm_rules.specs.Rule.{Rule, Look}
-use Rattle.tm_rules.specs.Growth as growth
-use Rattle.tm_rules.specs.Combinators.{grow, one_more, many_from}
+use Rattle.tm_grammar.specs.Meanings.{Read, got}
+use Rattle.tm_grammar.specs.Rule.{Rule, Look}
+use Rattle.tm_grammar.specs.Growth as growth
+use Rattle.tm_grammar.specs.Combinators.{grow, one_more, many_from}
 use Rattle.tm_parser.specs.Gives.{Refused}
 use Rattle.tm_parser.specs.declared.primaries.Passed.{Passed}
 use Rattle.tm_parser.specs.Grammar.{Inside, more_items, comma, one_passed, more_passed, single, more_targets, target_comma, whole}

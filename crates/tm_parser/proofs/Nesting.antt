@@ -11,8 +11,8 @@ use Rattle.tm_syntax.specs.declared.tree.Condition.{Condition}
 use Rattle.tm_syntax.specs.declared.tree.Step.{Step}
 use Rattle.tm_syntax.specs.declared.tree.Step.TheVariants as steps
 use Rattle.tm_syntax.specs.declared.tree.AssignmentTarget.TheVariants as target_forms
-use Rattle.tm_rules.specs.Meanings.{got}
-use Rattle.tm_rules.specs.Combinators.{branch, ◌>>=◌, pure}
+use Rattle.tm_grammar.specs.Meanings.{got}
+use Rattle.tm_grammar.specs.Combinators.{branch, ◌>>=◌, pure}
 use Rattle.tm_parser.specs.Grammar.{Inside, inside, expr, operand, expr_at, primary, prefix, chained, compared, conditional, target}
 use Rattle.tm_parser.specs.Grammar.{target_of, lone_target, last_target, attribute_name, split_last, are_none}
 use Rattle.tm_parser.specs.Statements.{inner, body, rest, else_or_end, loop_head}

@@ -2,7 +2,7 @@
 use Rattle.std.specs.Prelude.{◌≡◌, ◌⊎◌, List, [], ◌∷◌, Option, Some, None, Result, Ok, Err, Bool, true, false}
 use Rattle.tm_values.specs.declared.error.ErrorKind.{ErrorKind}
 use Rattle.tm_values.specs.declared.error.ErrorKind.TheVariants.{OutOfMemory, SyntaxError}
-use Rattle.tm_rules.specs.Meanings.{Read, got}
+use Rattle.tm_grammar.specs.Meanings.{Read, got}
 
 -- Memory ran out, or the tokens are refused for this reason.
 abbrev pub Refused : List ErrorKind → Type 0 → Type 0

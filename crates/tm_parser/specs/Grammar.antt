@@ -27,9 +27,9 @@ use Rattle.tm_syntax.specs.declared.tree.AssignmentTarget.TheVariants as targets
 use Rattle.tm_parser.specs.declared.tables.Link.{Link}
 use Rattle.tm_parser.specs.declared.tables.Link.TheVariants as links
 use Rattle.tm_parser.specs.declared.primaries.Passed.{Passed}
-use Rattle.tm_rules.specs.Rule as rules
-use Rattle.tm_rules.specs.Rule.{Look}
-use Rattle.tm_rules.specs.Combinators.{first, not_before, nothing, pure, ◌>>=◌, provided, branch, token, grow, one_more, many_from}
+use Rattle.tm_grammar.specs.Rule as rules
+use Rattle.tm_grammar.specs.Rule.{Look}
+use Rattle.tm_grammar.specs.Combinators.{first, not_before, nothing, pure, ◌>>=◌, provided, branch, token, grow, one_more, many_from}
 use Rattle.tm_parser.specs.Looks.{or_else, before, followed, ahead}
 
 abbrev pub Rule : Type 0 → Type 1

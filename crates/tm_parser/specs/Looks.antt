@@ -1,9 +1,9 @@
 -- Looks at two tokens, and at one that is not taken.
 use Rattle.std.specs.Prelude.{◌≡◌, ◌<◌, Bool, true, false, List, [], ◌∷◌, length, Option, Some, None, option_and_then, option_map, refl}
 use Rattle.std.proofs.Common.{arith, ◌∙◌, ap}
-use Rattle.tm_rules.specs.Meanings.{Read, got, bind_reads, first_sees}
-use Rattle.tm_rules.specs.Rule.{Rule, Look}
-use Rattle.tm_rules.specs.Laws.{not_got, same_got, first_nearer}
+use Rattle.tm_grammar.specs.Meanings.{Read, got, bind_reads, first_sees}
+use Rattle.tm_grammar.specs.Rule.{Rule, Look}
+use Rattle.tm_grammar.specs.Laws.{not_got, same_got, first_nearer}
 
 -- what was seen, and where nothing was seen the other
 abbrev pub or_seen : {T A : Type 0} → Read T A → Read T A → Read T A

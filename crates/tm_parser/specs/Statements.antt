@@ -21,8 +21,8 @@ use Rattle.tm_syntax.specs.declared.tree.Stmt.TheVariants as stmts
 use Rattle.tm_parser.specs.declared.tables.Start.{Start}
 use Rattle.tm_parser.specs.declared.tables.Start.TheVariants as starts
 use Rattle.tm_parser.specs.declared.targets.LoopHead.{LoopHead}
-use Rattle.tm_rules.specs.Combinators.{provided, first, nothing, pure, ◌>>=◌, branch, token, not_before, many_from}
-use Rattle.tm_rules.specs.Rule.{Look}
+use Rattle.tm_grammar.specs.Combinators.{provided, first, nothing, pure, ◌>>=◌, branch, token, not_before, many_from}
+use Rattle.tm_grammar.specs.Rule.{Look}
 use Rattle.tm_parser.specs.Looks.{ahead}
 use Rattle.tm_parser.specs.Grammar.{Rule, is, a_name, is_comma, Inside, inside, items, whole, expr, target}
 

@@ -5,8 +5,8 @@ ghost use Rattle.tm_parser.specs.Grammar.{is, a_name, a_constant, comma, ends_pa
 ghost use Rattle.tm_parser.specs.Grammar.{target_comma};
 ghost use Rattle.tm_parser.specs.Looks.{starts};
 ghost use Rattle.tm_parser.specs.Statements.{a_start, ends_iterated, is_tag, is_word, iterated_comma, lone, same_name};
-ghost use Rattle.tm_rules.specs.Combinators.{token};
-ghost use Rattle.tm_rules.specs.Meanings.{first_sees};
+ghost use Rattle.tm_grammar.specs.Combinators.{token};
+ghost use Rattle.tm_grammar.specs.Meanings.{first_sees};
 
 use crate::tables::{Link, Start, constant_of, link_of, negated_link_of, prefix_of, start_of};
 use std::marker::Model;

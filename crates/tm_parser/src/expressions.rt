@@ -7,7 +7,7 @@ ghost use Rattle.tm_parser.specs.Grammar.{condition, conditions_from, conjunctio
 ghost use Rattle.tm_parser.specs.Grammar.{else_part, expr, expr_at, last_part, named_step, operand};
 ghost use Rattle.tm_parser.specs.Grammar.{operation, part, slice, step, steps_from, subscript};
 ghost use Rattle.tm_parser.specs.Grammar.{whole};
-ghost use Rattle.tm_rules.specs.Combinators.{one_more};
+ghost use Rattle.tm_grammar.specs.Combinators.{one_more};
 ghost use Rattle.tm_values.specs.declared.error.ErrorKind.TheVariants.{OutOfMemory};
 
 use crate::cursor::{Cursor, refusal};

@@ -4,7 +4,7 @@ ghost use Rattle.tm_parser.specs.Gives.{Parses};
 ghost use Rattle.tm_parser.specs.Grammar.{inside, all_passed, argument, bracketed, items, keyword};
 ghost use Rattle.tm_parser.specs.Grammar.{list_literal, map_literal, more_items, more_passed};
 ghost use Rattle.tm_parser.specs.Grammar.{named, one_passed, pair, primary, tuple};
-ghost use Rattle.tm_rules.specs.Combinators.{one_more};
+ghost use Rattle.tm_grammar.specs.Combinators.{one_more};
 ghost use Rattle.tm_syntax.specs.declared.token.Sign.TheVariants as sign;
 
 use crate::cursor::{Cursor, refusal};

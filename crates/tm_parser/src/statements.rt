@@ -6,7 +6,7 @@ ghost use Rattle.tm_parser.specs.Statements as spec;
 ghost use Rattle.tm_parser.specs.Statements.{autoescape_tag, block_end, block_tag, body, do_tag, elif_tag, else_or_end, else_tag};
 ghost use Rattle.tm_parser.specs.Statements.{emission, for_tag, if_tag, inner, jump, rest, set_block, set_tag, set_value, statement};
 ghost use Rattle.tm_parser.specs.Statements.{with_tag};
-ghost use Rattle.tm_rules.specs.Combinators.{one_more, provided};
+ghost use Rattle.tm_grammar.specs.Combinators.{one_more, provided};
 ghost use Rattle.tm_syntax.specs.declared.tree.Stmt.TheVariants.{Break, Continue};
 ghost use Rattle.tm_syntax.specs.declared.tree.Argument.TheBlock.{hidden-the_row-Step-5 as row_of_steps};
 

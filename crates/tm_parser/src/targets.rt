@@ -5,7 +5,7 @@ ghost use Rattle.tm_parser.specs.Grammar as grammar;
 ghost use Rattle.tm_parser.specs.Grammar.{inside, expr, items, member, more_items, more_targets, several, single, target, whole};
 ghost use Rattle.tm_parser.specs.Statements.{assignment, bare, bare_tuple, loop_condition, inner, iterated, iterated_tuple, loop_head};
 ghost use Rattle.tm_parser.specs.Statements.{more_iterated};
-ghost use Rattle.tm_rules.specs.Combinators.{one_more};
+ghost use Rattle.tm_grammar.specs.Combinators.{one_more};
 ghost use Rattle.tm_syntax.specs.declared.token.Sign.TheVariants as sign;
 
 use crate::cursor::{Cursor, refusal};

@@ -1,7 +1,7 @@
 use Rattle.std.proofs.Common.{false, List, [], sym, ◌∙◌, ap}
 use Rattle.tm_syntax.specs.declared.tree.Stmt.{Stmt}
 use Rattle.tm_syntax.specs.declared.tree.Tree.{Tree}
-use Rattle.tm_rules.specs.Laws.{same_got}
+use Rattle.tm_grammar.specs.Laws.{same_got}
 use Rattle.tm_parser.specs.Grammar.{inside}
 use Rattle.tm_parser.specs.Statements.{body, inner}
 use Rattle.tm_parser.specs.Template.{nestings}

@@ -1,6 +1,6 @@
 use Rattle.std.proofs.Common.{ap}
 use Rattle.std.proofs.lemmas.Result.{err_from_is_err_and}
-use Rattle.tm_rules.specs.Combinators.{first}
+use Rattle.tm_grammar.specs.Combinators.{first}
 use Rattle.tm_parser.specs.Grammar.{inside}
 use Rattle.tm_parser.specs.Statements.{inner, body, more_statements, a_start, statement}
 use Rattle.tm_parser.proofs.Loops.{goes_on, comes_nearer, refuses, ends}

@@ -1,8 +1,8 @@
 //! Rules of grammars, each with two readings: which tokens spell which value, and a reader of it.
 #![tactic(auto)]
 
-ghost use Rattle.tm_rules.specs.One.{IsOne};
-ghost use Rattle.tm_rules.specs.Rule.{Rule};
+ghost use Rattle.tm_grammar.specs.One.{IsOne};
+ghost use Rattle.tm_grammar.specs.Rule.{Rule};
 
 /// A rule for values of type `A` over tokens of type `T`.
 pub trait Grammar<T, A> {

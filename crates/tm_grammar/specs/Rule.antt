@@ -1,6 +1,6 @@
 -- Rules of a grammar over tokens of any type, with the laws that make their two readings one.
 use Rattle.std.specs.Prelude.{◌≡◌, ◌<◌, ◌≤◌, List, length}
-use Rattle.tm_rules.specs.Meanings.{got, Spells, Reads}
+use Rattle.tm_grammar.specs.Meanings.{got, Spells, Reads}
 
 -- What is read is spelled so.
 abbrev pub Sound : {T A : Type 0} → Spells T A → Reads T A → Type 0

@@ -1,11 +1,11 @@
 -- The rules that a grammar is made of.
 use Rattle.std.specs.Prelude.{Bool, true, false, List, [], ◌∷◌, ◌++◌, Option, None, refl}
-use Rattle.tm_rules.specs.Meanings.{got, pure_spells, bind_spells, bind_reads, first_sees, not_before_sees, branch_spells, branch_reads}
-use Rattle.tm_rules.specs.Meanings.{grow_spells, grow_reads}
-use Rattle.tm_rules.specs.Rule.{Rule, Look}
-use Rattle.tm_rules.specs.Laws.{not_got, same_got, pure_only, pure_shorter, bind_found, bind_only, bind_shorter, first_nearer}
-use Rattle.tm_rules.specs.Laws.{not_before_nearer, branch_found, branch_only, branch_shorter}
-use Rattle.tm_rules.specs.Growth.{grow_found, grow_only, grow_shorter}
+use Rattle.tm_grammar.specs.Meanings.{got, pure_spells, bind_spells, bind_reads, first_sees, not_before_sees, branch_spells, branch_reads}
+use Rattle.tm_grammar.specs.Meanings.{grow_spells, grow_reads}
+use Rattle.tm_grammar.specs.Rule.{Rule, Look}
+use Rattle.tm_grammar.specs.Laws.{not_got, same_got, pure_only, pure_shorter, bind_found, bind_only, bind_shorter, first_nearer}
+use Rattle.tm_grammar.specs.Laws.{not_before_nearer, branch_found, branch_only, branch_shorter}
+use Rattle.tm_grammar.specs.Growth.{grow_found, grow_only, grow_shorter}
 
 -- No tokens spell anything.
 abbrev pub nothing : {T A : Type 0} → Rule T A

@@ -1,9 +1,9 @@
 -- The laws of the combinators that take one part after another.
 use Rattle.std.specs.Prelude.{◌≡◌, ◌<◌, ◌≤◌, List, [], ◌∷◌, length, Option, Some, None, option_and_then, refl}
 use Rattle.std.proofs.Common.{arith, ◌∙◌, ap}
-use Rattle.tm_rules.specs.Meanings.{Read, got, pure_spells, bind_spells, bind_reads, known, first_sees, unless_seen, not_before_sees}
-use Rattle.tm_rules.specs.Meanings.{branch_spells, branch_reads}
-use Rattle.tm_rules.specs.Rule.{Sound, Complete, Shorter, Nearer, Rule, Look}
+use Rattle.tm_grammar.specs.Meanings.{Read, got, pure_spells, bind_spells, bind_reads, known, first_sees, unless_seen, not_before_sees}
+use Rattle.tm_grammar.specs.Meanings.{branch_spells, branch_reads}
+use Rattle.tm_grammar.specs.Rule.{Sound, Complete, Shorter, Nearer, Rule, Look}
 
 pub not_got : {T A : Type 0} (a : A) (rest : List T) → ◌≡◌ {A = Read T A} None (got a rest) → ⊥
 not_got a rest h = cc

@@ -1,6 +1,6 @@
 -- The law of every rule.
 use Rattle.std.specs.Prelude.{◌≡◌, List}
-use Rattle.tm_rules.specs.Rule.{Rule}
+use Rattle.tm_grammar.specs.Rule.{Rule}
 
 -- Tokens spell at most one value, and leave one rest.
 abbrev pub IsOne : {T A : Type 0} → Rule T A → Type 0
