@@ -422,7 +422,13 @@ fn is_call(expr: &Expr) -> bool
     match expr {
         Expr::Call(_, _, _) => true,
         Expr::Chain(_, steps) => ends_in_method(steps.as_slice()),
-        _ => false,
+        Expr::Var(_)
+        | Expr::Const(_)
+        | Expr::List(_)
+        | Expr::Tuple(_)
+        | Expr::Map(_)
+        | Expr::Unary(_, _)
+        | Expr::Conditional(_, _) => false,
     }
 }
 

@@ -101,7 +101,24 @@ pub fn link_of(sign: Sign) -> Option<(u8, Link)>
         Sign::In => (COMPARISON_LEVEL, Link::Comparison(BinaryOperator::In)),
         Sign::And => (AND_LEVEL, Link::And),
         Sign::Or => (OR_LEVEL, Link::Or),
-        _ => return None,
+        Sign::VariableStart
+        | Sign::VariableEnd
+        | Sign::BlockEnd
+        | Sign::OpenRound
+        | Sign::CloseRound
+        | Sign::CloseSquare
+        | Sign::OpenCurly
+        | Sign::CloseCurly
+        | Sign::Comma
+        | Sign::Colon
+        | Sign::Assign
+        | Sign::Not
+        | Sign::If
+        | Sign::Else
+        | Sign::Is
+        | Sign::True
+        | Sign::False
+        | Sign::None => return None,
     })
 }
 
@@ -111,7 +128,42 @@ pub fn negated_link_of(sign: Sign) -> Option<(u8, Link)>
 {
     Some(match sign {
         Sign::In => (COMPARISON_LEVEL, Link::Comparison(BinaryOperator::NotIn)),
-        _ => return None,
+        Sign::VariableStart
+        | Sign::VariableEnd
+        | Sign::BlockEnd
+        | Sign::OpenRound
+        | Sign::CloseRound
+        | Sign::OpenSquare
+        | Sign::CloseSquare
+        | Sign::OpenCurly
+        | Sign::CloseCurly
+        | Sign::Comma
+        | Sign::Dot
+        | Sign::Colon
+        | Sign::Assign
+        | Sign::Equal
+        | Sign::NotEqual
+        | Sign::Less
+        | Sign::LessOrEqual
+        | Sign::Greater
+        | Sign::GreaterOrEqual
+        | Sign::Plus
+        | Sign::Minus
+        | Sign::Tilde
+        | Sign::Star
+        | Sign::Slash
+        | Sign::DoubleSlash
+        | Sign::Percent
+        | Sign::DoubleStar
+        | Sign::And
+        | Sign::Or
+        | Sign::Not
+        | Sign::If
+        | Sign::Else
+        | Sign::Is
+        | Sign::True
+        | Sign::False
+        | Sign::None => return None,
     })
 }
 
@@ -122,7 +174,41 @@ pub fn prefix_of(sign: Sign) -> Option<(u8, UnaryOperator)>
     Some(match sign {
         Sign::Minus => (POWER_LEVEL, UnaryOperator::Negate),
         Sign::Not => (AND_LEVEL, UnaryOperator::Not),
-        _ => return None,
+        Sign::VariableStart
+        | Sign::VariableEnd
+        | Sign::BlockEnd
+        | Sign::OpenRound
+        | Sign::CloseRound
+        | Sign::OpenSquare
+        | Sign::CloseSquare
+        | Sign::OpenCurly
+        | Sign::CloseCurly
+        | Sign::Comma
+        | Sign::Dot
+        | Sign::Colon
+        | Sign::Assign
+        | Sign::Equal
+        | Sign::NotEqual
+        | Sign::Less
+        | Sign::LessOrEqual
+        | Sign::Greater
+        | Sign::GreaterOrEqual
+        | Sign::Plus
+        | Sign::Tilde
+        | Sign::Star
+        | Sign::Slash
+        | Sign::DoubleSlash
+        | Sign::Percent
+        | Sign::DoubleStar
+        | Sign::And
+        | Sign::Or
+        | Sign::If
+        | Sign::Else
+        | Sign::In
+        | Sign::Is
+        | Sign::True
+        | Sign::False
+        | Sign::None => return None,
     })
 }
 
@@ -134,7 +220,40 @@ pub fn constant_of(sign: Sign) -> Option<Value>
         Sign::True => Value::boolean(true),
         Sign::False => Value::boolean(false),
         Sign::None => Value::none(),
-        _ => return None,
+        Sign::VariableStart
+        | Sign::VariableEnd
+        | Sign::BlockEnd
+        | Sign::OpenRound
+        | Sign::CloseRound
+        | Sign::OpenSquare
+        | Sign::CloseSquare
+        | Sign::OpenCurly
+        | Sign::CloseCurly
+        | Sign::Comma
+        | Sign::Dot
+        | Sign::Colon
+        | Sign::Assign
+        | Sign::Equal
+        | Sign::NotEqual
+        | Sign::Less
+        | Sign::LessOrEqual
+        | Sign::Greater
+        | Sign::GreaterOrEqual
+        | Sign::Plus
+        | Sign::Minus
+        | Sign::Tilde
+        | Sign::Star
+        | Sign::Slash
+        | Sign::DoubleSlash
+        | Sign::Percent
+        | Sign::DoubleStar
+        | Sign::And
+        | Sign::Or
+        | Sign::Not
+        | Sign::If
+        | Sign::Else
+        | Sign::In
+        | Sign::Is => return None,
     })
 }
 
@@ -152,6 +271,13 @@ pub fn start_of(tag: Tag) -> Option<Start>
         Tag::With => Start::With,
         Tag::Do => Start::Do,
         Tag::Autoescape => Start::AutoEscape,
-        _ => return None,
+        Tag::Elif
+        | Tag::Else
+        | Tag::Endif
+        | Tag::Endfor
+        | Tag::Endblock
+        | Tag::Endset
+        | Tag::Endwith
+        | Tag::Endautoescape => return None,
     })
 }

@@ -407,7 +407,14 @@ fn lone_target(value: &Expr) -> Result<AssignmentTarget, Error>
 {
     match value {
         Expr::Var(name) => Ok(AssignmentTarget::Name(name.share()?)),
-        _ => Err(refusal()),
+        Expr::Const(_)
+        | Expr::List(_)
+        | Expr::Tuple(_)
+        | Expr::Map(_)
+        | Expr::Call(_, _, _)
+        | Expr::Unary(_, _)
+        | Expr::Chain(_, _)
+        | Expr::Conditional(_, _) => Err(refusal()),
     }
 }
 

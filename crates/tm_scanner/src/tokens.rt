@@ -129,7 +129,43 @@ fn depth_behind(token: &Token, depth: usize) -> Option<usize>
         Token::Sign(Sign::CloseRound | Sign::CloseSquare | Sign::CloseCurly) => {
             Some(depth.saturating_sub(1))
         }
-        _ => Some(depth),
+        Token::Sign(
+            Sign::VariableStart
+            | Sign::VariableEnd
+            | Sign::BlockEnd
+            | Sign::Comma
+            | Sign::Dot
+            | Sign::Colon
+            | Sign::Assign
+            | Sign::Equal
+            | Sign::NotEqual
+            | Sign::Less
+            | Sign::LessOrEqual
+            | Sign::Greater
+            | Sign::GreaterOrEqual
+            | Sign::Plus
+            | Sign::Minus
+            | Sign::Tilde
+            | Sign::Star
+            | Sign::Slash
+            | Sign::DoubleSlash
+            | Sign::Percent
+            | Sign::DoubleStar
+            | Sign::And
+            | Sign::Or
+            | Sign::Not
+            | Sign::If
+            | Sign::Else
+            | Sign::In
+            | Sign::Is
+            | Sign::True
+            | Sign::False
+            | Sign::None,
+        )
+        | Token::Raw(_)
+        | Token::Tag(_)
+        | Token::Name(_)
+        | Token::Literal(_) => Some(depth),
     }
 }
 

@@ -68,16 +68,10 @@ fn word(instruction: &Instruction) -> &'static str {
         Instruction::PushWith => "with",
         Instruction::PopFrame => "leave",
         Instruction::BeginCapture(CaptureMode::Capture) => "capture",
+        Instruction::BeginCapture(_) => "discard",
         Instruction::EndCapture => "captured",
         Instruction::PushAutoEscape => "escape",
         Instruction::PopAutoEscape => "escaped",
-        _ => operator(instruction),
-    }
-}
-
-// The word of an operator between two operands.
-fn operator(instruction: &Instruction) -> &'static str {
-    match instruction {
         Instruction::Eq => "==",
         Instruction::Ne => "!=",
         Instruction::Lt => "<",
@@ -93,7 +87,6 @@ fn operator(instruction: &Instruction) -> &'static str {
         Instruction::IntDiv => "//",
         Instruction::Rem => "%",
         Instruction::Pow => "**",
-        _ => "?",
     }
 }
 
@@ -108,7 +101,14 @@ fn comparison(operator: BinaryOperator) -> &'static str {
         BinaryOperator::GreaterOrEqual => ">=",
         BinaryOperator::In => "in",
         BinaryOperator::NotIn => "not-in",
-        _ => "?",
+        BinaryOperator::Add
+        | BinaryOperator::Subtract
+        | BinaryOperator::Concatenate
+        | BinaryOperator::Multiply
+        | BinaryOperator::Divide
+        | BinaryOperator::FloorDivide
+        | BinaryOperator::Remainder
+        | BinaryOperator::Power => "?",
     }
 }
 
