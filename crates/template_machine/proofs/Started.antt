@@ -18,7 +18,7 @@ use Rattle.tm_meaning.specs.World.{Template, template_at}
 use Rattle.tm_meaning.specs.Tree.{template_of}
 use Rattle.tm_templates.specs.Templates.{tree_of}
 use Rattle.template_machine.specs.Environment.{EnvironmentValue, TemplateValue, host_of, meant}
-use Rattle.template_machine.specs.Held.{held_id, held_template, IsHeldOf}
+use Rattle.template_machine.specs.TemplateRef.{held_id, held_template, IsHeldOf}
 use Rattle.template_machine.specs.declared.template.TemplateRef.{TemplateRef}
 use Rattle.template_machine.specs.declared.template.TemplateRef.TheVariants.{Lent, Owned}
 use Rattle.template_machine.proofs.Meant.{template_meant}

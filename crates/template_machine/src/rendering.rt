@@ -1,7 +1,7 @@
 //! What a render runs under.
 ghost use Rattle.std.specs.Prelude.{◌≡◌};
 ghost use Rattle.template_machine.specs.Environment.{meant};
-ghost use Rattle.template_machine.specs.Held.{entry_id};
+ghost use Rattle.template_machine.specs.TemplateRef.{entry_id};
 
 use crate::environment::EnvironmentOf;
 use std::alloc::Global;
@@ -30,7 +30,7 @@ impl<'env, O: Drop> Model for Rendering<'env, O> {
 
     ghost coded = { Prim.hlevel (codes, coded_Val, statement.the_row.coded, O.code) };
 
-    ghost use Rattle.template_machine.specs.Held.{entry_id};
+    ghost use Rattle.template_machine.specs.TemplateRef.{entry_id};
 
     ghost view = { λ r. record {
       environment = r.environment.now;

@@ -1,7 +1,7 @@
 //! Templates of an environment.
 ghost use Rattle.std.specs.Prelude.{◌≡◌, ◌+◌, ◌<◌, [], ◌∷◌, Err, IfOk, IfErr};
 ghost use Rattle.tm_meaning.specs.World.{root_of};
-ghost use Rattle.template_machine.specs.Held.{entry_id, held_id, held_template, IsHeldOf};
+ghost use Rattle.template_machine.specs.TemplateRef.{entry_id, held_id, held_template, IsHeldOf};
 ghost use Rattle.template_machine.specs.Renders.{first, greatest, meaning, meaning_from, IsFresh, Ran, Rendered, RenderedText};
 
 use crate::environment::EnvironmentOf;
@@ -56,7 +56,7 @@ impl<'env, 'source, O: Drop> Model for TemplateOf<'env, 'source, O> {
 
     ghost coded = { Prim.hlevel (codes, coded_Val, statement.the_row.coded, O.code) };
 
-    ghost use Rattle.template_machine.specs.Held.{held_id, held_template, IsHeldOf};
+    ghost use Rattle.template_machine.specs.TemplateRef.{held_id, held_template, IsHeldOf};
 
     ghost view = { λ t. record {
       environment = t.environment.now;

@@ -1,5 +1,5 @@
-pub mod Parses
 pub mod Grammar
 pub mod Looks
+pub mod Parses
 pub mod Statements
 pub mod Template

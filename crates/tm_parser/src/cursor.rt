@@ -1,6 +1,6 @@
 //! Tokens one after another.
 ghost use Rattle.std.specs.Prelude.{◌≡◌, ◌∷◌, [], ◌↔◌, IsTrue, MatchResult, is_some};
-ghost use Rattle.tm_parser.specs.Gives.{Parses, TakesFirst, TakesSign};
+ghost use Rattle.tm_parser.specs.Parses.{Parses, TakesFirst, TakesSign};
 ghost use Rattle.tm_parser.specs.Grammar.{is, a_name, a_constant, comma, ends_part, ends_target, is_comma, keyword_start, link, prefix};
 ghost use Rattle.tm_parser.specs.Grammar.{target_comma};
 ghost use Rattle.tm_parser.specs.Looks.{starts};

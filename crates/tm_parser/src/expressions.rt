@@ -1,6 +1,6 @@
 //! Expressions: values with operators, steps and conditions behind them.
 ghost use Rattle.std.specs.Prelude.{◌≡◌, ◌∷◌, [], MatchResult};
-ghost use Rattle.tm_parser.specs.Gives.{Parses};
+ghost use Rattle.tm_parser.specs.Parses.{Parses};
 ghost use Rattle.tm_parser.specs.Grammar as grammar;
 ghost use Rattle.tm_parser.specs.Grammar.{inside, behind_comparison, comparison, comparisons_from};
 ghost use Rattle.tm_parser.specs.Grammar.{condition, conditions_from, conjunction, disjunction};

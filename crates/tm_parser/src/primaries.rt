@@ -1,6 +1,6 @@
 //! What stands between operators: literals, names, calls, and what stands in brackets.
 ghost use Rattle.std.specs.Prelude.{[]};
-ghost use Rattle.tm_parser.specs.Gives.{Parses};
+ghost use Rattle.tm_parser.specs.Parses.{Parses};
 ghost use Rattle.tm_parser.specs.Grammar.{inside, all_passed, argument, bracketed, items, keyword};
 ghost use Rattle.tm_parser.specs.Grammar.{list_literal, map_literal, more_items, more_passed};
 ghost use Rattle.tm_parser.specs.Grammar.{named, one_passed, pair, primary, tuple};

@@ -1,6 +1,6 @@
 //! Statements.
 ghost use Rattle.std.specs.Prelude.{◌≡◌, false, is_some};
-ghost use Rattle.tm_parser.specs.Gives.{Parses};
+ghost use Rattle.tm_parser.specs.Parses.{Parses};
 ghost use Rattle.tm_parser.specs.Grammar.{inside};
 ghost use Rattle.tm_parser.specs.Statements as spec;
 ghost use Rattle.tm_parser.specs.Statements.{autoescape_tag, block_end, block_tag, body, do_tag, elif_tag, else_or_end, else_tag};

@@ -1,6 +1,6 @@
 //! Whole templates.
 ghost use Rattle.std.specs.Prelude.{◌≡◌, List, IfOk, IfErr};
-ghost use Rattle.tm_parser.specs.Gives.{Refused};
+ghost use Rattle.tm_parser.specs.Parses.{Refused};
 ghost use Rattle.tm_parser.specs.Template.{SpellsNone, SpellsTemplate};
 ghost use Rattle.tm_syntax.specs.declared.token.Token.{Token};
 ghost use Rattle.tm_syntax.specs.declared.tree.Tree.{Tree};
