@@ -69,10 +69,10 @@ module _ (setting : Setting) where
       at context i.Not s pc (v ∷ stack) w e (after_then context (told s) (tick w) _
       (bind_then context (told s) w (tick w) _ _ _ (tick_gives _ w) h (λ _ world1 k h1.
       pushes context s pc stack (v ∷ stack) world1 (applied_unary context.program.host unaries.Not v world1) h1)))
-  unary_then unaries.Negate s pc v stack w e h =
-      at context i.Neg s pc (v ∷ stack) w e (after_then context (told s) (tick w) _
+  unary_then op s pc v stack w e h =
+      at context _ s pc (v ∷ stack) w e (after_then context (told s) (tick w) _
       (bind_then context (told s) w (tick w) _ _ _ (tick_gives _ w) h (λ _ world1 k h1.
-      pushes context s pc stack (v ∷ stack) world1 (applied_unary context.program.host unaries.Negate v world1) h1)))
+      pushes context s pc stack (v ∷ stack) world1 (applied_unary context.program.host op v world1) h1)))
 
   -- an instruction that is an operator
   operates : (op : BinaryOperator) (x : Instruction) → ((c : Config) → act context.program context.base (Some x) c ≡ after (tick c.world)
@@ -89,13 +89,6 @@ module _ (setting : Setting) where
       HasAt (context.program.code s.run.stream) pc (binary_code op) →
       Follows context (told s) (bind (tick w) (λ _ world1. applied_binary context.program.host op a b world1))
       (λ x world1. Go context s (beyond_all pc (binary_code op)) (x ∷ stack) world1) → Go context s pc (b ∷ a ∷ stack) w
-  binary_then binaries.Equal s pc a b stack w is h = operates binaries.Equal i.Eq (λ c. refl) s pc a b stack w is.0 h
-  binary_then binaries.NotEqual s pc a b stack w is h = operates binaries.NotEqual i.Ne (λ c. refl) s pc a b stack w is.0 h
-  binary_then binaries.Less s pc a b stack w is h = operates binaries.Less i.Lt (λ c. refl) s pc a b stack w is.0 h
-  binary_then binaries.LessOrEqual s pc a b stack w is h = operates binaries.LessOrEqual i.Lte (λ c. refl) s pc a b stack w is.0 h
-  binary_then binaries.Greater s pc a b stack w is h = operates binaries.Greater i.Gt (λ c. refl) s pc a b stack w is.0 h
-  binary_then binaries.GreaterOrEqual s pc a b stack w is h = operates binaries.GreaterOrEqual i.Gte (λ c. refl) s pc a b stack w is.0 h
-  binary_then binaries.In s pc a b stack w is h = operates binaries.In i.In (λ c. refl) s pc a b stack w is.0 h
   binary_then binaries.NotIn s pc a b stack w is h =
       at context i.In s pc (b ∷ a ∷ stack) w is.0 (after_then context (told s) (tick w) _
       (bind_then context (told s) w (tick w) _ _ _ (tick_gives _ w) h (λ _ world1 k h1.
@@ -103,14 +96,7 @@ module _ (setting : Setting) where
       (bind_then context (told s) world1 (operated context.program.host binaries.In a b world1) _ _ _
       (operated_gives context.program.host binaries.In a b world1) h1 (λ v world2 k2 h2.
       unary_then unaries.Not s (pc + 1) v stack world2 is.1.0 h2)))))
-  binary_then binaries.Add s pc a b stack w is h = operates binaries.Add i.Add (λ c. refl) s pc a b stack w is.0 h
-  binary_then binaries.Subtract s pc a b stack w is h = operates binaries.Subtract i.Sub (λ c. refl) s pc a b stack w is.0 h
-  binary_then binaries.Concatenate s pc a b stack w is h = operates binaries.Concatenate i.StringConcat (λ c. refl) s pc a b stack w is.0 h
-  binary_then binaries.Multiply s pc a b stack w is h = operates binaries.Multiply i.Mul (λ c. refl) s pc a b stack w is.0 h
-  binary_then binaries.Divide s pc a b stack w is h = operates binaries.Divide i.Div (λ c. refl) s pc a b stack w is.0 h
-  binary_then binaries.FloorDivide s pc a b stack w is h = operates binaries.FloorDivide i.IntDiv (λ c. refl) s pc a b stack w is.0 h
-  binary_then binaries.Remainder s pc a b stack w is h = operates binaries.Remainder i.Rem (λ c. refl) s pc a b stack w is.0 h
-  binary_then binaries.Power s pc a b stack w is h = operates binaries.Power i.Pow (λ c. refl) s pc a b stack w is.0 h
+  binary_then op s pc a b stack w is h = operates op _ (λ c. refl) s pc a b stack w is.0 h
 
   -- values become one
   pub built_then : (made : List Val → Val) (s : Spot) (pc n : ℕ) (vs stack : List Val) (w : World) → length vs ≡ n →

@@ -43,25 +43,11 @@ use Rattle.tm_simulation.proofs.Begins.{before_none, over_begins, either_begins}
 -- ---------------------------------------------------------------- expressions begin none
 unary_loopless : (op : UnaryOperator) → NoneBegins (unary_code op ∷ [])
 unary_loopless unaries.Not = (refl, tt)
-unary_loopless unaries.Negate = (refl, tt)
+unary_loopless _ = (refl, tt)
 
 binary_loopless : (op : BinaryOperator) → NoneBegins (binary_code op)
-binary_loopless binaries.Equal = (refl, tt)
-binary_loopless binaries.NotEqual = (refl, tt)
-binary_loopless binaries.Less = (refl, tt)
-binary_loopless binaries.LessOrEqual = (refl, tt)
-binary_loopless binaries.Greater = (refl, tt)
-binary_loopless binaries.GreaterOrEqual = (refl, tt)
-binary_loopless binaries.In = (refl, tt)
 binary_loopless binaries.NotIn = (refl, (refl, tt))
-binary_loopless binaries.Add = (refl, tt)
-binary_loopless binaries.Subtract = (refl, tt)
-binary_loopless binaries.Concatenate = (refl, tt)
-binary_loopless binaries.Multiply = (refl, tt)
-binary_loopless binaries.Divide = (refl, tt)
-binary_loopless binaries.FloorDivide = (refl, tt)
-binary_loopless binaries.Remainder = (refl, tt)
-binary_loopless binaries.Power = (refl, tt)
+binary_loopless _ = (refl, tt)
 
 mutual
   pub expr_loopless : (e : Expr) → Loopless (expr_code e)
