@@ -12,8 +12,6 @@ use Rattle.std.specs.Ordering.{nat_cmp}
 use Rattle.std.specs.Str.{bytes_eq}
 use denote.Hole.Carrier.{hidden}
 use Rattle.tm_syntax.specs.declared.tree.Expr.{Expr}
-use Rattle.tm_syntax.specs.declared.tree.AssignmentTarget.{AssignmentTarget}
-use Rattle.tm_syntax.specs.declared.tree.Assignment.{Assignment}
 use Rattle.tm_syntax.specs.declared.tree.Stmt.{Stmt}
 use Rattle.tm_syntax.specs.declared.tree.Stmt.TheBlock.{shape-the_row-Stmt-0, hidden-the_row-Stmt-0 as row}
 use Rattle.tm_syntax.specs.declared.tree.Stmt.TheVariants as stmts
@@ -54,19 +52,7 @@ pub names_of_block : (name : List ℕ) (body : List Stmt) → names_of (stmts.Bl
 unfolding hidden row shape-the_row-Stmt-0
 names_of_block name body = refl
 
-pub names_of_set_block : (to : AssignmentTarget) (body : List Stmt) → names_of (stmts.SetBlock to body) ≡ block_names body
-unfolding hidden row shape-the_row-Stmt-0
-names_of_set_block to body = refl
-
-pub names_of_with : (given : List Assignment) (body : List Stmt) → names_of (stmts.With given body) ≡ block_names body
-unfolding hidden row shape-the_row-Stmt-0
-names_of_with given body = refl
-
-pub names_of_autoescape : (x : Expr) (body : List Stmt) → names_of (stmts.AutoEscape x body) ≡ block_names body
-unfolding hidden row shape-the_row-Stmt-0
-names_of_autoescape x body = refl
-
-pub ruleset forms = (names_of_if, names_of_if_else, names_of_for, names_of_block, names_of_set_block, names_of_with, names_of_autoescape)
+pub ruleset forms = (names_of_if, names_of_if_else, names_of_for, names_of_block)
 
 -- the loop over statements: what is left behind one, and behind the last
 pub one_more : (old new goal : List (List ℕ)) (ss : List Stmt) (k : ℕ) (s : Stmt) → k < length ss → s ≡ get_or ss k s →
