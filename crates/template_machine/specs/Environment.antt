@@ -1,5 +1,5 @@
 -- Environments and templates as plain data, over all objects of the caller as one.
-use Rattle.std.specs.Prelude.{◌≡◌, ℕ, List, [], codes, map as each, Ok, Option, Some, None}
+use Rattle.std.specs.Prelude.{◌≡◌, ℕ, List, [], map as each, Ok, Option, Some, None}
 use Rattle.tm_values.specs.Val.{Val, function}
 use Rattle.tm_values.specs.declared.undefined.UndefinedBehavior.{UndefinedBehavior}
 use Rattle.tm_values.specs.declared.undefined.UndefinedBehavior.TheVariants.{Lenient}
@@ -12,6 +12,7 @@ use Rattle.tm_meaning.specs.declared.stream.TemplateId.{TemplateId}
 use Rattle.tm_meaning.specs.declared.stream.TemplateId.TheVariants.{Own, Entry}
 use Rattle.tm_meaning.specs.World.{Bindings, HostValue, Template, Function, or_is}
 use Rattle.tm_meaning.specs.Tree.{TemplateTree, Trees, template_of, trees_of}
+use Rattle.tm_tables.specs.Language.{language_globals}
 use Rattle.tm_tables.specs.Stated.{Table, language_functions, with_object, next_number}
 use Rattle.tm_templates.specs.Templates.{Compiled, IsTemplate, tree_of}
 use Rattle.tm_templates.specs.declared.defaults.EscapeSetting.{EscapeSetting}
@@ -49,10 +50,6 @@ empty_environment objects = record {
   fuel = None;
   limit = greatest_limit;
 }
-
--- the functions of the language by their names
-abbrev pub language_globals : Bindings
-language_globals = put (codes "namespace") (function 2) (put (codes "dict") (function 1) (put (codes "range") (function 0) []))
 
 -- an environment with what a template may expect: the names of the language's functions, and it is escaped as its name asks
 abbrev pub expected_environment : {O : Type 0} → O → EnvironmentValue O

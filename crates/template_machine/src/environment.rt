@@ -1,5 +1,6 @@
 //! The environment.
-ghost use Rattle.std.specs.Prelude.{◌≡◌, ◌≢◌, ◌<◌, [], ◌∷◌, Some, None, codes, min, OnOk, OnErr, IfOk, IfErr, MatchResult, length, slice_get};
+ghost use Rattle.std.specs.Prelude.{◌≡◌, ◌≢◌, ◌<◌, [], ◌∷◌, Some, None, codes, min, OnOk, OnErr, IfOk, IfErr};
+ghost use Rattle.std.specs.Prelude.{MatchResult, length, slice_get};
 ghost use Rattle.tm_syntax.specs.Named.{find, pairs_of, put, without};
 ghost use Rattle.tm_tables.specs.Stated.{no_functions};
 ghost use Rattle.tm_templates.specs.Templates.{Compiled, IsRefused};
@@ -8,7 +9,8 @@ ghost use Rattle.tm_values.specs.Val.{function};
 ghost use Rattle.std.specs.Prelude.{string_bytes};
 ghost use Rattle.tm_templates.specs.Sources.{source_bytes};
 ghost use Rattle.template_machine.specs.Renders.{greatest, IsUnnumbered, RenderedSource};
-ghost use Rattle.template_machine.specs.Environment.{IsTemplateOf, IsEntryOf, IsMadeIn, empty_environment, new_environment, language_globals, with_function, with_global, greatest_limit};
+ghost use Rattle.template_machine.specs.Environment.{IsTemplateOf, IsEntryOf, IsMadeIn, empty_environment};
+ghost use Rattle.template_machine.specs.Environment.{new_environment, with_function, with_global, greatest_limit};
 
 use crate::ids::StateIds;
 use crate::template::{TemplateRef, TemplateOf};
@@ -16,7 +18,7 @@ use std::alloc::Global;
 use std::marker::Model;
 use tm_compiler::SyntaxConfig;
 use tm_syntax::{Name, NameMap};
-use tm_tables::{Callable, Objects, Parties};
+use tm_tables::{Callable, Objects, Parties, language_globals};
 use tm_templates::{CompiledTemplate, EscapeSetting, Source, TemplateConfig, Templates};
 use tm_values::{Error, ErrorKind, UndefinedBehavior, Value};
 
@@ -80,7 +82,8 @@ impl<'source, O: Drop> Model for EnvironmentOf<'source, O> {
 }
 
 impl<'source, O: Drop> EnvironmentOf<'source, O> {
-    /// Compiles a source and puts it at a name, in place of the template that is there. SyntaxError where the source spells no template, OutOfMemory where there is no memory; then the environment stays as it was.
+    /// Compiles a source and puts it at a name, in place of the template that is there. SyntaxError where the
+    /// source spells no template, OutOfMemory where there is no memory; then the environment stays as it was.
     pub fn add_template(&mut self, name: &str, source: &'source str) -> Result<(), Error>
         ensures ok { OnOk result ((t : Compiled) × IsTemplateOf self.old name.now source.entry.now t
             × (self.new ≡ record self.old { templates = put name.now t self.old.templates })) }
@@ -98,10 +101,8 @@ impl<'source, O: Drop> EnvironmentOf<'source, O> {
         ensures refused { IfErr result (IsRefused self.old.syntax (string_bytes source)) }
         ensures err { OnErr result (self.new ≡ self.old) }
     {
-        match Source::owned(source) {
-            Ok(source) => self.put_template(name, source),
-            Err(error) => Err(error),
-        }
+        let source = Source::owned(source)?;
+        self.put_template(name, source)
     }
 
     /// Compiles a source and puts it at a name.
@@ -112,10 +113,7 @@ impl<'source, O: Drop> EnvironmentOf<'source, O> {
         ensures refused { IfErr result (IsRefused self.old.syntax (source_bytes source.entry)) }
         ensures err { OnErr result (self.new ≡ self.old) }
     {
-        let compiled = match CompiledTemplate::new(self.alloc, name, source, &self.config) {
-            Ok(compiled) => compiled,
-            Err(error) => return Err(error),
-        };
+        let compiled = CompiledTemplate::new(self.alloc, name, source, &self.config)?;
         let name = Name::new(self.alloc, name)?;
         self.templates.insert(name, compiled)
     }
@@ -132,7 +130,8 @@ impl<'source, O: Drop> EnvironmentOf<'source, O> {
         }
     }
 
-    /// The template of a source, which the environment doesn't keep, under the name `<string>`. SyntaxError where the source spells no template, OutOfMemory where there is no memory.
+    /// The template of a source, which the environment doesn't keep, under the name `<string>`. SyntaxError
+    /// where the source spells no template, OutOfMemory where there is no memory.
     pub fn template_from_str(
         &self,
         source: &'source str,
@@ -143,7 +142,8 @@ impl<'source, O: Drop> EnvironmentOf<'source, O> {
         self.template_from_named_str(UNNAMED, source)
     }
 
-    /// The template of a source, which the environment doesn't keep, under a name. SyntaxError where the source spells no template, OutOfMemory where there is no memory.
+    /// The template of a source, which the environment doesn't keep, under a name. SyntaxError where the
+    /// source spells no template, OutOfMemory where there is no memory.
     pub fn template_from_named_str(
         &self,
         name: &str,
@@ -153,10 +153,9 @@ impl<'source, O: Drop> EnvironmentOf<'source, O> {
         ensures refused { IfErr result (IsRefused self.now.syntax source.entry.now) }
     {
         let source = Source::Lent(source);
-        match CompiledTemplate::new(self.alloc, name, source, &self.config) {
-            Ok(compiled) => Ok(TemplateOf::new(self, TemplateRef::Owned(Box::new(self.alloc, compiled)?))),
-            Err(error) => Err(error),
-        }
+        let template = CompiledTemplate::new(self.alloc, name, source, &self.config)?;
+        let owned = Box::new(self.alloc, template)?;
+        Ok(TemplateOf::new(self, TemplateRef::Owned(owned)))
     }
 
     /// Sets the fuel of each later render; none is the greatest u64.
@@ -215,7 +214,8 @@ impl<'source, O: Drop> EnvironmentOf<'source, O> {
         &self.config.syntax_config
     }
 
-    /// Makes a value a global: its name stands for it, in place of what stood there, a function too. Where there is no memory, OutOfMemory, and the environment stays as it was.
+    /// Makes a value a global: its name stands for it, in place of what stood there, a function too. Where
+    /// there is no memory, OutOfMemory, and the environment stays as it was.
     pub fn add_global(&mut self, name: &str, value: Value) -> Result<(), Error>
         ensures ok { OnOk result (self.new ≡ with_global name.now value self.old) }
         ensures kind { IfErr result (λ e. e ≡ ErrorKind.OutOfMemory ∷ []) }
@@ -226,7 +226,8 @@ impl<'source, O: Drop> EnvironmentOf<'source, O> {
         Ok(())
     }
 
-    /// Drops the global of a name, a function's too; the functions keep their numbers. Other names stand for what they did, and a name that isn't there changes nothing.
+    /// Drops the global of a name, a function's too; the functions keep their numbers. Other names stand for
+    /// what they did, and a name that isn't there changes nothing.
     pub fn remove_global(&mut self, name: &str)
         ensures rest { self.new ≡ record self.old { globals = without name.now self.old.globals } }
         ensures absent { find name.now self.old.globals ≡ None → self.new ≡ self.old }
@@ -290,7 +291,9 @@ impl<'source, O: Parties> EnvironmentOf<'source, O> {
         self.render_named_str(ids, UNNAMED, source, context)
     }
 
-    /// Renders a source, which the environment doesn't keep, under a name, as the next state of the counter. SyntaxError where the source spells no template; InvalidOperation, and nothing runs, where the counter is full; else as a template's `render`.
+    /// Renders a source, which the environment doesn't keep, under a name, as the next state of the counter.
+    /// SyntaxError where the source spells no template; InvalidOperation, and nothing runs, where the counter
+    /// is full; else as a template's `render`.
     pub fn render_named_str(
         &self,
         ids: &mut StateIds,
@@ -304,16 +307,15 @@ impl<'source, O: Parties> EnvironmentOf<'source, O> {
             RenderedSource O.functions self.now name.now source.entry.now
             ids.old ids.new context result }
     {
-        let template = match self.template_from_named_str(name, source) {
-            Ok(template) => template,
-            Err(error) => return Err(error),
-        };
+        let template = self.template_from_named_str(name, source)?;
         template.render(ids, context)
     }
 }
 
 impl<'source, C: Drop> EnvironmentOf<'source, Objects<C>> {
-    /// An environment with what a template may expect: what it emits is escaped as its name asks (`default_auto_escape_callback`), and it has the globals `range`, `dict` and `namespace`, the functions 0, 1 and 2; else the same as `empty`. Fails by OutOfMemory alone.
+    /// An environment with what a template may expect: what it emits is escaped as its name asks
+    /// (`default_auto_escape_callback`), and the functions of the language are the globals of their names; else
+    /// the same as `empty`. Fails by OutOfMemory alone.
     pub fn new(alloc: Global) -> Result<EnvironmentOf<'source, Objects<C>>, Error>
         ensures { OkOrOutOfMemory result (λ e. e ≡ new_environment) }
     {
@@ -326,7 +328,8 @@ impl<'source, C: Drop> EnvironmentOf<'source, Objects<C>> {
         ))
     }
 
-    /// No templates, the default delimiters, nothing escaped, no functions, lenient undefined values, no fuel set, and scopes at most 500 deep.
+    /// No templates, the default delimiters, nothing escaped, no functions, lenient undefined values, no fuel
+    /// set, and scopes at most 500 deep.
     pub fn empty(alloc: Global) -> EnvironmentOf<'source, Objects<C>>
         ensures { result ≡ empty_environment no_functions }
     {
@@ -365,7 +368,8 @@ impl<'source, C: Drop> EnvironmentOf<'source, Objects<C>> {
         }
     }
 
-    /// Makes an object a function: it gets the next number, and the global of the name is the function of that number. Where there is no memory, OutOfMemory, and the environment stays as it was.
+    /// Makes an object a function: it gets the next number, and the global of the name is the function of
+    /// that number. Where there is no memory, OutOfMemory, and the environment stays as it was.
     pub fn add_function(&mut self, name: &str, object: C) -> Result<(), Error>
         ensures ok { OnOk result (self.new ≡ with_function name.now object self.old) }
         ensures kind { IfErr result (λ e. e ≡ ErrorKind.OutOfMemory ∷ []) }
@@ -382,29 +386,4 @@ impl<'source, C: Drop> EnvironmentOf<'source, Objects<C>> {
         }
         Ok(())
     }
-}
-
-/// The functions of the language by their names. Fails by OutOfMemory alone.
-fn language_globals(alloc: Global) -> Result<NameMap<Value>, Error>
-    ensures { OkOrOutOfMemory result (λ globals. globals ≡ language_globals) }
-{
-    let mut globals = NameMap::new(alloc);
-    name_function(alloc, &mut globals, "range", 0)?;
-    name_function(alloc, &mut globals, "dict", 1)?;
-    name_function(alloc, &mut globals, "namespace", 2)?;
-    Ok(globals)
-}
-
-/// Makes the function of a number the global of a name. Fails by OutOfMemory alone.
-fn name_function(
-    alloc: Global,
-    globals: &mut NameMap<Value>,
-    name: &str,
-    number: usize,
-) -> Result<(), Error>
-    ensures ok { OnOk result (globals.new ≡ put name.now (function number) globals.old) }
-    ensures kind { IfErr result (λ e. e ≡ ErrorKind.OutOfMemory ∷ []) }
-{
-    globals.insert(Name::new(alloc, name)?, Value::function(number))?;
-    Ok(())
 }

@@ -72,7 +72,8 @@ impl<'env, O: Drop> StateOf<'env, O> {
         self.kept.get_temp(name)
     }
 
-    /// Keeps a value at a name, and gives the one that was kept there. Where there is no memory, OutOfMemory, and the state stays as it was.
+    /// Keeps a value at a name, and gives the one that was kept there. Where there is no memory, OutOfMemory,
+    /// and the state stays as it was.
     pub fn set_temp(&mut self, name: &str, value: Value) -> Result<Option<Value>, Error>
         ensures before { IfOk result (λ before. before ≡ find name.now self.old.world.temps) }
         ensures ok { OnOk result (self.new ≡ with_temp name.now value self.old) }
@@ -107,7 +108,8 @@ impl<'env, O: Parties> StateOf<'env, O> {
         self.rendering.template_name(&self.kept.stream().template)
     }
 
-    /// The value of a name: of the scopes, an inner one's first, else of the globals. InvalidOperation where a scope on the way is over a namespace whose record isn't there; OutOfMemory.
+    /// The value of a name: of the scopes, an inner one's first, else of the globals. InvalidOperation where
+    /// a scope on the way is over a namespace whose record isn't there; OutOfMemory.
     pub fn lookup(&self, name: &str) -> Result<Option<Value>, Error>
         ensures { IsAnswer result (find_name
             (view_of (host_of O.functions self.now.template) self.now.world) name.now) }
@@ -116,7 +118,8 @@ impl<'env, O: Parties> StateOf<'env, O> {
         self.kept.lookup(&self.rendering, &hashed)
     }
 
-    /// The names that a look-up finds, of the scopes and of the globals, each once, in their order. InvalidOperation where a scope is over a namespace whose record isn't there; OutOfMemory.
+    /// The names that a look-up finds, of the scopes and of the globals, each once, in their order.
+    /// InvalidOperation where a scope is over a namespace whose record isn't there; OutOfMemory.
     pub fn known_variables(&self) -> Result<Vec<&str>, Error>
         ensures order { IfOk result
             (λ names. IsStrictlySortedBy name_cmp (texts_of names.items)) }

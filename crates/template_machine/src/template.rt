@@ -137,7 +137,9 @@ impl<'env, 'source, O: Drop> TemplateOf<'env, 'source, O> {
 }
 
 impl<'env, 'source, O: Parties> TemplateOf<'env, 'source, O> {
-    /// Renders the template over a context value, as the next state of the counter, and gives the text. InvalidOperation, and nothing runs, where the counter is full; OutOfMemory where there is no memory; else the fault that was meant.
+    /// Renders the template over a context value, as the next state of the counter, and gives the text.
+    /// InvalidOperation, and nothing runs, where the counter is full; OutOfMemory where there is no memory;
+    /// else the fault that was meant.
     pub fn render(&self, ids: &mut StateIds, context: Value) -> Result<String, Error>
         ensures full { ids.old ≡ greatest →
             (result ≡ Err (ErrorKind.InvalidOperation ∷ [])) × (ids.new ≡ ids.old) }
@@ -156,7 +158,9 @@ impl<'env, 'source, O: Parties> TemplateOf<'env, 'source, O> {
         }
     }
 
-    /// Renders the template over a context value, as the next state of the counter, into a writer. InvalidOperation, and nothing runs, where the counter is full; WriteFailure where the writer fails or takes nothing; OutOfMemory where there is no memory; else the fault that was meant.
+    /// Renders the template over a context value, as the next state of the counter, into a writer.
+    /// InvalidOperation, and nothing runs, where the counter is full; WriteFailure where the writer fails or
+    /// takes nothing; OutOfMemory where there is no memory; else the fault that was meant.
     pub fn render_captured_to<W: Sink>(
         &self,
         ids: &mut StateIds,

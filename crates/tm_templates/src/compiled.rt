@@ -134,18 +134,9 @@ impl<'source> CompiledTemplate<'source> {
         ensures refused { IfErr result
             (IsRefused config.now.syntax_config (source_bytes source.entry)) }
     {
-        let text = match source.shared(alloc) {
-            Ok(text) => text,
-            Err(error) => return Err(error),
-        };
-        let tree = match parse(alloc, &text, &config.syntax_config) {
-            Ok(tree) => tree,
-            Err(error) => return Err(error),
-        };
-        let streams = match generate(alloc, &tree) {
-            Ok(streams) => streams,
-            Err(error) => return Err(error),
-        };
+        let text = source.shared(alloc)?;
+        let tree = parse(alloc, &text, &config.syntax_config)?;
+        let streams = generate(alloc, &tree)?;
         let escape = config.default_auto_escape.escape(name);
         let name = Name::new(alloc, name)?;
         Ok(CompiledTemplate {

@@ -26,7 +26,9 @@ impl EscapeSetting {
     }
 }
 
-/// How a template is escaped by its name: what follows the last dot is asked, or the whole name where there is none; one ending `.j2`, `.jinja2` or `.jinja` is left out before. `html`, `htm` and `xml` are escaped for HTML, `json`, `json5`, `js`, `yaml` and `yml` for JSON, and all else isn't escaped.
+/// How a template is escaped by its name: what follows the last dot is asked, or the whole name where there
+/// is none; one ending `.j2`, `.jinja2` or `.jinja` is left out before. `html`, `htm` and `xml` are escaped
+/// for HTML, `json`, `json5`, `js`, `yaml` and `yml` for JSON, and all else isn't escaped.
 pub fn default_auto_escape_callback(name: &str) -> AutoEscape
     ensures { result ≡ spec.escape_by_name name.now }
 {
