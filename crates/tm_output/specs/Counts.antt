@@ -7,6 +7,12 @@ pub record Tally (W : Type 0) : Type 0 where
   pub writer : W
   pub failures : ℕ
 
+-- a sink behind a limit, how many bytes it may still take, and how many calls failed or took nothing
+pub record Bounded (S : Type 0) : Type 0 where
+  pub sink : S
+  pub left : ℕ
+  pub failures : ℕ
+
 -- one more, but never more than a u64 holds
 abbrev pub saturating_increment : ℕ → ℕ
 saturating_increment n = min (n + 1) (2 ^ 64 - 1)
@@ -16,6 +22,11 @@ abbrev pub fault_count : {E : Type 0} → Result ℕ E → ℕ → ℕ
 fault_count (Ok zero) n = saturating_increment n
 fault_count (Ok (suc taken)) n = n
 fault_count (Err e) n = saturating_increment n
+
+-- what is left of a limit after a write: less by what it took
+abbrev pub left_after : {E : Type 0} → Result ℕ E → ℕ → ℕ
+left_after (Ok taken) left = left - taken
+left_after (Err e) left = left
 
 -- known bytes grow by a beginning of the text
 abbrev pub AppendsBeginning : Option (List ℕ) → Option (List ℕ) → List ℕ → Type 0

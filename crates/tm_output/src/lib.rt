@@ -1,8 +1,10 @@
 //! Where text goes: writers whose faults are counted, and whatever takes a text piece by piece.
 #![tactic(auto)]
 
+mod limited;
 mod sink;
 mod target;
 
+pub use limited::Limited;
 pub use sink::{Counted, NullWriter, Sink, write_text};
 pub use target::{Target, TargetFailed};
