@@ -19,7 +19,7 @@ pub use tm_compiler::{
 pub use tm_meaning::{GlobalFunction, Reply};
 pub use tm_operations as operations;
 pub use tm_output::{Target, TargetFailed};
-pub use tm_parts::{Counted, NullWriter, Output, Sink, WriteWrapper};
+pub use tm_parts::{Counted, Limited, NullWriter, Output, Sink, WriteWrapper};
 pub use tm_printing as printing;
 pub use tm_syntax::{Assignment, Code, AssignmentTarget};
 pub use tm_tables::{

@@ -12,4 +12,4 @@ pub use halt::Halt;
 pub use operators::{binary, paired, unary};
 pub use output::{Captures, Output, WriteWrapper};
 pub use stack::Stack;
-pub use tm_output::{Counted, NullWriter, Sink, write_text};
+pub use tm_output::{Counted, Limited, NullWriter, Sink, write_text};
