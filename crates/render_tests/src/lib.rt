@@ -4,6 +4,8 @@
 #[cfg(test)]
 mod bounds;
 #[cfg(test)]
+mod limited;
+#[cfg(test)]
 mod loops;
 #[cfg(test)]
 mod party;

@@ -1,0 +1,116 @@
+//! Renders into a sink with an end.
+
+use std::alloc::Global;
+use std::test::Fail;
+use template_machine::*;
+
+/// A list that holds one list twice, which holds another one twice, and so on. Its text has megabytes.
+const DOUBLED: &str =
+    "{% set n = namespace(s=[1]) %}{% for i in range(20) %}{% set n.s = [n.s, n.s] %}{% endfor %}{{ n.s }}";
+
+type Bytes = Limited<Counted<Vec<u8>>>;
+
+/// A render into so many bytes: how much of the limit is left, and what stands in the sink behind it.
+struct Case {
+    source: &'static str,
+    limit: usize,
+    left: usize,
+    /// What the text begins with.
+    start: &'static str,
+    /// Whether the render is WriteFailure; else it is done.
+    fails: bool,
+}
+
+static CASES: &[Case] = &[
+    Case {
+        source: "Hello {{ 'World' }}!",
+        limit: 8,
+        left: 0,
+        start: "Hello Wo",
+        fails: true,
+    },
+    Case {
+        source: "Hello {{ 'World' }}!",
+        limit: 11,
+        left: 0,
+        start: "Hello World",
+        fails: true,
+    },
+    Case {
+        source: "Hello {{ 'World' }}!",
+        limit: 12,
+        left: 0,
+        start: "Hello World!",
+        fails: false,
+    },
+    Case {
+        source: "Hello {{ 'World' }}!",
+        limit: 20,
+        left: 8,
+        start: "Hello World!",
+        fails: false,
+    },
+    Case {
+        source: "x",
+        limit: 0,
+        left: 0,
+        start: "",
+        fails: true,
+    },
+    Case {
+        source: "\u{e9}",
+        limit: 1,
+        left: 0,
+        start: "",
+        fails: true,
+    },
+    Case {
+        source: DOUBLED,
+        limit: 1000,
+        left: 0,
+        start: "[[[[[[[[[[[[[[[[[[[[[1], [1]], [[1], [1]]], ",
+        fails: true,
+    },
+];
+
+/// The kind that a render ends with; none where it is done.
+fn end_of(template: &Template<'_, '_>, writer: &mut Bytes) -> Option<ErrorKind> {
+    match template.render_captured_to(&mut StateIds::new(), Value::undefined(), writer) {
+        Ok(_captured) => None,
+        Err(error) => Some(error.kind()),
+    }
+}
+
+/// Whether a sink took what is left of the limit, and text that begins like this.
+fn took(writer: &Bytes, case: &Case) -> bool {
+    let counted = writer.inner();
+    let bytes = counted.inner().as_slice();
+    writer.left() == case.left
+        && writer.failures() == case.fails as u64
+        && counted.failures() == 0
+        && bytes.len() == case.limit.saturating_sub(case.left)
+        && bytes.starts_with(case.start.as_bytes())
+}
+
+/// Whether a render comes to what its case says.
+fn ends(alloc: Global, environment: &Environment<'_>, case: &Case) -> Result<bool, Error> {
+    let template = environment.template_from_str(case.source)?;
+    let mut writer = Limited::new(Counted::new(Vec::new(alloc)), case.limit);
+    let end = end_of(&template, &mut writer);
+    let is_end = match end {
+        Some(kind) => case.fails && kind == ErrorKind::WriteFailure,
+        None => !case.fails,
+    };
+    Ok(is_end && took(&writer, case))
+}
+
+#[test]
+fn a_sink_with_an_end(rt: HostRuntime) -> Result<(), Fail> {
+    let environment = Environment::new(rt.alloc())?;
+    for case in CASES {
+        if !ends(rt.alloc(), &environment, case)? {
+            return Err(Fail::new(case.source));
+        }
+    }
+    Ok(())
+}
