@@ -8,8 +8,10 @@ Leaves done left whole = option_map (λ xs. done ++ xs) left ≡ whole
 -- the next one is done
 pub next_done : {A B : Type 0} (f : A → B) (done : List B) (o : Option A) (a : A) (left whole : Option (List B)) → o ≡ Some a →
     Leaves done (option_and_then (λ x. option_map (λ xs. f x ∷ xs) left) o) whole → Leaves (done ++ f a ∷ []) left whole
-next_done f done o a left whole is leaves = grown done (f a) left ∙ (ap (λ p. option_map (λ xs. done ++ xs) (option_and_then (λ x. option_map (λ xs. f x ∷ xs) left) p)) (sym is) ∙ leaves)
+next_done f done o a left whole is leaves = grown done (f a) left
+    ∙ (ap (λ p. option_map (λ xs. done ++ xs) (option_and_then (λ x. option_map (λ xs. f x ∷ xs) left) p)) (sym is) ∙ leaves)
   where
-    grown : {B : Type 0} (done : List B) (x : B) (left : Option (List B)) → option_map (λ xs. (done ++ x ∷ []) ++ xs) left ≡ option_map (λ xs. done ++ xs) (option_map (λ xs. x ∷ xs) left)
+    grown : {B : Type 0} (done : List B) (x : B) (left : Option (List B)) →
+        option_map (λ xs. (done ++ x ∷ []) ++ xs) left ≡ option_map (λ xs. done ++ xs) (option_map (λ xs. x ∷ xs) left)
     grown done x None = refl
     grown done x (Some xs) = ap Some (append_assoc done (x ∷ []) xs)

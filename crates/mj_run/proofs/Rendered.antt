@@ -1,5 +1,6 @@
 -- What the program renders is what the words and the source mean.
-use Rattle.std.proofs.Common.{◌≡◌, ℕ, inl, inr, List, [], ◌∷◌, Option, None, Some, Result, Ok, Err, min, IsErrAnd, MatchResult, is_eq, ◌<◌, arith, refl, sym, ap, subst, ◌∙◌}
+use Rattle.std.proofs.Common.{◌≡◌, ℕ, inl, inr, List, [], ◌∷◌, Option, None, Some, Result, Ok, Err, min, IsErrAnd, MatchResult, is_eq, ◌<◌}
+use Rattle.std.proofs.Common.{arith, refl, sym, ap, subst, ◌∙◌}
 use Rattle.std.specs.Prelude.{cond, true}
 use Rattle.std.specs.Io.KnownBytes.{Keeps, Appends}
 use Rattle.std.proofs.lemmas.Cmp.{nat_list_cmp_total, tied_itself}
@@ -20,10 +21,13 @@ use Rattle.tm_tables.specs.Stated.{Table, language_functions, functions_of, behi
 use Rattle.tm_templates.specs.Templates.{Compiled, IsRefused}
 use Rattle.tm_meaning.specs.declared.stream.TemplateId.{TemplateId}
 use Rattle.tm_meaning.specs.declared.stream.TemplateId.TheVariants.{Entry}
-use Rattle.template_machine.specs.Environment.{EnvironmentValue, TemplateValue, IsTemplateOf, IsEntryOf, expected_environment, new_environment, greatest_limit}
-use Rattle.template_machine.specs.Renders.{CapturedValue, StateValue, answer_by, greatest, meaning, Rendered, as_meant, by_writer, by_memory}
+use Rattle.template_machine.specs.Environment.{EnvironmentValue, TemplateValue, IsTemplateOf, IsEntryOf, expected_environment}
+use Rattle.template_machine.specs.Environment.{new_environment, greatest_limit}
+use Rattle.template_machine.specs.Renders.{CapturedValue, StateValue, answer_by, greatest, meaning, Rendered, as_meant, by_writer}
+use Rattle.template_machine.specs.Renders.{by_memory}
 use Rattle.mj_words.specs.CommandLine.{Text, ArgumentsValue}
-use Rattle.mj_run.specs.Program.{Input, context_of, limit_of, template_in, meaning_of, IsMeant, IsRendered, IsBegun, IsFault, no_memory, write_failed, flush_failed, no_tree, meant}
+use Rattle.mj_run.specs.Program.{Input, context_of, limit_of, template_in, meaning_of, IsMeant, IsRendered, IsBegun, IsFault, no_memory}
+use Rattle.mj_run.specs.Program.{write_failed, flush_failed, no_tree, meant}
 
 found_there : (name : Text) (t : Compiled) → find name (put name t []) ≡ Some t
 found_there name t = ap (λ o. cond (is_eq o) (Some t) None) (tied_itself nat_list_cmp_total name)
@@ -40,13 +44,16 @@ template_over objects name templates fuel limit t = record {
   template = t;
 }
 
-means_same : {O P : Type 0} (fs gs : List Function) (o : O) (p : P) (name : Text) (templates : Named Compiled) (fuel : Option ℕ) (limit : ℕ) (t : Compiled) (id : ℕ) (context : Val) → fs ≡ gs →
-    meaning (λ _. fs) (template_over o name templates fuel limit t) id context ≡ meaning (λ _. gs) (template_over p name templates fuel limit t) id context
+means_same : {O P : Type 0} (fs gs : List Function) (o : O) (p : P) (name : Text) (templates : Named Compiled) (fuel : Option ℕ) (limit : ℕ)
+    (t : Compiled) (id : ℕ) (context : Val) → fs ≡ gs →
+    meaning (λ _. fs) (template_over o name templates fuel limit t) id context
+    ≡ meaning (λ _. gs) (template_over p name templates fuel limit t) id context
 means_same fs gs o p name templates fuel limit t id context same =
     ap (λ (hs : List Function). meaning (λ x. x) (template_over hs name templates fuel limit t) id context) same
 
 -- without objects there are the functions of the language
-pub none_of : {C : Type 0} (answers : C → List Val → View → Stated) (objects : Table C) → objects ≡ language_functions → functions_of answers objects ≡ behind_language true []
+pub none_of : {C : Type 0} (answers : C → List Val → View → Stated) (objects : Table C) → objects ≡ language_functions →
+    functions_of answers objects ≡ behind_language true []
 none_of answers objects none = ap (functions_of answers) none
 
 compiled_is : (t : Compiled) (name source : Text) (escape : AutoEscape) → t.name ≡ name → t.source ≡ source → t.escape ≡ escape →
@@ -64,10 +71,12 @@ module _ {C : Type 0} where
   settled a = record empty { fuel = a.fuel; limit = limit_of a.limit }
 
   -- what an environment is behind its settings
-  pub started : (a : ArgumentsValue) (limit : ℕ) (first fuelled set : EnvironmentValue (Table C)) → first ≡ empty → fuelled ≡ record first { fuel = a.fuel } →
+  pub started : (a : ArgumentsValue) (limit : ℕ) (first fuelled set : EnvironmentValue (Table C)) → first ≡ empty →
+      fuelled ≡ record first { fuel = a.fuel } →
       set ≡ record fuelled { limit = min limit greatest_limit } → min limit greatest_limit ≡ limit_of a.limit → set ≡ settled a
   started a limit first fuelled set start fuel limited same =
-      limited ∙ (ap (λ (e : EnvironmentValue (Table C)). record e { limit = min limit greatest_limit }) (fuel ∙ ap (λ (e : EnvironmentValue (Table C)). record e { fuel = a.fuel }) start)
+      limited ∙ (ap (λ (e : EnvironmentValue (Table C)). record e { limit = min limit greatest_limit }) (fuel
+      ∙ ap (λ (e : EnvironmentValue (Table C)). record e { fuel = a.fuel }) start)
       ∙ ap (λ n. record empty { fuel = a.fuel; limit = n }) same)
 
   -- another template of the environment in which one was put alone
@@ -79,8 +88,10 @@ module _ {C : Type 0} where
   put_alone a t = put_there_as a t t
 
   -- The template that is found means what the words and a tree of the source mean.
-  pub is_meant : (fs : List Function) (i : Input) (set added : EnvironmentValue (Table C)) (t : Compiled) (found : TemplateValue (Table C)) (context : Val) →
-      (found.environment.objects ≡ language_functions → fs ≡ behind_language true []) → set ≡ settled i.asked → IsTemplateOf set i.asked.file i.source t → added ≡ record set { templates = put i.asked.file t set.templates } →
+  pub is_meant : (fs : List Function) (i : Input) (set added : EnvironmentValue (Table C)) (t : Compiled) (found : TemplateValue (Table C))
+      (context : Val) →
+      (found.environment.objects ≡ language_functions → fs ≡ behind_language true []) → set ≡ settled i.asked →
+      IsTemplateOf set i.asked.file i.source t → added ≡ record set { templates = put i.asked.file t set.templates } →
       IsEntryOf added i.asked.file found → context ≡ context_of i.members i.asked.texts →
       IsMeant (λ _. fs) found context i
   is_meant fs i set added t found context none start is put_there (same, id, there) given =
@@ -88,34 +99,45 @@ module _ {C : Type 0} where
       let source = i.source in
       let whole : added ≡ record (settled a) { templates = put a.file t [] } =
       put_there ∙ ap (λ (e : EnvironmentValue (Table C)). record e { templates = put a.file t e.templates }) start in
-      let template : t ≡ found.template = found_is_put a.file t found.template (subst (λ (e : EnvironmentValue (Table C)). find a.file e.templates ≡ Some found.template) whole there) in
+      let template : t ≡ found.template = found_is_put a.file t found.template
+      (subst (λ (e : EnvironmentValue (Table C)). find a.file e.templates ≡ Some found.template) whole there) in
       let alone : found ≡ put_alone a t =
-      ap (λ (e : EnvironmentValue (Table C)). let v : TemplateValue (Table C) = record { environment = e; id = found.id; template = found.template } in v) (same ∙ whole)
-      ∙ ap (λ (x : TemplateId). let v : TemplateValue (Table C) = record { environment = record (settled a) { templates = put a.file t [] }; id = x; template = found.template } in v) id
+      ap (λ (e : EnvironmentValue (Table C)). let v : TemplateValue
+      (Table C) = record { environment = e; id = found.id; template = found.template } in v) (same ∙ whole)
+      ∙ ap (λ (x : TemplateId). let v : TemplateValue
+      (Table C) = record { environment = record (settled a) { templates = put a.file t [] }; id = x; template = found.template } in v)
+      id
       ∙ ap (λ (u : Compiled). put_there_as a t u) (sym template) in
       let objects : found.environment.objects ≡ language_functions = ap (λ (e : EnvironmentValue (Table C)). e.objects) (same ∙ whole) in
-      let escaped : t.escape ≡ escape_by_name a.file = is.escape_is ∙ ap (λ (e : EnvironmentValue (Table C)). escape_of e.escaping a.file) start in
+      let escaped : t.escape ≡ escape_by_name a.file = is.escape_is
+      ∙ ap (λ (e : EnvironmentValue (Table C)). escape_of e.escaping a.file) start in
       let named : t ≡ record { name = a.file; source = source; escape = escape_by_name a.file; tree = t.tree } =
       compiled_is t a.file source (escape_by_name a.file) is.name_is is.source_is escaped in (
         t.tree,
         subst (λ (e : EnvironmentValue (Table C)). Spells e.syntax source t.tree) start is.spelled,
         ap (λ (v : TemplateValue (Table C)). meaning (λ _. fs) v 0 context) alone
             ∙ (ap (λ v. meaning (λ _. fs) (put_alone a t) 0 v) given
-            ∙ (means_same {O = Table C} {P = List Function} fs (behind_language true []) language_functions (behind_language true []) a.file (put a.file t []) a.fuel (limit_of a.limit) t 0 (context_of i.members a.texts) (none objects)
+            ∙ (means_same {O = Table C} {P = List Function} fs (behind_language true []) language_functions (behind_language true []) a.file
+            (put a.file t []) a.fuel (limit_of a.limit) t 0 (context_of i.members a.texts) (none objects)
             ∙ ap (λ (u : Compiled). meaning (λ fs. fs) (template_in a u) 0 (context_of i.members a.texts)) named)),
       )
 
   -- The template is found: it was put.
-  pub is_found : {X : Type 0} (name : Text) (set added : EnvironmentValue (Table C)) (t : Compiled) → set.templates ≡ [] → added ≡ record set { templates = put name t set.templates } →
+  pub is_found : {X : Type 0} (name : Text) (set added : EnvironmentValue (Table C)) (t : Compiled) → set.templates ≡ [] →
+      added ≡ record set { templates = put name t set.templates } →
       find name added.templates ≡ None → X
   is_found name set added t start put_there none =
       let there : find name added.templates ≡ Some t =
-      ap (λ (e : EnvironmentValue (Table C)). find name e.templates) put_there ∙ ap (λ es. find name (put name t es)) start ∙ found_there name t in
+      ap (λ (e : EnvironmentValue (Table C)). find name e.templates) put_there ∙ ap (λ es. find name (put name t es)) start
+      ∙ found_there name t in
       absurd (cc)
 
 -- a render as the first state of a counter
-pub at_first : {P : Type 0} (functions : P → List Function) (t : TemplateValue P) (context : Val) (id : ℕ) (r : Result (CapturedValue (StateValue P)) (List ErrorKind)) (told now : Option Text) (faults count : ℕ) → id ≡ 0 →
-    (id < greatest → Rendered t (meaning functions t id context) r told now faults count) → Rendered t (meaning functions t 0 context) r told now faults count
+pub at_first : {P : Type 0} (functions : P →
+    List Function) (t : TemplateValue P) (context : Val) (id : ℕ) (r : Result (CapturedValue (StateValue P)) (List ErrorKind))
+    (told now : Option Text) (faults count : ℕ) → id ≡ 0 →
+    (id < greatest → Rendered t (meaning functions t id context) r told now faults count) →
+    Rendered t (meaning functions t 0 context) r told now faults count
 at_first functions t context id r told now faults count e rendered =
     subst (λ n. Rendered t (meaning functions t n context) r told now faults count) e (rendered (omega (arith, e)))
 
@@ -147,30 +169,45 @@ module _ {W : Type 0} (contents : W → Option Text) where
   is_memory i chain old e = no_memory (ap is_want_of_memory e) refl (inl (keeps_same (contents old.writer)))
 
   -- a source that was refused
-  pub is_refused : (i : Input) (syntax : Syntax) (chain : List ErrorKind) (old : Tally W) → syntax ≡ default_syntax → IsRefused syntax i.source chain →
+  pub is_refused : (i : Input) (syntax : Syntax) (chain : List ErrorKind) (old : Tally W) → syntax ≡ default_syntax →
+      IsRefused syntax i.source chain →
       IsFault contents i chain old old
   is_refused i syntax chain old e (inl memory) = is_memory i chain old memory
   is_refused i syntax chain old e (inr (kind, none)) =
       no_tree kind refl (keeps_same (contents old.writer)) (subst (λ s. SpellsNone s i.source) e none)
 
   -- What was answered of a template is what was answered of the words and the source.
-  module _ {O : Type 0} (t : TemplateValue O) (i : Input) (m : Outcome) (old new : Tally W) (means : (tree : Tree) × Spells default_syntax i.source tree × (m ≡ meaning_of i tree)) where
+  module _ {O : Type 0} (t : TemplateValue O) (i : Input) (m : Outcome) (old new : Tally W) (means : (tree : Tree)
+      × Spells default_syntax i.source tree × (m ≡ meaning_of i tree)) where
     abbrev Ended : Result (CapturedValue (StateValue O)) (List ErrorKind) → Type 0
     Ended r = Rendered t m r (contents old.writer) (contents new.writer) old.failures new.failures
 
-    whole : Appends (contents old.writer) (contents new.writer) m.text → Appends (contents old.writer) (contents new.writer) (meaning_of i means.0).text
+    whole : Appends (contents old.writer) (contents new.writer) m.text →
+        Appends (contents old.writer) (contents new.writer) (meaning_of i means.0).text
     whole appended = subst (λ (o : Outcome). Appends (contents old.writer) (contents new.writer) o.text) means.2 appended
 
     part : AppendsBeginning (contents old.writer) (contents new.writer) m.text → IsBegun i (contents old.writer) (contents new.writer)
-    part begun = (means.0, means.1, subst (λ (o : Outcome). AppendsBeginning (contents old.writer) (contents new.writer) o.text) means.2 begun)
+    part begun = (
+      means.0,
+      means.1,
+      subst (λ (o : Outcome). AppendsBeginning (contents old.writer) (contents new.writer) o.text) means.2 begun,
+    )
 
     pub is_done : (c : CapturedValue (StateValue O)) → Ended (Ok c) → IsRendered contents i old new
-    is_done c (as_meant is appended same) = (means.0, means.1, sym (ap chain_of means.2) ∙ done_chain m.ending m.world c.state.world is.2, whole appended, same)
+    is_done c (as_meant is appended same) = (
+      means.0,
+      means.1,
+      sym (ap chain_of means.2)
+          ∙ done_chain m.ending m.world c.state.world is.2,
+      whole appended,
+      same,
+    )
     is_done c (by_writer e begun more) = absurd (cc)
     is_done c (by_memory memory begun same) = absurd memory
 
     pub is_fault : (chain : List ErrorKind) → Ended (Err chain) → IsFault contents i chain old new
-    is_fault chain (as_meant is appended same) = meant means.0 means.1 (sym (ap chain_of means.2) ∙ fault_chain m.ending m.world chain is) same (whole appended)
+    is_fault chain (as_meant is appended same) = meant means.0 means.1 (sym (ap chain_of means.2)
+        ∙ fault_chain m.ending m.world chain is) same (whole appended)
     is_fault chain (by_writer e begun more) = write_failed (let same : chain ≡ WriteFailure ∷ [] = cc in same) more (part begun)
     is_fault chain (by_memory memory begun same) = no_memory memory same (inr (part begun))
 
@@ -191,10 +228,12 @@ begun_flushed i old mid new (tree, spelled, (n, appended)) k = (tree, spelled, (
 
 -- a flush adds nothing, and is no write that failed
 module _ {W : Type 0} (contents : W → Option Text) (i : Input) (old mid new : Tally W) where
-  pub rendered_flushed : IsRendered contents i old mid → Keeps (contents mid.writer) (contents new.writer) → new.failures ≡ mid.failures → IsRendered contents i old new
+  pub rendered_flushed : IsRendered contents i old mid → Keeps (contents mid.writer) (contents new.writer) → new.failures ≡ mid.failures →
+      IsRendered contents i old new
   rendered_flushed (tree, spelled, none, appended, same) k count = (tree, spelled, none, flushed _ _ _ _ appended k, count ∙ same)
 
-  pub fault_flushed : (chain : List ErrorKind) → IsFault contents i chain old mid → Keeps (contents mid.writer) (contents new.writer) → new.failures ≡ mid.failures →
+  pub fault_flushed : (chain : List ErrorKind) → IsFault contents i chain old mid → Keeps (contents mid.writer) (contents new.writer) →
+      new.failures ≡ mid.failures →
       IsFault contents i chain old new
   fault_flushed chain (no_memory e same (inl kept)) k count = no_memory e (count ∙ same) (inl (keeps_then _ _ _ kept k))
   fault_flushed chain (no_memory e same (inr begun)) k count = no_memory e (count ∙ same) (inr (begun_flushed i _ _ _ begun k))
@@ -204,6 +243,7 @@ module _ {W : Type 0} (contents : W → Option Text) (i : Input) (old mid new : 
   fault_flushed chain (meant tree spelled e same appended) k count = meant tree spelled e (count ∙ same) (flushed _ _ _ _ appended k)
 
   -- the flush failed, and the render had not
-  pub unflushed : (chain : List ErrorKind) → chain ≡ WriteFailure ∷ [] → IsRendered contents i old mid → Keeps (contents mid.writer) (contents new.writer) → new.failures ≡ mid.failures →
+  pub unflushed : (chain : List ErrorKind) → chain ≡ WriteFailure ∷ [] → IsRendered contents i old mid →
+      Keeps (contents mid.writer) (contents new.writer) → new.failures ≡ mid.failures →
       IsFault contents i chain old new
   unflushed chain e rendered k count = flush_failed e (rendered_flushed rendered k count)

@@ -49,7 +49,8 @@ limit_of (Some n) = min n greatest_limit
 -- the one template of a new environment, which has the functions of the language, with the fuel and the limit of the words
 abbrev pub template_in : ArgumentsValue → Compiled → TemplateValue (List Function)
 template_in a t = record {
-  environment = record (expected_environment (behind_language true [])) { templates = put a.file t []; fuel = a.fuel; limit = limit_of a.limit };
+  environment = record (expected_environment (behind_language true []))
+      { templates = put a.file t []; fuel = a.fuel; limit = limit_of a.limit };
   id = Entry a.file;
   template = t;
 }
@@ -60,11 +61,13 @@ template_of a source tree = template_in a (record { name = a.file; source = sour
 
 -- what a render of this tree means, as the first state: over the context, with the fuel of the words
 abbrev pub meaning_of : Input → Tree → Outcome
-meaning_of input tree = meaning (λ functions. functions) (template_of input.asked input.source tree) 0 (context_of input.members input.asked.texts)
+meaning_of input tree = meaning (λ functions. functions) (template_of input.asked input.source tree) 0
+    (context_of input.members input.asked.texts)
 
 -- A template over a context means, as the first state, what a tree of the source means over the context that is given.
 abbrev pub IsMeant : {P : Type 0} → (P → List Function) → TemplateValue P → Val → Input → Type 0
-IsMeant functions t context input = (tree : Tree) × Spells default_syntax input.source tree × (meaning functions t 0 context ≡ meaning_of input tree)
+IsMeant functions t context input = (tree : Tree) × Spells default_syntax input.source tree
+    × (meaning functions t 0 context ≡ meaning_of input tree)
 
 -- What may be read of a file later may be read of it before.
 abbrev pub FilesStay : {T : Type 0} → (T → Text → Option Text → Type 0) → T → T → Type 0
@@ -81,7 +84,8 @@ IsRead of_file of_input texts file read = either (bytes_eq file (codes "-")) (of
 -- The members are those of the object that the JSON file holds; without a JSON file there are none.
 abbrev pub IsMembers : {T : Type 0} → (T → Text → Option Text → Type 0) → T → Option Text → List (Val × Val) → Type 0
 IsMembers of_file texts None members = members ≡ []
-IsMembers of_file texts (Some file) members = (bytes : Text) × of_file texts file (Some bytes) × IsUtf8 bytes × (members_read bytes ≡ Some members)
+IsMembers of_file texts (Some file) members = (bytes : Text) × of_file texts file (Some bytes) × IsUtf8 bytes
+    × (members_read bytes ≡ Some members)
 
 -- The words ask for this, the source is what is read of their file, and the members are those of their JSON file.
 abbrev pub IsInput : {T : Type 0} → (T → Text → Option Text → Type 0) → (T → Option Text → Type 0) → T → List Text → Input → Type 0
@@ -98,17 +102,20 @@ IsUnread {T = T} of_file of_input texts file =
 -- Nothing is read of the JSON file, or no object without floats.
 abbrev pub IsNoObject : {T : Type 0} → (T → Text → Option Text → Type 0) → T → Option Text → Type 0
 IsNoObject of_file texts None = ⊥
-IsNoObject of_file texts (Some file) = of_file texts file None ⊎ ((bytes : Text) × of_file texts file (Some bytes) × (IsUtf8 bytes → members_read bytes ≡ None))
+IsNoObject of_file texts (Some file) = of_file texts file None ⊎ ((bytes : Text) × of_file texts file (Some bytes)
+    × (IsUtf8 bytes → members_read bytes ≡ None))
 
 -- The files of the words don't serve: the template's gives no text, or it gives one and the JSON file gives no object.
 abbrev pub IsUseless : {T : Type 0} → (T → Text → Option Text → Type 0) → (T → Option Text → Type 0) → T → ArgumentsValue → Type 0
 IsUseless of_file of_input texts a =
-    IsUnread of_file of_input texts a.file ⊎ ((source : Text) × IsRead of_file of_input texts a.file (Some source) × IsNoObject of_file texts a.json)
+    IsUnread of_file of_input texts a.file ⊎ ((source : Text) × IsRead of_file of_input texts a.file (Some source)
+    × IsNoObject of_file texts a.json)
 
 -- The words ask for nothing, or for files that don't serve.
 abbrev pub IsWrongUse : {T : Type 0} → (T → Text → Option Text → Type 0) → (T → Option Text → Type 0) → T → List Text → Type 0
 IsWrongUse of_file of_input texts words =
-    (asked [] None None None words ≡ None) ⊎ ((a : ArgumentsValue) × (asked [] None None None words ≡ Some a) × IsUseless of_file of_input texts a)
+    (asked [] None None None words ≡ None) ⊎ ((a : ArgumentsValue) × (asked [] None None None words ≡ Some a)
+    × IsUseless of_file of_input texts a)
 
 -- The source spells a tree whose render is done, and the writer got its text without a fault.
 abbrev pub IsRendered : {W : Type 0} → (W → Option Text) → Input → Tally W → Tally W → Type 0
@@ -120,18 +127,22 @@ IsRendered contents input old new =
 abbrev pub IsBegun : Input → Option Text → Option Text → Type 0
 IsBegun input old new = (tree : Tree) × Spells default_syntax input.source tree × AppendsBeginning old new (meaning_of input tree).text
 
--- A render ends with this error, and the writer holds what that error leaves. Its count of faults rose where a write failed, and only there.
+-- A render ends with this error, and the writer holds what that error leaves. Its count of faults rose where a write failed, and only
+-- there.
 pub data IsFault {W : Type 0} (contents : W → Option Text) (input : Input) (chain : List ErrorKind) (old new : Tally W) : Type 0 where
   -- want of memory: nothing was written, or a beginning of the text
-  no_memory : is_want_of_memory chain ≡ true → new.failures ≡ old.failures → Keeps (contents old.writer) (contents new.writer) ⊎ IsBegun input (contents old.writer) (contents new.writer) →
+  no_memory : is_want_of_memory chain ≡ true → new.failures ≡ old.failures →
+      Keeps (contents old.writer) (contents new.writer) ⊎ IsBegun input (contents old.writer) (contents new.writer) →
       IsFault contents input chain old new
   -- a write failed, behind a beginning of the text
-  write_failed : chain ≡ WriteFailure ∷ [] → new.failures ≡ saturating_increment old.failures → IsBegun input (contents old.writer) (contents new.writer) →
+  write_failed : chain ≡ WriteFailure ∷ [] → new.failures ≡ saturating_increment old.failures →
+      IsBegun input (contents old.writer) (contents new.writer) →
       IsFault contents input chain old new
   -- the flush failed, behind the whole text
   flush_failed : chain ≡ WriteFailure ∷ [] → IsRendered contents input old new → IsFault contents input chain old new
   -- the source spells no tree
-  no_tree : chain ≡ SyntaxError ∷ [] → new.failures ≡ old.failures → Keeps (contents old.writer) (contents new.writer) → SpellsNone default_syntax input.source →
+  no_tree : chain ≡ SyntaxError ∷ [] → new.failures ≡ old.failures → Keeps (contents old.writer) (contents new.writer) →
+      SpellsNone default_syntax input.source →
       IsFault contents input chain old new
   -- the fault is the one that was meant, behind all text that was heard before it
   meant : (tree : Tree) → Spells default_syntax input.source tree → chain_of (meaning_of input tree) ≡ chain → new.failures ≡ old.failures →

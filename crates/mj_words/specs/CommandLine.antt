@@ -1,5 +1,6 @@
 -- What the words of a command line ask for.
-use Rattle.std.specs.Prelude.{ℕ, ◌^◌, List, codes, [], ◌∷◌, ◌++◌, length, map, drop, slice_index, Option, None, Some, option_map, Bool, ◌&&◌, ◌==◌, nat_lt, if◌then◌else◌}
+use Rattle.std.specs.Prelude.{ℕ, ◌^◌, List, codes, [], ◌∷◌, ◌++◌, length, map, drop, slice_index, Option, None, Some, option_map, Bool}
+use Rattle.std.specs.Prelude.{◌&&◌, ◌==◌, nat_lt, if◌then◌else◌}
 use Rattle.std.specs.Borrow.{Bor}
 use Rattle.std.specs.List.{before_first, after_first, position_or_len}
 use Rattle.std.specs.Str.{all_ascii_digits, bytes_eq}
@@ -86,7 +87,13 @@ plain p = (p.0.now, p.1.now)
 
 -- what arguments ask for
 abbrev pub asked_of : Arguments → ArgumentsValue
-asked_of a = record { texts = map plain a.texts.items; json = option_map (λ p. p.now) a.json; fuel = a.fuel; limit = a.limit; file = a.file.now }
+asked_of a = record {
+  texts = map plain a.texts.items;
+  json = option_map (λ p. p.now) a.json;
+  fuel = a.fuel;
+  limit = a.limit;
+  file = a.file.now;
+}
 
 -- what the words behind these arguments ask for
 abbrev pub asked_behind : Arguments → List Text → Option ArgumentsValue

@@ -1,5 +1,6 @@
 -- What a run of a template's code answered is what its trees mean.
-use Rattle.std.proofs.Common.{◌≡◌, ◌⊎◌, inl, inr, ℕ, List, [], ◌∷◌, Bool, true, false, Option, Result, Ok, Err, IsErrAnd, refl, sym, ap, ◌∙◌, subst}
+use Rattle.std.proofs.Common.{◌≡◌, ◌⊎◌, inl, inr, ℕ, List, [], ◌∷◌, Bool, true, false, Option, Result, Ok, Err, IsErrAnd, refl, sym, ap}
+use Rattle.std.proofs.Common.{◌∙◌, subst}
 use Rattle.std.specs.Io.KnownBytes.{Appends}
 use Rattle.tm_meaning.specs.Memory.{is_want_of_memory}
 use Rattle.tm_values.specs.declared.error.ErrorKind.{ErrorKind}
@@ -37,24 +38,30 @@ final_in captures m = final_by m.ending captures m.text m.world
 abbrev IsDone : Ending → List Capture → List Capture → List ℕ → List ℕ → World → World → Type 0
 IsDone e captures new text out left w = (text ≡ put_out captures out) × ((answer_by e w ≡ Ok left) × (new ≡ put_in captures out))
 
-ended_is : (e : Ending) (captures new : List Capture) (text out : List ℕ) (left w : World) → final text (Finished new left) ≡ final (put_out captures out) (Finished (put_in captures out) w) →
+ended_is : (e : Ending) (captures new : List Capture) (text out : List ℕ) (left w : World) →
+    final text (Finished new left) ≡ final (put_out captures out) (Finished (put_in captures out) w) →
     answer_by e w ≡ Ok w → IsDone e captures new text out left w
 ended_is e captures new text out left w same answer =
     let ends : Finished new left ≡ Finished (put_in captures out) w = ap (λ (o : Final). o.end) same in
     let world : w ≡ left = cc in
     (ap (λ (o : Final). o.text) same, (answer ∙ ap (λ x. Ok x) world, let a : new ≡ put_in captures out = cc in a))
 
-finished_is : (e : Ending) (captures new : List Capture) (text out : List ℕ) (left w : World) → final text (Finished new left) ≡ final_by e captures out w → IsDone e captures new text out left w
+finished_is : (e : Ending) (captures new : List Capture) (text out : List ℕ) (left w : World) →
+    final text (Finished new left) ≡ final_by e captures out w → IsDone e captures new text out left w
 finished_is done captures new text out left w same = ended_is done captures new text out left w same refl
 finished_is leave captures new text out left w same = ended_is leave captures new text out left w same refl
 finished_is next captures new text out left w same = ended_is next captures new text out left w same refl
-finished_is (fault chain) captures new text out left w same = let ends : Finished new left ≡ Failed chain w = ap (λ (o : Final). o.end) same in absurd (cc)
+finished_is (fault chain) captures new text out left w same = let ends : Finished new left
+    ≡ Failed chain w = ap (λ (o : Final). o.end) same in absurd (cc)
 
 not_failed : (captures : List Capture) (text out : List ℕ) (left w : World) (answer : List ErrorKind) (e : Ending) →
-    final text (Failed answer left) ≡ final (put_out captures out) (Finished (put_in captures out) w) → (text ≡ put_out captures out) × (answer_by e w ≡ Err answer)
-not_failed captures text out left w answer e same = let ends : Failed answer left ≡ Finished (put_in captures out) w = ap (λ (o : Final). o.end) same in absurd (cc)
+    final text (Failed answer left) ≡ final (put_out captures out) (Finished (put_in captures out) w) →
+    (text ≡ put_out captures out) × (answer_by e w ≡ Err answer)
+not_failed captures text out left w answer e same = let ends : Failed answer left
+    ≡ Finished (put_in captures out) w = ap (λ (o : Final). o.end) same in absurd (cc)
 
-failed_is : (e : Ending) (captures : List Capture) (text out : List ℕ) (left w : World) (answer : List ErrorKind) → final text (Failed answer left) ≡ final_by e captures out w →
+failed_is : (e : Ending) (captures : List Capture) (text out : List ℕ) (left w : World) (answer : List ErrorKind) →
+    final text (Failed answer left) ≡ final_by e captures out w →
     (text ≡ put_out captures out) × (answer_by e w ≡ Err answer)
 failed_is done captures text out left w answer same = not_failed captures text out left w answer done same
 failed_is leave captures text out left w answer same = not_failed captures text out left w answer leave same
@@ -63,11 +70,16 @@ failed_is (fault chain) captures text out left w answer same =
     let ends : Failed answer left ≡ Failed chain w = ap (λ (o : Final). o.end) same in
     (ap (λ (o : Final). o.text) same, let a : Err chain ≡ Err answer = cc in a)
 
-not_stuck : (e : Ending) (captures : List Capture) (text out : List ℕ) (left w : World) → final text (Stuck left) ≡ final_by e captures out w → ⊥
-not_stuck done captures text out left w same = let ends : Stuck left ≡ Finished (put_in captures out) w = ap (λ (o : Final). o.end) same in absurd (cc)
-not_stuck leave captures text out left w same = let ends : Stuck left ≡ Finished (put_in captures out) w = ap (λ (o : Final). o.end) same in absurd (cc)
-not_stuck next captures text out left w same = let ends : Stuck left ≡ Finished (put_in captures out) w = ap (λ (o : Final). o.end) same in absurd (cc)
-not_stuck (fault chain) captures text out left w same = let ends : Stuck left ≡ Failed chain w = ap (λ (o : Final). o.end) same in absurd (cc)
+not_stuck : (e : Ending) (captures : List Capture) (text out : List ℕ) (left w : World) →
+    final text (Stuck left) ≡ final_by e captures out w → ⊥
+not_stuck done captures text out left w same = let ends : Stuck left
+    ≡ Finished (put_in captures out) w = ap (λ (o : Final). o.end) same in absurd (cc)
+not_stuck leave captures text out left w same = let ends : Stuck left
+    ≡ Finished (put_in captures out) w = ap (λ (o : Final). o.end) same in absurd (cc)
+not_stuck next captures text out left w same = let ends : Stuck left
+    ≡ Finished (put_in captures out) w = ap (λ (o : Final). o.end) same in absurd (cc)
+not_stuck (fault chain) captures text out left w same = let ends : Stuck left
+    ≡ Failed chain w = ap (λ (o : Final). o.end) same in absurd (cc)
 
 -- ---------------------------------------------------------------- beds
 heard_air : (e : Ending) (out : List ℕ) (w : World) → end_by e air out w ≡ final_by e [] out w
@@ -84,7 +96,8 @@ heard_inside (fault chain) out w = refl
 
 -- ---------------------------------------------------------------- runs
 -- A run of a template's code, over captures and a writer.
-module _ (p : Program) (trees : Trees) (compiled : IsCompiled trees p) (captures new : List Capture) (w left : World) (told now : Option (List ℕ)) (faults count : ℕ) where
+module _ (p : Program) (trees : Trees) (compiled : IsCompiled trees p) (captures new : List Capture) (w left : World)
+    (told now : Option (List ℕ)) (faults count : ℕ) where
   abbrev m : Outcome
   m = rendered p.host trees w
 
@@ -94,10 +107,12 @@ module _ (p : Program) (trees : Trees) (compiled : IsCompiled trees p) (captures
   -- the code comes to the end that the tree means
   reached : IsFresh captures → Goes captures (final_in captures m)
   reached (inl none) =
-      subst (λ ks. Goes ks (final_in ks m)) (sym none) (subst (λ o. Goes [] o) (heard_air m.ending m.text m.world) (render_runs p trees compiled air w))
+      subst (λ ks. Goes ks (final_in ks m)) (sym none)
+      (subst (λ o. Goes [] o) (heard_air m.ending m.text m.world) (render_runs p trees compiled air w))
   reached (inr one) =
       subst (λ ks. Goes ks (final_in ks m)) (sym one)
-      (subst (λ o. Goes (new_capture true ∷ []) o) (heard_inside m.ending m.text m.world) (render_runs p trees compiled (inside true [] []) w))
+      (subst (λ o. Goes (new_capture true ∷ []) o) (heard_inside m.ending m.text m.world)
+      (render_runs p trees compiled (inside true [] []) w))
 
   abbrev ComesTo : End → Type 0
   ComesTo e = ReachesEnd p (base_of true captures w) (start (whole w.stream) captures w) told now e
@@ -105,19 +120,22 @@ module _ (p : Program) (trees : Trees) (compiled : IsCompiled trees p) (captures
   written : (text : List ℕ) → text ≡ put_out captures m.text → Appends told now text → Appends told now (put_out captures m.text)
   written text same appended = subst (λ t. Appends told now t) same appended
 
-  pub run_done : (parts : List Capture × World) → IsFresh captures → parts.0 ≡ new → parts.1 ≡ left → ComesTo (Finished new left) → count ≡ faults → Ran m (Ok parts) captures told now faults count
+  pub run_done : (parts : List Capture × World) → IsFresh captures → parts.0 ≡ new → parts.1 ≡ left → ComesTo (Finished new left) →
+      count ≡ faults → Ran m (Ok parts) captures told now faults count
   run_done parts fresh first second (text, appended, reaches) counted =
       let same = finished_is m.ending captures new text m.text left m.world (one_end reaches (reached fresh)) in
       run_as_meant (same.1.0 ∙ ap (λ x. Ok x) (sym second), first ∙ same.1.1) (written text same.0 appended) counted
 
-  pub run_halted : (why : Halt) → IsFresh captures → HaltsAs why left ComesTo → WroteBeginning p (base_of true captures w) (start (whole w.stream) captures w) told now →
+  pub run_halted : (why : Halt) → IsFresh captures → HaltsAs why left ComesTo →
+      WroteBeginning p (base_of true captures w) (start (whole w.stream) captures w) told now →
       count ≡ faults_after {A = Unit {0}} (Err why) faults → Ran m (Err why) captures told now faults count
   run_halted why fresh ends begun counted = by_halt why ends counted
     where
       part : AppendsBeginning told now (put_out captures m.text)
       part = begun _ (reached fresh)
 
-      by_chain : (b : Bool) (chain : List ErrorKind) → is_want_of_memory chain ≡ b → (is_want_of_memory chain ≡ false → ComesTo (Failed chain left)) → count ≡ faults →
+      by_chain : (b : Bool) (chain : List ErrorKind) → is_want_of_memory chain ≡ b →
+          (is_want_of_memory chain ≡ false → ComesTo (Failed chain left)) → count ≡ faults →
           Ran m (Err (halt.Fault chain)) captures told now faults count
       by_chain true chain memory ends counted = run_by_memory chain refl memory part counted
       by_chain false chain own ends counted =
@@ -125,9 +143,11 @@ module _ (p : Program) (trees : Trees) (compiled : IsCompiled trees p) (captures
           let same = failed_is m.ending captures came.0 m.text left m.world chain (one_end came.2 (reached fresh)) in
           run_as_meant same.1 (written came.0 same.0 came.1) counted
 
-      by_halt : (why : Halt) → HaltsAs why left ComesTo → count ≡ faults_after {A = Unit {0}} (Err why) faults → Ran m (Err why) captures told now faults count
+      by_halt : (why : Halt) → HaltsAs why left ComesTo → count ≡ faults_after {A = Unit {0}} (Err why) faults →
+          Ran m (Err why) captures told now faults count
       by_halt halt.Writer ends counted = run_by_writer refl part counted
-      by_halt halt.Stuck (text, appended, reaches) counted = absurd (not_stuck m.ending captures text m.text left m.world (one_end reaches (reached fresh)))
+      by_halt halt.Stuck (text, appended, reaches) counted = absurd
+          (not_stuck m.ending captures text m.text left m.world (one_end reaches (reached fresh)))
       by_halt (halt.Fault chain) ends counted = by_chain (is_want_of_memory chain) chain refl ends counted
 
 -- an error that was passed on

@@ -35,4 +35,5 @@ module _ {O : Type 0} (functions : O → List Function) (t : TemplateValue O) wh
 
   pub not_required : (s : StreamId) → false ≡ is_required (card_at (host_of functions t) s)
   not_required s =
-      sym (ap (λ (x : Template). is_required (card_in x s.block)) (template_meant s.template) ∙ none_required (tree_of (meant t s.template)) s.block)
+      sym (ap (λ (x : Template). is_required (card_in x s.block)) (template_meant s.template)
+      ∙ none_required (tree_of (meant t s.template)) s.block)

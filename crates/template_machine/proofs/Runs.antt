@@ -16,19 +16,23 @@ use Rattle.template_machine.specs.Environment.{IsTemplateOf, IsMadeIn, Environme
 use Rattle.template_machine.specs.Renders.{meaning, meaning_from, IsFresh, Ran, RenderedText, RenderedSource, source_rendered, IsUnnumbered}
 use Rattle.template_machine.proofs.Answered.{run_done, run_halted}
 
-module _ {O : Type 0} (functions : O → List Function) (t r : TemplateValue O) (same : r ≡ t) (captures new : List Capture) (w left : World) (told now : Option (List ℕ)) (faults count : ℕ)
+module _ {O : Type 0} (functions : O →
+    List Function) (t r : TemplateValue O) (same : r
+    ≡ t) (captures new : List Capture) (w left : World) (told now : Option (List ℕ)) (faults count : ℕ)
     (config : Config) (begins : config ≡ start (whole w.stream) captures w) (fresh : IsFresh captures) where
   abbrev p : Program
   p = program (host_of functions r) (code r)
 
-  pub over_done : (parts : List Capture × World) → parts.0 ≡ new → parts.1 ≡ left → ReachesEnd p (base_of true config.captures config.world) config told now (Finished new left) → count ≡ faults →
+  pub over_done : (parts : List Capture × World) → parts.0 ≡ new → parts.1 ≡ left →
+      ReachesEnd p (base_of true config.captures config.world) config told now (Finished new left) → count ≡ faults →
       Ran (meaning_from functions t w) (Ok parts) captures told now faults count
   over_done parts first second comes counted =
       subst (λ (v : TemplateValue O). Ran (meaning_from functions v w) (Ok parts) captures told now faults count) same
       (run_done p (trees r) (λ s. refl) captures new w left told now faults count parts fresh first second
       (subst (λ (c : Config). ReachesEnd p (base_of true c.captures c.world) c told now (Finished new left)) begins comes) counted)
 
-  pub over_halted : (why : Halt) → HaltsAs why left (ReachesEnd p (base_of true config.captures config.world) config told now) → WroteBeginning p (base_of true config.captures config.world) config told now →
+  pub over_halted : (why : Halt) → HaltsAs why left (ReachesEnd p (base_of true config.captures config.world) config told now) →
+      WroteBeginning p (base_of true config.captures config.world) config told now →
       count ≡ faults_after {A = Unit {0}} (Err why) faults → Ran (meaning_from functions t w) (Err why) captures told now faults count
   over_halted why ends begun counted =
       subst (λ (v : TemplateValue O). Ran (meaning_from functions v w) (Err why) captures told now faults count) same
@@ -37,14 +41,21 @@ module _ {O : Type 0} (functions : O → List Function) (t r : TemplateValue O) 
       (subst (λ (c : Config). WroteBeginning p (base_of true c.captures c.world) c told now) begins begun) counted)
 
 -- a source that was rendered
-pub source_done : {O : Type 0} (functions : O → List Function) (e : EnvironmentValue O) (t : TemplateValue O) (name source : List ℕ) (old new : ℕ) (context : Val) (result : Result (String Global) (List ErrorKind)) →
-    IsMadeIn e name source t → RenderedText (meaning functions t old context) result → new ≡ old + 1 → RenderedSource functions e name source old new context result
+pub source_done : {O : Type 0} (functions : O →
+    List Function) (e : EnvironmentValue O) (t : TemplateValue O) (name source : List ℕ) (old new : ℕ) (context : Val)
+    (result : Result (String Global) (List ErrorKind)) →
+    IsMadeIn e name source t → RenderedText (meaning functions t old context) result → new ≡ old + 1 →
+    RenderedSource functions e name source old new context result
 source_done functions e t name source old new context result made text counted =
-    source_rendered t.template made.2 (subst (λ e. RenderedText (meaning functions (record { environment = e; id = Own; template = t.template }) old context) result) made.0
-    (subst (λ id. RenderedText (meaning functions (record { environment = t.environment; id = id; template = t.template }) old context) result) made.1 text)) counted
+    source_rendered t.template made.2
+    (subst (λ e. RenderedText (meaning functions (record { environment = e; id = Own; template = t.template }) old context) result)
+    made.0
+    (subst (λ id. RenderedText (meaning functions (record { environment = t.environment; id = id; template = t.template }) old context)
+    result) made.1 text)) counted
 
 -- one that spells a template, where the counter is full
-pub source_full : {O : Type 0} (e : EnvironmentValue O) (t : TemplateValue O) (name source : List ℕ) (result : Result (String Global) (List ErrorKind)) →
+pub source_full : {O : Type 0} (e : EnvironmentValue O) (t : TemplateValue O) (name source : List ℕ)
+    (result : Result (String Global) (List ErrorKind)) →
     IsMadeIn e name source t → result ≡ Err (InvalidOperation ∷ []) → IsUnnumbered e name source result
 source_full e t name source result made is =
     subst (IsUnnumbered e name source) (sym is) (inr (t.template, made.2, refl))

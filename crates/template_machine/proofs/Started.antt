@@ -38,15 +38,19 @@ pub first_is : {O : Type 0} (functions : O → List Function) (t : TemplateValue
     started id t.id (block_codes t.template.tree) t.template.escape t.environment.fuel context ≡ first functions t id context
 first_is functions t id context is =
     let bs = blocks_in (body t.template.tree).row in
-    let same : layers_of t.id (block_codes t.template.tree) ≡ own_blocks t.id (map carded (by_name bs)) = ap (layers_of t.id) (by_name-turned code_of bs) ∙ layered_each t.id (by_name bs) in
+    let same : layers_of t.id (block_codes t.template.tree)
+    ≡ own_blocks t.id (map carded (by_name bs)) = ap (layers_of t.id) (by_name-turned code_of bs) ∙ layered_each t.id (by_name bs) in
     let there : template_of (tree_of t.template) ≡ template_at (host_of functions t) t.id =
     sym (template_meant functions t t.id ∙ ap (λ (c : Compiled). template_of (tree_of c)) is) in
     ap (λ ls. record (first functions t id context) { blocks = ls; escape = t.template.escape }) same
     ∙ ap (λ (x : Template). record (first functions t id context) { blocks = own_blocks t.id x.blocks; escape = x.escape }) there
 
 -- the same of what was made
-pub first_at : {O : Type 0} (functions : O → List Function) (t : TemplateValue O) (root : TemplateId) (own : Compiled) (blocks : Named (List Instruction)) (escape : AutoEscape) (fuel : Option ℕ) (id number : ℕ) (context : Val)
-    (made : Result World (List ErrorKind)) → meant t t.id ≡ t.template → root ≡ t.id → own ≡ t.template → blocks ≡ block_codes own.tree → escape ≡ own.escape → fuel ≡ t.environment.fuel → id ≡ number →
+pub first_at : {O : Type 0} (functions : O →
+    List Function) (t : TemplateValue O) (root : TemplateId) (own : Compiled) (blocks : Named (List Instruction)) (escape : AutoEscape)
+    (fuel : Option ℕ) (id number : ℕ) (context : Val)
+    (made : Result World (List ErrorKind)) → meant t t.id ≡ t.template → root ≡ t.id → own ≡ t.template → blocks ≡ block_codes own.tree →
+    escape ≡ own.escape → fuel ≡ t.environment.fuel → id ≡ number →
     OkOrOutOfMemory made (λ s. s ≡ started id root blocks escape fuel context) → IfOk made (λ s. s ≡ first functions t number context)
 first_at functions t root own blocks escape fuel id number context (Err e) is root_is own_is blocks_are escape_is fuel_is id_is made_is = tt
 first_at functions t root own blocks escape fuel id number context (Ok s) is root_is own_is blocks_are escape_is fuel_is id_is made_is =
@@ -55,5 +59,6 @@ first_at functions t root own blocks escape fuel id number context (Ok s) is roo
     ∙ ap (λ r. started number r blocks escape fuel context) root_is
     ∙ ap (λ f. started number t.id blocks escape f context) fuel_is
     ∙ ap (λ e. started number t.id blocks e t.environment.fuel context) (escape_is ∙ ap (λ (o : Compiled). o.escape) own_is)
-    ∙ ap (λ bs. started number t.id bs t.template.escape t.environment.fuel context) (blocks_are ∙ ap (λ (o : Compiled). block_codes o.tree) own_is)
+    ∙ ap (λ bs. started number t.id bs t.template.escape t.environment.fuel context) (blocks_are
+    ∙ ap (λ (o : Compiled). block_codes o.tree) own_is)
     ∙ first_is functions t number context is

@@ -18,7 +18,8 @@ use Rattle.tm_templates.specs.Templates.{Compiled, IsTemplate, tree_of}
 use Rattle.tm_templates.specs.declared.defaults.EscapeSetting.{EscapeSetting}
 use Rattle.tm_templates.specs.declared.defaults.EscapeSetting.TheVariants as escapes
 
--- The templates by name, the delimiters and the escape of later ones, the caller's objects, the globals, what is done with undefined values, the fuel that is set, and how deep scopes may lie.
+-- The templates by name, the delimiters and the escape of later ones, the caller's objects, the globals, what is done with undefined
+-- values, the fuel that is set, and how deep scopes may lie.
 pub record EnvironmentValue (O : Type 0) : Type 0 where
   pub templates : Named Compiled
   pub syntax : Syntax

@@ -45,7 +45,8 @@ first functions t id context = first_world (host_of functions t) t.id id t.envir
 abbrev pub meaning_from : {O : Type 0} → (O → List Function) → TemplateValue O → World → Outcome
 meaning_from functions t w = rendered (host_of functions t) (trees t) w
 
--- What a template means, rendered as the state of this number over this context value: its tree, under what its environment gives, from the environment's fuel.
+-- What a template means, rendered as the state of this number over this context value: its tree, under what its environment gives, from the
+-- environment's fuel.
 abbrev pub meaning : {O : Type 0} → (O → List Function) → TemplateValue O → ℕ → Val → Outcome
 meaning functions t id context = meaning_from functions t (first functions t id context)
 
@@ -73,12 +74,15 @@ abbrev pub IsRenderedText : Result (String Global) (List ErrorKind) → Outcome 
 IsRenderedText (Ok text) m = (string_bytes text ≡ m.text) × (w : World) × (answer_of m ≡ Ok w)
 IsRenderedText (Err answer) m = answer_of m ≡ Err answer
 
--- How a render into a writer ended. The writer was given what stood in `told` before and `now` after, and its count of faults was `faults` and is `count`.
-pub data Rendered {O : Type 0} (t : TemplateValue O) (m : Outcome) (result : Result (CapturedValue (StateValue O)) (List ErrorKind)) (told now : Option (List ℕ)) (faults count : ℕ) : Type 0 where
+-- How a render into a writer ended. The writer was given what stood in `told` before and `now` after, and its count of faults was `faults`
+-- and is `count`.
+pub data Rendered {O : Type 0} (t : TemplateValue O) (m : Outcome) (result : Result (CapturedValue (StateValue O)) (List ErrorKind))
+    (told now : Option (List ℕ)) (faults count : ℕ) : Type 0 where
   -- as was meant: the answer is the end that was meant, and the writer got the whole text
   as_meant : IsEnd t result m → Appends told now m.text → count ≡ faults → Rendered t m result told now faults count
   -- the writer failed, behind a beginning of the text
-  by_writer : result ≡ Err (WriteFailure ∷ []) → AppendsBeginning told now m.text → count ≡ saturating_increment faults → Rendered t m result told now faults count
+  by_writer : result ≡ Err (WriteFailure ∷ []) → AppendsBeginning told now m.text → count ≡ saturating_increment faults →
+      Rendered t m result told now faults count
   -- no memory was found, behind a beginning of the text
   by_memory : IsMemory result → AppendsBeginning told now m.text → count ≡ faults → Rendered t m result told now faults count
 
@@ -87,13 +91,19 @@ pub data RenderedText (m : Outcome) (result : Result (String Global) (List Error
   text_as_meant : IsRenderedText result m → RenderedText m result
   text_by_memory : IsMemory result → RenderedText m result
 
--- How a render of a source ended, whose template has this name: refused, since it spells no template or no memory was found, and no state was numbered; or rendered, as the template that it spells.
-pub data RenderedSource {O : Type 0} (functions : O → List Function) (e : EnvironmentValue O) (name source : List ℕ) (old new : ℕ) (context : Val) (result : Result (String Global) (List ErrorKind)) : Type 0 where
-  source_refused : (chain : List ErrorKind) → result ≡ Err chain → IsRefused e.syntax source chain → new ≡ old → RenderedSource functions e name source old new context result
-  source_rendered : (t : Compiled) → IsTemplateOf e name source t → RenderedText (meaning functions (record { environment = e; id = Own; template = t }) old context) result → new ≡ old + 1 →
+-- How a render of a source ended, whose template has this name: refused, since it spells no template or no memory was found, and no state
+-- was numbered; or rendered, as the template that it spells.
+pub data RenderedSource {O : Type 0} (functions : O →
+    List Function) (e : EnvironmentValue O) (name source : List ℕ) (old new : ℕ) (context : Val)
+    (result : Result (String Global) (List ErrorKind)) : Type 0 where
+  source_refused : (chain : List ErrorKind) → result ≡ Err chain → IsRefused e.syntax source chain → new ≡ old →
+      RenderedSource functions e name source old new context result
+  source_rendered : (t : Compiled) → IsTemplateOf e name source t →
+      RenderedText (meaning functions (record { environment = e; id = Own; template = t }) old context) result → new ≡ old + 1 →
       RenderedSource functions e name source old new context result
 
--- What is answered to a source where the counter is full, whose template has this name: why it was refused, or InvalidOperation, since no state can be numbered.
+-- What is answered to a source where the counter is full, whose template has this name: why it was refused, or InvalidOperation, since no
+-- state can be numbered.
 abbrev pub IsUnnumbered : {O : Type 0} → EnvironmentValue O → List ℕ → List ℕ → Result (String Global) (List ErrorKind) → Type 0
 IsUnnumbered e name source (Ok text) = ⊥
 IsUnnumbered e name source (Err chain) =
@@ -111,8 +121,10 @@ IsRun (Err (halt.Fault answer)) old m = answer_of m ≡ Err answer
 IsRun (Err _) old m = ⊥
 
 -- How a run over captures ended, in the same three ways.
-pub data Ran (m : Outcome) (result : Result (List Capture × World) Halt) (old : List Capture) (told now : Option (List ℕ)) (faults count : ℕ) : Type 0 where
+pub data Ran (m : Outcome) (result : Result (List Capture × World) Halt) (old : List Capture) (told now : Option (List ℕ))
+    (faults count : ℕ) : Type 0 where
   run_as_meant : IsRun result old m → Appends told now (put_out old m.text) → count ≡ faults → Ran m result old told now faults count
-  run_by_writer : result ≡ Err halt.Writer → AppendsBeginning told now (put_out old m.text) → count ≡ saturating_increment faults → Ran m result old told now faults count
+  run_by_writer : result ≡ Err halt.Writer → AppendsBeginning told now (put_out old m.text) → count ≡ saturating_increment faults →
+      Ran m result old told now faults count
   run_by_memory : (chain : List ErrorKind) → result ≡ Err (halt.Fault chain) → is_want_of_memory chain ≡ true →
       AppendsBeginning told now (put_out old m.text) → count ≡ faults → Ran m result old told now faults count

@@ -13,7 +13,7 @@ ghost use Rattle.template_machine.specs.Environment.{IsTemplateOf, IsEntryOf, Is
 ghost use Rattle.template_machine.specs.Environment.{new_environment, with_function, with_global, greatest_limit};
 
 use crate::ids::StateIds;
-use crate::template::{TemplateRef, TemplateOf};
+use crate::template::{TemplateOf, TemplateRef};
 use std::alloc::Global;
 use std::marker::Model;
 use tm_compiler::SyntaxConfig;

@@ -13,7 +13,8 @@ pub no_tokens : (s : Syntax) (source : List ℕ) → ((ts : List Token) → Spel
 no_tokens s source none tree h = none h.tokens h.scanned
 
 -- any tokens of a source are those that were found
-pub of_tokens : (s : Syntax) (source : List ℕ) (ts : List Token) (tree : Tree) → SpellsTokens s source ts → Spells s source tree → template.SpellsTemplate ts tree
+pub of_tokens : (s : Syntax) (source : List ℕ) (ts : List Token) (tree : Tree) → SpellsTokens s source ts → Spells s source tree →
+    template.SpellsTemplate ts tree
 of_tokens s source ts tree found h =
     subst (λ us. template.SpellsTemplate us tree) (one_list_of s source h.tokens ts h.scanned found) h.parsed
 

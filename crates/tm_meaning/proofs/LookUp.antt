@@ -4,24 +4,30 @@ use Rattle.std.specs.Prelude.{codes, slice_get, option_and_then}
 use Rattle.tm_values.specs.Answer.{Answer}
 use Rattle.tm_values.specs.Val.{Val, loop}
 use Rattle.tm_meaning.specs.declared.mark.LoopMark.{LoopMark}
-use Rattle.tm_meaning.specs.World.{Bindings, View, Scope, find, same_name, marked_loop, read_closure, in_scope, in_frames, or_else, or_on, or_on_answer}
+use Rattle.tm_meaning.specs.World.{Bindings, View, Scope, find, same_name, marked_loop, read_closure, in_scope, in_frames, or_else, or_on}
+use Rattle.tm_meaning.specs.World.{or_on_answer}
 use Rattle.tm_meaning.specs.World.{context_member, find_name}
-use Rattle.tm_meaning.specs.LookUp.{IsNoLoop, IsNotEnclosed, HasNone, Finds, in_locals, as_loop, in_closure, in_context, refused, outward, in_globals}
+use Rattle.tm_meaning.specs.LookUp.{IsNoLoop, IsNotEnclosed, HasNone, Finds, in_locals, as_loop, in_closure, in_context, refused, outward}
+use Rattle.tm_meaning.specs.LookUp.{in_globals}
 
 -- ---------------------------------------------------------------- a scope's own names
-not_named : (id : ℕ) (m : LoopMark) (variable : Bool) (x : List ℕ) → m.variable ≡ variable → (m.variable ≡ true → same_name x (codes "loop") ≡ false) → marked_loop id (Some m) x ≡ None
+not_named : (id : ℕ) (m : LoopMark) (variable : Bool) (x : List ℕ) → m.variable ≡ variable →
+    (m.variable ≡ true → same_name x (codes "loop") ≡ false) → marked_loop id (Some m) x ≡ None
 not_named id m false x e h = rw e refl
 not_named id m true x e h = rw (e, h e) refl
 
-no_loop : (id : ℕ) (m : Option LoopMark) (x : List ℕ) → ((k : LoopMark) → m ≡ Some k → k.variable ≡ true → same_name x (codes "loop") ≡ false) → marked_loop id m x ≡ None
+no_loop : (id : ℕ) (m : Option LoopMark) (x : List ℕ) →
+    ((k : LoopMark) → m ≡ Some k → k.variable ≡ true → same_name x (codes "loop") ≡ false) → marked_loop id m x ≡ None
 no_loop id None x h = refl
 no_loop id (Some m) x h = not_named id m m.variable x refl (h m refl)
 
-not_read : (closures : List Bindings) (x : List ℕ) (o : Option Bindings) → ((c : Bindings) → o ≡ Some c → find x c ≡ None) → option_and_then (find x) o ≡ None
+not_read : (closures : List Bindings) (x : List ℕ) (o : Option Bindings) → ((c : Bindings) → o ≡ Some c → find x c ≡ None) →
+    option_and_then (find x) o ≡ None
 not_read closures x None h = refl
 not_read closures x (Some c) h = h c refl
 
-not_enclosed : (closures : List Bindings) (reads : Option ℕ) (x : List ℕ) → ((n : ℕ) (c : Bindings) → reads ≡ Some n → slice_get closures n ≡ Some c → find x c ≡ None) → read_closure closures reads x ≡ None
+not_enclosed : (closures : List Bindings) (reads : Option ℕ) (x : List ℕ) →
+    ((n : ℕ) (c : Bindings) → reads ≡ Some n → slice_get closures n ≡ Some c → find x c ≡ None) → read_closure closures reads x ≡ None
 not_enclosed closures None x h = refl
 not_enclosed closures (Some n) x h = not_read closures x (slice_get closures n) (λ c e. h n c refl e)
 

@@ -36,7 +36,8 @@ pub record Call : Type 0 where
   pub undo : Undo
   pub wrap : Option Wrapping
 
--- A value, a fault, a run that is needed and the world that it starts from, or the loop of a number of the stream that runs, which is called over these items.
+-- A value, a fault, a run that is needed and the world that it starts from, or the loop of a number of the stream that runs, which is
+-- called over these items.
 pub data Asked : Type 0 where
   has : Val → World → Asked
   refused : List ErrorKind → World → Asked
@@ -80,7 +81,8 @@ enter_block host b w =
     ask (need (slice_get l.templates l.place) UnknownBlock world1) (λ t world2.
     ask (check (not (required_alone host (block_of t b) l)) InvalidOperation world2) (λ _ world3.
     ask (push host (plain (undefined false)) world3) (λ _ world4.
-    runs (record { callee = whole (block_of t b); undo = of_block w; wrap = None }) (record world4 { stream = block_of t b; block = Some b })))))
+    runs (record { callee = whole (block_of t b); undo = of_block w; wrap = None })
+    (record world4 { stream = block_of t b; block = Some b })))))
 
 -- the blocks of a template, each alone
 abbrev pub alone : TemplateId → List ℕ × Card → List ℕ × Layers
@@ -167,7 +169,8 @@ method_in r x v = context_member r x v
 abbrev pub call_method : HostValue → List ℕ → Val → List Val → World → Asked
 call_method host x (loop state n) args w = loop_method x state n args w
 call_method host x v args w =
-    ask (answered (method_in (records_of w) x v) w) (λ found world1. ask (need found UnknownMethod world1) (λ f world2. call_value host f args world2))
+    ask (answered (method_in (records_of w) x v) w)
+    (λ found world1. ask (need found UnknownMethod world1) (λ f world2. call_value host f args world2))
 
 -- the first of the values is called by its method
 abbrev pub call_first : HostValue → List ℕ → List Val → World → Asked

@@ -63,7 +63,8 @@ of_globals = record (page (one (EmitExpr (named (codes "a")))) nothing) { global
 abbrev seeing : (View → Val) → Function
 seeing f = callers (λ vs view. answers (gives (f view)))
 
--- {% with %}{{ f() }}{% endwith %}, where f answers how many scopes there are, the names of the globals that it sees, or the template's name
+-- {% with %}{{ f() }}{% endwith %}, where f answers how many scopes there are, the names of the globals that it sees, or the template's
+-- name
 abbrev pub in_scope : (View → Val) → Page
 in_scope f =
     with_functions (seeing f) (seeing f)

@@ -1,5 +1,6 @@
 -- What each instruction does once it is paid for.
-use Rattle.std.specs.Prelude.{ℕ, ◌+◌, pos, List, [], ◌∷◌, ◌++◌, length, nat_lt, nat_eq, Option, Some, None, Bool, true, false, ◌&&◌, slice_get}
+use Rattle.std.specs.Prelude.{ℕ, ◌+◌, pos, List, [], ◌∷◌, ◌++◌, length, nat_lt, nat_eq, Option, Some, None, Bool, true, false, ◌&&◌}
+use Rattle.std.specs.Prelude.{slice_get}
 use Rattle.tm_values.specs.Val.{Val, undefined, boolean, number}
 use Rattle.tm_values.specs.declared.escape.AutoEscape.{AutoEscape}
 use Rattle.tm_syntax.specs.declared.instruction.CaptureMode.{CaptureMode}
@@ -8,11 +9,15 @@ use Rattle.tm_syntax.specs.declared.instruction.CaptureMode.TheVariants as modes
 use Rattle.tm_syntax.specs.declared.tree.UnaryOperator.{UnaryOperator}
 use Rattle.tm_meaning.specs.declared.mark.LoopMark.{LoopMark}
 use Rattle.tm_syntax.specs.declared.tree.BinaryOperator.{BinaryOperator}
-use Rattle.tm_meaning.specs.World.{choose, TemplateId, World, HostValue, Loop, top_mark, top_loop, open_loop, next_turn, cleared, items_over, Res, Good, answered, looked_up, emitted, escape_for, with_escape, store, unpacked_items, set_member, push, pop, plain, captured_text}
+use Rattle.tm_meaning.specs.World.{choose, TemplateId, World, HostValue, Loop, top_mark, top_loop, open_loop, next_turn, cleared}
+use Rattle.tm_meaning.specs.World.{items_over, Res, Good, answered, looked_up, emitted, escape_for, with_escape, store, unpacked_items}
+use Rattle.tm_meaning.specs.World.{set_member, push, pop, plain, captured_text}
 use Rattle.tm_syntax.specs.Loops.{loops_before}
 use Rattle.tm_meaning.specs.Calls.{enter_block, call_named, call_first, call_innermost}
-use Rattle.tm_meaning.specs.Meaning.{none_waits, truth, applied_unary, operated, attribute, item_at, slice_of, list_of_values, map_of_pairs, keyword_map}
-use Rattle.tm_meaning.specs.Machine.{Capture, Return, Activation, Config, Base, Next, More, after, on_top, take_n, on, goes, pushed, Program, jumps, stuck, with_world, audible, writes, new_capture, captured_value, asked, asked_in_place}
+use Rattle.tm_meaning.specs.Meaning.{none_waits, truth, applied_unary, operated, attribute, item_at, slice_of, list_of_values, map_of_pairs}
+use Rattle.tm_meaning.specs.Meaning.{keyword_map}
+use Rattle.tm_meaning.specs.Machine.{Capture, Return, Activation, Config, Base, Next, More, after, on_top, take_n, on, goes, pushed}
+use Rattle.tm_meaning.specs.Machine.{Program, jumps, stuck, with_world, audible, writes, new_capture, captured_value, asked, asked_in_place}
 
 -- ---------------------------------------------------------------- output
 abbrev pub emit_raw_of : Base → List ℕ → Config → Next
@@ -49,7 +54,8 @@ binary_of host op c = replaces_two (operated host op) c
 -- two operands are replaced by the topmost and, over it, what is given
 abbrev pub compare_and_preserve_of : HostValue → BinaryOperator → Config → Next
 compare_and_preserve_of host op c =
-    on_top c.run.operands c.world (λ b vs. on_top vs c.world (λ a rest. after (operated host op a b c.world) (λ x w. goes (x ∷ b ∷ rest) w c)))
+    on_top c.run.operands c.world (λ b vs. on_top vs c.world
+    (λ a rest. after (operated host op a b c.world) (λ x w. goes (x ∷ b ∷ rest) w c)))
 
 abbrev pub swap_of : Config → Next
 swap_of c = on_top c.run.operands c.world (λ b vs. on_top vs c.world (λ a rest. goes (a ∷ b ∷ rest) c.world c))
@@ -173,12 +179,16 @@ push_did_not_iterate_of c =
 -- the run as it was at the call of the loop that ends
 abbrev pub returned : Return → List (Option Return) → Config → Config
 returned r rs c =
-    record c { run = record c.run { place = r.place; operands = r.operands; escapes = r.escapes; floor = r.floor; loops = rs }; world = pop c.world }
+    record c {
+      run = record c.run { place = r.place; operands = r.operands; escapes = r.escapes; floor = r.floor; loops = rs };
+      world = pop c.world;
+    }
 
 -- the innermost capture's text is the value, and the parent that waits is this one
 abbrev pub with_text : Option TemplateId → List Capture → Config → Next
 with_text parent [] c = stuck c.world
-with_text parent (k ∷ ks) c = More [] (record c { run = record (pushed (captured_text k.text c.world) c.run) { parent = parent }; captures = ks })
+with_text parent (k ∷ ks) c = More []
+    (record c { run = record (pushed (captured_text k.text c.world) c.run) { parent = parent }; captures = ks })
 
 abbrev pub returns : Return → Bool → Config → Next
 returns r false c = More [] c

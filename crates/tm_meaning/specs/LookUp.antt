@@ -26,13 +26,19 @@ pub record HasNone (view : View) (x : List ℕ) (s : Scope) : Type 0 where
   pub no_loop : IsNoLoop x s
   pub not_enclosed : IsNotEnclosed view x s
 
--- From the innermost scope outward, each asks its locals, then whether the name is its loop's, then its closure, then its context value, whose refusal is the answer.
+-- From the innermost scope outward, each asks its locals, then whether the name is its loop's, then its closure, then its context value,
+-- whose refusal is the answer.
 -- Last are the globals.
 pub data Finds (view : View) (x : List ℕ) : List Scope → Answer (Option Val) → Type 0 where
   in_locals : {s : Scope} {ss : List Scope} {v : Val} → find x s.locals ≡ Some v → Finds view x (s ∷ ss) (Ok (Some v))
-  as_loop : {s : Scope} {ss : List Scope} {n : ℕ} → find x s.locals ≡ None → IsItsLoop x s n → Finds view x (s ∷ ss) (Ok (Some (loop view.records.state n)))
-  in_closure : {s : Scope} {ss : List Scope} {v : Val} → find x s.locals ≡ None → IsNoLoop x s → IsEnclosed view x s v → Finds view x (s ∷ ss) (Ok (Some v))
-  in_context : {s : Scope} {ss : List Scope} {v : Val} → HasNone view x s → context_member view.records x s.context ≡ Ok (Some v) → Finds view x (s ∷ ss) (Ok (Some v))
-  refused : {s : Scope} {ss : List Scope} {chain : List ErrorKind} → HasNone view x s → context_member view.records x s.context ≡ Err chain → Finds view x (s ∷ ss) (Err chain)
-  outward : {s : Scope} {ss : List Scope} {a : Answer (Option Val)} → HasNone view x s → context_member view.records x s.context ≡ Ok None → Finds view x ss a → Finds view x (s ∷ ss) a
+  as_loop : {s : Scope} {ss : List Scope} {n : ℕ} → find x s.locals ≡ None → IsItsLoop x s n →
+      Finds view x (s ∷ ss) (Ok (Some (loop view.records.state n)))
+  in_closure : {s : Scope} {ss : List Scope} {v : Val} → find x s.locals ≡ None → IsNoLoop x s → IsEnclosed view x s v →
+      Finds view x (s ∷ ss) (Ok (Some v))
+  in_context : {s : Scope} {ss : List Scope} {v : Val} → HasNone view x s → context_member view.records x s.context ≡ Ok (Some v) →
+      Finds view x (s ∷ ss) (Ok (Some v))
+  refused : {s : Scope} {ss : List Scope} {chain : List ErrorKind} → HasNone view x s →
+      context_member view.records x s.context ≡ Err chain → Finds view x (s ∷ ss) (Err chain)
+  outward : {s : Scope} {ss : List Scope} {a : Answer (Option Val)} → HasNone view x s → context_member view.records x s.context ≡ Ok None →
+      Finds view x ss a → Finds view x (s ∷ ss) a
   in_globals : Finds view x [] (Ok (find x view.globals))

@@ -1,5 +1,6 @@
 -- The machine: where it stands, what a step gives, and how runs end.
-use Rattle.std.specs.Prelude.{ℕ, zero, suc, ◌+◌, List, [], ◌∷◌, ◌++◌, length, Option, Some, None, Bool, true, false, ◌&&◌, nat_lt, nat_eq, slice_get}
+use Rattle.std.specs.Prelude.{ℕ, zero, suc, ◌+◌, List, [], ◌∷◌, ◌++◌, length, Option, Some, None, Bool, true, false, ◌&&◌, nat_lt, nat_eq}
+use Rattle.std.specs.Prelude.{slice_get}
 use Rattle.tm_values.specs.Val.{Val, undefined}
 use Rattle.tm_values.specs.declared.error.ErrorKind.{ErrorKind}
 use Rattle.tm_values.specs.declared.error.ErrorKind.TheVariants.{InvalidOperation}
@@ -27,7 +28,8 @@ pub record Return : Type 0 where
   pub value : Bool
 
 -- What is a run's own: its stream and the place in it, its operands, the topmost first, the escapes that its open `autoescape`s replaced,
--- for each loop that it has open where that goes on if it was called, the captures that stood when this run or the innermost called loop began, the parent that waits.
+-- for each loop that it has open where that goes on if it was called, the captures that stood when this run or the innermost called loop
+-- began, the parent that waits.
 pub record Activation : Type 0 where
   pub stream : StreamId
   pub place : ℕ
@@ -190,7 +192,14 @@ recursion p c value vs ks n (Some l) items w =
         operands = [];
         escapes = [];
         floor = length ks;
-        loops = Some (record { place = c.run.place + 1; operands = vs; escapes = c.run.escapes; floor = c.run.floor; parent = c.run.parent; value = value }) ∷ c.run.loops;
+        loops = Some (record {
+          place = c.run.place + 1;
+          operands = vs;
+          escapes = c.run.escapes;
+          floor = c.run.floor;
+          parent = c.run.parent;
+          value = value;
+        }) ∷ c.run.loops;
       };
       captures = ks;
       world = world1;

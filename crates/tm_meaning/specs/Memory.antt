@@ -10,7 +10,8 @@ abbrev pub kind_of_wrapping : Wrapping → ErrorKind
 kind_of_wrapping wrapping.EvalBlock = kinds.EvalBlock
 kind_of_wrapping wrapping.BadInclude = kinds.BadInclude
 
--- The kinds that may stand before a fault of something else: those of nested runs, and InvalidOperation, as before the fault of what a loop is called with.
+-- The kinds that may stand before a fault of something else: those of nested runs, and InvalidOperation, as before the fault of what a loop
+-- is called with.
 abbrev pub is_wrapping : ErrorKind → Bool
 is_wrapping kinds.EvalBlock = true
 is_wrapping kinds.BadInclude = true

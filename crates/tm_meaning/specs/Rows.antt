@@ -13,7 +13,8 @@ use Rattle.tm_syntax.specs.declared.tree.Expr.{Expr, Var, Const, List', Tuple', 
 use Rattle.tm_syntax.specs.declared.tree.Expr.{end_of-Argument as no_argument, end_of-Keyword as no_keyword, end_of-Step as no_step}
 use Rattle.tm_syntax.specs.declared.tree.Expr.{more_of-Step as step, end_of-Condition as no_condition}
 use Rattle.tm_syntax.specs.declared.tree.Step.{Step, Attribute, end_of-Comparison as no_comparison}
-use Rattle.tm_syntax.specs.declared.tree.AssignmentTarget.{AssignmentTarget, Name as To, Unpack' as Items, Attribute as Member, end_of-AssignmentTarget as no_target}
+use Rattle.tm_syntax.specs.declared.tree.AssignmentTarget.{AssignmentTarget, Name as To, Unpack' as Items, Attribute as Member}
+use Rattle.tm_syntax.specs.declared.tree.AssignmentTarget.{end_of-AssignmentTarget as no_target}
 use Rattle.tm_syntax.specs.declared.tree.AssignmentTarget.{more_of-AssignmentTarget as target}
 use Rattle.tm_syntax.specs.declared.tree.Assignment.{Assignment}
 use Rattle.tm_syntax.specs.declared.tree.Stmt.{Stmt, EmitRaw, EmitExpr, If', Block', Set, SetBlock', With', AutoEscape'}

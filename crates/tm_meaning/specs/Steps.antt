@@ -1,13 +1,21 @@
 -- A step of the machine, and whole runs.
-use Rattle.std.specs.Prelude.{◌≡◌, ℕ, zero, suc, List, [], ◌∷◌, ◌++◌, length, Option, Some, None, option_and_then, Bool, true, false, ◌&&◌, nat_eq, slice_get}
+use Rattle.std.specs.Prelude.{◌≡◌, ℕ, zero, suc, List, [], ◌∷◌, ◌++◌, length, Option, Some, None, option_and_then, Bool, true, false, ◌&&◌}
+use Rattle.std.specs.Prelude.{nat_eq, slice_get}
 use Rattle.tm_values.specs.declared.escape.AutoEscape.{AutoEscape}
 use Rattle.tm_syntax.specs.declared.instruction.Instruction.{Instruction}
 use Rattle.tm_syntax.specs.declared.instruction.Instruction.TheVariants as i
 use Rattle.tm_syntax.specs.declared.tree.UnaryOperator.TheVariants as unaries
 use Rattle.tm_syntax.specs.declared.tree.BinaryOperator.TheVariants as binaries
 use Rattle.tm_meaning.specs.World.{choose, World, HostValue, Res, pays}
-use Rattle.tm_meaning.specs.Machine.{Config, Return, Base, End, Finished, Back, back_to, Next, More, Over, Nest, Program, after, stuck, with_world}
-use Rattle.tm_meaning.specs.Instructions.{emit_raw_of, emit_of, lookup_of, load_const_of, get_attr_of, unary_of, binary_of, compare_and_preserve_of, swap_of, dup_top_of, discard_top_of, get_item_of, slice_instruction_of, build_list_of, build_map_of, build_kwargs_of, jump_of, jump_if_false_of, jump_if_false_or_pop_of, jump_if_true_or_pop_of, call_function_of, call_method_of, fast_recurse_of, call_block_of, store_local_of, unpack_list_of, set_attr_of, push_with_of, pop_frame_of, push_loop_of, iterate_of, push_did_not_iterate_of, pop_loop_frame_of, begin_capture_of, end_capture_of, push_auto_escape_of, pop_auto_escape_of}
+use Rattle.tm_meaning.specs.Machine.{Config, Return, Base, End, Finished, Back, back_to, Next, More, Over, Nest, Program, after, stuck}
+use Rattle.tm_meaning.specs.Machine.{with_world}
+use Rattle.tm_meaning.specs.Instructions.{emit_raw_of, emit_of, lookup_of, load_const_of, get_attr_of, unary_of, binary_of}
+use Rattle.tm_meaning.specs.Instructions.{compare_and_preserve_of, swap_of, dup_top_of, discard_top_of, get_item_of, slice_instruction_of}
+use Rattle.tm_meaning.specs.Instructions.{build_list_of, build_map_of, build_kwargs_of, jump_of, jump_if_false_of, jump_if_false_or_pop_of}
+use Rattle.tm_meaning.specs.Instructions.{jump_if_true_or_pop_of, call_function_of, call_method_of, fast_recurse_of, call_block_of}
+use Rattle.tm_meaning.specs.Instructions.{store_local_of, unpack_list_of, set_attr_of, push_with_of, pop_frame_of, push_loop_of, iterate_of}
+use Rattle.tm_meaning.specs.Instructions.{push_did_not_iterate_of, pop_loop_frame_of, begin_capture_of, end_capture_of, push_auto_escape_of}
+use Rattle.tm_meaning.specs.Instructions.{pop_auto_escape_of}
 
 -- what an instruction is charged: 0 where it is free
 abbrev pub charge_of : Instruction → ℕ
@@ -131,7 +139,8 @@ is_empty (x ∷ xs) = false
 -- all that the run opened is closed, and the place is the stream's end
 abbrev pub closed : Base → Config → Bool
 closed f c =
-    nat_eq f.captures (length c.captures) && nat_eq f.scopes (length c.world.scopes.frames) && is_empty c.run.escapes && is_empty c.run.loops
+    nat_eq f.captures (length c.captures) && nat_eq f.scopes
+    (length c.world.scopes.frames) && is_empty c.run.escapes && is_empty c.run.loops
 
 -- Behind the last instruction the run is over, with all closed that it opened.
 abbrev pub finish : ℕ → Base → Config → Next

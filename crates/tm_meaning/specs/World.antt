@@ -1,5 +1,6 @@
 -- What a state is to the meaning and to the machine, and what both do to it.
-use Rattle.std.specs.Prelude.{ℕ, zero, suc, ◌+◌, ◌-◌, List, [], ◌∷◌, ◌++◌, length, map as each, Option, Some, None, option_and_then, Bool, true, false, ◌&&◌, nat_lt, nat_eq, if◌then◌else◌, Ok, Err, slice_get, codes}
+use Rattle.std.specs.Prelude.{ℕ, zero, suc, ◌+◌, ◌-◌, List, [], ◌∷◌, ◌++◌, length, map as each, Option, Some, None, option_and_then, Bool}
+use Rattle.std.specs.Prelude.{true, false, ◌&&◌, nat_lt, nat_eq, if◌then◌else◌, Ok, Err, slice_get, codes}
 use Rattle.tm_syntax.specs.declared.instruction.LoopFlags.{LoopFlags}
 pub use Rattle.tm_syntax.specs.Named.{Named, same_name, find, put, put_each}
 use Rattle.tm_values.specs.Answer.{Answer, invalid}
@@ -50,7 +51,8 @@ root_of t = record { template = t; block = None }
 abbrev pub block_of : TemplateId → List ℕ → StreamId
 block_of t b = record { template = t; block = Some b }
 
--- What is known of a stream beside its content: whether it is a required block, and how many arguments each of its macros takes, in source order.
+-- What is known of a stream beside its content: whether it is a required block, and how many arguments each of its macros takes, in source
+-- order.
 pub record Card : Type 0 where
   pub required : Bool
   pub macros : List ℕ
@@ -75,7 +77,8 @@ pub record Scopes : Type 0 where
   pub frames : List Scope
   pub outer : ℕ
 
--- A loop's record: its items, how often the next one was asked for, once more than there are at most, its depth, its number in its stream in source order, whether it can be called, its stream, and the arguments of `changed`.
+-- A loop's record: its items, how often the next one was asked for, once more than there are at most, its depth, its number in its stream
+-- in source order, whether it can be called, its stream, and the arguments of `changed`.
 pub record Loop : Type 0 where
   pub items : List Val
   pub turns : ℕ
@@ -173,7 +176,8 @@ answered (Ok a) w = Good a w
 answered (Err chain) w = Bad chain w
 
 -- ---------------------------------------------------------------- fuel
--- The fuel that is left behind a charge: all of it where the charge is 0; and none, with the fuel out, where no more than the charge was left.
+-- The fuel that is left behind a charge: all of it where the charge is 0; and none, with the fuel out, where no more than the charge was
+-- left.
 abbrev pub charged : ℕ → ℕ → Option ℕ
 charged charge left = if nat_eq charge 0 then Some left else if nat_lt charge left then Some (left - charge) else None
 
@@ -448,7 +452,8 @@ abbrev pub switched_on : AutoEscape → AutoEscape
 switched_on escapes.None = escapes.Html
 switched_on first = first
 
--- The escape that a value stands for, in a run that began with this one: a text names it, what equals true switches it on, and all else switches it off.
+-- The escape that a value stands for, in a run that began with this one: a text names it, what equals true switches it on, and all else
+-- switches it off.
 abbrev pub escape_for : AutoEscape → Val → Answer AutoEscape
 escape_for first (text name safe) = escape_named name
 escape_for first v = Ok (if is_eq (val_cmp v (boolean true)) then switched_on first else escapes.None)

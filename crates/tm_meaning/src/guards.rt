@@ -58,7 +58,8 @@ pub fn fuel_guards()
     ensures none_left { Spends hello 3 (Some (3, 0)) }
 {}
 
-/// A loop is called in its own stream alone, and a block is another; the innermost loop is called, which has to be one that can be; a loop of another state has no methods.
+/// A loop is called in its own stream alone, and a block is another; the innermost loop is called,
+/// which has to be one that can be; a loop of another state has no methods.
 pub fn call_guards()
     ensures innermost { Fails plain_inside_called [] (InvalidOperation ∷ []) }
     ensures foreign { Fails foreign_changed [] (InvalidOperation ∷ []) }

@@ -1,4 +1,5 @@
-//! Definitions: what a state is, what trees mean, what the machine does. The functions here are laws: they run nothing, and their contracts say what is proved of the definitions.
+//! Definitions: what a state is, what trees mean, what the machine does. The functions here are
+//! laws: they run nothing, and their contracts say what is proved of the definitions.
 #![tactic(auto)]
 
 ghost use Rattle.std.specs.Prelude.{◌≡◌, ◌++◌, ℕ, List, Option};
@@ -48,7 +49,8 @@ pub fn text_grows()
         Leads p f t n o → (rest : List ℕ) × (o.text ≡ t ++ rest) }
 {}
 
-/// A look-up answers by what has the name first: from the innermost scope outward its locals, its loop, its closure and its context value, and then the globals.
+/// A look-up answers by what has the name first: from the innermost scope outward its locals, its
+/// loop, its closure and its context value, and then the globals.
 pub fn look_up_order()
     ensures { (view : View) (x : List ℕ) (a : Answer (Option Val)) →
         Finds view x view.frames a → find_name view x ≡ a }

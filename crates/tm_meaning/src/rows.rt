@@ -2,7 +2,9 @@
 ghost use Rattle.std.specs.Prelude.{[], ◌∷◌, ◌++◌, true, false, codes, pos};
 ghost use Rattle.std.specs.Fmt.{decimal};
 ghost use Rattle.tm_values.specs.Val.{boolean, function, map, no_pairs, number};
-ghost use Rattle.tm_values.specs.declared.error.ErrorKind.TheVariants.{CannotUnpack, InvalidOperation, MissingArgument, UndefinedError, UnknownFunction, UnknownMethod, OutOfFuel, WriteFailure, BadStream, OutOfMemory};
+ghost use Rattle.tm_values.specs.declared.error.ErrorKind.TheVariants.{CannotUnpack, InvalidOperation, MissingArgument, UndefinedError};
+ghost use Rattle.tm_values.specs.declared.error.ErrorKind.TheVariants.{UnknownFunction, UnknownMethod, OutOfFuel, WriteFailure, BadStream};
+ghost use Rattle.tm_values.specs.declared.error.ErrorKind.TheVariants.{OutOfMemory};
 ghost use Rattle.tm_meaning.specs.Rows.{Says, Charges, Shows, Fails, Leaves, Lacks, Restores, empty, text_alone, two_names};
 ghost use Rattle.tm_meaning.specs.Rows.{one_name, nothing, with_value, hello, either_text, of_three, empty_condition};
 ghost use Rattle.tm_meaning.specs.Rows.{shown, a_and_b_c, a_or_x, not_equal, a_b, literal_number, three_in_a_row};
@@ -40,7 +42,8 @@ pub fn text_rows()
     ensures literal { Charges (shown (literal (codes "}}")) nothing) (codes "}}") 2 }
 {}
 
-/// `{{ a }}{{ b }}` with the names A and B, and with x and an undefined one, takes 4 charges, so 5 units of fuel; with fewer it ends where the fuel does.
+/// `{{ a }}{{ b }}` with the names A and B, and with x and an undefined one, takes 4 charges, so 5
+/// units of fuel; with fewer it ends where the fuel does.
 pub fn two_names_rows()
     ensures five { Says two_names 5 (codes "AB") 1 [] }
     ensures four { Says two_names 4 (codes "A") 0 (OutOfFuel ∷ []) }
@@ -80,7 +83,8 @@ pub fn chain_rows()
     ensures stops { Charges (shown false_before_fault nothing) (codes "false") 12 }
 {}
 
-/// `{{ 1 if false }}`, `{{ 1 if true else 2 }}`, `{{ 1 if true if false else 2 }}` and `{{ 1 if false if true else 2 }}`: the last condition is asked first.
+/// `{{ 1 if false }}`, `{{ 1 if true else 2 }}`, `{{ 1 if true if false else 2 }}` and `{{ 1 if false if true else 2 }}`:
+/// the last condition is asked first.
 pub fn conditional_rows()
     ensures no_value { Charges (shown (one_condition false no_value) nothing) [] 4 }
     ensures value { Charges (shown (one_condition true (literal_number 2)) nothing) (decimal 1) 5 }
@@ -100,7 +104,8 @@ pub fn block_rows()
     ensures restores { Restores fault_in_block }
 {}
 
-/// `{% with a = 1, b = a %}{{ b }}{% endwith %}{{ b }}`, `{% with %}{% endwith %}`, `{% set a, b = 1, 2 %}{{ a }}{{ b }}`, `{% set a, b = [1] %}`, `{% set a.b = 1 %}` and `{% do f() %}x`.
+/// `{% with a = 1, b = a %}{{ b }}{% endwith %}{{ b }}`, `{% with %}{% endwith %}`, `{% set a, b = 1, 2 %}{{ a }}{{ b }}`,
+/// `{% set a, b = [1] %}`, `{% set a.b = 1 %}` and `{% do f() %}x`.
 pub fn scope_rows()
     ensures with_two { Charges with_two (decimal 1) 8 }
     ensures deep_enough { Charges (empty_with 2) [] 0 }
@@ -111,7 +116,8 @@ pub fn scope_rows()
     ensures do_call { Charges do_call (codes "x") 2 }
 {}
 
-/// `{% set x %}a{{ 1 }}{% endset %}{{ x }}`, `b{% set x %}a{{ nope() }}{% endset %}`, `{% set a, b %}1{% endset %}`, and how texts are escaped that a set block takes or that are emitted under `{% autoescape e %}`.
+/// `{% set x %}a{{ 1 }}{% endset %}{{ x }}`, `b{% set x %}a{{ nope() }}{% endset %}`, `{% set a, b %}1{% endset %}`,
+/// and how texts are escaped that a set block takes or that are emitted under `{% autoescape e %}`.
 pub fn capture_rows()
     ensures set_block { Charges set_block (codes "a" ++ decimal 1) 7 }
     ensures fuel_ends_inside { Says set_block 3 [] 0 (OutOfFuel ∷ []) }
@@ -153,7 +159,8 @@ pub fn loop_rows()
     ensures number { Fails over_a_number [] (InvalidOperation ∷ []) }
 {}
 
-/// `{% for x in [1,2] if x > 1 %}{{ x }}{% endfor %}`, with an else part, under a condition that holds for none, and what `loop` is in the body and in the condition.
+/// `{% for x in [1,2] if x > 1 %}{{ x }}{% endfor %}`, with an else part, under a condition that
+/// holds for none, and what `loop` is in the body and in the condition.
 pub fn loop_condition_rows()
     ensures alone { Charges chosen_alone (decimal 2) 29 }
     ensures last { Says chosen_alone 29 (decimal 2) 0 (OutOfFuel ∷ []) }
@@ -174,7 +181,9 @@ pub fn function_rows()
     ensures summed { Charges summed (decimal 3) 30 }
 {}
 
-/// `{% for x in [1,1,2] %}{{ loop.changed(x) }} {% endfor %}`, `loop.cycle("x", "y")` and `loop.cycle()` in loops, `loop.index()`, `{{ m.f("a") }}` where m has a function at f and where it has a number, and `{{ nope.m() }}`.
+/// `{% for x in [1,1,2] %}{{ loop.changed(x) }} {% endfor %}`, `loop.cycle("x", "y")` and
+/// `loop.cycle()` in loops, `loop.index()`, `{{ m.f("a") }}` where m has a function at f and where
+/// it has a number, and `{{ nope.m() }}`.
 pub fn method_rows()
     ensures changed { Charges changed_or_not (codes "true false true ") 29 }
     ensures cycle { Charges by_turns (codes "xyx") 29 }
@@ -200,7 +209,9 @@ pub fn call_rows()
     ensures not_found { Fails (unknown_behind last_function) (codes "a") (UnknownFunction ∷ []) }
 {}
 
-/// Loops that are called: `{{ loop(x) }}` in place, over `[[]]`, a number, in a loop that can't be called and outside of loops; `loop(x, 1)`; `loop.depth`; a tree in place and as values; a loop called behind its end.
+/// Loops that are called: `{{ loop(x) }}` in place, over `[[]]`, a number, in a loop that can't be
+/// called and outside of loops; `loop(x, 1)`; `loop.depth`; a tree in place and as values; a loop
+/// called behind its end.
 pub fn recursion_rows()
     ensures in_place { Charges called_in_place (codes "a") 10 }
     ensures number { Fails called_over_a_number [] (InvalidOperation ∷ InvalidOperation ∷ []) }

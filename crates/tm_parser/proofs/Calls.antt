@@ -18,7 +18,8 @@ use Rattle.tm_syntax.specs.declared.tree.Stmt.TheVariants as stmts
 use Rattle.tm_syntax.specs.Forms.{plain}
 use Rattle.tm_syntax.specs.contracts.tree.Argument.{enum as the_enum}
 use Rattle.tm_syntax.proofs.Forms.{whole}
-use Rattle.tm_parser.specs.Statements.{is_call, is_method, last_is_method, only_one, are_unnamed, loop_argument, call_or_emit, emit_statement}
+use Rattle.tm_parser.specs.Statements.{is_call, is_method, last_is_method, only_one, are_unnamed, loop_argument, call_or_emit}
+use Rattle.tm_parser.specs.Statements.{emit_statement}
 
 pub last-nil : (b : Bool) → last_is_method b (row_of_steps []) ≡ b
 unfolding hidden row_of_steps shape-the_row-Step-5

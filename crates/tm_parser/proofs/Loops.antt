@@ -105,13 +105,15 @@ module _ (i : Inside) where
       (one_more (single i) xs).reads behind ≡ got ys rest → length rest < length ts
   target_comes_nearer xs ys ts behind rest = comes_nearer target_comma (λ _. single i) xs ts tt behind ys rest
 
-  pub target_refuses : (xs : List AssignmentTarget) (ts behind : List Token) (whole : Read Token (List AssignmentTarget)) (chain : List ErrorKind) →
+  pub target_refuses : (xs : List AssignmentTarget) (ts behind : List Token) (whole : Read Token (List AssignmentTarget))
+      (chain : List ErrorKind) →
       (more_targets i xs).reads ts ≡ whole →
       target_comma.sees ts ≡ got tt behind → Refused chain ((one_more (single i) xs).reads behind ≡ None) → Refused chain (whole ≡ None)
   unfolding more_targets
   target_refuses xs ts behind whole chain = refuses target_comma (λ _. single i) xs ts whole tt behind chain
 
-  pub target_ends : (xs : List AssignmentTarget) (ts rest : List Token) (whole : Read Token (List AssignmentTarget)) → (more_targets i xs).reads ts ≡ whole →
+  pub target_ends : (xs : List AssignmentTarget) (ts rest : List Token) (whole : Read Token (List AssignmentTarget)) →
+      (more_targets i xs).reads ts ≡ whole →
       (target_comma.sees ts ≡ None) × (rest ≡ ts) → whole ≡ got xs rest
   unfolding more_targets
   target_ends xs ts rest whole = ends target_comma (λ _. single i) xs ts whole rest

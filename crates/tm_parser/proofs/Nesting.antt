@@ -162,7 +162,8 @@ pub none_loop_head : (depth : ℕ) (ts : List Token) → depth ≡ 0 → (inner 
 unfolding inner
 none_loop_head depth ts h = ap (λ k. (inner k).loop_head.reads ts) h
 
-pub inner_loop_head : (depth : ℕ) (ts : List Token) → ¬ (depth ≡ 0) → (inner depth).loop_head.reads ts ≡ (loop_head (inside (depth - 1))).reads ts
+pub inner_loop_head : (depth : ℕ) (ts : List Token) → ¬ (depth ≡ 0) →
+    (inner depth).loop_head.reads ts ≡ (loop_head (inside (depth - 1))).reads ts
 unfolding inner
 inner_loop_head zero ts h = absurd (h refl)
 inner_loop_head (suc depth) ts h = ap (λ k. (loop_head (inside k)).reads ts) (sym (suc-sub-one depth))

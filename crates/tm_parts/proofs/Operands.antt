@@ -1,6 +1,8 @@
 -- The topmost operands of a stack that lies in memory with the lowest first.
-use Rattle.std.proofs.Common.{◌≡◌, ◌⊎◌, inl, inr, ◌<◌, ◌≤◌, ◌-◌, ℕ, zero, suc, List, [], ◌∷◌, ◌++◌, length, take, drop, reverse, Some, None, refl, sym, ◌∙◌, ap, subst, arith}
-use Rattle.std.proofs.lemmas.List.{append-nil, append_assoc, reverse-append, reverse-reverse, length-reverse, length-drop, take-append-drop, drop_at, drop_all, take_rest}
+use Rattle.std.proofs.Common.{◌≡◌, ◌⊎◌, inl, inr, ◌<◌, ◌≤◌, ◌-◌, ℕ, zero, suc, List, [], ◌∷◌, ◌++◌, length, take, drop, reverse, Some, None}
+use Rattle.std.proofs.Common.{refl, sym, ◌∙◌, ap, subst, arith}
+use Rattle.std.proofs.lemmas.List.{append-nil, append_assoc, reverse-append, reverse-reverse, length-reverse, length-drop, take-append-drop}
+use Rattle.std.proofs.lemmas.List.{drop_at, drop_all, take_rest}
 use Rattle.std.proofs.lemmas.Bool.{cases_lt}
 use Rattle.tm_values.specs.Val.{Val}
 use Rattle.tm_meaning.specs.Machine.{taken}
@@ -43,7 +45,8 @@ taken_split xs held n all within =
     let rest = reverse (take (length xs - n) xs) in
     let few : n ≤ length xs = omega (arith, all, within) in
     let whole : taken (length (reverse front)) [] (reverse front ++ rest) ≡ Some (front, rest) =
-    taken_above (reverse front) [] rest ∙ ap (λ (l : List Val). Some (l, rest)) (append-nil (reverse (reverse front)) ∙ reverse-reverse front) in
+    taken_above (reverse front) [] rest
+    ∙ ap (λ (l : List Val). Some (l, rest)) (append-nil (reverse (reverse front)) ∙ reverse-reverse front) in
     let counted : taken n [] (reverse front ++ rest) ≡ Some (front, rest) =
     subst (λ (k : ℕ). taken k [] (reverse front ++ rest) ≡ Some (front, rest)) (length_front xs n few) whole in
     rw all ((ap (taken n []) (cut xs n)) ∙ counted)

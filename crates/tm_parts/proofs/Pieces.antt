@@ -1,5 +1,6 @@
 -- What a writer holds after a text and then another, and after a part of one.
-use Rattle.std.proofs.Common.{◌≡◌, ◌<◌, ◌+◌, ◌-◌, min, ℕ, zero, suc, List, [], ◌++◌, length, take, drop, Option, Some, None, Result, Ok, refl, sym, ◌∙◌, ap, subst, arith, append_assoc, length-drop}
+use Rattle.std.proofs.Common.{◌≡◌, ◌<◌, ◌+◌, ◌-◌, min, ℕ, zero, suc, List, [], ◌++◌, length, take, drop, Option, Some, None, Result, Ok}
+use Rattle.std.proofs.Common.{refl, sym, ◌∙◌, ap, subst, arith, append_assoc, length-drop}
 use Rattle.std.proofs.Math.Seq.{take-add, take-length, take-append_seam, take-append-add}
 use Rattle.std.proofs.lemmas.List.{append-nil, take-append-le, take_min}
 use Rattle.std.specs.Io.KnownBytes.{Appends}
@@ -40,7 +41,8 @@ beginning_longer a b x y (n, written) = (
 )
 
 -- a text and then a beginning of another are a beginning of the joined text
-pub appends_then_beginning : (a b c : Option (List ℕ)) (x y : List ℕ) → Appends a b x → AppendsBeginning b c y → AppendsBeginning a c (x ++ y)
+pub appends_then_beginning : (a b c : Option (List ℕ)) (x y : List ℕ) → Appends a b x → AppendsBeginning b c y →
+    AppendsBeginning a c (x ++ y)
 appends_then_beginning a b c x y first (n, second) = (
   length x + n,
   appends_as a c (x ++ take n y) (take (length x + n) (x ++ y)) (sym (take-append-add x y n))
@@ -48,7 +50,8 @@ appends_then_beginning a b c x y first (n, second) = (
 )
 
 -- the same, with a text behind both
-pub appends_then_beginning_longer : (a b c : Option (List ℕ)) (x y z : List ℕ) → Appends a b x → AppendsBeginning b c y → AppendsBeginning a c (x ++ (y ++ z))
+pub appends_then_beginning_longer : (a b c : Option (List ℕ)) (x y z : List ℕ) → Appends a b x → AppendsBeginning b c y →
+    AppendsBeginning a c (x ++ (y ++ z))
 appends_then_beginning_longer a b c x y z first second =
     appends_then_beginning a b c x (y ++ z) first (beginning_longer b c y z second)
 
@@ -57,7 +60,8 @@ cut_rest : (k : ℕ) (text : List ℕ) → take (length text - k) (drop k text) 
 cut_rest k text = subst (λ m. take m (drop k text) ≡ drop k text) (length-drop k text) (take-length (drop k text))
 
 -- a beginning of a text, and then a piece of its rest
-pub appends_piece : (a b c : Option (List ℕ)) (k n : ℕ) (text : List ℕ) → Appends a b (take k text) → Appends b c (take n (take (length text - k) (drop k text))) → Appends a c (take (k + n) text)
+pub appends_piece : (a b c : Option (List ℕ)) (k n : ℕ) (text : List ℕ) → Appends a b (take k text) →
+    Appends b c (take n (take (length text - k) (drop k text))) → Appends a c (take (k + n) text)
 appends_piece a b c k n text first second =
     appends_as a c (take k text ++ take n (drop k text)) (take (k + n) text) (sym (take-add k n text))
     (appends_then a b c (take k text) (take n (drop k text)) first

@@ -7,7 +7,8 @@ use Rattle.tm_values.specs.Val.{Val, undefined, function, loop}
 use Rattle.tm_values.specs.declared.error.ErrorKind.{ErrorKind}
 use Rattle.tm_values.specs.declared.error.ErrorKind.TheVariants.{InvalidOperation, UnknownBlock, UnknownFunction, UnknownMethod}
 use Rattle.tm_definitions.specs.Maps.{dict_of, namespace_of}
-use Rattle.tm_meaning.specs.World.{unpacked_items, emitted, escape_for, view_of, find, same_name, block_of, World, HostValue, Scope, Loop, innermost}
+use Rattle.tm_meaning.specs.World.{unpacked_items, emitted, escape_for, view_of, find, same_name, block_of, World, HostValue, Scope, Loop}
+use Rattle.tm_meaning.specs.World.{innermost}
 use Rattle.tm_meaning.specs.World.{items_over, Res, Good, Bad}
 use Rattle.tm_meaning.specs.World.{need, check, answered, depth, lookup, Function, callers, languages, records_of}
 use Rattle.tm_meaning.specs.World.{plain as plain_scope, Stated, View}
@@ -57,7 +58,8 @@ need_asks : {A : Type 0} (Holds : Asked → Type 0) (w : World) (found : Option 
 need_asks Holds w (Some a) kind g h k = k a refl
 need_asks Holds w None kind g h k = h
 
-ask_need : {A : Type 0} (host : HostValue) (w : World) (found : Option A) (kind : ErrorKind) (g : A → World → Asked) → is_raised kind ≡ true →
+ask_need : {A : Type 0} (host : HostValue) (w : World) (found : Option A) (kind : ErrorKind) (g : A → World → Asked) →
+    is_raised kind ≡ true →
     ((a : A) → found ≡ Some a → Asks host w (g a w)) → Asks host w (ask (need found kind w) g)
 ask_need host w found kind g e k = need_asks (Asks host w) w found kind g (asks_refused host w kind e) k
 

@@ -17,14 +17,16 @@ use Rattle.tm_syntax.specs.declared.tree.Expr.{end_of-Step as no_step, more_of-S
 use Rattle.tm_syntax.specs.declared.tree.Expr.{end_of-Condition as no_condition}
 use Rattle.tm_syntax.specs.declared.tree.Argument.{Argument}
 use Rattle.tm_syntax.specs.declared.tree.Step.{Step, Attribute, Method', Row_of-Comparison, end_of-Comparison as no_comparison}
-use Rattle.tm_syntax.specs.declared.tree.AssignmentTarget.{AssignmentTarget, Name as To, Unpack' as Items, Attribute as Member, Row_of-AssignmentTarget}
+use Rattle.tm_syntax.specs.declared.tree.AssignmentTarget.{AssignmentTarget, Name as To, Unpack' as Items, Attribute as Member}
+use Rattle.tm_syntax.specs.declared.tree.AssignmentTarget.{Row_of-AssignmentTarget}
 use Rattle.tm_syntax.specs.declared.tree.AssignmentTarget.{end_of-AssignmentTarget as no_target, more_of-AssignmentTarget as target}
 use Rattle.tm_syntax.specs.declared.tree.Assignment.{Assignment}
 use Rattle.tm_syntax.specs.Code.{pass_flags, count_targets}
 use Rattle.tm_syntax.specs.Forms.{unary, chained, conditional, with_condition, with_comparison, with_pair, plain, with_keyword}
 use Rattle.tm_syntax.specs.Forms.{item, slice, binary, compare, and_then, or_else}
 use Rattle.tm_definitions.specs.Members.{settable}
-use Rattle.tm_meaning.specs.World.{World, HostValue, loop_scope, next_turn, cleared, items_over, Res, bind, answered, tick, depth, looked_up}
+use Rattle.tm_meaning.specs.World.{World, HostValue, loop_scope, next_turn, cleared, items_over, Res, bind, answered, tick, depth}
+use Rattle.tm_meaning.specs.World.{looked_up}
 use Rattle.tm_meaning.specs.World.{lookup, records_of, with_member, set_member, unpacked_items}
 use Rattle.tm_meaning.specs.Calls.{Callee, Call, undone, wrapped, Asked, has, refused, runs, recurs}
 use Rattle.tm_meaning.specs.Meaning.{text_behind, Run, Outcome, Ending, done, leave, next, fault, Under, audible, value_of, value_behind}
@@ -39,7 +41,8 @@ use Rattle.tm_simulation.proofs.Raised.{Raises, sliced_raises}
 use Rattle.tm_simulation.proofs.Advances.{Advances, Kept, advances_then, lasts_by_namespaces, kept_same, kept_then, kept_lasting, in_stream}
 use Rattle.tm_simulation.proofs.Advances.{store_kept, kept_popped, kept_cleared, mark_behind, in_loop_of, kept_turned, advances_around}
 use Rattle.tm_simulation.proofs.Advances.{opened, opened_kept}
-use Rattle.tm_simulation.proofs.Gives.{Gives, RunEnds, run_ends_as, EndingKeeps, OutcomeKeeps, ends_as, gives_bind, gives_kept, choose_gives, tick_gives}
+use Rattle.tm_simulation.proofs.Gives.{Gives, RunEnds, run_ends_as, EndingKeeps, OutcomeKeeps, ends_as, gives_bind, gives_kept}
+use Rattle.tm_simulation.proofs.Gives.{choose_gives, tick_gives}
 use Rattle.tm_simulation.proofs.Gives.{ticked_gives}
 use Rattle.tm_simulation.proofs.Gives.{operation_gives, ends_here, ends_fault, ends_then, opened_gives}
 use Rattle.tm_simulation.proofs.Asks.{unpacked_gives, method_asks, Asks, lookup_gives, items_give, named_asks}
@@ -137,7 +140,8 @@ text_by host w world1 (fault chain) o h k = (advances_then h.advances k.0, k.1)
 
 place_by : (host : HostValue) (w world1 : World) (c : Call) (run : Run) (e : Ending) (o : Outcome) →
     EndingKeeps host (in_stream o.world.stream world1) e o.world →
-    ((world2 : World) → Advances (in_stream world2.stream world1) world2 → Kept w (undone c.undo world2)) → OutcomeKeeps host w (behind e c run o)
+    ((world2 : World) → Advances (in_stream world2.stream world1) world2 → Kept w (undone c.undo world2)) →
+    OutcomeKeeps host w (behind e c run o)
 place_by host w world1 c run done o h k = ends_here host w _ run o.text (k o.world h.advances)
 place_by host w world1 c run leave o h k = ends_here host w _ run o.text (k o.world h.advances)
 place_by host w world1 c run next o h k = ends_here host w _ run o.text (k o.world h.advances)
@@ -157,7 +161,8 @@ condition_gives host test guarded other first given last w =
     (λ x world4. ticked_gives host world4 _ (λ world5. kept_same world5))) (last world3))))
 
 module _ (u : Under) (nest_ends : (k : Callee) (heard : Bool) (out : List ℕ) (w : World) → RunEnds u.host w (u.nests k heard out w))
-    (again_ends : (n : ℕ) (items : List Val) (run : Run) (out : List ℕ) (w : World) → OutcomeKeeps u.host w (u.again n items run out w)) where
+    (again_ends : (n : ℕ) (items : List Val) (run : Run) (out : List ℕ) (w : World) →
+    OutcomeKeeps u.host w (u.again n items run out w)) where
   value_gives : (w : World) (run : Run) (q : Asked) → Asks u.host w q → Gives u.host w (value_of u run q)
   value_gives w run (has v world1) h = h
   value_gives w run (refused chain world1) h = h

@@ -21,14 +21,16 @@ use Rattle.tm_simulation.proofs.Evaluates.{place_ends, loop_items_give, assign_g
 
 -- ---------------------------------------------------------------- statements
 module _ (u : Under) (nest_ends : (k : Callee) (heard : Bool) (out : List ℕ) (w : World) → RunEnds u.host w (u.nests k heard out w))
-    (again_ends : (n : ℕ) (items : List Val) (run : Run) (out : List ℕ) (w : World) → OutcomeKeeps u.host w (u.again n items run out w)) where
+    (again_ends : (n : ℕ) (items : List Val) (run : Run) (out : List ℕ) (w : World) →
+    OutcomeKeeps u.host w (u.again n items run out w)) where
   emit_ends : (run : Run) (out : List ℕ) (v : Val) (w : World) → OutcomeKeeps u.host w (emit u run out v w)
   emit_ends run out v w =
       ends_use u.host w (tick w) run out _ (tick_gives u.host w) (λ _ world1. ends_use u.host world1 (emitted u.host v world1) run out _
       (emitted_gives u.host v world1)
       (λ t world2. ends_here u.host world2 world2 run (say run t out) (kept_same world2)))
 
-  behind_first_ends : (other : Otherwise) (run : Run) (w : World) (o : Outcome) → OutcomeKeeps u.host w o → OutcomeKeeps u.host w (behind_first other run o)
+  behind_first_ends : (other : Otherwise) (run : Run) (w : World) (o : Outcome) → OutcomeKeeps u.host w o →
+      OutcomeKeeps u.host w (behind_first other run o)
   behind_first_ends no_else run w o h = h
   behind_first_ends (otherwise _ body) run w o h =
       ends_do u.host w run o _ h (λ run1 out1 world1. ends_use u.host world1 (tick world1) run1 out1 _ (tick_gives u.host world1)

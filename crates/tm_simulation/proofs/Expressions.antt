@@ -101,7 +101,8 @@ module _ (setting : Setting) where
   -- values become one
   pub built_then : (made : List Val → Val) (s : Spot) (pc n : ℕ) (vs stack : List Val) (w : World) → length vs ≡ n →
       Go context s (pc + 1) (made vs ∷ stack) w →
-      LeadsToEnd context (told s) (on_taken (taken n [] (onto vs stack)) w (λ xs rest. goes (made xs ∷ rest) w (cfg s pc (onto vs stack) w)))
+      LeadsToEnd context (told s) (on_taken (taken n [] (onto vs stack)) w
+      (λ xs rest. goes (made xs ∷ rest) w (cfg s pc (onto vs stack) w)))
   built_then made s pc n vs stack w l g =
       subst (λ t. LeadsToEnd context (told s) (on_taken t w (λ xs rest. goes (made xs ∷ rest) w (cfg s pc (onto vs stack) w))))
       (sym (taken_all vs n stack l)) (silent context (told s) _ g)
@@ -199,7 +200,8 @@ module _ (setting : Setting) where
         (at context (i.CallFunction g n) s pc1 (onto (vs ++ ks) stack) world2 is.1.1.0
         (after_then context (told s) (tick world2) _ (bind_then context (told s) world2 (tick world2) _ _ _ (tick_gives _ world2) h2
         (λ _ world3 k3 h3.
-        subst (λ t. LeadsToEnd context (told s) (on_taken t world3 (λ xs rest. asked context.program (cfg s pc1 (onto (vs ++ ks) stack) world3)
+        subst (λ t. LeadsToEnd context (told s)
+        (on_taken t world3 (λ xs rest. asked context.program (cfg s pc1 (onto (vs ++ ks) stack) world3)
         rest (call_named context.program.host g xs world3)))) (sym (taken_all (vs ++ ks) n stack long))
         (asked_then setting run s pc1 stack (onto (vs ++ ks) stack) world3 world3 (call_named context.program.host g (vs ++ ks) world3)
         (named_asks context.program.host g (vs ++ ks) world3) (here_kept setting run s k3

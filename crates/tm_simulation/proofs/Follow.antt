@@ -7,7 +7,8 @@ use Rattle.tm_values.specs.declared.error.ErrorKind.{ErrorKind}
 use Rattle.tm_syntax.specs.declared.instruction.Instruction.{Instruction}
 use Rattle.tm_syntax.specs.declared.instruction.LoopFlags.{LoopFlags}
 use Rattle.tm_meaning.specs.World.{choose, World, HostValue, Scope, Res, Good, Bad, bind, tick, pop, loop_scope}
-use Rattle.tm_meaning.specs.Meaning.{Run, Outcome, Ending, done, leave, next, fault, ended, so_far, use_it, then_do, closing_by, closing, captured_by, captured, round_end}
+use Rattle.tm_meaning.specs.Meaning.{Run, Outcome, Ending, done, leave, next, fault, ended, so_far, use_it, then_do, closing_by, closing}
+use Rattle.tm_meaning.specs.Meaning.{captured_by, captured, round_end}
 use Rattle.tm_simulation.proofs.Advances.{Kept, within, one_more, mark_behind, recorded, opened}
 use Rattle.tm_simulation.proofs.Gives.{Gives, EndingKeeps, OutcomeKeeps}
 use Rattle.tm_meaning.specs.Machine.{Capture, Activation, Config, Failed, Next, More, Program, after, goes}
@@ -341,7 +342,8 @@ module _ (context : RunContext) where
       LeadsToEnd context (told s) (act context.program context.base (Some i) (cfg s pc stack w)) → Go s pc stack w
   at i s pc stack w e l = subst (λ o. LeadsToEnd context (told s) (act context.program context.base o (cfg s pc stack w))) (sym e) l
 
-  pub after_then : {A : Type 0} (t : List ℕ) (m : Res A) (g : A → World → Next) → Follows context t m (λ a w. LeadsToEnd context t (g a w)) →
+  pub after_then : {A : Type 0} (t : List ℕ) (m : Res A) (g : A → World → Next) →
+      Follows context t m (λ a w. LeadsToEnd context t (g a w)) →
       LeadsToEnd context t (after m g)
   after_then t (Good a w) g h = h
   after_then t (Bad chain w) g h = over refl h

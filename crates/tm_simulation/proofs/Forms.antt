@@ -1,12 +1,16 @@
 -- What is written, and runs that are nested, in place and as a value.
-use Rattle.std.proofs.Common.{◌≡◌, ℕ, suc, ◌+◌, ◌<◌, ◌≤◌, ◌⊎◌, inl, inr, List, [], ◌∷◌, ◌++◌, length, nat_lt, Option, Bool, true, false, refl, sym, subst, arith, lt-ltb, le-ltb}
+use Rattle.std.proofs.Common.{◌≡◌, ℕ, suc, ◌+◌, ◌<◌, ◌≤◌, ◌⊎◌, inl, inr, List, [], ◌∷◌, ◌++◌, length, nat_lt, Option, Bool, true, false}
+use Rattle.std.proofs.Common.{refl, sym, subst, arith, lt-ltb, le-ltb}
 use Rattle.tm_values.specs.Val.{Val}
 use Rattle.tm_meaning.specs.World.{choose, World, captured_text}
 use Rattle.tm_meaning.specs.Calls.{Callee, Call, undone, wrapped, runs}
-use Rattle.tm_meaning.specs.Meaning.{Run, Outcome, Ending, done, leave, next, fault, Under, audible as heard_here, say, behind, in_place_of, value_behind, value_of, capturing}
-use Rattle.tm_meaning.specs.Machine.{Activation, Finished, Failed, Back, More, Nest, Program, audible, put_in, put_out, writes, back_to, base_of, start, waiting, pushed, nested_in_place, nested_as_value}
+use Rattle.tm_meaning.specs.Meaning.{Run, Outcome, Ending, done, leave, next, fault, Under, audible as heard_here, say, behind, in_place_of}
+use Rattle.tm_meaning.specs.Meaning.{value_behind, value_of, capturing}
+use Rattle.tm_meaning.specs.Machine.{Activation, Finished, Failed, Back, More, Nest, Program, audible, put_in, put_out, writes, back_to}
+use Rattle.tm_meaning.specs.Machine.{base_of, start, waiting, pushed, nested_in_place, nested_as_value}
 use Rattle.tm_meaning.specs.Steps.{step, Final, final, Leads, over, more, nest}
-use Rattle.tm_simulation.proofs.Follow.{RunContext, LeadsToEnd, Bed, air, inside, captured_in, captures_of, told_by, Spot, told, cfg, later, Follows, Then, Ends, whole_of, so_far_then, fault_then, Go, silent}
+use Rattle.tm_simulation.proofs.Follow.{RunContext, LeadsToEnd, Bed, air, inside, captured_in, captures_of, told_by, Spot, told, cfg, later}
+use Rattle.tm_simulation.proofs.Follow.{Follows, Then, Ends, whole_of, so_far_then, fault_then, Go, silent}
 use Rattle.tm_meaning.specs.declared.stream.TemplateId.{TemplateId}
 use Rattle.tm_meaning.specs.declared.base.Base.{Base}
 
@@ -105,7 +109,8 @@ module _ (context : RunContext) where
       let rest = in_place_by k run back.run s.bed o.ending o.parent o.text o.world D L N h
       (λ d. silent context _ _ (g o.text (undone k.undo o.world) d)) in
       let e = audible_is context.base run s.run s.parent s.bed s.out pc stack w q fits in
-      subst (λ x. LeadsToEnd context (told s) (Nest (base_of x (captures_of s.bed s.out) v) (start k.callee (captures_of s.bed s.out) v) back))
+      subst (λ x. LeadsToEnd context (told s)
+      (Nest (base_of x (captures_of s.bed s.out) v) (start k.callee (captures_of s.bed s.out) v) back))
       (sym e) (nest refl entered rest)
 
   value_by : (k : Call) (a : Activation) (b : Bed) (out0 : List ℕ) (e : Ending) (o : Outcome) (K : Val → World → Type 0) →

@@ -48,7 +48,8 @@ ends_advance host w (fault chain) world1 h = h.0
 unfoldable pub RunEnds : HostValue → World → Outcome → Type 0
 RunEnds host w o = EndingKeeps host (in_stream o.world.stream w) o.ending o.world
 
-pub run_ends_as : (host : HostValue) (w : World) (o : Outcome) → RunEnds host w o → EndingKeeps host (in_stream o.world.stream w) o.ending o.world
+pub run_ends_as : (host : HostValue) (w : World) (o : Outcome) → RunEnds host w o →
+    EndingKeeps host (in_stream o.world.stream w) o.ending o.world
 unfolding RunEnds
 run_ends_as host w o h = h
 
@@ -105,7 +106,8 @@ module _ (host : HostValue) where
   operation_gives answer w h = answered_gives answer w (raised_arise host answer h)
 
   -- ---------------------------------------------------------------- outcomes
-  ends_by_then : (w world1 : World) (e : Ending) (world2 : World) → Kept w world1 → EndingKeeps host world1 e world2 → EndingKeeps host w e world2
+  ends_by_then : (w world1 : World) (e : Ending) (world2 : World) → Kept w world1 → EndingKeeps host world1 e world2 →
+      EndingKeeps host w e world2
   ends_by_then w world1 done world2 h k = kept_then h k
   ends_by_then w world1 leave world2 h k = kept_then h k
   ends_by_then w world1 next world2 h k = kept_then h k
@@ -145,7 +147,8 @@ module _ (host : HostValue) where
   ends_on_done w run (fault chain) parent out world1 g h k = h
 
   pub ends_do : (w : World) (run : Run) (o : Outcome) (g : Run → List ℕ → World → Outcome) → OutcomeKeeps host w o →
-      ((run1 : Run) (out1 : List ℕ) (world2 : World) → OutcomeKeeps host world2 (g run1 out1 world2)) → OutcomeKeeps host w (then_do run o g)
+      ((run1 : Run) (out1 : List ℕ) (world2 : World) → OutcomeKeeps host world2 (g run1 out1 world2)) →
+      OutcomeKeeps host w (then_do run o g)
   unfolding OutcomeKeeps
   ends_do w run o g h k = ends_on_done w run o.ending o.parent o.text o.world g h k
 
@@ -157,7 +160,8 @@ module _ (host : HostValue) where
   unfolding OutcomeKeeps
   ends_next w run out = kept_same w
 
-  pub choose_ends : (w : World) (b : Bool) (o q : Outcome) → OutcomeKeeps host w o → OutcomeKeeps host w q → OutcomeKeeps host w (choose b (λ _. o) (λ _. q))
+  pub choose_ends : (w : World) (b : Bool) (o q : Outcome) → OutcomeKeeps host w o → OutcomeKeeps host w q →
+      OutcomeKeeps host w (choose b (λ _. o) (λ _. q))
   choose_ends w true o q h k = h
   choose_ends w false o q h k = k
 
@@ -210,9 +214,11 @@ module _ (host : HostValue) where
   -- ---------------------------------------------------------------- loops
   -- a round's end
   round_end_ends : (w x : World) (run : Run) (f : Run → List ℕ → World → Outcome) →
-      ((run1 : Run) (out1 : List ℕ) (world1 : World) → Kept (in_loop_of (for_flags false) w) world1 → OutcomeKeeps host w (f run1 out1 world1)) →
+      ((run1 : Run) (out1 : List ℕ) (world1 : World) → Kept (in_loop_of (for_flags false) w) world1 →
+      OutcomeKeeps host w (f run1 out1 world1)) →
       (e : Ending) (parent : Option TemplateId) (out : List ℕ) (world1 : World) → Kept (in_loop_of (for_flags false) w) x →
-      EndingKeeps host x e world1 → OutcomeKeeps host w (round_end e run (record { ending = e; parent = parent; text = out; world = world1 }) f)
+      EndingKeeps host x e world1 → OutcomeKeeps host w
+      (round_end e run (record { ending = e; parent = parent; text = out; world = world1 }) f)
   unfolding OutcomeKeeps
   round_end_ends w x run f k done parent out world1 i h =
       ends_kept w world1 (tick world1) run out _ (advances_around (for_flags false) w world1 (kept_then i h)) (tick_gives world1)
@@ -227,7 +233,8 @@ module _ (host : HostValue) where
       (advances_then (advances_around (for_flags false) w x i) h.0, h.1)
 
   round_end_of : (w x : World) (run : Run) (f : Run → List ℕ → World → Outcome) →
-      ((run1 : Run) (out1 : List ℕ) (world1 : World) → Kept (in_loop_of (for_flags false) w) world1 → OutcomeKeeps host w (f run1 out1 world1)) →
+      ((run1 : Run) (out1 : List ℕ) (world1 : World) → Kept (in_loop_of (for_flags false) w) world1 →
+      OutcomeKeeps host w (f run1 out1 world1)) →
       (o : Outcome) → Kept (in_loop_of (for_flags false) w) x → OutcomeKeeps host x o → OutcomeKeeps host w (round_end o.ending run o f)
   unfolding OutcomeKeeps
   round_end_of w x run f k o i h = round_end_ends w x run f k o.ending o.parent o.text o.world i h
@@ -250,7 +257,8 @@ module _ (host : HostValue) where
       (kept_cleared (kept_turned (for_flags false) w world2 (kept_then i h))) (k v run out x))
 
   opened_ends : (n : ℕ) (recursive : Bool) (w : World) (vs : List Val) (turn : Val → Run → List ℕ → World → Outcome) →
-      ((v : Val) (run : Run) (out : List ℕ) (x : World) → OutcomeKeeps host x (turn v run out x)) → (run : Run) (out : List ℕ) (room : Bool) →
+      ((v : Val) (run : Run) (out : List ℕ) (x : World) → OutcomeKeeps host x (turn v run out x)) →
+      (run : Run) (out : List ℕ) (room : Bool) →
       let opening = one_more room (loop_scope (mark_behind (for_flags false) w)) w in
       OutcomeKeeps host w (use_it (bind opening (λ _ world1. recorded (for_flags recursive) n vs w world1)) run out
       (λ _ world1. rounds turn vs run out world1))

@@ -16,7 +16,8 @@ use Rattle.tm_meaning.specs.declared.stream.TemplateId.{TemplateId}
 use Rattle.tm_meaning.specs.declared.stream.StreamId.{StreamId}
 use Rattle.tm_simulation.specs.Chains.{Arises, IfAny}
 use Rattle.tm_simulation.proofs.Advances.{Kept, advances_then, kept_then, in_stream, undone_scopes}
-use Rattle.tm_simulation.proofs.Gives.{Gives, RunEnds, run_ends, run_ends_as, ends_advance, EndingKeeps, OutcomeKeeps, ends_as, tick_gives, ends_refused}
+use Rattle.tm_simulation.proofs.Gives.{Gives, RunEnds, run_ends, run_ends_as, ends_advance, EndingKeeps, OutcomeKeeps, ends_as, tick_gives}
+use Rattle.tm_simulation.proofs.Gives.{ends_refused}
 use Rattle.tm_simulation.proofs.Asks.{in_block, block_asks_by}
 use Rattle.tm_simulation.proofs.Executes.{execs_end, called_end}
 
@@ -67,7 +68,8 @@ pub nests_end : (host : HostValue) (trees : Trees) (n : ℕ) (k : Callee) (heard
 nests_end host trees n k heard out w = run_ends host w (nests_of host trees n k heard out w) (nest_ends_there host trees n k heard out w)
 
 -- ---------------------------------------------------------------- what runs keep
-unless_fault : (host : HostValue) (e : Ending) (w world1 : World) (A : Type 0) → EndingKeeps host w e world1 → (Kept w world1 → A) → UnlessFault e A
+unless_fault : (host : HostValue) (e : Ending) (w world1 : World) (A : Type 0) → EndingKeeps host w e world1 → (Kept w world1 → A) →
+    UnlessFault e A
 unless_fault host done w world1 A h k = k h
 unless_fault host leave w world1 A h k = k h
 unless_fault host next w world1 A h k = k h

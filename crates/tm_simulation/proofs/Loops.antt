@@ -1,5 +1,6 @@
 -- The records of loops: what is left of their items.
-use Rattle.std.proofs.Common.{◌≡◌, ℕ, zero, suc, ◌+◌, List, [], ◌∷◌, ◌++◌, length, Option, Some, None, Bool, false, nat_lt, refl, sym, ap, ◌∙◌, subst, arith, length-append, append_assoc, le-ltb, ne_eqb}
+use Rattle.std.proofs.Common.{◌≡◌, ℕ, zero, suc, ◌+◌, List, [], ◌∷◌, ◌++◌, length, Option, Some, None, Bool, false, nat_lt, refl, sym, ap}
+use Rattle.std.proofs.Common.{◌∙◌, subst, arith, length-append, append_assoc, le-ltb, ne_eqb}
 use Rattle.std.specs.Prelude.{slice_get, nat_eq, option_and_then}
 use Rattle.tm_values.specs.Val.{Val}
 use Rattle.tm_meaning.specs.World.{World, Loop, new_loop, turned, turned_at, turned_of, top_mark, next_turn, top_loop}

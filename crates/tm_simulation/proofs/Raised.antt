@@ -30,16 +30,19 @@ use Rattle.tm_definitions.specs.Maps.{dict_of, namespace_of, base_of, namespace_
 use Rattle.tm_definitions.specs.Members.{attribute_of, item_of, settable, settable_number, loop_member, loop_item}
 use Rattle.tm_definitions.specs.Members.{namespace_member as member_of_namespace}
 use Rattle.tm_definitions.specs.Printed.{entered}
-use Rattle.tm_definitions.specs.Ranges.{range_of, given, at_most_arguments, required_in, later_in, or_invalid, some_of, bound_in, served, span_of}
+use Rattle.tm_definitions.specs.Ranges.{range_of, given, at_most_arguments, required_in, later_in, or_invalid, some_of, bound_in, served}
+use Rattle.tm_definitions.specs.Ranges.{span_of}
 use Rattle.tm_definitions.specs.Ranges.{is_served}
-use Rattle.tm_definitions.specs.Refused.{Verdict, and_then, if_holds, in_json, no_json, fits_json, loop_verdict, key_verdict, NamespaceVerdicts}
+use Rattle.tm_definitions.specs.Refused.{Verdict, and_then, if_holds, in_json, no_json, fits_json, loop_verdict, key_verdict}
+use Rattle.tm_definitions.specs.Refused.{NamespaceVerdicts}
 use Rattle.tm_definitions.specs.Refused.{verdict, items_verdict, pairs_verdict, Way, through, namespace_verdict, print_verdict, nowhere}
 use Rattle.tm_definitions.specs.Slices.{sliced, cut, cut_by, parts_in, Parts}
 use Rattle.tm_definitions.specs.declared.comparison.Comparison.{Comparison}
 use Rattle.tm_definitions.specs.declared.comparison.Comparison.TheVariants as comparison
 use Rattle.tm_definitions.specs.declared.form.Form.{Form}
 use Rattle.tm_definitions.specs.declared.form.Form.TheVariants.{Printed, Json}
-use Rattle.tm_meaning.specs.World.{Scope, HostValue, View, find_name, in_frames, in_scope, or_on, or_on_answer, context_member, namespace_member}
+use Rattle.tm_meaning.specs.World.{Scope, HostValue, View, find_name, in_frames, in_scope, or_on, or_on_answer, context_member}
+use Rattle.tm_meaning.specs.World.{namespace_member}
 use Rattle.tm_meaning.specs.World.{escape_for, escape_named, formatted, where_fine, same_name}
 use Rattle.tm_meaning.specs.Calls.{method_in}
 use Rattle.tm_meaning.specs.Meaning.{as_value, negated, result_of, result_of_unary}
@@ -104,7 +107,8 @@ refusal_raises b purpose (undefined true) = silent_raises purpose b
 refusal_raises b purpose _ = tt
 
 unless_by : {A : Type 0} (Has : List ErrorKind → Type 0) → ((kind : ErrorKind) → is_raised kind ≡ true → Has (kind ∷ [])) →
-    (refusal : UndefinedRefusal) (answer : Answer A) → RaisesRefusal refusal → AnswersOnly Has answer → AnswersOnly Has (unless refusal answer)
+    (refusal : UndefinedRefusal) (answer : Answer A) → RaisesRefusal refusal → AnswersOnly Has answer →
+    AnswersOnly Has (unless refusal answer)
 unless_by Has one None answer h k = k
 unless_by Has one (Some kind) answer h k = one kind h
 

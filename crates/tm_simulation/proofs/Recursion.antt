@@ -96,7 +96,8 @@ module _ (setting : Setting) where
   called_over o s1 q out end w x l items d k e same (inl h) z = called_exit o s1 q out end [] w x l d k e h.0 (z end [])
   called_over o s1 q out end w x l items d k e same (inr h) z =
       at context i.PushDidNotIterate (later (looped (Some o) (in_call s1)) q out) end [] x h.0
-      (subst (λ a. LeadsToEnd context (told_by s1.bed out) a) (sym (did_not_is setting (Some o) (for_flags false) (in_call s1) q out end [] w x
+      (subst (λ a. LeadsToEnd context (told_by s1.bed out) a)
+      (sym (did_not_is setting (Some o) (for_flags false) (in_call s1) q out end [] w x
       l items k e same))
       (silent context (told_by s1.bed out) _ (called_exit o s1 q out (end + 1) (boolean (has_none items) ∷ []) w x l d k e h.1.0
       (z (end + 1) (boolean (has_none items) ∷ [])))))

@@ -131,7 +131,8 @@ module _ (setting : Setting) where
       Go context (later (looped o s) q out) end stack x
 
   -- A loop's rounds, from where the next item is asked for.
-  pub rounds_run : {m : _} → (o : Option Return) (g : LoopFlags) (t : AssignmentTarget) (loops : ℕ) (body : Row_of-Stmt m) (l : Labels) (pc : ℕ)
+  pub rounds_run : {m : _} → (o : Option Return) (g : LoopFlags) (t : AssignmentTarget) (loops : ℕ) (body : Row_of-Stmt m) (l : Labels)
+      (pc : ℕ)
       (rest : Fragment) → StmtsRun setting loops (round_labels l pc (round_code t body)) [] body →
       (items vs : List Val) (run : Run) (s : Spot) (stack : List Val) (w x : World) (r : Loop) (D L N : Then) →
       Stands context.base run s → Deep setting run s (in_loop_of (for_flags false) w) → Kept (in_loop_of (for_flags false) w) x →
@@ -145,7 +146,8 @@ module _ (setting : Setting) where
       (use_then context s.bed x (tick x) (as_at run s) s.out _ D L N _ (tick_gives _ x) h (λ _ world1 k1 h1.
       let kept = kept_then k k1 in
       let record1 = kept_record k1 (length w.loops) r e in
-      subst (λ n. LeadsToEnd context (told s) n) (sym (iterate_is o (for_flags false) s s.parent s.out (pc + 1) end stack w world1 r None kept
+      subst (λ n. LeadsToEnd context (told s) n)
+      (sym (iterate_is o (for_flags false) s s.parent s.out (pc + 1) end stack w world1 r None kept
       record1 (no_item r items left)))
       (silent context (told s) _ (over_it s.parent s.out (next_turn world1) (turned r) (kept_turned (for_flags false) w world1 kept)
       (next_record (for_flags false) w world1 r kept record1) (turned_items r items left)
@@ -184,7 +186,8 @@ module _ (setting : Setting) where
       silent context (told_by s.bed out1) _
       (over_it q out1 z1 (turned r) (kept_then kept_y (kept_then kz kz1)) (kept_record (kept_then kz kz1) (length w.loops) (turned r)
       record_y) left_y.same (so_far_then context s.bed (record run { parent = q }) out1 (pop z1) D L N g2))))) in
-      subst (λ n. LeadsToEnd context (told s) n) (sym (iterate_is o (for_flags false) s s.parent s.out again end stack w world1 r (Some v) kept
+      subst (λ n. LeadsToEnd context (told s) n)
+      (sym (iterate_is o (for_flags false) s s.parent s.out again end stack w world1 r (Some v) kept
       record1 (next_item r items v vs left)))
       (silent context (told s) _
       (target_runs setting t (as_at run s) (looped o s) inner (again + 1) v stack y
@@ -207,7 +210,8 @@ module _ (setting : Setting) where
   after_pass = straight (i.PopLoopFrame ∷ i.BuildList None ∷ [])
 
   -- From where the next item is asked for the pass comes behind its loop, with what it takes below the count.
-  pass_runs : (t : AssignmentTarget) (c : Expr) (k : Labels) (pc : ℕ) (items vs : List Val) (n : ℕ) (run : Run) (s : Spot) (below : List Val)
+  pass_runs : (t : AssignmentTarget) (c : Expr) (k : Labels) (pc : ℕ) (items vs : List Val) (n : ℕ) (run : Run) (s : Spot)
+      (below : List Val)
       (w x : World) (l : Loop) →
       Here setting run s w → nat_lt (depth w.scopes) context.program.host.limit ≡ true → Kept (in_loop_of pass_flags w) x →
       slice_get (shapes x.loops) (length w.loops) ≡ Some l → LeftOf l items vs →
@@ -222,7 +226,8 @@ module _ (setting : Setting) where
       (after_then context (told s) (tick x) _ (bind_then context (told s) x (tick x) _ _ _ (tick_gives _ x) h (λ _ world1 k1 h1.
       let all_kept = kept_then k k1 in
       let record1 = kept_record k1 (length w.loops) l e in
-      subst (λ a. LeadsToEnd context (told s) a) (sym (iterate_is None pass_flags s s.parent s.out again end (number (pos n) ∷ below) w world1
+      subst (λ a. LeadsToEnd context (told s) a)
+      (sym (iterate_is None pass_flags s s.parent s.out again end (number (pos n) ∷ below) w world1
       l None all_kept record1 (no_item l items left)))
       (silent context (told s) _
       (left_loop_then pass_flags s s.parent s.out _ (number (pos n) ∷ below) w (next_turn world1) (turned l) d.0.scopes
@@ -351,6 +356,7 @@ module _ (setting : Setting) where
       (after_then context (told s) (tick y) _ (bind_then context (told s) y (tick y) _ _ _ (tick_gives _ y) h5 (λ _ y1 k6 h6.
       built_then setting list_of_values s build m us stack y1 (omega (arith, em))
       (at context (i.PushLoop (for_flags recursive)) s (build + 1) (list_of_values us ∷ stack) y1 there
-      (subst (λ zs. LeadsToEnd context (told s) (after (open_loop context.program.host zs (for_flags recursive) (loops_before (build + 1) all)
+      (subst (λ zs. LeadsToEnd context (told s)
+      (after (open_loop context.program.host zs (for_flags recursive) (loops_before (build + 1) all)
       y1) (λ _ z. goes stack z (looping (None ∷ s.run.loops) (cfg s (build + 1) (list_of_values us ∷ stack) y1))))) (sym (items_back us))
       (h6 (list_of_values us ∷ stack))))))))))))))))))))))

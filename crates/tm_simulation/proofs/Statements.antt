@@ -299,7 +299,8 @@ module _ (setting : Setting) where
         let nth1 = after_one (end + 1 + 1) all _ is.1.0 ∙ after_one (end + 1) all _ is.0.1.0 ∙ after_one end all _ is.0.0 ∙ nth in
         let popped = kept_popped (loop_scope (mark_behind (for_flags false) w)) w x kept in
         at context i.PushDidNotIterate (later (looped None s) q out) end stack x is.0.0
-        (subst (λ n. LeadsToEnd context (told_by s.bed out) n) (sym (did_not_is setting None (for_flags false) s q out end stack w x r vs kept
+        (subst (λ n. LeadsToEnd context (told_by s.bed out) n)
+        (sym (did_not_is setting None (for_flags false) s q out end stack w x r vs kept
         e same))
         (silent context (told_by s.bed out) _
         (left_loop_then setting (for_flags false) s q out (end + 1) (boolean b ∷ stack) w x r d.0.scopes kept e is.0.1.0

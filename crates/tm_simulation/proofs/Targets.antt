@@ -5,7 +5,8 @@ use Rattle.std.specs.Prelude.{slice_get, ◌&&◌, nat_lt}
 use Rattle.tm_values.specs.Val.{Val, undefined}
 use Rattle.tm_values.specs.declared.escape.AutoEscape.{AutoEscape}
 use Rattle.tm_syntax.specs.declared.tree.Expr.{Expr}
-use Rattle.tm_syntax.specs.declared.tree.AssignmentTarget.{AssignmentTarget, Name as To, Unpack' as Items, Attribute as Member, Row_of-AssignmentTarget}
+use Rattle.tm_syntax.specs.declared.tree.AssignmentTarget.{AssignmentTarget, Name as To, Unpack' as Items, Attribute as Member}
+use Rattle.tm_syntax.specs.declared.tree.AssignmentTarget.{Row_of-AssignmentTarget}
 use Rattle.tm_syntax.specs.declared.tree.AssignmentTarget.{end_of-AssignmentTarget as no_target, more_of-AssignmentTarget as target}
 use Rattle.tm_syntax.specs.declared.tree.Assignment.{Assignment}
 use Rattle.tm_syntax.specs.declared.tree.Stmt.{Row_of-Stmt}
@@ -85,7 +86,8 @@ module _ (setting : Setting) where
         (λ _ world3 g. silent context (told s) _ g)))))))
 
     -- Targets take as many values, the first on top.
-    targets_run : {m : _} → (ts : Row_of-AssignmentTarget m) (run : Run) (s : Spot) (l : Labels) (pc : ℕ) (vs stack : List Val) (w : World) →
+    targets_run : {m : _} → (ts : Row_of-AssignmentTarget m) (run : Run) (s : Spot) (l : Labels) (pc : ℕ) (vs stack : List Val)
+        (w : World) →
         length vs ≡ count_targets ts → Here setting run s w → In setting s l pc (targets_code ts) →
         Follows context (told s) (assign_all u run ts vs w) (λ _ world1. Go context s (beyond pc (targets_code ts)) stack world1) →
         Go context s pc (vs ++ stack) w

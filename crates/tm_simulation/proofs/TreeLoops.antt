@@ -16,7 +16,8 @@ use Rattle.tm_syntax.specs.declared.tree.Expr.{end_of-Step as no_step, more_of-S
 use Rattle.tm_syntax.specs.declared.tree.Expr.{end_of-Condition as no_condition}
 use Rattle.tm_syntax.specs.declared.tree.Argument.{Argument}
 use Rattle.tm_syntax.specs.declared.tree.Step.{Step, Attribute, Method', Row_of-Comparison, end_of-Comparison as no_comparison}
-use Rattle.tm_syntax.specs.declared.tree.AssignmentTarget.{AssignmentTarget, Name as To, Unpack' as Items, Attribute as Member, Row_of-AssignmentTarget}
+use Rattle.tm_syntax.specs.declared.tree.AssignmentTarget.{AssignmentTarget, Name as To, Unpack' as Items, Attribute as Member}
+use Rattle.tm_syntax.specs.declared.tree.AssignmentTarget.{Row_of-AssignmentTarget}
 use Rattle.tm_syntax.specs.declared.tree.AssignmentTarget.{end_of-AssignmentTarget as no_target, more_of-AssignmentTarget as target}
 use Rattle.tm_syntax.specs.declared.tree.Assignment.{Assignment}
 use Rattle.tm_syntax.specs.declared.tree.Stmt.{Stmt, EmitRaw, EmitExpr, EmitLoop, If', For', Break, Continue, Block', Set, SetBlock'}
@@ -138,7 +139,8 @@ behind_exit all l end os (otherwise _ body) h = inr h.0
 abbrev pub found : {n : _} → ℕ → Option Expr → Bool → AssignmentTarget → Row_of-Stmt n → FoundLoop
 found at c r t body = record { recursive = r; target = t; body = body_of body; at = within_loop c at }
 
-is_loop : {n : _} → (os : List Opened) (at : ℕ) (c : Option Expr) (r : Bool) (t : AssignmentTarget) (body : Row_of-Stmt n) (other : Otherwise) →
+is_loop : {n : _} → (os : List Opened) (at : ℕ) (c : Option Expr) (r : Bool) (t : AssignmentTarget) (body : Row_of-Stmt n)
+    (other : Otherwise) →
     IsLoop (found at c r t body) (at + passes c) (for_flags r) (target_code t ⨾ statements_code [] body) (after_loop_code os other)
 is_loop os at c r t body other all l pc is first = (
   refl,

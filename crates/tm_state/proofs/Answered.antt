@@ -11,7 +11,8 @@ use Rattle.tm_tables.specs.Stated.{is_for_memory}
 use Rattle.tm_state.specs.Answers.{Comes}
 
 -- an answer that is taken, unless it is one for memory
-pub taken : (r : Result Val (List ErrorKind)) (reply : Reply) (asked : Asked) (x w : World) → (is_for_memory reply ≡ false → asked ≡ replied reply x) → Comes r (replied reply x) w → Comes r asked w
+pub taken : (r : Result Val (List ErrorKind)) (reply : Reply) (asked : Asked) (x w : World) →
+    (is_for_memory reply ≡ false → asked ≡ replied reply x) → Comes r (replied reply x) w → Comes r asked w
 taken (Ok v) (gives u) asked x w c d = c refl ∙ d
 taken (Ok v) (faults chain) asked x w c d = absurd (cc d)
 taken (Err chain) (gives u) asked x w c d = λ m. absurd (cc (d m))

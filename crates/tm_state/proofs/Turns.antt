@@ -15,7 +15,8 @@ turned_there zero (x ∷ ls) l h e = ap (λ (m : Loop). turned m ∷ ls) e
 turned_there (suc n) (x ∷ ls) l h e = ap (λ m. x ∷ m) (turned_there n ls l (omega (arith, h)) e)
 
 -- The record of a number keeps other arguments.
-pub keeping_there : (n : ℕ) (args : List Val) (ls : List Loop) (l : Loop) → n < length ls → l ≡ get_or ls n l → slice_set ls n (keeping args l) ≡ keeping_at n args ls
+pub keeping_there : (n : ℕ) (args : List Val) (ls : List Loop) (l : Loop) → n < length ls → l ≡ get_or ls n l →
+    slice_set ls n (keeping args l) ≡ keeping_at n args ls
 keeping_there n args [] l h e = absurd (omega (arith, h))
 keeping_there zero args (x ∷ ls) l h e = ap (λ (m : Loop). keeping args m ∷ ls) e
 keeping_there (suc n) args (x ∷ ls) l h e = ap (λ m. x ∷ m) (keeping_there n args ls l (omega (arith, h)) e)

@@ -25,9 +25,11 @@ abbrev pub CanBeEmitted : Result (Unit {0}) (List ErrorKind) → Res (List ℕ) 
 CanBeEmitted (Ok _) emitted text w = emitted ≡ Good text w
 CanBeEmitted (Err chain) emitted text w = is_want_of_memory chain ≡ false → emitted ≡ Bad chain w
 
--- What a call of these arguments comes to: what was answered, with its values kept; or what a function of the language gives; or the call is refused.
+-- What a call of these arguments comes to: what was answered, with its values kept; or what a function of the language gives; or the call
+-- is refused.
 abbrev pub Calls : Result Called (List ErrorKind) → Asked → List Val → World → Type 0
-Calls (Ok (called.Answered answer)) asked args w = is_for_memory answer.reply ≡ false → asked ≡ replied answer.reply (record w { temps = put_each answer.temps w.temps })
+Calls (Ok (called.Answered answer)) asked args w = is_for_memory answer.reply ≡ false →
+    asked ≡ replied answer.reply (record w { temps = put_each answer.temps w.temps })
 Calls (Ok (called.Language g)) asked args w = asked ≡ ask (given_by g args w) has
 Calls (Err chain) asked args w = is_want_of_memory chain ≡ false → asked ≡ refused chain w
 

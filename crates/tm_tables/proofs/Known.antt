@@ -1,5 +1,7 @@
 -- Names that stand among others, and what look-ups find of them.
-use Rattle.std.proofs.Common.{◌≡◌, ◌<◌, ◌+◌, ◌||◌, ◌&&◌, ℕ, List, [], ◌∷◌, ◌++◌, length, get_or, take, reverse, Bool, true, false, cond, Bor, Ordering, Option, Some, None, Ok, Err, is_ok, is_some, option_map, true≢false, inl, inr, Result, refl, sym, ap, subst, ◌∙◌}
+use Rattle.std.proofs.Common.{◌≡◌, ◌<◌, ◌+◌, ◌||◌, ◌&&◌, ℕ, List, [], ◌∷◌, ◌++◌, length, get_or, take, reverse, Bool, true, false, cond}
+use Rattle.std.proofs.Common.{Bor, Ordering, Option, Some, None, Ok, Err, is_ok, is_some, option_map, true≢false, inl, inr, Result, refl}
+use Rattle.std.proofs.Common.{sym, ap, subst, ◌∙◌}
 use Rattle.std.proofs.lemmas.List.{reverse-append, take_more}
 use Rattle.std.proofs.lemmas.List.Folds.{list_any-append, list_any_at}
 use Rattle.std.proofs.lemmas.List.Sorted.{list_any-IsPermutation, IsPermutation-reverse}
@@ -21,11 +23,14 @@ use Rattle.tm_values.specs.Answer.{Answer}
 use Rattle.tm_values.specs.Map.{IsAbove, IsMap, find}
 use Rattle.tm_values.specs.Order.{val_cmp}
 use Rattle.tm_values.specs.Records.{RecordData}
-use Rattle.tm_values.specs.Val.{Val, undefined, none, boolean, number, text, list, map as maps, keywords, exports, function, macro, loop, namespace, text_in}
+use Rattle.tm_values.specs.Val.{Val, undefined, none, boolean, number, text, list, map as maps, keywords, exports, function, macro, loop}
+use Rattle.tm_values.specs.Val.{namespace, text_in}
 use Rattle.tm_values.specs.declared.error.ErrorKind.{ErrorKind}
-use Rattle.tm_meaning.specs.World.{Bindings, Scope, View, context_member, find_name, in_frames, in_scope, marked_loop, or_else, or_on, or_on_answer, read_closure}
+use Rattle.tm_meaning.specs.World.{Bindings, Scope, View, context_member, find_name, in_frames, in_scope, marked_loop, or_else, or_on}
+use Rattle.tm_meaning.specs.World.{or_on_answer, read_closure}
 use Rattle.tm_meaning.specs.declared.mark.LoopMark.{LoopMark}
-use Rattle.tm_tables.specs.Known.{AddsFound, AreFound, AreFoundIn, AreKnownIn, NamingFails, has_text, one_lacks_record, is_among, is_found, lacks_record, or_else_found}
+use Rattle.tm_tables.specs.Known.{AddsFound, AreFound, AreFoundIn, AreKnownIn, NamingFails, has_text, one_lacks_record, is_among, is_found}
+use Rattle.tm_tables.specs.Known.{lacks_record, or_else_found}
 
 -- ---------------------------------------------------------------- names in order, each once
 abbrev pub order : Bor (List ℕ) → Bor (List ℕ) → Ordering
@@ -34,7 +39,8 @@ order x y = name_cmp x.now y.now
 abbrev pub same : Bor (List ℕ) → Bor (List ℕ) → Bool
 same x y = bytes_eq x.now y.now
 
-all-texts : (P : List ℕ → Type 0) (names : List (Bor (List ℕ))) → AllByRecursion (λ name. P name.now) names → AllByRecursion P (texts_of names)
+all-texts : (P : List ℕ → Type 0) (names : List (Bor (List ℕ))) → AllByRecursion (λ name. P name.now) names →
+    AllByRecursion P (texts_of names)
 all-texts P [] h = tt
 all-texts P (name ∷ names) h = (h.0, all-texts P names h.1)
 
@@ -55,7 +61,8 @@ module _ (test : List ℕ → Bool) where
   abbrev tests : List (Bor (List ℕ)) → Bool
   tests = list_any (λ name. test name.now)
 
-  dropped : (b : Bool) (k x : Bor (List ℕ)) (rest : List (Bor (List ℕ))) → same x k ≡ b → (tests (dedup_from same k rest) ≡ (test k.now || tests rest)) → (tests (dedup_from same x rest) ≡ (test x.now || tests rest)) →
+  dropped : (b : Bool) (k x : Bor (List ℕ)) (rest : List (Bor (List ℕ))) → same x k ≡ b →
+      (tests (dedup_from same k rest) ≡ (test k.now || tests rest)) → (tests (dedup_from same x rest) ≡ (test x.now || tests rest)) →
       tests (cond b (dedup_from same k rest) (k ∷ dedup_from same x rest)) ≡ (test k.now || (test x.now || tests rest))
   dropped true k x rest e at_k at_x = at_k ∙ twice (test k.now) (test x.now) (tests rest) (ap test ((bytes_eq-Decides x.now k.now).0 e))
   dropped false k x rest e at_k at_x = ap (λ b. test k.now || b) at_x
@@ -69,7 +76,8 @@ module _ (test : List ℕ → Bool) where
   any-dedup (k ∷ names) = any-dedup_from k names
 
 -- sorted, and without the second of two that are the same, they are the same names
-pub among-sorted : (names moved : List (Bor (List ℕ))) → IsPermutation names moved → (x : List ℕ) → is_among x (texts_of (dedup same moved)) ≡ is_among x (texts_of names)
+pub among-sorted : (names moved : List (Bor (List ℕ))) → IsPermutation names moved → (x : List ℕ) →
+    is_among x (texts_of (dedup same moved)) ≡ is_among x (texts_of names)
 among-sorted names moved p x =
     any-texts (is_at (name_cmp x)) (dedup same moved)
     ∙ any-dedup (is_at (name_cmp x)) moved
@@ -96,7 +104,8 @@ none-above : (x : List ℕ) (ps : List (Val × Val)) → IsAbove (text x false) 
 none-above x [] h = refl
 none-above x (p ∷ ps) h = rw (text-key x p.0, h.0) (none-above x ps h.1)
 
-text-first : (o : Ordering) (x : List ℕ) (p : Val × Val) (ps : List (Val × Val)) → val_cmp (text x false) p.0 ≡ o → IsAbove p.0 ps → has_text x ps ≡ is_some (find (text x false) ps) →
+text-first : (o : Ordering) (x : List ℕ) (p : Val × Val) (ps : List (Val × Val)) → val_cmp (text x false) p.0 ≡ o → IsAbove p.0 ps →
+    has_text x ps ≡ is_some (find (text x false) ps) →
     (is_eq o || has_text x ps) ≡ is_some (match_ordering o None (Some p.1) (find (text x false) ps))
 text-first Less x p ps e m more = none-above x ps (above (text x false) p.0 ps e m)
 text-first Equal x p ps e m more = refl
@@ -108,7 +117,8 @@ texts-found x (p ∷ ps) m =
     ap (λ b. b || has_text x ps) (text-key x p.0) ∙ text-first (val_cmp (text x false) p.0) x p ps refl m.0 (texts-found x ps m.1)
 
 -- ---------------------------------------------------------------- what a scope finds
-pub among-both : (x : List ℕ) (names more : List (Bor (List ℕ))) → is_among x (texts_of (names ++ more)) ≡ (is_among x (texts_of names) || is_among x (texts_of more))
+pub among-both : (x : List ℕ) (names more : List (Bor (List ℕ))) →
+    is_among x (texts_of (names ++ more)) ≡ (is_among x (texts_of names) || is_among x (texts_of more))
 among-both x names more =
     any-texts (is_at (name_cmp x)) (names ++ more) ∙ list_any-append (λ name. is_at (name_cmp x) name.now) names more
     ∙ ap (λ b. b || list_any (λ name. is_at (name_cmp x) name.now) more) (sym (any-texts (is_at (name_cmp x)) names))
@@ -118,15 +128,18 @@ pub or-false : (a : Bool) → (a || false) ≡ a
 or-false true = refl
 or-false false = refl
 
-pub among-one : (x : List ℕ) (names : List (Bor (List ℕ))) (name : Bor (List ℕ)) → is_among x (texts_of (names ++ name ∷ [])) ≡ (is_among x (texts_of names) || same_name x name.now)
+pub among-one : (x : List ℕ) (names : List (Bor (List ℕ))) (name : Bor (List ℕ)) →
+    is_among x (texts_of (names ++ name ∷ [])) ≡ (is_among x (texts_of names) || same_name x name.now)
 among-one x names name =
-    among-both x names (name ∷ []) ∙ ap (λ b. is_among x (texts_of names) || b) (or-false (is_at (name_cmp x) name.now) ∙ is_eq-slice_cmp x name.now)
+    among-both x names (name ∷ []) ∙ ap (λ b. is_among x (texts_of names) || b) (or-false (is_at (name_cmp x) name.now)
+    ∙ is_eq-slice_cmp x name.now)
 
 here : (b : Bool) (v : Val) → is_some (cond b (Some v) None) ≡ b
 here true v = refl
 here false v = refl
 
-marked : (variable : Bool) (n : ℕ) (r : Option ℕ) (x : List ℕ) → option_map (λ n. loop 0 n) r ≡ cond (variable && same_name (codes "loop") (codes "loop")) (Some (loop 0 n)) None →
+marked : (variable : Bool) (n : ℕ) (r : Option ℕ) (x : List ℕ) →
+    option_map (λ n. loop 0 n) r ≡ cond (variable && same_name (codes "loop") (codes "loop")) (Some (loop 0 n)) None →
     (variable && same_name x (codes "loop")) ≡ (is_some r && same_name x (codes "loop"))
 marked true n (Some k) x h = refl
 marked true n None x h = absurd (true≢false (ap is_some (sym h)))
@@ -134,7 +147,8 @@ marked false n (Some k) x h = absurd (true≢false (ap is_some h))
 marked false n None x h = refl
 
 -- whether a name is that of a scope's loop, which has one here where the name `loop` has it
-pub loop-found : (id : ℕ) (m : Option LoopMark) (r : Option ℕ) (x : List ℕ) → ((id : ℕ) → option_map (λ n. loop id n) r ≡ marked_loop id m (codes "loop")) →
+pub loop-found : (id : ℕ) (m : Option LoopMark) (r : Option ℕ) (x : List ℕ) →
+    ((id : ℕ) → option_map (λ n. loop id n) r ≡ marked_loop id m (codes "loop")) →
     is_some (marked_loop id m x) ≡ (is_some r && same_name x (codes "loop"))
 loop-found id None None x h = refl
 loop-found id None (Some n) x h = absurd (true≢false (ap is_some (h 0)))
@@ -144,7 +158,8 @@ or-else : (a b : Option Val) → is_some (or_else a b) ≡ (is_some a || is_some
 or-else None b = refl
 or-else (Some v) b = refl
 
-own-found : (own : Option Val) (member : Option Val) → is_found (or_on own (λ _. or_on_answer (Ok member) (λ _. Ok None))) ≡ Ok (is_some own || is_some member)
+own-found : (own : Option Val) (member : Option Val) →
+    is_found (or_on own (λ _. or_on_answer (Ok member) (λ _. Ok None))) ≡ Ok (is_some own || is_some member)
 own-found (Some v) member = refl
 own-found None (Some v) = refl
 own-found None None = refl
@@ -156,25 +171,35 @@ regrouped false false true d = refl
 regrouped false false false d = refl
 
 -- A scope that reads no closure adds its locals, its loop's name and the texts of its context value.
-pub scope-adds : (view : View) (s : Scope) (x : List ℕ) (pairs : List (Val × Val)) (before : Bool) → None ≡ s.reads → context_member view.records x s.context ≡ Ok (find (text x false) pairs) → IsMap pairs →
-    or_else_found before (is_found (in_frames view x (s ∷ []))) ≡ Ok (((before || is_among x (keys_of s.locals)) || is_some (marked_loop view.records.state s.mark x)) || has_text x pairs)
+pub scope-adds : (view : View) (s : Scope) (x : List ℕ) (pairs : List (Val × Val)) (before : Bool) → None ≡ s.reads →
+    context_member view.records x s.context ≡ Ok (find (text x false) pairs) → IsMap pairs →
+    or_else_found before (is_found (in_frames view x (s ∷ [])))
+    ≡ Ok (((before || is_among x (keys_of s.locals)) || is_some (marked_loop view.records.state s.mark x)) || has_text x pairs)
 scope-adds view s x pairs before e member m =
     let closure : is_some (read_closure view.closures s.reads x) ≡ false = rw (sym e) refl in
-    let own : is_some (in_scope view x s) ≡ (is_among x (keys_of s.locals) || (is_some (marked_loop view.records.state s.mark x) || false)) =
+    let own : is_some (in_scope view x s)
+    ≡ (is_among x (keys_of s.locals) || (is_some (marked_loop view.records.state s.mark x) || false)) =
     or-else (find_named x s.locals) (or_else (marked_loop view.records.state s.mark x) (read_closure view.closures s.reads x))
-    ∙ ap (λ b. b || is_some (or_else (marked_loop view.records.state s.mark x) (read_closure view.closures s.reads x))) (is_some-lookup (is_at (name_cmp x)) s.locals)
-    ∙ ap (λ b. is_among x (keys_of s.locals) || b) (or-else (marked_loop view.records.state s.mark x) (read_closure view.closures s.reads x) ∙ ap (λ b. is_some (marked_loop view.records.state s.mark x) || b) closure) in
+    ∙ ap (λ b. b || is_some (or_else (marked_loop view.records.state s.mark x) (read_closure view.closures s.reads x)))
+    (is_some-lookup (is_at (name_cmp x)) s.locals)
+    ∙ ap (λ b. is_among x (keys_of s.locals) || b) (or-else (marked_loop view.records.state s.mark x) (read_closure view.closures s.reads x)
+    ∙ ap (λ b. is_some (marked_loop view.records.state s.mark x) || b) closure) in
     let found : is_found (in_frames view x (s ∷ [])) ≡ Ok (is_some (in_scope view x s) || is_some (find (text x false) pairs)) =
-    ap (λ (a : Answer (Option Val)). is_found (or_on (in_scope view x s) (λ _. or_on_answer a (λ _. Ok None)))) member ∙ own-found (in_scope view x s) (find (text x false) pairs) in
-    ap (or_else_found before) (found ∙ ap (λ b. Ok (b || is_some (find (text x false) pairs))) own ∙ ap (λ b. Ok ((is_among x (keys_of s.locals) || (is_some (marked_loop view.records.state s.mark x) || false)) || b)) (sym (texts-found x pairs m)))
-    ∙ ap (λ b. Ok b) (regrouped before (is_among x (keys_of s.locals)) (is_some (marked_loop view.records.state s.mark x)) (has_text x pairs))
+    ap (λ (a : Answer (Option Val)). is_found (or_on (in_scope view x s) (λ _. or_on_answer a (λ _. Ok None)))) member
+    ∙ own-found (in_scope view x s) (find (text x false) pairs) in
+    ap (or_else_found before) (found ∙ ap (λ b. Ok (b || is_some (find (text x false) pairs))) own
+    ∙ ap (λ b. Ok ((is_among x (keys_of s.locals) || (is_some (marked_loop view.records.state s.mark x) || false)) || b))
+    (sym (texts-found x pairs m)))
+    ∙ ap (λ b. Ok b) (regrouped before (is_among x (keys_of s.locals)) (is_some (marked_loop view.records.state s.mark x))
+    (has_text x pairs))
 
 -- ---------------------------------------------------------------- scopes, one by one
 or-true : (a : Bool) → (a || true) ≡ true
 or-true true = refl
 or-true false = refl
 
-one-more : (own : Option Val) (member rest : Answer (Option Val)) (before after : Bool) → is_found rest ≡ Ok before → or_else_found before (is_found (or_on own (λ _. or_on_answer member (λ _. Ok None)))) ≡ Ok after →
+one-more : (own : Option Val) (member rest : Answer (Option Val)) (before after : Bool) → is_found rest ≡ Ok before →
+    or_else_found before (is_found (or_on own (λ _. or_on_answer member (λ _. Ok None)))) ≡ Ok after →
     is_found (or_on own (λ _. or_on_answer member (λ _. rest))) ≡ Ok after
 one-more (Some v) member rest before after outer h = ap (λ b. Ok b) (sym (or-true before)) ∙ h
 one-more None (Ok (Some v)) rest before after outer h = ap (λ b. Ok b) (sym (or-true before)) ∙ h
@@ -182,56 +207,71 @@ one-more None (Ok None) rest before after outer h = outer ∙ ap (λ b. Ok b) (s
 one-more None (Err chain) rest before after outer h = absurd (true≢false (ap is_ok (sym h)))
 
 -- an inner scope's names stand behind those of the outer ones
-pub scopes-more : (r : RecordData) (s : Scope) (ss : List Scope) (before after : List (List ℕ)) → AreFoundIn r ss before → AddsFound r (s ∷ []) before after → AreFoundIn r (s ∷ ss) after
+pub scopes-more : (r : RecordData) (s : Scope) (ss : List Scope) (before after : List (List ℕ)) → AreFoundIn r ss before →
+    AddsFound r (s ∷ []) before after → AreFoundIn r (s ∷ ss) after
 scopes-more r s ss before after outer adds view e x =
-    one-more (in_scope view x s) (context_member view.records x s.context) (in_frames view x ss) (is_among x before) (is_among x after) (outer view e x) (adds view e x)
+    one-more (in_scope view x s) (context_member view.records x s.context) (in_frames view x ss) (is_among x before) (is_among x after)
+    (outer view e x) (adds view e x)
 
 -- the scopes that were entered up to one
 entered : (ss : List Scope) (i : ℕ) (s : Scope) → i < length ss → s ≡ get_or ss i s → s ∷ reverse (take i ss) ≡ reverse (take (i + 1) ss)
-entered ss i s lt is = sym (reverse-append (take i ss) (s ∷ [])) ∙ ap (λ t. reverse (take i ss ++ t ∷ [])) is ∙ ap reverse (sym (take_more ss i s lt))
+entered ss i s lt is = sym (reverse-append (take i ss) (s ∷ [])) ∙ ap (λ t. reverse (take i ss ++ t ∷ [])) is
+    ∙ ap reverse (sym (take_more ss i s lt))
 
-pub entered-more : (r : RecordData) (ss : List Scope) (i : ℕ) (s : Scope) (before after : List (List ℕ)) → i < length ss → s ≡ get_or ss i s →
+pub entered-more : (r : RecordData) (ss : List Scope) (i : ℕ) (s : Scope) (before after : List (List ℕ)) → i < length ss →
+    s ≡ get_or ss i s →
     AreFoundIn r (reverse (take i ss)) before → AddsFound r (s ∷ []) before after → AreFoundIn r (reverse (take (i + 1) ss)) after
 entered-more r ss i s before after lt is outer adds =
     subst (λ scopes. AreFoundIn r scopes after) (entered ss i s lt is) (scopes-more r s (reverse (take i ss)) before after outer adds)
 
 -- a scope over a namespace without a record is among the scopes
-pub lacks-among : (r : RecordData) (ss : List Scope) (i : ℕ) (s : Scope) → i < length ss → s ≡ get_or ss i s → one_lacks_record r (s ∷ []) ≡ true → one_lacks_record r (reverse ss) ≡ true
+pub lacks-among : (r : RecordData) (ss : List Scope) (i : ℕ) (s : Scope) → i < length ss → s ≡ get_or ss i s →
+    one_lacks_record r (s ∷ []) ≡ true → one_lacks_record r (reverse ss) ≡ true
 lacks-among r ss i s lt is h =
     let test : Scope → Bool = λ (t : Scope). lacks_record r t.context in
-    sym (list_any-IsPermutation test ss (reverse ss) (IsPermutation-reverse ss)) ∙ list_any_at test ss i s lt (ap test (sym is) ∙ sym (or-false (test s)) ∙ h)
+    sym (list_any-IsPermutation test ss (reverse ss) (IsPermutation-reverse ss))
+    ∙ list_any_at test ss i s lt (ap test (sym is) ∙ sym (or-false (test s)) ∙ h)
 
 -- an error that is passed on
 pub passed : {T E : Type 0} (result : Result T E) (Q : E → Type 0) (e : E) → IsErrAnd result (λ x. x ≡ e) → Q e → IfErr result Q
 passed (Ok x) Q e p q = tt
 passed (Err y) Q e p q = subst Q (sym p) q
 
-pub fails-among : (r : RecordData) (ss frames : List Scope) (i : ℕ) (s : Scope) (chain : List ErrorKind) → i < length ss → s ≡ get_or ss i s → reverse ss ≡ frames → NamingFails r (s ∷ []) chain → NamingFails r frames chain
+pub fails-among : (r : RecordData) (ss frames : List Scope) (i : ℕ) (s : Scope) (chain : List ErrorKind) → i < length ss →
+    s ≡ get_or ss i s → reverse ss ≡ frames → NamingFails r (s ∷ []) chain → NamingFails r frames chain
 fails-among r ss frames i s chain lt is all (inl memory) = inl memory
-fails-among r ss frames i s chain lt is all (inr (kind, unknown)) = inr (kind, ap (one_lacks_record r) (sym all) ∙ lacks-among r ss i s lt is unknown)
+fails-among r ss frames i s chain lt is all (inr (kind, unknown)) = inr (
+  kind,
+  ap (one_lacks_record r) (sym all)
+      ∙ lacks-among r ss i s lt is unknown,
+)
 
 -- ---------------------------------------------------------------- the globals behind the scopes
 abbrev found_or : Answer Bool → Bool → Answer Bool
 found_or (Ok found) other = Ok (found || other)
 found_or (Err chain) other = Err chain
 
-globals-behind : (o : Answer (Option Val)) (global : Option Val) → is_found (or_on_answer o (λ _. Ok global)) ≡ found_or (is_found o) (is_some global)
+globals-behind : (o : Answer (Option Val)) (global : Option Val) →
+    is_found (or_on_answer o (λ _. Ok global)) ≡ found_or (is_found o) (is_some global)
 globals-behind (Ok (Some v)) global = refl
 globals-behind (Ok None) global = refl
 globals-behind (Err chain) global = refl
 
 -- What a look-up finds in the scopes, or behind them, are the names of both in their order.
-pub known-behind : (o : Answer (Option Val)) (x : List ℕ) (globals : Bindings) (scoped global joined ordered : List (Bor (List ℕ))) → is_found o ≡ Ok (is_among x (texts_of scoped)) →
+pub known-behind : (o : Answer (Option Val)) (x : List ℕ) (globals : Bindings) (scoped global joined ordered : List (Bor (List ℕ))) →
+    is_found o ≡ Ok (is_among x (texts_of scoped)) →
     texts_of global ≡ keys_of globals → joined ≡ scoped ++ global → is_among x (texts_of ordered) ≡ is_among x (texts_of joined) →
     is_found (or_on_answer o (λ _. Ok (find_named x globals))) ≡ Ok (is_among x (texts_of ordered))
 known-behind o x globals scoped global joined ordered h of_globals both same =
     let all : is_among x (texts_of ordered) ≡ (is_among x (texts_of scoped) || is_among x (keys_of globals)) =
-    same ∙ ap (λ names. is_among x (texts_of names)) both ∙ among-both x scoped global ∙ ap (λ names. is_among x (texts_of scoped) || is_among x names) of_globals in
+    same ∙ ap (λ names. is_among x (texts_of names)) both ∙ among-both x scoped global
+    ∙ ap (λ names. is_among x (texts_of scoped) || is_among x names) of_globals in
     globals-behind o (find_named x globals) ∙ ap (λ (a : Answer Bool). found_or a (is_some (find_named x globals))) h
     ∙ ap (λ b. Ok (is_among x (texts_of scoped) || b)) (is_some-lookup (is_at (name_cmp x)) globals) ∙ ap (λ b. Ok b) (sym all)
 
 -- what is known in each view is known in this one
-pub known-in : (view : View) (frames : List Scope) (globals : Bindings) (names : List (List ℕ)) → view.frames ≡ frames → view.globals ≡ globals → AreKnownIn view.records frames globals names → AreFound (find_name view) names
+pub known-in : (view : View) (frames : List Scope) (globals : Bindings) (names : List (List ℕ)) → view.frames ≡ frames →
+    view.globals ≡ globals → AreKnownIn view.records frames globals names → AreFound (find_name view) names
 known-in view frames globals names here there known x =
     ap (λ (scopes : List Scope). is_found (find_name (record view { frames = scopes }) x)) here
     ∙ ap (λ (bindings : Bindings). is_found (find_name (record view { frames = frames; globals = bindings }) x)) there ∙ known view refl x

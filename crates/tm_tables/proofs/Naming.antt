@@ -15,7 +15,8 @@ next_named (f ∷ own) zero m x names h = let same : f.0 ≡ x = cc in ap (λ y.
 next_named (f ∷ own) (suc n) m x names h = next_named own n m x names h
 
 -- the function of a number is named, and those from the next number on
-pub named_next : (n : ℕ) (x : List ℕ) (names new : Bindings) → slice_get (each (λ f. f.0) language) n ≡ Some x → new ≡ put x (function n) names →
+pub named_next : (n : ℕ) (x : List ℕ) (names new : Bindings) → slice_get (each (λ f. f.0) language) n ≡ Some x →
+    new ≡ put x (function n) names →
     named_from (n + 1) (drop (n + 1) language) new ≡ named_from n (drop n language) names
 named_next n x names new h named =
     ap (λ m. named_from m (drop m language) new) (add-one n)

@@ -13,16 +13,19 @@ numbered own.Range = (0, refl)
 numbered own.Dict = (1, refl)
 numbered own.Namespace = (2, refl)
 
-before-any : (own : List (List ℕ × GlobalFunction)) (fs : List Function) (n : ℕ) (g : GlobalFunction) → slice_get (each (λ f. f.1) own) n ≡ Some g →
+before-any : (own : List (List ℕ × GlobalFunction)) (fs : List Function) (n : ℕ) (g : GlobalFunction) →
+    slice_get (each (λ f. f.1) own) n ≡ Some g →
     slice_get (each (λ f. languages f.1) own ++ fs) n ≡ Some (languages g)
 before-any [] fs n g h = cc
 before-any (f ∷ own) fs zero g h = cc
 before-any (f ∷ own) fs (suc n) g h = before-any own fs n g h
 
-pub before : (fs : List Function) (n : ℕ) (g : GlobalFunction) → slice_get (each (λ f. f.1) language) n ≡ Some g → slice_get (behind_language true fs) n ≡ Some (languages g)
+pub before : (fs : List Function) (n : ℕ) (g : GlobalFunction) → slice_get (each (λ f. f.1) language) n ≡ Some g →
+    slice_get (behind_language true fs) n ≡ Some (languages g)
 before fs n g h = before-any language fs n g h
 
-behind-any : (own : List (List ℕ × GlobalFunction)) (fs : List Function) (n : ℕ) → length own ≤ n → slice_get (each (λ f. languages f.1) own ++ fs) n ≡ slice_get fs (n - length own)
+behind-any : (own : List (List ℕ × GlobalFunction)) (fs : List Function) (n : ℕ) → length own ≤ n →
+    slice_get (each (λ f. languages f.1) own ++ fs) n ≡ slice_get fs (n - length own)
 behind-any [] fs n h = ap (slice_get fs) (omega arith)
 behind-any (f ∷ own) fs zero h = absurd (omega (arith, h))
 behind-any (f ∷ own) fs (suc n) h = behind-any own fs n (omega (arith, h)) ∙ ap (slice_get fs) (omega arith)

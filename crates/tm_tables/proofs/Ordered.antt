@@ -1,7 +1,10 @@
 -- Names in no order, seen in the order of the names.
-use Rattle.std.proofs.Common.{◌≡◌, ◌≢◌, ◌∙◌, ℕ, zero, suc, List, [], ◌∷◌, ◌++◌, ◌+◌, ◌<◌, ◌≤◌, length, arith, refl, sym, ap, subst, Bool, true, false, true≢false, cond, Option, Some, None, option_map, slice_get, slice_set, take, is_some, unwrap_or, nat_eq, T, get_or, map, ◌||◌, ◌&&◌}
+use Rattle.std.proofs.Common.{◌≡◌, ◌≢◌, ◌∙◌, ℕ, zero, suc, List, [], ◌∷◌, ◌++◌, ◌+◌, ◌<◌, ◌≤◌, length, arith, refl, sym, ap, subst, Bool}
+use Rattle.std.proofs.Common.{true, false, true≢false, cond, Option, Some, None, option_map, slice_get, slice_set, take, is_some, unwrap_or}
+use Rattle.std.proofs.Common.{nat_eq, T, get_or, map, ◌||◌, ◌&&◌}
 use Rattle.std.proofs.lemmas.Map.Lookups.{exact_bytes}
-use Rattle.std.specs.FinMap.Entries.{is_sorted, is_sorted-put, same_entries, by_order, below_all, find-put as find_put, find as find_by, put as put_by}
+use Rattle.std.specs.FinMap.Entries.{is_sorted, is_sorted-put, same_entries, by_order, below_all, find-put as find_put, find as find_by}
+use Rattle.std.specs.FinMap.Entries.{put as put_by}
 use Rattle.std.proofs.lemmas.List.{append-nil, append_assoc}
 use Rattle.std.specs.BTreeMap.{is_at, insert_entry}
 use Rattle.std.specs.Cmp.Lexicographic.{bytes_decides, nat_list_cmp_total, nat_list_eq_equiv, other_text, pointwise, same_text, texts_ties}
@@ -53,12 +56,15 @@ module _ {A : Type 0} where
   abbrev With : List ℕ → A → Named A → Named A → Type 0
   With x a ps qs = (z : List ℕ) → find z qs ≡ cond (is_at (name_cmp z) x) (Some a) (find z ps)
 
-  over_same : (z x : List ℕ) (a : A) (p : List ℕ × A) (ps : Named A) → x ≡ p.0 → cond (is_at (name_cmp z) p.0) (Some a) (find z ps) ≡ cond (is_at (name_cmp z) x) (Some a) (find z (p ∷ ps))
+  over_same : (z x : List ℕ) (a : A) (p : List ℕ × A) (ps : Named A) → x ≡ p.0 →
+      cond (is_at (name_cmp z) p.0) (Some a) (find z ps) ≡ cond (is_at (name_cmp z) x) (Some a) (find z (p ∷ ps))
   over_same z x a p ps e =
-      twice (is_at (name_cmp z) p.0) (Some a) (Some p.1) (find z ps) ∙ ap (λ y. cond (is_at (name_cmp z) y) (Some a) (find z (p ∷ ps))) (sym e)
+      twice (is_at (name_cmp z) p.0) (Some a) (Some p.1) (find z ps)
+      ∙ ap (λ y. cond (is_at (name_cmp z) y) (Some a) (find z (p ∷ ps))) (sym e)
 
   over_other : (z x : List ℕ) (a : A) (p : List ℕ × A) (ps : Named A) → is_at (name_cmp x) p.0 ≡ false →
-      cond (is_at (name_cmp z) p.0) (Some p.1) (cond (is_at (name_cmp z) x) (Some a) (find z ps)) ≡ cond (is_at (name_cmp z) x) (Some a) (find z (p ∷ ps))
+      cond (is_at (name_cmp z) p.0) (Some p.1) (cond (is_at (name_cmp z) x) (Some a) (find z ps))
+      ≡ cond (is_at (name_cmp z) x) (Some a) (find z (p ∷ ps))
   over_other z x a p ps e =
       turned (is_at (name_cmp z) p.0) (is_at (name_cmp z) x) (Some p.1) (Some a) (find z ps)
       (λ first second. true≢false (sym (at_itself x p.0 (sym (at_same z x second) ∙ at_same z p.0 first)) ∙ e))
@@ -67,7 +73,9 @@ module _ {A : Type 0} where
   put-is x a [] = refl
   put-is x a (p ∷ ps) = by (name_cmp x p.0) (put-is x a ps)
     where
-      by : (r : Ordering) → put_by name_cmp x a ps ≡ put x a ps → by_order r ((x, a) ∷ p ∷ ps) ((p.0, a) ∷ ps) (p ∷ put_by name_cmp x a ps) ≡ match_ordering r ((x, a) ∷ p ∷ ps) ((p.0, a) ∷ ps) (p ∷ put x a ps)
+      by : (r : Ordering) → put_by name_cmp x a ps ≡ put x a ps →
+          by_order r ((x, a) ∷ p ∷ ps) ((p.0, a) ∷ ps) (p ∷ put_by name_cmp x a ps)
+          ≡ match_ordering r ((x, a) ∷ p ∷ ps) ((p.0, a) ∷ ps) (p ∷ put x a ps)
       by Less h = refl
       by Equal h = refl
       by Greater h = ap (λ l. p ∷ l) h
@@ -98,8 +106,10 @@ module _ {A : Type 0} where
   -- the order of pairs with other names is of no weight
   pub in_order-with : (x : List ℕ) (a : A) (ps qs : Named A) → With x a ps qs → in_order qs ≡ put x a (in_order ps)
   in_order-with x a ps qs h =
-      same_entries name_cmp nat_list_cmp_total exact_bytes (in_order qs) (put x a (in_order ps)) (sorted-in_order qs) (sorted-put x a (in_order ps) (sorted-in_order ps))
-      (λ z. find-is z (in_order qs) ∙ find-in_order z qs ∙ h z ∙ ap (cond (is_at (name_cmp z) x) (Some a)) (sym (find-in_order z ps)) ∙ sym (find-put x a (in_order ps) z) ∙ sym (find-is z (put x a (in_order ps))))
+      same_entries name_cmp nat_list_cmp_total exact_bytes (in_order qs) (put x a (in_order ps)) (sorted-in_order qs)
+      (sorted-put x a (in_order ps) (sorted-in_order ps))
+      (λ z. find-is z (in_order qs) ∙ find-in_order z qs ∙ h z ∙ ap (cond (is_at (name_cmp z) x) (Some a)) (sym (find-in_order z ps))
+      ∙ sym (find-put x a (in_order ps) z) ∙ sym (find-is z (put x a (in_order ps))))
 
   found_first : (b : Bool) (u : A) (rest : Option A) → cond b (Some u) rest ≡ None → (b ≡ false) × (rest ≡ None)
   found_first true u rest h = absurd (true≢false (ap is_some h))
@@ -112,27 +122,35 @@ module _ {A : Type 0} where
       let first = found_first (is_at (name_cmp x) p.0) p.1 (find x before) h in
       ap (cond (is_at (name_cmp z) p.0) (Some p.1)) (behind x a before ps qs first.1 more z) ∙ over_other z x a p (before ++ ps) first.0
 
-  pub put_behind : (x : List ℕ) (a : A) (ps qs : Named A) → find x ps ≡ None → in_order ((ps ++ (x, a) ∷ []) ++ qs) ≡ put x a (in_order (ps ++ qs))
-  put_behind x a ps qs h = ap in_order (append_assoc ps ((x, a) ∷ []) qs) ∙ in_order-with x a (ps ++ qs) (ps ++ (x, a) ∷ qs) (behind x a ps qs ((x, a) ∷ qs) h (λ z. refl))
+  pub put_behind : (x : List ℕ) (a : A) (ps qs : Named A) → find x ps ≡ None →
+      in_order ((ps ++ (x, a) ∷ []) ++ qs) ≡ put x a (in_order (ps ++ qs))
+  put_behind x a ps qs h = ap in_order (append_assoc ps ((x, a) ∷ []) qs)
+      ∙ in_order-with x a (ps ++ qs) (ps ++ (x, a) ∷ qs) (behind x a ps qs ((x, a) ∷ qs) h (λ z. refl))
 
   pub find-hashed : (z : List ℕ) (ps : Named A) → lookup (is_at (hashed_cmp z)) ps ≡ find z ps
   find-hashed z [] = refl
-  find-hashed z (p ∷ ps) = ap (λ b. cond b (Some p.1) (lookup (is_at (hashed_cmp z)) ps)) (is_at-hashed z p.0) ∙ ap (cond (is_at (name_cmp z) p.0) (Some p.1)) (find-hashed z ps)
+  find-hashed z (p ∷ ps) = ap (λ b. cond b (Some p.1) (lookup (is_at (hashed_cmp z)) ps)) (is_at-hashed z p.0)
+      ∙ ap (cond (is_at (name_cmp z) p.0) (Some p.1)) (find-hashed z ps)
 
   hashed-put : (x : List ℕ) (a : A) (ps : Named A) → With x a ps (insert_entry hashed_cmp ps x a)
   hashed-put x a [] z = refl
   hashed-put x a (p ∷ ps) z = by (hashed_cmp x p.0) refl (hashed-put x a ps z)
     where
-      by : (r : Ordering) → hashed_cmp x p.0 ≡ r → find z (insert_entry hashed_cmp ps x a) ≡ cond (is_at (name_cmp z) x) (Some a) (find z ps) →
-          find z (match_ordering r ((x, a) ∷ p ∷ ps) ((p.0, a) ∷ ps) (p ∷ insert_entry hashed_cmp ps x a)) ≡ cond (is_at (name_cmp z) x) (Some a) (find z (p ∷ ps))
+      by : (r : Ordering) → hashed_cmp x p.0 ≡ r →
+          find z (insert_entry hashed_cmp ps x a) ≡ cond (is_at (name_cmp z) x) (Some a) (find z ps) →
+          find z (match_ordering r ((x, a) ∷ p ∷ ps) ((p.0, a) ∷ ps) (p ∷ insert_entry hashed_cmp ps x a))
+          ≡ cond (is_at (name_cmp z) x) (Some a) (find z (p ∷ ps))
       by Less e h = refl
       by Equal e h = over_same z x a p ps (at_same x p.0 (sym (is_at-hashed x p.0) ∙ ap is_eq e))
       by Greater e h = ap (cond (is_at (name_cmp z) p.0) (Some p.1)) h ∙ over_other z x a p ps (sym (is_at-hashed x p.0) ∙ ap is_eq e)
 
-  pub put_among : (x : List ℕ) (a : A) (ps qs : Named A) → find x ps ≡ None → in_order (ps ++ insert_entry hashed_cmp qs x a) ≡ put x a (in_order (ps ++ qs))
-  put_among x a ps qs h = in_order-with x a (ps ++ qs) (ps ++ insert_entry hashed_cmp qs x a) (behind x a ps qs (insert_entry hashed_cmp qs x a) h (hashed-put x a qs))
+  pub put_among : (x : List ℕ) (a : A) (ps qs : Named A) → find x ps ≡ None →
+      in_order (ps ++ insert_entry hashed_cmp qs x a) ≡ put x a (in_order (ps ++ qs))
+  put_among x a ps qs h = in_order-with x a (ps ++ qs) (ps ++ insert_entry hashed_cmp qs x a)
+      (behind x a ps qs (insert_entry hashed_cmp qs x a) h (hashed-put x a qs))
 
-  replaced : (x : List ℕ) (a : A) (k : List ℕ) (ps qs : Named A) (n : ℕ) → k ≡ x → IsPlace x ps (Some n) → With x a (ps ++ qs) (slice_set ps n (k, a) ++ qs)
+  replaced : (x : List ℕ) (a : A) (k : List ℕ) (ps qs : Named A) (n : ℕ) → k ≡ x → IsPlace x ps (Some n) →
+      With x a (ps ++ qs) (slice_set ps n (k, a) ++ qs)
   replaced x a k [] qs n e h z = absurd (true≢false (sym (ap is_some h.1)))
   replaced x a k (p ∷ ps) qs zero e h z =
       let same : p.0 ≡ x = ap (λ o. unwrap_or o x) h.1 in
@@ -141,7 +159,8 @@ module _ {A : Type 0} where
       let first = found_first (is_at (name_cmp x) p.0) p.1 (find x (take n ps)) h.0 in
       ap (cond (is_at (name_cmp z) p.0) (Some p.1)) (replaced x a k ps qs n e (first.1, h.1) z) ∙ over_other z x a p (ps ++ qs) first.0
 
-  pub put_at : (x : List ℕ) (a : A) (k : List ℕ) (ps qs : Named A) (n : ℕ) → k ≡ x → IsPlace x ps (Some n) → in_order (slice_set ps n (k, a) ++ qs) ≡ put x a (in_order (ps ++ qs))
+  pub put_at : (x : List ℕ) (a : A) (k : List ℕ) (ps qs : Named A) (n : ℕ) → k ≡ x → IsPlace x ps (Some n) →
+      in_order (slice_set ps n (k, a) ++ qs) ≡ put x a (in_order (ps ++ qs))
   put_at x a k ps qs n e h = in_order-with x a (ps ++ qs) (slice_set ps n (k, a) ++ qs) (replaced x a k ps qs n e h)
 
   -- what is found
@@ -150,28 +169,34 @@ module _ {A : Type 0} where
     where
       by : (ps : Named A) → find x ps ≡ None → find x (ps ++ qs) ≡ find x qs
       by [] h = refl
-      by (p ∷ ps) h = let first = found_first (is_at (name_cmp x) p.0) p.1 (find x ps) h in ap (λ b. cond b (Some p.1) (find x (ps ++ qs))) first.0 ∙ by ps first.1
+      by (p ∷ ps) h = let first = found_first (is_at (name_cmp x) p.0) p.1 (find x ps) h in ap
+          (λ b. cond b (Some p.1) (find x (ps ++ qs))) first.0 ∙ by ps first.1
 
-  pub found_at : (x : List ℕ) (ps qs : Named A) (n : ℕ) → IsPlace x ps (Some n) → find x (in_order (ps ++ qs)) ≡ option_map (λ p. p.1) (slice_get ps n)
+  pub found_at : (x : List ℕ) (ps qs : Named A) (n : ℕ) → IsPlace x ps (Some n) →
+      find x (in_order (ps ++ qs)) ≡ option_map (λ p. p.1) (slice_get ps n)
   found_at x ps qs n h = find-in_order x (ps ++ qs) ∙ by ps n h
     where
       by : (ps : Named A) (n : ℕ) → IsPlace x ps (Some n) → find x (ps ++ qs) ≡ option_map (λ p. p.1) (slice_get ps n)
       by [] n h = absurd (true≢false (sym (ap is_some h.1)))
       by (p ∷ ps) zero h = ap (λ b. cond b (Some p.1) (find x (ps ++ qs))) (at_itself x p.0 (sym (ap (λ o. unwrap_or o x) h.1)))
-      by (p ∷ ps) (suc n) h = let first = found_first (is_at (name_cmp x) p.0) p.1 (find x (take n ps)) h.0 in ap (λ b. cond b (Some p.1) (find x (ps ++ qs))) first.0 ∙ by ps n (first.1, h.1)
+      by (p ∷ ps) (suc n) h = let first = found_first (is_at (name_cmp x) p.0) p.1 (find x (take n ps)) h.0 in ap
+          (λ b. cond b (Some p.1) (find x (ps ++ qs))) first.0 ∙ by ps n (first.1, h.1)
 
   -- one place more without the name
-  pub none_yet : (x : List ℕ) (ps : Named A) (n : ℕ) (p : List ℕ × A) → find x (take n ps) ≡ None → slice_get ps n ≡ Some p → is_at (name_cmp x) p.0 ≡ false → find x (take (suc n) ps) ≡ None
+  pub none_yet : (x : List ℕ) (ps : Named A) (n : ℕ) (p : List ℕ × A) → find x (take n ps) ≡ None → slice_get ps n ≡ Some p →
+      is_at (name_cmp x) p.0 ≡ false → find x (take (suc n) ps) ≡ None
   none_yet x [] n p h e apart = refl
   none_yet x (q ∷ ps) zero p h e apart = ap (λ b. cond b (Some q.1) None) (ap (λ o. is_at (name_cmp x) (unwrap_or o p).0) e ∙ apart)
   none_yet x (q ∷ ps) (suc n) p h e apart =
-      let first = found_first (is_at (name_cmp x) q.0) q.1 (find x (take n ps)) h in ap (λ b. cond b (Some q.1) (find x (take (suc n) ps))) first.0 ∙ none_yet x ps n p first.1 e apart
+      let first = found_first (is_at (name_cmp x) q.0) q.1 (find x (take n ps)) h in ap
+      (λ b. cond b (Some q.1) (find x (take (suc n) ps))) first.0 ∙ none_yet x ps n p first.1 e apart
 
   -- the pair at a place that there is, whatever is read where there is none
   pub the_item : (ps : Named A) (n : ℕ) (p : List ℕ × A) {x : List ℕ} → IsPlace x ps (Some n) → p ≡ get_or ps n p → slice_get ps n ≡ Some p
   the_item [] n p h e = absurd (true≢false (sym (ap is_some h.1)))
   the_item (q ∷ ps) zero p h e = ap Some (sym e)
-  the_item (q ∷ ps) (suc n) p {x = x} h e = the_item ps n p {x = x} ((found_first (is_at (name_cmp x) q.0) q.1 (find x (take n ps)) h.0).1, h.1) e
+  the_item (q ∷ ps) (suc n) p {x = x} h e = the_item ps n p {x = x}
+      ((found_first (is_at (name_cmp x) q.0) q.1 (find x (take n ps)) h.0).1, h.1) e
 
   pub the_name : (x : List ℕ) (ps : Named A) (n : ℕ) (p : List ℕ × A) → IsPlace x ps (Some n) → p ≡ get_or ps n p → p.0 ≡ x
   the_name x ps n p h e = ap (λ o. unwrap_or o x) (sym (ap (option_map (λ p. p.0)) (the_item ps n p {x = x} h e)) ∙ h.1)
@@ -181,13 +206,16 @@ module _ {A : Type 0} where
   at_place (q ∷ ps) zero p h = refl
   at_place (q ∷ ps) (suc n) p h = at_place ps n p (omega (arith, h))
 
-  pub is_place : (x : List ℕ) (ps : Named A) (n : ℕ) (p : List ℕ × A) → n < length ps → true ≡ pointwise nat_eq (get_or ps n p).0 x → option_map (λ q. q.0) (slice_get ps n) ≡ Some x
+  pub is_place : (x : List ℕ) (ps : Named A) (n : ℕ) (p : List ℕ × A) → n < length ps → true ≡ pointwise nat_eq (get_or ps n p).0 x →
+      option_map (λ q. q.0) (slice_get ps n) ≡ Some x
   is_place x ps n p h e = ap (option_map (λ q. q.0)) (at_place ps n p h) ∙ ap Some (same_text (get_or ps n p).0 x e)
 
-  pub no_place : (x : List ℕ) (ps : Named A) (n : ℕ) (p : List ℕ × A) → n < length ps → false ≡ pointwise nat_eq (get_or ps n p).0 x → find x (take n ps) ≡ None → find x (take (n + 1) ps) ≡ None
+  pub no_place : (x : List ℕ) (ps : Named A) (n : ℕ) (p : List ℕ × A) → n < length ps → false ≡ pointwise nat_eq (get_or ps n p).0 x →
+      find x (take n ps) ≡ None → find x (take (n + 1) ps) ≡ None
   no_place x ps n p h e before =
       let next : suc n ≡ n + 1 = omega arith in
-      subst (λ m. find x (take m ps) ≡ None) next (none_yet x ps n (get_or ps n p) before (at_place ps n p h) (not_at x (get_or ps n p).0 (other_text (get_or ps n p).0 x e)))
+      subst (λ m. find x (take m ps) ≡ None) next
+      (none_yet x ps n (get_or ps n p) before (at_place ps n p h) (not_at x (get_or ps n p).0 (other_text (get_or ps n p).0 x e)))
 
 -- ---------------------------------------------------------------- the names alone
 abbrev units : List (List ℕ) → Named ℕ
@@ -233,17 +261,21 @@ module _ {A : Type 0} where
 
   sorted-keys : (ps : Named A) → is_sorted name_cmp (units (keys_of ps)) ≡ is_sorted name_cmp ps
   sorted-keys [] = refl
-  sorted-keys (p ∷ ps) = ap (λ b. b && is_sorted name_cmp (units (keys_of ps))) (below-keys p.0 ps) ∙ ap (λ b. below_all name_cmp p.0 ps && b) (sorted-keys ps)
+  sorted-keys (p ∷ ps) = ap (λ b. b && is_sorted name_cmp (units (keys_of ps))) (below-keys p.0 ps)
+      ∙ ap (λ b. below_all name_cmp p.0 ps && b) (sorted-keys ps)
 
   among-keys : (z : List ℕ) (ps : Named A) → is_among z (keys_of (in_order ps)) ≡ is_among z (keys_of ps)
-  among-keys z ps = sym (is_some-lookup (is_at (name_cmp z)) (in_order ps)) ∙ ap is_some (find-in_order z ps) ∙ is_some-lookup (is_at (name_cmp z)) ps
+  among-keys z ps = sym (is_some-lookup (is_at (name_cmp z)) (in_order ps)) ∙ ap is_some (find-in_order z ps)
+      ∙ is_some-lookup (is_at (name_cmp z)) ps
 
   -- names in order, each once, are those of the pairs in their order
-  pub names_in_order : (ks : List (List ℕ)) (ps : Named A) → IsStrictlySortedBy name_cmp ks → ((z : List ℕ) → is_among z ks ≡ is_among z (keys_of ps)) → ks ≡ keys_of (in_order ps)
+  pub names_in_order : (ks : List (List ℕ)) (ps : Named A) → IsStrictlySortedBy name_cmp ks →
+      ((z : List ℕ) → is_among z ks ≡ is_among z (keys_of ps)) → ks ≡ keys_of (in_order ps)
   names_in_order ks ps h same =
       let others = keys_of (in_order ps) in
       sym (keys-units ks)
-      ∙ ap keys_of (same_entries name_cmp nat_list_cmp_total exact_bytes (units ks) (units others) (sorted-units ks h) (subst T (sym (sorted-keys (in_order ps))) (sorted-in_order ps))
+      ∙ ap keys_of (same_entries name_cmp nat_list_cmp_total exact_bytes (units ks) (units others) (sorted-units ks h)
+      (subst T (sym (sorted-keys (in_order ps))) (sorted-in_order ps))
       (λ z. find-units z ks ∙ ap (λ b. cond b (Some zero) None) (same z ∙ sym (among-keys z ps)) ∙ sym (find-units z others)))
       ∙ keys-units others
 
@@ -258,6 +290,8 @@ module _ {A : Type 0} where
   take_all (p ∷ ps) (suc n) h = ap (λ l. p ∷ l) (take_all ps n (omega (arith, h)))
 
   -- the names of both parts, read one after the other
-  pub both_parts : (read mid others : List (List ℕ)) (ps qs : Named A) (n : ℕ) → mid ≡ keys_of (take n ps) → length ps ≤ n → others ≡ keys_of qs → read ++ [] ≡ mid ++ others → read ≡ keys_of (ps ++ qs)
+  pub both_parts : (read mid others : List (List ℕ)) (ps qs : Named A) (n : ℕ) → mid ≡ keys_of (take n ps) → length ps ≤ n →
+      others ≡ keys_of qs → read ++ [] ≡ mid ++ others → read ≡ keys_of (ps ++ qs)
   both_parts read mid others ps qs n is fits rest e =
-      sym (append-nil read) ∙ e ∙ ap (λ l. l ++ others) (is ∙ ap keys_of (take_all ps n fits)) ∙ ap (λ l. keys_of ps ++ l) rest ∙ sym (keys-append ps qs)
+      sym (append-nil read) ∙ e ∙ ap (λ l. l ++ others) (is ∙ ap keys_of (take_all ps n fits)) ∙ ap (λ l. keys_of ps ++ l) rest
+      ∙ sym (keys-append ps qs)

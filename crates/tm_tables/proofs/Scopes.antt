@@ -1,5 +1,6 @@
 -- What the outermost of scopes exports, which is the first to be entered.
-use Rattle.std.proofs.Common.{◌≡◌, ℕ, zero, suc, ◌<◌, List, [], ◌∷◌, ◌++◌, length, slice_set, get_or, arith, Some, None, slice_get, is_some, true≢false, reverse, unwrap_or, refl, sym, ap, ◌∙◌}
+use Rattle.std.proofs.Common.{◌≡◌, ℕ, zero, suc, ◌<◌, List, [], ◌∷◌, ◌++◌, length, slice_set, get_or, arith, Some, None, slice_get, is_some}
+use Rattle.std.proofs.Common.{true≢false, reverse, unwrap_or, refl, sym, ap, ◌∙◌}
 use Rattle.std.proofs.lemmas.Grind.{reverse_onto}
 use Rattle.std.proofs.lemmas.List.{length-reverse, length-drop, reverse-append, take-append-drop}
 use Rattle.std.proofs.Math.Seq.{drop-append_seam}
@@ -40,14 +41,16 @@ stored-last x v (t ∷ []) (suc n) s h e = absurd (omega (arith, h))
 stored-last x v (t ∷ u ∷ ss) zero s h e = absurd (omega (arith, h))
 stored-last x v (t ∷ u ∷ ss) (suc n) s h e =
     let more : length (u ∷ ss) ≡ suc n = omega (arith, h) in
-    reverse_onto (slice_set (u ∷ ss) n (record s { locals = put x v s.locals })) t [] ∙ ap (λ l. l ++ t ∷ []) (stored-last x v (u ∷ ss) n s more e)
+    reverse_onto (slice_set (u ∷ ss) n (record s { locals = put x v s.locals })) t []
+    ∙ ap (λ l. l ++ t ∷ []) (stored-last x v (u ∷ ss) n s more e)
     ∙ stored-before x v (reverse (u ∷ ss)) (t ∷ []) (reverse-long (u ∷ ss) n more) ∙ ap (stored_in x v) (sym (reverse_onto (u ∷ ss) t []))
 
 cleared-before : (ss ts : List Scope) → 0 < length ss → without_locals ss ++ ts ≡ without_locals (ss ++ ts)
 cleared-before [] ts h = absurd (omega (arith, h))
 cleared-before (s ∷ ss) ts h = refl
 
-pub cleared-last : (ss : List Scope) (n : ℕ) (s : Scope) → length ss ≡ suc n → s ≡ get_or ss n s → reverse (slice_set ss n (record s { locals = [] })) ≡ without_locals (reverse ss)
+pub cleared-last : (ss : List Scope) (n : ℕ) (s : Scope) → length ss ≡ suc n → s ≡ get_or ss n s →
+    reverse (slice_set ss n (record s { locals = [] })) ≡ without_locals (reverse ss)
 cleared-last [] n s h e = absurd (omega (arith, h))
 cleared-last (t ∷ []) zero s h e = ap (λ (u : Scope). record u { locals = [] } ∷ []) e
 cleared-last (t ∷ []) (suc n) s h e = absurd (omega (arith, h))

@@ -32,7 +32,8 @@ AreFoundIn records scopes names = (view : View) → view.records ≡ records →
 
 -- The same of the scopes, and of the globals behind them.
 abbrev pub AreKnownIn : RecordData → List Scope → Bindings → List (List ℕ) → Type 0
-AreKnownIn records scopes globals names = (view : View) → view.records ≡ records → AreFound (find_name (record view { frames = scopes; globals = globals })) names
+AreKnownIn records scopes globals names = (view : View) → view.records ≡ records →
+    AreFound (find_name (record view { frames = scopes; globals = globals })) names
 
 -- whether a name was there before, or a look-up finds it
 abbrev pub or_else_found : Bool → Answer Bool → Answer Bool

@@ -19,12 +19,14 @@ turned text word rest e =
     sym (reverse-reverse text) ∙ ap reverse (behind-split (reverse word) (reverse text) rest e) ∙ reverse-append (reverse word) rest
     ∙ ap (λ w. reverse rest ++ w) (reverse-reverse word)
 
-not_there_by : (text word : List ℕ) → ((front : List ℕ) → text ≢ front ++ word) → (r : Option (List ℕ)) → behind (reverse word) (reverse text) ≡ r → before word text ≡ None
+not_there_by : (text word : List ℕ) → ((front : List ℕ) → text ≢ front ++ word) → (r : Option (List ℕ)) →
+    behind (reverse word) (reverse text) ≡ r → before word text ≡ None
 not_there_by text word h None e = ap (option_map reverse) e
 not_there_by text word h (Some rest) e = absurd (h (reverse rest) (turned text word rest e))
 
 -- what is left of a text whose end is stripped off
-pub stripped : (text word : List ℕ) (r : Option (Bor (List ℕ))) → MatchOption r (FindsTextSuffix word text None) (λ x. StripsSuffix (FindsTextSuffix word) text x.now)
+pub stripped : (text word : List ℕ) (r : Option (Bor (List ℕ))) →
+    MatchOption r (FindsTextSuffix word text None) (λ x. StripsSuffix (FindsTextSuffix word) text x.now)
     → place_of r ≡ before word text
 stripped text word None h = sym (not_there_by text word h (behind (reverse word) (reverse text)) refl)
 stripped text word (Some x) h = sym (ap (before word) (h.1.1 ∙ ap (λ w. w ++ word) (sym h.2)) ∙ there x.now word)

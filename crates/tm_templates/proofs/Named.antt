@@ -7,12 +7,14 @@ use Rattle.std.specs.declared.cmp.Ordering.TheVariants.{Less, Equal, Greater}
 use Rattle.std.specs.BTreeMap.{is_at}
 use Rattle.tm_syntax.specs.Named.{Named, name_cmp, find, put, put_each, by_name}
 
-map-match_ordering : {A B : Type 0} (f : A → B) (o : Ordering) (x y z : List A) → map f (match_ordering o x y z) ≡ match_ordering o (map f x) (map f y) (map f z)
+map-match_ordering : {A B : Type 0} (f : A → B) (o : Ordering) (x y z : List A) →
+    map f (match_ordering o x y z) ≡ match_ordering o (map f x) (map f y) (map f z)
 map-match_ordering f Less x y z = refl
 map-match_ordering f Equal x y z = refl
 map-match_ordering f Greater x y z = refl
 
-option_map-cond : {A B : Type 0} (f : A → B) (b : Bool) (x y : Option A) → option_map f (cond b x y) ≡ cond b (option_map f x) (option_map f y)
+option_map-cond : {A B : Type 0} (f : A → B) (b : Bool) (x y : Option A) →
+    option_map f (cond b x y) ≡ cond b (option_map f x) (option_map f y)
 option_map-cond f true x y = refl
 option_map-cond f false x y = refl
 
@@ -23,7 +25,8 @@ module _ {A B : Type 0} (f : A → B) where
   pub find-turned : (x : List ℕ) (ps : Named A) → find x (turned ps) ≡ option_map f (find x ps)
   find-turned x [] = refl
   find-turned x (p ∷ ps) =
-      ap (cond (is_at (name_cmp x) p.0) (Some (f p.1))) (find-turned x ps) ∙ rw (option_map-cond f (is_at (name_cmp x) p.0) (Some p.1) (find x ps)) refl
+      ap (cond (is_at (name_cmp x) p.0) (Some (f p.1))) (find-turned x ps)
+      ∙ rw (option_map-cond f (is_at (name_cmp x) p.0) (Some p.1) (find x ps)) refl
 
   pub put-turned : (x : List ℕ) (a : A) (ps : Named A) → put x (f a) (turned ps) ≡ turned (put x a ps)
   put-turned x a [] = refl

@@ -1,5 +1,6 @@
 -- What a place among names gives, and that `put` keeps the names in order.
-use Rattle.std.proofs.Common.{◌≡◌, ◌≤◌, ◌<◌, ℕ, zero, suc, List, [], ◌∷◌, length, get_or, set, Some, None, MatchResult, Result, Ok, Err, Bool, true, false, if◌then◌else◌, Ordering, Less, Equal, Greater, insert, refl, sym, ap, subst, ◌∙◌, arith}
+use Rattle.std.proofs.Common.{◌≡◌, ◌≤◌, ◌<◌, ℕ, zero, suc, List, [], ◌∷◌, length, get_or, set, Some, None, MatchResult, Result, Ok, Err}
+use Rattle.std.proofs.Common.{Bool, true, false, if◌then◌else◌, Ordering, Less, Equal, Greater, insert, refl, sym, ap, subst, ◌∙◌, arith}
 use Rattle.std.proofs.lemmas.Cmp.{alike_right, nat_list_cmp_total}
 use Rattle.std.specs.List.{AllByRecursion}
 use Rattle.std.specs.List.Sorted.{IsStrictlySortedBy, IsSearchInRange, IsBinarySearchResult, IsNonDecreasingBy}
@@ -13,7 +14,8 @@ turned : (x y : List ℕ) (o : Ordering) → name_cmp x y ≡ o → name_cmp y x
 turned x y o e = nat_list_cmp_total.antisymm y x ∙ ap ordering_reverse e
 
 -- of two names the lower one stands no higher to a third
-rises : (x y z : List ℕ) (o : Ordering) → name_cmp x y ≡ Less → name_cmp y z ≡ o → ordering_index (name_cmp x z) ≤ ordering_index (name_cmp y z)
+rises : (x y z : List ℕ) (o : Ordering) → name_cmp x y ≡ Less → name_cmp y z ≡ o →
+    ordering_index (name_cmp x z) ≤ ordering_index (name_cmp y z)
 rises x y z Less h e = rw (e, nat_list_cmp_total.trans x y z h e) (omega arith)
 rises x y z Equal h e = rw (e, sym (alike_right nat_list_cmp_total y z x e) ∙ h) (omega arith)
 rises x y z Greater h e = rw e (at_most_two (name_cmp x z))
@@ -42,7 +44,8 @@ module _ {A : Type 0} where
   above-at x (p ∷ ps) (suc i) d a h = above-at x ps i d a.1 (omega arith)
 
   -- a name behind the first is above it
-  behind_first : (x : List ℕ) (p : List ℕ × A) (ps : Named A) (i : ℕ) (d : List ℕ × A) → AreAbove p.0 ps → i < length ps → name_cmp (get_or ps i d).0 x ≡ Equal → name_cmp x p.0 ≡ Greater
+  behind_first : (x : List ℕ) (p : List ℕ × A) (ps : Named A) (i : ℕ) (d : List ℕ × A) → AreAbove p.0 ps → i < length ps →
+      name_cmp (get_or ps i d).0 x ≡ Equal → name_cmp x p.0 ≡ Greater
   behind_first x p ps i d a h same =
       turned p.0 x Less (sym (alike_right nat_list_cmp_total (get_or ps i d).0 x p.0 same) ∙ above-at p.0 ps i d a h)
 
@@ -53,9 +56,11 @@ module _ {A : Type 0} where
   find-there x (p ∷ ps) zero d o t = rw (turned p.0 x Equal (t.same_name d))
   find-there x (p ∷ ps) (suc i) d o t =
       let within : i < length ps = omega (arith, t.in_range) in
-      rw (behind_first x p ps i d o.0 within (t.same_name d)) (find-there x ps i d o.1 (record { in_range = within; same_name = λ e. t.same_name e }))
+      rw (behind_first x p ps i d o.0 within (t.same_name d))
+      (find-there x ps i d o.1 (record { in_range = within; same_name = λ e. t.same_name e }))
 
-  pub find-read : (x : List ℕ) (ps : Named A) (i : ℕ) (p : List ℕ × A) → AreOrdered ps → IsThere x ps i → p ≡ get_or ps i p → find x ps ≡ Some p.1
+  pub find-read : (x : List ℕ) (ps : Named A) (i : ℕ) (p : List ℕ × A) → AreOrdered ps → IsThere x ps i → p ≡ get_or ps i p →
+      find x ps ≡ Some p.1
   find-read x ps i p o t e = find-there x ps i p o t ∙ ap (λ (q : List ℕ × A). Some q.1) (sym e)
 
   -- and one that is not there isn't
@@ -77,15 +82,18 @@ module _ {A : Type 0} where
       }))
 
   -- `put` writes over what stands at a name that is there
-  put-there : (x : List ℕ) (a : A) (ps : Named A) (i : ℕ) (d : List ℕ × A) → AreOrdered ps → IsThere x ps i → put x a ps ≡ set ps i ((get_or ps i d).0, a)
+  put-there : (x : List ℕ) (a : A) (ps : Named A) (i : ℕ) (d : List ℕ × A) → AreOrdered ps → IsThere x ps i →
+      put x a ps ≡ set ps i ((get_or ps i d).0, a)
   unfolding IsStrictlySortedBy
   put-there x a [] i d o t = absurd (omega (arith, t.in_range))
   put-there x a (p ∷ ps) zero d o t = rw (turned p.0 x Equal (t.same_name d))
   put-there x a (p ∷ ps) (suc i) d o t =
       let within : i < length ps = omega (arith, t.in_range) in
-      rw (behind_first x p ps i d o.0 within (t.same_name d)) (ap (λ l. p ∷ l) (put-there x a ps i d o.1 (record { in_range = within; same_name = λ e. t.same_name e })))
+      rw (behind_first x p ps i d o.0 within (t.same_name d))
+      (ap (λ l. p ∷ l) (put-there x a ps i d o.1 (record { in_range = within; same_name = λ e. t.same_name e })))
 
-  put-read : (x : List ℕ) (a : A) (ps : Named A) (i : ℕ) (p : List ℕ × A) → AreOrdered ps → IsThere x ps i → p ≡ get_or ps i p → put x a ps ≡ set ps i (p.0, a)
+  put-read : (x : List ℕ) (a : A) (ps : Named A) (i : ℕ) (p : List ℕ × A) → AreOrdered ps → IsThere x ps i → p ≡ get_or ps i p →
+      put x a ps ≡ set ps i (p.0, a)
   put-read x a ps i p o t e = put-there x a ps i p o t ∙ ap (λ (q : List ℕ × A). set ps i (q.0, a)) (sym e)
 
   -- and puts a new name into the gap
@@ -101,7 +109,8 @@ module _ {A : Type 0} where
         higher_after = λ j d h l. g.higher_after (suc j) d (omega arith) (omega arith);
       })))
 
-  above_case : (o : Ordering) (x y : List ℕ) (a : A) (p : List ℕ × A) (ps : Named A) → name_cmp x y ≡ Less → AreAbove x (p ∷ ps) → AreAbove x (put y a ps)
+  above_case : (o : Ordering) (x y : List ℕ) (a : A) (p : List ℕ × A) (ps : Named A) → name_cmp x y ≡ Less → AreAbove x (p ∷ ps) →
+      AreAbove x (put y a ps)
       → AreAbove x (match_ordering o ((y, a) ∷ p ∷ ps) ((p.0, a) ∷ ps) (p ∷ put y a ps))
   above_case Less x y a p ps h above rest = (h, above)
   above_case Equal x y a p ps h above rest = above
@@ -111,7 +120,8 @@ module _ {A : Type 0} where
   above-put x y a [] h above = (h, tt)
   above-put x y a (p ∷ ps) h above = above_case (name_cmp y p.0) x y a p ps h above (above-put x y a ps h above.1)
 
-  ordered_case : (o : Ordering) (x : List ℕ) (a : A) (p : List ℕ × A) (ps : Named A) → name_cmp x p.0 ≡ o → AreOrdered (p ∷ ps) → AreOrdered (put x a ps)
+  ordered_case : (o : Ordering) (x : List ℕ) (a : A) (p : List ℕ × A) (ps : Named A) → name_cmp x p.0 ≡ o → AreOrdered (p ∷ ps) →
+      AreOrdered (put x a ps)
       → AreOrdered (match_ordering o ((x, a) ∷ p ∷ ps) ((p.0, a) ∷ ps) (p ∷ put x a ps))
   unfolding IsStrictlySortedBy
   ordered_case Less x a p ps e o rest = ((e, above x p.0 ps e o.0), o)
@@ -128,12 +138,14 @@ module _ {A : Type 0} where
   unfolding IsStrictlySortedBy
   names_rise x [] o i j d le h = absurd (omega arith)
   names_rise x (p ∷ ps) o zero zero d le h = omega arith
-  names_rise x (p ∷ ps) o zero (suc j) d le h = rises p.0 (get_or ps j d).0 x (name_cmp (get_or ps j d).0 x) (above-at p.0 ps j d o.0 (omega arith)) refl
+  names_rise x (p ∷ ps) o zero (suc j) d le h = rises p.0 (get_or ps j d).0 x (name_cmp (get_or ps j d).0 x)
+      (above-at p.0 ps j d o.0 (omega arith)) refl
   names_rise x (p ∷ ps) o (suc i) zero d le h = absurd (omega arith)
   names_rise x (p ∷ ps) o (suc i) (suc j) d le h = names_rise x ps o.1 i j d (omega arith) (omega arith)
 
   -- what a binary search for the name answers
-  searched : (x : List ℕ) (ps : Named A) → AreOrdered ps → (r : Result ℕ ℕ) → IsSearchInRange r (length ps) → IsBinarySearchResult (λ (p : List ℕ × A). name_cmp p.0 x) ps r
+  searched : (x : List ℕ) (ps : Named A) → AreOrdered ps → (r : Result ℕ ℕ) → IsSearchInRange r (length ps) →
+      IsBinarySearchResult (λ (p : List ℕ × A). name_cmp p.0 x) ps r
       → MatchResult r (IsThere x ps) (IsGapFor x ps)
   searched x ps o (Ok i) h found = record { in_range = h; same_name = λ d. found d }
   searched x ps o (Err i) h parted = record {
@@ -143,17 +155,20 @@ module _ {A : Type 0} where
   }
 
   -- the same of what is lent of the names
-  pub searched_in : (x : List ℕ) (ps lent seen : Named A) → lent ≡ ps → ps ≡ seen → AreOrdered ps → (r : Result ℕ ℕ) → IsSearchInRange r (length lent)
+  pub searched_in : (x : List ℕ) (ps lent seen : Named A) → lent ≡ ps → ps ≡ seen → AreOrdered ps → (r : Result ℕ ℕ) →
+      IsSearchInRange r (length lent)
       → IsBinarySearchResult (λ (p : List ℕ × A). name_cmp p.0 x) lent r → MatchResult r (IsThere x seen) (IsGapFor x seen)
   searched_in x ps lent seen e f o r h found =
       subst (λ l. MatchResult r (IsThere x l) (IsGapFor x l)) (e ∙ f) (searched x lent (subst AreOrdered (sym e) o) r h found)
 
   -- what stands at a name of what is seen of the names is written over: it is what `put` gives, and the names stay in order
-  pub written : (x y : List ℕ) (a : A) (ps seen : Named A) (i : ℕ) (p : List ℕ × A) → ps ≡ seen → y ≡ x → AreOrdered ps → IsThere y seen i → p ≡ get_or ps i p → set ps i (p.0, a) ≡ put x a seen
+  pub written : (x y : List ℕ) (a : A) (ps seen : Named A) (i : ℕ) (p : List ℕ × A) → ps ≡ seen → y ≡ x → AreOrdered ps → IsThere y seen i →
+      p ≡ get_or ps i p → set ps i (p.0, a) ≡ put x a seen
   written x y a ps seen i p e f o t at =
       sym (put-read y a ps i p o (subst (λ l. IsThere y l i) (sym e) t) at) ∙ ap (λ z. put z a ps) f ∙ ap (put x a) e
 
-  pub written-ordered : (x y : List ℕ) (a : A) (ps seen : Named A) (i : ℕ) (p : List ℕ × A) → ps ≡ seen → y ≡ x → AreOrdered ps → IsThere y seen i → p ≡ get_or ps i p → AreOrdered (set ps i (p.0, a))
+  pub written-ordered : (x y : List ℕ) (a : A) (ps seen : Named A) (i : ℕ) (p : List ℕ × A) → ps ≡ seen → y ≡ x → AreOrdered ps →
+      IsThere y seen i → p ≡ get_or ps i p → AreOrdered (set ps i (p.0, a))
   written-ordered x y a ps seen i p e f o t at =
       subst AreOrdered (ap (put x a) e ∙ sym (written x y a ps seen i p e f o t at)) (ordered-put x a ps o)
 
@@ -162,7 +177,8 @@ module _ {A : Type 0} where
   added x y a ps seen i e f g =
       ap (λ l. insert l i (x, a)) e ∙ sym (put-gap x a seen i (subst (λ z. IsGapFor z seen i) f g))
 
-  pub added-ordered : (x y : List ℕ) (a : A) (ps seen : Named A) (i : ℕ) (b : Bool) → ps ≡ seen → y ≡ x → AreOrdered ps → IsGapFor y seen i → AreOrdered (if b then insert ps i (x, a) else ps)
+  pub added-ordered : (x y : List ℕ) (a : A) (ps seen : Named A) (i : ℕ) (b : Bool) → ps ≡ seen → y ≡ x → AreOrdered ps →
+      IsGapFor y seen i → AreOrdered (if b then insert ps i (x, a) else ps)
   added-ordered x y a ps seen i true e f o g =
       subst AreOrdered (ap (put x a) e ∙ sym (added x y a ps seen i e f g)) (ordered-put x a ps o)
   added-ordered x y a ps seen i false e f o g = o

@@ -41,10 +41,12 @@ plain_card (Some b) found e = ap is_required e
 pub none_required : (t : TemplateTree) (b : Option (List ℕ)) → is_required (card_in (template_of t) b) ≡ false
 none_required t None = refl
 none_required t (Some x) =
-    plain_card (find x (by_name (blocks_in t.root.row))) (card_in (template_of t) (Some x)) (find-turned (λ (b : Body). card) x (by_name (blocks_in t.root.row)))
+    plain_card (find x (by_name (blocks_in t.root.row))) (card_in (template_of t) (Some x))
+    (find-turned (λ (b : Body). card) x (by_name (blocks_in t.root.row)))
 
 -- the same of a part that is that block
-pub part_there : (t : Compiled) (part : Option (List ℕ)) (x y : List ℕ) (code : List Instruction) → part ≡ Some x → y ≡ x → find y (block_codes t.tree) ≡ Some code →
+pub part_there : (t : Compiled) (part : Option (List ℕ)) (x y : List ℕ) (code : List Instruction) → part ≡ Some x → y ≡ x →
+    find y (block_codes t.tree) ≡ Some code →
     code ≡ code_of (part_of (tree_of t) part)
 part_there t part x y code is same found =
     block_there t x code (ap (λ z. find z (block_codes t.tree)) (sym same) ∙ found) ∙ ap (λ p. code_of (part_of (tree_of t) p)) (sym is)

@@ -1,5 +1,6 @@
 -- How templates are escaped by their names.
-use Rattle.std.specs.Prelude.{ℕ, List, [], ◌∷◌, Bool, true, false, ◌||◌, if◌then◌else◌, Option, None, Some, is_some, option_map, reverse, codes}
+use Rattle.std.specs.Prelude.{ℕ, List, [], ◌∷◌, Bool, true, false, ◌||◌, if◌then◌else◌, Option, None, Some, is_some, option_map, reverse}
+use Rattle.std.specs.Prelude.{codes}
 use Rattle.std.specs.Option.{option_or}
 use Rattle.tm_values.specs.declared.escape.AutoEscape.{AutoEscape}
 use Rattle.tm_values.specs.declared.escape.AutoEscape.TheVariants as escapes

@@ -34,7 +34,8 @@ abbrev pub tree_of : Compiled → TemplateTree
 tree_of t = record { name = t.name; escape = t.escape; root = body t.tree }
 
 -- These are the streams of the tree, and that of no block.
-pub record AreStreams (tree : Tree) (root : List Instruction) (blocks : Named (List Instruction)) (nothing : List Instruction) : Type 0 where
+pub record AreStreams (tree : Tree) (root : List Instruction) (blocks : Named (List Instruction))
+    (nothing : List Instruction) : Type 0 where
   pub root_is : root ≡ code_of (body tree)
   pub blocks_are : blocks ≡ block_codes tree
   pub nothing_is : nothing ≡ []

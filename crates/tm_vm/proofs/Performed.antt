@@ -1,6 +1,7 @@
 -- What instructions of each kind did, as what every step says.
 use Rattle.std.specs.Prelude.{get_or}
-use Rattle.std.proofs.Common.{◌≡◌, ◌<◌, ℕ, zero, suc, List, [], ◌∷◌, ◌+◌, ◌&&◌, Bool, true, false, None, Option, Some, Result, Ok, Err, refl, sym, ◌∙◌, ap, subst, arith, length, slice_get}
+use Rattle.std.proofs.Common.{◌≡◌, ◌<◌, ℕ, zero, suc, List, [], ◌∷◌, ◌+◌, ◌&&◌, Bool, true, false, None, Option, Some, Result, Ok, Err}
+use Rattle.std.proofs.Common.{refl, sym, ◌∙◌, ap, subst, arith, length, slice_get}
 use Rattle.std.specs.Global.{Box}
 use Rattle.std.specs.Io.KnownBytes.{Appends}
 use Rattle.tm_meaning.specs.Calls.{Call, enter_block, of_block, whole}
@@ -18,7 +19,8 @@ use Rattle.tm_parts.specs.declared.halt.Halt.{Halt}
 use Rattle.tm_parts.specs.declared.halt.Halt.TheVariants as halt
 use Rattle.tm_meaning.specs.World.{World, Good, block_of, choose}
 use Rattle.tm_state.specs.State.{runs_block, saved_of}
-use Rattle.tm_vm.specs.Answers.{Depths, Did, Enters, entered, OneDeeper, Performs, Writes, Silently, Opens, Shifts, Needs, SameScopes, NoFewer, KeepsBaseScopes, output}
+use Rattle.tm_vm.specs.Answers.{Depths, Did, Enters, entered, OneDeeper, Performs, Writes, Silently, Opens, Shifts, Needs, SameScopes}
+use Rattle.tm_vm.specs.Answers.{NoFewer, KeepsBaseScopes, output}
 use Rattle.tm_vm.specs.declared.flow.NestedRun.{NestedRun}
 use Rattle.tm_vm.specs.declared.flow.Flow.{Flow}
 use Rattle.tm_vm.specs.declared.flow.Flow.TheVariants as flow
@@ -30,10 +32,17 @@ nothing_written {c = c} told at =
 stays : (f : Base) (old new : World) → SameScopes old new → KeepsBaseScopes f old new
 stays f old new same = (λ h. omega (arith, h, same.0), same.1)
 
-pub silent : {limit : ℕ} {f : Base} {n : Next} {old new : Config} {told : Option (List ℕ)} {faults : ℕ} (result : Result Flow Halt) → Silently n old new result
+pub silent : {limit : ℕ} {f : Base} {n : Next} {old new : Config} {told : Option (List ℕ)} {faults : ℕ} (result : Result Flow Halt) →
+    Silently n old new result
     → Performs limit f n old new told told faults faults result
 silent {f = f} {n = n} {old = old} {new = new} {told = told} (Ok flow.GoOn) s =
-    record { did = nothing_written told s.did; counted = refl; kept = s.kept; depths = stays f old.world new.world s.same_scopes; same_stream = s.same_stream }
+    record {
+      did = nothing_written told s.did;
+      counted = refl;
+      kept = s.kept;
+      depths = stays f old.world new.world s.same_scopes;
+      same_stream = s.same_stream;
+    }
 silent (Ok flow.Done) s = absurd s.did
 silent (Ok (flow.Enter e)) s = absurd s.did
 silent (Err halt.Writer) s = absurd s.did
@@ -61,10 +70,17 @@ still {old = old} {new = new} result s =
 stays_over : (f : Base) (old new : World) → NoFewer old new → KeepsBaseScopes f old new
 stays_over f old new more = let long = more.0 in (λ h. omega (arith, h, long), more.1)
 
-pub opened : {limit : ℕ} {f : Base} {n : Next} {old new : Config} {told : Option (List ℕ)} {faults : ℕ} (result : Result Flow Halt) → Opens n old new result
+pub opened : {limit : ℕ} {f : Base} {n : Next} {old new : Config} {told : Option (List ℕ)} {faults : ℕ} (result : Result Flow Halt) →
+    Opens n old new result
     → Performs limit f n old new told told faults faults result
 opened {f = f} {n = n} {old = old} {new = new} {told = told} (Ok flow.GoOn) s =
-    record { did = nothing_written told s.did; counted = refl; kept = s.kept; depths = stays_over f old.world new.world s.no_fewer; same_stream = s.same_stream }
+    record {
+      did = nothing_written told s.did;
+      counted = refl;
+      kept = s.kept;
+      depths = stays_over f old.world new.world s.no_fewer;
+      same_stream = s.same_stream;
+    }
 opened (Ok flow.Done) s = absurd s.did
 opened (Ok (flow.Enter e)) s = absurd s.did
 opened (Err halt.Writer) s = absurd s.did
@@ -83,7 +99,8 @@ opened {f = f} {n = n} {old = old} {new = new} {told = told} (Err (halt.Fault ch
   same_stream = s.same_stream;
 }
 
-pub shifted : {limit : ℕ} {f : Base} {n : Next} {old new : Config} {told : Option (List ℕ)} {faults : ℕ} (result : Result Flow Halt) → Shifts f n old new result
+pub shifted : {limit : ℕ} {f : Base} {n : Next} {old new : Config} {told : Option (List ℕ)} {faults : ℕ} (result : Result Flow Halt) →
+    Shifts f n old new result
     → Performs limit f n old new told told faults faults result
 shifted {n = n} {told = told} (Ok flow.GoOn) s =
     record { did = nothing_written told s.did; counted = refl; kept = s.kept; depths = s.stays; same_stream = s.same_stream }
@@ -91,31 +108,78 @@ shifted (Ok flow.Done) s = absurd s.did
 shifted (Ok (flow.Enter e)) s = absurd s.did
 shifted (Err halt.Writer) s = absurd s.did
 shifted {n = n} {told = told} (Err halt.Stuck) s =
-    record { did = (s.did, beginning_nothing told (output n)); counted = refl; kept = s.kept; depths = s.stays; same_stream = s.same_stream }
+    record {
+      did = (s.did, beginning_nothing told (output n));
+      counted = refl;
+      kept = s.kept;
+      depths = s.stays;
+      same_stream = s.same_stream;
+    }
 shifted {n = n} {told = told} (Err (halt.Fault chain)) s =
-    record { did = (s.did, beginning_nothing told (output n)); counted = refl; kept = s.kept; depths = s.stays; same_stream = s.same_stream }
+    record {
+      did = (s.did, beginning_nothing told (output n));
+      counted = refl;
+      kept = s.kept;
+      depths = s.stays;
+      same_stream = s.same_stream;
+    }
 
 pub wrote : {limit : ℕ} {f : Base} {n : Next} {old new : Config} {told now : Option (List ℕ)} {faults count : ℕ} (result : Result Flow Halt)
     → Writes n old new told now faults count result → Performs limit f n old new told now faults count result
-wrote {f = f} {old = old} {new = new} (Ok flow.GoOn) s = record { did = s.did; counted = s.counted; kept = s.kept; depths = stays f old.world new.world s.same_scopes; same_stream = s.same_stream }
+wrote {f = f} {old = old} {new = new}
+    (Ok flow.GoOn) s = record {
+      did = s.did;
+      counted = s.counted;
+      kept = s.kept;
+      depths = stays f old.world new.world s.same_scopes;
+      same_stream = s.same_stream;
+    }
 wrote (Ok flow.Done) s = absurd s.did
 wrote (Ok (flow.Enter e)) s = absurd s.did
-wrote {f = f} {old = old} {new = new} (Err why) s = record { did = s.did; counted = s.counted; kept = s.kept; depths = stays f old.world new.world s.same_scopes; same_stream = s.same_stream }
+wrote {f = f} {old = old} {new = new}
+    (Err why) s = record {
+      did = s.did;
+      counted = s.counted;
+      kept = s.kept;
+      depths = stays f old.world new.world s.same_scopes;
+      same_stream = s.same_stream;
+    }
 
-pub needed : {limit : ℕ} {f : Base} {n : Next} {old new : Config} {told : Option (List ℕ)} {faults : ℕ} (result : Result Flow Halt) → Needs limit n old new result
+pub needed : {limit : ℕ} {f : Base} {n : Next} {old new : Config} {told : Option (List ℕ)} {faults : ℕ} (result : Result Flow Halt) →
+    Needs limit n old new result
     → Performs limit f n old new told told faults faults result
 needed {f = f} {old = old} {new = new} {told = told} (Ok flow.GoOn) s =
-    record { did = nothing_written told s.did; counted = refl; kept = s.kept; depths = stays f old.world new.world s.deepens; same_stream = s.same_stream }
+    record {
+      did = nothing_written told s.did;
+      counted = refl;
+      kept = s.kept;
+      depths = stays f old.world new.world s.deepens;
+      same_stream = s.same_stream;
+    }
 needed (Ok flow.Done) s = absurd s.did
-needed {f = f} {old = old} {new = new} (Ok (flow.Enter e)) s = record { did = (s.did, refl); counted = refl; kept = s.kept; depths = s.deepens; same_stream = s.same_stream }
+needed {f = f} {old = old} {new = new}
+    (Ok (flow.Enter e)) s = record { did = (s.did, refl); counted = refl; kept = s.kept; depths = s.deepens; same_stream = s.same_stream }
 needed (Err halt.Writer) s = absurd s.did
 needed {f = f} {n = n} {old = old} {new = new} {told = told} (Err halt.Stuck) s =
-    record { did = (s.did, beginning_nothing told (output n)); counted = refl; kept = s.kept; depths = stays f old.world new.world s.deepens; same_stream = s.same_stream }
+    record {
+      did = (s.did, beginning_nothing told (output n));
+      counted = refl;
+      kept = s.kept;
+      depths = stays f old.world new.world s.deepens;
+      same_stream = s.same_stream;
+    }
 needed {f = f} {n = n} {old = old} {new = new} {told = told} (Err (halt.Fault chain)) s =
-    record { did = (s.did, beginning_nothing told (output n)); counted = refl; kept = s.kept; depths = stays_over f old.world new.world s.deepens.0; same_stream = s.same_stream }
+    record {
+      did = (s.did, beginning_nothing told (output n));
+      counted = refl;
+      kept = s.kept;
+      depths = stays_over f old.world new.world s.deepens.0;
+      same_stream = s.same_stream;
+    }
 
 -- one that needs a run, which is boxed
-pub boxed : {limit : ℕ} {n : Next} {old new : Config} (e : NestedRun) (b : Box NestedRun) → b.value ≡ e → Enters e new n → KeepsIdAndFuel old.world new.world → OneDeeper limit e old.world new.world
+pub boxed : {limit : ℕ} {n : Next} {old new : Config} (e : NestedRun) (b : Box NestedRun) → b.value ≡ e → Enters e new n →
+    KeepsIdAndFuel old.world new.world → OneDeeper limit e old.world new.world
     → new.run.stream ≡ old.run.stream → Needs limit n old new (Ok (flow.Enter b))
 boxed {limit = limit} {n = n} {old = old} {new = new} e b same enters kept deeper stream = record {
   did = subst (λ x. Enters x new n) (sym same) enters;
@@ -136,8 +200,10 @@ both : (a b : Bool) → a ≡ true → b ≡ true → a && b ≡ true
 both true b d e = e
 both false b d e = absurd cc
 
-pub block_entered : (p : Program) (f : Base) (old : Config) (x : List ℕ) (s : StreamId) (e : NestedRun) (new : Config) (w : World) → none_waits old.run.parent ≡ true → audible f old ≡ true
-    → enter_block p.host x old.world ≡ runs_block s old.world w → new ≡ record { run = record old.run { place = old.run.place + 1 }; captures = old.captures; world = w }
+pub block_entered : (p : Program) (f : Base) (old : Config) (x : List ℕ) (s : StreamId) (e : NestedRun) (new : Config) (w : World) →
+    none_waits old.run.parent ≡ true → audible f old ≡ true
+    → enter_block p.host x old.world ≡ runs_block s old.world w →
+    new ≡ record { run = record old.run { place = old.run.place + 1 }; captures = old.captures; world = w }
     → e ≡ record { stream = s; heard = true; value = false; wrap = None; saved = saved_of old.world }
     → Enters e new (call_block_of p f x old)
 block_entered p f old x s e new w waits heard enters moved is =
@@ -147,13 +213,15 @@ block_entered p f old x s e new w waits heard enters moved is =
     let goes : call_block_of p f x old ≡ entered d old.world mid =
     chosen (none_waits old.run.parent && audible f old) _ _ (both _ _ waits heard)
     ∙ ap (asked_in_place p f old old.run.operands) enters
-    ∙ ap (λ h. Nest (base_of h old.captures w) (start (whole s) old.captures w) (record { run = mid.run; call = call; value = false })) heard in
+    ∙ ap (λ h. Nest (base_of h old.captures w) (start (whole s) old.captures w) (record { run = mid.run; call = call; value = false }))
+    heard in
     same_entry e d old.world new is refl (call_block_of p f x old) (goes ∙ ap (entered d old.world) (sym moved))
 
 pub ruleset kinds = (silent, opened, shifted, wrote, needed)
 
 -- ---------------------------------------------------------------- behind a charge
-depths_paid : (limit : ℕ) (f : Base) (result : Result Flow Halt) (left : ℕ) (old new : World) → Depths limit f result (record old { fuel = left }) new → Depths limit f result old new
+depths_paid : (limit : ℕ) (f : Base) (result : Result Flow Halt) (left : ℕ) (old new : World) →
+    Depths limit f result (record old { fuel = left }) new → Depths limit f result old new
 depths_paid limit f (Ok flow.GoOn) left old new h = h
 depths_paid limit f (Ok flow.Done) left old new h = h
 depths_paid limit f (Ok (flow.Enter e)) left old new h = h
@@ -162,9 +230,12 @@ depths_paid limit f (Err why) left old new h = h
 abbrev paid_for : Config → ℕ → Config
 paid_for c left = record c { world = record c.world { fuel = left } }
 
-step_paid : {limit : ℕ} {told now : Option (List ℕ)} {faults count : ℕ} (p : Program) (f : Base) (x : Instruction) (old new : Config) (result : Result Flow Halt) (left : ℕ)
-    → slice_get (p.code old.run.stream) old.run.place ≡ Some x → pay x old.world ≡ Good tt (paid_for old left).world → KeepsIdAndFuel old.world (paid_for old left).world
-    → Performs limit f (effect p f x (paid_for old left)) (paid_for old left) new told now faults count result → Performs limit f (step p f old) old new told now faults count result
+step_paid : {limit : ℕ} {told now : Option (List ℕ)} {faults count : ℕ} (p : Program) (f : Base) (x : Instruction) (old new : Config)
+    (result : Result Flow Halt) (left : ℕ)
+    → slice_get (p.code old.run.stream) old.run.place ≡ Some x → pay x old.world ≡ Good tt (paid_for old left).world →
+    KeepsIdAndFuel old.world (paid_for old left).world
+    → Performs limit f (effect p f x (paid_for old left)) (paid_for old left) new told now faults count result →
+    Performs limit f (step p f old) old new told now faults count result
 step_paid {limit = limit} {told = told} {now = now} p f x old new result left found paid kept h =
     let same : step p f old ≡ effect p f x (paid_for old left) =
     ap (λ i. act p f i old) found ∙ ap (λ r. after r (λ _ w. effect p f x (with_world w old))) paid in
@@ -177,11 +248,15 @@ step_paid {limit = limit} {told = told} {now = now} p f x old new result left fo
     }
 
 -- an instruction did its part, behind its charge
-pub step_done : {limit : ℕ} {told now : Option (List ℕ)} {faults count : ℕ} (p : Program) (f : Base) (x : Instruction) (old mid new : Config) (result : Result Flow Halt)
-    → slice_get (p.code old.run.stream) old.run.place ≡ Some x → pay x old.world ≡ Good tt mid.world → KeepsIdAndFuel old.world mid.world → mid ≡ record old { world = record old.world { fuel = mid.world.fuel } }
-    → Performs limit f (effect p f x mid) mid new told now faults count result → Performs limit f (step p f old) old new told now faults count result
+pub step_done : {limit : ℕ} {told now : Option (List ℕ)} {faults count : ℕ} (p : Program) (f : Base) (x : Instruction)
+    (old mid new : Config) (result : Result Flow Halt)
+    → slice_get (p.code old.run.stream) old.run.place ≡ Some x → pay x old.world ≡ Good tt mid.world → KeepsIdAndFuel old.world mid.world →
+    mid ≡ record old { world = record old.world { fuel = mid.world.fuel } }
+    → Performs limit f (effect p f x mid) mid new told now faults count result →
+    Performs limit f (step p f old) old new told now faults count result
 step_done {limit = limit} {told = told} {now = now} {faults = faults} {count = count} p f x old mid new result found paid kept rest h =
-    step_paid p f x old new result mid.world.fuel found (paid ∙ ap (λ (c : Config). Good tt c.world) rest) (subst (λ (c : Config). KeepsIdAndFuel old.world c.world) rest kept)
+    step_paid p f x old new result mid.world.fuel found (paid
+    ∙ ap (λ (c : Config). Good tt c.world) rest) (subst (λ (c : Config). KeepsIdAndFuel old.world c.world) rest kept)
     (subst (λ (c : Config). Performs limit f (effect p f x c) c new told now faults count result) rest h)
 
 -- what stands at a place of a list

@@ -13,7 +13,8 @@ behind_behind : (s t : List ℕ) (o : Final) → behind s (behind t o) ≡ behin
 behind_behind s t o = ap (λ x. record { text = x; end = o.end }) (sym (append_assoc s t o.text))
 
 -- with more text before it
-pub shift : {p : Program} {f : Base} {t : List ℕ} {n : Next} {o : Final} → (s : List ℕ) → Leads p f t n o → Leads p f (s ++ t) n (behind s o)
+pub shift : {p : Program} {f : Base} {t : List ℕ} {n : Next} {o : Final} → (s : List ℕ) → Leads p f t n o →
+    Leads p f (s ++ t) n (behind s o)
 shift s (over e q) = over e (ap (behind s) q)
 shift {p = p} {f = f} {t = t} {o = o} s (more {d = d} {c = c} e l) =
     more e (subst (λ u. Leads p f u (step p f c) (behind s o)) (sym (append_assoc s t d)) (shift s l))
@@ -50,7 +51,12 @@ alone_nest {p = p} {f = f} {t = t} {back = back} {e = e} {o = o} at a b =
 
 pub alone : {p : Program} {f : Base} {t : List ℕ} {n : Next} {o : Final} → Leads p f t n o → Alone p f t n o
 alone {t = t} (over {e = x} e q) =
-    record { end = record { text = []; end = x }; leads = over e refl; same = q ∙ ap (λ u. record { text = u; end = x }) (sym (append-nil t)) }
+    record {
+      end = record { text = []; end = x };
+      leads = over e refl;
+      same = q
+          ∙ ap (λ u. record { text = u; end = x }) (sym (append-nil t));
+    }
 alone (more e l) = alone_more e (alone l)
 alone (nest e l r) = alone_nest e (alone l) (alone r)
 

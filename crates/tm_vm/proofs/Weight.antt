@@ -1,5 +1,6 @@
 -- Less is left of a run behind each step.
-use Rattle.std.proofs.Common.{◌≡◌, ℕ, zero, suc, ◌+◌, ◌*◌, ◌<◌, ◌≤◌, ◌⊎◌, inl, inr, List, [], ◌∷◌, length, Option, None, Some, Result, Ok, Err, Bool, true, false, ◌&&◌, nat_lt, slice_get, refl, ap, subst, arith}
+use Rattle.std.proofs.Common.{◌≡◌, ℕ, zero, suc, ◌+◌, ◌*◌, ◌<◌, ◌≤◌, ◌⊎◌, inl, inr, List, [], ◌∷◌, length, Option, None, Some, Result, Ok}
+use Rattle.std.proofs.Common.{Err, Bool, true, false, ◌&&◌, nat_lt, slice_get, refl, ap, subst, arith}
 use Rattle.std.proofs.Math.Nat.{mul-le-mul_right, suc-mul}
 use Rattle.tm_values.specs.Val.{Val, undefined}
 use Rattle.tm_values.specs.declared.escape.AutoEscape.{AutoEscape}
@@ -9,11 +10,15 @@ use Rattle.tm_syntax.specs.declared.instruction.Instruction.TheVariants as i
 use Rattle.tm_syntax.specs.declared.instruction.LoopPlace.{LoopPlace}
 use Rattle.tm_syntax.specs.declared.tree.BinaryOperator.TheVariants as binaries
 use Rattle.tm_syntax.specs.declared.tree.UnaryOperator.TheVariants as unaries
-use Rattle.tm_meaning.specs.World.{choose, World, Loop, HostValue, Res, Good, Bad, answered, emitted, looked_up, escape_for, items_over, unpacked_items, set_member, open_loop, top_mark, top_loop, push, plain}
+use Rattle.tm_meaning.specs.World.{choose, World, Loop, HostValue, Res, Good, Bad, answered, emitted, looked_up, escape_for, items_over}
+use Rattle.tm_meaning.specs.World.{unpacked_items, set_member, open_loop, top_mark, top_loop, push, plain}
 use Rattle.tm_meaning.specs.Calls.{Asked, has, refused, runs, recurs, call_named, call_first, call_innermost, enter_block}
 use Rattle.tm_meaning.specs.Meaning.{none_waits, truth, applied_unary, operated, attribute, item_at, slice_of}
-use Rattle.tm_meaning.specs.Instructions.{replaces_one, replaces_two, list_on, on_count, count_in, on_truth, iterate_with, end_capture_with, pop_auto_escape_with, is_no_loop, on_loop, pop_loop_with, returned, returns, with_text}
-use Rattle.tm_meaning.specs.Machine.{Activation, Capture, Return, Config, Program, End, Failed, Stuck, Next, More, Over, Nest, Back, after, on_top, on_taken, taken, on, with_world, writes, audible, new_capture, recursion, place_of_loop, asked, asked_in_place}
+use Rattle.tm_meaning.specs.Instructions.{replaces_one, replaces_two, list_on, on_count, count_in, on_truth, iterate_with, end_capture_with}
+use Rattle.tm_meaning.specs.Instructions.{pop_auto_escape_with, is_no_loop, on_loop, pop_loop_with, returned, returns, with_text}
+use Rattle.tm_meaning.specs.Machine.{Activation, Capture, Return, Config, Program, End, Failed, Stuck, Next, More, Over, Nest, Back, after}
+use Rattle.tm_meaning.specs.Machine.{on_top, on_taken, taken, on, with_world, writes, audible, new_capture, recursion, place_of_loop, asked}
+use Rattle.tm_meaning.specs.Machine.{asked_in_place}
 use Rattle.tm_meaning.specs.Steps.{charge_of, effect}
 use Rattle.tm_meaning.specs.declared.base.Base.{Base}
 use Rattle.tm_meaning.specs.declared.stream.TemplateId.{TemplateId}
@@ -30,13 +35,15 @@ less_returns size old new less =
     let unit : suc (returns_left new) * (size + 1) ≡ returns_left new * (size + 1) + (size + 1) = suc-mul (returns_left new) (size + 1) in
     omega (arith, more, unit)
 
-next_place : (size : ℕ) (old new : Config) → returns_left new ≤ returns_left old → new.run.place ≡ old.run.place + 1 → old.run.place < size → weight size new < weight size old
+next_place : (size : ℕ) (old new : Config) → returns_left new ≤ returns_left old → new.run.place ≡ old.run.place + 1 →
+    old.run.place < size → weight size new < weight size old
 next_place size old new left place within =
     let more : returns_left new * (size + 1) ≤ returns_left old * (size + 1) = mul-le-mul_right (size + 1) left in
     omega (arith, more, place, within)
 
 -- a nested run leaves no more fuel, and the loops of the run that waited
-pub less_behind : (size : ℕ) (old mid new : Config) → returns_left mid < returns_left old → new.world.fuel ≤ mid.world.fuel → new.run.loops ≡ mid.run.loops → weight size new < weight size old
+pub less_behind : (size : ℕ) (old mid new : Config) → returns_left mid < returns_left old → new.world.fuel ≤ mid.world.fuel →
+    new.run.loops ≡ mid.run.loops → weight size new < weight size old
 less_behind size old mid new less fuel same =
     let loops : pending new.run.loops ≡ pending mid.run.loops = ap pending same in
     less_returns size old new (omega (arith, less, fuel, loops))
@@ -47,11 +54,13 @@ module _ (Holds : Next → Type 0) (over : (e : End) → Holds (Over e)) where
   after_all (Good a w) next k = k a w
   after_all (Bad chain w) next k = over (Failed chain w)
 
-  on_top_all : (vs : List Val) (w : World) (next : Val → List Val → Next) → ((v : Val) (rest : List Val) → Holds (next v rest)) → Holds (on_top vs w next)
+  on_top_all : (vs : List Val) (w : World) (next : Val → List Val → Next) → ((v : Val) (rest : List Val) → Holds (next v rest)) →
+      Holds (on_top vs w next)
   on_top_all [] w next k = over (Stuck w)
   on_top_all (v ∷ vs) w next k = k v vs
 
-  on_taken_all : (r : Option (List Val × List Val)) (w : World) (next : List Val → List Val → Next) → ((vs rest : List Val) → Holds (next vs rest)) → Holds (on_taken r w next)
+  on_taken_all : (r : Option (List Val × List Val)) (w : World) (next : List Val → List Val → Next) →
+      ((vs rest : List Val) → Holds (next vs rest)) → Holds (on_taken r w next)
   on_taken_all None w next k = over (Stuck w)
   on_taken_all (Some r) w next k = k r.0 r.1
 
@@ -63,7 +72,8 @@ module _ (Holds : Next → Type 0) (over : (e : End) → Holds (Over e)) where
   choose_all true m n h k = h
   choose_all false m n h k = k
 
-  on_loop_all : (rs : List (Option Return)) (l : Option Loop) (w : World) (next : Loop → Next) → ((l : Loop) → Holds (next l)) → Holds (on_loop rs l w next)
+  on_loop_all : (rs : List (Option Return)) (l : Option Loop) (w : World) (next : Loop → Next) → ((l : Loop) → Holds (next l)) →
+      Holds (on_loop rs l w next)
   on_loop_all [] l w next k = over (Stuck w)
   on_loop_all (r ∷ rs) None w next k = over (Stuck w)
   on_loop_all (r ∷ rs) (Some l) w next k = k l
@@ -81,7 +91,8 @@ none_more : (n : ℕ) (c : Config) → pending c.run.loops ≤ pending c.run.loo
 none_more n c = omega arith
 
 one_replaced : (g : Val → World → Res Val) (c : Config) → Adds 1 c (replaces_one g c)
-one_replaced g c = on_top_all (Adds 1 c) (ends_adds 1 c) c.run.operands c.world _ (λ v vs. after_all (Adds 1 c) (ends_adds 1 c) (g v c.world) _ (λ x w. none_more 1 c))
+one_replaced g c = on_top_all (Adds 1 c) (ends_adds 1 c) c.run.operands c.world _
+    (λ v vs. after_all (Adds 1 c) (ends_adds 1 c) (g v c.world) _ (λ x w. none_more 1 c))
 
 two_replaced : (g : Val → Val → World → Res Val) (c : Config) → Adds 1 c (replaces_two g c)
 two_replaced g c =
@@ -89,21 +100,26 @@ two_replaced g c =
     after_all (Adds 1 c) (ends_adds 1 c) (g a b c.world) _ (λ x w. none_more 1 c)))
 
 written_adds : (n : ℕ) (c d : Config) (f : Base) (t : List ℕ) → d.run.loops ≡ c.run.loops → Adds n c (writes f t d)
-written_adds n c d f t same = choose_all (Adds n c) (ends_adds n c) (audible f d) _ _ (omega (arith, ap pending same)) (omega (arith, ap pending same))
+written_adds n c d f t same = choose_all (Adds n c) (ends_adds n c) (audible f d) _ _ (omega (arith, ap pending same))
+    (omega (arith, ap pending same))
 
 listed : (n k : ℕ) (us : List Val) (c : Config) → Adds n c (list_on k us c)
 listed n k us c = on_taken_all (Adds n c) (ends_adds n c) (taken k [] us) c.world _ (λ vs rest. none_more n c)
 
-on_truth_adds : (host : HostValue) (c : Config) (first other : Val → List Val → World → Next) → ((v : Val) (vs : List Val) (w : World) → Adds 1 c (first v vs w)) → ((v : Val) (vs : List Val) (w : World) → Adds 1 c (other v vs w)) →
+on_truth_adds : (host : HostValue) (c : Config) (first other : Val → List Val → World → Next) →
+    ((v : Val) (vs : List Val) (w : World) → Adds 1 c (first v vs w)) → ((v : Val) (vs : List Val) (w : World) → Adds 1 c (other v vs w)) →
     Adds 1 c (on_truth host c (λ b v vs w. choose b (λ _. first v vs w) (λ _. other v vs w)))
 on_truth_adds host c first other h k =
-    on_top_all (Adds 1 c) (ends_adds 1 c) c.run.operands c.world _ (λ v vs. after_all (Adds 1 c) (ends_adds 1 c) (truth host v c.world) _ (λ b w.
+    on_top_all (Adds 1 c) (ends_adds 1 c) c.run.operands c.world _
+    (λ v vs. after_all (Adds 1 c) (ends_adds 1 c) (truth host v c.world) _ (λ b w.
     choose_all (Adds 1 c) (ends_adds 1 c) b (first v vs w) (other v vs w) (h v vs w) (k v vs w)))
 
-recursion_adds : (p : Program) (c : Config) (value : Bool) (vs : List Val) (ks : List Capture) (n : ℕ) (l : Option LoopPlace) (items : List Val) (w : World) → Adds 1 c (recursion p c value vs ks n l items w)
+recursion_adds : (p : Program) (c : Config) (value : Bool) (vs : List Val) (ks : List Capture) (n : ℕ) (l : Option LoopPlace)
+    (items : List Val) (w : World) → Adds 1 c (recursion p c value vs ks n l items w)
 recursion_adds p c value vs ks n None items w = tt
 recursion_adds p c value vs ks n (Some l) items w =
-    choose_all (Adds 1 c) (ends_adds 1 c) l.flags.recursive _ _ (after_all (Adds 1 c) (ends_adds 1 c) (open_loop p.host items l.flags n w) _ (λ _ world1. omega arith)) tt
+    choose_all (Adds 1 c) (ends_adds 1 c) l.flags.recursive _ _
+    (after_all (Adds 1 c) (ends_adds 1 c) (open_loop p.host items l.flags n w) _ (λ _ world1. omega arith)) tt
 
 asked_adds : (p : Program) (c : Config) (vs : List Val) (a : Asked) → Adds 1 c (asked p c vs a)
 asked_adds p c vs (has v w) = none_more 1 c
@@ -117,11 +133,13 @@ asked_in_place_adds p f c vs (refused chain w) = tt
 asked_in_place_adds p f c vs (runs k w) = none_more 1 c
 asked_in_place_adds p f c vs (recurs n items w) = recursion_adds p c false vs c.captures n (place_of_loop p c n) items w
 
-text_adds : (n : ℕ) (c d : Config) (parent : Option TemplateId) (ks : List Capture) → pending d.run.loops ≤ pending c.run.loops + n → Adds n c (with_text parent ks d)
+text_adds : (n : ℕ) (c d : Config) (parent : Option TemplateId) (ks : List Capture) → pending d.run.loops ≤ pending c.run.loops + n →
+    Adds n c (with_text parent ks d)
 text_adds n c d parent [] h = tt
 text_adds n c d parent (k ∷ ks) h = h
 
-returns_adds : (n : ℕ) (c d : Config) (r : Return) (value : Bool) → pending d.run.loops ≤ pending c.run.loops + n → Adds n c (returns r value d)
+returns_adds : (n : ℕ) (c d : Config) (r : Return) (value : Bool) → pending d.run.loops ≤ pending c.run.loops + n →
+    Adds n c (returns r value d)
 returns_adds n c d r false h = h
 returns_adds n c d r true h = text_adds n c d r.parent d.captures h
 
@@ -146,20 +164,27 @@ escape_adds n c (e ∷ es) = none_more n c
 adds : (p : Program) (f : Base) (x : Instruction) (c : Config) → Adds (charge_of x) c (effect p f x c)
 adds p f (i.EmitRaw t) c = written_adds 1 c (on c.run.operands c) f t refl
 adds p f i.Emit c =
-    on_top_all (Adds 1 c) (ends_adds 1 c) c.run.operands c.world _ (λ v vs. after_all (Adds 1 c) (ends_adds 1 c) (emitted p.host v c.world) _ (λ t w. written_adds 1 c (on vs (with_world w c)) f t refl))
+    on_top_all (Adds 1 c) (ends_adds 1 c) c.run.operands c.world _
+    (λ v vs. after_all (Adds 1 c) (ends_adds 1 c) (emitted p.host v c.world) _
+    (λ t w. written_adds 1 c (on vs (with_world w c)) f t refl))
 adds p f (i.Lookup x) c = after_all (Adds 1 c) (ends_adds 1 c) (looked_up p.host x c.world) _ (λ v w. none_more 1 c)
 adds p f (i.LoadConst v) c = none_more 1 c
 adds p f (i.GetAttr x) c = one_replaced (λ v w. attribute p.host v x w) c
 adds p f i.GetItem c = two_replaced (item_at p.host) c
 adds p f i.Slice c =
-    on_top_all (Adds 1 c) (ends_adds 1 c) c.run.operands c.world _ (λ by vs. on_top_all (Adds 1 c) (ends_adds 1 c) vs c.world _ (λ stop us. on_top_all (Adds 1 c) (ends_adds 1 c) us c.world _ (λ start ts.
-    on_top_all (Adds 1 c) (ends_adds 1 c) ts c.world _ (λ v rest. after_all (Adds 1 c) (ends_adds 1 c) (slice_of p.host v start stop by c.world) _ (λ x w. none_more 1 c)))))
+    on_top_all (Adds 1 c) (ends_adds 1 c) c.run.operands c.world _
+    (λ by vs. on_top_all (Adds 1 c) (ends_adds 1 c) vs c.world _
+    (λ stop us. on_top_all (Adds 1 c) (ends_adds 1 c) us c.world _ (λ start ts.
+    on_top_all (Adds 1 c) (ends_adds 1 c) ts c.world _
+    (λ v rest. after_all (Adds 1 c) (ends_adds 1 c) (slice_of p.host v start stop by c.world) _ (λ x w. none_more 1 c)))))
 adds p f (i.BuildList None) c =
-    on_top_all (Adds 1 c) (ends_adds 1 c) c.run.operands c.world _ (λ v us. on_count_all (Adds 1 c) (ends_adds 1 c) (count_in v) c.world _ (λ n. listed 1 n us c))
+    on_top_all (Adds 1 c) (ends_adds 1 c) c.run.operands c.world _
+    (λ v us. on_count_all (Adds 1 c) (ends_adds 1 c) (count_in v) c.world _ (λ n. listed 1 n us c))
 adds p f (i.BuildList (Some n)) c = listed 1 n c.run.operands c
 adds p f (i.BuildTuple n) c = listed 1 n c.run.operands c
 adds p f (i.BuildMap n) c = on_taken_all (Adds 1 c) (ends_adds 1 c) (taken (n + n) [] c.run.operands) c.world _ (λ vs rest. none_more 1 c)
-adds p f (i.BuildKwargs n) c = on_taken_all (Adds 1 c) (ends_adds 1 c) (taken (n + n) [] c.run.operands) c.world _ (λ vs rest. none_more 1 c)
+adds p f (i.BuildKwargs n) c = on_taken_all (Adds 1 c) (ends_adds 1 c) (taken (n + n) [] c.run.operands) c.world _
+    (λ vs rest. none_more 1 c)
 adds p f i.Eq c = two_replaced (operated p.host binaries.Equal) c
 adds p f i.Ne c = two_replaced (operated p.host binaries.NotEqual) c
 adds p f i.Lt c = two_replaced (operated p.host binaries.Less) c
@@ -180,36 +205,48 @@ adds p f i.Rem c = two_replaced (operated p.host binaries.Remainder) c
 adds p f i.Pow c = two_replaced (operated p.host binaries.Power) c
 adds p f i.Neg c = one_replaced (applied_unary p.host unaries.Negate) c
 adds p f i.Not c = one_replaced (applied_unary p.host unaries.Not) c
-adds p f i.Swap c = on_top_all (Adds 1 c) (ends_adds 1 c) c.run.operands c.world _ (λ b vs. on_top_all (Adds 1 c) (ends_adds 1 c) vs c.world _ (λ a rest. none_more 1 c))
+adds p f i.Swap c = on_top_all (Adds 1 c) (ends_adds 1 c) c.run.operands c.world _
+    (λ b vs. on_top_all (Adds 1 c) (ends_adds 1 c) vs c.world _ (λ a rest. none_more 1 c))
 adds p f i.DupTop c = on_top_all (Adds 0 c) (ends_adds 0 c) c.run.operands c.world _ (λ v vs. none_more 0 c)
 adds p f i.DiscardTop c = on_top_all (Adds 0 c) (ends_adds 0 c) c.run.operands c.world _ (λ v vs. none_more 0 c)
 adds p f (i.Jump n) c = none_more 1 c
 adds p f (i.JumpIfFalse n) c = on_truth_adds p.host c _ _ (λ v vs w. none_more 1 c) (λ v vs w. none_more 1 c)
 adds p f (i.JumpIfFalseOrPop n) c = on_truth_adds p.host c _ _ (λ v vs w. none_more 1 c) (λ v vs w. none_more 1 c)
 adds p f (i.JumpIfTrueOrPop n) c = on_truth_adds p.host c _ _ (λ v vs w. none_more 1 c) (λ v vs w. none_more 1 c)
-adds p f (i.CallFunction x n) c = on_taken_all (Adds 1 c) (ends_adds 1 c) (taken n [] c.run.operands) c.world _ (λ vs rest. asked_adds p c rest (call_named p.host x vs c.world))
-adds p f (i.CallMethod x n) c = on_taken_all (Adds 1 c) (ends_adds 1 c) (taken n [] c.run.operands) c.world _ (λ vs rest. asked_adds p c rest (call_first p.host x vs c.world))
-adds p f i.FastRecurse c = on_top_all (Adds 1 c) (ends_adds 1 c) c.run.operands c.world _ (λ v vs. asked_in_place_adds p f c vs (call_innermost p.host v c.world))
+adds p f (i.CallFunction x n) c = on_taken_all (Adds 1 c) (ends_adds 1 c) (taken n [] c.run.operands) c.world _
+    (λ vs rest. asked_adds p c rest (call_named p.host x vs c.world))
+adds p f (i.CallMethod x n) c = on_taken_all (Adds 1 c) (ends_adds 1 c) (taken n [] c.run.operands) c.world _
+    (λ vs rest. asked_adds p c rest (call_first p.host x vs c.world))
+adds p f i.FastRecurse c = on_top_all (Adds 1 c) (ends_adds 1 c) c.run.operands c.world _
+    (λ v vs. asked_in_place_adds p f c vs (call_innermost p.host v c.world))
 adds p f (i.CallBlock b) c =
-    choose_all (Adds 1 c) (ends_adds 1 c) (none_waits c.run.parent && audible f c) _ _ (asked_in_place_adds p f c c.run.operands (enter_block p.host b c.world)) (none_more 1 c)
+    choose_all (Adds 1 c) (ends_adds 1 c) (none_waits c.run.parent && audible f c) _ _
+    (asked_in_place_adds p f c c.run.operands (enter_block p.host b c.world)) (none_more 1 c)
 adds p f (i.StoreLocal x) c = on_top_all (Adds 1 c) (ends_adds 1 c) c.run.operands c.world _ (λ v vs. none_more 1 c)
-adds p f (i.UnpackList n) c = on_top_all (Adds 1 c) (ends_adds 1 c) c.run.operands c.world _ (λ v vs. after_all (Adds 1 c) (ends_adds 1 c) (unpacked_items n v c.world) _ (λ xs w. none_more 1 c))
+adds p f (i.UnpackList n) c = on_top_all (Adds 1 c) (ends_adds 1 c) c.run.operands c.world _
+    (λ v vs. after_all (Adds 1 c) (ends_adds 1 c) (unpacked_items n v c.world) _ (λ xs w. none_more 1 c))
 adds p f (i.SetAttr x) c =
     on_top_all (Adds 1 c) (ends_adds 1 c) c.run.operands c.world _ (λ o vs. on_top_all (Adds 1 c) (ends_adds 1 c) vs c.world _ (λ v rest.
     after_all (Adds 1 c) (ends_adds 1 c) (set_member x v o c.world) _ (λ _ w. none_more 1 c)))
 adds p f i.PushWith c = after_all (Adds 0 c) (ends_adds 0 c) (push p.host (plain (undefined false)) c.world) _ (λ _ w. none_more 0 c)
-adds p f i.PopFrame c = choose_all (Adds 0 c) (ends_adds 0 c) (nat_lt f.scopes (length c.world.scopes.frames) && is_no_loop (top_mark c.world.scopes.frames)) _ _ (none_more 0 c) tt
+adds p f i.PopFrame c = choose_all (Adds 0 c) (ends_adds 0 c)
+    (nat_lt f.scopes (length c.world.scopes.frames) && is_no_loop (top_mark c.world.scopes.frames)) _ _ (none_more 0 c) tt
 adds p f (i.PushLoop flags) c =
-    on_top_all (Adds 0 c) (ends_adds 0 c) c.run.operands c.world _ (λ v vs. after_all (Adds 0 c) (ends_adds 0 c) (items_over p.host v c.world) _ (λ items w.
-    after_all (Adds 0 c) (ends_adds 0 c) (open_loop p.host items flags (loops_before c.run.place (p.code c.run.stream)) w) _ (λ _ world1. none_more 0 c)))
-adds p f (i.Iterate n) c = on_loop_all (Adds 1 c) (ends_adds 1 c) c.run.loops (top_loop c.world) c.world _ (λ l. iterated (slice_get l.items l.turns) n c)
+    on_top_all (Adds 0 c) (ends_adds 0 c) c.run.operands c.world _
+    (λ v vs. after_all (Adds 0 c) (ends_adds 0 c) (items_over p.host v c.world) _ (λ items w.
+    after_all (Adds 0 c) (ends_adds 0 c) (open_loop p.host items flags (loops_before c.run.place (p.code c.run.stream)) w) _
+    (λ _ world1. none_more 0 c)))
+adds p f (i.Iterate n) c = on_loop_all (Adds 1 c) (ends_adds 1 c) c.run.loops (top_loop c.world) c.world _
+    (λ l. iterated (slice_get l.items l.turns) n c)
 adds p f i.PushDidNotIterate c = on_loop_all (Adds 0 c) (ends_adds 0 c) c.run.loops (top_loop c.world) c.world _ (λ l. none_more 0 c)
 adds p f i.PopLoopFrame c =
     choose_all (Adds 0 c) (ends_adds 0 c) (nat_lt f.scopes (length c.world.scopes.frames)) _ _
     (on_loop_all (Adds 0 c) (ends_adds 0 c) c.run.loops (top_loop c.world) c.world _ (λ l. left_adds 0 c c.run.loops (omega arith))) tt
 adds p f (i.BeginCapture mode) c = none_more 0 c
-adds p f i.EndCapture c = choose_all (Adds 1 c) (ends_adds 1 c) (nat_lt c.run.floor (length c.captures)) _ _ (ended_capture 1 c c.captures) tt
-adds p f i.PushAutoEscape c = on_top_all (Adds 0 c) (ends_adds 0 c) c.run.operands c.world _ (λ v vs. after_all (Adds 0 c) (ends_adds 0 c) (answered (escape_for f.first v) c.world) _ (λ e w. none_more 0 c))
+adds p f i.EndCapture c = choose_all (Adds 1 c) (ends_adds 1 c) (nat_lt c.run.floor (length c.captures)) _ _
+    (ended_capture 1 c c.captures) tt
+adds p f i.PushAutoEscape c = on_top_all (Adds 0 c) (ends_adds 0 c) c.run.operands c.world _
+    (λ v vs. after_all (Adds 0 c) (ends_adds 0 c) (answered (escape_for f.first v) c.world) _ (λ e w. none_more 0 c))
 adds p f i.PopAutoEscape c = escape_adds 0 c c.run.escapes
 
 -- ---------------------------------------------------------------- free instructions
@@ -222,7 +259,8 @@ Onward c (Nest g d back) = ⊥
 ends_onward : (c : Config) (e : End) → Onward c (Over e)
 ends_onward c e = tt
 
-text_onward : (c d : Config) (parent : Option TemplateId) (ks : List Capture) → pending d.run.loops < pending c.run.loops → Onward c (with_text parent ks d)
+text_onward : (c d : Config) (parent : Option TemplateId) (ks : List Capture) → pending d.run.loops < pending c.run.loops →
+    Onward c (with_text parent ks d)
 text_onward c d parent [] h = tt
 text_onward c d parent (k ∷ ks) h = inr h
 
@@ -244,24 +282,30 @@ free_onward : (p : Program) (f : Base) (x : Instruction) (c : Config) → charge
 free_onward p f i.DupTop c free = on_top_all (Onward c) (ends_onward c) c.run.operands c.world _ (λ v rest. inl refl)
 free_onward p f i.DiscardTop c free = on_top_all (Onward c) (ends_onward c) c.run.operands c.world _ (λ v rest. inl refl)
 free_onward p f i.PushWith c free = after_all (Onward c) (ends_onward c) (push p.host (plain (undefined false)) c.world) _ (λ _ w. inl refl)
-free_onward p f i.PopFrame c free = choose_all (Onward c) (ends_onward c) (nat_lt f.scopes (length c.world.scopes.frames) && is_no_loop (top_mark c.world.scopes.frames)) _ _ (inl refl) tt
+free_onward p f i.PopFrame c free = choose_all (Onward c) (ends_onward c)
+    (nat_lt f.scopes (length c.world.scopes.frames) && is_no_loop (top_mark c.world.scopes.frames)) _ _ (inl refl) tt
 free_onward p f (i.PushLoop flags) c free =
-    on_top_all (Onward c) (ends_onward c) c.run.operands c.world _ (λ v rest. after_all (Onward c) (ends_onward c) (items_over p.host v c.world) _ (λ items w.
-    after_all (Onward c) (ends_onward c) (open_loop p.host items flags (loops_before c.run.place (p.code c.run.stream)) w) _ (λ _ world1. inl refl)))
+    on_top_all (Onward c) (ends_onward c) c.run.operands c.world _
+    (λ v rest. after_all (Onward c) (ends_onward c) (items_over p.host v c.world) _ (λ items w.
+    after_all (Onward c) (ends_onward c) (open_loop p.host items flags (loops_before c.run.place (p.code c.run.stream)) w) _
+    (λ _ world1. inl refl)))
 free_onward p f i.PushDidNotIterate c free = on_loop_all (Onward c) (ends_onward c) c.run.loops (top_loop c.world) c.world _ (λ l. inl refl)
 free_onward p f i.PopLoopFrame c free =
     choose_all (Onward c) (ends_onward c) (nat_lt f.scopes (length c.world.scopes.frames)) _ _
     (on_loop_all (Onward c) (ends_onward c) c.run.loops (top_loop c.world) c.world _ (λ l. left_onward c c.run.loops refl)) tt
 free_onward p f (i.BeginCapture mode) c free = inl refl
-free_onward p f i.PushAutoEscape c free = on_top_all (Onward c) (ends_onward c) c.run.operands c.world _ (λ v rest. after_all (Onward c) (ends_onward c) (answered (escape_for f.first v) c.world) _ (λ e w. inl refl))
+free_onward p f i.PushAutoEscape c free = on_top_all (Onward c) (ends_onward c) c.run.operands c.world _
+    (λ v rest. after_all (Onward c) (ends_onward c) (answered (escape_for f.first v) c.world) _ (λ e w. inl refl))
 free_onward p f i.PopAutoEscape c free = escape_onward c c.run.escapes
 free_onward p f _ c free = absurd cc
 
-free_enters_nothing : (p : Program) (f : Base) (x : Instruction) (c d : Config) (g : Base) (back : Back) → charge_of x ≡ 0 → effect p f x c ≡ Nest g d back → ⊥
+free_enters_nothing : (p : Program) (f : Base) (x : Instruction) (c d : Config) (g : Base) (back : Back) → charge_of x ≡ 0 →
+    effect p f x c ≡ Nest g d back → ⊥
 free_enters_nothing p f x c d g back free e = subst (λ n. Onward c n) e (free_onward p f x c free)
 
 -- ---------------------------------------------------------------- steps
-free_step : (size : ℕ) (old mid new : Config) → (new.run.place ≡ mid.run.place + 1) ⊎ (pending new.run.loops < pending mid.run.loops) → pending new.run.loops ≤ pending mid.run.loops + 0 →
+free_step : (size : ℕ) (old mid new : Config) → (new.run.place ≡ mid.run.place + 1) ⊎ (pending new.run.loops < pending mid.run.loops) →
+    pending new.run.loops ≤ pending mid.run.loops + 0 →
     new.world.fuel ≤ old.world.fuel → mid.run ≡ old.run → old.run.place < size → weight size new < weight size old
 free_step size old mid new (inl next) loops fuel same within =
     let held : pending mid.run.loops ≡ pending old.run.loops = ap (λ (r : Activation). pending r.loops) same in
@@ -271,29 +315,37 @@ free_step size old mid new (inr fewer) loops fuel same within =
     let held : pending mid.run.loops ≡ pending old.run.loops = ap (λ (r : Activation). pending r.loops) same in
     less_returns size old new (omega (arith, fewer, fuel, held))
 
-went_on : (size n : ℕ) (p : Program) (f : Base) (x : Instruction) (old mid new : Config) (t : List ℕ) → charge_of x ≡ n → mid.world.fuel + n ≡ old.world.fuel → mid.run ≡ old.run →
+went_on : (size n : ℕ) (p : Program) (f : Base) (x : Instruction) (old mid new : Config) (t : List ℕ) → charge_of x ≡ n →
+    mid.world.fuel + n ≡ old.world.fuel → mid.run ≡ old.run →
     old.run.place < size → new.world.fuel ≤ mid.world.fuel → effect p f x mid ≡ More t new → weight size new < weight size old
 went_on size zero p f x old mid new t charge paid same within less e =
     let onward = subst (λ n. Onward mid n) e (free_onward p f x mid charge) in
-    let loops = subst (λ k. pending new.run.loops ≤ pending mid.run.loops + k) charge (subst (λ n. Adds (charge_of x) mid n) e (adds p f x mid)) in
+    let loops = subst (λ k. pending new.run.loops ≤ pending mid.run.loops + k) charge
+    (subst (λ n. Adds (charge_of x) mid n) e (adds p f x mid)) in
     free_step size old mid new onward loops (omega (arith, paid, less)) same within
 went_on size (suc n) p f x old mid new t charge paid same within less e =
     let held : pending mid.run.loops ≡ pending old.run.loops = ap (λ (r : Activation). pending r.loops) same in
-    let loops : pending new.run.loops ≤ pending mid.run.loops + suc n = subst (λ k. pending new.run.loops ≤ pending mid.run.loops + k) charge (subst (λ n. Adds (charge_of x) mid n) e (adds p f x mid)) in
+    let loops : pending new.run.loops ≤ pending mid.run.loops + suc n = subst
+    (λ k. pending new.run.loops ≤ pending mid.run.loops + k) charge (subst (λ n. Adds (charge_of x) mid n) e (adds p f x mid)) in
     less_returns size old new (omega (arith, paid, less, held, loops))
 
-entered : (n : ℕ) (p : Program) (f g : Base) (x : Instruction) (old mid new d : Config) (back : Back) → charge_of x ≡ n → mid.world.fuel + n ≡ old.world.fuel → mid.run ≡ old.run →
+entered : (n : ℕ) (p : Program) (f g : Base) (x : Instruction) (old mid new d : Config) (back : Back) → charge_of x ≡ n →
+    mid.world.fuel + n ≡ old.world.fuel → mid.run ≡ old.run →
     new.world.fuel ≤ mid.world.fuel → effect p f x mid ≡ Nest g d back → back.run ≡ new.run → returns_left new < returns_left old
 entered zero p f g x old mid new d back charge paid same less e waits = absurd (free_enters_nothing p f x mid d g back charge e)
 entered (suc n) p f g x old mid new d back charge paid same less e waits =
     let held : pending mid.run.loops ≡ pending old.run.loops = ap (λ (r : Activation). pending r.loops) same in
     let wait : pending back.run.loops ≡ pending new.run.loops = ap (λ (r : Activation). pending r.loops) waits in
-    let loops : pending back.run.loops ≤ pending mid.run.loops + suc n = subst (λ k. pending back.run.loops ≤ pending mid.run.loops + k) charge (subst (λ n. Adds (charge_of x) mid n) e (adds p f x mid)) in
+    let loops : pending back.run.loops ≤ pending mid.run.loops + suc n = subst
+    (λ k. pending back.run.loops ≤ pending mid.run.loops + k) charge (subst (λ n. Adds (charge_of x) mid n) e (adds p f x mid)) in
     omega (arith, paid, less, held, wait, loops)
 
-pub paid_for : {limit : ℕ} {f : Base} {told now : Option (List ℕ)} {faults count : ℕ} (size : ℕ) (p : Program) (x : Instruction) (old mid new : Config) (result : Result Flow Halt) →
-    mid.world.fuel + charge_of x ≡ old.world.fuel → mid.run ≡ old.run → old.run.place < size → Performs limit f (effect p f x mid) mid new told now faults count result → Paid size result old new
-paid_for {f = f} size p x old mid new (Ok flow.GoOn) paid same within did = went_on size (charge_of x) p f x old mid new _ refl paid same within did.kept.no_more_fuel did.did.0
+pub paid_for : {limit : ℕ} {f : Base} {told now : Option (List ℕ)} {faults count : ℕ} (size : ℕ) (p : Program) (x : Instruction)
+    (old mid new : Config) (result : Result Flow Halt) →
+    mid.world.fuel + charge_of x ≡ old.world.fuel → mid.run ≡ old.run → old.run.place < size →
+    Performs limit f (effect p f x mid) mid new told now faults count result → Paid size result old new
+paid_for {f = f} size p x old mid new (Ok flow.GoOn) paid same within did = went_on size
+    (charge_of x) p f x old mid new _ refl paid same within did.kept.no_more_fuel did.did.0
 paid_for {f = f} size p x old mid new (Ok (flow.Enter e)) paid same within did =
     let enters = did.did.0 in entered (charge_of x) p f _ x old mid new _ _ refl paid same did.kept.no_more_fuel enters.2 refl
 paid_for size p x old mid new (Ok flow.Done) paid same within did = tt

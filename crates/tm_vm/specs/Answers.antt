@@ -1,11 +1,13 @@
 -- What the machine's functions answer, beside what the definitions say.
-use Rattle.std.specs.Prelude.{◌≡◌, ◌+◌, ◌<◌, ◌≤◌, ◌^◌, ◌-◌, ◌*◌, ℕ, List, [], ◌∷◌, length, Option, None, Some, Result, Ok, Err, Bool, true, false}
+use Rattle.std.specs.Prelude.{◌≡◌, ◌+◌, ◌<◌, ◌≤◌, ◌^◌, ◌-◌, ◌*◌, ℕ, List, [], ◌∷◌, length, Option, None, Some, Result, Ok, Err, Bool, true}
+use Rattle.std.specs.Prelude.{false}
 use Rattle.std.specs.Io.KnownBytes.{Appends}
 use Rattle.tm_meaning.specs.Memory.{is_want_of_memory}
 use Rattle.tm_syntax.specs.declared.instruction.Instruction.{Instruction}
 use Rattle.tm_meaning.specs.World.{World, HostValue, depth}
 use Rattle.tm_meaning.specs.Calls.{whole, of_block}
-use Rattle.tm_meaning.specs.Machine.{Return, Activation, Capture, Config, End, Finished, Failed, Stuck, Next, More, Over, Nest, Program, base_of, start, recursion, place_of_loop}
+use Rattle.tm_meaning.specs.Machine.{Return, Activation, Capture, Config, End, Finished, Failed, Stuck, Next, More, Over, Nest, Program}
+use Rattle.tm_meaning.specs.Machine.{base_of, start, recursion, place_of_loop}
 use Rattle.tm_state.specs.declared.calls.Recursion.{Recursion}
 use Rattle.tm_meaning.specs.Instructions.{jump_if_true_or_pop_of, jump_if_false_or_pop_of}
 use Rattle.tm_meaning.specs.Steps.{Reaches, final}
@@ -57,7 +59,8 @@ entered e b c =
 abbrev pub Enters : NestedRun → Config → Next → Type 0
 Enters e c n = (b : World) × (e.saved ≡ saved_of b) × (n ≡ entered e b c)
 
--- A step was done, of which the writer got the text; or it first needs a run of its own; or the run is over by it; or it halted, and the writer got a beginning.
+-- A step was done, of which the writer got the text; or it first needs a run of its own; or the run is over by it; or it halted, and the
+-- writer got a beginning.
 abbrev pub Did : Result Flow Halt → Option (List ℕ) → Option (List ℕ) → Config → Next → Type 0
 Did (Ok flow.GoOn) told now c n = (n ≡ More (output n) c) × Appends told now (output n)
 Did (Ok flow.Done) told now c n = (n ≡ Over (Finished c.captures c.world)) × (now ≡ told)
@@ -74,7 +77,8 @@ NoFewer old new = (length old.scopes.frames ≤ length new.scopes.frames) × (ne
 
 -- No scope that stood before the run is left, and they stand where they stood.
 abbrev pub KeepsBaseScopes : Base → World → World → Type 0
-KeepsBaseScopes f old new = (f.scopes ≤ length old.scopes.frames → f.scopes ≤ length new.scopes.frames) × (new.scopes.outer ≡ old.scopes.outer)
+KeepsBaseScopes f old new = (f.scopes ≤ length old.scopes.frames → f.scopes ≤ length new.scopes.frames)
+    × (new.scopes.outer ≡ old.scopes.outer)
 
 -- There is a scope more, within the limit, for a run that is needed first. What it saves says how many there were, and where they stood.
 abbrev pub OneDeeper : ℕ → NestedRun → World → World → Type 0
@@ -82,15 +86,18 @@ OneDeeper limit e old new =
     (length new.scopes.frames ≡ length old.scopes.frames + 1) × (new.scopes.outer ≡ old.scopes.outer) ×
     (e.saved.scopes ≡ length old.scopes.frames) × (e.saved.outer ≡ old.scopes.outer) × (depth new.scopes ≤ limit)
 
--- How the scopes lie behind a step: none of before is left; there is one more, within the limit, where a run of its own is needed; and a run that is over has closed what it opened.
+-- How the scopes lie behind a step: none of before is left; there is one more, within the limit, where a run of its own is needed; and a
+-- run that is over has closed what it opened.
 abbrev pub Depths : ℕ → Base → Result Flow Halt → World → World → Type 0
 Depths limit f (Ok flow.GoOn) old new = KeepsBaseScopes f old new
 Depths limit f (Ok flow.Done) old new = KeepsBaseScopes f old new × (f.scopes ≡ length new.scopes.frames)
 Depths limit f (Ok (flow.Enter e)) old new = OneDeeper limit e.value old new
 Depths limit f (Err why) old new = KeepsBaseScopes f old new
 
--- An instruction, or a step, did what its definition says: by its answer, with the writer that had got `told` and has got `now`, and whose count of faults was `faults` and is `count`.
-pub record Performs (limit : ℕ) (f : Base) (n : Next) (old new : Config) (told now : Option (List ℕ)) (faults count : ℕ) (result : Result Flow Halt) : Type 0 where
+-- An instruction, or a step, did what its definition says: by its answer, with the writer that had got `told` and has got `now`, and whose
+-- count of faults was `faults` and is `count`.
+pub record Performs (limit : ℕ) (f : Base) (n : Next) (old new : Config) (told now : Option (List ℕ)) (faults count : ℕ)
+    (result : Result Flow Halt) : Type 0 where
   pub did : Did result told now new n
   pub counted : count ≡ faults_after result faults
   pub kept : KeepsIdAndFuel old.world new.world
@@ -197,7 +204,14 @@ called place floor value r =
       operands = [];
       escapes = [];
       floor = floor;
-      loops = Some (record { place = r.place + 1; operands = r.operands; escapes = r.escapes; floor = r.floor; parent = r.parent; value = value }) ∷ r.loops;
+      loops = Some (record {
+        place = r.place + 1;
+        operands = r.operands;
+        escapes = r.escapes;
+        floor = r.floor;
+        parent = r.parent;
+        value = value;
+      }) ∷ r.loops;
     }
 
 -- a run that goes on where a loop was called

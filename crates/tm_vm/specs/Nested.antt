@@ -6,7 +6,8 @@ use Rattle.tm_meaning.specs.Memory.{is_want_of_memory}
 use Rattle.tm_values.specs.declared.error.ErrorKind.TheVariants.{OutOfMemory}
 use Rattle.tm_meaning.specs.Calls.{whole, wrapped}
 use Rattle.tm_meaning.specs.declared.wrapping.Wrapping.{Wrapping}
-use Rattle.tm_meaning.specs.Machine.{Activation, Capture, Config, End, Finished, Failed, Stuck, Next, More, Over, Program, back_with, stuck, base_of, start}
+use Rattle.tm_meaning.specs.Machine.{Activation, Capture, Config, End, Finished, Failed, Stuck, Next, More, Over, Program, back_with, stuck}
+use Rattle.tm_meaning.specs.Machine.{base_of, start}
 use Rattle.tm_meaning.specs.Steps.{Final, Reaches, final}
 use Rattle.tm_meaning.specs.declared.base.Base.{Base}
 use Rattle.tm_output.specs.Counts.{AppendsBeginning}

@@ -4,7 +4,7 @@ ghost use Rattle.tm_meaning.specs.Machine.{goes};
 ghost use Rattle.tm_meaning.specs.Instructions.{call_function_of, call_method_of, call_block_of, fast_recurse_of};
 ghost use Rattle.tm_vm.specs.Answers.{program, recurses, CanGoOn, Silently, Opens, Needs};
 
-use crate::flow::{NestedRun, Flow};
+use crate::flow::{Flow, NestedRun};
 use crate::machine::Machine;
 use std::alloc::Global;
 use tm_meaning::Base;

@@ -13,5 +13,5 @@ mod run;
 mod scopes;
 mod steps;
 
-pub use flow::{NestedRun, Flow};
+pub use flow::{Flow, NestedRun};
 pub use machine::Machine;

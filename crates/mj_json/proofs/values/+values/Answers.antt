@@ -14,6 +14,9 @@ members_of-loop-key-preserved t c =
     let key = c.in-Some.key.now in
     let left = c.next.new.self in
     let named : c.in_ok-key.key ≡ text (string_bytes key) false =
-    subst (λ r. OkOrOutOfMemory r (λ v. v ≡ text c.as_str.result.now false)) c.in_ok-key.ensures c.text.ensures ∙ ap (λ s. text s false) c.as_str.ensures.value in
+    subst (λ r. OkOrOutOfMemory r (λ v. v ≡ text c.as_str.result.now false)) c.in_ok-key.ensures c.text.ensures
+    ∙ ap (λ s. text s false) c.as_str.ensures.value in
     let leaves = subst (λ es. Leaves done (members_of (members_view es)) whole) c.in-Some.ensures.steps c.loop-key.invariant in
-    rw (c.in_ok-push.ensures.items, named) (next_done (λ v. (text (string_bytes key) false, v)) done (value_of (view c.in-Some.member.now)) c.in_ok-value_of.field-0 (members_of (members_view left)) whole c.in_ok-value_of.ensures leaves)
+    rw (c.in_ok-push.ensures.items, named)
+    (next_done (λ v. (text (string_bytes key) false, v)) done (value_of (view c.in-Some.member.now)) c.in_ok-value_of.field-0
+    (members_of (members_view left)) whole c.in_ok-value_of.ensures leaves)

@@ -5,4 +5,5 @@ use Rattle.mj_run.proofs.render.context.Given as goal
 
 -- the pairs of the texts that are left are left
 abbrev pub invariant-loop-name : goal.invariant-loop-name
-invariant-loop-name l = l.members.items ++ map pair_of (map plain (drop l.name-index l.texts)) ≡ l.fn.members.items ++ map pair_of (map plain l.texts)
+invariant-loop-name l = l.members.items ++ map pair_of (map plain (drop l.name-index l.texts))
+    ≡ l.fn.members.items ++ map pair_of (map plain l.texts)

@@ -12,7 +12,8 @@ returns g c = λ members given.
     let a = asked_of c.args.arguments.now in
     let put = c.in_ok-add_template_owned.ensures.ok in
     let start = started a c.limit.result _ _ _ c.requires.new c.set_fuel.ensures c.set_recursion_limit.ensures c.limit.ensures in
-    let means = is_meant _ input _ _ put.0 c.in_ok-template.template c.args.context (λ e. none_of _ _ e) start put.1 put.2 c.in_ok-template.ensures given in
+    let means = is_meant _ input _ _ put.0 c.in_ok-template.template c.args.context
+    (λ e. none_of _ _ e) start put.1 put.2 c.in_ok-template.ensures given in
     c.render_template.ensures input means
 
 -- the source was refused
@@ -22,7 +23,8 @@ returns-in_err-add_template_owned g c = λ members given.
     let start = started a c.limit.result _ _ _ c.requires.new c.set_fuel.ensures c.set_recursion_limit.ensures c.limit.ensures in
     let r = c.in_err-add_template_owned in
     passed c.from_residual.result _ _ r.field-0.0 c.from_residual.ensures.1
-    (is_refused g.O.Write.contents (input_of c.args.arguments.now members (string_bytes c.args.source)) _ r.field-0.0 c.args.out.now (ap (λ (e : EnvironmentValue _). e.syntax) start) r.ensures.refused)
+    (is_refused g.O.Write.contents (input_of c.args.arguments.now members (string_bytes c.args.source)) _ r.field-0.0 c.args.out.now
+    (ap (λ (e : EnvironmentValue _). e.syntax) start) r.ensures.refused)
 
 -- the template is found, since it was put
 pub returns-in_err-template : goal.returns-in_err-template

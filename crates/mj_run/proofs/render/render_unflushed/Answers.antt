@@ -8,4 +8,5 @@ pub returns-in_err-context : goal.returns-in_err-context
 returns-in_err-context g c =
     let r = c.in_err-context in
     passed c.from_residual.result _ _ r.field-0.0 c.from_residual.ensures.1
-    (is_memory g.O.Write.contents (input_of c.args.arguments.now c.args.members.items (string_bytes c.args.source)) r.field-0.0 c.args.out.now r.ensures)
+    (is_memory g.O.Write.contents (input_of c.args.arguments.now c.args.members.items (string_bytes c.args.source)) r.field-0.0
+    c.args.out.now r.ensures)

@@ -8,8 +8,13 @@ use Rattle.mj_words.proofs.tell.write_error.Goals as goal
 
 pub returns-in-Err : goal.returns-in-Err
 returns-in-Err g c =
-    let kinds = causes_of c.args.error.now in
-    (c.kind.result, kinds, c.kind.ensures, written_first g.E.Write.contents c.in-Err.fault c.args.err.now c.write_line.new.err (line (codes "error: ") c.kind.result) (causes kinds) c.in-Err.ensures)
+    let kinds = causes_of c.args.error.now in (
+      c.kind.result,
+      kinds,
+      c.kind.ensures,
+      written_first g.E.Write.contents c.in-Err.fault c.args.err.now c.write_line.new.err (line (codes "error: ") c.kind.result)
+          (causes kinds) c.in-Err.ensures,
+    )
 
 pub loop-next-init : goal.loop-next-init
 loop-next-init g c = record {
@@ -28,13 +33,17 @@ returns-in-Err-write_line g c =
       c.kind.result,
       kinds,
       c.kind.ensures,
-      written_then contents (Err fault) c.args.err.now c.write_line.new.err new (line (codes "error: ") c.kind.result) (causes kinds) c.in_default.ensures
-          (tell_failed contents fault c.write_line.new.err c.loop-next.err new c.loop-next.next (causes kinds) c.loop-next.invariant c.in-Some.cause c.kind-in-Some.result c.in-Some.is c.kind-in-Some.ensures c.in-Err-write_line.ensures),
+      written_then contents (Err fault) c.args.err.now c.write_line.new.err new (line (codes "error: ") c.kind.result)
+          (causes kinds) c.in_default.ensures
+          (tell_failed contents fault c.write_line.new.err c.loop-next.err new c.loop-next.next
+          (causes kinds) c.loop-next.invariant c.in-Some.cause c.kind-in-Some.result c.in-Some.is c.kind-in-Some.ensures
+          c.in-Err-write_line.ensures),
     )
 
 pub loop-next-preserved : goal.loop-next-preserved
 loop-next-preserved g c =
-    tell_next g.E.Write.contents c.write_line.new.err c.loop-next.err c.write_line-in-Some.new.err c.loop-next.next c.cause-next-in-Some.result (causes (causes_of c.args.error.now)) c.loop-next.invariant
+    tell_next g.E.Write.contents c.write_line.new.err c.loop-next.err c.write_line-in-Some.new.err c.loop-next.next
+    c.cause-next-in-Some.result (causes (causes_of c.args.error.now)) c.loop-next.invariant
     c.in-Some.cause c.kind-in-Some.result c.in-Some.is c.kind-in-Some.ensures c.in_default-write_line.ensures
     (chain_of_cause c.cause-next-in-Some.result c.in-Some.cause.now c.cause-next-in-Some.ensures)
 
@@ -46,6 +55,8 @@ returns g c =
       c.kind.result,
       kinds,
       c.kind.ensures,
-      written_then contents {E = Unit {0}} (Ok tt) c.args.err.now c.write_line.new.err last (line (codes "error: ") c.kind.result) (causes kinds) c.in_default.ensures
-          (told_all contents c.write_line.new.err last c.loop-next.next (causes kinds) c.loop-next.invariant (ap chain_in c.in_default-next.is)),
+      written_then contents {E = Unit {0}} (Ok tt) c.args.err.now c.write_line.new.err last (line (codes "error: ") c.kind.result)
+          (causes kinds) c.in_default.ensures
+          (told_all contents c.write_line.new.err last c.loop-next.next (causes kinds) c.loop-next.invariant
+          (ap chain_in c.in_default-next.is)),
     )

@@ -10,7 +10,9 @@ returns-in-Err g c =
     let one = c.write_text.new.sink in
     let first = c.write_text.ensures in
     written_first contents c.in-Err.fault old one c.args.word.now (kind_name c.args.kind ++ 10 ∷ [])
-    (text_written contents c.write_text.result (Err c.in-Err.fault) old one c.as_bytes.result.now c.args.word.now first.written first.no_fault first.beginning first.fault c.in-Err.is c.as_bytes.ensures.value)
+    (text_written contents c.write_text.result
+    (Err c.in-Err.fault) old one c.as_bytes.result.now c.args.word.now first.written first.no_fault first.beginning first.fault
+    c.in-Err.is c.as_bytes.ensures.value)
 
 pub returns-in-Err-write_text : goal.returns-in-Err-write_text
 returns-in-Err-write_text g c =
@@ -24,9 +26,13 @@ returns-in-Err-write_text g c =
     let name = kind_name c.args.kind in
     let fault = c.in-Err-write_text.fault in
     written_then contents (Err fault) old one two word (name ++ 10 ∷ [])
-    (text_written contents c.write_text.result (Ok c.in_default.field-0) old one c.as_bytes.result.now word first.written first.no_fault first.beginning first.fault c.in_default.is c.as_bytes.ensures.value)
+    (text_written contents c.write_text.result
+    (Ok c.in_default.field-0) old one c.as_bytes.result.now word first.written first.no_fault first.beginning first.fault
+    c.in_default.is c.as_bytes.ensures.value)
     (written_first contents fault one two name (10 ∷ [])
-    (text_written contents c.write_text-2.result (Err fault) one two c.as_bytes-2.result.now name second.written second.no_fault second.beginning second.fault c.in-Err-write_text.is (c.as_bytes-2.ensures.value ∙ c.name.ensures)))
+    (text_written contents c.write_text-2.result
+    (Err fault) one two c.as_bytes-2.result.now name second.written second.no_fault second.beginning second.fault c.in-Err-write_text.is
+    (c.as_bytes-2.ensures.value ∙ c.name.ensures)))
 
 pub returns : goal.returns
 returns g c =
@@ -42,7 +48,11 @@ returns g c =
     let name = kind_name c.args.kind in
     let answer = c.write_text-3.result in
     written_then contents answer old one three word (name ++ 10 ∷ [])
-    (text_written contents c.write_text.result (Ok c.in_default.field-0) old one c.as_bytes.result.now word first.written first.no_fault first.beginning first.fault c.in_default.is c.as_bytes.ensures.value)
+    (text_written contents c.write_text.result
+    (Ok c.in_default.field-0) old one c.as_bytes.result.now word first.written first.no_fault first.beginning first.fault
+    c.in_default.is c.as_bytes.ensures.value)
     (written_then contents answer one two three name (10 ∷ [])
-    (text_written contents c.write_text-2.result (Ok c.in_default-write_text.field-0) one two c.as_bytes-2.result.now name second.written second.no_fault second.beginning second.fault c.in_default-write_text.is (c.as_bytes-2.ensures.value ∙ c.name.ensures))
+    (text_written contents c.write_text-2.result
+    (Ok c.in_default-write_text.field-0) one two c.as_bytes-2.result.now name second.written second.no_fault second.beginning
+    second.fault c.in_default-write_text.is (c.as_bytes-2.ensures.value ∙ c.name.ensures))
     (text_written contents answer answer two three (10 ∷ []) (10 ∷ []) third.written third.no_fault third.beginning third.fault refl refl))

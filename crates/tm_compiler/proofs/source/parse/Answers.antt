@@ -13,5 +13,6 @@ returns-in_err-tokens-clause-refused c =
 
 pub returns-clause-refused : goal.returns-clause-refused
 returns-clause-refused c =
-    let found = subst (SpellsTokens c.args.syntax.now (rc_str_bytes c.args.source.now)) (sym c.deref.ensures.value) c.in_ok-tokens.ensures.found in
+    let found = subst (SpellsTokens c.args.syntax.now (rc_str_bytes c.args.source.now))
+    (sym c.deref.ensures.value) c.in_ok-tokens.ensures.found in
     refused_result c.parse_tokens.result (no_tree c.args.syntax.now (rc_str_bytes c.args.source.now) _ found) c.parse_tokens.ensures.refused

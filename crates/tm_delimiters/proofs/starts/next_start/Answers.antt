@@ -4,7 +4,8 @@ use Rattle.tm_delimiters.proofs.starts.next_start.Goals as goal
 
 pub returns-clause-first : goal.returns-clause-first
 returns-clause-first c =
-    found_none c.args.syntax.now c.args.bytes.now c.as_bytes.result.now c.as_bytes-2.result.now c.as_bytes-3.result.now c.loop-at.from c.requires.usable
+    found_none c.args.syntax.now c.args.bytes.now c.as_bytes.result.now c.as_bytes-2.result.now c.as_bytes-3.result.now c.loop-at.from
+    c.requires.usable
     (sym (c.as_bytes.ensures.value ∙ c.start.ensures)) (sym (c.as_bytes-2.ensures.value ∙ c.start-2.ensures))
     (sym (c.as_bytes-3.ensures.value ∙ c.start-3.ensures))
     c.loop-at.invariant.1 c.in_default.ensures
@@ -12,7 +13,8 @@ returns-clause-first c =
 pub returns-then-begins-clause-first : goal.returns-then-begins-clause-first
 returns-then-begins-clause-first c =
     let here =
-    found_at c.args.syntax.now c.args.bytes.now c.as_bytes.result.now c.as_bytes-2.result.now c.as_bytes-3.result.now c.loop-at.from c.in-Some.at c.requires.usable
+    found_at c.args.syntax.now c.args.bytes.now c.as_bytes.result.now c.as_bytes-2.result.now c.as_bytes-3.result.now c.loop-at.from
+    c.in-Some.at c.requires.usable
     (sym (c.as_bytes.ensures.value ∙ c.start.ensures)) (sym (c.as_bytes-2.ensures.value ∙ c.start-2.ensures))
     (sym (c.as_bytes-3.ensures.value ∙ c.start-3.ensures))
     c.loop-at.invariant.1 c.in-Some.ensures.0 in (
@@ -23,7 +25,8 @@ returns-then-begins-clause-first c =
 pub loop-at-preserved : goal.loop-at-preserved
 loop-at-preserved c =
     let here =
-    found_at c.args.syntax.now c.args.bytes.now c.as_bytes.result.now c.as_bytes-2.result.now c.as_bytes-3.result.now c.loop-at.from c.in-Some.at c.requires.usable
+    found_at c.args.syntax.now c.args.bytes.now c.as_bytes.result.now c.as_bytes-2.result.now c.as_bytes-3.result.now c.loop-at.from
+    c.in-Some.at c.requires.usable
     (sym (c.as_bytes.ensures.value ∙ c.start.ensures)) (sym (c.as_bytes-2.ensures.value ∙ c.start-2.ensures))
     (sym (c.as_bytes-3.ensures.value ∙ c.start-3.ensures))
     c.loop-at.invariant.1 c.in-Some.ensures.0 in (
@@ -38,7 +41,8 @@ returns-then-begins-clause-boundary c =
     let variable = c.as_bytes-2.ensures.value ∙ c.start-2.ensures in
     let comment = c.as_bytes-3.ensures.value ∙ c.start-3.ensures in
     let here =
-    found_at c.args.syntax.now c.args.bytes.now c.as_bytes.result.now c.as_bytes-2.result.now c.as_bytes-3.result.now c.loop-at.from c.in-Some.at c.requires.usable
+    found_at c.args.syntax.now c.args.bytes.now c.as_bytes.result.now c.as_bytes-2.result.now c.as_bytes-3.result.now c.loop-at.from
+    c.in-Some.at c.requires.usable
     (sym block) (sym variable) (sym comment) c.loop-at.invariant.1 c.in-Some.ensures.0 in
     boundary_at c.args.syntax.now c.args.bytes.now (c.loop-at.from + c.in-Some.at) c.requires.usable (rw block at c.as_bytes.ensures.utf8)
     (rw variable at c.as_bytes-2.ensures.utf8) (rw comment at c.as_bytes-3.ensures.utf8) (omega (arith, here.0))

@@ -8,7 +8,8 @@ use Rattle.tm_operations.proofs.iteration.characters.Goals as goal
 -- at the end every character has come
 pub returns : goal.returns
 returns c =
-    let end = YieldsList-end (YieldsList-from_chars c.args.content.now c.utf8.content cc) c.loop-character.yielded _ c.loop-character.yielded_by _ _ c.in-None.is c.next.ensures.steps in
+    let end = YieldsList-end (YieldsList-from_chars c.args.content.now c.utf8.content cc) c.loop-character.yielded _
+    c.loop-character.yielded_by _ _ c.in-None.is c.next.ensures.steps in
     let texts : character_texts c.loop-character.yielded
     ≡ character_texts (chars c.args.content.now) = ap character_texts (sym (map-id c.loop-character.yielded) ∙ end.0) in
     let stored = c.in_ok-new.ensures.ok in

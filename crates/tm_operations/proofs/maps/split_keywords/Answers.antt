@@ -19,5 +19,6 @@ returns-in-Keywords-clause-keywords c =
 pub returns-in_default-node : goal.returns-in_default-node
 returns-in_default-node c =
     let whole : c.args.arguments.now ≡ c.in-Some.before.now ++ c.in-Some.last.now ∷ [] = search rules in
-    let stays = unsplit c.args.arguments.now c.in-Some.before.now c.last.inside.node c.in-Some.last.now whole c.last.view_is c.in_default-node.not-Keywords in
+    let stays = unsplit c.args.arguments.now c.in-Some.before.now c.last.inside.node c.in-Some.last.now whole c.last.view_is
+    c.in_default-node.not-Keywords in
     record { plain = stays.0; keywords = stays.1 }

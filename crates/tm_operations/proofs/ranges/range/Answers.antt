@@ -26,7 +26,8 @@ returns-in-Some c =
     let b : FitsSigned w64 c.in-Some.stop = search rules in
     let z : FitsSigned w64 c.unwrap_or-step.result = search rules in
     let answer = simp to_z-of_z at c.numbers.ensures in
-    rw (asked_both vs c.in_ok-first.first c.in-Some.stop c.unwrap_or-step.result c.in_ok-second.second c.in_ok-step.step first second third few stop step) answer
+    rw (asked_both vs c.in_ok-first.first c.in-Some.stop c.unwrap_or-step.result c.in_ok-second.second c.in_ok-step.step first second third
+    few stop step) answer
 
 -- from 0 to the first one
 pub returns-in-None : goal.returns-in-None
@@ -44,7 +45,8 @@ returns-in-None c =
     let a : FitsSigned w64 c.in_ok-first.first = search rules in
     let z : FitsSigned w64 c.unwrap_or-step.result = search rules in
     let answer = simp to_z-of_z at c.numbers-in-None.ensures in
-    rw (asked_one vs c.in_ok-first.first c.unwrap_or-step.result c.in_ok-second.second c.in_ok-step.step first second third few c.in-None.is step) answer
+    rw (asked_one vs c.in_ok-first.first c.unwrap_or-step.result c.in_ok-second.second c.in_ok-step.step first second third few c.in-None.is
+    step) answer
 
 pub returns-in_err-first : goal.returns-in_err-first
 returns-in_err-first c = search rules fits 100

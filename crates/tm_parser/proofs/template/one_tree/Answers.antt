@@ -13,6 +13,7 @@ tree_of ss = record { statements = ss }
 pub returns : goal.returns
 returns c = λ ts a b x y.
     let whole = body (inside nestings) (inner nestings) false in
-    let same = same_got a.statements b.statements [] [] (sym (whole.complete ts a.statements [] x.spelled) ∙ whole.complete ts b.statements []
+    let same = same_got a.statements b.statements [] [] (sym (whole.complete ts a.statements [] x.spelled)
+    ∙ whole.complete ts b.statements []
     y.spelled) in
     ap (λ ss. tree_of ss) same.0

@@ -7,7 +7,8 @@ use Rattle.tm_primitives.proofs.characters.pick.Goals as goal
 pub returns-in-Some : goal.returns-in-Some
 returns-in-Some c =
     copied c.from_str.result c.first.result.now _
-    (part_picked (chars c.args.text.now) c.args.places c.first.result.now c.skip.result.now c.in-Some.start c.in-Some.count c.requires.inside c.in-Some.ensures.some c.first.utf8 c.first.ensures c.skip.ensures)
+    (part_picked (chars c.args.text.now) c.args.places c.first.result.now c.skip.result.now c.in-Some.start c.in-Some.count
+    c.requires.inside c.in-Some.ensures.some c.first.utf8 c.first.ensures c.skip.ensures)
     c.from_str.ensures.ok
 
 pub pick_bytes-requires-clause-inside : goal.pick_bytes-requires-clause-inside

@@ -10,5 +10,6 @@ loop-left-preserved c =
     record {
       text = IsUtf8-past_char (chars_rest c.loop-left.rest) (chars_rest c.next.new.self) step.0 c.loop-left.invariant.text step.1;
       rest = drop_more (chars_rest c.loop-left.rest)
-          (chars_rest c.next.new.self) _ step.0 c.loop-left.left c.loop-left.invariant.text step.1 c.loop-left-test.true c.loop-left.invariant.rest;
+          (chars_rest c.next.new.self) _ step.0 c.loop-left.left c.loop-left.invariant.text step.1 c.loop-left-test.true
+          c.loop-left.invariant.rest;
     }

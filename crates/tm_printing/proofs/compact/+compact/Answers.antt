@@ -127,7 +127,8 @@ pub write_member-returns-in_err-write_key : goal.write_member-returns-in_err-wri
 write_member-returns-in_err-write_key g t c =
     let inside = namespace_data (g.R.Records.records c.args.records.now) c.args.levels in
     let text = compact_text (data_of inside c.args.pair.now.1) in
-    within _ _ _ (58 ∷ text) g.met.T.Target.laws c.from_residual-in_err-write_key.ensures.0 c.in_ok-write_comma.ensures c.in_err-write_key.ensures
+    within _ _ _ (58 ∷ text) g.met.T.Target.laws c.from_residual-in_err-write_key.ensures.0 c.in_ok-write_comma.ensures
+    c.in_err-write_key.ensures
 
 pub write_member-returns-in_err-take_text : goal.write_member-returns-in_err-take_text
 write_member-returns-in_err-take_text g t c =
@@ -141,4 +142,5 @@ write_member-returns g t c =
     let inside = namespace_data (g.R.Records.records c.args.records.now) c.args.levels in
     let text = compact_text (data_of inside c.args.pair.now.1) in
     last _ _ (past g.met.T.Target.laws
-    (past_two (58 ∷ text) g.met.T.Target.laws c.in_ok-write_comma.ensures c.in_ok-write_key.ensures) c.in_ok-take_text.ensures) c.write_data.ensures
+    (past_two (58 ∷ text) g.met.T.Target.laws c.in_ok-write_comma.ensures c.in_ok-write_key.ensures) c.in_ok-take_text.ensures)
+    c.write_data.ensures

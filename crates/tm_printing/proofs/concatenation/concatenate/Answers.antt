@@ -21,8 +21,10 @@ returns-in-Err-check_defined g c found =
     let stated = joined (g.R.Records.records c.args.records.now) c.args.left.now c.args.right.now in
     let left = refusal_of c.args.behavior use_of.Comparison c.args.left.now in
     let right = refusal_of c.args.behavior use_of.Comparison c.args.right.now in
-    let refused = fails right stated c.check_defined-2.result c.in-Err-check_defined.error c.check_defined-2.ensures c.in-Err-check_defined.is in
-    passes_on left (unless right stated) c.check_defined.result tt c.in-Err-check_defined.error c.check_defined.ensures c.in_default.is refused
+    let refused = fails right stated c.check_defined-2.result c.in-Err-check_defined.error c.check_defined-2.ensures
+    c.in-Err-check_defined.is in
+    passes_on left (unless right stated) c.check_defined.result tt c.in-Err-check_defined.error c.check_defined.ensures c.in_default.is
+    refused
 
 pub returns-in-Err : goal.returns-in-Err
 returns-in-Err g c = grind (arith, common_steps)

@@ -12,9 +12,11 @@ returns-in_err-write_spelled g c =
 pub returns-in_err-write_progress : goal.returns-in_err-write_progress
 returns-in_err-write_progress g c =
     within _ (codes "<loop ") (progress_text c.args.position) (codes ">")
-    (spelled_laws g.E.Spelling.spelled g.met.T.Target.laws) c.from_residual-in_err-write_progress.ensures.0 c.in_ok-write_spelled.ensures c.in_err-write_progress.ensures
+    (spelled_laws g.E.Spelling.spelled g.met.T.Target.laws) c.from_residual-in_err-write_progress.ensures.0 c.in_ok-write_spelled.ensures
+    c.in_err-write_progress.ensures
 
 pub returns : goal.returns
 returns g c =
     closed _ _ (codes "<loop ") (progress_text c.args.position) (codes ">")
-    (spelled_laws g.E.Spelling.spelled g.met.T.Target.laws) c.in_ok-write_spelled.ensures c.in_ok-write_progress.ensures c.write_spelled-2.ensures
+    (spelled_laws g.E.Spelling.spelled g.met.T.Target.laws) c.in_ok-write_spelled.ensures c.in_ok-write_progress.ensures
+    c.write_spelled-2.ensures

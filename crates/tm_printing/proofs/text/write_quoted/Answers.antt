@@ -12,7 +12,8 @@ returns-in_err-write_spelled-2 g c =
     ≡ flat_map spelled (flat_map within_quotes s) = in_two_steps spelled within_quotes _ g.met.E.Escape.quoted_first s in
     within _ (34 ∷ []) (flat_map within_quotes s) (34 ∷ [])
     (spelled_laws spelled g.met.T.Target.laws) c.from_residual-in_err-write_spelled-2.ensures.0 c.in_ok-write_spelled.ensures
-    (subst (λ (l : List ℕ). g.T.Target.stopped c.write_spelled.new.target l c.write_spelled-2.new.target) same c.in_err-write_spelled-2.ensures)
+    (subst (λ (l : List ℕ). g.T.Target.stopped c.write_spelled.new.target l c.write_spelled-2.new.target) same
+    c.in_err-write_spelled-2.ensures)
 
 pub returns : goal.returns
 returns g c =
@@ -21,4 +22,5 @@ returns g c =
     let same : flat_map g.E.Within.Spelling.spelled s
     ≡ flat_map spelled (flat_map within_quotes s) = in_two_steps spelled within_quotes _ g.met.E.Escape.quoted_first s in
     closed _ _ (34 ∷ []) (flat_map within_quotes s) (34 ∷ []) (spelled_laws spelled g.met.T.Target.laws) c.in_ok-write_spelled.ensures
-    (subst (λ (l : List ℕ). g.T.Target.took c.write_spelled.new.target l c.write_spelled-2.new.target) same c.in_ok-write_spelled-2.ensures) c.write_spelled-3.ensures
+    (subst (λ (l : List ℕ). g.T.Target.took c.write_spelled.new.target l c.write_spelled-2.new.target) same c.in_ok-write_spelled-2.ensures)
+    c.write_spelled-3.ensures

@@ -36,7 +36,8 @@ returns c =
       | in_default w ↦ ap leaves_name (ap chars w.in_default.ensures.value
           ∙ chars-nil)
     ] in
-    let parts = split_there text rest here.gone c.split_at.result.0.now c.split_at.result.1.now here.bytes c.split_at.ensures.front c.split_at.ensures.back in
+    let parts = split_there text rest here.gone c.split_at.result.0.now c.split_at.result.1.now here.bytes c.split_at.ensures.front
+    c.split_at.ensures.back in
     let done = ends text rest c.split_at.result.0.now c.split_at.result.1.now here over
     (subst IsUtf8 (sym c.split_at.ensures.front) (IsUtf8-take _ _ c.utf8.text place)) c.loop-c.invariant.0 parts.0 parts.1 in
     record { front = done.0; back = done.1; shorter = λ goes. rw parts.1 (left_less text rest here over goes) }

@@ -15,7 +15,8 @@ returns-in-Some-endraw-clause-value c =
 pub loop-at-preserved : goal.loop-at-preserved
 loop-at-preserved c =
     let here = rw (c.split_at.ensures.back, ← c.as_bytes-bytes.ensures.value) at c.in_default-endraw.ensures.value in
-    past_this c.args.syntax.now c.as_bytes-bytes.result.now c.loop-at.from c.in-Some.at c.loop-at.invariant.0 c.loop-at.invariant.1 c.in-Some.ensures.first.0 (sym here)
+    past_this c.args.syntax.now c.as_bytes-bytes.result.now c.loop-at.from c.in-Some.at c.loop-at.invariant.0 c.loop-at.invariant.1
+    c.in-Some.ensures.first.0 (sym here)
 
 pub returns-clause-value : goal.returns-clause-value
 returns-clause-value c =

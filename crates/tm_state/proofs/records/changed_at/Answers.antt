@@ -8,4 +8,5 @@ returns-clause-now c =
     let items = c.args.loops.now.items in
     let old = c.index_mut.result.now in
     let within : c.args.number < length items = omega (arith, c.if-number-len.false, c.len.ensures) in
-    on_ok_weaker c.changed.result (λ now. ap (λ l. slice_set items c.args.number l) now ∙ keeping_there c.args.number c.args.args.now items old within c.index_mut.ensures.value) c.changed.ensures.now
+    on_ok_weaker c.changed.result (λ now. ap (λ l. slice_set items c.args.number l) now
+    ∙ keeping_there c.args.number c.args.args.now items old within c.index_mut.ensures.value) c.changed.ensures.now

@@ -11,7 +11,8 @@ pub loop-number-preserved : goal.loop-number-preserved
 loop-number-preserved c =
     let names = c.loop-number.globals in
     let x = c.language_name.result.now in
-    let named = c.in_ok-insert.ensures.ok ∙ ap (λ y. put y c.function.result names) c.in_ok-name.ensures ∙ ap (λ v. put x v names) c.function.ensures in
+    let named = c.in_ok-insert.ensures.ok ∙ ap (λ y. put y c.function.result names) c.in_ok-name.ensures
+    ∙ ap (λ v. put x v names) c.function.ensures in
     record { rest = named_next c.loop-number.number x names c.insert.new.self c.language_name.ensures named ∙ c.loop-number.invariant.rest }
 
 pub returns : goal.returns

@@ -8,6 +8,7 @@ pub returns : goal.returns
 returns c =
     let is = dedup_is _ _ _ c.dedup.ensures.filtered in
     record {
-      order = rw is (sorted-texts _ (IsStrictlySortedBy-dedup (on_texts (λ x. x.now)) (λ x y. texts_ties x.now y.now) _ c.sort_unstable.ensures.sorted));
+      order = rw is (sorted-texts _ (IsStrictlySortedBy-dedup (on_texts (λ x. x.now))
+          (λ x y. texts_ties x.now y.now) _ c.sort_unstable.ensures.sorted));
       same = λ x. rw is (among-sorted _ _ c.sort_unstable.ensures.permutation x);
     }

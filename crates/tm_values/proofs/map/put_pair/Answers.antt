@@ -8,7 +8,8 @@ use Rattle.tm_values.proofs.map.put_pair.Goals as goal
 pub returns-in-Ok : goal.returns-in-Ok
 returns-in-Ok c =
     let there = subst (λ (l : List (Val × Val)). IsThere c.args.key l c.in-Ok.at) c.deref.ensures.value c.in-Ok.ensures in
-    let written = put-read c.args.key c.args.value c.args.pairs.now.items c.in-Ok.at c.index_mut.result.now c.requires there c.index_mut.ensures.value in
+    let written = put-read c.args.key c.args.value c.args.pairs.now.items c.in-Ok.at c.index_mut.result.now c.requires there
+    c.index_mut.ensures.value in
     record {
       outcome = sym written;
       unchanged = tt;

@@ -10,6 +10,8 @@ use Rattle.template_machine.proofs.environment.EnvironmentOf.put_template.Goals 
 pub returns-in_err-compiled-clause-refused : goal.returns-in_err-compiled-clause-refused
 returns-in_err-compiled-clause-refused g c =
     let why = c.in_err-compiled.field-0.0 in
-    let Refused : Result (Unit {0}) (List ErrorKind) → Type 0 = λ r. IfErr r (IsRefused c.args.self.now.syntax (source_bytes c.args.source)) in
+    let Refused : Result (Unit {0}) (List ErrorKind) →
+    Type 0 = λ r. IfErr r (IsRefused c.args.self.now.syntax (source_bytes c.args.source)) in
     passed c.from_residual.result Refused why c.from_residual.ensures.1
-    (subst (λ (v : EnvironmentValue g.row.O.Denot). IsRefused v.syntax (source_bytes c.args.source) why) c.self.view_is c.in_err-compiled.ensures.refused)
+    (subst (λ (v : EnvironmentValue g.row.O.Denot). IsRefused v.syntax (source_bytes c.args.source) why) c.self.view_is
+    c.in_err-compiled.ensures.refused)

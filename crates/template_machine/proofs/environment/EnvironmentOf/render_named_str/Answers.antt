@@ -10,16 +10,23 @@ returns-in_err-template g c =
     let refused = c.in_err-template.ensures.refused in
     let r = c.from_residual.result in
     record {
-      full = λ h. (passed r (IsUnnumbered c.args.self.now c.args.name.now c.args.source.now) why c.from_residual.ensures.1 (inl refused), refl);
+      full = λ h. (
+        passed r (IsUnnumbered c.args.self.now c.args.name.now c.args.source.now) why c.from_residual.ensures.1 (inl refused),
+        refl,
+      );
       rendered = λ h. source_refused why (passed r (λ x. x ≡ Err why) why c.from_residual.ensures.1 refl) refused refl;
     }
 
 pub returns : goal.returns
 returns g c = record {
   full = λ h.
-      let left = c.render.ensures.full h in
-      (source_full c.args.self.now c.in_ok-template.template c.args.name.now c.args.source.now c.render.result c.in_ok-template.ensures.compiled left.0, left.1);
+      let left = c.render.ensures.full h in (
+        source_full c.args.self.now c.in_ok-template.template c.args.name.now c.args.source.now c.render.result
+            c.in_ok-template.ensures.compiled left.0,
+        left.1,
+      );
   rendered = λ h.
-      source_done g.O.Parties.functions c.args.self.now c.in_ok-template.template c.args.name.now c.args.source.now c.args.ids.now c.render.new.ids c.args.context c.render.result
+      source_done g.O.Parties.functions c.args.self.now c.in_ok-template.template c.args.name.now c.args.source.now c.args.ids.now
+      c.render.new.ids c.args.context c.render.result
       c.in_ok-template.ensures.compiled (c.render.ensures.rendered h) (c.render.ensures.next h);
 }

@@ -9,6 +9,8 @@ use Rattle.template_machine.proofs.environment.EnvironmentOf.template_from_named
 pub returns-in_err-template-clause-refused : goal.returns-in_err-template-clause-refused
 returns-in_err-template-clause-refused g c =
     let why = c.in_err-template.field-0.0 in
-    let Refused : Result (TemplateValue g.row.O.Denot) (List ErrorKind) → Type 0 = λ r. IfErr r (IsRefused c.args.self.now.syntax c.args.source.now) in
+    let Refused : Result (TemplateValue g.row.O.Denot) (List ErrorKind) →
+    Type 0 = λ r. IfErr r (IsRefused c.args.self.now.syntax c.args.source.now) in
     passed c.from_residual.result Refused why c.from_residual.ensures.1
-    (subst (λ (v : EnvironmentValue g.row.O.Denot). IsRefused v.syntax c.args.source.now why) c.self.view_is c.in_err-template.ensures.refused)
+    (subst (λ (v : EnvironmentValue g.row.O.Denot). IsRefused v.syntax c.args.source.now why) c.self.view_is
+    c.in_err-template.ensures.refused)

@@ -8,4 +8,5 @@ use Rattle.template_machine.proofs.rendering.RenderingHost.instructions.Goals as
 pub returns : goal.returns
 returns g c =
     c.stream.ensures ∙ ap (λ (t : Compiled). code_of (part_of (tree_of t) c.args.stream.now.block)) c.template.ensures
-    ∙ ap (λ (t : TemplateTree). code_of (part_of t c.args.stream.now.block)) (sym (tree_meant g.O.Parties.functions c.args.self.now c.args.stream.now.template))
+    ∙ ap (λ (t : TemplateTree). code_of (part_of t c.args.stream.now.block))
+    (sym (tree_meant g.O.Parties.functions c.args.self.now c.args.stream.now.template))

@@ -13,7 +13,8 @@ whole : (told now : Option (List ℕ)) (text : List ℕ) → Appends told now te
 whole told now text h = subst (λ (l : List ℕ). AppendsBeginning told now l) (append-nil text) (appends_beginning told now text [] h)
 
 -- where no capture is open
-outside : (captures : List Capture) (told now : Option (List ℕ)) (text : List ℕ) → captures ≡ [] → AppendsBeginning told now text → AppendsBeginning told now (put_out captures text)
+outside : (captures : List Capture) (told now : Option (List ℕ)) (text : List ℕ) → captures ≡ [] → AppendsBeginning told now text →
+    AppendsBeginning told now (put_out captures text)
 outside captures told now text is h = subst (λ (c : List Capture). AppendsBeginning told now (put_out c text)) (sym is) h
 
 pub returns-in_default-clause-beginning : goal.returns-in_default-clause-beginning
@@ -44,5 +45,8 @@ returns-clause-part g c =
           sym c.self.view_is ∙ ap reverse c.in-Some.ensures.items ∙ reverse-append below (c.in-Some.innermost ∷ []) in
           let now_is : reverse c.push_reserved.new.self.items ≡ after ∷ reverse below =
           ap reverse c.push_reserved.ensures.items ∙ reverse-append below (after ∷ []) in
-          rw w.result-is (w.in-Err-appended.ensures.0, grown _ _ _ _ _ (reverse below) _ _ c.innermost.view_is w.in-Err-appended.ensures.1 old_is now_is)
+          rw w.result-is (
+            w.in-Err-appended.ensures.0,
+            grown _ _ _ _ _ (reverse below) _ _ c.innermost.view_is w.in-Err-appended.ensures.1 old_is now_is,
+          )
     ]

@@ -19,7 +19,8 @@ invariant_of-result c =
     let start = simp to_z-of_z at c.first_bound-start.ensures in
     let stop = simp to_z-of_z at c.last_bound-stop.ensures in
     let count = simp to_z-of_z at c.count_before.ensures in
-    simp to_z-of_z (slice_inside c.args.length c.args.start c.args.stop c.args.step c.first_bound-start.result c.last_bound-stop.result c.count_before.result c.requires.nonzero c.ranges.length.fits start stop count)
+    simp to_z-of_z (slice_inside c.args.length c.args.start c.args.stop c.args.step c.first_bound-start.result c.last_bound-stop.result
+    c.count_before.result c.requires.nonzero c.ranges.length.fits start stop count)
 
 pub returns-clause-inside : goal.returns-clause-inside
 returns-clause-inside c =
@@ -29,4 +30,5 @@ returns-clause-inside c =
     let start = simp to_z-of_z at c.first_bound-start.ensures in
     let stop = simp to_z-of_z at c.last_bound-stop.ensures in
     let count = simp to_z-of_z at c.count_before.ensures in
-    simp to_z-of_z (below c.args.length c.args.start c.args.stop c.args.step c.first_bound-start.result c.last_bound-stop.result c.count_before.result c.requires.nonzero start stop count)
+    simp to_z-of_z (below c.args.length c.args.start c.args.stop c.args.step c.first_bound-start.result c.last_bound-stop.result
+    c.count_before.result c.requires.nonzero start stop count)

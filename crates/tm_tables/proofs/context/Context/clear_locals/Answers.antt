@@ -10,5 +10,6 @@ returns-in-Some c =
     let old = c.index_mut.result.now in
     let long : length frames ≡ suc n = omega (arith, c.in-Some.ensures, c.len.ensures) in
     let there : old ≡ get_or frames n old = c.index_mut.ensures.value in
-    ap (λ ss. record { frames = ss; outer = c.self.inside.outer }) (ap (λ (s : Scope). reverse (slice_set frames n s)) c.clear.ensures ∙ cleared-last frames n old long there)
+    ap (λ ss. record { frames = ss; outer = c.self.inside.outer }) (ap (λ (s : Scope). reverse (slice_set frames n s)) c.clear.ensures
+    ∙ cleared-last frames n old long there)
     ∙ ap (λ (scopes : Scopes). record scopes { frames = without_locals scopes.frames }) c.self.view_is

@@ -9,6 +9,7 @@ use Rattle.tm_tables.proofs.context.Context.exports.Goals as goal
 pub returns-in-Some : goal.returns-in-Some
 returns-in-Some c =
     let outermost : exported_by c.in-Some.outermost.now ≡ exported_of c.args.self.now.frames =
-    sym (exported-first c.in-Some.outermost.now c.self.inside.frames.items (c.in-Some.ensures.value ∙ ap (λ l. slice_get l 0) c.deref.ensures.value))
+    sym (exported-first c.in-Some.outermost.now c.self.inside.frames.items (c.in-Some.ensures.value
+    ∙ ap (λ l. slice_get l 0) c.deref.ensures.value))
     ∙ ap (λ (scopes : Scopes). exported_of scopes.frames) c.self.view_is in
     subst (λ l. OkOrOutOfMemory c.exports.result (λ names. texts_of names.items ≡ l)) outermost c.exports.ensures

@@ -12,5 +12,7 @@ returns-in-Some-clause-ok c =
     let long : length frames ≡ suc n = omega (arith, c.in-Some.ensures, c.len.ensures) in
     let there : old ≡ get_or frames n old = c.index_mut.ensures.value in
     on_ok_weaker c.store.result (λ is.
-    ap (λ ss. record { frames = ss; outer = c.self.inside.outer }) (ap (λ (s : Scope). reverse (slice_set frames n s)) is ∙ stored-last c.args.name c.args.value frames n old long there)
-    ∙ ap (λ (scopes : Scopes). record scopes { frames = stored_in c.args.name c.args.value scopes.frames }) c.self.view_is) c.store.ensures.ok
+    ap (λ ss. record { frames = ss; outer = c.self.inside.outer }) (ap (λ (s : Scope). reverse (slice_set frames n s)) is
+    ∙ stored-last c.args.name c.args.value frames n old long there)
+    ∙ ap (λ (scopes : Scopes). record scopes { frames = stored_in c.args.name c.args.value scopes.frames }) c.self.view_is)
+    c.store.ensures.ok

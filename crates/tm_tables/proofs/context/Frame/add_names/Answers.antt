@@ -12,16 +12,25 @@ pub returns-clause-ok : goal.returns-clause-ok
 returns-clause-ok g c = λ view same x.
     let scope : Scope = c.args.self.now in
     let before : Bool = is_among x (texts_of c.args.names.now.items) in
-    let locals : texts_of c.in_ok-own.own.items ≡ keys_of scope.locals = c.in_ok-own.ensures ∙ ap (λ (s : Scope). keys_of s.locals) c.self.view_is in
+    let locals : texts_of c.in_ok-own.own.items ≡ keys_of scope.locals = c.in_ok-own.ensures
+    ∙ ap (λ (s : Scope). keys_of s.locals) c.self.view_is in
     let with_own : is_among x (texts_of c.append.new.self.items) ≡ (before || is_among x (keys_of scope.locals)) =
-    ap (λ l. is_among x (texts_of l)) c.in_ok-append.ensures.items ∙ among-both x c.args.names.now.items c.in_ok-own.own.items ∙ ap (λ l. before || is_among x l) locals in
+    ap (λ l. is_among x (texts_of l)) c.in_ok-append.ensures.items ∙ among-both x c.args.names.now.items c.in_ok-own.own.items
+    ∙ ap (λ l. before || is_among x l) locals in
     let loop : is_some (marked_loop view.records.state scope.mark x) ≡ (c.is_some.result && same_name x (codes "loop")) =
-    loop-found view.records.state scope.mark c.named_loop.result x c.named_loop.ensures ∙ ap (λ b. b && same_name x (codes "loop")) (sym c.is_some.ensures) in
-    let with_loop : is_among x (texts_of c.if-is_some.names.items) ≡ (is_among x (texts_of c.append.new.self.items) || (c.is_some.result && same_name x (codes "loop"))) =
+    loop-found view.records.state scope.mark c.named_loop.result x c.named_loop.ensures
+    ∙ ap (λ b. b && same_name x (codes "loop")) (sym c.is_some.ensures) in
+    let with_loop : is_among x (texts_of c.if-is_some.names.items)
+    ≡ (is_among x (texts_of c.append.new.self.items) || (c.is_some.result && same_name x (codes "loop"))) =
     elim c.if-is_some.branch [
       | then-is_some+in_ok-push w ↦ rw (w.names-is, w.in_ok-push.ensures.items, w.if-is_some.true) (among-one x c.append.new.self.items _)
       | else-is_some w ↦ rw (w.names-is, w.if-is_some.false) (sym (or-false _))
     ] in
-    let all : is_among x (texts_of c.add_texts.new.names.items) ≡ (((before || is_among x (keys_of scope.locals)) || is_some (marked_loop view.records.state scope.mark x)) || has_text x c.in_ok-pairs.pairs.now) =
-    c.in_ok-add_texts.ensures x ∙ ap (λ b. b || has_text x c.in_ok-pairs.pairs.now) (with_loop ∙ ap (λ b. b || (c.is_some.result && same_name x (codes "loop"))) with_own ∙ ap (λ b. (before || is_among x (keys_of scope.locals)) || b) (sym loop)) in
-    scope-adds view scope x c.in_ok-pairs.pairs.now before (ap (λ (s : Scope). s.reads) c.self.view_is) (rw same (c.in_ok-pairs.ensures.members.1 x)) c.in_ok-pairs.ensures.members.0 ∙ ap (λ b. Ok b) (sym all)
+    let all : is_among x (texts_of c.add_texts.new.names.items)
+    ≡ (((before || is_among x (keys_of scope.locals)) || is_some (marked_loop view.records.state scope.mark x)) || has_text x
+    c.in_ok-pairs.pairs.now) =
+    c.in_ok-add_texts.ensures x ∙ ap (λ b. b || has_text x c.in_ok-pairs.pairs.now) (with_loop
+    ∙ ap (λ b. b || (c.is_some.result && same_name x (codes "loop"))) with_own
+    ∙ ap (λ b. (before || is_among x (keys_of scope.locals)) || b) (sym loop)) in
+    scope-adds view scope x c.in_ok-pairs.pairs.now before (ap (λ (s : Scope). s.reads) c.self.view_is)
+    (rw same (c.in_ok-pairs.ensures.members.1 x)) c.in_ok-pairs.ensures.members.0 ∙ ap (λ b. Ok b) (sym all)

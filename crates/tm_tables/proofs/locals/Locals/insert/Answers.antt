@@ -15,7 +15,8 @@ returns-in-Some-clause-ok c =
 pub returns-in_ok-push-in-None-clause-ok : goal.returns-in_ok-push-in-None-clause-ok
 returns-in_ok-push-in-None-clause-ok c =
     ap (λ l. in_order (l ++ c.self.inside.others.entries)) c.in_ok-push-in-None.ensures.items
-    ∙ put_behind c.args.name c.args.value c.self.inside.first.items c.self.inside.others.entries (subst (λ ps. find c.args.name ps ≡ None) c.deref.ensures.value c.in-None.ensures)
+    ∙ put_behind c.args.name c.args.value c.self.inside.first.items c.self.inside.others.entries
+    (subst (λ ps. find c.args.name ps ≡ None) c.deref.ensures.value c.in-None.ensures)
     ∙ ap (put c.args.name c.args.value) c.self.view_is
 
 pub returns-in_ok-insert-in-None-2-clause-ok : goal.returns-in_ok-insert-in-None-2-clause-ok
@@ -23,7 +24,8 @@ returns-in_ok-insert-in-None-2-clause-ok c =
     let first = c.self.inside.first.items in
     let put_there =
     ap (λ es. in_order (first ++ es)) c.in_ok-insert-in-None-2.ensures.entries
-    ∙ put_among c.args.name c.args.value first c.self.inside.others.entries (subst (λ ps. find c.args.name ps ≡ None) c.deref.ensures.value c.in-None-2.ensures)
+    ∙ put_among c.args.name c.args.value first c.self.inside.others.entries
+    (subst (λ ps. find c.args.name ps ≡ None) c.deref.ensures.value c.in-None-2.ensures)
     ∙ ap (put c.args.name c.args.value) c.self.view_is in
     elim c.match-branch-3.branch [
       | in-Some-1 w ↦ w.self-is ∙ put_there

@@ -12,8 +12,10 @@ passed (Err y) P e is p = subst P (sym is) p
 pub returns-in_err-tree-clause-refused : goal.returns-in_err-tree-clause-refused
 returns-in_err-tree-clause-refused c =
     let why = c.in_err-tree.field-0.0 in
-    let given = subst (λ (s : List ℕ). IsRefused c.args.config.now.syntax_config s why) c.in_ok-text.ensures.shared c.in_err-tree.ensures.refused in
-    passed c.from_residual-in_err-tree.result (IsRefused c.args.config.now.syntax_config (source_bytes c.args.source)) why c.from_residual-in_err-tree.ensures.1 given
+    let given = subst (λ (s : List ℕ). IsRefused c.args.config.now.syntax_config s why) c.in_ok-text.ensures.shared
+    c.in_err-tree.ensures.refused in
+    passed c.from_residual-in_err-tree.result
+    (IsRefused c.args.config.now.syntax_config (source_bytes c.args.source)) why c.from_residual-in_err-tree.ensures.1 given
 
 pub returns-clause-refused : goal.returns-clause-refused
 returns-clause-refused c = search rules fits 100

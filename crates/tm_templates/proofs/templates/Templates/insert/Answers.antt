@@ -7,13 +7,15 @@ use Rattle.tm_templates.proofs.templates.Templates.insert.Goals as goal
 
 pub invariant_of-self : goal.invariant_of-self
 invariant_of-self c =
-    written-ordered c.args.name c.as_str.result.now c.args.template c.self.inside.entries.items c.args.self.now c.in-Ok.at c.index_mut.result.now
+    written-ordered c.args.name c.as_str.result.now c.args.template c.self.inside.entries.items c.args.self.now c.in-Ok.at
+    c.index_mut.result.now
     c.self.view_is c.as_str.ensures c.self.invariant c.in-Ok.ensures c.index_mut.ensures.value
 
 pub invariant_of-self-in-Err : goal.invariant_of-self-in-Err
 invariant_of-self-in-Err c =
     subst (λ (l : Named Compiled). AreOrdered l) (sym c.insert.ensures.items)
-    (added-ordered c.args.name c.as_str.result.now c.args.template c.self.inside.entries.items c.args.self.now c.in-Err.at (is_ok c.insert.result)
+    (added-ordered c.args.name c.as_str.result.now c.args.template c.self.inside.entries.items c.args.self.now c.in-Err.at
+    (is_ok c.insert.result)
     c.self.view_is c.as_str.ensures c.self.invariant c.in-Err.ensures)
 
 pub returns-in-Ok-clause-ok : goal.returns-in-Ok-clause-ok
@@ -24,4 +26,5 @@ returns-in-Ok-clause-ok c =
 pub returns-in_ok-insert-in-Err-clause-ok : goal.returns-in_ok-insert-in-Err-clause-ok
 returns-in_ok-insert-in-Err-clause-ok c =
     c.in_ok-insert-in-Err.ensures.items
-    ∙ added c.args.name c.as_str.result.now c.args.template c.self.inside.entries.items c.args.self.now c.in-Err.at c.self.view_is c.as_str.ensures c.in-Err.ensures
+    ∙ added c.args.name c.as_str.result.now c.args.template c.self.inside.entries.items c.args.self.now c.in-Err.at c.self.view_is
+    c.as_str.ensures c.in-Err.ensures

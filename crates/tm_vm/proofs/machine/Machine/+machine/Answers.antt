@@ -4,7 +4,8 @@ use Rattle.tm_meaning.specs.Machine.{Config, base_of}
 use Rattle.tm_state.specs.State.{put_back}
 use Rattle.tm_vm.specs.Answers.{program}
 use Rattle.tm_vm.specs.declared.flow.Flow.TheVariants as flow
-use Rattle.tm_vm.proofs.Loop.{at_base, kept_same, kept_then, stands_first, stands_next, stands_behind, beginning_at, beginning_in, ended_at, ended_in, done_at, whole_at, wrapped_ends, scopes_behind, above_base, unboxed, deeper}
+use Rattle.tm_vm.proofs.Loop.{at_base, kept_same, kept_then, stands_first, stands_next, stands_behind, beginning_at, beginning_in, ended_at}
+use Rattle.tm_vm.proofs.Loop.{ended_in, done_at, whole_at, wrapped_ends, scopes_behind, above_base, unboxed, deeper}
 use Rattle.tm_vm.proofs.Weight.{less_behind}
 use Rattle.tm_vm.proofs.machine.Machine.+machine.Goals as goal
 
@@ -29,11 +30,13 @@ run-loop-entry-preserved-in-Ok-GoOn g t c =
     let now = g.W.Sink.told c.loop-entry.writer in
     let new = g.W.Sink.told c.step.new.writer in
     let step = rw c.in-Ok-GoOn.field-0-is at c.in-Ok-GoOn.ensures.performs in
-    let did = at_base p c.loop-entry.self c.step.new.self now new (Ok flow.GoOn) c.base-base.result (base_of c.args.heard a.captures a.world) c.base-base.ensures step.did in
+    let did = at_base p c.loop-entry.self c.step.new.self now new (Ok flow.GoOn) c.base-base.result
+    (base_of c.args.heard a.captures a.world) c.base-base.ensures step.did in
     record {
       faults = step.counted ∙ c.loop-entry.invariant.faults;
       kept = kept_then c.loop-entry.invariant.kept step.kept;
-      above = above_base c.args.heard a.captures a.world c.base-base.result c.loop-entry.self.world c.step.new.self.world c.base-base.ensures c.loop-entry.invariant.above step.depths;
+      above = above_base c.args.heard a.captures a.world c.base-base.result c.loop-entry.self.world c.step.new.self.world
+          c.base-base.ensures c.loop-entry.invariant.above step.depths;
       same_outer = step.depths.1 ∙ c.loop-entry.invariant.same_outer;
       same_stream = step.same_stream ∙ c.loop-entry.invariant.same_stream;
       stands = stands_next c.step.new.self new c.loop-entry.invariant.stands did;
@@ -49,7 +52,8 @@ run-loop-entry-preserved g t c =
     let new = g.W.Sink.told c.run_nested.new.writer in
     let e = c.into_inner.result in
     let step = rw c.in-Ok-Enter.field-0-is at c.in-Ok-Enter.ensures.performs in
-    let did = at_base p c.loop-entry.self c.step.new.self now at (Ok (flow.Enter c.in-Ok-Enter.entry)) c.base-base.result (base_of c.args.heard a.captures a.world) c.base-base.ensures step.did in
+    let did = at_base p c.loop-entry.self c.step.new.self now at (Ok (flow.Enter c.in-Ok-Enter.entry)) c.base-base.result
+    (base_of c.args.heard a.captures a.world) c.base-base.ensures step.did in
     let enters = unboxed c.in-Ok-Enter.entry e c.step.new.self now at c.into_inner.ensures did in
     let went = c.in_default.ensures.ran in
     let deep = deeper limit c.in-Ok-Enter.entry e c.loop-entry.self.world c.step.new.self.world c.into_inner.ensures step.depths in
@@ -67,7 +71,8 @@ run-loop-entry-preserved g t c =
 pub run-loop-entry-smaller : goal.run-loop-entry-smaller
 run-loop-entry-smaller g t c =
     let paid = rw c.in-Ok-Enter.field-0-is at c.in-Ok-Enter.ensures.paid in
-    less_behind (length c.code-code.result.now) c.loop-entry.self c.step.new.self c.run_nested.new.self paid c.in_default.ensures.kept.no_more_fuel c.in_default.ensures.same_loops
+    less_behind (length c.code-code.result.now) c.loop-entry.self c.step.new.self c.run_nested.new.self paid
+    c.in_default.ensures.kept.no_more_fuel c.in_default.ensures.same_loops
 
 pub run-returns-in-Err-run_nested-clause-ended : goal.run-returns-in-Err-run_nested-clause-ended
 run-returns-in-Err-run_nested-clause-ended g t c =
@@ -78,9 +83,11 @@ run-returns-in-Err-run_nested-clause-ended g t c =
     let new = g.W.Sink.told c.run_nested.new.writer in
     let e = c.into_inner.result in
     let step = rw c.in-Ok-Enter.field-0-is at c.in-Ok-Enter.ensures.performs in
-    let did = at_base p c.loop-entry.self c.step.new.self now at (Ok (flow.Enter c.in-Ok-Enter.entry)) c.base-base.result (base_of c.args.heard a.captures a.world) c.base-base.ensures step.did in
+    let did = at_base p c.loop-entry.self c.step.new.self now at (Ok (flow.Enter c.in-Ok-Enter.entry)) c.base-base.result
+    (base_of c.args.heard a.captures a.world) c.base-base.ensures step.did in
     let enters = unboxed c.in-Ok-Enter.entry e c.step.new.self now at c.into_inner.ensures did in
-    ended_in e c.step.new.self at new c.in-Err-run_nested.halt c.run_nested.new.self.world c.loop-entry.invariant.stands enters c.in-Err-run_nested.ensures.ran
+    ended_in e c.step.new.self at new c.in-Err-run_nested.halt c.run_nested.new.self.world c.loop-entry.invariant.stands enters
+    c.in-Err-run_nested.ensures.ran
 
 pub run-returns-in-Err-run_nested-clause-beginning : goal.run-returns-in-Err-run_nested-clause-beginning
 run-returns-in-Err-run_nested-clause-beginning g t c =
@@ -91,7 +98,8 @@ run-returns-in-Err-run_nested-clause-beginning g t c =
     let new = g.W.Sink.told c.run_nested.new.writer in
     let e = c.into_inner.result in
     let step = rw c.in-Ok-Enter.field-0-is at c.in-Ok-Enter.ensures.performs in
-    let did = at_base p c.loop-entry.self c.step.new.self now at (Ok (flow.Enter c.in-Ok-Enter.entry)) c.base-base.result (base_of c.args.heard a.captures a.world) c.base-base.ensures step.did in
+    let did = at_base p c.loop-entry.self c.step.new.self now at (Ok (flow.Enter c.in-Ok-Enter.entry)) c.base-base.result
+    (base_of c.args.heard a.captures a.world) c.base-base.ensures step.did in
     let enters = unboxed c.in-Ok-Enter.entry e c.step.new.self now at c.into_inner.ensures did in
     beginning_in e c.step.new.self at new c.loop-entry.invariant.stands enters c.in-Err-run_nested.ensures.beginning
 
@@ -102,7 +110,8 @@ run-returns-in-Ok-Done-clause-ended g t c =
     let now = g.W.Sink.told c.loop-entry.writer in
     let new = g.W.Sink.told c.step.new.writer in
     let step = rw c.in-Ok-Done.field-0-is at c.in-Ok-Done.ensures.performs in
-    let did = at_base p c.loop-entry.self c.step.new.self now new (Ok flow.Done) c.base-base.result (base_of c.args.heard a.captures a.world) c.base-base.ensures step.did in
+    let did = at_base p c.loop-entry.self c.step.new.self now new (Ok flow.Done) c.base-base.result
+    (base_of c.args.heard a.captures a.world) c.base-base.ensures step.did in
     done_at c.step.new.self new c.loop-entry.invariant.stands did
 
 pub run-returns-in-Ok-Done-clause-beginning : goal.run-returns-in-Ok-Done-clause-beginning
@@ -122,7 +131,8 @@ run-returns-in-Err-clause-ended g t c =
     let a = c.args.self.now in
     let now = g.W.Sink.told c.loop-entry.writer in
     let new = g.W.Sink.told c.step.new.writer in
-    let did = at_base p c.loop-entry.self c.step.new.self now new (Err c.in-Err.halt) c.base-base.result (base_of c.args.heard a.captures a.world) c.base-base.ensures c.in-Err.ensures.performs.did in
+    let did = at_base p c.loop-entry.self c.step.new.self now new (Err c.in-Err.halt) c.base-base.result
+    (base_of c.args.heard a.captures a.world) c.base-base.ensures c.in-Err.ensures.performs.did in
     ended_at new c.in-Err.halt c.step.new.self.world c.loop-entry.invariant.stands did.0 did.1
 
 pub run-returns-in-Err-clause-beginning : goal.run-returns-in-Err-clause-beginning
@@ -131,7 +141,8 @@ run-returns-in-Err-clause-beginning g t c =
     let a = c.args.self.now in
     let now = g.W.Sink.told c.loop-entry.writer in
     let new = g.W.Sink.told c.step.new.writer in
-    let did = at_base p c.loop-entry.self c.step.new.self now new (Err c.in-Err.halt) c.base-base.result (base_of c.args.heard a.captures a.world) c.base-base.ensures c.in-Err.ensures.performs.did in
+    let did = at_base p c.loop-entry.self c.step.new.self now new (Err c.in-Err.halt) c.base-base.result
+    (base_of c.args.heard a.captures a.world) c.base-base.ensures c.in-Err.ensures.performs.did in
     beginning_at new c.loop-entry.invariant.stands did.1
 
 pub run_nested-returns-in-Err-clause-ran : goal.run_nested-returns-in-Err-clause-ran
@@ -141,4 +152,5 @@ run_nested-returns-in-Err-clause-ran g t c =
     let new = g.W.Sink.told c.run-result.new.writer in
     let resumed = ap (λ (x : Config). x.world) c.resume.ensures in
     let same = ap (λ (x : Config). x.world) c.put_back.ensures ∙ ap (put_back c.args.entry.saved) resumed in
-    wrapped_ends p c.args.entry c.args.self.now c.begin-waiting.new.self c.run-result.new.self c.put_back.new.self now new c.in-Err.halt c.wrapped.result c.begin-waiting.ensures.begins same c.wrapped.ensures c.in-Err.ensures.ended
+    wrapped_ends p c.args.entry c.args.self.now c.begin-waiting.new.self c.run-result.new.self c.put_back.new.self now new c.in-Err.halt
+    c.wrapped.result c.begin-waiting.ensures.begins same c.wrapped.ensures c.in-Err.ensures.ended

@@ -19,7 +19,9 @@ invariant-run-loop-entry g l = record {
   above : length l.initial.self.world.scopes.frames ≤ length l.self.world.scopes.frames;
   same_outer : l.self.world.scopes.outer ≡ l.initial.self.world.scopes.outer;
   same_stream : l.self.run.stream ≡ l.initial.self.run.stream;
-  stands : RunsUpTo (program (g.H.Host.meaning l.host) (g.H.Host.code l.host)) (base_of l.heard l.initial.self.captures l.initial.self.world) l.initial.self (g.W.Sink.told l.initial.writer) (g.W.Sink.told l.writer) l.self;
+  stands : RunsUpTo (program (g.H.Host.meaning l.host) (g.H.Host.code l.host))
+      (base_of l.heard l.initial.self.captures l.initial.self.world) l.initial.self (g.W.Sink.told l.initial.writer)
+      (g.W.Sink.told l.writer) l.self;
 }
 
 abbrev pub decreases-run-loop-entry : goal.decreases-run-loop-entry

@@ -13,7 +13,13 @@ pub returns : goal.returns
 returns g c =
     let p = program (g.H.Host.meaning c.args.host.now) (g.H.Host.code c.args.host.now) in
     let new : Config = record { run = c.advance-2.new.self; captures = c.self.inside.captures; world = c.enter_block.new.self } in
-    let e : NestedRun = record { stream = c.in-Ok.entered.0; heard = c.is_audible-heard.result; value = false; wrap = None; saved = c.in-Ok.entered.1 } in
+    let e : NestedRun = record {
+      stream = c.in-Ok.entered.0;
+      heard = c.is_audible-heard.result;
+      value = false;
+      wrap = None;
+      saved = c.in-Ok.entered.1;
+    } in
     let enters = block_entered p c.args.base.now c.args.self.now c.args.name.now c.in-Ok.entered.0 e new c.enter_block.new.self
     (search rules fits 100) (search rules fits 100) (search rules fits 100) (search rules fits 100) (search rules fits 100) in
     boxed {limit = p.host.limit} {n = call_block_of p c.args.base.now c.args.name.now c.args.self.now} {old = c.args.self.now} {new = new}

@@ -21,6 +21,7 @@ returns-clause-performs g c =
     let a = c.args.self.now in
     let xs = c.as_slice-instructions.result.now in
     let there = read_at xs c.place.result c.in-Some.instruction.now c.in-Some.ensures.lookup.3.0 c.in-Some.ensures.lookup.3.1 in
-    let found = ap (λ is. slice_get is a.run.place) (sym (c.as_slice-instructions.ensures ∙ c.requires)) ∙ ap (λ n. slice_get xs n) (sym c.place.ensures) ∙ there in
+    let found = ap (λ is. slice_get is a.run.place) (sym (c.as_slice-instructions.ensures ∙ c.requires))
+    ∙ ap (λ n. slice_get xs n) (sym c.place.ensures) ∙ there in
     step_done p c.args.base.now c.in-Some.instruction.now a c.charge.new.self c.perform.new.self c.perform.result
     found c.in_default-charge.ensures.ok c.charge.ensures.kept c.charge.ensures.rest c.perform.ensures
