@@ -135,11 +135,11 @@ module _ {C : Type 0} where
 -- a render as the first state of a counter
 pub at_first : {P : Type 0} (functions : P →
     List Function) (t : TemplateValue P) (context : Val) (id : ℕ) (r : Result (CapturedValue (StateValue P)) (List ErrorKind))
-    (told now : Option Text) (faults count : ℕ) → id ≡ 0 →
-    (id < greatest → Rendered t (meaning functions t id context) r told now faults count) →
-    Rendered t (meaning functions t 0 context) r told now faults count
-at_first functions t context id r told now faults count e rendered =
-    subst (λ n. Rendered t (meaning functions t n context) r told now faults count) e (rendered (omega (arith, e)))
+    (told now : Option Text) (failures count : ℕ) → id ≡ 0 →
+    (id < greatest → Rendered t (meaning functions t id context) r told now failures count) →
+    Rendered t (meaning functions t 0 context) r told now failures count
+at_first functions t context id r told now failures count e rendered =
+    subst (λ n. Rendered t (meaning functions t n context) r told now failures count) e (rendered (omega (arith, e)))
 
 -- an error that was passed on
 pub passed : {T E : Type 0} (r : Result T E) (P : T → Type 0) (Q : E → Type 0) (e : E) → IsErrAnd r (λ x. x ≡ e) → Q e → MatchResult r P Q

@@ -127,7 +127,7 @@ IsRendered contents input old new =
 abbrev pub IsBegun : Input → Option Text → Option Text → Type 0
 IsBegun input old new = (tree : Tree) × Spells default_syntax input.source tree × AppendsBeginning old new (meaning_of input tree).text
 
--- A render ends with this error, and the writer holds what that error leaves. Its count of faults rose where a write failed, and only
+-- A render ends with this error, and the writer holds what that error leaves. Its count of failures rose where a write failed, and only
 -- there.
 pub data IsFault {W : Type 0} (contents : W → Option Text) (input : Input) (chain : List ErrorKind) (old new : Tally W) : Type 0 where
   -- want of memory: nothing was written, or a beginning of the text

@@ -11,7 +11,7 @@ use Rattle.tm_meaning.specs.Memory.{is_want_of_memory}
 use Rattle.tm_values.specs.declared.error.ErrorKind.{ErrorKind}
 use Rattle.tm_values.specs.declared.error.ErrorKind.TheVariants as kind
 use Rattle.tm_output.specs.Counts.{Tally, saturating_increment, AppendsBeginning}
-use Rattle.tm_parts.proofs.Pieces.{appends_then, beginning_longer, appends_then_beginning}
+use Rattle.tm_output.specs.Pieces.{appends_then, beginning_longer, appends_then_beginning}
 use Rattle.mj_words.specs.CommandLine.{Text}
 use Rattle.mj_words.specs.Told.{line, causes, message, refusal_message, refusal_status, IsWritten, IsTold}
 use Rattle.mj_words.specs.declared.arguments.Refusal.{Refusal}

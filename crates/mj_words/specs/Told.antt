@@ -41,7 +41,7 @@ IsWritten contents result old new text =
     (λ _. Appends (contents old.writer) (contents new.writer) text × (new.failures ≡ old.failures))
     (λ _. AppendsBeginning (contents old.writer) (contents new.writer) text × (new.failures ≡ saturating_increment old.failures))
 
--- The writer got a beginning of the text, and all of it where its count of faults didn't rise; a count that stands at its greatest value
+-- The writer got a beginning of the text, and all of it where its count of failures didn't rise; a count that stands at its greatest value
 -- tells nothing.
 abbrev pub IsTold : {W : Type 0} → (W → Option Text) → Tally W → Tally W → Text → Type 0
 IsTold contents old new text =

@@ -2,7 +2,7 @@
 use Rattle.std.specs.Prelude.{Option, Ok, Err}
 use Rattle.tm_values.specs.Answer.{Answer}
 use Rattle.tm_values.specs.Val.{Val}
-use Rattle.tm_meaning.specs.World.{or_undefined}
+use Rattle.tm_definitions.specs.Members.{or_undefined}
 use Rattle.tm_meaning.specs.declared.reply.Reply.{Reply}
 use Rattle.tm_meaning.specs.declared.reply.Reply.TheVariants.{Value as gives, Fault as faults}
 

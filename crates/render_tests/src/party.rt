@@ -2,7 +2,8 @@
 ghost use Rattle.std.specs.Prelude.{◌≡◌, ◌-◌, false, List, [], ◌∷◌, codes, length, option_copied, pos, slice_get};
 ghost use Rattle.tm_values.specs.Val.{number, text};
 ghost use Rattle.tm_syntax.specs.Named.{find};
-ghost use Rattle.tm_meaning.specs.World.{find_name, or_undefined};
+ghost use Rattle.tm_definitions.specs.Members.{or_undefined};
+ghost use Rattle.tm_meaning.specs.World.{find_name};
 ghost use Rattle.tm_meaning.specs.declared.reply.Reply.TheVariants.{Value as gives, Fault as faults};
 ghost use Rattle.tm_tables.specs.Stated.{IsStated, just, keeping};
 ghost use Rattle.render_tests.specs.Found.{reply_of_found};
@@ -42,40 +43,40 @@ impl Callable for Party {
       | Faulty kind ↦ λ args view. just (faults (kind ∷ []))
     ] };
 
-    fn call(&self, alloc: Global, args: &[Value], view: &View<'_>) -> Answer {
+    fn call(&self, alloc: Global, args: &[Value], view: &View<'_>) -> CallableAnswer {
         match self {
             Party::Second => shared(alloc, args.get(1)),
             Party::Last => shared(alloc, args.last()),
-            Party::Keeper => Answer::value(alloc, Value::number(2)).keep(
+            Party::Keeper => CallableAnswer::value(alloc, Value::number(2)).keep(
                 alloc,
                 "k",
                 Value::number(1),
             ),
             Party::Reader => shared(alloc, view.get_temp("k")),
             Party::Title => match Value::text(alloc, view.name()) {
-                Ok(name) => Answer::value(alloc, name),
-                Err(error) => Answer::fault(alloc, error),
+                Ok(name) => CallableAnswer::value(alloc, name),
+                Err(error) => CallableAnswer::fault(alloc, error),
             },
             Party::Seen => match view.lookup("g") {
-                Ok(Some(found)) => Answer::value(alloc, found),
-                Ok(None) => Answer::value(alloc, Value::undefined()),
-                Err(error) => Answer::fault(alloc, error),
+                Ok(Some(found)) => CallableAnswer::value(alloc, found),
+                Ok(None) => CallableAnswer::value(alloc, Value::undefined()),
+                Err(error) => CallableAnswer::fault(alloc, error),
             },
-            Party::Faulty(kind) => Answer::fault(alloc, Error::from(*kind)),
+            Party::Faulty(kind) => CallableAnswer::fault(alloc, Error::from(*kind)),
         }
     }
 }
 
 /// Answers a value that is kept elsewhere; undefined where there is none.
-fn shared(alloc: Global, found: Option<&Value>) -> Answer
+fn shared(alloc: Global, found: Option<&Value>) -> CallableAnswer
     ensures { IsStated result (just (gives (or_undefined (option_copied found.entry)))) }
 {
     match found {
         Some(value) => match value.share() {
-            Ok(value) => Answer::value(alloc, value),
-            Err(error) => Answer::fault(alloc, error),
+            Ok(value) => CallableAnswer::value(alloc, value),
+            Err(error) => CallableAnswer::fault(alloc, error),
         },
-        None => Answer::value(alloc, Value::undefined()),
+        None => CallableAnswer::value(alloc, Value::undefined()),
     }
 }
 

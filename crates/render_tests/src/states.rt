@@ -81,8 +81,8 @@ struct Yes;
 impl Answering for Yes {
     ghost answers = { λ _ args. just (gives (boolean true)) };
 
-    fn answer(&self, alloc: Global, _args: &[Value]) -> Answer {
-        Answer::value(alloc, Value::boolean(true))
+    fn answer(&self, alloc: Global, _args: &[Value]) -> CallableAnswer {
+        CallableAnswer::value(alloc, Value::boolean(true))
     }
 }
 

@@ -13,7 +13,7 @@ use Rattle.tm_meaning.specs.Steps.{Final, final, Reaches}
 use Rattle.tm_meaning.specs.Compiled.{IsCompiled}
 use Rattle.tm_meaning.proofs.Ends.{one_end}
 use Rattle.tm_output.specs.Counts.{AppendsBeginning}
-use Rattle.tm_parts.specs.Halts.{faults_after}
+use Rattle.tm_parts.specs.Halts.{failures_after}
 use Rattle.tm_parts.specs.declared.halt.Halt.{Halt}
 use Rattle.tm_parts.specs.declared.halt.Halt.TheVariants as halt
 use Rattle.tm_simulation.proofs.Follow.{Bed, air, inside}
@@ -97,7 +97,7 @@ heard_inside (fault chain) out w = refl
 -- ---------------------------------------------------------------- runs
 -- A run of a template's code, over captures and a writer.
 module _ (p : Program) (trees : Trees) (compiled : IsCompiled trees p) (captures new : List Capture) (w left : World)
-    (told now : Option (List ℕ)) (faults count : ℕ) where
+    (told now : Option (List ℕ)) (failures count : ℕ) where
   abbrev m : Outcome
   m = rendered p.host trees w
 
@@ -121,30 +121,30 @@ module _ (p : Program) (trees : Trees) (compiled : IsCompiled trees p) (captures
   written text same appended = subst (λ t. Appends told now t) same appended
 
   pub run_done : (parts : List Capture × World) → IsFresh captures → parts.0 ≡ new → parts.1 ≡ left → ComesTo (Finished new left) →
-      count ≡ faults → Ran m (Ok parts) captures told now faults count
+      count ≡ failures → Ran m (Ok parts) captures told now failures count
   run_done parts fresh first second (text, appended, reaches) counted =
       let same = finished_is m.ending captures new text m.text left m.world (one_end reaches (reached fresh)) in
       run_as_meant (same.1.0 ∙ ap (λ x. Ok x) (sym second), first ∙ same.1.1) (written text same.0 appended) counted
 
   pub run_halted : (why : Halt) → IsFresh captures → HaltsAs why left ComesTo →
       WroteBeginning p (base_of true captures w) (start (whole w.stream) captures w) told now →
-      count ≡ faults_after {A = Unit {0}} (Err why) faults → Ran m (Err why) captures told now faults count
+      count ≡ failures_after {A = Unit {0}} (Err why) failures → Ran m (Err why) captures told now failures count
   run_halted why fresh ends begun counted = by_halt why ends counted
     where
       part : AppendsBeginning told now (put_out captures m.text)
       part = begun _ (reached fresh)
 
       by_chain : (b : Bool) (chain : List ErrorKind) → is_want_of_memory chain ≡ b →
-          (is_want_of_memory chain ≡ false → ComesTo (Failed chain left)) → count ≡ faults →
-          Ran m (Err (halt.Fault chain)) captures told now faults count
+          (is_want_of_memory chain ≡ false → ComesTo (Failed chain left)) → count ≡ failures →
+          Ran m (Err (halt.Fault chain)) captures told now failures count
       by_chain true chain memory ends counted = run_by_memory chain refl memory part counted
       by_chain false chain own ends counted =
           let came = ends own in
           let same = failed_is m.ending captures came.0 m.text left m.world chain (one_end came.2 (reached fresh)) in
           run_as_meant same.1 (written came.0 same.0 came.1) counted
 
-      by_halt : (why : Halt) → HaltsAs why left ComesTo → count ≡ faults_after {A = Unit {0}} (Err why) faults →
-          Ran m (Err why) captures told now faults count
+      by_halt : (why : Halt) → HaltsAs why left ComesTo → count ≡ failures_after {A = Unit {0}} (Err why) failures →
+          Ran m (Err why) captures told now failures count
       by_halt halt.Writer ends counted = run_by_writer refl part counted
       by_halt halt.Stuck (text, appended, reaches) counted = absurd
           (not_stuck m.ending captures text m.text left m.world (one_end reaches (reached fresh)))

@@ -7,7 +7,7 @@ use Rattle.tm_values.specs.declared.error.ErrorKind.TheVariants.{InvalidOperatio
 use Rattle.tm_meaning.specs.World.{Function, World}
 use Rattle.tm_meaning.specs.Calls.{whole}
 use Rattle.tm_meaning.specs.Machine.{Capture, Config, Finished, Program, base_of, start}
-use Rattle.tm_parts.specs.Halts.{faults_after}
+use Rattle.tm_parts.specs.Halts.{failures_after}
 use Rattle.tm_parts.specs.declared.halt.Halt.{Halt}
 use Rattle.tm_vm.specs.Answers.{program, HaltsAs, ReachesEnd}
 use Rattle.tm_vm.specs.Nested.{WroteBeginning}
@@ -18,25 +18,25 @@ use Rattle.template_machine.proofs.Answered.{run_done, run_halted}
 
 module _ {O : Type 0} (functions : O →
     List Function) (t r : TemplateValue O) (same : r
-    ≡ t) (captures new : List Capture) (w left : World) (told now : Option (List ℕ)) (faults count : ℕ)
+    ≡ t) (captures new : List Capture) (w left : World) (told now : Option (List ℕ)) (failures count : ℕ)
     (config : Config) (begins : config ≡ start (whole w.stream) captures w) (fresh : IsFresh captures) where
   abbrev p : Program
   p = program (host_of functions r) (code r)
 
   pub over_done : (parts : List Capture × World) → parts.0 ≡ new → parts.1 ≡ left →
-      ReachesEnd p (base_of true config.captures config.world) config told now (Finished new left) → count ≡ faults →
-      Ran (meaning_from functions t w) (Ok parts) captures told now faults count
+      ReachesEnd p (base_of true config.captures config.world) config told now (Finished new left) → count ≡ failures →
+      Ran (meaning_from functions t w) (Ok parts) captures told now failures count
   over_done parts first second comes counted =
-      subst (λ (v : TemplateValue O). Ran (meaning_from functions v w) (Ok parts) captures told now faults count) same
-      (run_done p (trees r) (λ s. refl) captures new w left told now faults count parts fresh first second
+      subst (λ (v : TemplateValue O). Ran (meaning_from functions v w) (Ok parts) captures told now failures count) same
+      (run_done p (trees r) (λ s. refl) captures new w left told now failures count parts fresh first second
       (subst (λ (c : Config). ReachesEnd p (base_of true c.captures c.world) c told now (Finished new left)) begins comes) counted)
 
   pub over_halted : (why : Halt) → HaltsAs why left (ReachesEnd p (base_of true config.captures config.world) config told now) →
       WroteBeginning p (base_of true config.captures config.world) config told now →
-      count ≡ faults_after {A = Unit {0}} (Err why) faults → Ran (meaning_from functions t w) (Err why) captures told now faults count
+      count ≡ failures_after {A = Unit {0}} (Err why) failures → Ran (meaning_from functions t w) (Err why) captures told now failures count
   over_halted why ends begun counted =
-      subst (λ (v : TemplateValue O). Ran (meaning_from functions v w) (Err why) captures told now faults count) same
-      (run_halted p (trees r) (λ s. refl) captures new w left told now faults count why fresh
+      subst (λ (v : TemplateValue O). Ran (meaning_from functions v w) (Err why) captures told now failures count) same
+      (run_halted p (trees r) (λ s. refl) captures new w left told now failures count why fresh
       (subst (λ (c : Config). HaltsAs why left (ReachesEnd p (base_of true c.captures c.world) c told now)) begins ends)
       (subst (λ (c : Config). WroteBeginning p (base_of true c.captures c.world) c told now) begins begun) counted)
 

@@ -32,7 +32,7 @@ pub record CapturedValue (S : Type 0) : Type 0 where
 abbrev pub with_temp : {O : Type 0} → List ℕ → Val → StateValue O → StateValue O
 with_temp x value s = record s { world = record s.world { temps = put x value s.world.temps } }
 
--- the greatest u64: a counter of state ids that stands there is full, and a count of faults stays there
+-- the greatest u64: a counter of state ids that stands there is full, and a count of failures stays there
 abbrev pub greatest : ℕ
 greatest = 2 ^ 64 - 1
 
@@ -74,17 +74,17 @@ abbrev pub IsRenderedText : Result (String Global) (List ErrorKind) → Outcome 
 IsRenderedText (Ok text) m = (string_bytes text ≡ m.text) × (w : World) × (answer_of m ≡ Ok w)
 IsRenderedText (Err answer) m = answer_of m ≡ Err answer
 
--- How a render into a writer ended. The writer was given what stood in `told` before and `now` after, and its count of faults was `faults`
+-- How a render into a writer ended. The writer was given what stood in `told` before and `now` after, and its count of failures was `failures`
 -- and is `count`.
 pub data Rendered {O : Type 0} (t : TemplateValue O) (m : Outcome) (result : Result (CapturedValue (StateValue O)) (List ErrorKind))
-    (told now : Option (List ℕ)) (faults count : ℕ) : Type 0 where
+    (told now : Option (List ℕ)) (failures count : ℕ) : Type 0 where
   -- as was meant: the answer is the end that was meant, and the writer got the whole text
-  as_meant : IsEnd t result m → Appends told now m.text → count ≡ faults → Rendered t m result told now faults count
+  as_meant : IsEnd t result m → Appends told now m.text → count ≡ failures → Rendered t m result told now failures count
   -- the writer failed, behind a beginning of the text
-  by_writer : result ≡ Err (WriteFailure ∷ []) → AppendsBeginning told now m.text → count ≡ saturating_increment faults →
-      Rendered t m result told now faults count
+  by_writer : result ≡ Err (WriteFailure ∷ []) → AppendsBeginning told now m.text → count ≡ saturating_increment failures →
+      Rendered t m result told now failures count
   -- no memory was found, behind a beginning of the text
-  by_memory : IsMemory result → AppendsBeginning told now m.text → count ≡ faults → Rendered t m result told now faults count
+  by_memory : IsMemory result → AppendsBeginning told now m.text → count ≡ failures → Rendered t m result told now failures count
 
 -- How a render to a text ended: as was meant, or since no memory was found.
 pub data RenderedText (m : Outcome) (result : Result (String Global) (List ErrorKind)) : Type 0 where
@@ -122,9 +122,9 @@ IsRun (Err _) old m = ⊥
 
 -- How a run over captures ended, in the same three ways.
 pub data Ran (m : Outcome) (result : Result (List Capture × World) Halt) (old : List Capture) (told now : Option (List ℕ))
-    (faults count : ℕ) : Type 0 where
-  run_as_meant : IsRun result old m → Appends told now (put_out old m.text) → count ≡ faults → Ran m result old told now faults count
-  run_by_writer : result ≡ Err halt.Writer → AppendsBeginning told now (put_out old m.text) → count ≡ saturating_increment faults →
-      Ran m result old told now faults count
+    (failures count : ℕ) : Type 0 where
+  run_as_meant : IsRun result old m → Appends told now (put_out old m.text) → count ≡ failures → Ran m result old told now failures count
+  run_by_writer : result ≡ Err halt.Writer → AppendsBeginning told now (put_out old m.text) → count ≡ saturating_increment failures →
+      Ran m result old told now failures count
   run_by_memory : (chain : List ErrorKind) → result ≡ Err (halt.Fault chain) → is_want_of_memory chain ≡ true →
-      AppendsBeginning told now (put_out old m.text) → count ≡ faults → Ran m result old told now faults count
+      AppendsBeginning told now (put_out old m.text) → count ≡ failures → Ran m result old told now failures count

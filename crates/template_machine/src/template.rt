@@ -169,12 +169,12 @@ impl<'env, 'source, O: Parties> TemplateOf<'env, 'source, O> {
     ) -> Result<CapturedOf<StateOf<'_, O>>, Error>
         ensures full { ids.old ≡ greatest →
             (result ≡ Err (ErrorKind.InvalidOperation ∷ [])) × (ids.new ≡ ids.old)
-            × (W.told writer.new ≡ W.told writer.old)
-            × (W.faults writer.new ≡ W.faults writer.old) }
+            × (W.written writer.new ≡ W.written writer.old)
+            × (W.failures writer.new ≡ W.failures writer.old) }
         ensures next { ids.old < greatest → ids.new ≡ ids.old + 1 }
         ensures rendered { ids.old < greatest →
             Rendered self.now (meaning O.functions self.now ids.old context) result
-            (W.told writer.old) (W.told writer.new) (W.faults writer.old) (W.faults writer.new) }
+            (W.written writer.old) (W.written writer.new) (W.failures writer.old) (W.failures writer.new) }
     {
         let first = self.first_state(ids, context)?;
         let alloc = self.environment.allocator();
@@ -215,7 +215,7 @@ impl<'env, 'source, O: Parties> TemplateOf<'env, 'source, O> {
         requires own { state.stream ≡ root_of self.now.id }
         requires fresh { IsFresh captures }
         ensures { Ran (meaning_from O.functions self.now state.entry) result captures
-            (W.told writer.old) (W.told writer.new) (W.faults writer.old) (W.faults writer.new) }
+            (W.written writer.old) (W.written writer.new) (W.failures writer.old) (W.failures writer.new) }
     {
         let alloc = self.environment.allocator();
         let template = match self.id() {

@@ -19,5 +19,5 @@ of_tokens s source ts tree found h =
     subst (λ us. template.SpellsTemplate us tree) (one_list_of s source h.tokens ts h.scanned found) h.parsed
 
 -- a source whose tokens spell no tree
-pub no_tree : (s : Syntax) (source : List ℕ) (ts : List Token) → SpellsTokens s source ts → template.SpellsNone ts → SpellsNone s source
+pub no_tree : (s : Syntax) (source : List ℕ) (ts : List Token) → SpellsTokens s source ts → template.SpellsNoTemplate ts → SpellsNone s source
 no_tree s source ts found none tree h = none tree (of_tokens s source ts tree found h)

@@ -2,7 +2,7 @@
 ghost use Rattle.std.specs.Prelude.{◌≡◌, ℕ, List, IfOk, IfErr};
 ghost use Rattle.std.specs.Rc.{rc_str_bytes};
 ghost use Rattle.tm_compiler.specs.Spells.{Spells, SpellsNone};
-ghost use Rattle.tm_scanner.specs.Refused.{Refused};
+ghost use Rattle.tm_values.specs.Answer.{Refused};
 ghost use Rattle.tm_delimiters.specs.Syntax.{Syntax};
 ghost use Rattle.tm_syntax.specs.declared.tree.Tree.{Tree as Meant};
 

@@ -3,8 +3,8 @@ use Rattle.std.specs.Prelude.{Bool, not, Ok}
 use Rattle.std.specs.declared.cmp.Ordering.{Ordering}
 use Rattle.std.specs.Ordering.{is_lt, is_eq, is_gt}
 use Rattle.tm_values.specs.Defined.{refusal_of, unless}
-use Rattle.tm_definitions.specs.declared.comparison.Comparison.{Comparison}
-use Rattle.tm_definitions.specs.declared.comparison.Comparison.TheVariants.{Equal, NotEqual, Less, LessOrEqual, Greater, GreaterOrEqual}
+use Rattle.tm_definitions.specs.declared.comparison.ComparisonOperator.{ComparisonOperator}
+use Rattle.tm_definitions.specs.declared.comparison.ComparisonOperator.TheVariants.{Equal, NotEqual, Less, LessOrEqual, Greater, GreaterOrEqual}
 use Rattle.tm_values.specs.Answer.{Answer}
 use Rattle.tm_values.specs.Order.{val_cmp}
 use Rattle.tm_values.specs.Val.{Val}
@@ -12,7 +12,7 @@ use Rattle.tm_values.specs.declared.undefined.UndefinedBehavior.{UndefinedBehavi
 use Rattle.tm_values.specs.declared.undefined.UndefinedUse.TheVariants as use_of
 
 -- whether values that stand to one another so compare so
-abbrev pub is_met : Comparison → Ordering → Bool
+abbrev pub is_met : ComparisonOperator → Ordering → Bool
 is_met Equal o = is_eq o
 is_met NotEqual o = not (is_eq o)
 is_met Less o = is_lt o
@@ -21,7 +21,7 @@ is_met Greater o = is_gt o
 is_met GreaterOrEqual o = not (is_lt o)
 
 -- both sides are asked for being undefined, the left one first
-abbrev pub compared : Comparison → UndefinedBehavior → Val → Val → Answer Bool
+abbrev pub compared : ComparisonOperator → UndefinedBehavior → Val → Val → Answer Bool
 compared c b l r =
     unless (refusal_of b use_of.Comparison l)
     (unless (refusal_of b use_of.Comparison r) (Ok (is_met c (val_cmp l r))))

@@ -2,7 +2,7 @@
 use Rattle.std.specs.Prelude.{ℕ, false, List, ◌++◌, Ok, Err}
 use Rattle.tm_values.specs.Defined.{refusal_of, unless}
 use Rattle.tm_definitions.specs.Printed.{printed}
-use Rattle.tm_definitions.specs.Refused.{Verdict, print_verdict}
+use Rattle.tm_definitions.specs.Verdicts.{Verdict, print_verdict}
 use Rattle.tm_values.specs.Answer.{Answer}
 use Rattle.tm_values.specs.Records.{RecordData}
 use Rattle.tm_values.specs.Val.{Val, text}

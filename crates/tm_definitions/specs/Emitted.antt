@@ -9,7 +9,7 @@ use Rattle.tm_values.specs.declared.escape.AutoEscape.TheVariants as escape
 use Rattle.tm_definitions.specs.Texts.{in_html}
 use Rattle.tm_definitions.specs.Printed.{printed}
 use Rattle.tm_definitions.specs.Json.{json_text}
-use Rattle.tm_definitions.specs.Refused.{Verdict, fine, print_verdict, json_verdict}
+use Rattle.tm_definitions.specs.Verdicts.{Verdict, fine, print_verdict, json_verdict}
 
 abbrev pub escaped_verdict : AutoEscape → RecordData → Val → Verdict
 escaped_verdict escape.None r v = print_verdict r v

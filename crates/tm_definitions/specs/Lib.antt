@@ -12,6 +12,6 @@ pub mod Texts
 pub mod Loops
 pub mod Printed
 pub mod Json
-pub mod Refused
+pub mod Verdicts
 pub mod Emitted
 pub mod Concatenation

@@ -5,6 +5,6 @@ mod comparison;
 mod form;
 mod loop_attribute;
 
-pub use comparison::Comparison;
+pub use comparison::ComparisonOperator;
 pub use form::Form;
 pub use loop_attribute::LoopAttribute;

@@ -1,12 +1,12 @@
 -- The laws of a value that grows.
 use Rattle.std.specs.Prelude.{◌≡◌, ℕ, zero, suc, ◌<◌, ◌≤◌, List, length, Some, None, option_and_then, refl}
 use Rattle.std.proofs.Common.{arith, sym, ◌∙◌, ap}
-use Rattle.tm_grammar.specs.Meanings.{Read, got, Spells, Reads, stops, grows, grow_spells, turn, grow_reads_by, grow_reads}
+use Rattle.tm_grammar.specs.Meanings.{Read, got, Derives, Reads, stops, grows, grow_spells, turn, grow_reads_by, grow_reads}
 use Rattle.tm_grammar.specs.Rule.{Sound, Complete, Shorter, Rule, Look}
 use Rattle.tm_grammar.specs.Laws.{not_got, same_got, pure_only}
 
 module _ {T A B : Type 0} (p : Look T A) (part : A → B → Rule T B) where
-  abbrev pub spelled : B → Spells T B
+  abbrev pub spelled : B → Derives T B
   spelled = grow_spells p.sees (λ a y. (part a y).spells)
 
   abbrev pub read : B → Reads T B

@@ -9,18 +9,18 @@ Read T A = Option (A × List T)
 abbrev pub got : {T A : Type 0} → A → List T → Read T A
 got a rest = Some (a, rest)
 
-abbrev pub Spells : Type 0 → Type 0 → Type 1
-Spells T A = List T → A → List T → Type 0
+abbrev pub Derives : Type 0 → Type 0 → Type 1
+Derives T A = List T → A → List T → Type 0
 
 abbrev pub Reads : Type 0 → Type 0 → Type 0
 Reads T A = List T → Read T A
 
 -- No token spells this value.
-abbrev pub pure_spells : {T A : Type 0} → A → Spells T A
+abbrev pub pure_spells : {T A : Type 0} → A → Derives T A
 pure_spells x ts a rest = (x ≡ a) × (ts ≡ rest)
 
 -- One part, and behind it another, which the value of the first one chooses.
-abbrev pub bind_spells : {T A B : Type 0} → Spells T A → (A → Spells T B) → Spells T B
+abbrev pub bind_spells : {T A B : Type 0} → Derives T A → (A → Derives T B) → Derives T B
 bind_spells {T = T} {A = A} first then ts b rest = (a : A) × (between : List T) × first ts a between × then a between b rest
 
 abbrev pub bind_reads : {T A B : Type 0} → Reads T A → (A → Reads T B) → Reads T B
@@ -45,7 +45,7 @@ not_before_sees q None = None
 not_before_sees q (Some x) = unless_seen (got x.0 x.1) (first_sees q x.1)
 
 -- One rule behind what stands first, where it was seen, and another where it was not.
-abbrev pub branch_spells : {T A B : Type 0} → (A → Spells T B) → Spells T B → Read T A → Spells T B
+abbrev pub branch_spells : {T A B : Type 0} → (A → Derives T B) → Derives T B → Read T A → Derives T B
 branch_spells then other None ts b rest = other ts b rest
 branch_spells then other (Some x) ts b rest = then x.0 x.1 b rest
 
@@ -54,12 +54,12 @@ branch_reads then other None ts = other ts
 branch_reads then other (Some x) ts = then x.0 x.1
 
 -- A value grows by one part after another, for as long as what begins a part stands first.
-pub data Grows {T A B : Type 0} (sees : Reads T A) (part : A → B → Spells T B) : List T → B → B → List T → Type 0 where
+pub data Grows {T A B : Type 0} (sees : Reads T A) (part : A → B → Derives T B) : List T → B → B → List T → Type 0 where
   stops : {ts rest : List T} {x z : B} → sees ts ≡ None → x ≡ z → ts ≡ rest → Grows sees part ts x z rest
   grows : {ts behind between rest : List T} {a : A} {x y z : B} →
       sees ts ≡ got a behind → part a x behind y between → Grows sees part between y z rest → Grows sees part ts x z rest
 
-abbrev pub grow_spells : {T A B : Type 0} → Reads T A → (A → B → Spells T B) → B → Spells T B
+abbrev pub grow_spells : {T A B : Type 0} → Reads T A → (A → B → Derives T B) → B → Derives T B
 grow_spells sees part x ts z rest = Grows sees part ts x z rest
 
 -- one part where something was seen, and then what `more` reads

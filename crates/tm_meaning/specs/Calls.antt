@@ -4,7 +4,7 @@ use Rattle.std.specs.Prelude.{not, nat_eq, ◌&&◌, ◌||◌, slice_get, codes,
 use Rattle.std.specs.Ordering.{is_eq}
 use Rattle.tm_definitions.specs.Maps.{dict_of, namespace_of}
 use Rattle.tm_definitions.specs.Ranges.{range_of}
-use Rattle.tm_definitions.specs.Members.{macro_member}
+use Rattle.tm_definitions.specs.Members.{macro_member, or_undefined}
 use Rattle.tm_values.specs.Answer.{Answer}
 use Rattle.tm_values.specs.Order.{val_cmp}
 use Rattle.tm_values.specs.Records.{RecordData}
@@ -18,7 +18,7 @@ use Rattle.tm_meaning.specs.declared.function.GlobalFunction.TheVariants as own
 use Rattle.tm_meaning.specs.World.{TemplateId, own, entry, StreamId, block_of, Named, find, put_each, same_name, Card, Layers, Loop, World}
 use Rattle.tm_meaning.specs.World.{HostValue, View, Scope, Stated, Function, callers, languages, Res, Good, Bad, bind, bad, answered}
 use Rattle.tm_meaning.specs.World.{items_over, innermost, records_of, make_namespace, need, check, card_at, view_of, lookup}
-use Rattle.tm_meaning.specs.World.{context_member, or_undefined, place_of, plain, push}
+use Rattle.tm_meaning.specs.World.{context_member, place_of, plain_scope, push}
 use Rattle.tm_meaning.specs.declared.reply.Reply.{Reply}
 use Rattle.tm_meaning.specs.declared.reply.Reply.TheVariants.{Value as gives, Fault as faults}
 
@@ -80,7 +80,7 @@ enter_block host b w =
     ask (need (find b w.blocks) UnknownBlock w) (λ l world1.
     ask (need (slice_get l.templates l.place) UnknownBlock world1) (λ t world2.
     ask (check (not (required_alone host (block_of t b) l)) InvalidOperation world2) (λ _ world3.
-    ask (push host (plain (undefined false)) world3) (λ _ world4.
+    ask (push host (plain_scope (undefined false)) world3) (λ _ world4.
     runs (record { callee = whole (block_of t b); undo = of_block w; wrap = None })
     (record world4 { stream = block_of t b; block = Some b })))))
 

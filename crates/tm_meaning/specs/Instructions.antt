@@ -11,7 +11,7 @@ use Rattle.tm_meaning.specs.declared.mark.LoopMark.{LoopMark}
 use Rattle.tm_syntax.specs.declared.tree.BinaryOperator.{BinaryOperator}
 use Rattle.tm_meaning.specs.World.{choose, TemplateId, World, HostValue, Loop, top_mark, top_loop, open_loop, next_turn, cleared}
 use Rattle.tm_meaning.specs.World.{items_over, Res, Good, answered, looked_up, emitted, escape_for, with_escape, store, unpacked_items}
-use Rattle.tm_meaning.specs.World.{set_member, push, pop, plain, captured_text}
+use Rattle.tm_meaning.specs.World.{set_member, push, pop, plain_scope, captured_text}
 use Rattle.tm_syntax.specs.Loops.{loops_before}
 use Rattle.tm_meaning.specs.Calls.{enter_block, call_named, call_first, call_innermost}
 use Rattle.tm_meaning.specs.Meaning.{none_waits, truth, applied_unary, operated, attribute, item_at, slice_of, list_of_values, map_of_pairs}
@@ -136,7 +136,7 @@ set_attr_of x c =
     on_top c.run.operands c.world (λ o vs. on_top vs c.world (λ v rest. after (set_member x v o c.world) (λ _ w. goes rest w c)))
 
 abbrev pub push_with_of : HostValue → Config → Next
-push_with_of host c = after (push host (plain (undefined false)) c.world) (λ _ w. goes c.run.operands w c)
+push_with_of host c = after (push host (plain_scope (undefined false)) c.world) (λ _ w. goes c.run.operands w c)
 
 abbrev pub is_no_loop : Option LoopMark → Bool
 is_no_loop None = true

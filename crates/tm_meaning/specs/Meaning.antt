@@ -17,7 +17,7 @@ use Rattle.tm_definitions.specs.Concatenation.{concatenated}
 use Rattle.tm_definitions.specs.Containment.{contained}
 use Rattle.tm_definitions.specs.Members.{attribute_of, item_of}
 use Rattle.tm_definitions.specs.Slices.{sliced}
-use Rattle.tm_definitions.specs.declared.comparison.Comparison.TheVariants as comparison
+use Rattle.tm_definitions.specs.declared.comparison.ComparisonOperator.TheVariants as comparison
 use Rattle.tm_syntax.specs.declared.tree.UnaryOperator.{UnaryOperator}
 use Rattle.tm_syntax.specs.declared.tree.UnaryOperator.TheVariants as unaries
 use Rattle.tm_syntax.specs.declared.tree.BinaryOperator.{BinaryOperator}
@@ -43,7 +43,7 @@ use Rattle.tm_syntax.specs.Code.{count_targets, for_flags, pass_flags}
 use Rattle.tm_syntax.specs.Loops.{passes, within_loop, past, pasts, FoundLoop, loops_in}
 use Rattle.tm_meaning.specs.World.{choose, TemplateId, root_of, World, HostValue, Res, Good, Bad, bind, answered, tick, ticked, looked_up}
 use Rattle.tm_meaning.specs.World.{records_of, template_at, emitted, escape_for, with_escape, captured_text, open_loop, next_turn}
-use Rattle.tm_meaning.specs.World.{cleared, items_over, store, set_member, unpacked_items, push, pop, plain as plain_scope}
+use Rattle.tm_meaning.specs.World.{cleared, items_over, store, set_member, unpacked_items, push, pop, plain_scope}
 use Rattle.tm_meaning.specs.Calls.{Callee, whole, Call, Asked, has, refused, runs, recurs, undone, wrapped, enter_block, call_named}
 use Rattle.tm_meaning.specs.Calls.{call_method, call_innermost, own_blocks}
 use Rattle.tm_meaning.specs.Tree.{Body, Trees}

@@ -23,10 +23,10 @@ pub use Rattle.tm_meaning.specs.declared.stream.TemplateId.{TemplateId}
 pub use Rattle.tm_meaning.specs.declared.stream.TemplateId.TheVariants.{Own as own, Entry as entry}
 pub use Rattle.tm_meaning.specs.declared.stream.StreamId.{StreamId}
 use Rattle.tm_definitions.specs.Iteration.{iterated, unpacked}
-use Rattle.tm_definitions.specs.Members.{settable}
+use Rattle.tm_definitions.specs.Members.{or_undefined, settable}
 use Rattle.tm_values.specs.Defined.{refusal_of, unless}
 use Rattle.tm_definitions.specs.Emitted.{emission_verdict, emitted_text}
-use Rattle.tm_definitions.specs.Refused.{Verdict}
+use Rattle.tm_definitions.specs.Verdicts.{Verdict}
 
 -- one of two, where only that one is computed
 abbrev pub choose : {A : Type 0} → Bool → (Unit {0} → A) → (Unit {0} → A) → A
@@ -290,10 +290,6 @@ in_frames view x (s ∷ ss) =
 abbrev pub find_name : View → List ℕ → Answer (Option Val)
 find_name view x = or_on_answer (in_frames view x view.frames) (λ _. Ok (find x view.globals))
 
-abbrev pub or_undefined : Option Val → Val
-or_undefined (Some v) = v
-or_undefined None = undefined false
-
 abbrev pub lookup : HostValue → List ℕ → World → Res (Option Val)
 lookup host x w = answered (find_name (view_of host w) x) w
 
@@ -304,8 +300,8 @@ looked_up host x w = bind (lookup host x w) (λ found world1. Good (or_undefined
 abbrev pub depth : Scopes → ℕ
 depth scopes = length scopes.frames + scopes.outer
 
-abbrev pub plain : Val → Scope
-plain context = record { locals = []; context = context; mark = None; own_closure = None; reads = None }
+abbrev pub plain_scope : Val → Scope
+plain_scope context = record { locals = []; context = context; mark = None; own_closure = None; reads = None }
 
 abbrev pub with_frames : List Scope → World → World
 with_frames frames w = record w { scopes = record w.scopes { frames = frames } }
@@ -350,7 +346,7 @@ abbrev pub loop_depth : World → ℕ
 loop_depth w = depth_inside (option_and_then (slice_get w.loops) (innermost w.scopes.frames))
 
 abbrev pub loop_scope : LoopMark → Scope
-loop_scope m = record (plain (undefined false)) { mark = Some m }
+loop_scope m = record (plain_scope (undefined false)) { mark = Some m }
 
 abbrev pub new_loop : List Val → LoopFlags → ℕ → World → Loop
 new_loop items flags number w = record {

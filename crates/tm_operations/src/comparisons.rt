@@ -2,13 +2,13 @@
 ghost use Rattle.std.specs.Prelude.{◌≡◌};
 ghost use Rattle.tm_definitions.specs.Comparison.{compared};
 
-use tm_definitions::Comparison;
+use tm_definitions::ComparisonOperator;
 use tm_values::{Error, UndefinedBehavior, UndefinedUse, Value, check_defined};
 
 /// Whether the comparison holds of the two values, by their order: UndefinedError where one is
 /// undefined and the behaviour refuses that.
 pub fn compare(
-    comparison: Comparison,
+    comparison: ComparisonOperator,
     left: &Value,
     right: &Value,
     behavior: UndefinedBehavior,

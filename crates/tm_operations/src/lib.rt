@@ -23,4 +23,4 @@ pub use members::{attribute, check_settable, is_callable, item};
 pub use ranges::{range, range_law};
 pub use rows::{dict_rows, namespace_rows, order_rows, range_faults, range_rows};
 pub use slices::slice;
-pub use tm_definitions::{Comparison, LoopAttribute};
+pub use tm_definitions::{ComparisonOperator, LoopAttribute};

@@ -18,10 +18,10 @@ abbrev pub saturating_increment : ℕ → ℕ
 saturating_increment n = min (n + 1) (2 ^ 64 - 1)
 
 -- the count after a write: one more where it failed or took nothing
-abbrev pub fault_count : {E : Type 0} → Result ℕ E → ℕ → ℕ
-fault_count (Ok zero) n = saturating_increment n
-fault_count (Ok (suc taken)) n = n
-fault_count (Err e) n = saturating_increment n
+abbrev pub failure_count : {E : Type 0} → Result ℕ E → ℕ → ℕ
+failure_count (Ok zero) n = saturating_increment n
+failure_count (Ok (suc taken)) n = n
+failure_count (Err e) n = saturating_increment n
 
 -- what is left of a limit after a write: less by what it took
 abbrev pub left_after : {E : Type 0} → Result ℕ E → ℕ → ℕ

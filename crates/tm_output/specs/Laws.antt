@@ -13,9 +13,9 @@ string_laws bytes = record {
 }
 
 pub writer_laws :
-    {S : Type 0} (told : S → Option (List ℕ)) (faults : S → ℕ)
-    → Laws (WriterTakes told faults) (WriterTakesInPart told faults)
-writer_laws told faults = record {
+    {S : Type 0} (told : S → Option (List ℕ)) (failures : S → ℕ)
+    → Laws (WriterTakes told failures) (WriterTakesInPart told failures)
+writer_laws told failures = record {
   nothing = λ a. (appends_nothing (told a), refl);
   then_took = λ a b c s t first second. (
     appends_then (told a) (told b) (told c) s t first.0 second.0,

@@ -4,7 +4,7 @@ use Rattle.std.proofs.Common.{refl, sym, ◌∙◌, ap, subst, arith, append_ass
 use Rattle.std.proofs.Math.Seq.{take-add, take-length, take-append_seam, take-append-add}
 use Rattle.std.proofs.lemmas.List.{append-nil, take-append-le, take_min}
 use Rattle.std.specs.Io.KnownBytes.{Appends}
-use Rattle.tm_output.specs.Counts.{AppendsBeginning, fault_count}
+use Rattle.tm_output.specs.Counts.{AppendsBeginning, failure_count}
 
 -- one text and then another are the joined text
 pub appends_then :
@@ -85,6 +85,6 @@ appends_piece a b c k n text first second =
 
 -- a write that took some bytes is no fault
 pub taken_no_fault :
-    {E : Type 0} (r : Result ℕ E) (n m : ℕ) → r ≡ Ok n → 0 < n → fault_count r m ≡ m
+    {E : Type 0} (r : Result ℕ E) (n m : ℕ) → r ≡ Ok n → 0 < n → failure_count r m ≡ m
 taken_no_fault r zero m is some = absurd (omega arith)
 taken_no_fault r (suc k) m is some = rw is refl

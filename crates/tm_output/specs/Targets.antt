@@ -35,18 +35,18 @@ StringGrowsInPart bytes old text new = GrowsInPart (bytes old) text (bytes new)
 
 -- a writer is told the text, and no call failed
 abbrev pub IsToldWhole : Option (List ℕ) → ℕ → List ℕ → Option (List ℕ) → ℕ → Type 0
-IsToldWhole old faults text new count = Appends old new text × (count ≡ faults)
+IsToldWhole old failures text new count = Appends old new text × (count ≡ failures)
 
 -- a writer is told a beginning of the text, and a call failed
 abbrev pub IsToldInPart : Option (List ℕ) → ℕ → List ℕ → Option (List ℕ) → ℕ → Type 0
-IsToldInPart old faults text new count = AppendsBeginning old new text × (count ≡ saturating_increment faults)
+IsToldInPart old failures text new count = AppendsBeginning old new text × (count ≡ saturating_increment failures)
 
 -- the same of a writer, before and after, seen by what it was told and by its failures
 abbrev pub WriterTakes :
     {S : Type 0} → (S → Option (List ℕ)) → (S → ℕ) → S → List ℕ → S → Type 0
-WriterTakes told faults old text new = IsToldWhole (told old) (faults old) text (told new) (faults new)
+WriterTakes told failures old text new = IsToldWhole (told old) (failures old) text (told new) (failures new)
 
 abbrev pub WriterTakesInPart :
     {S : Type 0} → (S → Option (List ℕ)) → (S → ℕ) → S → List ℕ → S → Type 0
-WriterTakesInPart told faults old text new =
-    IsToldInPart (told old) (faults old) text (told new) (faults new)
+WriterTakesInPart told failures old text new =
+    IsToldInPart (told old) (failures old) text (told new) (failures new)

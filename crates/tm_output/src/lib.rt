@@ -1,4 +1,4 @@
-//! Where text goes: writers whose faults are counted, and whatever takes a text piece by piece.
+//! Where text goes: writers whose failures are counted, and whatever takes a text piece by piece.
 #![tactic(auto)]
 
 mod limited;

@@ -2,7 +2,7 @@
 ghost use Rattle.std.specs.Prelude.{◌≡◌, ◌<◌, ◌≤◌, length, IsErr, IfOk};
 ghost use Rattle.std.specs.Io.{WritesAtMost};
 ghost use Rattle.std.specs.Io.KnownBytes.{WriteAppends};
-ghost use Rattle.tm_output.specs.Counts.{fault_count, left_after};
+ghost use Rattle.tm_output.specs.Counts.{failure_count, left_after};
 
 use crate::sink::Sink;
 use std::cmp::min;
@@ -77,10 +77,10 @@ impl<S: Sink + Drop> Limited<S> {
         requires some { 0 < length bytes.now }
         requires room { 0 < self.old.left }
         ensures bound { WritesAtMost result bytes.now }
-        ensures bytes { WriteAppends (S.told self.old.sink) (S.told self.new.sink) result bytes.now }
+        ensures bytes { WriteAppends (S.written self.old.sink) (S.written self.new.sink) result bytes.now }
         ensures left { self.new.left ≡ left_after result self.old.left }
         ensures fits { IfOk result (λ taken. taken ≤ self.old.left) }
-        ensures sink { S.faults self.new.sink ≡ fault_count result (S.faults self.old.sink) }
+        ensures sink { S.failures self.new.sink ≡ failure_count result (S.failures self.old.sink) }
         ensures failures { self.new.failures ≡ self.old.failures }
     {
         let fits = min(bytes.len(), self.left);
@@ -94,21 +94,21 @@ impl<S: Sink + Drop> Limited<S> {
 }
 
 impl<S: Sink + Drop> Sink for Limited<S> {
-    ghost told = { λ limited. S.told limited.sink };
+    ghost written = { λ limited. S.written limited.sink };
 
-    ghost faults = { λ limited. limited.failures };
+    ghost failures = { λ limited. limited.failures };
 
     /// Takes what the sink takes of the bytes that fit; StorageFull where no byte is left, and the
     /// sink's error where it fails.
     fn write(&mut self, bytes: &[u8]) -> io::Result<usize>
         requires { 0 < length bytes.now }
         ensures bound { WritesAtMost result bytes.now }
-        ensures bytes { WriteAppends (S.told self.old.sink) (S.told self.new.sink) result bytes.now }
-        ensures faults { self.new.failures ≡ fault_count result self.old.failures }
+        ensures bytes { WriteAppends (S.written self.old.sink) (S.written self.new.sink) result bytes.now }
+        ensures failures { self.new.failures ≡ failure_count result self.old.failures }
         ensures left { self.new.left ≡ left_after result self.old.left }
         ensures fits { IfOk result (λ taken. taken ≤ self.old.left) }
         ensures sink { 0 < self.old.left →
-            S.faults self.new.sink ≡ fault_count result (S.faults self.old.sink) }
+            S.failures self.new.sink ≡ failure_count result (S.failures self.old.sink) }
         ensures full { self.old.left ≡ 0 → IsErr result × (self.new.sink ≡ self.old.sink) }
     {
         let answer = if self.left == 0 {

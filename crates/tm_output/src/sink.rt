@@ -1,8 +1,8 @@
-//! Writers whose bytes are told and whose faults are counted.
+//! Writers whose bytes are told and whose failures are counted.
 ghost use Rattle.std.specs.Prelude.{◌≡◌, ◌<◌, ℕ, List, [], length, Option, None, Ok, IsOk, OnOk, OnErr};
 ghost use Rattle.std.specs.Io.{WritesAtMost};
 ghost use Rattle.std.specs.Io.KnownBytes.{Keeps, WriteAppends, Appends};
-ghost use Rattle.tm_output.specs.Counts.{fault_count, saturating_increment, AppendsBeginning};
+ghost use Rattle.tm_output.specs.Counts.{failure_count, saturating_increment, AppendsBeginning};
 
 use std::io::{self, Write};
 use std::marker::Model;
@@ -10,18 +10,18 @@ use std::marker::Model;
 /// A writer that tells its bytes, and how many of its calls failed or took nothing.
 pub trait Sink {
     // The bytes that it was given so far, where they are known.
-    ghost told: { Self → Option (List ℕ) };
+    ghost written: { Self → Option (List ℕ) };
 
     // How many of its calls failed or took nothing.
-    ghost faults: { Self → ℕ };
+    ghost failures: { Self → ℕ };
 
     /// Takes a beginning of the bytes, of which there is one at least, and says how long it is; the
     /// writer's error where it fails.
     fn write(&mut self, bytes: &[u8]) -> io::Result<usize>
         requires { 0 < length bytes.now }
         ensures bound { WritesAtMost result bytes.now }
-        ensures bytes { WriteAppends (told self.old) (told self.new) result bytes.now }
-        ensures faults { faults self.new ≡ fault_count result (faults self.old) };
+        ensures bytes { WriteAppends (written self.old) (written self.new) result bytes.now }
+        ensures failures { failures self.new ≡ failure_count result (failures self.old) };
 }
 
 /// Any writer, with a count of its calls that failed or took nothing.
@@ -80,9 +80,9 @@ impl<W: Write + Drop> Counted<W> {
 }
 
 impl<W: Write + Drop> Sink for Counted<W> {
-    ghost told = { λ counted. W.contents counted.writer };
+    ghost written = { λ counted. W.contents counted.writer };
 
-    ghost faults = { λ counted. counted.failures };
+    ghost failures = { λ counted. counted.failures };
 
     fn write(&mut self, bytes: &[u8]) -> io::Result<usize> {
         let answer = self.inner.write(bytes);
@@ -99,16 +99,16 @@ impl<W: Write + Drop> Sink for Counted<W> {
 pub struct NullWriter;
 
 impl Sink for NullWriter {
-    ghost told = { λ _. None };
+    ghost written = { λ _. None };
 
-    ghost faults = { λ _. 0 };
+    ghost failures = { λ _. 0 };
 
     /// Takes all of the bytes.
     fn write(&mut self, bytes: &[u8]) -> io::Result<usize>
         requires { 0 < length bytes.now }
         ensures bound { WritesAtMost result bytes.now }
         ensures bytes { WriteAppends None None result bytes.now }
-        ensures faults { 0 ≡ fault_count result 0 }
+        ensures failures { 0 ≡ failure_count result 0 }
         ensures all { result ≡ Ok (length bytes.now) }
     {
         Ok(bytes.len())
@@ -118,10 +118,10 @@ impl Sink for NullWriter {
 /// Writes a whole text, each byte once; any error of the writer, or WriteZero where it takes
 /// nothing, ends it.
 pub fn write_text<W: Sink>(sink: &mut W, text: &[u8]) -> Result<(), io::Error>
-    ensures written { OnOk result (Appends (W.told sink.old) (W.told sink.new) text.now) }
-    ensures no_fault { OnOk result (W.faults sink.new ≡ W.faults sink.old) }
-    ensures beginning { AppendsBeginning (W.told sink.old) (W.told sink.new) text.now }
-    ensures fault { OnErr result (W.faults sink.new ≡ saturating_increment (W.faults sink.old)) }
+    ensures written { OnOk result (Appends (W.written sink.old) (W.written sink.new) text.now) }
+    ensures no_fault { OnOk result (W.failures sink.new ≡ W.failures sink.old) }
+    ensures beginning { AppendsBeginning (W.written sink.old) (W.written sink.new) text.now }
+    ensures fault { OnErr result (W.failures sink.new ≡ saturating_increment (W.failures sink.old)) }
     ensures empty { text.now ≡ [] → IsOk result }
 {
     let mut done = 0;

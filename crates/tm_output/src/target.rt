@@ -40,15 +40,15 @@ impl Target for String {
 
 impl<S: Sink> Target for S {
     ghost took = { λ old text new.
-        IsToldWhole (S.told old) (S.faults old) text (S.told new) (S.faults new) };
+        IsToldWhole (S.written old) (S.failures old) text (S.written new) (S.failures new) };
 
     ghost stopped = { λ old text new.
-        IsToldInPart (S.told old) (S.faults old) text (S.told new) (S.faults new) };
+        IsToldInPart (S.written old) (S.failures old) text (S.written new) (S.failures new) };
 
     /// Fails where the writer does, or takes nothing; a text without bytes makes no call.
     fn take_text(&mut self, text: &str) -> Result<(), TargetFailed> {
         write_text(self, text.as_bytes()).map_err(|_| TargetFailed)
     }
 
-    ghost laws = { writer_laws S.told S.faults };
+    ghost laws = { writer_laws S.written S.failures };
 }

@@ -10,7 +10,7 @@ use Rattle.tm_grammar.specs.Meanings.{Read, got}
 use Rattle.tm_grammar.specs.Rule.{Rule, Look}
 use Rattle.tm_grammar.specs.Growth as growth
 use Rattle.tm_grammar.specs.Combinators.{grow, one_more, many_from}
-use Rattle.tm_parser.specs.Parses.{Refused}
+use Rattle.tm_values.specs.Answer.{Refused}
 use Rattle.tm_parser.specs.declared.primaries.Passed.{Passed}
 use Rattle.tm_parser.specs.Grammar.{Inside, more_items, comma, one_passed, more_passed, single, more_targets, target_comma, whole}
 use Rattle.tm_parser.specs.Statements.{iterated_comma, more_iterated}

@@ -1,12 +1,8 @@
 -- What a method of the parser answers, beside what a rule reads.
-use Rattle.std.specs.Prelude.{◌≡◌, ◌⊎◌, List, [], ◌∷◌, Option, Some, None, Result, Ok, Err, Bool, true, false}
+use Rattle.std.specs.Prelude.{◌≡◌, List, [], ◌∷◌, Option, Some, None, Result, Ok, Err, Bool, true, false}
 use Rattle.tm_values.specs.declared.error.ErrorKind.{ErrorKind}
-use Rattle.tm_values.specs.declared.error.ErrorKind.TheVariants.{OutOfMemory, SyntaxError}
+use Rattle.tm_values.specs.Answer.{Refused}
 use Rattle.tm_grammar.specs.Meanings.{Read, got}
-
--- Memory ran out, or the tokens are refused for this reason.
-abbrev pub Refused : List ErrorKind → Type 0 → Type 0
-Refused chain reason = (chain ≡ OutOfMemory ∷ []) ⊎ ((chain ≡ SyntaxError ∷ []) × reason)
 
 -- The value and what is left are what was read; where nothing was read, that is why there is no value.
 abbrev pub Parses : {T A : Type 0} → Result A (List ErrorKind) → List T → Read T A → Type 0

@@ -57,5 +57,5 @@ pub record SpellsTemplate (tokens : List Token) (tree : Tree) : Type 0 where
   pub spelled : (body (inside nestings) (inner nestings) false).spells tokens tree.statements []
   pub distinct : AreDistinct (block_names tree.statements)
 
-abbrev pub SpellsNone : List Token → Type 0
-SpellsNone tokens = (tree : Tree) → SpellsTemplate tokens tree → ⊥
+abbrev pub SpellsNoTemplate : List Token → Type 0
+SpellsNoTemplate tokens = (tree : Tree) → SpellsTemplate tokens tree → ⊥

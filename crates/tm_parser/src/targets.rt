@@ -1,6 +1,7 @@
 //! Targets, and what is given to them.
 ghost use Rattle.std.specs.Prelude.{◌≡◌, [], MatchResult, None, Some};
-ghost use Rattle.tm_parser.specs.Parses.{Parses, Refused};
+ghost use Rattle.tm_parser.specs.Parses.{Parses};
+ghost use Rattle.tm_values.specs.Answer.{Refused};
 ghost use Rattle.tm_parser.specs.Grammar as grammar;
 ghost use Rattle.tm_parser.specs.Grammar.{inside, expr, items, member, more_items, more_targets, several, single, target, whole};
 ghost use Rattle.tm_parser.specs.Statements.{assignment, bare, bare_tuple, loop_condition, inner, iterated, iterated_tuple, loop_head};

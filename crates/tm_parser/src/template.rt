@@ -1,7 +1,7 @@
 //! Whole templates.
 ghost use Rattle.std.specs.Prelude.{◌≡◌, List, IfOk, IfErr};
-ghost use Rattle.tm_parser.specs.Parses.{Refused};
-ghost use Rattle.tm_parser.specs.Template.{SpellsNone, SpellsTemplate};
+ghost use Rattle.tm_values.specs.Answer.{Refused};
+ghost use Rattle.tm_parser.specs.Template.{SpellsNoTemplate, SpellsTemplate};
 ghost use Rattle.tm_syntax.specs.declared.token.Token.{Token};
 ghost use Rattle.tm_syntax.specs.declared.tree.Tree.{Tree};
 
@@ -18,7 +18,7 @@ const NESTINGS: u8 = 150;
 /// memory.
 pub fn parse_tokens(alloc: Global, tokens: &[Token]) -> Result<Tree, Error>
     ensures found { IfOk result (SpellsTemplate tokens.now) }
-    ensures refused { IfErr result (λ e. Refused e (SpellsNone tokens.now)) }
+    ensures refused { IfErr result (λ e. Refused e (SpellsNoTemplate tokens.now)) }
 {
     let mut cursor = Cursor::new(tokens);
     let statements = cursor.body(alloc, NESTINGS, false)?;

@@ -13,12 +13,12 @@ error_of Writer = WriteFailure ∷ []
 error_of Stuck = BadStream ∷ []
 error_of (Fault chain) = chain
 
--- the writer's count of faults behind an answer: one more where the writer halted the run, and else the same
-abbrev pub faults_after : {A : Type 0} → Result A Halt → ℕ → ℕ
-faults_after (Ok _) faults = faults
-faults_after (Err Writer) faults = saturating_increment faults
-faults_after (Err Stuck) faults = faults
-faults_after (Err (Fault chain)) faults = faults
+-- the writer's count of failures behind an answer: one more where the writer halted the run, and else the same
+abbrev pub failures_after : {A : Type 0} → Result A Halt → ℕ → ℕ
+failures_after (Ok _) failures = failures
+failures_after (Err Writer) failures = saturating_increment failures
+failures_after (Err Stuck) failures = failures
+failures_after (Err (Fault chain)) failures = failures
 
 -- Why a text was not put: the writer failed, and no capture was open; or a capture found no memory, and the writer got nothing.
 abbrev pub PutHalts : Halt → List Capture → Option (List ℕ) → Option (List ℕ) → Type 0

@@ -7,7 +7,7 @@ ghost use Rattle.tm_values.specs.declared.error.ErrorKind.TheVariants.{OutOfMemo
 
 use std::alloc::Global;
 use tm_operations::{
-    Comparison, add, compare, contains, divide, floor_divide, multiply, negate, power, remainder,
+    ComparisonOperator, add, compare, contains, divide, floor_divide, multiply, negate, power, remainder,
     subtract, truth,
 };
 use tm_printing::concatenate;
@@ -43,12 +43,12 @@ pub fn binary<R: Records>(
         (result_of operator undefined (R.records records.now) left.now right.now) }
 {
     let comparison = match operator {
-        BinaryOperator::Equal => Comparison::Equal,
-        BinaryOperator::NotEqual => Comparison::NotEqual,
-        BinaryOperator::Less => Comparison::Less,
-        BinaryOperator::LessOrEqual => Comparison::LessOrEqual,
-        BinaryOperator::Greater => Comparison::Greater,
-        BinaryOperator::GreaterOrEqual => Comparison::GreaterOrEqual,
+        BinaryOperator::Equal => ComparisonOperator::Equal,
+        BinaryOperator::NotEqual => ComparisonOperator::NotEqual,
+        BinaryOperator::Less => ComparisonOperator::Less,
+        BinaryOperator::LessOrEqual => ComparisonOperator::LessOrEqual,
+        BinaryOperator::Greater => ComparisonOperator::Greater,
+        BinaryOperator::GreaterOrEqual => ComparisonOperator::GreaterOrEqual,
         BinaryOperator::In => {
             return Ok(Value::boolean(contains(alloc, right, left, records, undefined)?));
         }

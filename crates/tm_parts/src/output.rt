@@ -7,7 +7,7 @@ ghost use Rattle.tm_meaning.specs.Instructions.{is_heard};
 ghost use Rattle.tm_meaning.specs.Machine.{first_heard, new_capture, put_in, put_out};
 ghost use Rattle.tm_output.specs.Counts.{saturating_increment, AppendsBeginning};
 ghost use Rattle.tm_definitions.specs.Emitted.{emitted_text};
-ghost use Rattle.tm_parts.specs.Halts.{faults_after, PutHalts};
+ghost use Rattle.tm_parts.specs.Halts.{failures_after, PutHalts};
 
 use crate::halt::Halt;
 use std::alloc::Global;
@@ -107,13 +107,13 @@ impl Captures {
     /// captures stay as they were.
     pub fn write_str<W: Sink>(&mut self, writer: &mut W, text: &str) -> Result<(), Halt>
         ensures captured { OnOk result (self.new ≡ put_in self.old text.now) }
-        ensures written { OnOk result (Appends (W.told writer.old) (W.told writer.new)
+        ensures written { OnOk result (Appends (W.written writer.old) (W.written writer.new)
             (put_out self.old text.now)) }
-        ensures beginning { AppendsBeginning (W.told writer.old) (W.told writer.new)
+        ensures beginning { AppendsBeginning (W.written writer.old) (W.written writer.new)
             (put_out self.old text.now) }
         ensures halts { IfErr result (λ halt.
-            PutHalts halt self.old (W.told writer.old) (W.told writer.new)) }
-        ensures faults { W.faults writer.new ≡ faults_after result (W.faults writer.old) }
+            PutHalts halt self.old (W.written writer.old) (W.written writer.new)) }
+        ensures failures { W.failures writer.new ≡ failures_after result (W.failures writer.old) }
         ensures unchanged { OnErr result (self.new ≡ self.old) }
         ensures empty { text.now ≡ [] → IsOk result }
     {
@@ -147,13 +147,13 @@ impl Captures {
     ) -> Result<(), Halt>
         ensures captured { OnOk result (self.new ≡ put_in self.old
             (emitted_text escape (R.records records.now) value.now)) }
-        ensures written { OnOk result (Appends (W.told writer.old) (W.told writer.new)
+        ensures written { OnOk result (Appends (W.written writer.old) (W.written writer.new)
             (put_out self.old (emitted_text escape (R.records records.now) value.now))) }
-        ensures beginning { AppendsBeginning (W.told writer.old) (W.told writer.new)
+        ensures beginning { AppendsBeginning (W.written writer.old) (W.written writer.new)
             (put_out self.old (emitted_text escape (R.records records.now) value.now)) }
         ensures halts { IfErr result (λ halt.
-            PutHalts halt self.old (W.told writer.old) (W.told writer.new)) }
-        ensures faults { W.faults writer.new ≡ faults_after result (W.faults writer.old) }
+            PutHalts halt self.old (W.written writer.old) (W.written writer.new)) }
+        ensures failures { W.failures writer.new ≡ failures_after result (W.failures writer.old) }
         ensures part { OnErr result ((n : ℕ) × (self.new ≡ put_in self.old
             (take n (emitted_text escape (R.records records.now) value.now)))) }
     {
@@ -203,18 +203,18 @@ impl<W: Sink> Output<W> {
     /// the writer fails or takes nothing, OutOfMemory where a capture finds no memory.
     pub fn write_str(&mut self, text: &str) -> Result<(), Error>
         ensures captured { OnOk result (self.new.captures ≡ put_in self.old.captures text.now) }
-        ensures written { OnOk result (Appends (W.told self.old.writer) (W.told self.new.writer)
+        ensures written { OnOk result (Appends (W.written self.old.writer) (W.written self.new.writer)
             (put_out self.old.captures text.now)) }
-        ensures no_fault { OnOk result (W.faults self.new.writer ≡ W.faults self.old.writer) }
-        ensures beginning { AppendsBeginning (W.told self.old.writer) (W.told self.new.writer)
+        ensures no_fault { OnOk result (W.failures self.new.writer ≡ W.failures self.old.writer) }
+        ensures beginning { AppendsBeginning (W.written self.old.writer) (W.written self.new.writer)
             (put_out self.old.captures text.now) }
         ensures kind { IfErr result (λ e. (e ≡ WriteFailure ∷ []) ⊎ (e ≡ OutOfMemory ∷ [])) }
         ensures unchanged { OnErr result (self.new.captures ≡ self.old.captures) }
         ensures failed { result ≡ Err (WriteFailure ∷ []) → (self.old.captures ≡ [])
-            × (W.faults self.new.writer ≡ saturating_increment (W.faults self.old.writer)) }
+            × (W.failures self.new.writer ≡ saturating_increment (W.failures self.old.writer)) }
         ensures memory { result ≡ Err (OutOfMemory ∷ []) → (self.old.captures ≢ [])
-            × (W.told self.new.writer ≡ W.told self.old.writer)
-            × (W.faults self.new.writer ≡ W.faults self.old.writer) }
+            × (W.written self.new.writer ≡ W.written self.old.writer)
+            × (W.failures self.new.writer ≡ W.failures self.old.writer) }
         ensures empty { text.now ≡ [] → IsOk result }
     {
         Ok(self.captures.write_str(&mut self.writer, text)?)
@@ -256,12 +256,12 @@ impl<W: Sink> WriteWrapper<W> {
     /// Writes a text; WriteFailure where the writer fails or takes nothing, and its error is kept
     /// in `err`.
     pub fn write_str(&mut self, text: &str) -> Result<(), Error>
-        ensures written { OnOk result (Appends (W.told self.old.w) (W.told self.new.w) text.now) }
-        ensures no_fault { OnOk result (W.faults self.new.w ≡ W.faults self.old.w) }
+        ensures written { OnOk result (Appends (W.written self.old.w) (W.written self.new.w) text.now) }
+        ensures no_fault { OnOk result (W.failures self.new.w ≡ W.failures self.old.w) }
         ensures same_error { OnOk result (self.new.err ≡ self.old.err) }
         ensures kind { IfErr result (λ e. e ≡ WriteFailure ∷ []) }
-        ensures beginning { AppendsBeginning (W.told self.old.w) (W.told self.new.w) text.now }
-        ensures fault { OnErr result (W.faults self.new.w ≡ saturating_increment (W.faults self.old.w)) }
+        ensures beginning { AppendsBeginning (W.written self.old.w) (W.written self.new.w) text.now }
+        ensures fault { OnErr result (W.failures self.new.w ≡ saturating_increment (W.failures self.old.w)) }
         ensures kept { OnErr result (IsSome self.new.err) }
         ensures empty { text.now ≡ [] → IsOk result }
     {

@@ -10,8 +10,8 @@ use Rattle.tm_values.specs.Records.{RecordData, namespace_at}
 use Rattle.tm_values.specs.Val.{Val, Pairs, vals_of, pairs_of}
 use Rattle.tm_values.specs.declared.error.ErrorKind.{ErrorKind}
 use Rattle.tm_definitions.specs.Printed.{entered}
-use Rattle.tm_definitions.specs.Refused.{NamespaceVerdicts, Way, and_then, verdict, pair_verdict, items_verdict, pairs_verdict, through}
-use Rattle.tm_definitions.specs.Refused.{nowhere, namespace_verdict, verdict_within}
+use Rattle.tm_definitions.specs.Verdicts.{NamespaceVerdicts, Way, and_then, verdict, pair_verdict, items_verdict, pairs_verdict, through}
+use Rattle.tm_definitions.specs.Verdicts.{nowhere, namespace_verdict, verdict_within}
 use Rattle.tm_definitions.specs.declared.form.Form.{Form}
 
 -- an error that a part of the walk answers is the answer of the whole

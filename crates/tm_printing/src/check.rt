@@ -3,8 +3,8 @@ ghost use Rattle.std.specs.Prelude.{◌≡◌, OnOk, nat_eq};
 ghost use Rattle.std.specs.HashSet.{contains};
 ghost use Rattle.tm_values.specs.Answer.{IsAnswer};
 ghost use Rattle.tm_values.specs.Val.{vals_of, pairs_of};
-ghost use Rattle.tm_definitions.specs.Refused.{in_json, key_verdict, fits_json, if_holds, no_json, items_verdict, pair_verdict};
-ghost use Rattle.tm_definitions.specs.Refused.{pairs_verdict, namespace_verdict, loop_verdict, verdict_within, print_verdict, json_verdict};
+ghost use Rattle.tm_definitions.specs.Verdicts.{in_json, key_verdict, fits_json, if_holds, no_json, items_verdict, pair_verdict};
+ghost use Rattle.tm_definitions.specs.Verdicts.{pairs_verdict, namespace_verdict, loop_verdict, verdict_within, print_verdict, json_verdict};
 
 use std::alloc::Global;
 use std::collections::HashSet;

@@ -1,7 +1,7 @@
 -- Why nothing was made.
 use Rattle.std.proofs.Common.{◌≡◌, inl, inr, List, Result, Ok, Err, IfErr, IsErrAnd, sym, subst}
 use Rattle.tm_values.specs.declared.error.ErrorKind.{ErrorKind}
-use Rattle.tm_scanner.specs.Refused.{Refused}
+use Rattle.tm_values.specs.Answer.{Refused}
 
 -- What refuses one thing refuses what follows from it.
 pub refused_by : {P Q : Type 0} (e : List ErrorKind) → (P → Q) → Refused e P → Refused e Q

@@ -6,5 +6,5 @@ pub mod Texts
 pub mod Tokens
 pub mod Pieces
 pub mod Spells
-pub mod Refused
+pub mod Refuses
 pub mod Views

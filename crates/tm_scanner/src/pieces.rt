@@ -1,7 +1,7 @@
 //! The pieces of a source: each a raw text and the tag behind it.
 ghost use Rattle.std.specs.Prelude.{◌≡◌, ◌<◌, ◌≤◌, ◌++◌, ℕ, List, [], ◌∷◌, length, IfOk, IfErr, IfSome};
 ghost use Rattle.tm_scanner.specs.Pieces as spec;
-ghost use Rattle.tm_scanner.specs.Refused.{Refuses};
+ghost use Rattle.tm_scanner.specs.Refuses.{Refuses};
 ghost use Rattle.tm_delimiters.specs.Syntax.{HasAll};
 ghost use Rattle.tm_delimiters.specs.Views.{Shortens, step_of, place_of};
 ghost use Rattle.tm_scanner.specs.Views.{Adds, IsNoLonger};

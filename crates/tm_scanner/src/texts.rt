@@ -1,6 +1,6 @@
 //! Texts in quotes.
 ghost use Rattle.std.specs.Prelude.{◌≡◌, ◌<◌, ◌≤◌, ℕ, List, length, IfOk, IfErr, IfSome};
-ghost use Rattle.tm_scanner.specs.Refused.{Refuses};
+ghost use Rattle.tm_scanner.specs.Refuses.{Refuses};
 ghost use Rattle.tm_scanner.specs.Texts as spec;
 ghost use Rattle.tm_delimiters.specs.Views.{Shortens, step_of, place_of};
 

@@ -1,6 +1,7 @@
 //! The tokens of a tag's content.
 ghost use Rattle.std.specs.Prelude.{◌≡◌, ◌<◌, ◌≤◌, ℕ, List, length, IfOk, IfErr, IfSome, None, Some};
-ghost use Rattle.tm_scanner.specs.Refused.{Refused, Refuses};
+ghost use Rattle.tm_scanner.specs.Refuses.{Refuses};
+ghost use Rattle.tm_values.specs.Answer.{Refused};
 ghost use Rattle.tm_scanner.specs.Tokens as spec;
 ghost use Rattle.tm_delimiters.specs.Views.{Shortens, step_of, place_of};
 ghost use Rattle.tm_scanner.specs.Views.{Adds, IsNoLonger};

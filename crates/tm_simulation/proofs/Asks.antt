@@ -11,7 +11,7 @@ use Rattle.tm_meaning.specs.World.{unpacked_items, emitted, escape_for, view_of,
 use Rattle.tm_meaning.specs.World.{innermost}
 use Rattle.tm_meaning.specs.World.{items_over, Res, Good, Bad}
 use Rattle.tm_meaning.specs.World.{need, check, answered, depth, lookup, Function, callers, languages, records_of}
-use Rattle.tm_meaning.specs.World.{plain as plain_scope, Stated, View}
+use Rattle.tm_meaning.specs.World.{plain_scope, Stated, View}
 use Rattle.tm_meaning.specs.declared.reply.Reply.{Reply}
 use Rattle.tm_meaning.specs.declared.reply.Reply.TheVariants.{Value as gives, Fault as faults}
 use Rattle.tm_meaning.specs.Calls.{whole, of_block, undone, Asked, has, refused, runs, recurs, ask, same_stream, wrapped_as}

@@ -7,7 +7,7 @@ use Rattle.tm_syntax.specs.declared.tree.Stmt.{Do, AutoEscape', Row_of-Stmt, end
 use Rattle.tm_syntax.specs.declared.tree.Stmt.{Held-Stmt-If-2 as Otherwise, None' as no_else, Some' as otherwise}
 use Rattle.tm_syntax.specs.Loops.{passes, within_loop, past, pasts, FoundLoop}
 use Rattle.tm_meaning.specs.World.{World, answered, tick, pop, depth, emitted, escape_for, with_escape, captured_text}
-use Rattle.tm_meaning.specs.World.{plain as plain_scope}
+use Rattle.tm_meaning.specs.World.{plain_scope}
 use Rattle.tm_meaning.specs.Calls.{Callee}
 use Rattle.tm_meaning.specs.Meaning.{again_in, turn_of, Run, Outcome, Under, use_it, say, block_tag, truth, eval, loop_items, assign}
 use Rattle.tm_meaning.specs.Meaning.{set_to, set_each, capturing, loop_over, has_none, exec_behind_loop, emit, behind_first, exec, exec_all}

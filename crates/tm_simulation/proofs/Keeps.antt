@@ -6,7 +6,7 @@ use Rattle.tm_values.specs.declared.error.ErrorKind.{ErrorKind}
 use Rattle.tm_values.specs.declared.error.ErrorKind.TheVariants.{InvalidOperation}
 use Rattle.tm_syntax.specs.Loops.{loops_in}
 use Rattle.tm_meaning.specs.Tree.{Body, Trees}
-use Rattle.tm_meaning.specs.World.{choose, World, HostValue, Res, Good, Bad, tick, plain as plain_scope}
+use Rattle.tm_meaning.specs.World.{choose, World, HostValue, Res, Good, Bad, tick, plain_scope}
 use Rattle.tm_meaning.specs.Calls.{Callee, whole, Call, of_block, undone, runs}
 use Rattle.tm_meaning.specs.Meaning.{over, under, again_of, Run, Outcome, Ending, done, leave, next, fault, Nests, Under, done_by, exec_all}
 use Rattle.tm_meaning.specs.Meaning.{behind, in_place_of, block_tag, audible, none_waits, at_end, new_run, nests_of, rendered, chain_in}

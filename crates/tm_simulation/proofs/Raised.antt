@@ -33,12 +33,12 @@ use Rattle.tm_definitions.specs.Printed.{entered}
 use Rattle.tm_definitions.specs.Ranges.{range_of, given, at_most_arguments, required_in, later_in, or_invalid, some_of, bound_in, served}
 use Rattle.tm_definitions.specs.Ranges.{span_of}
 use Rattle.tm_definitions.specs.Ranges.{is_served}
-use Rattle.tm_definitions.specs.Refused.{Verdict, and_then, if_holds, in_json, no_json, fits_json, loop_verdict, key_verdict}
-use Rattle.tm_definitions.specs.Refused.{NamespaceVerdicts}
-use Rattle.tm_definitions.specs.Refused.{verdict, items_verdict, pairs_verdict, Way, through, namespace_verdict, print_verdict, nowhere}
+use Rattle.tm_definitions.specs.Verdicts.{Verdict, and_then, if_holds, in_json, no_json, fits_json, loop_verdict, key_verdict}
+use Rattle.tm_definitions.specs.Verdicts.{NamespaceVerdicts}
+use Rattle.tm_definitions.specs.Verdicts.{verdict, items_verdict, pairs_verdict, Way, through, namespace_verdict, print_verdict, nowhere}
 use Rattle.tm_definitions.specs.Slices.{sliced, cut, cut_by, parts_in, Parts}
-use Rattle.tm_definitions.specs.declared.comparison.Comparison.{Comparison}
-use Rattle.tm_definitions.specs.declared.comparison.Comparison.TheVariants as comparison
+use Rattle.tm_definitions.specs.declared.comparison.ComparisonOperator.{ComparisonOperator}
+use Rattle.tm_definitions.specs.declared.comparison.ComparisonOperator.TheVariants as comparison
 use Rattle.tm_definitions.specs.declared.form.Form.{Form}
 use Rattle.tm_definitions.specs.declared.form.Form.TheVariants.{Printed, Json}
 use Rattle.tm_meaning.specs.World.{Scope, HostValue, View, find_name, in_frames, in_scope, or_on, or_on_answer, context_member}
@@ -237,7 +237,7 @@ pub unary_raises : (op : UnaryOperator) (b : UndefinedBehavior) (v : Val) → Ra
 unary_raises unaries.Not b v = negated_raises _ (truth_raises b v)
 unary_raises unaries.Negate b v = by_option arithmetic.whole_negated (whole_in v) refl (λ z. number_raises _)
 
-compared_raises : (c : Comparison) (b : UndefinedBehavior) (l r : Val) → Raises (compared c b l r)
+compared_raises : (c : ComparisonOperator) (b : UndefinedBehavior) (l r : Val) → Raises (compared c b l r)
 compared_raises c b l r = unless_raises b use_of.Comparison l _ (unless_raises b use_of.Comparison r _ tt)
 
 found_raises : (r : RecordData) (c v : Val) → Raises (found_in r c v)

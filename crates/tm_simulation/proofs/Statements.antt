@@ -18,7 +18,7 @@ use Rattle.tm_syntax.specs.Code.{statements_code, branches_code, after_loop_code
 use Rattle.tm_syntax.specs.declared.opened.Opened.{Opened}
 use Rattle.tm_syntax.specs.declared.opened.Opened.TheVariants.{Scope as a_scope, Escape as an_escape, Capture as a_capture}
 use Rattle.tm_meaning.specs.World.{choose, World, Loop, loop_scope, new_loop, open_loop}
-use Rattle.tm_meaning.specs.World.{tick, depth, push, pop, plain as plain_scope}
+use Rattle.tm_meaning.specs.World.{tick, depth, push, pop, plain_scope}
 use Rattle.tm_meaning.specs.World.{answered, escape_for, with_escape, captured_text}
 use Rattle.tm_meaning.specs.Calls.{call_innermost}
 use Rattle.tm_meaning.specs.Meaning.{Run}

@@ -18,7 +18,7 @@ use Rattle.tm_syntax.specs.Code.{statements_code}
 use Rattle.tm_syntax.specs.declared.opened.Opened.{Opened}
 use Rattle.tm_syntax.specs.declared.opened.Opened.TheVariants.{Scope as a_scope, Escape as an_escape, Capture as a_capture}
 use Rattle.tm_meaning.specs.World.{choose, World}
-use Rattle.tm_meaning.specs.World.{top_mark, tick, pop, plain as plain_scope}
+use Rattle.tm_meaning.specs.World.{top_mark, tick, pop, plain_scope}
 use Rattle.tm_meaning.specs.World.{unpacked_items, set_member, emitted, with_escape, captured_text}
 use Rattle.tm_meaning.specs.Calls.{enter_block}
 use Rattle.tm_meaning.specs.Meaning.{Run, Outcome}

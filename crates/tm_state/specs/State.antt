@@ -4,7 +4,7 @@ use Rattle.tm_syntax.specs.Named.{find}
 use Rattle.tm_values.specs.Val.{Val, undefined}
 use Rattle.tm_values.specs.declared.escape.AutoEscape.{AutoEscape}
 use Rattle.tm_syntax.specs.declared.instruction.Instruction.{Instruction}
-use Rattle.tm_meaning.specs.World.{Named, World, Loop, loop_scope, new_loop, Layers, root_of, block_of, plain, with_frames}
+use Rattle.tm_meaning.specs.World.{Named, World, Loop, loop_scope, new_loop, Layers, root_of, block_of, plain_scope, with_frames}
 use Rattle.tm_meaning.specs.Calls.{Asked, runs, whole, of_block, cut_to}
 use Rattle.tm_meaning.specs.Meaning.{first_fuel}
 use Rattle.tm_meaning.specs.declared.stream.TemplateId.{TemplateId}
@@ -34,7 +34,7 @@ layers_of t bs = each (layered t) bs
 abbrev pub started : ℕ → TemplateId → Named (List Instruction) → AutoEscape → Option ℕ → Val → World
 started id t blocks escape fuel context = record {
   id = id;
-  scopes = record { frames = plain context ∷ []; outer = 0 };
+  scopes = record { frames = plain_scope context ∷ []; outer = 0 };
   namespaces = [];
   loops = [];
   closures = [];
@@ -67,7 +67,7 @@ IsBlockOf s x w = (s ≡ block_of s.template x) × (find x w.blocks ≡ Some (al
 
 -- one scope more, over no context
 abbrev pub scoped : World → World
-scoped w = with_frames (plain (undefined false) ∷ w.scopes.frames) w
+scoped w = with_frames (plain_scope (undefined false) ∷ w.scopes.frames) w
 
 -- a loop's record, none of whose items was asked for yet
 abbrev pub loop_record : List Val → ℕ → ℕ → Bool → StreamId → Loop

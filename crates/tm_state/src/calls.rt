@@ -15,7 +15,7 @@ use std::rc::Rc;
 use tm_meaning::Reply;
 use tm_operations::{attribute, iterate};
 use tm_syntax::Name;
-use tm_tables::{Answer, Called, Host, LoopState};
+use tm_tables::{CallableAnswer, Called, Host, LoopState};
 use tm_values::{Error, ErrorKind, Node, UndefinedBehavior, Value, find_namespace};
 
 /// What a call came to.
@@ -247,12 +247,12 @@ impl StateData<'_> {
     }
 
     /// Keeps what an answer asks for, and gives its value or its fault.
-    fn take_answer(&mut self, answer: Answer) -> Result<Value, Error>
+    fn take_answer(&mut self, answer: CallableAnswer) -> Result<Value, Error>
         ensures called { Comes result (replied answer.reply
             (record self.old { temps = put_each answer.temps self.old.temps })) self.new }
         ensures rest { self.new ≡ record self.old { temps = self.new.temps } }
     {
-        let Answer { temps, result } = answer;
+        let CallableAnswer { temps, result } = answer;
         self.keep(temps)?;
         match result {
             Reply::Value(value) => Ok(value),

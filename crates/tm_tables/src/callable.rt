@@ -14,14 +14,14 @@ use tm_values::{Error, Value};
 
 /// What a callable answers: values that the state keeps by name, in order, and its reply. They are kept where the reply is a fault, too.
 #[derive(Drop)]
-pub struct Answer {
+pub struct CallableAnswer {
     /// What is kept.
     pub temps: Vec<(Name, Value)>,
     /// Its reply.
     pub result: Reply,
 }
 
-impl Model for Answer {
+impl Model for CallableAnswer {
     ghost use Rattle.std.specs.Coded.{codes};
     ghost use Rattle.tm_values.specs.Code.{coded_Val};
     ghost use Rattle.tm_meaning.specs.World.{Stated};
@@ -33,38 +33,38 @@ impl Model for Answer {
     ghost view = { λ a. record { temps = a.temps.items; reply = a.result } };
 }
 
-impl Answer {
+impl CallableAnswer {
     /// A value, and nothing to keep.
-    pub fn value(alloc: Global, value: Value) -> Answer
+    pub fn value(alloc: Global, value: Value) -> CallableAnswer
         ensures { result ≡ just (gives value) }
     {
-        Answer {
+        CallableAnswer {
             temps: Vec::new(alloc),
             result: Reply::Value(value),
         }
     }
 
     /// A fault, and nothing to keep.
-    pub fn fault(alloc: Global, error: Error) -> Answer
+    pub fn fault(alloc: Global, error: Error) -> CallableAnswer
         ensures { result ≡ just (faults error) }
     {
-        Answer {
+        CallableAnswer {
             temps: Vec::new(alloc),
             result: Reply::Fault(error),
         }
     }
 
     /// One value more to keep, behind the others; a fault of OutOfMemory where there is no memory for it.
-    pub fn keep(self, alloc: Global, name: &str, value: Value) -> Answer
+    pub fn keep(self, alloc: Global, name: &str, value: Value) -> CallableAnswer
         ensures { IsStated result (keeping name.now value self) }
     {
-        let Answer { mut temps, result } = self;
+        let CallableAnswer { mut temps, result } = self;
         match Name::new(alloc, name) {
             Ok(name) => match temps.push((name, value)) {
-                Ok(()) => Answer { temps, result },
-                Err(error) => Answer::fault(alloc, Error::from(error)),
+                Ok(()) => CallableAnswer { temps, result },
+                Err(error) => CallableAnswer::fault(alloc, Error::from(error)),
             },
-            Err(error) => Answer::fault(alloc, Error::from(error)),
+            Err(error) => CallableAnswer::fault(alloc, Error::from(error)),
         }
     }
 }
@@ -73,7 +73,7 @@ impl Answer {
 #[derive(Drop)]
 pub enum Called {
     /// An object of the caller, which answered.
-    Answered(Answer),
+    Answered(CallableAnswer),
     /// A function of the language, which the machine runs.
     Language(GlobalFunction),
 }
@@ -84,14 +84,14 @@ pub trait Callable: Drop {
 
     /// What it states of these arguments; OutOfMemory where there is no memory for it, alone or behind
     /// EvalBlock, BadInclude or InvalidOperation.
-    fn call(&self, alloc: Global, args: &[Value], view: &View<'_>) -> Answer
+    fn call(&self, alloc: Global, args: &[Value], view: &View<'_>) -> CallableAnswer
         ensures { IsStated result (answers self.now args.now view.now) };
 }
 
 impl Callable for Box<dyn Callable> {
     ghost answers = { λ b. (Callable-box b).answers b.value };
 
-    fn call(&self, alloc: Global, args: &[Value], view: &View<'_>) -> Answer {
+    fn call(&self, alloc: Global, args: &[Value], view: &View<'_>) -> CallableAnswer {
         (**self).call(alloc, args, view)
     }
 }

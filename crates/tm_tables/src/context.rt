@@ -6,7 +6,7 @@ ghost use Rattle.tm_syntax.specs.Named.{name_cmp, put, texts_of};
 ghost use Rattle.tm_values.specs.Answer.{OkOrOutOfMemory};
 ghost use Rattle.tm_values.specs.Val.{loop};
 ghost use Rattle.tm_values.specs.declared.error.ErrorKind.TheVariants.{OutOfMemory};
-ghost use Rattle.tm_meaning.specs.World.{plain, loop_scope, marked_loop, depth, context_member, innermost, stored_in};
+ghost use Rattle.tm_meaning.specs.World.{plain_scope, loop_scope, marked_loop, depth, context_member, innermost, stored_in};
 ghost use Rattle.tm_meaning.specs.World.{top_mark, without_first, without_locals};
 ghost use Rattle.tm_meaning.specs.Calls.{outermost};
 ghost use Rattle.tm_tables.specs.Found.{IsHeld, IsFoundIn, meant_by};
@@ -61,20 +61,20 @@ pub struct Frame {
 
 impl Model for Frame {
     ghost use Rattle.std.specs.Coded.{codes};
-    ghost use Rattle.tm_meaning.specs.World.{Scope, plain};
+    ghost use Rattle.tm_meaning.specs.World.{Scope, plain_scope};
     ghost use Rattle.tm_values.specs.Code.{coded_Val};
 
     ghost Value = { Scope };
 
     ghost coded = { Prim.hlevel (codes, coded_Val) };
 
-    ghost view = { λ f. record (plain f.context) { locals = f.locals; mark = f.mark } };
+    ghost view = { λ f. record (plain_scope f.context) { locals = f.locals; mark = f.mark } };
 }
 
 impl Frame {
     /// A scope over a context value, without names of its own.
     pub fn new(alloc: Global, context: Value) -> Frame
-        ensures { result ≡ plain context }
+        ensures { result ≡ plain_scope context }
     {
         Frame {
             locals: Locals::new(alloc),

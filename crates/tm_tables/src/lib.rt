@@ -12,7 +12,7 @@ mod objects;
 mod plain;
 mod view;
 
-pub use callable::{Answer, Callable, Called};
+pub use callable::{Callable, CallableAnswer, Called};
 pub use context::{Context, Found, Frame};
 pub use fuel::FuelTracker;
 pub use host::Host;

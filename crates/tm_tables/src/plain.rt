@@ -4,7 +4,7 @@ ghost use Rattle.tm_values.specs.Val.{Val};
 ghost use Rattle.tm_meaning.specs.World.{Stated};
 ghost use Rattle.tm_tables.specs.Stated.{IsStated};
 
-use crate::callable::{Answer, Callable};
+use crate::callable::{Callable, CallableAnswer};
 use crate::view::View;
 use std::alloc::Global;
 use tm_values::Value;
@@ -15,7 +15,7 @@ pub trait Answering: Drop {
 
     /// What it states of these arguments; OutOfMemory where there is no memory for it, alone or behind
     /// EvalBlock, BadInclude or InvalidOperation.
-    fn answer(&self, alloc: Global, args: &[Value]) -> Answer
+    fn answer(&self, alloc: Global, args: &[Value]) -> CallableAnswer
         ensures { IsStated result (answers self.now args.now) };
 }
 
@@ -37,7 +37,7 @@ impl<F: Drop> Plain<F> {
 impl<F: Answering> Callable for Plain<F> {
     ghost answers = { λ p args view. F.answers p.answering args };
 
-    fn call(&self, alloc: Global, args: &[Value], _view: &View<'_>) -> Answer {
+    fn call(&self, alloc: Global, args: &[Value], _view: &View<'_>) -> CallableAnswer {
         self.answering.answer(alloc, args)
     }
 }

@@ -8,7 +8,7 @@ use Rattle.tm_syntax.specs.declared.instruction.Instruction.{Instruction}
 use Rattle.tm_syntax.specs.Blocks.{Body, body_of, blocks_in, code_of, compiled_blocks}
 use Rattle.tm_syntax.specs.Named.{Named, by_name}
 use Rattle.tm_delimiters.specs.Syntax.{Syntax}
-use Rattle.tm_scanner.specs.Refused.{Refused}
+use Rattle.tm_values.specs.Answer.{Refused}
 use Rattle.tm_compiler.specs.Spells.{Spells, SpellsNone}
 use Rattle.tm_meaning.specs.Tree.{TemplateTree}
 use Rattle.tm_templates.specs.Defaults.{escape_of}

@@ -1,9 +1,9 @@
 -- What operations answer: what their definition states, or that no memory was found.
 use Rattle.std.specs.Borrow.{Bor}
-use Rattle.std.specs.Prelude.{◌≡◌, List, [], ◌∷◌, Bool, true, false, Option, None, Some, MatchOption, Result, Ok, Err, MatchResult}
+use Rattle.std.specs.Prelude.{◌≡◌, ◌⊎◌, List, [], ◌∷◌, Bool, true, false, Option, None, Some, MatchOption, Result, Ok, Err, MatchResult}
 use Rattle.tm_values.specs.Chain.{is_memory}
 use Rattle.tm_values.specs.declared.error.ErrorKind.{ErrorKind}
-use Rattle.tm_values.specs.declared.error.ErrorKind.TheVariants.{InvalidOperation, OutOfMemory}
+use Rattle.tm_values.specs.declared.error.ErrorKind.TheVariants.{InvalidOperation, OutOfMemory, SyntaxError}
 
 -- a value, or the chain of an error
 abbrev pub Answer : Type 0 → Type 0
@@ -30,6 +30,10 @@ IsAnswer (Err chain) stated = is_memory_alone chain ≡ false → stated ≡ Err
 -- What was made is so, or the error is OutOfMemory alone.
 abbrev pub OkOrOutOfMemory : {A : Type 0} → Result A (List ErrorKind) → (A → Type 0) → Type 0
 OkOrOutOfMemory result IsSo = MatchResult result IsSo (λ chain. chain ≡ OutOfMemory ∷ [])
+
+-- Memory ran out, or it is a syntax error for this reason.
+abbrev pub Refused : List ErrorKind → Type 0 → Type 0
+Refused chain reason = (chain ≡ OutOfMemory ∷ []) ⊎ ((chain ≡ SyntaxError ∷ []) × reason)
 
 -- What is lent is what was stated, or nothing where that is nothing.
 abbrev pub IsLent : {A : Type 0} → Option (Bor A) → Option A → Type 0

@@ -16,7 +16,7 @@ use Rattle.tm_meaning.specs.Steps.{step, Final, Leads, Reaches, over, more, nest
 use Rattle.tm_meaning.specs.declared.base.Base.{Base}
 use Rattle.tm_meaning.proofs.Ends.{one_end, text_grows, more_only}
 use Rattle.tm_output.specs.Counts.{AppendsBeginning}
-use Rattle.tm_parts.proofs.Pieces.{appends_then, appends_nothing, appends_beginning, appends_then_beginning_longer}
+use Rattle.tm_output.specs.Pieces.{appends_then, appends_nothing, appends_beginning, appends_then_beginning_longer}
 use Rattle.tm_parts.specs.declared.halt.Halt.{Halt}
 use Rattle.tm_parts.specs.declared.halt.Halt.TheVariants as halt
 use Rattle.tm_vm.specs.declared.flow.NestedRun.{NestedRun}

@@ -14,7 +14,7 @@ use Rattle.tm_syntax.specs.declared.instruction.Instruction.{Instruction}
 use Rattle.tm_state.specs.Answers.{KeepsIdAndFuel}
 use Rattle.tm_vm.proofs.Loop.{kept_then}
 use Rattle.tm_meaning.specs.declared.base.Base.{Base}
-use Rattle.tm_parts.proofs.Pieces.{appends_nothing, beginning_nothing}
+use Rattle.tm_output.specs.Pieces.{appends_nothing, beginning_nothing}
 use Rattle.tm_parts.specs.declared.halt.Halt.{Halt}
 use Rattle.tm_parts.specs.declared.halt.Halt.TheVariants as halt
 use Rattle.tm_meaning.specs.World.{World, Good, block_of, choose}
@@ -32,9 +32,9 @@ nothing_written {c = c} told at =
 stays : (f : Base) (old new : World) → SameScopes old new → KeepsBaseScopes f old new
 stays f old new same = (λ h. omega (arith, h, same.0), same.1)
 
-pub silent : {limit : ℕ} {f : Base} {n : Next} {old new : Config} {told : Option (List ℕ)} {faults : ℕ} (result : Result Flow Halt) →
+pub silent : {limit : ℕ} {f : Base} {n : Next} {old new : Config} {told : Option (List ℕ)} {failures : ℕ} (result : Result Flow Halt) →
     Silently n old new result
-    → Performs limit f n old new told told faults faults result
+    → Performs limit f n old new told told failures failures result
 silent {f = f} {n = n} {old = old} {new = new} {told = told} (Ok flow.GoOn) s =
     record {
       did = nothing_written told s.did;
@@ -70,9 +70,9 @@ still {old = old} {new = new} result s =
 stays_over : (f : Base) (old new : World) → NoFewer old new → KeepsBaseScopes f old new
 stays_over f old new more = let long = more.0 in (λ h. omega (arith, h, long), more.1)
 
-pub opened : {limit : ℕ} {f : Base} {n : Next} {old new : Config} {told : Option (List ℕ)} {faults : ℕ} (result : Result Flow Halt) →
+pub opened : {limit : ℕ} {f : Base} {n : Next} {old new : Config} {told : Option (List ℕ)} {failures : ℕ} (result : Result Flow Halt) →
     Opens n old new result
-    → Performs limit f n old new told told faults faults result
+    → Performs limit f n old new told told failures failures result
 opened {f = f} {n = n} {old = old} {new = new} {told = told} (Ok flow.GoOn) s =
     record {
       did = nothing_written told s.did;
@@ -99,9 +99,9 @@ opened {f = f} {n = n} {old = old} {new = new} {told = told} (Err (halt.Fault ch
   same_stream = s.same_stream;
 }
 
-pub shifted : {limit : ℕ} {f : Base} {n : Next} {old new : Config} {told : Option (List ℕ)} {faults : ℕ} (result : Result Flow Halt) →
+pub shifted : {limit : ℕ} {f : Base} {n : Next} {old new : Config} {told : Option (List ℕ)} {failures : ℕ} (result : Result Flow Halt) →
     Shifts f n old new result
-    → Performs limit f n old new told told faults faults result
+    → Performs limit f n old new told told failures failures result
 shifted {n = n} {told = told} (Ok flow.GoOn) s =
     record { did = nothing_written told s.did; counted = refl; kept = s.kept; depths = s.stays; same_stream = s.same_stream }
 shifted (Ok flow.Done) s = absurd s.did
@@ -124,8 +124,8 @@ shifted {n = n} {told = told} (Err (halt.Fault chain)) s =
       same_stream = s.same_stream;
     }
 
-pub wrote : {limit : ℕ} {f : Base} {n : Next} {old new : Config} {told now : Option (List ℕ)} {faults count : ℕ} (result : Result Flow Halt)
-    → Writes n old new told now faults count result → Performs limit f n old new told now faults count result
+pub wrote : {limit : ℕ} {f : Base} {n : Next} {old new : Config} {told now : Option (List ℕ)} {failures count : ℕ} (result : Result Flow Halt)
+    → Writes n old new told now failures count result → Performs limit f n old new told now failures count result
 wrote {f = f} {old = old} {new = new}
     (Ok flow.GoOn) s = record {
       did = s.did;
@@ -145,9 +145,9 @@ wrote {f = f} {old = old} {new = new}
       same_stream = s.same_stream;
     }
 
-pub needed : {limit : ℕ} {f : Base} {n : Next} {old new : Config} {told : Option (List ℕ)} {faults : ℕ} (result : Result Flow Halt) →
+pub needed : {limit : ℕ} {f : Base} {n : Next} {old new : Config} {told : Option (List ℕ)} {failures : ℕ} (result : Result Flow Halt) →
     Needs limit n old new result
-    → Performs limit f n old new told told faults faults result
+    → Performs limit f n old new told told failures failures result
 needed {f = f} {old = old} {new = new} {told = told} (Ok flow.GoOn) s =
     record {
       did = nothing_written told s.did;
@@ -230,12 +230,12 @@ depths_paid limit f (Err why) left old new h = h
 abbrev paid_for : Config → ℕ → Config
 paid_for c left = record c { world = record c.world { fuel = left } }
 
-step_paid : {limit : ℕ} {told now : Option (List ℕ)} {faults count : ℕ} (p : Program) (f : Base) (x : Instruction) (old new : Config)
+step_paid : {limit : ℕ} {told now : Option (List ℕ)} {failures count : ℕ} (p : Program) (f : Base) (x : Instruction) (old new : Config)
     (result : Result Flow Halt) (left : ℕ)
     → slice_get (p.code old.run.stream) old.run.place ≡ Some x → pay x old.world ≡ Good tt (paid_for old left).world →
     KeepsIdAndFuel old.world (paid_for old left).world
-    → Performs limit f (effect p f x (paid_for old left)) (paid_for old left) new told now faults count result →
-    Performs limit f (step p f old) old new told now faults count result
+    → Performs limit f (effect p f x (paid_for old left)) (paid_for old left) new told now failures count result →
+    Performs limit f (step p f old) old new told now failures count result
 step_paid {limit = limit} {told = told} {now = now} p f x old new result left found paid kept h =
     let same : step p f old ≡ effect p f x (paid_for old left) =
     ap (λ i. act p f i old) found ∙ ap (λ r. after r (λ _ w. effect p f x (with_world w old))) paid in
@@ -248,16 +248,16 @@ step_paid {limit = limit} {told = told} {now = now} p f x old new result left fo
     }
 
 -- an instruction did its part, behind its charge
-pub step_done : {limit : ℕ} {told now : Option (List ℕ)} {faults count : ℕ} (p : Program) (f : Base) (x : Instruction)
+pub step_done : {limit : ℕ} {told now : Option (List ℕ)} {failures count : ℕ} (p : Program) (f : Base) (x : Instruction)
     (old mid new : Config) (result : Result Flow Halt)
     → slice_get (p.code old.run.stream) old.run.place ≡ Some x → pay x old.world ≡ Good tt mid.world → KeepsIdAndFuel old.world mid.world →
     mid ≡ record old { world = record old.world { fuel = mid.world.fuel } }
-    → Performs limit f (effect p f x mid) mid new told now faults count result →
-    Performs limit f (step p f old) old new told now faults count result
-step_done {limit = limit} {told = told} {now = now} {faults = faults} {count = count} p f x old mid new result found paid kept rest h =
+    → Performs limit f (effect p f x mid) mid new told now failures count result →
+    Performs limit f (step p f old) old new told now failures count result
+step_done {limit = limit} {told = told} {now = now} {failures = failures} {count = count} p f x old mid new result found paid kept rest h =
     step_paid p f x old new result mid.world.fuel found (paid
     ∙ ap (λ (c : Config). Good tt c.world) rest) (subst (λ (c : Config). KeepsIdAndFuel old.world c.world) rest kept)
-    (subst (λ (c : Config). Performs limit f (effect p f x c) c new told now faults count result) rest h)
+    (subst (λ (c : Config). Performs limit f (effect p f x c) c new told now failures count result) rest h)
 
 -- what stands at a place of a list
 pub read_at : {A : Type 0} (xs : List A) (n : ℕ) (x : A) → n < length xs → ((d : A) → x ≡ get_or xs n d) → slice_get xs n ≡ Some x

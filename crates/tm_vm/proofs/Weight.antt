@@ -11,7 +11,7 @@ use Rattle.tm_syntax.specs.declared.instruction.LoopPlace.{LoopPlace}
 use Rattle.tm_syntax.specs.declared.tree.BinaryOperator.TheVariants as binaries
 use Rattle.tm_syntax.specs.declared.tree.UnaryOperator.TheVariants as unaries
 use Rattle.tm_meaning.specs.World.{choose, World, Loop, HostValue, Res, Good, Bad, answered, emitted, looked_up, escape_for, items_over}
-use Rattle.tm_meaning.specs.World.{unpacked_items, set_member, open_loop, top_mark, top_loop, push, plain}
+use Rattle.tm_meaning.specs.World.{unpacked_items, set_member, open_loop, top_mark, top_loop, push, plain_scope}
 use Rattle.tm_meaning.specs.Calls.{Asked, has, refused, runs, recurs, call_named, call_first, call_innermost, enter_block}
 use Rattle.tm_meaning.specs.Meaning.{none_waits, truth, applied_unary, operated, attribute, item_at, slice_of}
 use Rattle.tm_meaning.specs.Instructions.{replaces_one, replaces_two, list_on, on_count, count_in, on_truth, iterate_with, end_capture_with}
@@ -228,7 +228,7 @@ adds p f (i.UnpackList n) c = on_top_all (Adds 1 c) (ends_adds 1 c) c.run.operan
 adds p f (i.SetAttr x) c =
     on_top_all (Adds 1 c) (ends_adds 1 c) c.run.operands c.world _ (λ o vs. on_top_all (Adds 1 c) (ends_adds 1 c) vs c.world _ (λ v rest.
     after_all (Adds 1 c) (ends_adds 1 c) (set_member x v o c.world) _ (λ _ w. none_more 1 c)))
-adds p f i.PushWith c = after_all (Adds 0 c) (ends_adds 0 c) (push p.host (plain (undefined false)) c.world) _ (λ _ w. none_more 0 c)
+adds p f i.PushWith c = after_all (Adds 0 c) (ends_adds 0 c) (push p.host (plain_scope (undefined false)) c.world) _ (λ _ w. none_more 0 c)
 adds p f i.PopFrame c = choose_all (Adds 0 c) (ends_adds 0 c)
     (nat_lt f.scopes (length c.world.scopes.frames) && is_no_loop (top_mark c.world.scopes.frames)) _ _ (none_more 0 c) tt
 adds p f (i.PushLoop flags) c =
@@ -281,7 +281,7 @@ escape_onward c (e ∷ es) = inl refl
 free_onward : (p : Program) (f : Base) (x : Instruction) (c : Config) → charge_of x ≡ 0 → Onward c (effect p f x c)
 free_onward p f i.DupTop c free = on_top_all (Onward c) (ends_onward c) c.run.operands c.world _ (λ v rest. inl refl)
 free_onward p f i.DiscardTop c free = on_top_all (Onward c) (ends_onward c) c.run.operands c.world _ (λ v rest. inl refl)
-free_onward p f i.PushWith c free = after_all (Onward c) (ends_onward c) (push p.host (plain (undefined false)) c.world) _ (λ _ w. inl refl)
+free_onward p f i.PushWith c free = after_all (Onward c) (ends_onward c) (push p.host (plain_scope (undefined false)) c.world) _ (λ _ w. inl refl)
 free_onward p f i.PopFrame c free = choose_all (Onward c) (ends_onward c)
     (nat_lt f.scopes (length c.world.scopes.frames) && is_no_loop (top_mark c.world.scopes.frames)) _ _ (inl refl) tt
 free_onward p f (i.PushLoop flags) c free =
@@ -340,10 +340,10 @@ entered (suc n) p f g x old mid new d back charge paid same less e waits =
     (λ k. pending back.run.loops ≤ pending mid.run.loops + k) charge (subst (λ n. Adds (charge_of x) mid n) e (adds p f x mid)) in
     omega (arith, paid, less, held, wait, loops)
 
-pub paid_for : {limit : ℕ} {f : Base} {told now : Option (List ℕ)} {faults count : ℕ} (size : ℕ) (p : Program) (x : Instruction)
+pub paid_for : {limit : ℕ} {f : Base} {told now : Option (List ℕ)} {failures count : ℕ} (size : ℕ) (p : Program) (x : Instruction)
     (old mid new : Config) (result : Result Flow Halt) →
     mid.world.fuel + charge_of x ≡ old.world.fuel → mid.run ≡ old.run → old.run.place < size →
-    Performs limit f (effect p f x mid) mid new told now faults count result → Paid size result old new
+    Performs limit f (effect p f x mid) mid new told now failures count result → Paid size result old new
 paid_for {f = f} size p x old mid new (Ok flow.GoOn) paid same within did = went_on size
     (charge_of x) p f x old mid new _ refl paid same within did.kept.no_more_fuel did.did.0
 paid_for {f = f} size p x old mid new (Ok (flow.Enter e)) paid same within did =

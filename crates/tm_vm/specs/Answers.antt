@@ -14,7 +14,7 @@ use Rattle.tm_meaning.specs.Steps.{Reaches, final}
 use Rattle.tm_meaning.specs.declared.base.Base.{Base}
 use Rattle.tm_meaning.specs.declared.stream.StreamId.{StreamId}
 use Rattle.tm_output.specs.Counts.{AppendsBeginning}
-use Rattle.tm_parts.specs.Halts.{faults_after}
+use Rattle.tm_parts.specs.Halts.{failures_after}
 use Rattle.tm_parts.specs.declared.halt.Halt.{Halt}
 use Rattle.tm_parts.specs.declared.halt.Halt.TheVariants as halt
 use Rattle.tm_state.specs.Answers.{KeepsIdAndFuel}
@@ -95,11 +95,11 @@ Depths limit f (Ok (flow.Enter e)) old new = OneDeeper limit e.value old new
 Depths limit f (Err why) old new = KeepsBaseScopes f old new
 
 -- An instruction, or a step, did what its definition says: by its answer, with the writer that had got `told` and has got `now`, and whose
--- count of faults was `faults` and is `count`.
-pub record Performs (limit : ℕ) (f : Base) (n : Next) (old new : Config) (told now : Option (List ℕ)) (faults count : ℕ)
+-- count of failures was `failures` and is `count`.
+pub record Performs (limit : ℕ) (f : Base) (n : Next) (old new : Config) (told now : Option (List ℕ)) (failures count : ℕ)
     (result : Result Flow Halt) : Type 0 where
   pub did : Did result told now new n
-  pub counted : count ≡ faults_after result faults
+  pub counted : count ≡ failures_after result failures
   pub kept : KeepsIdAndFuel old.world new.world
   pub depths : Depths limit f result old.world new.world
   pub same_stream : new.run.stream ≡ old.run.stream
@@ -131,9 +131,9 @@ Wrote (Ok flow.Done) told now c n = ⊥
 Wrote (Ok (flow.Enter e)) told now c n = ⊥
 Wrote (Err why) told now c n = HaltsAs why c.world (λ e. n ≡ Over e) × AppendsBeginning told now (output n)
 
-pub record Writes (n : Next) (old new : Config) (told now : Option (List ℕ)) (faults count : ℕ) (result : Result Flow Halt) : Type 0 where
+pub record Writes (n : Next) (old new : Config) (told now : Option (List ℕ)) (failures count : ℕ) (result : Result Flow Halt) : Type 0 where
   pub did : Wrote result told now new n
-  pub counted : count ≡ faults_after result faults
+  pub counted : count ≡ failures_after result failures
   pub kept : KeepsIdAndFuel old.world new.world
   pub same_scopes : SameScopes old.world new.world
   pub same_stream : new.run.stream ≡ old.run.stream

@@ -9,7 +9,7 @@ mod loops;
 mod machine;
 mod operands;
 mod output;
-mod run;
+mod activation;
 mod scopes;
 mod steps;
 

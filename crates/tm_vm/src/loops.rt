@@ -5,7 +5,7 @@ ghost use Rattle.tm_vm.specs.Answers.{program, resumed, CanGoOn, Silently, Opens
 
 use crate::flow::Flow;
 use crate::machine::Machine;
-use crate::run::Return;
+use crate::activation::Return;
 use std::alloc::Global;
 use tm_meaning::Base;
 use tm_operations::iterate;

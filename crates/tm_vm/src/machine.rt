@@ -2,14 +2,14 @@
 ghost use Rattle.std.specs.Prelude.{◌≡◌, ◌+◌, length, OnOk};
 ghost use Rattle.tm_meaning.specs.Calls.{whole};
 ghost use Rattle.tm_meaning.specs.Machine.{audible, base_of, start};
-ghost use Rattle.tm_parts.specs.Halts.{faults_after};
+ghost use Rattle.tm_parts.specs.Halts.{failures_after};
 ghost use Rattle.tm_vm.specs.Answers.{program, EndsAs, ReachesEnd, SameScopes, NoFewer};
 ghost use Rattle.tm_state.specs.Answers.{KeepsIdAndFuel};
 ghost use Rattle.tm_state.specs.State.{put_back};
 ghost use Rattle.tm_vm.specs.Nested.{RanNested, WroteBeginning, IsBack, IsWrapped, IsCaptured, base_in, start_in};
 
 use crate::flow::{Flow, NestedRun};
-use crate::run::Run;
+use crate::activation::Activation;
 use std::alloc::Global;
 use std::marker::Model;
 use std::mem;
@@ -42,7 +42,7 @@ fn wrapped(alloc: Global, wrap: Option<Wrapping>, halt: Halt) -> Halt
 /// The machine. A contract sees it as a configuration of the definitions.
 #[derive(Drop)]
 pub struct Machine<'env> {
-    pub(crate) run: Run,
+    pub(crate) run: Activation,
     pub(crate) captures: Captures,
     pub(crate) state: StateData<'env>,
 }
@@ -70,7 +70,7 @@ impl<'env> Machine<'env> {
         ensures { result ≡ start (whole stream) captures state.entry }
     {
         Machine {
-            run: Run::new(alloc, stream, captures.depth()),
+            run: Activation::new(alloc, stream, captures.depth()),
             captures,
             state,
         }
@@ -126,11 +126,11 @@ impl<'env> Machine<'env> {
         requires scopes { entry.saved.scopes + 1 ≡ length self.old.world.scopes.frames }
         requires outer { entry.saved.outer ≡ self.old.world.scopes.outer }
         ensures ran { RanNested (program (H.meaning host.now) (H.code host.now)) entry self.old self.new
-            (W.told writer.old) (W.told writer.new) result }
+            (W.written writer.old) (W.written writer.new) result }
         ensures beginning { WroteBeginning (program (H.meaning host.now) (H.code host.now))
             (base_in entry self.old) (start_in entry self.old)
-            (W.told writer.old) (W.told writer.new) }
-        ensures faults { W.faults writer.new ≡ faults_after result (W.faults writer.old) }
+            (W.written writer.old) (W.written writer.new) }
+        ensures failures { W.failures writer.new ≡ failures_after result (W.failures writer.old) }
         ensures kept { KeepsIdAndFuel self.old.world self.new.world }
         ensures back { IsBack entry.saved self.new.world }
         ensures same_stream { self.new.run.stream ≡ self.old.run.stream }
@@ -172,16 +172,16 @@ impl<'env> Machine<'env> {
     }
 
     /// Begins a run of a stream over the same captures and state, and gives the run that waits.
-    fn begin(&mut self, alloc: Global, stream: StreamId) -> Run
+    fn begin(&mut self, alloc: Global, stream: StreamId) -> Activation
         ensures waits { result ≡ self.old.run }
         ensures begins { self.new ≡ start (whole stream) self.old.captures self.old.world }
     {
         let floor = self.captures.depth();
-        mem::replace(&mut self.run, Run::new(alloc, stream, floor))
+        mem::replace(&mut self.run, Activation::new(alloc, stream, floor))
     }
 
     /// Goes on with a run that waited.
-    fn resume(&mut self, waiting: Run)
+    fn resume(&mut self, waiting: Activation)
         ensures { self.new ≡ record self.old { run = waiting } }
     {
         self.run = waiting;
@@ -213,11 +213,11 @@ impl<'env> Machine<'env> {
         ensures ended { EndsAs result self.new.captures self.new.world
             (ReachesEnd (program (H.meaning host.now) (H.code host.now))
             (base_of heard self.old.captures self.old.world) self.old
-            (W.told writer.old) (W.told writer.new)) }
+            (W.written writer.old) (W.written writer.new)) }
         ensures beginning { WroteBeginning (program (H.meaning host.now) (H.code host.now))
             (base_of heard self.old.captures self.old.world) self.old
-            (W.told writer.old) (W.told writer.new) }
-        ensures faults { W.faults writer.new ≡ faults_after result (W.faults writer.old) }
+            (W.written writer.old) (W.written writer.new) }
+        ensures failures { W.failures writer.new ≡ failures_after result (W.failures writer.old) }
         ensures kept { KeepsIdAndFuel self.old.world self.new.world }
         ensures no_fewer { NoFewer self.old.world self.new.world }
         ensures closed { OnOk result (SameScopes self.old.world self.new.world) }

@@ -23,8 +23,8 @@ impl Machine<'_> {
         writer: &mut W,
     ) -> Result<Flow, Halt>
         ensures { Writes (writes base.now text.now self.old) self.old self.new
-            (W.told writer.old) (W.told writer.new)
-            (W.faults writer.old) (W.faults writer.new) result }
+            (W.written writer.old) (W.written writer.new)
+            (W.failures writer.old) (W.failures writer.new) result }
     {
         if !self.is_audible(base) {
             return Ok(Flow::GoOn);
@@ -42,8 +42,8 @@ impl Machine<'_> {
     ) -> Result<Flow, Halt>
         ensures { Writes (writes base.now (emitted_text self.old.world.escape
             (records_of self.old.world) value.now) self.old) self.old self.new
-            (W.told writer.old) (W.told writer.new)
-            (W.faults writer.old) (W.faults writer.new) result }
+            (W.written writer.old) (W.written writer.new)
+            (W.failures writer.old) (W.failures writer.new) result }
     {
         if !self.is_audible(base) {
             return Ok(Flow::GoOn);
@@ -62,8 +62,8 @@ impl Machine<'_> {
     ) -> Result<Flow, Halt>
         requires { CanGoOn self.old.run }
         ensures { Writes (emit_raw_of base.now text.now self.old) self.old self.new
-            (W.told writer.old) (W.told writer.new)
-            (W.faults writer.old) (W.faults writer.new) result }
+            (W.written writer.old) (W.written writer.new)
+            (W.failures writer.old) (W.failures writer.new) result }
     {
         self.run.advance();
         self.write_text(base, text.as_str(), writer)
@@ -79,8 +79,8 @@ impl Machine<'_> {
     ) -> Result<Flow, Halt>
         requires { CanGoOn self.old.run }
         ensures { Writes (emit_of (H.meaning host.now) base.now self.old) self.old self.new
-            (W.told writer.old) (W.told writer.new)
-            (W.faults writer.old) (W.faults writer.new) result }
+            (W.written writer.old) (W.written writer.new)
+            (W.failures writer.old) (W.failures writer.new) result }
     {
         let Some(value) = self.run.pop() else {
             return Err(Halt::Stuck);

@@ -33,8 +33,8 @@ impl Machine<'_> {
             (effect (program (H.meaning host.now) (H.code host.now)) base.now instruction.now
             self.old)
             self.old self.new
-            (W.told writer.old) (W.told writer.new)
-            (W.faults writer.old) (W.faults writer.new) result }
+            (W.written writer.old) (W.written writer.new)
+            (W.failures writer.old) (W.failures writer.new) result }
     {
         match instruction {
             Instruction::EmitRaw(text) => self.do_emit_raw(base, text, writer),
@@ -150,8 +150,8 @@ impl Machine<'_> {
         requires { code.now ≡ H.code host.now self.old.run.stream }
         ensures performs { Performs (H.meaning host.now).limit base.now
             (step (program (H.meaning host.now) (H.code host.now)) base.now self.old)
-            self.old self.new (W.told writer.old) (W.told writer.new)
-            (W.faults writer.old) (W.faults writer.new) result }
+            self.old self.new (W.written writer.old) (W.written writer.new)
+            (W.failures writer.old) (W.failures writer.new) result }
         ensures paid { Paid (length code.now) result self.old self.new }
     {
         let instructions = code.as_slice();

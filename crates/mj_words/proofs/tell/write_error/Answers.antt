@@ -1,7 +1,7 @@
 use Rattle.std.proofs.Common.{[], Ok, Err, refl, ap}
 use Rattle.std.specs.Prelude.{codes}
 use Rattle.tm_values.specs.Chain.{causes_of}
-use Rattle.tm_parts.proofs.Pieces.{appends_nothing}
+use Rattle.tm_output.specs.Pieces.{appends_nothing}
 use Rattle.mj_words.specs.Told.{line, causes}
 use Rattle.mj_words.proofs.Told.{chain_in, chain_of_cause, written_first, written_then, told_all, tell_next, tell_failed}
 use Rattle.mj_words.proofs.tell.write_error.Goals as goal

@@ -6,7 +6,7 @@ pub loop-done-preserved : goal.loop-done-preserved
 loop-done-preserved g c = (
   omega (arith, c.in-Ok.ensures.bound, length-take {A = ℕ}, length-drop {A = ℕ}),
   appends_piece _ _ _ _ _ _ c.loop-done.invariant.1 c.in-Ok.ensures.bytes,
-  c.write.ensures.faults ∙ (taken_no_fault c.write.result _ _ c.in-Ok.is (omega arith) ∙ c.loop-done.invariant.2),
+  c.write.ensures.failures ∙ (taken_no_fault c.write.result _ _ c.in-Ok.is (omega arith) ∙ c.loop-done.invariant.2),
 )
 
 pub returns-then-taken-eq0-clause-written : goal.returns-then-taken-eq0-clause-written

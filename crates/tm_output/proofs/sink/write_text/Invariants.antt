@@ -5,8 +5,8 @@ use Rattle.tm_output.proofs.sink.write_text.Given as goal
 abbrev pub invariant-loop-done : goal.invariant-loop-done
 invariant-loop-done g l =
     (l.done ≤ length l.text)
-    × Appends (g.W.Sink.told l.initial.sink) (g.W.Sink.told l.sink) (take l.done l.text)
-    × (g.W.Sink.faults l.sink ≡ g.W.Sink.faults l.initial.sink)
+    × Appends (g.W.Sink.written l.initial.sink) (g.W.Sink.written l.sink) (take l.done l.text)
+    × (g.W.Sink.failures l.sink ≡ g.W.Sink.failures l.initial.sink)
 
 abbrev pub decreases-loop-done : goal.decreases-loop-done
 decreases-loop-done g l = length l.text - l.done

@@ -6,8 +6,8 @@ use Rattle.tm_values.proofs.Sizes.{item-smaller}
 use Rattle.tm_values.specs.Answer.{Answer, is_memory_alone}
 use Rattle.tm_values.specs.Val.{Val, val_size, vals_of, pairs_of}
 use Rattle.tm_values.specs.View.{node_view}
-use Rattle.tm_definitions.specs.Refused.{Way, Verdict, and_then, in_json, verdict_within, pair_verdict, items_verdict, pairs_verdict}
-use Rattle.tm_definitions.specs.Refused.{through, namespace_verdict}
+use Rattle.tm_definitions.specs.Verdicts.{Way, Verdict, and_then, in_json, verdict_within, pair_verdict, items_verdict, pairs_verdict}
+use Rattle.tm_definitions.specs.Verdicts.{through, namespace_verdict}
 use Rattle.tm_printing.proofs.Parts.{pair-smaller}
 use Rattle.tm_printing.proofs.Verdicts.{passed, item_first, pair_first, namespace-there, restored, not_there}
 use Rattle.tm_printing.proofs.Weights.{weight, level-heavier}

@@ -17,28 +17,28 @@ returns g c =
     ∙ sym c.requires.own) in
     over_done g.O.Parties.functions c.args.self.now c.rendering.result c.rendering.ensures c.args.captures c.run.new.self.captures
     c.args.state c.run.new.self.world
-    (g.W.Sink.told c.args.writer.now) (g.W.Sink.told c.run.new.writer) (g.W.Sink.faults c.args.writer.now)
-    (g.W.Sink.faults c.run.new.writer)
+    (g.W.Sink.written c.args.writer.now) (g.W.Sink.written c.run.new.writer) (g.W.Sink.failures c.args.writer.now)
+    (g.W.Sink.failures c.run.new.writer)
     c.new-machine.result begins c.requires.fresh c.into_parts.result c.into_parts.ensures.captures c.into_parts.ensures.state
-    c.in_ok-run.ensures.ended c.in_ok-run.ensures.faults
+    c.in_ok-run.ensures.ended c.in_ok-run.ensures.failures
 
 pub returns-in_err-run : goal.returns-in_err-run
 returns-in_err-run g c =
     let begins = c.new-machine.ensures
     ∙ ap (λ s. start (whole s) c.args.captures c.args.state) (c.root-stream.ensures ∙ ap root_of c.in-Ok.ensures.ok
     ∙ sym c.requires.own) in
-    let told = g.W.Sink.told c.args.writer.now in
-    let now = g.W.Sink.told c.run.new.writer in
-    let faults = g.W.Sink.faults c.args.writer.now in
-    let count = g.W.Sink.faults c.run.new.writer in
+    let told = g.W.Sink.written c.args.writer.now in
+    let now = g.W.Sink.written c.run.new.writer in
+    let failures = g.W.Sink.failures c.args.writer.now in
+    let count = g.W.Sink.failures c.run.new.writer in
     let why = c.in_err-run.field-0.0 in
     let Ends : Result (List Capture × World) Halt →
-    Type 0 = λ r. Ran (meaning_from g.O.Parties.functions c.args.self.now c.args.state) r c.args.captures told now faults count in
+    Type 0 = λ r. Ran (meaning_from g.O.Parties.functions c.args.self.now c.args.state) r c.args.captures told now failures count in
     passed c.from_residual.result Ends why c.from_residual.ensures.1
     (over_halted g.O.Parties.functions c.args.self.now c.rendering.result c.rendering.ensures c.args.captures c.run.new.self.captures
     c.args.state c.run.new.self.world
-    told now faults count c.new-machine.result begins c.requires.fresh why c.in_err-run.ensures.ended c.in_err-run.ensures.beginning
-    c.in_err-run.ensures.faults)
+    told now failures count c.new-machine.result begins c.requires.fresh why c.in_err-run.ensures.ended c.in_err-run.ensures.beginning
+    c.in_err-run.ensures.failures)
 
 -- no memory for the template's name
 pub returns-in-Err : goal.returns-in-Err

@@ -4,7 +4,7 @@ use Rattle.std.specs.Io.KnownBytes.{Appends}
 use Rattle.tm_meaning.specs.Instructions.{is_heard}
 use Rattle.tm_meaning.specs.Machine.{Capture, put_in, put_out}
 use Rattle.tm_output.specs.Counts.{AppendsBeginning}
-use Rattle.tm_parts.proofs.Pieces.{appends_beginning}
+use Rattle.tm_output.specs.Pieces.{appends_beginning}
 use Rattle.tm_parts.proofs.output.Captures.emit.Goals as goal
 use Rattle.tm_parts.proofs.output.Captures.emit.Goals.{in-Ok, in-Err, in-Ok-appended, in-Err-appended}
 

@@ -15,25 +15,25 @@ run-loop-entry-init g t c =
     let a = c.args.self.now in
     let all : length a.world.scopes.frames ≡ length a.world.scopes.frames = refl in
     record {
-      faults = refl;
+      failures = refl;
       kept = kept_same a.world;
       above = omega (arith, all);
       same_outer = refl;
       same_stream = refl;
-      stands = stands_first p (base_of c.args.heard a.captures a.world) a (g.W.Sink.told c.args.writer.now);
+      stands = stands_first p (base_of c.args.heard a.captures a.world) a (g.W.Sink.written c.args.writer.now);
     }
 
 pub run-loop-entry-preserved-in-Ok-GoOn : goal.run-loop-entry-preserved-in-Ok-GoOn
 run-loop-entry-preserved-in-Ok-GoOn g t c =
     let p = program (g.H.Host.meaning c.args.host.now) (g.H.Host.code c.args.host.now) in
     let a = c.args.self.now in
-    let now = g.W.Sink.told c.loop-entry.writer in
-    let new = g.W.Sink.told c.step.new.writer in
+    let now = g.W.Sink.written c.loop-entry.writer in
+    let new = g.W.Sink.written c.step.new.writer in
     let step = rw c.in-Ok-GoOn.field-0-is at c.in-Ok-GoOn.ensures.performs in
     let did = at_base p c.loop-entry.self c.step.new.self now new (Ok flow.GoOn) c.base-base.result
     (base_of c.args.heard a.captures a.world) c.base-base.ensures step.did in
     record {
-      faults = step.counted ∙ c.loop-entry.invariant.faults;
+      failures = step.counted ∙ c.loop-entry.invariant.failures;
       kept = kept_then c.loop-entry.invariant.kept step.kept;
       above = above_base c.args.heard a.captures a.world c.base-base.result c.loop-entry.self.world c.step.new.self.world
           c.base-base.ensures c.loop-entry.invariant.above step.depths;
@@ -47,9 +47,9 @@ run-loop-entry-preserved g t c =
     let p = program (g.H.Host.meaning c.args.host.now) (g.H.Host.code c.args.host.now) in
     let a = c.args.self.now in
     let limit = (g.H.Host.meaning c.args.host.now).limit in
-    let now = g.W.Sink.told c.loop-entry.writer in
-    let at = g.W.Sink.told c.step.new.writer in
-    let new = g.W.Sink.told c.run_nested.new.writer in
+    let now = g.W.Sink.written c.loop-entry.writer in
+    let at = g.W.Sink.written c.step.new.writer in
+    let new = g.W.Sink.written c.run_nested.new.writer in
     let e = c.into_inner.result in
     let step = rw c.in-Ok-Enter.field-0-is at c.in-Ok-Enter.ensures.performs in
     let did = at_base p c.loop-entry.self c.step.new.self now at (Ok (flow.Enter c.in-Ok-Enter.entry)) c.base-base.result
@@ -60,7 +60,7 @@ run-loop-entry-preserved g t c =
     let behind = c.run_nested.new.self.world in
     let same = scopes_behind limit e c.loop-entry.self.world c.step.new.self.world behind deep c.in_default.ensures.back in
     record {
-      faults = c.in_default.ensures.faults ∙ step.counted ∙ c.loop-entry.invariant.faults;
+      failures = c.in_default.ensures.failures ∙ step.counted ∙ c.loop-entry.invariant.failures;
       kept = kept_then c.loop-entry.invariant.kept (kept_then step.kept c.in_default.ensures.kept);
       above = omega (arith, same.0, c.loop-entry.invariant.above);
       same_outer = same.1 ∙ c.loop-entry.invariant.same_outer;
@@ -78,9 +78,9 @@ pub run-returns-in-Err-run_nested-clause-ended : goal.run-returns-in-Err-run_nes
 run-returns-in-Err-run_nested-clause-ended g t c =
     let p = program (g.H.Host.meaning c.args.host.now) (g.H.Host.code c.args.host.now) in
     let a = c.args.self.now in
-    let now = g.W.Sink.told c.loop-entry.writer in
-    let at = g.W.Sink.told c.step.new.writer in
-    let new = g.W.Sink.told c.run_nested.new.writer in
+    let now = g.W.Sink.written c.loop-entry.writer in
+    let at = g.W.Sink.written c.step.new.writer in
+    let new = g.W.Sink.written c.run_nested.new.writer in
     let e = c.into_inner.result in
     let step = rw c.in-Ok-Enter.field-0-is at c.in-Ok-Enter.ensures.performs in
     let did = at_base p c.loop-entry.self c.step.new.self now at (Ok (flow.Enter c.in-Ok-Enter.entry)) c.base-base.result
@@ -93,9 +93,9 @@ pub run-returns-in-Err-run_nested-clause-beginning : goal.run-returns-in-Err-run
 run-returns-in-Err-run_nested-clause-beginning g t c =
     let p = program (g.H.Host.meaning c.args.host.now) (g.H.Host.code c.args.host.now) in
     let a = c.args.self.now in
-    let now = g.W.Sink.told c.loop-entry.writer in
-    let at = g.W.Sink.told c.step.new.writer in
-    let new = g.W.Sink.told c.run_nested.new.writer in
+    let now = g.W.Sink.written c.loop-entry.writer in
+    let at = g.W.Sink.written c.step.new.writer in
+    let new = g.W.Sink.written c.run_nested.new.writer in
     let e = c.into_inner.result in
     let step = rw c.in-Ok-Enter.field-0-is at c.in-Ok-Enter.ensures.performs in
     let did = at_base p c.loop-entry.self c.step.new.self now at (Ok (flow.Enter c.in-Ok-Enter.entry)) c.base-base.result
@@ -107,8 +107,8 @@ pub run-returns-in-Ok-Done-clause-ended : goal.run-returns-in-Ok-Done-clause-end
 run-returns-in-Ok-Done-clause-ended g t c =
     let p = program (g.H.Host.meaning c.args.host.now) (g.H.Host.code c.args.host.now) in
     let a = c.args.self.now in
-    let now = g.W.Sink.told c.loop-entry.writer in
-    let new = g.W.Sink.told c.step.new.writer in
+    let now = g.W.Sink.written c.loop-entry.writer in
+    let new = g.W.Sink.written c.step.new.writer in
     let step = rw c.in-Ok-Done.field-0-is at c.in-Ok-Done.ensures.performs in
     let did = at_base p c.loop-entry.self c.step.new.self now new (Ok flow.Done) c.base-base.result
     (base_of c.args.heard a.captures a.world) c.base-base.ensures step.did in
@@ -117,7 +117,7 @@ run-returns-in-Ok-Done-clause-ended g t c =
 pub run-returns-in-Ok-Done-clause-beginning : goal.run-returns-in-Ok-Done-clause-beginning
 run-returns-in-Ok-Done-clause-beginning g t c =
     let step = rw c.in-Ok-Done.field-0-is at c.in-Ok-Done.ensures.performs in
-    whole_at (g.W.Sink.told c.step.new.writer) c.loop-entry.invariant.stands step.did.1
+    whole_at (g.W.Sink.written c.step.new.writer) c.loop-entry.invariant.stands step.did.1
 
 pub run-returns-in-Ok-Done-clause-closed : goal.run-returns-in-Ok-Done-clause-closed
 run-returns-in-Ok-Done-clause-closed g t c =
@@ -129,8 +129,8 @@ pub run-returns-in-Err-clause-ended : goal.run-returns-in-Err-clause-ended
 run-returns-in-Err-clause-ended g t c =
     let p = program (g.H.Host.meaning c.args.host.now) (g.H.Host.code c.args.host.now) in
     let a = c.args.self.now in
-    let now = g.W.Sink.told c.loop-entry.writer in
-    let new = g.W.Sink.told c.step.new.writer in
+    let now = g.W.Sink.written c.loop-entry.writer in
+    let new = g.W.Sink.written c.step.new.writer in
     let did = at_base p c.loop-entry.self c.step.new.self now new (Err c.in-Err.halt) c.base-base.result
     (base_of c.args.heard a.captures a.world) c.base-base.ensures c.in-Err.ensures.performs.did in
     ended_at new c.in-Err.halt c.step.new.self.world c.loop-entry.invariant.stands did.0 did.1
@@ -139,8 +139,8 @@ pub run-returns-in-Err-clause-beginning : goal.run-returns-in-Err-clause-beginni
 run-returns-in-Err-clause-beginning g t c =
     let p = program (g.H.Host.meaning c.args.host.now) (g.H.Host.code c.args.host.now) in
     let a = c.args.self.now in
-    let now = g.W.Sink.told c.loop-entry.writer in
-    let new = g.W.Sink.told c.step.new.writer in
+    let now = g.W.Sink.written c.loop-entry.writer in
+    let new = g.W.Sink.written c.step.new.writer in
     let did = at_base p c.loop-entry.self c.step.new.self now new (Err c.in-Err.halt) c.base-base.result
     (base_of c.args.heard a.captures a.world) c.base-base.ensures c.in-Err.ensures.performs.did in
     beginning_at new c.loop-entry.invariant.stands did.1
@@ -148,8 +148,8 @@ run-returns-in-Err-clause-beginning g t c =
 pub run_nested-returns-in-Err-clause-ran : goal.run_nested-returns-in-Err-clause-ran
 run_nested-returns-in-Err-clause-ran g t c =
     let p = program (g.H.Host.meaning c.args.host.now) (g.H.Host.code c.args.host.now) in
-    let now = g.W.Sink.told c.args.writer.now in
-    let new = g.W.Sink.told c.run-result.new.writer in
+    let now = g.W.Sink.written c.args.writer.now in
+    let new = g.W.Sink.written c.run-result.new.writer in
     let resumed = ap (λ (x : Config). x.world) c.resume.ensures in
     let same = ap (λ (x : Config). x.world) c.put_back.ensures ∙ ap (put_back c.args.entry.saved) resumed in
     wrapped_ends p c.args.entry c.args.self.now c.begin-waiting.new.self c.run-result.new.self c.put_back.new.self now new c.in-Err.halt

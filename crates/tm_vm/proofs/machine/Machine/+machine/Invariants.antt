@@ -14,14 +14,14 @@ decreases-run g l = ((g.H.Host.meaning l.host.now).limit + 1 - depth l.self.now.
 
 abbrev pub invariant-run-loop-entry : goal.invariant-run-loop-entry
 invariant-run-loop-entry g l = record {
-  faults : g.W.Sink.faults l.writer ≡ g.W.Sink.faults l.initial.writer;
+  failures : g.W.Sink.failures l.writer ≡ g.W.Sink.failures l.initial.writer;
   kept : KeepsIdAndFuel l.initial.self.world l.self.world;
   above : length l.initial.self.world.scopes.frames ≤ length l.self.world.scopes.frames;
   same_outer : l.self.world.scopes.outer ≡ l.initial.self.world.scopes.outer;
   same_stream : l.self.run.stream ≡ l.initial.self.run.stream;
   stands : RunsUpTo (program (g.H.Host.meaning l.host) (g.H.Host.code l.host))
-      (base_of l.heard l.initial.self.captures l.initial.self.world) l.initial.self (g.W.Sink.told l.initial.writer)
-      (g.W.Sink.told l.writer) l.self;
+      (base_of l.heard l.initial.self.captures l.initial.self.world) l.initial.self (g.W.Sink.written l.initial.writer)
+      (g.W.Sink.written l.writer) l.self;
 }
 
 abbrev pub decreases-run-loop-entry : goal.decreases-run-loop-entry

@@ -59,7 +59,7 @@ impl Return {
 /// replaced, for each loop that it has open where that goes on if it was called, and how many captures stood
 /// when it or the innermost called loop began.
 #[derive(Drop)]
-pub(crate) struct Run {
+pub(crate) struct Activation {
     pub(crate) stream: StreamId,
     pub(crate) place: usize,
     pub(crate) operands: Stack,
@@ -68,7 +68,7 @@ pub(crate) struct Run {
     floor: usize,
 }
 
-impl Model for Run {
+impl Model for Activation {
     ghost use Rattle.std.specs.Prelude.{[], None, reverse};
     ghost use Rattle.std.specs.Coded.{codes};
     ghost use Rattle.tm_values.specs.Code.{coded_Val};
@@ -89,12 +89,12 @@ impl Model for Run {
     } };
 }
 
-impl Run {
+impl Activation {
     /// A run of a stream from its first instruction, over so many captures.
-    pub(crate) fn new(alloc: Global, stream: StreamId, floor: usize) -> Run
+    pub(crate) fn new(alloc: Global, stream: StreamId, floor: usize) -> Activation
         ensures { result ≡ run_from stream floor }
     {
-        Run {
+        Activation {
             stream,
             place: 0,
             operands: Stack::new(alloc),

@@ -1,8 +1,8 @@
 use Rattle.std.proofs.Common.{◌<◌, ◌+◌, length, [], arith, sym}
 use Rattle.tm_parts.proofs.Operands.{taken_too_many}
-use Rattle.tm_vm.proofs.run.Run.take_pairs.Goals.{then-held-count-via-then-held-count}
-use Rattle.tm_vm.proofs.run.Run.take_pairs.Goals.{then-held-count-via-else-held-count+then-held-count-2}
-use Rattle.tm_vm.proofs.run.Run.take_pairs.Goals as goal
+use Rattle.tm_vm.proofs.activation.Activation.take_pairs.Goals.{then-held-count-via-then-held-count}
+use Rattle.tm_vm.proofs.activation.Activation.take_pairs.Goals.{then-held-count-via-else-held-count+then-held-count-2}
+use Rattle.tm_vm.proofs.activation.Activation.take_pairs.Goals as goal
 
 pub returns-then-held-count-clause-taken : goal.returns-then-held-count-clause-taken
 returns-then-held-count-clause-taken c =
