@@ -6,5 +6,5 @@ mod sink;
 mod target;
 
 pub use limited::Limited;
-pub use sink::{Counted, NullWriter, Sink, write_text};
+pub use sink::{Counted, NullWriter, Sink, put_text, write_text};
 pub use target::{Target, TargetFailed};

@@ -4,6 +4,7 @@ ghost use Rattle.std.specs.Io.{WritesAtMost};
 ghost use Rattle.std.specs.Io.KnownBytes.{Keeps, WriteAppends, Appends};
 ghost use Rattle.tm_output.specs.Counts.{failure_count, saturating_increment, AppendsBeginning};
 
+use crate::target::TargetFailed;
 use std::io::{self, Write};
 use std::marker::Model;
 
@@ -113,6 +114,30 @@ impl Sink for NullWriter {
     {
         Ok(bytes.len())
     }
+}
+
+/// Writes a whole text, each byte once. Fails where the writer does, or takes nothing; no error of its is
+/// handed on, which is faster.
+#[inline(always)]
+pub fn put_text<W: Sink>(sink: &mut W, text: &[u8]) -> Result<(), TargetFailed>
+    ensures written { OnOk result (Appends (W.written sink.old) (W.written sink.new) text.now) }
+    ensures no_fault { OnOk result (W.failures sink.new ≡ W.failures sink.old) }
+    ensures beginning { AppendsBeginning (W.written sink.old) (W.written sink.new) text.now }
+    ensures fault { OnErr result (W.failures sink.new ≡ saturating_increment (W.failures sink.old)) }
+{
+    let mut done = 0;
+    while done < text.len() {
+        match sink.write(&text[done..]) {
+            Ok(taken) => {
+                if taken == 0 {
+                    return Err(TargetFailed);
+                }
+                done += taken;
+            }
+            Err(_error) => return Err(TargetFailed),
+        }
+    }
+    Ok(())
 }
 
 /// Writes a whole text, each byte once; any error of the writer, or WriteZero where it takes

@@ -3,7 +3,7 @@ ghost use Rattle.std.specs.Prelude.{ℕ, List, string_bytes};
 ghost use Rattle.tm_output.specs.Targets.{Takes, Laws, Grows, GrowsInPart, IsToldWhole, IsToldInPart};
 ghost use Rattle.tm_output.specs.Laws.{string_laws, writer_laws};
 
-use crate::sink::{Sink, write_text};
+use crate::sink::{Sink, put_text};
 
 /// That a target failed. Only one who holds the target knows why: a `String` found no memory, a
 /// writer failed or took nothing.
@@ -47,7 +47,7 @@ impl<S: Sink> Target for S {
 
     /// Fails where the writer does, or takes nothing; a text without bytes makes no call.
     fn take_text(&mut self, text: &str) -> Result<(), TargetFailed> {
-        write_text(self, text.as_bytes()).map_err(|_| TargetFailed)
+        put_text(self, text.as_bytes())
     }
 
     ghost laws = { writer_laws S.written S.failures };

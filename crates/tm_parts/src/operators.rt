@@ -1,5 +1,7 @@
 //! What operators give.
-ghost use Rattle.std.specs.Prelude.{◌≡◌, IfErr, IfOk, [], ◌∷◌};
+ghost use Rattle.std.specs.Prelude.{◌≡◌, IfErr, IfOk, IfSome, [], ◌∷◌};
+ghost use Rattle.tm_parts.specs.Operate.{Gives};
+ghost use Rattle.tm_values.specs.Val.{number};
 ghost use Rattle.tm_meaning.specs.Instructions as instructions;
 ghost use Rattle.tm_meaning.specs.Meaning.{result_of, result_of_unary};
 ghost use Rattle.tm_values.specs.Answer.{IsAnswer};
@@ -10,9 +12,10 @@ use tm_operations::{
     ComparisonOperator, add, compare, contains, divide, floor_divide, multiply, negate, power, remainder,
     subtract, truth,
 };
+use tm_primitives::whole;
 use tm_printing::concatenate;
 use tm_syntax::{BinaryOperator, UnaryOperator};
-use tm_values::{Error, Records, UndefinedBehavior, Value};
+use tm_values::{Error, Node, Records, UndefinedBehavior, Value};
 
 /// What a prefix operator gives of a value, or why it gives nothing.
 pub fn unary(
@@ -30,7 +33,6 @@ pub fn unary(
 }
 
 /// What an operator gives of two values, or why it gives nothing.
-#[inline(always)]
 pub fn binary<R: Records>(
     alloc: Global,
     operator: BinaryOperator,
@@ -65,6 +67,42 @@ pub fn binary<R: Records>(
         BinaryOperator::Power => return power(alloc, left, right),
     };
     Ok(Value::boolean(compare(comparison, left, right, undefined)?))
+}
+
+/// What an operator gives of two numbers, where it needs no more than them.
+#[inline(always)]
+pub(crate) fn binary_at_once(operator: BinaryOperator, left: &Value, right: &Value) -> Option<Value>
+    ensures { IfSome result (λ v. Gives operator left.now right.now v) }
+{
+    match (&left.node, &right.node) {
+        (Node::Number(left), Node::Number(right)) => of_numbers(operator, *left, *right),
+        _ => None,
+    }
+}
+
+#[inline(always)]
+fn of_numbers(operator: BinaryOperator, left: i128, right: i128) -> Option<Value>
+    ensures { IfSome result (λ v. Gives operator (number left) (number right) v) }
+{
+    let comparison = match operator {
+        BinaryOperator::Equal => ComparisonOperator::Equal,
+        BinaryOperator::NotEqual => ComparisonOperator::NotEqual,
+        BinaryOperator::Less => ComparisonOperator::Less,
+        BinaryOperator::LessOrEqual => ComparisonOperator::LessOrEqual,
+        BinaryOperator::Greater => ComparisonOperator::Greater,
+        BinaryOperator::GreaterOrEqual => ComparisonOperator::GreaterOrEqual,
+        BinaryOperator::Add => return Some(Value::number(whole::add(left, right)?)),
+        BinaryOperator::Subtract => return Some(Value::number(whole::subtract(left, right)?)),
+        BinaryOperator::Multiply => return Some(Value::number(whole::multiply(left, right)?)),
+        BinaryOperator::FloorDivide => return Some(Value::number(whole::divide(left, right)?)),
+        BinaryOperator::Remainder => return Some(Value::number(whole::remainder(left, right)?)),
+        BinaryOperator::In
+        | BinaryOperator::NotIn
+        | BinaryOperator::Concatenate
+        | BinaryOperator::Divide
+        | BinaryOperator::Power => return None,
+    };
+    Some(Value::boolean(comparison.is_met(left.cmp(&right))))
 }
 
 /// Keys, each with the value behind it; a last key without one is dropped. Fails by OutOfMemory alone.

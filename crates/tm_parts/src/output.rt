@@ -1,5 +1,5 @@
 //! Output: captures that take a text before the writer does.
-ghost use Rattle.std.specs.Prelude.{◌≡◌, ◌≢◌, ◌⊎◌, ℕ, Bool, [], ◌∷◌, length, take, None, Err, IsOk, IsSome, OnOk, OnErr, IfErr};
+ghost use Rattle.std.specs.Prelude.{◌≡◌, ◌≢◌, ◌⊎◌, ◌↔◌, ℕ, Bool, IsTrue, [], ◌∷◌, length, take, None, Err, IsOk, IsSome, OnOk, OnErr, IfErr};
 ghost use Rattle.std.specs.Prelude.{MatchOption, string_bytes};
 ghost use Rattle.std.specs.Io.KnownBytes.{Appends};
 ghost use Rattle.tm_values.specs.declared.error.ErrorKind.TheVariants.{WriteFailure, OutOfMemory};
@@ -13,7 +13,7 @@ use crate::halt::Halt;
 use std::alloc::Global;
 use std::io;
 use std::marker::Model;
-use tm_output::{Sink, write_text};
+use tm_output::{Sink, put_text, write_text};
 use tm_printing::emit;
 use tm_syntax::CaptureMode;
 use tm_values::{AutoEscape, Error, ErrorKind, Records, Value};
@@ -67,6 +67,14 @@ impl Captures {
         self.open.len()
     }
 
+    /// Whether none is open.
+    #[inline(always)]
+    pub fn is_empty(&self) -> bool
+        ensures { IsTrue result ↔ (self.now ≡ []) }
+    {
+        self.open.is_empty()
+    }
+
     /// Whether the innermost capture takes what is written; so it is where none is open.
     pub fn is_heard(&self) -> bool
         ensures { result ≡ first_heard self.now }
@@ -118,9 +126,9 @@ impl Captures {
         ensures empty { text.now ≡ [] → IsOk result }
     {
         let Some(mut innermost) = self.open.pop() else {
-            return match write_text(writer, text.as_bytes()) {
+            return match put_text(writer, text.as_bytes()) {
                 Ok(()) => Ok(()),
-                Err(_error) => Err(Halt::Writer),
+                Err(_failed) => Err(Halt::Writer),
             };
         };
         let appended = innermost.text.push_str(text);

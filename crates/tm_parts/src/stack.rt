@@ -1,12 +1,16 @@
 //! The operand stack.
 ghost use Rattle.std.specs.Prelude.{◌++◌, ◌≡◌, [], ◌∷◌, List, Some, None, drop, length, ◌↔◌, IsTrue, OnOk, OnErr, IfOk, IfErr, IfNone};
 ghost use Rattle.std.specs.Prelude.{MatchOption, MatchResult};
-ghost use Rattle.tm_values.specs.Val.{Val};
+ghost use Rattle.tm_values.specs.Val.{Val, boolean};
+ghost use Rattle.tm_values.specs.Answer.{OrStays};
+ghost use Rattle.tm_parts.specs.Operate.{Has, Operates, TakesMember};
 ghost use Rattle.tm_meaning.specs.Machine.{taken};
 
+use crate::operators::binary_at_once;
 use std::alloc::Global;
 use std::marker::Model;
-use tm_values::{Error, ErrorKind, Value};
+use tm_syntax::BinaryOperator;
+use tm_values::{Error, ErrorKind, Node, Value};
 
 /// Operands. A contract sees a list, the topmost first.
 #[derive(Drop)]
@@ -25,6 +29,17 @@ impl Model for Stack {
     ghost coded = { coded_list coded_Val };
 
     ghost view = { λ s. reverse s.values.items };
+}
+
+/// What a map has at a name, where it has it and a second owner can be counted.
+#[inline(always)]
+fn member_at_once(value: &Value, name: &str) -> Option<Value>
+    ensures { IfSome result (λ v. Has value.now name.now v) }
+{
+    let Node::Map(_) = &value.node else {
+        return None;
+    };
+    value.member(name)?.share().ok()
 }
 
 impl Stack {
@@ -72,6 +87,104 @@ impl Stack {
             self.push(values[left].share()?)?;
         }
         Ok(())
+    }
+
+    /// Puts a second owner of a value on top, where there is room. Else all stays as it was, and the answer is
+    /// false.
+    #[inline(always)]
+    pub fn push_shared(&mut self, value: &Value) -> bool
+        ensures { OrStays result self.old self.new (self.new ≡ value.now ∷ self.old) }
+    {
+        if self.values.len() >= self.values.capacity() {
+            return false;
+        }
+        if let Node::Number(whole) = &value.node {
+            self.values.push_reserved(Value::number(*whole));
+            return true;
+        }
+        match value.share() {
+            Ok(value) => {
+                self.values.push_reserved(value);
+                true
+            }
+            Err(_) => false,
+        }
+    }
+
+    /// Puts what an operator gives of the two topmost values in their place, where both are numbers and it needs
+    /// no more than them. Else all stays as it was, and the answer is false.
+    #[inline(always)]
+    pub fn operate(&mut self, operator: BinaryOperator) -> bool
+        ensures { OrStays result self.old self.new (Operates operator self.old self.new) }
+    {
+        if self.values.len() < 2 {
+            return false;
+        }
+        let right = self.values.take_last();
+        let left = self.values.take_last();
+        // There is room where they were taken from.
+        match binary_at_once(operator, &left, &right) {
+            Some(given) => {
+                self.values.push_reserved(given);
+                true
+            }
+            None => {
+                self.values.push_reserved(left);
+                self.values.push_reserved(right);
+                false
+            }
+        }
+    }
+
+    /// Puts what the map on top has at a name in its place, where it has it. Else all stays as it was, and the
+    /// answer is false.
+    #[inline(never)]
+    pub fn replace_by_member(&mut self, name: &str) -> bool
+        ensures { OrStays result self.old self.new (TakesMember name.now self.old self.new) }
+    {
+        if self.values.is_empty() {
+            return false;
+        }
+        let top = self.values.take_last();
+        match member_at_once(&top, name) {
+            Some(member) => {
+                self.values.push_reserved(member);
+                true
+            }
+            None => {
+                self.values.push_reserved(top);
+                false
+            }
+        }
+    }
+
+    /// Takes the truth value on top, where one is. Else all stays as it was.
+    #[inline(always)]
+    pub fn take_boolean(&mut self) -> Option<bool>
+        ensures { MatchOption result (self.new ≡ self.old)
+            (λ truth. self.old ≡ boolean truth ∷ self.new) }
+    {
+        if self.values.is_empty() {
+            return None;
+        }
+        let top = self.values.take_last();
+        match top.node {
+            Node::Boolean(truth) => Some(truth),
+            _ => {
+                self.values.push_reserved(top);
+                None
+            }
+        }
+    }
+
+    /// Drops the topmost value, where there is one.
+    #[inline(always)]
+    pub fn drop_top(&mut self)
+        ensures { self.new ≡ drop 1 self.old }
+    {
+        if !self.values.is_empty() {
+            drop(self.values.take_last());
+        }
     }
 
     /// Takes the topmost value, where there is one.

@@ -8,6 +8,7 @@ ghost use Rattle.tm_primitives.specs.Whole.{sum_of, difference_of, product_of, n
 ghost use Rattle.tm_primitives.specs.Whole.{if_in_range, IsEuclidean};
 
 /// `a + b`; none where the sum is out of range.
+#[inline(always)]
 pub fn add(a: i128, b: i128) -> Option<i128>
     ensures { result ≡ sum_of a b }
 {
@@ -15,6 +16,7 @@ pub fn add(a: i128, b: i128) -> Option<i128>
 }
 
 /// `a - b`; none where the difference is out of range.
+#[inline(always)]
 pub fn subtract(a: i128, b: i128) -> Option<i128>
     ensures { result ≡ difference_of a b }
 {
@@ -22,13 +24,21 @@ pub fn subtract(a: i128, b: i128) -> Option<i128>
 }
 
 /// `a * b`; none where the product is out of range.
+#[inline(always)]
 pub fn multiply(a: i128, b: i128) -> Option<i128>
     ensures { result ≡ product_of a b }
 {
     match (i64::try_from(a), i64::try_from(b)) {
         (Ok(a), Ok(b)) => Some(a as i128 * b as i128),
-        _ => a.checked_mul(b),
+        _ => wide_product(a, b),
     }
+}
+
+#[inline(never)]
+fn wide_product(a: i128, b: i128) -> Option<i128>
+    ensures { result ≡ product_of a b }
+{
+    a.checked_mul(b)
 }
 
 /// `-a`; none for the least number.
@@ -40,7 +50,18 @@ pub fn negate(a: i128) -> Option<i128>
 
 /// `a // b`, rounded so that the remainder is not negative; none by zero, and for the least number
 /// by -1.
+#[inline(always)]
 pub fn divide(a: i128, b: i128) -> Option<i128>
+    ensures { result ≡ quotient_of a b }
+{
+    match (i64::try_from(a), i64::try_from(b)) {
+        (Ok(a), Ok(b)) if b > 0 => Some(a.div_euclid(b) as i128),
+        _ => wide_quotient(a, b),
+    }
+}
+
+#[inline(never)]
+fn wide_quotient(a: i128, b: i128) -> Option<i128>
     ensures { result ≡ quotient_of a b }
 {
     if b == 0 {
@@ -49,14 +70,22 @@ pub fn divide(a: i128, b: i128) -> Option<i128>
     if b == -1 {
         return negate(a);
     }
-    match (i64::try_from(a), i64::try_from(b)) {
-        (Ok(a), Ok(b)) => Some(a.div_euclid(b) as i128),
-        _ => Some(a.div_euclid(b)),
-    }
+    Some(a.div_euclid(b))
 }
 
 /// `a % b`, which is not negative; none by zero.
+#[inline(always)]
 pub fn remainder(a: i128, b: i128) -> Option<i128>
+    ensures { result ≡ remainder_of a b }
+{
+    match (i64::try_from(a), i64::try_from(b)) {
+        (Ok(a), Ok(b)) if b > 0 => Some(a.rem_euclid(b) as i128),
+        _ => wide_remainder(a, b),
+    }
+}
+
+#[inline(never)]
+fn wide_remainder(a: i128, b: i128) -> Option<i128>
     ensures { result ≡ remainder_of a b }
 {
     if b == 0 {
@@ -65,10 +94,7 @@ pub fn remainder(a: i128, b: i128) -> Option<i128>
     if b == -1 {
         return Some(0);
     }
-    match (i64::try_from(a), i64::try_from(b)) {
-        (Ok(a), Ok(b)) => Some(a.rem_euclid(b) as i128),
-        _ => Some(a.rem_euclid(b)),
-    }
+    Some(a.rem_euclid(b))
 }
 
 /// `a ** exponent`; none for a negative exponent, and where the power is out of range.

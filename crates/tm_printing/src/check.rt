@@ -14,7 +14,23 @@ use tm_values::{Error, ErrorKind, Node, Records, Value, find_loop, find_namespac
 /// Whether the value can be printed: InvalidOperation where a loop or a namespace in it has no
 /// record, or a namespace holds itself. OutOfMemory where the way through namespaces finds no
 /// memory.
+#[inline(always)]
 pub fn check_print<R: Records>(alloc: Global, value: &Value, records: &R) -> Result<(), Error>
+    ensures { IsAnswer result (print_verdict (R.records records.now) value.now) }
+{
+    match &value.node {
+        Node::Undefined(_)
+        | Node::None
+        | Node::Boolean(_)
+        | Node::Number(_)
+        | Node::Text(_, _) => Ok(()),
+        _ => check_parts(alloc, value, records),
+    }
+}
+
+// The same of a value that may have parts, out of line.
+#[inline(never)]
+fn check_parts<R: Records>(alloc: Global, value: &Value, records: &R) -> Result<(), Error>
     ensures { IsAnswer result (print_verdict (R.records records.now) value.now) }
 {
     let levels = records.namespace_count();

@@ -1,5 +1,7 @@
 //! Values as templates emit them, and as texts of their own.
-ghost use Rattle.std.specs.Prelude.{string_bytes};
+ghost use Rattle.std.specs.Prelude.{◌≡◌, MatchOption, string_bytes};
+ghost use Rattle.tm_values.specs.Records.{RecordData};
+ghost use Rattle.tm_printing.specs.Emits.{Emits};
 ghost use Rattle.tm_output.specs.Targets.{Takes};
 ghost use Rattle.tm_values.specs.Answer.{IsAnswer};
 ghost use Rattle.tm_definitions.specs.Emitted.{emission_verdict, emitted_text, map_ok, text_answer};
@@ -7,6 +9,8 @@ ghost use Rattle.tm_definitions.specs.Emitted.{emission_verdict, emitted_text, m
 use crate::check::{check_json, check_print};
 use crate::compact::write_json;
 use crate::printing::{print, write_html};
+use crate::spelling::{Html, Verbatim};
+use crate::text::{write_number, write_spelled};
 use std::alloc::Global;
 use tm_output::{Target, TargetFailed};
 use tm_values::{AutoEscape, Error, ErrorKind, Node, Records, Value};
@@ -52,6 +56,34 @@ pub fn emit<R: Records, T: Target>(
         AutoEscape::Html => write_html(value, records, target),
         AutoEscape::Json => write_json(value, records, target),
         AutoEscape::Custom(_) => target.take_text(""),
+    }
+}
+
+/// Emits a number or a text under an escape that refuses neither; of other values and escapes it writes
+/// nothing and answers none. TargetFailed where the target fails.
+#[inline(always)]
+pub fn emit_at_once<T: Target>(
+    value: &Value,
+    escape: AutoEscape,
+    target: &mut T,
+) -> Option<Result<(), TargetFailed>>
+    ensures { MatchOption result (target.new ≡ target.old)
+        (λ answer. (r : RecordData) → Emits T.took T.stopped answer escape r value.now
+        target.old target.new) }
+{
+    match &value.node {
+        Node::Text(content, true) => Some(target.take_text(content.as_str())),
+        Node::Text(content, false) => match escape {
+            AutoEscape::None => Some(target.take_text(content.as_str())),
+            AutoEscape::Html => Some(write_spelled::<Html, T>(content.as_str(), target)),
+            AutoEscape::Json | AutoEscape::Custom(_) => None,
+        },
+        Node::Number(number) => match escape {
+            AutoEscape::None => Some(write_number::<Verbatim, T>(*number, target)),
+            AutoEscape::Html => Some(write_number::<Html, T>(*number, target)),
+            AutoEscape::Json | AutoEscape::Custom(_) => None,
+        },
+        _ => None,
     }
 }
 

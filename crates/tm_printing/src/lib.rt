@@ -13,7 +13,7 @@ mod text;
 pub use check::{check_json, check_print};
 pub use compact::write_json;
 pub use concatenation::concatenate;
-pub use emission::{check_emission, emit, to_text};
+pub use emission::{check_emission, emit, emit_at_once, to_text};
 pub use printing::{print, write_html};
 pub use rows::written_rows;
 pub use spelling::{Escape, Html, HtmlQuoted, Json, Quoted, Spelling, Verbatim};

@@ -1,13 +1,13 @@
 //! The data of a state.
 ghost use Rattle.std.specs.List.Sorted.{IsStrictlySortedBy};
 ghost use Rattle.std.specs.Prelude.{◌≡◌, ◌+◌, ◌≤◌, ◌<◌, List, [], ◌∷◌, ◌++◌, Some, None, false, true, is_some, length};
-ghost use Rattle.std.specs.Prelude.{nat_lt, slice_get, OnOk, OnErr, IfErr, IfOk, IfSome, MatchOption, MatchResult};
-ghost use Rattle.tm_values.specs.Answer.{IsAnswer, OkOrOutOfMemory, IsLent};
+ghost use Rattle.std.specs.Prelude.{nat_lt, slice_get, Ok, OnOk, OnErr, IfErr, IfOk, IfSome, MatchOption, MatchResult};
+ghost use Rattle.tm_values.specs.Answer.{IsAnswer, OkOrOutOfMemory, OrStays, IsLent};
 ghost use Rattle.tm_meaning.specs.Memory.{is_want_of_memory};
 ghost use Rattle.tm_syntax.specs.Named.{find, name_cmp, put, put_each, texts_of};
 ghost use Rattle.tm_meaning.specs.World.{depth, with_escape, innermost, loop_depth, top_loop, top_mark, next_turn};
 ghost use Rattle.tm_meaning.specs.World.{cleared, pop, store, set_member, make_namespace, emitted, records_of};
-ghost use Rattle.tm_meaning.specs.World.{fuel_levels, find_name, view_of, name_of, Good, Bad, block_of};
+ghost use Rattle.tm_meaning.specs.World.{HostValue, fuel_levels, find_name, view_of, name_of, Good, Bad, block_of};
 ghost use Rattle.tm_meaning.specs.Calls.{enter_block, given_by, refused, of_loop, told_changed, told_turn};
 ghost use Rattle.tm_meaning.specs.Steps.{charge_of, pay};
 ghost use Rattle.tm_definitions.specs.Emitted.{emitted_text};
@@ -127,6 +127,7 @@ impl<'env> StateData<'env> {
     }
 
     /// Charges an instruction; OutOfFuel where no more than its charge is left.
+    #[inline(always)]
     pub fn charge(&mut self, instruction: &Instruction) -> Result<(), Error>
         ensures ok { OnOk result (pay instruction.now self.old ≡ Good tt self.new) }
         ensures err { IfErr result (λ e. (e ≡ ErrorKind.OutOfFuel ∷ [])
@@ -137,6 +138,15 @@ impl<'env> StateData<'env> {
         ensures rest { self.new ≡ record self.old { fuel = self.new.fuel } }
     {
         self.fuel.track(instruction)
+    }
+
+    /// The innermost scope's own value of a name, where it has one.
+    #[inline(always)]
+    pub fn local(&self, name: &Name) -> Option<&Value>
+        ensures { IfSome result (λ v. (host : HostValue) →
+            find_name (view_of host self.now) name.now ≡ Ok (Some v.now)) }
+    {
+        self.context.local(name)
     }
 
     /// What an object of the caller sees of the state.
@@ -429,6 +439,7 @@ impl<'env> StateData<'env> {
     }
 
     /// The record of the innermost scope, where that is a loop's.
+    #[inline(always)]
     pub fn top_loop(&self) -> Option<&LoopState>
         ensures { IsLent result (top_loop self.now) }
     {
@@ -467,6 +478,7 @@ impl<'env> StateData<'env> {
     }
 
     /// Asks the innermost scope's loop for its next item.
+    #[inline(always)]
     pub fn next_turn(&mut self)
         ensures { self.new ≡ next_turn self.old }
     {
@@ -503,6 +515,16 @@ impl<'env> StateData<'env> {
         ensures err { OnErr result (self.new ≡ self.old) }
     {
         self.context.store(name.share()?, value)
+    }
+
+    /// Lets the innermost scope have a name for a second owner of a value, where there is room. Else all stays as
+    /// it was, and the answer is false.
+    #[inline(always)]
+    pub fn store_at_once(&mut self, name: &Name, value: &Value) -> bool
+        ensures { OrStays result self.old self.new
+            (self.new ≡ store name.now value.now self.old) }
+    {
+        self.context.store_at_once(name, value)
     }
 
     /// Gives a value to an attribute of a namespace. InvalidOperation for what is no namespace of this state;

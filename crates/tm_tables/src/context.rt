@@ -1,13 +1,13 @@
 //! Scopes.
 ghost use Rattle.std.specs.List.Sorted.{IsStrictlySortedBy};
 ghost use Rattle.std.specs.Prelude.{ℕ, option_map, ◌≡◌, ◌<◌, ◌^◌, ◌-◌, ◌||◌, [], ◌∷◌, true, false, length, min, nat_lt};
-ghost use Rattle.std.specs.Prelude.{OnErr, OnOk, IfErr, IfOk, MatchOption};
+ghost use Rattle.std.specs.Prelude.{Ok, OnErr, OnOk, IfErr, IfOk, IfSome, MatchOption, Some};
 ghost use Rattle.tm_syntax.specs.Named.{name_cmp, put, texts_of};
-ghost use Rattle.tm_values.specs.Answer.{OkOrOutOfMemory};
+ghost use Rattle.tm_values.specs.Answer.{OkOrOutOfMemory, OrStays};
 ghost use Rattle.tm_values.specs.Val.{loop};
 ghost use Rattle.tm_values.specs.declared.error.ErrorKind.TheVariants.{OutOfMemory};
 ghost use Rattle.tm_meaning.specs.World.{plain_scope, loop_scope, marked_loop, depth, context_member, innermost, stored_in};
-ghost use Rattle.tm_meaning.specs.World.{top_mark, without_first, without_locals};
+ghost use Rattle.tm_meaning.specs.World.{View, in_frames, top_mark, without_first, without_locals};
 ghost use Rattle.tm_meaning.specs.Calls.{outermost};
 ghost use Rattle.tm_tables.specs.Found.{IsHeld, IsFoundIn, meant_by};
 ghost use Rattle.tm_tables.specs.Known.{AddsFound, AreFoundIn, AreKnownIn, AreMembers, NamingFails, has_text, is_among};
@@ -156,7 +156,18 @@ impl Frame {
         Ok(())
     }
 
+    /// Has a name for a second owner of a value, where there is room. Else it stays as it was, and the answer is
+    /// false.
+    #[inline(always)]
+    fn store_at_once(&mut self, name: &Name, value: &Value) -> bool
+        ensures { OrStays result self.old self.new
+            (self.new ≡ record self.old { locals = put name.now value.now self.old.locals }) }
+    {
+        self.locals.insert_at_once(name, value)
+    }
+
     /// Loses its names.
+    #[inline(always)]
     fn clear(&mut self)
         ensures { self.new ≡ record self.old { locals = [] } }
     {
@@ -390,7 +401,30 @@ impl Context {
         }
     }
 
+    /// The innermost scope's own value of a name, where it has one.
+    #[inline(always)]
+    pub fn local(&self, name: &Name) -> Option<&Value>
+        ensures { IfSome result (λ v. (view : View) →
+            in_frames view name.now self.now.frames ≡ Ok (Some v.now)) }
+    {
+        self.frames.last()?.locals.get(name)
+    }
+
+    /// Lets the innermost scope have a name for a second owner of a value, where there is room. Else all stays as
+    /// it was, and the answer is false.
+    #[inline(always)]
+    pub fn store_at_once(&mut self, name: &Name, value: &Value) -> bool
+        ensures { OrStays result self.old self.new
+            (self.new ≡ record self.old { frames = stored_in name.now value.now self.old.frames }) }
+    {
+        match self.frames.len().checked_sub(1) {
+            Some(innermost) => self.frames[innermost].store_at_once(name, value),
+            None => true,
+        }
+    }
+
     /// What marks the innermost scope, where that is a loop's.
+    #[inline(always)]
     pub fn top_mark(&self) -> Option<LoopMark>
         ensures { result ≡ top_mark self.now.frames }
     {
@@ -412,6 +446,7 @@ impl Context {
     }
 
     /// The innermost scope, where there is one, loses its names.
+    #[inline(always)]
     pub fn clear_locals(&mut self)
         ensures { self.new ≡ record self.old { frames = without_locals self.old.frames } }
     {

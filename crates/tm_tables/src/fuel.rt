@@ -27,6 +27,7 @@ impl Model for FuelTracker {
 }
 
 /// What an instruction is charged: 0 where it is free.
+#[inline(always)]
 fn charge(instruction: &Instruction) -> u64
     ensures { result ≡ charge_of instruction.now }
 {
@@ -100,6 +101,7 @@ impl FuelTracker {
 
     /// Charges an instruction; a free one takes nothing. OutOfFuel, with nothing left, where no
     /// more than the charge was left.
+    #[inline(always)]
     pub fn track(&mut self, instruction: &Instruction) -> Result<(), Error>
         ensures ok { OnOk result
             (charged (charge_of instruction.now) self.old.left ≡ Some self.new.left) }
@@ -115,11 +117,21 @@ impl FuelTracker {
             return Ok(());
         }
         if self.remaining <= charge {
-            self.remaining = 0;
-            return Err(Error::from(ErrorKind::OutOfFuel));
+            return Err(self.exhausted());
         }
         self.remaining -= charge;
         Ok(())
+    }
+
+    // The error that no fuel is left, and none is.
+    #[cold]
+    #[inline(never)]
+    fn exhausted(&mut self) -> Error
+        ensures kind { result ≡ OutOfFuel ∷ [] }
+        ensures left { self.new ≡ record self.old { left = 0 } }
+    {
+        self.remaining = 0;
+        Error::from(ErrorKind::OutOfFuel)
     }
 
     /// The fuel that is left.

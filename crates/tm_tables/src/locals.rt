@@ -5,6 +5,7 @@ ghost use Rattle.std.specs.Prelude.{◌≡◌, [], IfOk, OnErr, OnOk, MatchOptio
 ghost use Rattle.tm_syntax.specs.Named.{find, name_cmp, put, texts_of};
 ghost use Rattle.tm_tables.specs.Known.{is_among};
 ghost use Rattle.tm_tables.specs.Locals.{IsPlace};
+ghost use Rattle.tm_values.specs.Answer.{OrStays};
 
 use std::alloc::{AllocError, Global};
 use std::collections::BTreeMap;
@@ -28,6 +29,7 @@ pub(crate) fn in_order(mut names: Vec<&str>) -> Vec<&str>
 }
 
 /// The place of the first pair with a name.
+#[inline(always)]
 fn place_of(pairs: &[(Name, Value)], name: &Name) -> Option<usize>
     ensures { IsPlace name.now pairs.now result }
 {
@@ -76,6 +78,7 @@ impl Locals {
     }
 
     /// What a name stands for.
+    #[inline(always)]
     pub(crate) fn get(&self, name: &Name) -> Option<&Value>
         ensures { MatchOption result (find name.now self.now ≡ None)
             (λ x. find name.now self.now ≡ Some x.now) }
@@ -101,6 +104,31 @@ impl Locals {
         Ok(())
     }
 
+    /// Lets a name stand for a second owner of a value, where there is room among the first. Else all stays as it
+    /// was, and the answer is false.
+    #[inline(always)]
+    pub(crate) fn insert_at_once(&mut self, name: &Name, value: &Value) -> bool
+        ensures { OrStays result self.old self.new (self.new ≡ put name.now value.now self.old) }
+    {
+        let Ok(value) = value.share() else {
+            return false;
+        };
+        if let Some(place) = place_of(&self.first, name) {
+            self.first[place].1 = value;
+            return true;
+        }
+        if self.first.len() >= SCANNED || self.first.len() >= self.first.capacity() {
+            return false;
+        }
+        match name.share() {
+            Ok(name) => {
+                self.first.push_reserved((name, value));
+                true
+            }
+            Err(_) => false,
+        }
+    }
+
     /// The names, in their order. AllocError for want of memory.
     pub(crate) fn names(&self, alloc: Global) -> Result<Vec<&str>, AllocError>
         ensures { IfOk result (λ names. texts_of names.items ≡ keys_of self.now) }
@@ -116,10 +144,15 @@ impl Locals {
     }
 
     /// No name stands for anything from here on.
+    #[inline(always)]
     pub(crate) fn clear(&mut self)
         ensures { self.new ≡ [] }
     {
-        self.first.clear();
-        self.others.clear();
+        while !self.first.is_empty() {
+            drop(self.first.take_last());
+        }
+        if !self.others.is_empty() {
+            self.others.clear();
+        }
     }
 }

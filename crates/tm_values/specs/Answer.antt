@@ -35,6 +35,11 @@ OkOrOutOfMemory result IsSo = MatchResult result IsSo (λ chain. chain ≡ OutOf
 abbrev pub Refused : List ErrorKind → Type 0 → Type 0
 Refused chain reason = (chain ≡ OutOfMemory ∷ []) ⊎ ((chain ≡ SyntaxError ∷ []) × reason)
 
+-- It was done; or all stayed as it was.
+abbrev pub OrStays : {A : Type 0} → Bool → A → A → Type 0 → Type 0
+OrStays true old new Done = Done
+OrStays false old new Done = new ≡ old
+
 -- What is lent is what was stated, or nothing where that is nothing.
 abbrev pub IsLent : {A : Type 0} → Option (Bor A) → Option A → Type 0
 IsLent lent stated = MatchOption lent (stated ≡ None) (λ x. stated ≡ Some x.now)

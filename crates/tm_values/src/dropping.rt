@@ -36,6 +36,21 @@ impl Held {
     }
 }
 
+// Drops a value that may own something.
+#[inline(never)]
+#[cycle(dropping)]
+pub(crate) fn drop_owner(value: Value) {
+    match value.into_held() {
+        Held::Nothing => {}
+        Held::Items(items) => drop_all(items),
+        Held::Pairs(pairs) => {
+            let mut left = Vec::new(*pairs.allocator());
+            put_pairs_aside(pairs, &mut left);
+            drop_all(left);
+        }
+    }
+}
+
 // Drops the values one by one. What they alone hold joins those that are left.
 #[cycle(dropping)]
 #[tactic(auto, using(crate::proofs::Sizes::joined_sizes))]
@@ -47,14 +62,6 @@ pub(crate) fn drop_all(mut left: Vec<Value>) {
             Held::Pairs(pairs) => put_pairs_aside(pairs, &mut left),
         }
     }
-}
-
-// Drops the pairs, with a list of their own.
-#[cycle(dropping)]
-pub(crate) fn drop_pairs(pairs: Vec<(Value, Value)>) {
-    let mut left = Vec::new(*pairs.allocator());
-    put_pairs_aside(pairs, &mut left);
-    drop_all(left);
 }
 
 #[cycle(dropping)]

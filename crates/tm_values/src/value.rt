@@ -9,7 +9,7 @@ ghost use Rattle.tm_values.specs.declared.error.ErrorKind.{ErrorKind};
 ghost use Rattle.tm_values.specs.Val.{Val, undefined, none, boolean, number, text, list, function, macro, loop, namespace, val_size};
 ghost use Rattle.tm_values.specs.Val.{vals_of, text_in, list_in, entries_in, items_in, whole_in};
 
-use crate::dropping::{Held, drop_all, drop_pairs};
+use crate::dropping::{Held, drop_owner};
 use crate::error::Error;
 use crate::macros::Macro;
 use std::alloc::Global;
@@ -78,12 +78,20 @@ impl Model for Value {
 }
 
 impl Drop for Value {
+    // Inline, since most values own nothing.
+    #[inline(always)]
     #[cycle(dropping)]
     fn drop(self) {
-        match self.into_held() {
-            Held::Nothing => {}
-            Held::Items(items) => drop_all(items),
-            Held::Pairs(pairs) => drop_pairs(pairs),
+        let Value { node } = self;
+        match node {
+            Node::Undefined(_)
+            | Node::None
+            | Node::Boolean(_)
+            | Node::Number(_)
+            | Node::Function(_)
+            | Node::Loop(_, _)
+            | Node::Namespace(_, _) => {}
+            node => drop_owner(Value { node }),
         }
     }
 }
@@ -227,7 +235,20 @@ impl Value {
 
     /// A second owner of the same contents. Fails, by OutOfMemory, only where the owners can't be
     /// counted.
+    #[inline(always)]
     pub fn share(&self) -> Result<Value, Error>
+        ensures { OkOrOutOfMemory result (λ v. v ≡ self.now) }
+    {
+        match &self.node {
+            Node::Number(whole) => Ok(Value::number(*whole)),
+            Node::Boolean(truth) => Ok(Value::boolean(*truth)),
+            _ => self.share_contents(),
+        }
+    }
+
+    // The same for what may be shared, out of line.
+    #[inline(never)]
+    fn share_contents(&self) -> Result<Value, Error>
         ensures { OkOrOutOfMemory result (λ v. v ≡ self.now) }
     {
         let node = match &self.node {

@@ -1,6 +1,8 @@
 //! What is a run's own.
 ghost use Rattle.std.specs.Prelude.{◌≡◌, ◌+◌, ◌-◌, ◌^◌, ◌<◌, List, [], ◌∷◌, Some, None, OnOk, IfErr, MatchOption, not, MatchResult, drop};
-ghost use Rattle.tm_values.specs.Val.{Val};
+ghost use Rattle.tm_values.specs.Answer.{OrStays};
+ghost use Rattle.tm_values.specs.Val.{Val, boolean};
+ghost use Rattle.tm_parts.specs.Operate.{Operates, TakesMember};
 ghost use Rattle.tm_meaning.specs.Meaning.{none_waits};
 ghost use Rattle.tm_meaning.specs.Steps.{is_empty};
 ghost use Rattle.tm_meaning.specs.Machine.{run_from, taken};
@@ -13,6 +15,7 @@ use std::mem;
 use tm_meaning::StreamId;
 use tm_operations::truth;
 use tm_parts::Stack;
+use tm_syntax::BinaryOperator;
 use tm_values::{AutoEscape, Error, ErrorKind, UndefinedBehavior, Value};
 
 /// Where a loop goes on that was called: the run as it was at the call, and whether the text is a value.
@@ -241,6 +244,56 @@ impl Activation {
         self.operands.push(value)
     }
 
+    /// Puts a second owner of a value on top, where there is room. Else all stays as it was, and the answer is
+    /// false.
+    #[inline(always)]
+    pub(crate) fn push_shared(&mut self, value: &Value) -> bool
+        ensures { OrStays result self.old self.new
+            (self.new ≡ record self.old { operands = value.now ∷ self.old.operands }) }
+    {
+        self.operands.push_shared(value)
+    }
+
+    /// Puts what an operator gives of the two topmost operands in their place, where both are numbers and it needs
+    /// no more than them. Else all stays as it was, and the answer is false.
+    #[inline(always)]
+    pub(crate) fn operate(&mut self, operator: BinaryOperator) -> bool
+        ensures operands { OrStays result self.old.operands self.new.operands
+            (Operates operator self.old.operands self.new.operands) }
+        ensures rest { self.new ≡ record self.old { operands = self.new.operands } }
+    {
+        self.operands.operate(operator)
+    }
+
+    /// Puts what the map on top has at a name in its place, where it has it. Else all stays as it was, and the
+    /// answer is false.
+    #[inline(always)]
+    pub(crate) fn replace_by_member(&mut self, name: &str) -> bool
+        ensures operands { OrStays result self.old.operands self.new.operands
+            (TakesMember name.now self.old.operands self.new.operands) }
+        ensures rest { self.new ≡ record self.old { operands = self.new.operands } }
+    {
+        self.operands.replace_by_member(name)
+    }
+
+    /// Takes the truth value on top, where one is. Else all stays as it was.
+    #[inline(always)]
+    pub(crate) fn take_boolean(&mut self) -> Option<bool>
+        ensures { MatchOption result (self.new ≡ self.old)
+            (λ truth. self.old ≡ record self.new { operands = boolean truth ∷ self.new.operands }) }
+    {
+        self.operands.take_boolean()
+    }
+
+    /// The topmost operand, where there is one.
+    #[inline(always)]
+    pub(crate) fn top(&self) -> Option<&Value>
+        ensures { MatchOption result (self.now.operands ≡ [])
+            (λ v. (rest : List Val) × (self.now.operands ≡ v.now ∷ rest)) }
+    {
+        self.operands.peek()
+    }
+
     /// The truth of the topmost operand, where there is one.
     pub(crate) fn top_truth(&self, undefined: UndefinedBehavior) -> Option<Result<bool, Error>>
         ensures { MatchOption result (self.now.operands ≡ [])
@@ -255,7 +308,7 @@ impl Activation {
     pub(crate) fn drop_top(&mut self)
         ensures { self.new ≡ record self.old { operands = drop 1 self.old.operands } }
     {
-        self.operands.remove(1);
+        self.operands.drop_top();
     }
 
     /// Drops the topmost so many operands.

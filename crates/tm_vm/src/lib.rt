@@ -10,6 +10,7 @@ mod machine;
 mod operands;
 mod output;
 mod activation;
+mod at_once;
 mod scopes;
 mod steps;
 

@@ -87,6 +87,7 @@ impl Machine<'_> {
     }
 
     /// Replaces two values by what an operator gives of them.
+    #[inline(never)]
     pub(crate) fn do_binary<H: Host>(
         &mut self,
         alloc: Global,

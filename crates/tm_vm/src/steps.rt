@@ -5,6 +5,7 @@ ghost use Rattle.tm_meaning.specs.Steps.{charge_of, pay, effect, finish, step};
 ghost use Rattle.tm_vm.specs.Answers.{program, CanGoOn, Performs, Finishes, Paid};
 ghost use Rattle.tm_state.specs.Answers.{KeepsIdAndFuel};
 
+use crate::at_once::Attempt;
 use crate::flow::Flow;
 use crate::machine::Machine;
 use std::alloc::Global;
@@ -161,6 +162,10 @@ impl Machine<'_> {
         if let Err(error) = self.charge(instruction) {
             return Err(Halt::Fault(error));
         }
-        self.perform(alloc, host, base, code, instruction, writer)
+        match self.attempt(host, base, instruction, writer) {
+            Attempt::Done => Ok(Flow::GoOn),
+            Attempt::WriterFailed => Err(Halt::Writer),
+            Attempt::Left => self.perform(alloc, host, base, code, instruction, writer),
+        }
     }
 }

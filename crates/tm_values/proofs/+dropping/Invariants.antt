@@ -9,8 +9,8 @@ decreases-dropping::put_aside l = 2 * val_size l.value + 3
 abbrev pub decreases-dropping::drop_all : goal.decreases-dropping::drop_all
 decreases-dropping::drop_all l = 2 * vals_size (vals_of l.left.items) + 2
 
-abbrev pub decreases-dropping::drop_pairs : goal.decreases-dropping::drop_pairs
-decreases-dropping::drop_pairs l = 2 * pairs_size (pairs_of l.pairs.items) + 3
+abbrev pub decreases-dropping::drop_owner : goal.decreases-dropping::drop_owner
+decreases-dropping::drop_owner l = 2 * val_size l.value + 1
 
 abbrev pub decreases-dropping::put_items_aside : goal.decreases-dropping::put_items_aside
 decreases-dropping::put_items_aside l = 2 * vals_size (vals_of l.items.items) + 2

@@ -1,0 +1,250 @@
+//! The instructions that are done at once where they can be: where they need no memory, run nothing, and fail only
+//! by the writer.
+ghost use Rattle.tm_meaning.specs.Instructions.{binary_of, emit_of, emit_raw_of, get_attr_of, iterate_of, jump_if_false_of};
+ghost use Rattle.tm_meaning.specs.Instructions.{load_const_of, lookup_of, store_local_of};
+ghost use Rattle.tm_meaning.specs.Steps.{effect};
+ghost use Rattle.tm_vm.specs.Answers.{program, CanGoOn};
+ghost use Rattle.tm_vm.specs.AtOnce.{Attempted, IsAtOnce};
+
+use crate::machine::Machine;
+use tm_meaning::Base;
+use tm_output::put_text;
+use tm_parts::Sink;
+use tm_printing::emit_at_once;
+use tm_syntax::{BinaryOperator, Instruction, Name, RawText};
+use tm_tables::Host;
+use tm_values::Value;
+
+/// What came of an instruction that is done at once where it can be.
+#[derive(Clone, Copy, PartialEq, Eq)]
+pub(crate) enum Attempt {
+    /// It was done, and the run goes on.
+    Done,
+    /// Nothing was done.
+    Left,
+    /// The writer failed.
+    WriterFailed,
+}
+
+impl Attempt {
+    /// Whether it was done.
+    #[inline(always)]
+    fn of(is_done: bool) -> Attempt {
+        if is_done {
+            Attempt::Done
+        } else {
+            Attempt::Left
+        }
+    }
+}
+
+impl Machine<'_> {
+    /// Pushes the innermost scope's own value of a name.
+    #[inline(always)]
+    fn lookup_at_once<H: Host>(&mut self, host: &H, name: &Name) -> bool
+        requires { CanGoOn self.old.run }
+        ensures { IsAtOnce result (lookup_of (H.meaning host.now) name.now self.old)
+            self.old self.new }
+    {
+        let _host = host;
+        let Some(value) = self.state.local(name) else {
+            return false;
+        };
+        if !self.run.push_shared(value) {
+            return false;
+        }
+        self.run.advance();
+        true
+    }
+
+    /// Replaces a map by its attribute.
+    #[inline(always)]
+    fn get_attr_at_once<H: Host>(&mut self, host: &H, name: &Name) -> bool
+        requires { CanGoOn self.old.run }
+        ensures { IsAtOnce result (get_attr_of (H.meaning host.now) name.now self.old)
+            self.old self.new }
+    {
+        let _host = host;
+        if !self.run.replace_by_member(name.as_str()) {
+            return false;
+        }
+        self.run.advance();
+        true
+    }
+
+    /// Pushes a literal.
+    #[inline(always)]
+    fn load_const_at_once(&mut self, value: &Value) -> bool
+        requires { CanGoOn self.old.run }
+        ensures { IsAtOnce result (load_const_of value.now self.old) self.old self.new }
+    {
+        if !self.run.push_shared(value) {
+            return false;
+        }
+        self.run.advance();
+        true
+    }
+
+    /// Replaces two numbers by what an operator gives of them.
+    #[inline(always)]
+    fn binary_at_once<H: Host>(&mut self, host: &H, operator: BinaryOperator) -> bool
+        requires { CanGoOn self.old.run }
+        ensures { IsAtOnce result (binary_of (H.meaning host.now) operator self.old)
+            self.old self.new }
+    {
+        let _host = host;
+        if !self.run.operate(operator) {
+            return false;
+        }
+        self.run.advance();
+        true
+    }
+
+    /// Pops a truth value, and goes on at a place where it is false.
+    #[inline(always)]
+    fn jump_if_false_at_once<H: Host>(&mut self, host: &H, place: usize) -> bool
+        requires { CanGoOn self.old.run }
+        ensures { IsAtOnce result (jump_if_false_of (H.meaning host.now) place self.old)
+            self.old self.new }
+    {
+        let _host = host;
+        match self.run.take_boolean() {
+            Some(true) => self.run.advance(),
+            Some(false) => self.run.jump(place),
+            None => return false,
+        }
+        true
+    }
+
+    /// Pops a value, and gives it to a name of the innermost scope.
+    #[inline(always)]
+    fn store_local_at_once(&mut self, name: &Name) -> bool
+        requires { CanGoOn self.old.run }
+        ensures { IsAtOnce result (store_local_of name.now self.old) self.old self.new }
+    {
+        let Some(value) = self.run.top() else {
+            return false;
+        };
+        if !self.state.store_at_once(name, value) {
+            return false;
+        }
+        self.run.drop_top();
+        self.run.advance();
+        true
+    }
+
+    /// Pushes the next item of the innermost loop, where one is left.
+    #[inline(always)]
+    fn iterate_at_once(&mut self, place: usize) -> bool
+        requires { CanGoOn self.old.run }
+        ensures { IsAtOnce result (iterate_of place self.old) self.old self.new }
+    {
+        let _place = place;
+        if !self.run.has_loop() {
+            return false;
+        }
+        let Some(state) = self.state.top_loop() else {
+            return false;
+        };
+        let Some(item) = state.next_item() else {
+            return false;
+        };
+        if !self.run.push_shared(item) {
+            return false;
+        }
+        self.state.next_turn();
+        self.state.clear_locals();
+        self.run.advance();
+        true
+    }
+
+    /// Writes a text as it stands, where no capture is open and it is heard.
+    #[inline(always)]
+    fn emit_raw_at_once<W: Sink>(&mut self, base: &Base, text: &RawText, writer: &mut W) -> Attempt
+        requires { CanGoOn self.old.run }
+        ensures { Attempted result (emit_raw_of base.now text.now self.old) self.old self.new
+            (W.written writer.old) (W.written writer.new)
+            (W.failures writer.old) (W.failures writer.new) }
+    {
+        if !self.captures.is_empty() || !self.is_audible(base) {
+            return Attempt::Left;
+        }
+        self.run.advance();
+        match put_text(writer, text.as_str().as_bytes()) {
+            Ok(()) => Attempt::Done,
+            Err(_failed) => Attempt::WriterFailed,
+        }
+    }
+
+    /// Pops a number or a text and writes what it is emitted as, where no capture is open and it is heard.
+    #[inline(always)]
+    fn emit_at_once<H: Host, W: Sink>(&mut self, host: &H, base: &Base, writer: &mut W) -> Attempt
+        requires { CanGoOn self.old.run }
+        ensures { Attempted result (emit_of (H.meaning host.now) base.now self.old) self.old self.new
+            (W.written writer.old) (W.written writer.new)
+            (W.failures writer.old) (W.failures writer.new) }
+    {
+        let _host = host;
+        if !self.captures.is_empty() || !self.is_audible(base) {
+            return Attempt::Left;
+        }
+        let Some(value) = self.run.top() else {
+            return Attempt::Left;
+        };
+        let Some(answer) = emit_at_once(value, self.state.escape(), writer) else {
+            return Attempt::Left;
+        };
+        self.run.drop_top();
+        self.run.advance();
+        match answer {
+            Ok(()) => Attempt::Done,
+            Err(_failed) => Attempt::WriterFailed,
+        }
+    }
+
+    /// Does an instruction that was paid for, where it can be done at once.
+    #[inline(always)]
+    pub(crate) fn attempt<H: Host, W: Sink>(
+        &mut self,
+        host: &H,
+        base: &Base,
+        instruction: &Instruction,
+        writer: &mut W,
+    ) -> Attempt
+        requires { CanGoOn self.old.run }
+        ensures { Attempted result
+            (effect (program (H.meaning host.now) (H.code host.now)) base.now instruction.now
+            self.old)
+            self.old self.new
+            (W.written writer.old) (W.written writer.new)
+            (W.failures writer.old) (W.failures writer.new) }
+    {
+        let is_done = match instruction {
+            Instruction::EmitRaw(text) => return self.emit_raw_at_once(base, text, writer),
+            Instruction::Emit => return self.emit_at_once(host, base, writer),
+            Instruction::Lookup(name) => self.lookup_at_once(host, name),
+            Instruction::GetAttr(name) => self.get_attr_at_once(host, name),
+            Instruction::LoadConst(value) => self.load_const_at_once(value),
+            Instruction::Eq => self.binary_at_once(host, BinaryOperator::Equal),
+            Instruction::Ne => self.binary_at_once(host, BinaryOperator::NotEqual),
+            Instruction::Lt => self.binary_at_once(host, BinaryOperator::Less),
+            Instruction::Lte => self.binary_at_once(host, BinaryOperator::LessOrEqual),
+            Instruction::Gt => self.binary_at_once(host, BinaryOperator::Greater),
+            Instruction::Gte => self.binary_at_once(host, BinaryOperator::GreaterOrEqual),
+            Instruction::Add => self.binary_at_once(host, BinaryOperator::Add),
+            Instruction::Sub => self.binary_at_once(host, BinaryOperator::Subtract),
+            Instruction::Mul => self.binary_at_once(host, BinaryOperator::Multiply),
+            Instruction::IntDiv => self.binary_at_once(host, BinaryOperator::FloorDivide),
+            Instruction::Rem => self.binary_at_once(host, BinaryOperator::Remainder),
+            Instruction::Jump(place) => {
+                self.run.jump(*place);
+                true
+            }
+            Instruction::JumpIfFalse(place) => self.jump_if_false_at_once(host, *place),
+            Instruction::StoreLocal(name) => self.store_local_at_once(name),
+            Instruction::Iterate(place) => self.iterate_at_once(*place),
+            _ => false,
+        };
+        Attempt::of(is_done)
+    }
+}
