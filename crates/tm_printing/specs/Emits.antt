@@ -1,5 +1,5 @@
 -- What is emitted whatever the records are.
-use Rattle.std.specs.Prelude.{◌≡◌, ℕ, List, Result, Ok, Unit}
+use Rattle.std.specs.Prelude.{◌≡◌, ℕ, List, Result, Ok}
 use Rattle.tm_values.specs.Val.{Val}
 use Rattle.tm_values.specs.Records.{RecordData}
 use Rattle.tm_values.specs.declared.escape.AutoEscape.{AutoEscape}

@@ -1,6 +1,7 @@
 //! Values as templates emit them, and as texts of their own.
 ghost use Rattle.std.specs.Prelude.{◌≡◌, MatchOption, string_bytes};
 ghost use Rattle.tm_values.specs.Records.{RecordData};
+ghost use Rattle.tm_values.specs.Val.{number};
 ghost use Rattle.tm_printing.specs.Emits.{Emits};
 ghost use Rattle.tm_output.specs.Targets.{Takes};
 ghost use Rattle.tm_values.specs.Answer.{IsAnswer};
@@ -9,7 +10,7 @@ ghost use Rattle.tm_definitions.specs.Emitted.{emission_verdict, emitted_text, m
 use crate::check::{check_json, check_print};
 use crate::compact::write_json;
 use crate::printing::{print, write_html};
-use crate::spelling::{Html, Verbatim};
+use crate::spelling::Html;
 use crate::text::{write_number, write_spelled};
 use std::alloc::Global;
 use tm_output::{Target, TargetFailed};
@@ -78,12 +79,28 @@ pub fn emit_at_once<T: Target>(
             AutoEscape::Html => Some(write_spelled::<Html, T>(content.as_str(), target)),
             AutoEscape::Json | AutoEscape::Custom(_) => None,
         },
-        Node::Number(number) => match escape {
-            AutoEscape::None => Some(write_number::<Verbatim, T>(*number, target)),
-            AutoEscape::Html => Some(write_number::<Html, T>(*number, target)),
-            AutoEscape::Json | AutoEscape::Custom(_) => None,
-        },
+        Node::Number(number) => emit_number_at_once(*number, escape, target),
         _ => None,
+    }
+}
+
+#[inline(always)]
+fn emit_number_at_once<T: Target>(
+    whole: i128,
+    escape: AutoEscape,
+    target: &mut T,
+) -> Option<Result<(), TargetFailed>>
+    ensures { MatchOption result (target.new ≡ target.old)
+        (λ answer. (r : RecordData) → Emits T.took T.stopped answer escape r (number whole)
+        target.old target.new) }
+{
+    match escape {
+        AutoEscape::None => {
+            let mut buffer = itoa::Buffer::new();
+            Some(target.take_text(buffer.format(whole)))
+        }
+        AutoEscape::Html => Some(write_number::<Html, T>(whole, target)),
+        AutoEscape::Json | AutoEscape::Custom(_) => None,
     }
 }
 

@@ -3,7 +3,7 @@ use Rattle.std.specs.HashSet.{contains}
 use Rattle.std.specs.List.{list_any}
 use Rattle.tm_definitions.specs.declared.form.Form.TheVariants.{Printed}
 use Rattle.tm_printing.proofs.Verdicts.{at_start}
-use Rattle.tm_printing.proofs.check.check_print.Goals as goal
+use Rattle.tm_printing.proofs.check.check_parts.Goals as goal
 
 pub returns : goal.returns
 returns g c =
