@@ -124,6 +124,7 @@ pub fn put_text<W: Sink>(sink: &mut W, text: &[u8]) -> Result<(), TargetFailed>
     ensures no_fault { OnOk result (W.failures sink.new ≡ W.failures sink.old) }
     ensures beginning { AppendsBeginning (W.written sink.old) (W.written sink.new) text.now }
     ensures fault { OnErr result (W.failures sink.new ≡ saturating_increment (W.failures sink.old)) }
+    ensures empty { text.now ≡ [] → IsOk result }
 {
     let mut done = 0;
     while done < text.len() {

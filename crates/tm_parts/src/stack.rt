@@ -1,6 +1,6 @@
 //! The operand stack.
 ghost use Rattle.std.specs.Prelude.{◌++◌, ◌≡◌, [], ◌∷◌, List, Some, None, drop, length, ◌↔◌, IsTrue, OnOk, OnErr, IfOk, IfErr, IfNone};
-ghost use Rattle.std.specs.Prelude.{MatchOption, MatchResult};
+ghost use Rattle.std.specs.Prelude.{IfSome, MatchOption, MatchResult};
 ghost use Rattle.tm_values.specs.Val.{Val, boolean};
 ghost use Rattle.tm_values.specs.Answer.{OrStays};
 ghost use Rattle.tm_parts.specs.Operate.{Has, Operates, TakesMember};
