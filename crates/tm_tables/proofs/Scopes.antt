@@ -2,12 +2,14 @@
 use Rattle.std.proofs.Common.{◌≡◌, ℕ, zero, suc, ◌<◌, List, [], ◌∷◌, ◌++◌, length, slice_set, get_or, arith, Some, None, slice_get, is_some}
 use Rattle.std.proofs.Common.{true≢false, reverse, unwrap_or, refl, sym, ap, ◌∙◌}
 use Rattle.std.proofs.lemmas.Grind.{reverse_onto}
-use Rattle.std.proofs.lemmas.List.{length-reverse, length-drop, reverse-append, take-append-drop}
+use Rattle.std.proofs.lemmas.List.{set-get_or, length-reverse, length-drop, reverse-append, take-append-drop}
 use Rattle.std.proofs.Math.Seq.{drop-append_seam}
 use Rattle.std.specs.Prelude.{◌-◌, take, drop}
+use Rattle.std.proofs.Common.{Bool, true, false}
+use Rattle.tm_values.specs.Answer.{OrStays}
 use Rattle.tm_values.specs.Val.{Val}
 use Rattle.tm_syntax.specs.Named.{put}
-use Rattle.tm_meaning.specs.World.{Scope, stored_in, without_locals}
+use Rattle.tm_meaning.specs.World.{Scope, Scopes, stored_in, without_locals}
 use Rattle.tm_meaning.specs.Calls.{outermost}
 use Rattle.tm_tables.specs.Scopes.{exported_by, exported_of}
 
@@ -44,6 +46,19 @@ stored-last x v (t ∷ u ∷ ss) (suc n) s h e =
     reverse_onto (slice_set (u ∷ ss) n (record s { locals = put x v s.locals })) t []
     ∙ ap (λ l. l ++ t ∷ []) (stored-last x v (u ∷ ss) n s more e)
     ∙ stored-before x v (reverse (u ∷ ss)) (t ∷ []) (reverse-long (u ∷ ss) n more) ∙ ap (stored_in x v) (sym (reverse_onto (u ∷ ss) t []))
+
+-- the innermost scope has the name at once, or all stays as it was
+pub stored-at-once : (done : Bool) (x : List ℕ) (v : Val) (ss : List Scope) (outer n : ℕ) (s new : Scope) (scopes : Scopes) →
+    length ss ≡ suc n → s ≡ get_or ss n s → record { frames = reverse ss; outer = outer } ≡ scopes →
+    OrStays done s new (new ≡ record s { locals = put x v s.locals }) →
+    OrStays done scopes (record { frames = reverse (slice_set ss n new); outer = outer })
+    (record { frames = reverse (slice_set ss n new); outer = outer } ≡ record scopes { frames = stored_in x v scopes.frames })
+stored-at-once true x v ss outer n s new scopes h e is same =
+    ap (λ ts. record { frames = ts; outer = outer }) (ap (λ (t : Scope). reverse (slice_set ss n t)) same ∙ stored-last x v ss n s h e)
+    ∙ ap (λ (all : Scopes). record all { frames = stored_in x v all.frames }) is
+stored-at-once false x v ss outer n s new scopes h e is same =
+    ap (λ ts. record { frames = reverse ts; outer = outer })
+    (ap (λ (t : Scope). slice_set ss n t) (same ∙ e) ∙ set-get_or ss n s) ∙ is
 
 cleared-before : (ss ts : List Scope) → 0 < length ss → without_locals ss ++ ts ≡ without_locals (ss ++ ts)
 cleared-before [] ts h = absurd (omega (arith, h))

@@ -113,19 +113,21 @@ impl Locals {
         let Ok(value) = value.share() else {
             return false;
         };
-        if let Some(place) = place_of(&self.first, name) {
-            self.first[place].1 = value;
-            return true;
-        }
-        if self.first.len() >= SCANNED || self.first.len() >= self.first.capacity() {
-            return false;
-        }
-        match name.share() {
-            Ok(name) => {
+        match place_of(&self.first, name) {
+            Some(place) => {
+                self.first[place].1 = value;
+                true
+            }
+            None => {
+                if self.first.len() >= SCANNED || self.first.len() >= self.first.capacity() {
+                    return false;
+                }
+                let Ok(name) = name.share() else {
+                    return false;
+                };
                 self.first.push_reserved((name, value));
                 true
             }
-            Err(_) => false,
         }
     }
 
