@@ -21,6 +21,7 @@ use Rattle.tm_meaning.specs.World.{World, Good, block_of, choose}
 use Rattle.tm_state.specs.State.{runs_block, saved_of}
 use Rattle.tm_vm.specs.Answers.{Depths, Did, Enters, entered, OneDeeper, Performs, Writes, Silently, Opens, Shifts, Needs, SameScopes}
 use Rattle.tm_vm.specs.Answers.{NoFewer, KeepsBaseScopes, output}
+use Rattle.tm_vm.specs.AtOnce.{Attempted, IsAtOnce, attempt_of}
 use Rattle.tm_vm.specs.declared.flow.NestedRun.{NestedRun}
 use Rattle.tm_vm.specs.declared.flow.Flow.{Flow}
 use Rattle.tm_vm.specs.declared.flow.Flow.TheVariants as flow
@@ -216,6 +217,27 @@ block_entered p f old x s e new w waits heard enters moved is =
     ∙ ap (λ h. Nest (base_of h old.captures w) (start (whole s) old.captures w) (record { run = mid.run; call = call; value = false }))
     heard in
     same_entry e d old.world new is refl (call_block_of p f x old) (goes ∙ ap (entered d old.world) (sym moved))
+
+-- one that was done at once or left, and writes nothing
+pub at_once : {n : Next} {old new : Config} {told : Option (List ℕ)} {failures : ℕ} (done : Bool) → IsAtOnce done n old new →
+    Attempted (attempt_of done) n old new told told failures failures
+at_once {told = told} true s = record {
+  did = nothing_written told s.did;
+  counted = refl;
+  kept = s.kept;
+  same_scopes = s.same_scopes;
+  same_stream = s.same_stream;
+}
+at_once false same = (same, refl, refl)
+
+-- what was left is done as if nothing had been tried
+pub left : {limit : ℕ} {f : Base} {now : Option (List ℕ)} {count : ℕ} {result : Result Flow Halt} (n : Config → Next) (old mid new : Config)
+    (told between : Option (List ℕ)) (failures many : ℕ) → (mid ≡ old) × (between ≡ told) × (many ≡ failures) →
+    Performs limit f (n mid) mid new between now many count result → Performs limit f (n old) old new told now failures count result
+left {limit = limit} {f = f} {now = now} {count = count} {result = result} n old mid new told between failures many same h =
+    subst (λ (k : ℕ). Performs limit f (n old) old new told now k count result) same.2
+    (subst (λ (t : Option (List ℕ)). Performs limit f (n old) old new t now many count result) same.1
+    (subst (λ (c : Config). Performs limit f (n c) c new between now many count result) same.0 h))
 
 pub ruleset kinds = (silent, opened, shifted, wrote, needed)
 

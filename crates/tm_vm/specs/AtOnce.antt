@@ -7,6 +7,10 @@ use Rattle.tm_vm.specs.declared.at_once.Attempt.{Attempt}
 use Rattle.tm_vm.specs.declared.at_once.Attempt.TheVariants.{Done, Left, WriterFailed}
 use Rattle.tm_vm.specs.declared.flow.Flow.TheVariants as flow
 
+abbrev pub attempt_of : Bool → Attempt
+attempt_of true = Done
+attempt_of false = Left
+
 -- It was done, and the run goes on; or all stayed as it was.
 abbrev pub IsAtOnce : Bool → Next → Config → Config → Type 0
 IsAtOnce true n old new = Silently n old new (Ok flow.GoOn)

@@ -1,10 +1,11 @@
 //! The instructions that are done at once where they can be: where they need no memory, run nothing, and fail only
 //! by the writer.
+ghost use Rattle.std.specs.Prelude.{◌≡◌};
 ghost use Rattle.tm_meaning.specs.Instructions.{binary_of, emit_of, emit_raw_of, get_attr_of, iterate_of, jump_if_false_of};
 ghost use Rattle.tm_meaning.specs.Instructions.{load_const_of, lookup_of, store_local_of};
 ghost use Rattle.tm_meaning.specs.Steps.{effect};
 ghost use Rattle.tm_vm.specs.Answers.{program, CanGoOn};
-ghost use Rattle.tm_vm.specs.AtOnce.{Attempted, IsAtOnce};
+ghost use Rattle.tm_vm.specs.AtOnce.{Attempted, IsAtOnce, attempt_of};
 
 use crate::machine::Machine;
 use tm_meaning::Base;
@@ -27,9 +28,11 @@ pub(crate) enum Attempt {
 }
 
 impl Attempt {
-    /// Whether it was done.
+    /// Done or left.
     #[inline(always)]
-    fn of(is_done: bool) -> Attempt {
+    fn of(is_done: bool) -> Attempt
+        ensures { result ≡ attempt_of is_done }
+    {
         if is_done {
             Attempt::Done
         } else {
@@ -204,6 +207,7 @@ impl Machine<'_> {
 
     /// Does an instruction that was paid for, where it can be done at once.
     #[inline(always)]
+    #[tactic(auto, using(crate::proofs::Performed::at_once))]
     pub(crate) fn attempt<H: Host, W: Sink>(
         &mut self,
         host: &H,
@@ -219,32 +223,31 @@ impl Machine<'_> {
             (W.written writer.old) (W.written writer.new)
             (W.failures writer.old) (W.failures writer.new) }
     {
-        let is_done = match instruction {
-            Instruction::EmitRaw(text) => return self.emit_raw_at_once(base, text, writer),
-            Instruction::Emit => return self.emit_at_once(host, base, writer),
-            Instruction::Lookup(name) => self.lookup_at_once(host, name),
-            Instruction::GetAttr(name) => self.get_attr_at_once(host, name),
-            Instruction::LoadConst(value) => self.load_const_at_once(value),
-            Instruction::Eq => self.binary_at_once(host, BinaryOperator::Equal),
-            Instruction::Ne => self.binary_at_once(host, BinaryOperator::NotEqual),
-            Instruction::Lt => self.binary_at_once(host, BinaryOperator::Less),
-            Instruction::Lte => self.binary_at_once(host, BinaryOperator::LessOrEqual),
-            Instruction::Gt => self.binary_at_once(host, BinaryOperator::Greater),
-            Instruction::Gte => self.binary_at_once(host, BinaryOperator::GreaterOrEqual),
-            Instruction::Add => self.binary_at_once(host, BinaryOperator::Add),
-            Instruction::Sub => self.binary_at_once(host, BinaryOperator::Subtract),
-            Instruction::Mul => self.binary_at_once(host, BinaryOperator::Multiply),
-            Instruction::IntDiv => self.binary_at_once(host, BinaryOperator::FloorDivide),
-            Instruction::Rem => self.binary_at_once(host, BinaryOperator::Remainder),
+        match instruction {
+            Instruction::EmitRaw(text) => self.emit_raw_at_once(base, text, writer),
+            Instruction::Emit => self.emit_at_once(host, base, writer),
+            Instruction::Lookup(name) => Attempt::of(self.lookup_at_once(host, name)),
+            Instruction::GetAttr(name) => Attempt::of(self.get_attr_at_once(host, name)),
+            Instruction::LoadConst(value) => Attempt::of(self.load_const_at_once(value)),
+            Instruction::Eq => Attempt::of(self.binary_at_once(host, BinaryOperator::Equal)),
+            Instruction::Ne => Attempt::of(self.binary_at_once(host, BinaryOperator::NotEqual)),
+            Instruction::Lt => Attempt::of(self.binary_at_once(host, BinaryOperator::Less)),
+            Instruction::Lte => Attempt::of(self.binary_at_once(host, BinaryOperator::LessOrEqual)),
+            Instruction::Gt => Attempt::of(self.binary_at_once(host, BinaryOperator::Greater)),
+            Instruction::Gte => Attempt::of(self.binary_at_once(host, BinaryOperator::GreaterOrEqual)),
+            Instruction::Add => Attempt::of(self.binary_at_once(host, BinaryOperator::Add)),
+            Instruction::Sub => Attempt::of(self.binary_at_once(host, BinaryOperator::Subtract)),
+            Instruction::Mul => Attempt::of(self.binary_at_once(host, BinaryOperator::Multiply)),
+            Instruction::IntDiv => Attempt::of(self.binary_at_once(host, BinaryOperator::FloorDivide)),
+            Instruction::Rem => Attempt::of(self.binary_at_once(host, BinaryOperator::Remainder)),
             Instruction::Jump(place) => {
                 self.run.jump(*place);
-                true
+                Attempt::Done
             }
-            Instruction::JumpIfFalse(place) => self.jump_if_false_at_once(host, *place),
-            Instruction::StoreLocal(name) => self.store_local_at_once(name),
-            Instruction::Iterate(place) => self.iterate_at_once(*place),
-            _ => false,
-        };
-        Attempt::of(is_done)
+            Instruction::JumpIfFalse(place) => Attempt::of(self.jump_if_false_at_once(host, *place)),
+            Instruction::StoreLocal(name) => Attempt::of(self.store_local_at_once(name)),
+            Instruction::Iterate(place) => Attempt::of(self.iterate_at_once(*place)),
+            _ => Attempt::Left,
+        }
     }
 }

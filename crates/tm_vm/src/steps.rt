@@ -16,10 +16,10 @@ use tm_tables::Host;
 use tm_values::{Error, ErrorKind};
 
 impl Machine<'_> {
-    /// Does an instruction that was paid for.
+    /// Does an instruction that was paid for, by its method.
     #[inline(always)]
     #[tactic(auto, using(crate::proofs::Performed::kinds))]
-    pub(crate) fn perform<H: Host, W: Sink>(
+    fn dispatch<H: Host, W: Sink>(
         &mut self,
         alloc: Global,
         host: &H,
@@ -100,6 +100,34 @@ impl Machine<'_> {
         }
     }
 
+    /// Does an instruction that was paid for: at once where it can be, else by its method.
+    #[inline(always)]
+    #[tactic(auto, using(crate::proofs::Performed::wrote))]
+    pub(crate) fn perform<H: Host, W: Sink>(
+        &mut self,
+        alloc: Global,
+        host: &H,
+        base: &Base,
+        code: &Code,
+        instruction: &Instruction,
+        writer: &mut W,
+    ) -> Result<Flow, Halt>
+        requires in_place { CanGoOn self.old.run }
+        requires its_code { code.now ≡ H.code host.now self.old.run.stream }
+        ensures { Performs (H.meaning host.now).limit base.now
+            (effect (program (H.meaning host.now) (H.code host.now)) base.now instruction.now
+            self.old)
+            self.old self.new
+            (W.written writer.old) (W.written writer.new)
+            (W.failures writer.old) (W.failures writer.new) result }
+    {
+        match self.attempt(host, base, instruction, writer) {
+            Attempt::Done => Ok(Flow::GoOn),
+            Attempt::WriterFailed => Err(Halt::Writer),
+            Attempt::Left => self.dispatch(alloc, host, base, code, instruction, writer),
+        }
+    }
+
     /// The place at which the run stands.
     pub(crate) fn place(&self) -> usize
         ensures { result ≡ self.now.run.place }
@@ -162,10 +190,6 @@ impl Machine<'_> {
         if let Err(error) = self.charge(instruction) {
             return Err(Halt::Fault(error));
         }
-        match self.attempt(host, base, instruction, writer) {
-            Attempt::Done => Ok(Flow::GoOn),
-            Attempt::WriterFailed => Err(Halt::Writer),
-            Attempt::Left => self.perform(alloc, host, base, code, instruction, writer),
-        }
+        self.perform(alloc, host, base, code, instruction, writer)
     }
 }
