@@ -193,7 +193,7 @@ boxed {limit = limit} {n = n} {old = old} {new = new} e b same enters kept deepe
 same_entry : (e d : NestedRun) (b : World) (c : Config) → e ≡ d → d.saved ≡ saved_of b → (n : Next) → n ≡ entered d b c → Enters e c n
 same_entry e d b c same saved n at = subst (λ x. Enters x c n) (sym same) (b, saved, at)
 
-chosen : (b : Bool) (x y : Unit {0} → Next) → b ≡ true → choose b x y ≡ x tt
+pub chosen : (b : Bool) (x y : Unit {0} → Next) → b ≡ true → choose b x y ≡ x tt
 chosen true x y e = refl
 chosen false x y e = absurd cc
 
@@ -219,16 +219,16 @@ block_entered p f old x s e new w waits heard enters moved is =
     same_entry e d old.world new is refl (call_block_of p f x old) (goes ∙ ap (entered d old.world) (sym moved))
 
 -- one that was done at once or left, and writes nothing
-pub at_once : {n : Next} {old new : Config} {told : Option (List ℕ)} {failures : ℕ} (done : Bool) → IsAtOnce done n old new →
+pub at_once : (n : Next) (old new : Config) (told : Option (List ℕ)) (failures : ℕ) (done : Bool) → IsAtOnce done n old new →
     Attempted (attempt_of done) n old new told told failures failures
-at_once {told = told} true s = record {
+at_once n old new told failures true s = record {
   did = nothing_written told s.did;
   counted = refl;
   kept = s.kept;
   same_scopes = s.same_scopes;
   same_stream = s.same_stream;
 }
-at_once false same = (same, refl, refl)
+at_once n old new told failures false same = (same, refl, refl)
 
 -- what was left is done as if nothing had been tried
 pub left : {limit : ℕ} {f : Base} {now : Option (List ℕ)} {count : ℕ} {result : Result Flow Halt} (n : Config → Next) (old mid new : Config)

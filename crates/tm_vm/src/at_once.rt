@@ -5,11 +5,11 @@ ghost use Rattle.tm_meaning.specs.Instructions.{binary_of, emit_of, emit_raw_of,
 ghost use Rattle.tm_meaning.specs.Instructions.{load_const_of, lookup_of, store_local_of};
 ghost use Rattle.tm_meaning.specs.Steps.{effect};
 ghost use Rattle.tm_vm.specs.Answers.{program, CanGoOn};
-ghost use Rattle.tm_vm.specs.AtOnce.{Attempted, IsAtOnce, attempt_of};
+ghost use Rattle.tm_vm.specs.AtOnce.{Attempted, IsAtOnce, attempt_of, written_of};
 
 use crate::machine::Machine;
 use tm_meaning::Base;
-use tm_output::put_text;
+use tm_output::{TargetFailed, put_text};
 use tm_parts::Sink;
 use tm_printing::emit_at_once;
 use tm_syntax::{BinaryOperator, Instruction, Name, RawText};
@@ -37,6 +37,19 @@ impl Attempt {
             Attempt::Done
         } else {
             Attempt::Left
+        }
+    }
+}
+
+impl Attempt {
+    /// Done, or ended by the writer.
+    #[inline(always)]
+    fn written(answer: Result<(), TargetFailed>) -> Attempt
+        ensures { result ≡ written_of answer }
+    {
+        match answer {
+            Ok(()) => Attempt::Done,
+            Err(_failed) => Attempt::WriterFailed,
         }
     }
 }
@@ -188,7 +201,10 @@ impl Machine<'_> {
             (W.failures writer.old) (W.failures writer.new) }
     {
         let _host = host;
-        if !self.captures.is_empty() || !self.is_audible(base) {
+        if !self.captures.is_empty() {
+            return Attempt::Left;
+        }
+        if !self.is_audible(base) {
             return Attempt::Left;
         }
         let Some(value) = self.run.top() else {
@@ -199,10 +215,7 @@ impl Machine<'_> {
         };
         self.run.drop_top();
         self.run.advance();
-        match answer {
-            Ok(()) => Attempt::Done,
-            Err(_failed) => Attempt::WriterFailed,
-        }
+        Attempt::written(answer)
     }
 
     /// Does an instruction that was paid for, where it can be done at once.
