@@ -7,6 +7,7 @@ use crate::values::members_of;
 use mj_words::Refusal;
 use serde_json::Value as Json;
 use std::alloc::Global;
+use std::mem;
 use tm_values::Value;
 
 /// The members of the JSON object that the bytes spell, each a key and a value. OutOfMemory where
@@ -22,8 +23,11 @@ pub fn members(alloc: Global, bytes: &[u8]) -> Result<Vec<(Value, Value)>, Refus
         Err(error) if error.is_memory() => return Err(Refusal::OutOfMemory),
         Err(_error) => return Err(Refusal::Usage),
     };
-    match json.as_object() {
+    let members = match json.as_object() {
         Some(members) => members_of(alloc, members),
         None => Err(Refusal::Usage),
-    }
+    };
+    // A large tree takes long to free, and the program ends soon.
+    mem::forget(json);
+    members
 }
