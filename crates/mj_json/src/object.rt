@@ -3,6 +3,7 @@ ghost use Rattle.std.specs.Prelude.{◌≡◌, ◌⊎◌, None, Some, MatchResul
 ghost use Rattle.std.specs.Str.{IsUtf8};
 ghost use Rattle.mj_json.specs.Json.{members_read};
 
+use crate::keys::Keys;
 use crate::values::members_of;
 use mj_words::Refusal;
 use serde_json::Value as Json;
@@ -18,13 +19,14 @@ pub fn members(alloc: Global, bytes: &[u8]) -> Result<Vec<(Value, Value)>, Refus
         (λ e. (e ≡ Refusal.OutOfMemory)
         ⊎ ((e ≡ Refusal.Usage) × (IsUtf8 bytes.now → members_read bytes.now ≡ None))) }
 {
+    let mut keys = Keys::new(alloc)?;
     let json = match Json::from_slice(alloc, bytes) {
         Ok(json) => json,
         Err(error) if error.is_memory() => return Err(Refusal::OutOfMemory),
         Err(_error) => return Err(Refusal::Usage),
     };
     let members = match json.as_object() {
-        Some(members) => members_of(alloc, members),
+        Some(members) => members_of(alloc, &mut keys, members),
         None => Err(Refusal::Usage),
     };
     // A large tree takes long to free, and the program ends soon.

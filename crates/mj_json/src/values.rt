@@ -3,6 +3,7 @@ ghost use Rattle.std.specs.Prelude.{◌≡◌, Some, Ok, MatchResult};
 ghost use Rattle.serde_json.specs.View.{view, items_view, members_view};
 ghost use Rattle.mj_json.specs.Json as spec;
 
+use crate::keys::Keys;
 use mj_words::Refusal;
 use serde_json::{Map, Value as Json};
 use std::alloc::Global;
@@ -10,7 +11,7 @@ use tm_values::{Error, Value, ValueMap};
 
 /// The value that JSON gives. OutOfMemory where no memory was found, Usage where a float is in it.
 #[cycle(values)]
-fn value_of(alloc: Global, json: &Json) -> Result<Value, Refusal>
+fn value_of(alloc: Global, keys: &mut Keys, json: &Json) -> Result<Value, Refusal>
     ensures { spec.IsConverted result (spec.value_of (view json.now)) }
 {
     match json {
@@ -18,9 +19,9 @@ fn value_of(alloc: Global, json: &Json) -> Result<Value, Refusal>
         Json::Bool(truth) => Ok(Value::boolean(*truth)),
         Json::Number(number) => Ok(Value::number(number.as_i128().ok_or(Refusal::Usage)?)),
         Json::String(content) => made(Value::text(alloc, content.as_str())),
-        Json::Array(items) => made(Value::list(alloc, values_of(alloc, items.as_slice())?)),
+        Json::Array(items) => made(Value::list(alloc, values_of(alloc, keys, items.as_slice())?)),
         Json::Object(members) => {
-            let members = made(ValueMap::from_pairs(members_of(alloc, members)?))?;
+            let members = made(ValueMap::from_pairs(members_of(alloc, keys, members)?))?;
             made(Value::from_map(alloc, members))
         }
     }
@@ -28,14 +29,14 @@ fn value_of(alloc: Global, json: &Json) -> Result<Value, Refusal>
 
 /// The values of the items of an array, with the same refusals.
 #[cycle(values)]
-fn values_of(alloc: Global, items: &[Json]) -> Result<Vec<Value>, Refusal>
+fn values_of(alloc: Global, keys: &mut Keys, items: &[Json]) -> Result<Vec<Value>, Refusal>
     ensures { MatchResult result
         (λ values. spec.values_of (items_view items.now) ≡ Some values.items)
         (λ e. spec.IsRefusal e (spec.values_of (items_view items.now))) }
 {
     let mut values = Vec::with_capacity(alloc, items.len())?;
     for item in items {
-        values.push(value_of(alloc, item)?)?;
+        values.push(value_of(alloc, keys, item)?)?;
     }
     Ok(values)
 }
@@ -44,6 +45,7 @@ fn values_of(alloc: Global, items: &[Json]) -> Result<Vec<Value>, Refusal>
 #[cycle(values)]
 pub(crate) fn members_of(
     alloc: Global,
+    keys: &mut Keys,
     members: &Map<String, Json>,
 ) -> Result<Vec<(Value, Value)>, Refusal>
     ensures { MatchResult result
@@ -52,8 +54,8 @@ pub(crate) fn members_of(
 {
     let mut pairs = Vec::with_capacity(alloc, members.len())?;
     for (key, member) in members.iter() {
-        let key = made(Value::text(alloc, key.as_str()))?;
-        pairs.push((key, value_of(alloc, member)?))?;
+        let key = made(keys.key(alloc, key.as_str()))?;
+        pairs.push((key, value_of(alloc, keys, member)?))?;
     }
     Ok(pairs)
 }

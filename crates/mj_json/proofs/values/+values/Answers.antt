@@ -14,7 +14,7 @@ members_of-loop-key-preserved t c =
     let key = c.in-Some.key.now in
     let left = c.next.new.self in
     let named : c.in_ok-key.key ≡ text (string_bytes key) false =
-    subst (λ r. OkOrOutOfMemory r (λ v. v ≡ text c.as_str.result.now false)) c.in_ok-key.ensures c.text.ensures
+    subst (λ r. OkOrOutOfMemory r (λ v. v ≡ text c.as_str.result.now false)) c.in_ok-key.ensures c.key.ensures
     ∙ ap (λ s. text s false) c.as_str.ensures.value in
     let leaves = subst (λ es. Leaves done (members_of (members_view es)) whole) c.in-Some.ensures.steps c.loop-key.invariant in
     rw (c.in_ok-push.ensures.items, named)
