@@ -1,5 +1,5 @@
 -- What is converted one after another, and what is left.
-use Rattle.std.proofs.Common.{◌≡◌, List, [], ◌∷◌, ◌++◌, Option, None, Some, option_map, option_and_then, refl, sym, ap, ◌∙◌, append_assoc}
+use Rattle.std.proofs.Common.{◌≡◌, List, [], ◌∷◌, ◌++◌, Option, None, Some, option_map, option_and_then, refl, sym, ap, ◌∙◌, append_assoc, append-nil}
 
 -- these are done, and what is left behind them makes up the whole
 abbrev pub Leaves : {B : Type 0} → List B → Option (List B) → Option (List B) → Type 0
@@ -15,3 +15,7 @@ next_done f done o a left whole is leaves = grown done (f a) left
         option_map (λ xs. (done ++ x ∷ []) ++ xs) left ≡ option_map (λ xs. done ++ xs) (option_map (λ xs. x ∷ xs) left)
     grown done x None = refl
     grown done x (Some xs) = ap Some (append_assoc done (x ∷ []) xs)
+
+-- nothing is left
+pub all_done : {B : Type 0} (done : List B) (whole : Option (List B)) → Leaves done (Some []) whole → whole ≡ Some done
+all_done done whole leaves = sym leaves ∙ ap Some (append-nil done)

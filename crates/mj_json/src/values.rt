@@ -1,13 +1,16 @@
 //! JSON as values.
-ghost use Rattle.std.specs.Prelude.{◌≡◌, Some, Ok, MatchResult};
+ghost use Rattle.std.specs.Prelude.{◌≡◌, Some, Ok, IfOk, MatchResult};
 ghost use Rattle.serde_json.specs.View.{view, items_view, members_view};
+ghost use Rattle.tm_values.specs.Map.{put_all, IsMap};
+ghost use Rattle.tm_values.specs.Val.{map, pairs_of};
 ghost use Rattle.mj_json.specs.Json as spec;
 
 use crate::keys::Keys;
 use mj_words::Refusal;
 use serde_json::{Map, Value as Json};
 use std::alloc::Global;
-use tm_values::{Error, Value, ValueMap};
+use std::rc::Rc;
+use tm_values::{Error, Node, Value};
 
 /// The value that JSON gives. OutOfMemory where no memory was found, Usage where a float is in it.
 #[cycle(values)]
@@ -20,10 +23,7 @@ fn value_of(alloc: Global, keys: &mut Keys, json: &Json) -> Result<Value, Refusa
         Json::Number(number) => Ok(Value::number(number.as_i128().ok_or(Refusal::Usage)?)),
         Json::String(content) => made(Value::text(alloc, content.as_str())),
         Json::Array(items) => made(Value::list(alloc, values_of(alloc, keys, items.as_slice())?)),
-        Json::Object(members) => {
-            let members = made(ValueMap::from_pairs(members_of(alloc, keys, members)?))?;
-            made(Value::from_map(alloc, members))
-        }
+        Json::Object(members) => map_of(alloc, members_of(alloc, keys, members)?),
     }
 }
 
@@ -41,16 +41,18 @@ fn values_of(alloc: Global, keys: &mut Keys, items: &[Json]) -> Result<Vec<Value
     Ok(values)
 }
 
-/// The keys and values of the members of an object, with the same refusals.
+/// The keys and values of the members of an object, in the order of the keys, with the same
+/// refusals.
 #[cycle(values)]
 pub(crate) fn members_of(
     alloc: Global,
     keys: &mut Keys,
     members: &Map<String, Json>,
 ) -> Result<Vec<(Value, Value)>, Refusal>
-    ensures { MatchResult result
+    ensures members { MatchResult result
         (λ pairs. spec.members_of (members_view members.now.entries) ≡ Some pairs.items)
         (λ e. spec.IsRefusal e (spec.members_of (members_view members.now.entries))) }
+    ensures ordered { IfOk result (λ pairs. IsMap pairs.items) }
 {
     let mut pairs = Vec::with_capacity(alloc, members.len())?;
     for (key, member) in members.iter() {
@@ -58,6 +60,17 @@ pub(crate) fn members_of(
         pairs.push((key, value_of(alloc, keys, member)?))?;
     }
     Ok(pairs)
+}
+
+/// The map of the pairs, whose keys ascend. OutOfMemory where no memory was found.
+fn map_of(alloc: Global, pairs: Vec<(Value, Value)>) -> Result<Value, Refusal>
+    requires { IsMap pairs.items }
+    ensures { MatchResult result (λ value. value ≡ map (pairs_of (put_all pairs.items)))
+        (λ e. e ≡ Refusal.OutOfMemory) }
+{
+    Ok(Value {
+        node: Node::Map(Rc::new(alloc, pairs)?),
+    })
 }
 
 /// What was made of values, whose making fails for want of memory alone.

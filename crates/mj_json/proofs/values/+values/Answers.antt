@@ -4,7 +4,8 @@ use Rattle.tm_values.specs.Answer.{OkOrOutOfMemory}
 use Rattle.tm_values.specs.Val.{text}
 use Rattle.serde_json.specs.View.{view, members_view}
 use Rattle.mj_json.specs.Json.{value_of, members_of}
-use Rattle.mj_json.proofs.Converted.{Leaves, next_done}
+use Rattle.mj_json.proofs.Converted.{Leaves, next_done, all_done}
+use Rattle.mj_json.proofs.Ascending.{ascending}
 use Rattle.mj_json.proofs.values.+values.Goals as goal
 
 pub members_of-loop-key-preserved : goal.members_of-loop-key-preserved
@@ -20,3 +21,10 @@ members_of-loop-key-preserved t c =
     rw (c.in_ok-push.ensures.items, named)
     (next_done (λ v. (text (string_bytes key) false, v)) done (value_of (view c.in-Some.member.now)) c.in_ok-value_of.field-0
     (members_of (members_view left)) whole c.in_ok-value_of.ensures leaves)
+
+pub members_of-returns : goal.members_of-returns
+members_of-returns t c =
+    let entries = c.args.members.now.entries in
+    let read = all_done c.loop-key.pairs.items (members_of (members_view entries))
+    (subst (λ es. Leaves c.loop-key.pairs.items (members_of (members_view es)) (members_of (members_view entries))) c.in-None.ensures.steps.0 c.loop-key.invariant) in
+    record { members = read; ordered = ascending entries c.loop-key.pairs.items c.iter-key-items.ensures.ordered read }
