@@ -1,2 +1,3 @@
 pub mod Converted
 pub mod Ascending
+pub mod Refused

@@ -20,12 +20,12 @@ pub fn members(alloc: Global, bytes: &[u8]) -> Result<Vec<(Value, Value)>, Refus
         ⊎ ((e ≡ Refusal.Usage) × (IsUtf8 bytes.now → members_read bytes.now ≡ None))) }
 {
     let mut keys = Keys::new(alloc)?;
-    let json = match Json::from_slice(alloc, bytes) {
+    let mut json = match Json::from_slice(alloc, bytes) {
         Ok(json) => json,
         Err(error) if error.is_memory() => return Err(Refusal::OutOfMemory),
         Err(_error) => return Err(Refusal::Usage),
     };
-    let members = match json.as_object() {
+    let members = match json.as_object_mut() {
         Some(members) => members_of(alloc, &mut keys, members),
         None => Err(Refusal::Usage),
     };
