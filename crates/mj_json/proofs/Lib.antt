@@ -1,1 +1,3 @@
 pub mod Converted
+pub mod Ascending
+pub mod Refused

@@ -1,6 +1,7 @@
 //! The values that JSON gives to a template.
 #![tactic(auto)]
 
+mod keys;
 mod object;
 mod values;
 

@@ -3,10 +3,12 @@ ghost use Rattle.std.specs.Prelude.{◌≡◌, ◌⊎◌, None, Some, MatchResul
 ghost use Rattle.std.specs.Str.{IsUtf8};
 ghost use Rattle.mj_json.specs.Json.{members_read};
 
+use crate::keys::Keys;
 use crate::values::members_of;
 use mj_words::Refusal;
 use serde_json::Value as Json;
 use std::alloc::Global;
+use std::mem;
 use tm_values::Value;
 
 /// The members of the JSON object that the bytes spell, each a key and a value. OutOfMemory where
@@ -17,13 +19,17 @@ pub fn members(alloc: Global, bytes: &[u8]) -> Result<Vec<(Value, Value)>, Refus
         (λ e. (e ≡ Refusal.OutOfMemory)
         ⊎ ((e ≡ Refusal.Usage) × (IsUtf8 bytes.now → members_read bytes.now ≡ None))) }
 {
-    let json = match Json::from_slice(alloc, bytes) {
+    let mut keys = Keys::new(alloc)?;
+    let mut json = match Json::from_slice(alloc, bytes) {
         Ok(json) => json,
         Err(error) if error.is_memory() => return Err(Refusal::OutOfMemory),
         Err(_error) => return Err(Refusal::Usage),
     };
-    match json.as_object() {
-        Some(members) => members_of(alloc, members),
+    let members = match json.as_object_mut() {
+        Some(members) => members_of(alloc, &mut keys, members),
         None => Err(Refusal::Usage),
-    }
+    };
+    // A large tree takes long to free, and the program ends soon.
+    mem::forget(json);
+    members
 }

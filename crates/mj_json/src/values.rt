@@ -1,61 +1,87 @@
 //! JSON as values.
-ghost use Rattle.std.specs.Prelude.{◌≡◌, Some, Ok, MatchResult};
+ghost use Rattle.std.specs.Prelude.{◌≡◌, false, Some, Ok, IfOk, MatchResult, string_bytes};
 ghost use Rattle.serde_json.specs.View.{view, items_view, members_view};
+ghost use Rattle.tm_values.specs.Map.{put_all, IsMap};
+ghost use Rattle.tm_values.specs.Val.{map, text, pairs_of};
 ghost use Rattle.mj_json.specs.Json as spec;
 
+use crate::keys::Keys;
 use mj_words::Refusal;
 use serde_json::{Map, Value as Json};
 use std::alloc::Global;
-use tm_values::{Error, Value, ValueMap};
+use std::mem;
+use std::rc::{Rc, RcStr};
+use tm_values::{Error, Node, Value};
 
-/// The value that JSON gives. OutOfMemory where no memory was found, Usage where a float is in it.
+/// The value that JSON gives, whose texts are moved out of it. OutOfMemory where no memory was
+/// found, Usage where a float is in it.
 #[cycle(values)]
-fn value_of(alloc: Global, json: &Json) -> Result<Value, Refusal>
-    ensures { spec.IsConverted result (spec.value_of (view json.now)) }
+fn value_of(alloc: Global, keys: &mut Keys, json: &mut Json) -> Result<Value, Refusal>
+    ensures { spec.IsConverted result (spec.value_of (view json.old)) }
 {
     match json {
         Json::Null => Ok(Value::none()),
         Json::Bool(truth) => Ok(Value::boolean(*truth)),
         Json::Number(number) => Ok(Value::number(number.as_i128().ok_or(Refusal::Usage)?)),
-        Json::String(content) => made(Value::text(alloc, content.as_str())),
-        Json::Array(items) => made(Value::list(alloc, values_of(alloc, items.as_slice())?)),
-        Json::Object(members) => {
-            let members = made(ValueMap::from_pairs(members_of(alloc, members)?))?;
-            made(Value::from_map(alloc, members))
-        }
+        Json::String(content) => text_of(alloc, content),
+        Json::Array(items) => made(Value::list(alloc, values_of(alloc, keys, items)?)),
+        Json::Object(members) => map_of(alloc, members_of(alloc, keys, members)?),
     }
 }
 
 /// The values of the items of an array, with the same refusals.
 #[cycle(values)]
-fn values_of(alloc: Global, items: &[Json]) -> Result<Vec<Value>, Refusal>
+fn values_of(alloc: Global, keys: &mut Keys, items: &mut Vec<Json>) -> Result<Vec<Value>, Refusal>
     ensures { MatchResult result
-        (λ values. spec.values_of (items_view items.now) ≡ Some values.items)
-        (λ e. spec.IsRefusal e (spec.values_of (items_view items.now))) }
+        (λ values. spec.values_of (items_view items.old.items) ≡ Some values.items)
+        (λ e. spec.IsRefusal e (spec.values_of (items_view items.old.items))) }
 {
     let mut values = Vec::with_capacity(alloc, items.len())?;
-    for item in items {
-        values.push(value_of(alloc, item)?)?;
+    for item in items.iter_mut() {
+        values.push(value_of(alloc, keys, item)?)?;
     }
     Ok(values)
 }
 
-/// The keys and values of the members of an object, with the same refusals.
+/// The keys and values of the members of an object, in the order of the keys, with the same
+/// refusals.
 #[cycle(values)]
 pub(crate) fn members_of(
     alloc: Global,
-    members: &Map<String, Json>,
+    keys: &mut Keys,
+    members: &mut Map<String, Json>,
 ) -> Result<Vec<(Value, Value)>, Refusal>
-    ensures { MatchResult result
-        (λ pairs. spec.members_of (members_view members.now.entries) ≡ Some pairs.items)
-        (λ e. spec.IsRefusal e (spec.members_of (members_view members.now.entries))) }
+    ensures members { MatchResult result
+        (λ pairs. spec.members_of (members_view members.old.entries) ≡ Some pairs.items)
+        (λ e. spec.IsRefusal e (spec.members_of (members_view members.old.entries))) }
+    ensures ordered { IfOk result (λ pairs. IsMap pairs.items) }
 {
     let mut pairs = Vec::with_capacity(alloc, members.len())?;
-    for (key, member) in members.iter() {
-        let key = made(Value::text(alloc, key.as_str()))?;
-        pairs.push((key, value_of(alloc, member)?))?;
+    for (key, member) in members.iter_mut() {
+        let key = made(keys.key(alloc, key.as_str()))?;
+        pairs.push((key, value_of(alloc, keys, member)?))?;
     }
     Ok(pairs)
+}
+
+/// The text as a value; an empty text is left in its place. OutOfMemory where no memory was found.
+fn text_of(alloc: Global, content: &mut String) -> Result<Value, Refusal>
+    ensures { MatchResult result (λ value. value ≡ text (string_bytes content.old) false)
+        (λ e. e ≡ Refusal.OutOfMemory) }
+{
+    let content = mem::replace(content, String::new(alloc));
+    Ok(Value::shared_text(RcStr::from_string(content)?, false))
+}
+
+/// The map of the pairs, whose keys ascend. OutOfMemory where no memory was found.
+fn map_of(alloc: Global, pairs: Vec<(Value, Value)>) -> Result<Value, Refusal>
+    requires { IsMap pairs.items }
+    ensures { MatchResult result (λ value. value ≡ map (pairs_of (put_all pairs.items)))
+        (λ e. e ≡ Refusal.OutOfMemory) }
+{
+    Ok(Value {
+        node: Node::Map(Rc::new(alloc, pairs)?),
+    })
 }
 
 /// What was made of values, whose making fails for want of memory alone.

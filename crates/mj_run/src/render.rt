@@ -8,6 +8,7 @@ ghost use Rattle.mj_run.specs.Program.{Input, input_of, context_of, limit_of, Is
 use mj_words::Arguments;
 use std::alloc::Global;
 use std::io::Write;
+use std::mem;
 use template_machine::{Environment, Parties, StateIds, TemplateOf};
 use tm_parts::Counted;
 use tm_values::{Error, ErrorKind, Value, ValueMap};
@@ -48,8 +49,12 @@ fn render_unflushed<O: Write + Drop>(
         (λ e. IsFault O.contents input e out.old out.new) }
 {
     let context = context(alloc, members, arguments.texts.as_slice())?;
+    // The process ends after the render, so neither the context nor the environment is freed.
+    mem::forget(context.share()?);
     let mut environment = Environment::new(alloc)?;
-    render_in(&mut environment, arguments, source, context, out)
+    let rendered = render_in(&mut environment, arguments, source, context, out);
+    mem::forget(environment);
+    rendered
 }
 
 /// Renders the source in a new environment, over the context of the words and any members.

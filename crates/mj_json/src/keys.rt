@@ -1,0 +1,56 @@
+//! The keys of objects, each made once.
+ghost use Rattle.std.specs.Prelude.{◌≡◌, false};
+ghost use Rattle.tm_values.specs.Answer.{OkOrOutOfMemory};
+ghost use Rattle.tm_values.specs.Val.{text};
+
+use std::alloc::{AllocError, Global};
+use std::rc::RcStr;
+use tm_values::{Error, Value};
+
+/// How many keys are kept.
+const PLACES: usize = 64;
+
+/// The keys that were made last, each at the place that its hash gives.
+#[derive(Drop)]
+pub(crate) struct Keys {
+    kept: Vec<RcStr>,
+}
+
+impl Keys {
+    /// The empty key alone. Fails by want of memory.
+    pub(crate) fn new(alloc: Global) -> Result<Keys, AllocError> {
+        let empty = RcStr::from_str(alloc, "")?;
+        let mut kept = Vec::with_capacity(alloc, PLACES)?;
+        for _ in 0..PLACES {
+            kept.push(empty.clone()?)?;
+        }
+        Ok(Keys { kept })
+    }
+
+    /// The text as a value, which shares the contents of the kept key where that is the same text.
+    /// Fails by OutOfMemory alone.
+    pub(crate) fn key(&mut self, alloc: Global, content: &str) -> Result<Value, Error>
+        ensures { OkOrOutOfMemory result (λ v. v ≡ text content.now false) }
+    {
+        let place = place_of(content);
+        if let Some(kept) = self.kept.get(place) {
+            if kept.as_str() == content {
+                return Ok(Value::shared_text(kept.clone()?, false));
+            }
+        }
+        let key = RcStr::from_str(alloc, content)?;
+        if let Some(kept) = self.kept.get_mut(place) {
+            *kept = key.clone()?;
+        }
+        Ok(Value::shared_text(key, false))
+    }
+}
+
+// The place of a key, by all its bytes.
+fn place_of(content: &str) -> usize {
+    let mut hash: usize = 0;
+    for byte in content.as_bytes() {
+        hash = hash.wrapping_mul(31).wrapping_add(*byte as usize);
+    }
+    hash % PLACES
+}
