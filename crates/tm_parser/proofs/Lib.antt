@@ -1,4 +1,5 @@
 pub mod Nesting
+pub mod Levels
 pub mod Loops
 pub mod Names
 pub mod Calls

@@ -1,4 +1,4 @@
--- One nesting less, one level less, what stands behind a value or a comparison, and what is a target.
+-- One nesting less, what stands behind a value or a comparison, and what is a target.
 use Rattle.std.specs.Prelude.{option_map}
 use Rattle.std.proofs.Common.{◌≡◌, ℕ, zero, suc, ◌-◌, Bool, true, false, List, [], ◌∷◌, ◌++◌, None, Some, refl, sym, ap, arith, ◌∙◌}
 use Rattle.tm_syntax.specs.declared.token.Tag.{Tag}
@@ -12,8 +12,7 @@ use Rattle.tm_syntax.specs.declared.tree.Step.{Step}
 use Rattle.tm_syntax.specs.declared.tree.Step.TheVariants as steps
 use Rattle.tm_syntax.specs.declared.tree.AssignmentTarget.TheVariants as target_forms
 use Rattle.tm_grammar.specs.Meanings.{got}
-use Rattle.tm_grammar.specs.Combinators.{branch, ◌>>=◌, pure}
-use Rattle.tm_parser.specs.Grammar.{Inside, inside, expr, operand, expr_at, primary, prefix, chained, compared, conditional, target}
+use Rattle.tm_parser.specs.Grammar.{inside, expr, operand, chained, compared, conditional, target}
 use Rattle.tm_parser.specs.Grammar.{target_of, lone_target, last_target, attribute_name, split_last, are_none}
 use Rattle.tm_parser.specs.Statements.{inner, body, rest, else_or_end, loop_head}
 
@@ -49,21 +48,6 @@ inner_operand zero level ts h = absurd (h refl)
 inner_operand (suc depth) level ts h = ap (λ k. (operand (inside k) level).reads ts) (sym (suc-sub-one depth))
 
 pub ruleset expressions = (no_room, some_room, no_expr, inner_expr, no_operand, inner_operand)
-
-pub tightest : (i : Inside) (level : ℕ) (ts : List Token) → level ≡ 0 → (operand i level).reads ts ≡ (primary i).reads ts
-unfolding operand
-tightest i level ts h = ap (λ k. (operand i k).reads ts) h
-
-pub tighter : (i : Inside) (level : ℕ) (ts : List Token) → ¬ (level ≡ 0) →
-    (operand i level).reads ts ≡ (branch (prefix level) (λ op. i.operand level >>= (λ x. pure (exprs.Unary op x)))
-    (expr_at i (level - 1))).reads ts
-unfolding operand expr_at
-tighter i zero ts h = absurd (h refl)
-tighter i (suc level) ts h =
-    ap (λ k. (branch (prefix (suc level)) (λ op. i.operand (suc level) >>= (λ x. pure (exprs.Unary op x))) (expr_at i k)).reads ts)
-    (sym (suc-sub-one level))
-
-pub ruleset levels = (tightest, tighter)
 
 pub no_steps : (x : Expr) (ss : List Step) → ss ≡ [] → chained x ss ≡ x
 no_steps x ss h = ap (chained x) h

@@ -1,4 +1,5 @@
 pub mod Grammar
+pub mod Levels
 pub mod Looks
 pub mod Parses
 pub mod Statements

@@ -1,5 +1,5 @@
 -- What a method of the parser answers, beside what a rule reads.
-use Rattle.std.specs.Prelude.{◌≡◌, List, [], ◌∷◌, Option, Some, None, Result, Ok, Err, Bool, true, false}
+use Rattle.std.specs.Prelude.{◌≡◌, List, Option, Some, None, Result, Ok, Err, Bool, true, false}
 use Rattle.tm_values.specs.declared.error.ErrorKind.{ErrorKind}
 use Rattle.tm_values.specs.Answer.{Refused}
 use Rattle.tm_grammar.specs.Meanings.{Read, got}

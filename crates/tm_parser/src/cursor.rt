@@ -1,8 +1,9 @@
 //! Tokens one after another.
-ghost use Rattle.std.specs.Prelude.{◌≡◌, ◌∷◌, [], ◌↔◌, IsTrue, MatchResult, is_some};
+ghost use Rattle.std.specs.Prelude.{◌≡◌, ◌<◌, ◌∷◌, [], ◌↔◌, IfSome, IsTrue, MatchResult, is_some};
 ghost use Rattle.tm_parser.specs.Parses.{Parses, TakesFirst, TakesSign};
-ghost use Rattle.tm_parser.specs.Grammar.{is, a_name, a_constant, comma, ends_part, ends_target, is_comma, keyword_start, link, prefix};
+ghost use Rattle.tm_parser.specs.Grammar.{is, a_name, a_constant, comma, ends_part, ends_target, is_comma, keyword_start, link};
 ghost use Rattle.tm_parser.specs.Grammar.{target_comma};
+ghost use Rattle.tm_parser.specs.Levels.{GoesOnAt, prefix_up_to};
 ghost use Rattle.tm_parser.specs.Looks.{starts};
 ghost use Rattle.tm_parser.specs.Statements.{a_start, ends_iterated, is_tag, is_word, iterated_comma, lone, same_name};
 ghost use Rattle.tm_grammar.specs.Combinators.{token};
@@ -258,15 +259,35 @@ impl<'t> Cursor<'t> {
         }
     }
 
-    /// Takes a sign before an operand of this level.
-    pub fn take_prefix(&mut self, level: u8) -> Option<UnaryOperator>
-        ensures { TakesFirst result self.old self.new ((prefix level).sees self.old) }
+    /// The level, from this one on and before the end, at which what stands here goes on with a
+    /// value.
+    pub fn link_level(&self, from: u8, end: u8) -> Option<u8>
+        ensures { GoesOnAt result from end self.now }
+    {
+        let (level, _) = match self.rest {
+            [Token::Sign(Sign::Not), Token::Sign(sign), ..] => negated_link_of(*sign)?,
+            [Token::Sign(sign), ..] => link_of(*sign)?,
+            _ => return None,
+        };
+        if from <= level && level < end {
+            Some(level)
+        } else {
+            None
+        }
+    }
+
+    /// Takes a sign before an operand of at most this level; that operand's level, and the
+    /// operator.
+    pub fn take_prefix(&mut self, level: u8) -> Option<(u8, UnaryOperator)>
+        ensures taken { TakesFirst result self.old self.new
+            (first_sees (prefix_up_to level) self.old) }
+        ensures above { IfSome result (λ x. 0 < x.0) }
     {
         match self.rest {
             [Token::Sign(sign), rest @ ..] => match prefix_of(*sign) {
-                Some((found, operator)) if found == level => {
+                Some((found, operator)) if found <= level => {
                     self.rest = rest;
-                    Some(operator)
+                    Some((found, operator))
                 }
                 _ => None,
             },

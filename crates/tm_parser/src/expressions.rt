@@ -7,6 +7,7 @@ ghost use Rattle.tm_parser.specs.Grammar.{condition, conditions_from, conjunctio
 ghost use Rattle.tm_parser.specs.Grammar.{else_part, expr, expr_at, last_part, named_step, operand};
 ghost use Rattle.tm_parser.specs.Grammar.{operation, part, slice, step, steps_from, subscript};
 ghost use Rattle.tm_parser.specs.Grammar.{whole};
+ghost use Rattle.tm_parser.specs.Levels.{levels};
 ghost use Rattle.tm_grammar.specs.Combinators.{one_more};
 ghost use Rattle.tm_values.specs.declared.error.ErrorKind.TheVariants.{OutOfMemory};
 
@@ -129,18 +130,40 @@ impl Cursor<'_> {
 
     /// An operand of a level.
     #[cycle(expressions)]
-    #[tactic(auto, using(crate::proofs::Nesting::levels))]
+    #[tactic(auto, using(crate::proofs::Levels::operands))]
     pub fn operand(&mut self, alloc: Global, depth: u8, level: u8) -> Result<Boxed<Expr>, Error>
         ensures { Parses result self.new ((operand (inside depth) level).reads self.old) }
     {
-        if level == POSTFIX_LEVEL {
-            return self.primary(alloc, depth);
+        if let Some((found, operator)) = self.take_prefix(level) {
+            let value = self.inner_operand(alloc, depth, found)?;
+            let value = Boxed::new(alloc, Expr::Unary(operator, value))?;
+            return self.climb(alloc, depth, found, level, value);
         }
-        if let Some(operator) = self.take_prefix(level) {
-            let value = self.inner_operand(alloc, depth, level)?;
-            return Ok(Boxed::new(alloc, Expr::Unary(operator, value))?);
+        let value = self.primary(alloc, depth)?;
+        self.climb(alloc, depth, POSTFIX_LEVEL, level, value)
+    }
+
+    /// Behind an operand of a level, the steps of all levels before the end, from its own on.
+    #[cycle(expressions)]
+    fn climb(
+        &mut self,
+        alloc: Global,
+        depth: u8,
+        from: u8,
+        end: u8,
+        operand: Boxed<Expr>,
+    ) -> Result<Boxed<Expr>, Error>
+        ensures { Parses result self.new
+            ((levels (inside depth) from end operand).reads self.old) }
+    {
+        let mut level = from;
+        let mut value = operand;
+        while let Some(found) = self.link_level(level, end) {
+            let steps = self.steps(alloc, depth, found)?;
+            value = chained(alloc, value, steps)?;
+            level = found + 1;
         }
-        self.expr_at(alloc, depth, level - 1)
+        Ok(value)
     }
 
     /// As many steps of a level as there are.

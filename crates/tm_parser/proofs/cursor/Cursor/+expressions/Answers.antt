@@ -1,11 +1,13 @@
-use Rattle.std.proofs.Common.{ap}
+use Rattle.std.proofs.Common.{◌+◌, ap, sym, ◌∙◌}
 use Rattle.std.proofs.lemmas.Result.{err_from_is_err_and}
 use Rattle.tm_syntax.specs.declared.token.Sign.TheVariants as sign
 use Rattle.tm_grammar.specs.Combinators.{first}
 use Rattle.tm_parser.specs.Grammar.{inside, is, steps_from, comparisons_from, conditions_from, link, step, behind_comparison, condition}
 use Rattle.tm_parser.specs.Grammar.{operand, pair}
 use Rattle.tm_parser.proofs.Loops.{goes_on, comes_nearer, refuses, ends, comma_comes_nearer, comma_refuses, passed_comes_nearer}
-use Rattle.tm_parser.proofs.Loops.{passed_refuses}
+use Rattle.tm_parser.proofs.Loops.{passed_refuses, because}
+use Rattle.tm_parser.proofs.Levels.{climbs, climb_fails, ends_climb}
+use Rattle.tm_parser.specs.Levels.{levels}
 use Rattle.tm_parser.proofs.cursor.Cursor.+expressions.Goals as goal
 
 pub steps-loop-link-init : goal.steps-loop-link-init
@@ -106,3 +108,19 @@ conditions-returns-in_err-conditions t c =
 pub conditions-returns : goal.conditions-returns
 conditions-returns t c = ends (first (is sign.If)) (λ _. condition (inside c.args.depth)) _ _ _ _ c.loop-alloc.invariant
     c.loop-alloc-test.ensures
+
+pub climb-loop-found-preserved : goal.climb-loop-found-preserved
+climb-loop-found-preserved t c =
+    ap (λ x. (levels (inside c.args.depth) (c.in-Some.found + 1) c.args.end x).reads c.steps.new.self) c.in_ok-value.ensures
+    ∙ sym (climbs (inside c.args.depth) c.loop-found.level c.args.end c.in-Some.found c.loop-found.value _ c.in-Some.ensures _ _
+    c.in_ok-steps.ensures) ∙ c.loop-found.invariant
+
+pub climb-returns-in_err-steps : goal.climb-returns-in_err-steps
+climb-returns-in_err-steps t c =
+    let p = err_from_is_err_and c.from_residual.result c.from_residual.ensures.1 in
+    rw (p.1, p.2) (because _ (λ none. sym c.loop-found.invariant ∙ climb_fails (inside c.args.depth) c.loop-found.level c.args.end
+    c.in-Some.found c.loop-found.value _ c.in-Some.ensures none) c.in_err-steps.ensures)
+
+pub climb-returns : goal.climb-returns
+climb-returns t c = sym c.loop-found.invariant ∙ ends_climb (inside c.args.depth) c.loop-found.level c.args.end c.loop-found.value _
+    c.in_default.ensures

@@ -1,6 +1,7 @@
-use Rattle.std.proofs.Common.{◌≡◌, ℕ, ◌+◌, ◌*◌, length, []}
+use Rattle.std.proofs.Common.{◌≡◌, ℕ, ◌+◌, ◌-◌, ◌*◌, length, []}
 use Rattle.tm_syntax.specs.declared.token.Sign.TheVariants as sign
 use Rattle.tm_parser.specs.Grammar.{inside, operand, steps_from, comparisons_from, conditions_from, more_items, more_passed, pair}
+use Rattle.tm_parser.specs.Levels.{levels}
 use Rattle.tm_parser.proofs.cursor.Cursor.+expressions.Given as goal
 
 -- each nesting has room for one call of each method, the higher above the lower
@@ -83,38 +84,41 @@ decreases-primary l = nesting_room * l.depth + 6
 abbrev level_room : ℕ
 level_room = 8
 
+abbrev pub decreases-climb : goal.decreases-climb
+decreases-climb l = nesting_room * l.depth + level_room * l.end + 7
+
 abbrev pub decreases-operand : goal.decreases-operand
-decreases-operand l = nesting_room * l.depth + level_room * l.level + 7
+decreases-operand l = nesting_room * l.depth + level_room * l.level + 8
 
 abbrev pub decreases-operation : goal.decreases-operation
-decreases-operation l = nesting_room * l.depth + level_room * l.level + 8
+decreases-operation l = nesting_room * l.depth + level_room * l.level + 9
 
 abbrev pub decreases-one_comparison : goal.decreases-one_comparison
-decreases-one_comparison l = nesting_room * l.depth + level_room * l.level + 8
+decreases-one_comparison l = nesting_room * l.depth + level_room * l.level + 9
 
 abbrev pub decreases-comparisons : goal.decreases-comparisons
-decreases-comparisons l = nesting_room * l.depth + level_room * l.level + 9
+decreases-comparisons l = nesting_room * l.depth + level_room * l.level + 10
 
 abbrev pub decreases-comparison : goal.decreases-comparison
-decreases-comparison l = nesting_room * l.depth + level_room * l.level + 10
+decreases-comparison l = nesting_room * l.depth + level_room * l.level + 11
 
 abbrev pub decreases-conjunction : goal.decreases-conjunction
-decreases-conjunction l = nesting_room * l.depth + level_room * l.level + 8
+decreases-conjunction l = nesting_room * l.depth + level_room * l.level + 9
 
 abbrev pub decreases-disjunction : goal.decreases-disjunction
-decreases-disjunction l = nesting_room * l.depth + level_room * l.level + 8
+decreases-disjunction l = nesting_room * l.depth + level_room * l.level + 9
 
 abbrev pub decreases-step : goal.decreases-step
-decreases-step l = nesting_room * l.depth + level_room * l.level + 11
+decreases-step l = nesting_room * l.depth + level_room * l.level + 12
 
 abbrev pub decreases-one_step : goal.decreases-one_step
-decreases-one_step l = nesting_room * l.depth + level_room * l.level + 12
+decreases-one_step l = nesting_room * l.depth + level_room * l.level + 13
 
 abbrev pub decreases-steps : goal.decreases-steps
-decreases-steps l = nesting_room * l.depth + level_room * l.level + 13
+decreases-steps l = nesting_room * l.depth + level_room * l.level + 14
 
 abbrev pub decreases-expr_at : goal.decreases-expr_at
-decreases-expr_at l = nesting_room * l.depth + level_room * l.level + 14
+decreases-expr_at l = nesting_room * l.depth + level_room * l.level + 15
 
 abbrev pub decreases-else_part : goal.decreases-else_part
 decreases-else_part l = nesting_room * l.depth + 1
@@ -134,6 +138,14 @@ invariant-conditions-loop-alloc l =
 
 abbrev pub decreases-conditions-loop-alloc : goal.decreases-conditions-loop-alloc
 decreases-conditions-loop-alloc l = length l.self
+
+abbrev pub invariant-climb-loop-found : goal.invariant-climb-loop-found
+invariant-climb-loop-found l =
+    (levels (inside l.depth) l.level l.end l.value).reads l.self ≡
+    (levels (inside l.depth) l.fn.from l.fn.end l.fn.operand).reads l.fn.self
+
+abbrev pub decreases-climb-loop-found : goal.decreases-climb-loop-found
+decreases-climb-loop-found l = l.end - l.level
 
 abbrev pub invariant-comparisons-loop-link : goal.invariant-comparisons-loop-link
 invariant-comparisons-loop-link l =

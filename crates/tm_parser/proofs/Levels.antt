@@ -1,0 +1,189 @@
+-- Levels of operators, read in one go.
+use Rattle.std.specs.Prelude.{nat_eq, nat_le, option_and_then, if◌then◌else◌}
+use Rattle.std.proofs.Common.{◌≡◌, ℕ, zero, suc, ◌+◌, ◌-◌, ◌<◌, ◌≤◌, Bool, true, false, List, [], ◌∷◌, Option, None, Some, refl, sym, ap, arith, ◌∙◌}
+use Rattle.std.proofs.lemmas.Bool.{leb-true, leb-false, eqb-true, eq-eqb, ne_eqb}
+use Rattle.tm_syntax.specs.declared.token.Token.{Token}
+use Rattle.tm_syntax.specs.declared.token.Token.TheVariants as tokens
+use Rattle.tm_syntax.specs.declared.tree.Expr.{Expr}
+use Rattle.tm_syntax.specs.declared.tree.Expr.TheVariants as exprs
+use Rattle.tm_syntax.specs.declared.tree.Step.{Step}
+use Rattle.tm_syntax.specs.declared.tree.UnaryOperator.{UnaryOperator}
+use Rattle.tm_grammar.specs.Meanings.{Read, got, known, first_sees, branch_reads}
+use Rattle.tm_grammar.specs.Laws.{not_got, same_got}
+use Rattle.tm_grammar.specs.Growth as growth
+use Rattle.tm_grammar.specs.Combinators.{◌>>=◌, pure, one_more}
+use Rattle.tm_parser.specs.Grammar.{Inside, primary, operand, expr_at, prefix, prefix_of, link, step, steps_from, chained, at_level}
+use Rattle.tm_parser.specs.Levels.{up_to, prefix_up_to, climbed, levels, EndsBefore, GoesOnAt}
+
+-- what is found at a level
+module _ {A : Type 0} where
+  beyond : (level m : ℕ) (o : Option (ℕ × A)) → up_to level o ≡ None → m ≤ level → at_level m o ≡ None
+  beyond level m None h le = refl
+  beyond level m (Some x) h le = by_tests (nat_le x.0 level) refl (nat_eq x.0 m) refl
+    where
+      by_tests : (b : Bool) → nat_le x.0 level ≡ b → (c : Bool) → nat_eq x.0 m ≡ c → at_level m (Some x) ≡ None
+      by_tests b e false f = ap (λ t. if t then Some x.1 else None) f
+      by_tests true e true f = absurd (let g = sym (ap (λ t. if t then Some x else None) e) ∙ h in cc)
+      by_tests false e true f = absurd (omega (arith, leb-false x.0 level e, eqb-true x.0 m f, le))
+
+  within : (level : ℕ) (o : Option (ℕ × A)) (x : ℕ × A) → up_to level o ≡ Some x → (o ≡ Some x) × (x.0 ≤ level)
+  within level None x h = absurd (let g : ◌≡◌ {A = Option (ℕ × A)} None (Some x) = h in cc)
+  within level (Some y) x h = by_test (nat_le y.0 level) refl
+    where
+      by_test : (b : Bool) → nat_le y.0 level ≡ b → (Some y ≡ Some x) × (x.0 ≤ level)
+      by_test true e =
+          let same : Some y ≡ Some x = sym (ap (λ t. if t then Some y else None) e) ∙ h in
+          let first : y ≡ x = cc in
+          (same, omega (arith, leb-true y.0 level e, ap (λ (z : ℕ × A). z.0) first))
+      by_test false e = absurd (let g = sym (ap (λ t. if t then Some y else None) e) ∙ h in cc)
+
+  here : (x : ℕ × A) → at_level x.0 (Some x) ≡ Some x.1
+  here x = ap (λ t. if t then Some x.1 else None) (eq-eqb x.0 x.0 refl)
+
+  elsewhere : (m : ℕ) (x : ℕ × A) → (x.0 ≡ m → ⊥) → at_level m (Some x) ≡ None
+  elsewhere m x other = ap (λ t. if t then Some x.1 else None) (ne_eqb x.0 m other)
+
+  not_known : {T : Type 0} (ts : List T) (o : Option A) → known ts o ≡ None → o ≡ None
+  not_known ts None h = refl
+  not_known ts (Some x) h = absurd (not_got x ts (sym h))
+
+  is_known : {T : Type 0} (ts rest : List T) (o : Option A) (x : A) → known ts o ≡ got x rest → (o ≡ Some x) × (ts ≡ rest)
+  is_known ts rest None x h = absurd (not_got x rest h)
+  is_known ts rest (Some y) x h =
+      let same = same_got y x ts rest h in
+      (ap Some same.0, same.1)
+
+no_prefix : (level m : ℕ) (ts : List Token) → first_sees (prefix_up_to level) ts ≡ None → m ≤ level → (prefix m).sees ts ≡ None
+no_prefix level m [] h le = refl
+no_prefix level m (tokens.Raw text ∷ ts) h le = refl
+no_prefix level m (tokens.Tag tag ∷ ts) h le = refl
+no_prefix level m (tokens.Name name ∷ ts) h le = refl
+no_prefix level m (tokens.Literal v ∷ ts) h le = refl
+no_prefix level m (tokens.Sign s ∷ ts) h le = ap (known ts) (beyond level m (prefix_of s) (not_known ts (up_to level (prefix_of s)) h) le)
+
+-- what a prefix is at each level
+a_prefix : (level m : ℕ) (ts rest : List Token) (x : ℕ × UnaryOperator) → first_sees (prefix_up_to level) ts ≡ got x rest →
+    ((prefix m).sees ts ≡ known rest (at_level m (Some x))) × (x.0 ≤ level)
+a_prefix level m [] rest x h = absurd (not_got x rest h)
+a_prefix level m (tokens.Raw text ∷ ts) rest x h = absurd (not_got x rest h)
+a_prefix level m (tokens.Tag tag ∷ ts) rest x h = absurd (not_got x rest h)
+a_prefix level m (tokens.Name name ∷ ts) rest x h = absurd (not_got x rest h)
+a_prefix level m (tokens.Literal v ∷ ts) rest x h = absurd (not_got x rest h)
+a_prefix level m (tokens.Sign s ∷ ts) rest x h =
+    let same = is_known ts rest (up_to level (prefix_of s)) x h in
+    let found = within level (prefix_of s) x same.0 in
+    (ap (λ o. known ts (at_level m o)) found.0 ∙ ap (λ left. known left (at_level m (Some x))) same.1, found.1)
+
+module _ (i : Inside) where
+  -- where no prefix stands, an operand of a level begins with one of the level below
+  below : (k : ℕ) (ts : List Token) → (prefix (suc k)).sees ts ≡ None → (operand i (suc k)).reads ts ≡ (expr_at i k).reads ts
+  unfolding operand expr_at
+  below k ts none = ap (λ seen. branch_reads (λ op. (i.operand (suc k) >>= (λ x. pure (exprs.Unary op x))).reads) (expr_at i k).reads seen ts)
+      none
+
+  all_of : (o : Read Token Expr) → o ≡ option_and_then (λ x. got x.0 x.1) o
+  all_of None = refl
+  all_of (Some x) = refl
+
+  regrouped : (steps : List Token → Read Token (List Step)) (go : Expr → List Token → Read Token Expr) (o : Read Token Expr) →
+      option_and_then (λ y. go y.0 y.1) (option_and_then (λ x. option_and_then (λ s. got (chained x.0 s.0) s.1) (steps x.1)) o) ≡
+      option_and_then (λ x. option_and_then (λ s. go (chained x.0 s.0) s.1) (steps x.1)) o
+  regrouped steps go None = refl
+  regrouped steps go (Some x) = behind (steps x.1)
+    where
+      behind : (o : Read Token (List Step)) →
+          option_and_then (λ y. go y.0 y.1) (option_and_then (λ s. got (chained x.0 s.0) s.1) o) ≡
+          option_and_then (λ s. go (chained x.0 s.0) s.1) o
+      behind None = refl
+      behind (Some s) = refl
+
+  -- an operand of a level, from an operand of a lower level on
+  from_lower : (n level k : ℕ) (ts : List Token) → level ≡ n + k → ((m : ℕ) → k < m → m ≤ level → (prefix m).sees ts ≡ None) →
+      (operand i level).reads ts ≡ (operand i k >>= climbed i n k).reads ts
+  unfolding climbed expr_at
+  from_lower zero level k ts e none =
+      let same : level ≡ k = omega (arith, e) in
+      ap (λ l. (operand i l).reads ts) same ∙ all_of ((operand i k).reads ts)
+  from_lower (suc n) level k ts e none =
+      from_lower n level (suc k) ts (omega (arith, e)) (λ m above most. none m (omega (arith, above)) most)
+      ∙ ap (option_and_then (λ x. (climbed i n (suc k) x.0).reads x.1)) (below k ts (none (suc k) (omega arith) (omega (arith, e))))
+      ∙ regrouped ((steps_from i (operand i k) k []).reads) (λ x. (climbed i n (suc k) x).reads) ((operand i k).reads ts)
+
+  pub plain_operand : (level : ℕ) (ts : List Token) → first_sees (prefix_up_to level) ts ≡ None →
+      (operand i level).reads ts ≡ (primary i >>= levels i 0 level).reads ts
+  unfolding operand
+  plain_operand level ts h =
+      from_lower level level 0 ts (omega arith) (λ m above most. no_prefix level m ts h most)
+      ∙ ap (λ n. (primary i >>= climbed i n 0).reads ts) (omega arith)
+
+  taken : (found : ℕ) (op : UnaryOperator) (ts rest : List Token) → 0 < found → (prefix found).sees ts ≡ got op rest →
+      (operand i found).reads ts ≡ (i.operand found >>= (λ x. pure (exprs.Unary op x))).reads rest
+  unfolding operand expr_at
+  taken zero op ts rest above is = absurd (omega (arith, above))
+  taken (suc k) op ts rest above is =
+      ap (λ seen. branch_reads (λ op. (i.operand (suc k) >>= (λ x. pure (exprs.Unary op x))).reads) (expr_at i k).reads seen ts) is
+
+  -- behind a prefix
+  pub prefixed_operand : (level found : ℕ) (op : UnaryOperator) (ts rest : List Token) →
+      first_sees (prefix_up_to level) ts ≡ got (found, op) rest → 0 < found →
+      (operand i level).reads ts ≡ (i.operand found >>= (λ x. levels i found level (exprs.Unary op x))).reads rest
+  prefixed_operand level found op ts rest h above =
+      let at : (m : ℕ) → ((prefix m).sees ts ≡ known rest (at_level m (Some (found, op)))) × (found ≤ level) =
+      λ m. a_prefix level m ts rest (found, op) h in
+      let most : found ≤ level = (at found).1 in
+      let is : (prefix found).sees ts ≡ got op rest = (at found).0 ∙ ap (known rest) (here (found, op)) in
+      from_lower (level - found) level found ts (omega (arith, most))
+      (λ m more below. (at m).0 ∙ ap (known rest) (elsewhere m (found, op) (λ e. omega (arith, e, more))))
+      ∙ ap (option_and_then (λ x. (climbed i (level - found) found x.0).reads x.1)) (taken found op ts rest above is)
+      ∙ moved ((i.operand found).reads rest)
+    where
+      moved : (o : Read Token Expr) →
+          option_and_then (λ y. (climbed i (level - found) found y.0).reads y.1) (option_and_then (λ x. got (exprs.Unary op x.0) x.1) o) ≡
+          option_and_then (λ x. (climbed i (level - found) found (exprs.Unary op x.0)).reads x.1) o
+      moved None = refl
+      moved (Some x) = refl
+
+  -- where nothing goes on at a level
+  passes : (level : ℕ) (ts : List Token) → (link level).sees ts ≡ None → (n : ℕ) (x : Expr) →
+      (climbed i (suc n) level x).reads ts ≡ (climbed i n (suc level) x).reads ts
+  unfolding climbed
+  passes level ts none n x =
+      ap (option_and_then (λ s. (climbed i n (suc level) (chained x s.0)).reads s.1))
+      (growth.grow_none (link level) (λ a. one_more (step i (operand i level) level a)) [] ts none)
+
+  to_level : (d n all level found : ℕ) (x : Expr) (ts : List Token) → all ≡ d + n → found ≡ d + level →
+      ((m : ℕ) → level ≤ m → m < found → (link m).sees ts ≡ None) → (climbed i all level x).reads ts ≡ (climbed i n found x).reads ts
+  to_level zero n all level found x ts e is none =
+      let count : all ≡ n = omega (arith, e) in
+      let same : level ≡ found = omega (arith, is) in
+      ap (λ k. (climbed i k level x).reads ts) count ∙ ap (λ l. (climbed i n l x).reads ts) same
+  to_level (suc d) n all level found x ts e is none =
+      let count : all ≡ suc (d + n) = omega (arith, e) in
+      ap (λ k. (climbed i k level x).reads ts) count
+      ∙ passes level ts (none level (omega arith) (omega (arith, is))) (d + n) x
+      ∙ to_level d n (d + n) (suc level) found x ts refl (omega (arith, is)) (λ m more less. none m (omega (arith, more)) less)
+
+  -- where nothing goes on before the end
+  pub ends_climb : (level end : ℕ) (x : Expr) (ts : List Token) → EndsBefore level end ts → (levels i level end x).reads ts ≡ got x ts
+  unfolding climbed
+  ends_climb level end x ts none = to_level (end - level) 0 (end - level) level ((end - level) + level) x ts (omega arith) refl
+      (λ m more less. none m more (omega (arith, more, less)))
+
+  -- where something may go on at a level
+  module _ (level end found : ℕ) (x : Expr) (ts : List Token) (goes : GoesOnAt (Some found) level end ts) where
+    at_found : (levels i level end x).reads ts ≡ (climbed i (suc (end - (found + 1))) found x).reads ts
+    at_found = to_level (found - level) (suc (end - (found + 1))) (end - level) level found x ts (omega (arith, goes.0, goes.1))
+        (omega (arith, goes.0)) goes.2
+
+    pub climbs : (ss : List Step) (rest : List Token) → (steps_from i (operand i found) found []).reads ts ≡ got ss rest →
+        (levels i level end x).reads ts ≡ (levels i (found + 1) end (chained x ss)).reads rest
+    unfolding climbed
+    climbs ss rest h =
+        at_found ∙ ap (option_and_then (λ s. (climbed i (end - (found + 1)) (suc found) (chained x s.0)).reads s.1)) h
+        ∙ ap (λ l. (climbed i (end - (found + 1)) l (chained x ss)).reads rest) (omega arith)
+
+    pub climb_fails : (steps_from i (operand i found) found []).reads ts ≡ None → (levels i level end x).reads ts ≡ None
+    unfolding climbed
+    climb_fails h = at_found ∙ ap (option_and_then (λ s. (climbed i (end - (found + 1)) (suc found) (chained x s.0)).reads s.1)) h
+
+pub ruleset operands = (plain_operand, prefixed_operand)
