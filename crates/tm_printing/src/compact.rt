@@ -40,9 +40,9 @@ fn write_data<R: Records, T: Target>(
         Node::Boolean(true) => target.take_text("true"),
         Node::Number(number) => write_json_number(*number, target),
         Node::Text(content, _) => write_json_text(content.as_str(), target),
-        Node::List(items) => write_array::<R, T>(items.as_slice(), records, levels, target),
-        Node::Map(pairs) => write_object::<R, T>(pairs.as_slice(), records, levels, target),
-        Node::Keywords(pairs) => write_object::<R, T>(pairs.as_slice(), records, levels, target),
+        Node::List(items, _) => write_array::<R, T>(items.as_slice(), records, levels, target),
+        Node::Map(pairs, _) => write_object::<R, T>(pairs.as_slice(), records, levels, target),
+        Node::Keywords(pairs, _) => write_object::<R, T>(pairs.as_slice(), records, levels, target),
         Node::Exports(pairs, _) => write_object::<R, T>(pairs.as_slice(), records, levels, target),
         Node::Namespace(state, index) => {
             write_namespace::<R, T>(*state, *index, records, levels, target)

@@ -1,14 +1,15 @@
 //! Values as templates emit them, and as texts of their own.
 ghost use Rattle.std.specs.Prelude.{string_bytes};
-ghost use Rattle.tm_output.specs.Targets.{Takes};
 ghost use Rattle.tm_values.specs.Answer.{IsAnswer};
+ghost use Rattle.tm_printing.specs.Left.{Writes};
 ghost use Rattle.tm_definitions.specs.Emitted.{emission_verdict, emitted_text, map_ok, text_answer};
 
 use crate::check::{check_json, check_print};
 use crate::compact::write_json;
 use crate::printing::{print, write_html};
+use crate::rest::Unwritten;
 use std::alloc::Global;
-use tm_output::{Target, TargetFailed};
+use tm_output::Target;
 use tm_values::{AutoEscape, Error, ErrorKind, Node, Records, Value};
 
 /// Whether the value can be emitted under the escape. A safe text always can; else InvalidOperation
@@ -34,24 +35,26 @@ pub fn check_emission<R: Records>(
 
 /// Writes what is emitted for the value under the escape: a safe text as it is, and else what is
 /// printed, what is printed escaped for HTML, or JSON. Ask `check_emission` first: what is written
-/// of a value that it refuses stands for nothing. TargetFailed where the target fails.
+/// of a value that it refuses stands for nothing. `Target` where the target fails, `Memory` where a
+/// list of what is left to write finds none.
 pub fn emit<R: Records, T: Target>(
+    alloc: Global,
     value: &Value,
     escape: AutoEscape,
     records: &R,
     target: &mut T,
-) -> Result<(), TargetFailed>
-    ensures { Takes T.took T.stopped result target.old
+) -> Result<(), Unwritten>
+    ensures { Writes T.took T.stopped result target.old
         (emitted_text escape (R.records records.now) value.now) target.new }
 {
     if let Node::Text(content, true) = &value.node {
-        return target.take_text(content.as_str());
+        return Ok(target.take_text(content.as_str())?);
     }
     match escape {
-        AutoEscape::None => print(value, records, target),
-        AutoEscape::Html => write_html(value, records, target),
-        AutoEscape::Json => write_json(value, records, target),
-        AutoEscape::Custom(_) => target.take_text(""),
+        AutoEscape::None => print(alloc, value, records, target),
+        AutoEscape::Html => write_html(alloc, value, records, target),
+        AutoEscape::Json => Ok(write_json(value, records, target)?),
+        AutoEscape::Custom(_) => Ok(target.take_text("")?),
     }
 }
 
@@ -62,8 +65,8 @@ pub fn to_text<R: Records>(alloc: Global, value: &Value, records: &R) -> Result<
 {
     check_print(alloc, value, records)?;
     let mut text = String::new(alloc);
-    match print(value, records, &mut text) {
+    match print(alloc, value, records, &mut text) {
         Ok(()) => Ok(text),
-        Err(TargetFailed) => Err(Error::from(ErrorKind::OutOfMemory)),
+        Err(_) => Err(Error::from(ErrorKind::OutOfMemory)),
     }
 }

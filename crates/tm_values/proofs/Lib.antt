@@ -1,5 +1,6 @@
 pub mod Lists
 pub mod Sizes
+pub mod Plains
 pub mod Maps
 pub mod Entries
 pub mod Asked

@@ -2,6 +2,7 @@ pub mod Chain
 pub mod Cause
 pub mod Name
 pub mod Val
+pub mod Plain
 pub mod Order
 pub mod Total
 pub mod Map

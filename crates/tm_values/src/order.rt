@@ -25,8 +25,8 @@ impl Value {
             Node::Undefined(_) | Node::None => Ordering::Equal,
             Node::Boolean(_) | Node::Number(_) => self.whole_or_zero().cmp(&other.whole_or_zero()),
             Node::Text(content, _) => content.as_str().cmp(other.text_or_empty()),
-            Node::List(items) => compare_items(items.as_slice(), other.items()),
-            Node::Map(pairs) | Node::Keywords(pairs) => compare_pairs(
+            Node::List(items, _) => compare_items(items.as_slice(), other.items()),
+            Node::Map(pairs, _) | Node::Keywords(pairs, _) => compare_pairs(
                 pairs.as_slice(),
                 other.pairs(),
             ),

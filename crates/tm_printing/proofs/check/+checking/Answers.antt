@@ -10,7 +10,8 @@ use Rattle.tm_definitions.specs.Verdicts.{Way, Verdict, and_then, in_json, verdi
 use Rattle.tm_definitions.specs.Verdicts.{through, namespace_verdict}
 use Rattle.tm_printing.proofs.Parts.{pair-smaller}
 use Rattle.tm_printing.proofs.Verdicts.{passed, item_first, pair_first, namespace-there, restored, not_there}
-use Rattle.tm_printing.proofs.Weights.{weight, level-heavier}
+use Rattle.tm_printing.proofs.Weights.{level-heavier}
+use Rattle.tm_printing.specs.Left.{weight}
 use Rattle.tm_printing.proofs.check.+checking.Goals as goal
 
 pub check-returns-in-Exports-clause-answer : goal.check-returns-in-Exports-clause-answer

@@ -8,7 +8,8 @@ use Rattle.tm_values.specs.View.{node_view}
 use Rattle.tm_definitions.specs.Json.{data_of, items_of, members_of, namespace_data}
 use Rattle.tm_printing.proofs.Members.{item_first, member_first, namespace-there}
 use Rattle.tm_printing.proofs.Parts.{pair-smaller}
-use Rattle.tm_printing.proofs.Weights.{weight, level-heavier}
+use Rattle.tm_printing.proofs.Weights.{level-heavier}
+use Rattle.tm_printing.specs.Left.{weight}
 use Rattle.tm_printing.proofs.compact.+compact.Goals as goal
 
 pub write_data-returns-in-List : goal.write_data-returns-in-List

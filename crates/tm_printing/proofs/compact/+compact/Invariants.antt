@@ -3,7 +3,7 @@ use Rattle.serde_json.specs.Written.{items_text, members_text}
 use Rattle.tm_output.proofs.Written.{Ahead}
 use Rattle.tm_values.specs.Val.{val_size, vals_size, pairs_size, vals_of, pairs_of}
 use Rattle.tm_definitions.specs.Json.{array_text, object_text, items_of, members_of, namespace_data}
-use Rattle.tm_printing.proofs.Weights.{weight}
+use Rattle.tm_printing.specs.Left.{weight}
 use Rattle.tm_printing.proofs.compact.+compact.Given as goal
 
 abbrev pub decreases-write_data : goal.decreases-write_data
