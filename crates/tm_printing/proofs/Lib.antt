@@ -4,6 +4,6 @@ pub mod Parts
 pub mod Plain
 pub mod Runs
 pub mod Spelled
+pub mod Steps
 pub mod Verdicts
-pub mod Walk
 pub mod Weights
