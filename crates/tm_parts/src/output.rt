@@ -170,7 +170,7 @@ impl Captures {
         self.open.push_reserved(innermost);
         match appended {
             Ok(()) => Ok(()),
-            Err(_failed) => Err(Halt::Fault(Error::from(ErrorKind::OutOfMemory))),
+            Err(_) => Err(Halt::Fault(Error::from(ErrorKind::OutOfMemory))),
         }
     }
 }
