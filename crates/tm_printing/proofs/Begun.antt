@@ -58,6 +58,8 @@ module _ {T : Type 0} (took stopped : T → List ℕ → T → Type 0) (laws : L
       subst (λ (l : List ℕ). stopped a l c) (sym parts) (laws.then_stopped a b c piece rest taken written)
   behind_it a b c text piece rest (Err unwritten.Memory) taken parts written =
       let part : take (length piece + written.0) text ≡ piece ++ take written.0 rest =
-      ap (λ (l : List ℕ). take (length piece + written.0) l) parts ∙ take-append-add piece rest written.0 in
-      (length piece + written.0, subst (λ (l : List ℕ). took a l c) (sym part)
-          (laws.then_took a b c piece (take written.0 rest) taken written.1))
+      ap (λ (l : List ℕ). take (length piece + written.0) l) parts ∙ take-append-add piece rest written.0 in (
+        length piece + written.0,
+        subst (λ (l : List ℕ). took a l c) (sym part)
+            (laws.then_took a b c piece (take written.0 rest) taken written.1),
+      )

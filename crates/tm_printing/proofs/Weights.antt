@@ -63,6 +63,13 @@ key_lighter pair ps left p is pos =
     rw is (parts_lighter (val_size pair.0) (val_size pair.1 + pairs_size (pairs_of ps) + 2)
     (val_size pair.0 + val_size pair.1 + pairs_size (pairs_of ps) + 2 + 1) p pos (omega arith))
 
+-- where the key is written already
+pub keyed_lighter : (pair : Val × Val) (ps left : List (Val × Val)) (p : ℕ) → left ≡ pair ∷ ps → 0 < p →
+    val_size pair.1 * p + (pairs_size (pairs_of ps) + 1) * p < (pairs_size (pairs_of left) + 1) * p
+keyed_lighter pair ps left p is pos =
+    rw is (parts_lighter (val_size pair.1) (pairs_size (pairs_of ps) + 1)
+    (val_size pair.0 + val_size pair.1 + pairs_size (pairs_of ps) + 2 + 1) p pos (omega arith))
+
 pub value_lighter : (v ps p : ℕ) → 0 < p → v * p + (ps + 1) * p < (v + ps + 2) * p
 value_lighter v ps p pos = parts_lighter v (ps + 1) (v + ps + 2) p pos (omega arith)
 

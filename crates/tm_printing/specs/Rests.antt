@@ -1,10 +1,8 @@
--- What is left of a list or a map, as it is printed and as it is written as JSON.
+-- What is left of a list or a map, as it is printed.
 use Rattle.std.specs.Prelude.{◌≡◌, ℕ, ◌≤◌, ◌*◌, true, List, [], ◌∷◌, ◌++◌, Some, None, Ok, codes}
-use Rattle.serde_json.specs.Written.{items_text, members_text}
 use Rattle.tm_values.specs.Records.{RecordData}
 use Rattle.tm_values.specs.Val.{Val, undefined, none, boolean, number, text, list, map, keywords, exports, function, macro, loop, namespace}
 use Rattle.tm_values.specs.Val.{val_size, vals_of, pairs_of}
-use Rattle.tm_definitions.specs.Json.{json_within, items_of, members_of, namespace_data}
 use Rattle.tm_definitions.specs.Printed.{inner, inner_items, inner_pairs, namespace_text}
 use Rattle.tm_printing.specs.Left.{weight, power, rest_weight, IsLighter}
 use Rattle.tm_printing.specs.declared.rest.Rest.{Rest}

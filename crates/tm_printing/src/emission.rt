@@ -53,7 +53,7 @@ pub fn emit<R: Records, T: Target>(
     match escape {
         AutoEscape::None => print(alloc, value, records, target),
         AutoEscape::Html => write_html(alloc, value, records, target),
-        AutoEscape::Json => Ok(write_json(value, records, target)?),
+        AutoEscape::Json => write_json(alloc, value, records, target),
         AutoEscape::Custom(_) => Ok(target.take_text("")?),
     }
 }

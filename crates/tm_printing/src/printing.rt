@@ -133,26 +133,35 @@ fn take_next<'a>(rest: Rest<'a>) -> Next<'a>
 {
     match rest {
         Rest::Items(left, later, levels) => match left.split_first() {
-            Some((value, left)) => Next::Value(comma(later), Step {
-                value,
-                levels,
-                behind: Rest::Items(left, true, levels),
-            }),
+            Some((value, left)) => Next::Value(
+                comma(later),
+                Step {
+                    value,
+                    levels,
+                    behind: Rest::Items(left, true, levels),
+                },
+            ),
             None => Next::End("]"),
         },
         Rest::Pairs(left, later, levels) => match left.split_first() {
-            Some((pair, left)) => Next::Value(comma(later), Step {
-                value: &pair.0,
-                levels,
-                behind: Rest::Member(&pair.1, left, levels),
-            }),
+            Some((pair, left)) => Next::Value(
+                comma(later),
+                Step {
+                    value: &pair.0,
+                    levels,
+                    behind: Rest::Member(&pair.1, left, levels),
+                },
+            ),
             None => Next::End("}"),
         },
-        Rest::Member(value, left, levels) => Next::Value(": ", Step {
-            value,
-            levels,
-            behind: Rest::Pairs(left, true, levels),
-        }),
+        Rest::Member(value, left, levels) => Next::Value(
+            ": ",
+            Step {
+                value,
+                levels,
+                behind: Rest::Pairs(left, true, levels),
+            },
+        ),
     }
 }
 

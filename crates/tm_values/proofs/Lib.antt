@@ -1,4 +1,5 @@
 pub mod Lists
+pub mod Comparisons
 pub mod Sizes
 pub mod Plains
 pub mod Maps

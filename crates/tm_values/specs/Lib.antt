@@ -4,6 +4,7 @@ pub mod Name
 pub mod Val
 pub mod Plain
 pub mod Order
+pub mod Comparing
 pub mod Total
 pub mod Map
 pub mod Code

@@ -1,6 +1,7 @@
 //! The values of templates and the errors of every call.
 #![tactic(auto, using(crate::proofs::Lists::round_trips))]
 
+mod comparing;
 mod defined;
 mod dropping;
 mod error;
