@@ -1,7 +1,8 @@
 -- Whether a value can be printed or written as JSON, or the error of the first bad part from the
 -- left.
-use Rattle.std.specs.Prelude.{ℕ, zero, suc, Bool, true, false, cond, ◌==◌, ℤ, pos, negsuc, ◌^◌, nat_lt, length, Ok, Err, is_some}
+use Rattle.std.specs.Prelude.{ℕ, zero, suc, Bool, true, false, cond, ◌==◌, length, Ok, Err, is_some}
 use Rattle.tm_values.specs.Answer.{Answer, refused, invalid}
+use Rattle.tm_values.specs.Plain.{fits_json}
 use Rattle.tm_values.specs.Records.{RecordData, namespace_at, loop_at}
 use Rattle.tm_values.specs.Val.{Val, undefined, none, boolean, number, text, list, map, keywords, exports, function, macro, loop, namespace}
 use Rattle.tm_values.specs.Val.{Vals, no_vals, val, Pairs, no_pairs, pair}
@@ -32,11 +33,6 @@ in_json Json verdict = verdict
 
 abbrev pub no_json : Verdict
 no_json = refused BadSerialization
-
--- JSON has the numbers from -2^63 to 2^64 - 1
-abbrev pub fits_json : ℤ → Bool
-fits_json (pos n) = nat_lt n (2 ^ 64)
-fits_json (negsuc n) = nat_lt n (2 ^ 63)
 
 -- a loop is printed where its record is there, and has no JSON
 abbrev pub loop_verdict : Form → RecordData → ℕ → ℕ → Verdict

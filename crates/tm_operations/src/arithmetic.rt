@@ -17,7 +17,7 @@ pub fn add(alloc: Global, left: &Value, right: &Value) -> Result<Value, Error>
 {
     match &left.node {
         Node::Text(content, _) => add_text(alloc, content.as_str(), right),
-        Node::List(items) => add_list(alloc, items.as_slice(), right),
+        Node::List(items, _) => add_list(alloc, items.as_slice(), right),
         _ => match whole_operands(left, right) {
             Some((a, b)) => number_or_invalid(alloc, whole::add(a, b)),
             None => Err(not_numbers(alloc)),

@@ -14,8 +14,8 @@ pub fn is_true(value: &Value) -> bool
         Node::Boolean(truth) => *truth,
         Node::Number(whole) => *whole != 0,
         Node::Text(content, _) => !content.as_str().is_empty(),
-        Node::List(items) => !items.as_slice().is_empty(),
-        Node::Map(pairs) | Node::Keywords(pairs) | Node::Exports(pairs, _) => {
+        Node::List(items, _) => !items.as_slice().is_empty(),
+        Node::Map(pairs, _) | Node::Keywords(pairs, _) | Node::Exports(pairs, _) => {
             !pairs.as_slice().is_empty()
         }
         _ => true,

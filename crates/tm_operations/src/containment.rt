@@ -45,8 +45,8 @@ fn find_in<R: Records>(
             Some(part) => Ok(has_part(content.as_str(), part)),
             None => Err(not_a_pair(alloc)),
         },
-        Node::List(items) => Ok(items.as_slice().contains(item)),
-        Node::Map(_) | Node::Keywords(_) | Node::Exports(_, _) => {
+        Node::List(items, _) => Ok(items.as_slice().contains(item)),
+        Node::Map(_, _) | Node::Keywords(_, _) | Node::Exports(_, _) => {
             Ok(container.at_key(item).is_some())
         }
         Node::Namespace(state, index) => match find_namespace(records, *state, *index) {

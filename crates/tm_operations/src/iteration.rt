@@ -75,8 +75,8 @@ fn items_or<R: Records>(
         (items_or refusal (R.records records.now) value.now) }
 {
     match &value.node {
-        Node::List(items) => Ok(items.clone()?),
-        Node::Map(pairs) | Node::Keywords(pairs) | Node::Exports(pairs, _) => {
+        Node::List(items, _) => Ok(items.clone()?),
+        Node::Map(pairs, _) | Node::Keywords(pairs, _) | Node::Exports(pairs, _) => {
             keys(alloc, pairs.as_slice())
         }
         Node::Macro(_) => texts(alloc, &MACRO_NAMES),

@@ -49,7 +49,7 @@ fn split_keywords(arguments: &[Value]) -> (&[Value], &[(Value, Value)])
         return (arguments, &[]);
     };
     match &last.node {
-        Node::Keywords(pairs) => (before, pairs.as_slice()),
+        Node::Keywords(pairs, _) => (before, pairs.as_slice()),
         _ => (arguments, &[]),
     }
 }
@@ -68,7 +68,7 @@ fn base<'a, R: Records>(
     };
     match &value.node {
         Node::Undefined(_) | Node::None => Ok(&[]),
-        Node::Map(pairs) | Node::Exports(pairs, _) => Ok(pairs.as_slice()),
+        Node::Map(pairs, _) | Node::Exports(pairs, _) => Ok(pairs.as_slice()),
         Node::Namespace(state, index) => match find_namespace(records, *state, *index) {
             Some(map) => Ok(map.pairs()),
             None => Err(not_a_map(alloc)),

@@ -80,7 +80,7 @@ fn cut(
     ensures { IsAnswer result (cut value.now (record { start = start; stop = stop; step = step })) }
 {
     match &value.node {
-        Node::List(items) => cut_list(alloc, items.as_slice(), start, stop, step),
+        Node::List(items, _) => cut_list(alloc, items.as_slice(), start, stop, step),
         Node::Text(content, _) => {
             let picked = characters::slice(alloc, content.as_str(), start, stop, step)?;
             Ok(Value::shared_text(RcStr::from_string(picked)?, false))

@@ -25,3 +25,9 @@ abbrev pub PutHalts : Halt → List Capture → Option (List ℕ) → Option (Li
 PutHalts Writer captures told now = captures ≡ []
 PutHalts Stuck captures told now = ⊥
 PutHalts (Fault chain) captures told now = (chain ≡ OutOfMemory ∷ []) × (captures ≢ []) × (now ≡ told)
+
+-- Why a value was not emitted to its end: the writer failed, and no capture was open; or there was no memory.
+abbrev pub EmitHalts : Halt → List Capture → Type 0
+EmitHalts Writer captures = captures ≡ []
+EmitHalts Stuck captures = ⊥
+EmitHalts (Fault chain) captures = chain ≡ OutOfMemory ∷ []

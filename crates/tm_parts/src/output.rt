@@ -7,14 +7,14 @@ ghost use Rattle.tm_meaning.specs.Instructions.{is_heard};
 ghost use Rattle.tm_meaning.specs.Machine.{first_heard, new_capture, put_in, put_out};
 ghost use Rattle.tm_output.specs.Counts.{saturating_increment, AppendsBeginning};
 ghost use Rattle.tm_definitions.specs.Emitted.{emitted_text};
-ghost use Rattle.tm_parts.specs.Halts.{failures_after, PutHalts};
+ghost use Rattle.tm_parts.specs.Halts.{failures_after, EmitHalts, PutHalts};
 
 use crate::halt::Halt;
 use std::alloc::Global;
 use std::io;
 use std::marker::Model;
 use tm_output::{Sink, put_text, write_text};
-use tm_printing::emit;
+use tm_printing::{Unwritten, emit};
 use tm_syntax::CaptureMode;
 use tm_values::{AutoEscape, Error, ErrorKind, Records, Value};
 
@@ -144,8 +144,9 @@ impl Captures {
 impl Captures {
     /// Puts what is emitted for a value into the innermost capture, and writes it where none is
     /// open, piece by piece; what `check_emission` refuses is emitted in no form. `Writer` where
-    /// the writer fails or takes nothing, OutOfMemory where a capture finds no memory; then that
-    /// capture took a beginning of it, and the others stay as they were.
+    /// the writer fails or takes nothing, OutOfMemory where a capture or a list of what is left to
+    /// write finds no memory; then a beginning of it was put, and the other captures stay as they
+    /// were.
     pub fn emit<R: Records, W: Sink>(
         &mut self,
         writer: &mut W,
@@ -159,24 +160,25 @@ impl Captures {
             (put_out self.old (emitted_text escape (R.records records.now) value.now))) }
         ensures beginning { AppendsBeginning (W.written writer.old) (W.written writer.new)
             (put_out self.old (emitted_text escape (R.records records.now) value.now)) }
-        ensures halts { IfErr result (λ halt.
-            PutHalts halt self.old (W.written writer.old) (W.written writer.new)) }
+        ensures halts { IfErr result (λ halt. EmitHalts halt self.old) }
         ensures failures { W.failures writer.new ≡ failures_after result (W.failures writer.old) }
         ensures part { OnErr result ((n : ℕ) × (self.new ≡ put_in self.old
             (take n (emitted_text escape (R.records records.now) value.now)))) }
     {
+        let alloc = *self.open.allocator();
         let Some(mut innermost) = self.open.pop() else {
-            return match emit(value, escape, records, writer) {
+            return match emit(alloc, value, escape, records, writer) {
                 Ok(()) => Ok(()),
-                Err(_failed) => Err(Halt::Writer),
+                Err(Unwritten::Target) => Err(Halt::Writer),
+                Err(Unwritten::Memory) => Err(Halt::Fault(Error::from(ErrorKind::OutOfMemory))),
             };
         };
-        let appended = emit(value, escape, records, &mut innermost.text);
+        let appended = emit(alloc, value, escape, records, &mut innermost.text);
         // The pop left room for it.
         self.open.push_reserved(innermost);
         match appended {
             Ok(()) => Ok(()),
-            Err(_failed) => Err(Halt::Fault(Error::from(ErrorKind::OutOfMemory))),
+            Err(_) => Err(Halt::Fault(Error::from(ErrorKind::OutOfMemory))),
         }
     }
 }

@@ -36,7 +36,7 @@ impl Model for Stack {
 fn member_at_once(value: &Value, name: &str) -> Option<Value>
     ensures { IfSome result (λ v. Has value.now name.now v) }
 {
-    let Node::Map(_) = &value.node else {
+    let Node::Map(_, _) = &value.node else {
         return None;
     };
     value.member(name)?.share().ok()

@@ -1,6 +1,9 @@
+pub mod Begun
 pub mod Members
 pub mod Parts
+pub mod Plain
 pub mod Runs
 pub mod Spelled
+pub mod Steps
 pub mod Verdicts
 pub mod Weights

@@ -2,8 +2,10 @@
 ghost use Rattle.std.specs.Prelude.{◌≡◌, OnOk, nat_eq};
 ghost use Rattle.std.specs.HashSet.{contains};
 ghost use Rattle.tm_values.specs.Answer.{IsAnswer};
+ghost use Rattle.tm_values.specs.Plain.{fits_json};
 ghost use Rattle.tm_values.specs.Val.{vals_of, pairs_of};
-ghost use Rattle.tm_definitions.specs.Verdicts.{in_json, key_verdict, fits_json, if_holds, no_json, items_verdict, pair_verdict};
+ghost use Rattle.tm_printing.specs.Plain.{is_plain};
+ghost use Rattle.tm_definitions.specs.Verdicts.{in_json, key_verdict, if_holds, no_json, items_verdict, pair_verdict};
 ghost use Rattle.tm_definitions.specs.Verdicts.{pairs_verdict, namespace_verdict, loop_verdict, verdict_within, print_verdict, json_verdict};
 
 use std::alloc::Global;
@@ -63,18 +65,31 @@ fn check<R: Records>(
         (verdict_within form (R.records records.now) levels (contains nat_eq way.old) value.now) }
     ensures way { OnOk result (contains nat_eq way.new ≡ contains nat_eq way.old) }
 {
+    if is_plain(form, value) {
+        return Ok(());
+    }
     match &value.node {
         Node::Undefined(_) | Node::None | Node::Boolean(_) | Node::Text(_, _) => Ok(()),
         Node::Number(number) => check_number(form, *number),
-        Node::List(items) => check_items(form, items.as_slice(), records, levels, way),
-        Node::Map(pairs) => check_pairs(form, pairs.as_slice(), records, levels, way),
-        Node::Keywords(pairs) => check_pairs(form, pairs.as_slice(), records, levels, way),
+        Node::List(items, _) => check_items(form, items.as_slice(), records, levels, way),
+        Node::Map(pairs, _) => check_pairs(form, pairs.as_slice(), records, levels, way),
+        Node::Keywords(pairs, _) => check_pairs(form, pairs.as_slice(), records, levels, way),
         Node::Exports(pairs, _) => check_module(form, pairs.as_slice(), records, levels, way),
         Node::Function(_) | Node::Macro(_) => check_unwritable(form),
         Node::Loop(state, index) => check_loop(form, *state, *index, records),
         Node::Namespace(state, index) => check_namespace(
             form, *state, *index, records, levels, way,
         ),
+    }
+}
+
+// Whether nothing of it is refused, whatever the records are.
+fn is_plain(form: Form, value: &Value) -> bool
+    ensures { result ≡ is_plain form value.now }
+{
+    match form {
+        Form::Printed => value.plain().in_print,
+        Form::Json => value.plain().in_json,
     }
 }
 

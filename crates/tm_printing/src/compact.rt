@@ -1,38 +1,181 @@
 //! Values as `serde_json`'s compact text, written piece by piece.
-ghost use Rattle.serde_json.specs.Written.{compact_text, number_text, comma_if};
+ghost use Rattle.std.specs.Prelude.{◌≡◌, ◌∷◌, ◌++◌, [], MatchOption};
+ghost use Rattle.serde_json.specs.Written.{number_text, comma_if};
 ghost use Rattle.tm_output.specs.Targets.{Takes};
-ghost use Rattle.tm_values.specs.Val.{vals_of, pairs_of};
-ghost use Rattle.tm_definitions.specs.Json.{json_text, data_of, array_text, object_text, item_json, member_json, key_text, namespace_data};
-ghost use Rattle.tm_definitions.specs.Json.{number_data};
+ghost use Rattle.tm_values.specs.Val.{namespace};
+ghost use Rattle.tm_definitions.specs.Json.{json_text, key_text, number_data};
+ghost use Rattle.tm_printing.specs.Data.{IsNext, IsNextLighter, IsOpened, IsLeaf, leaf_json};
+ghost use Rattle.tm_printing.specs.Left.{Writes};
 
+use crate::rest::{Rest, Step, Unwritten};
+use crate::spelling::Json;
 use crate::text::write_json_text;
+use crate::walk::{Notation, write_parts};
+use std::alloc::Global;
 use tm_output::{Target, TargetFailed};
 use tm_values::{Node, Records, Value, find_namespace};
 
 /// Writes the value as `serde_json`'s compact text. Ask `check_json` first: what it refuses has no
-/// JSON. TargetFailed where the target fails.
+/// JSON. `Target` where the target fails, `Memory` where a list of what is left to write finds
+/// none.
 pub fn write_json<R: Records, T: Target>(
+    alloc: Global,
     value: &Value,
     records: &R,
     target: &mut T,
-) -> Result<(), TargetFailed>
-    ensures { Takes T.took T.stopped result target.old
+) -> Result<(), Unwritten>
+    ensures { Writes T.took T.stopped result target.old
         (json_text (R.records records.now) value.now) target.new }
 {
-    write_data::<R, T>(value, records, records.namespace_count(), target)
+    write_parts::<Json, R, T>(alloc, value, records, target)
 }
 
-// Namespaces are entered so many levels deep.
-#[cycle(compact)]
-fn write_data<R: Records, T: Target>(
-    value: &Value,
-    records: &R,
+impl Notation for Json {
+    ghost use Rattle.tm_definitions.specs.Json.{json_within};
+    ghost use Rattle.tm_printing.specs.Data.{json_rest};
+
+    ghost value_text = { json_within };
+
+    ghost rest_text = { json_rest };
+
+    fn begin<'a, R: Records, T: Target>(
+        value: &'a Value,
+        levels: usize,
+        records: &'a R,
+        target: &mut T,
+    ) -> Result<Option<Rest<'a>>, TargetFailed> {
+        match open(value, levels, records) {
+            Some((opening, rest)) => {
+                target.take_text(opening)?;
+                Ok(Some(rest))
+            }
+            None => {
+                write_leaf(value, target)?;
+                Ok(None)
+            }
+        }
+    }
+
+    fn advance<'a, T: Target>(
+        rest: Rest<'a>,
+        target: &mut T,
+    ) -> Result<Option<Step<'a>>, TargetFailed> {
+        match take_next(rest) {
+            Next::Value(before, step) => {
+                target.take_text(before)?;
+                Ok(Some(step))
+            }
+            Next::Keyed(before, key, step) => {
+                write_key(before, key, target)?;
+                Ok(Some(step))
+            }
+            Next::End(closing) => {
+                target.take_text(closing)?;
+                Ok(None)
+            }
+        }
+    }
+}
+
+/// What comes next of a list or a map.
+#[derive(Clone, Copy)]
+pub enum Next<'a> {
+    /// A text, and then a value.
+    Value(&'static str, Step<'a>),
+    /// A text, a key with its colon, and then a value.
+    Keyed(&'static str, &'a Value, Step<'a>),
+    /// The closing bracket.
+    End(&'static str),
+}
+
+// What comes next.
+fn take_next<'a>(rest: Rest<'a>) -> Next<'a>
+    ensures text { IsNext rest.entry result }
+    ensures weight { IsNextLighter rest.entry result }
+{
+    match rest {
+        Rest::Items(left, later, levels) => match left.split_first() {
+            Some((value, left)) => Next::Value(
+                comma(later),
+                Step {
+                    value,
+                    levels,
+                    behind: Rest::Items(left, true, levels),
+                },
+            ),
+            None => Next::End("]"),
+        },
+        Rest::Pairs(left, later, levels) => match left.split_first() {
+            Some((pair, left)) => Next::Keyed(
+                comma(later),
+                &pair.0,
+                Step {
+                    value: &pair.1,
+                    levels,
+                    behind: Rest::Pairs(left, true, levels),
+                },
+            ),
+            None => Next::End("}"),
+        },
+        Rest::Member(value, left, levels) => Next::Value(
+            ":",
+            Step {
+                value,
+                levels,
+                behind: Rest::Pairs(left, true, levels),
+            },
+        ),
+    }
+}
+
+fn comma(later: bool) -> &'static str
+    ensures { result.now ≡ comma_if later }
+{
+    if later { "," } else { "" }
+}
+
+// The bracket that opens an array or an object, and what is left behind it.
+fn open<'a, R: Records>(
+    value: &'a Value,
     levels: usize,
-    target: &mut T,
-) -> Result<(), TargetFailed>
-    ensures { Takes T.took T.stopped result target.old
-        (compact_text (data_of (namespace_data (R.records records.now) levels)
-        value.now)) target.new }
+    records: &'a R,
+) -> Option<(&'static str, Rest<'a>)>
+    ensures { MatchOption result (IsLeaf (R.records records.now) levels value.now)
+        (λ opened. IsOpened (R.records records.now) levels value.now opened.0.now opened.1) }
+{
+    match &value.node {
+        Node::List(items, _) => Some(("[", Rest::Items(items.as_slice(), false, levels))),
+        Node::Map(pairs, _) | Node::Keywords(pairs, _) | Node::Exports(pairs, _) => {
+            Some(("{", Rest::Pairs(pairs.as_slice(), false, levels)))
+        }
+        Node::Namespace(state, index) => open_namespace(*state, *index, levels, records),
+        _ => None,
+    }
+}
+
+fn open_namespace<'a, R: Records>(
+    state: u64,
+    index: usize,
+    levels: usize,
+    records: &'a R,
+) -> Option<(&'static str, Rest<'a>)>
+    ensures { MatchOption result (IsLeaf (R.records records.now) levels (namespace state index))
+        (λ opened. IsOpened (R.records records.now) levels (namespace state index)
+        opened.0.now opened.1) }
+{
+    let Some(inside) = levels.checked_sub(1) else {
+        return None;
+    };
+    match find_namespace(records, state, index) {
+        Some(entries) => Some(("{", Rest::Pairs(entries.pairs(), false, inside))),
+        None => None,
+    }
+}
+
+// A value without parts. What has parts is opened; what has no JSON, and a namespace that isn't
+// there, stands as null.
+fn write_leaf<T: Target>(value: &Value, target: &mut T) -> Result<(), TargetFailed>
+    ensures { Takes T.took T.stopped result target.old (leaf_json value.now) target.new }
 {
     match &value.node {
         Node::Undefined(_) | Node::None => target.take_text("null"),
@@ -40,112 +183,26 @@ fn write_data<R: Records, T: Target>(
         Node::Boolean(true) => target.take_text("true"),
         Node::Number(number) => write_json_number(*number, target),
         Node::Text(content, _) => write_json_text(content.as_str(), target),
-        Node::List(items) => write_array::<R, T>(items.as_slice(), records, levels, target),
-        Node::Map(pairs) => write_object::<R, T>(pairs.as_slice(), records, levels, target),
-        Node::Keywords(pairs) => write_object::<R, T>(pairs.as_slice(), records, levels, target),
-        Node::Exports(pairs, _) => write_object::<R, T>(pairs.as_slice(), records, levels, target),
-        Node::Namespace(state, index) => {
-            write_namespace::<R, T>(*state, *index, records, levels, target)
+        Node::List(_, _) | Node::Map(_, _) | Node::Keywords(_, _) | Node::Exports(_, _) => {
+            target.take_text("")
         }
-        Node::Function(_) | Node::Macro(_) | Node::Loop(_, _) => target.take_text("null"),
+        Node::Function(_) | Node::Macro(_) | Node::Loop(_, _) | Node::Namespace(_, _) => {
+            target.take_text("null")
+        }
     }
 }
 
-#[cycle(compact)]
-fn write_array<R: Records, T: Target>(
-    items: &[Value],
-    records: &R,
-    levels: usize,
-    target: &mut T,
-) -> Result<(), TargetFailed>
+// A key, with what stands before it and its colon.
+fn write_key<T: Target>(before: &str, key: &Value, target: &mut T) -> Result<(), TargetFailed>
     ensures { Takes T.took T.stopped result target.old
-        (array_text (namespace_data (R.records records.now) levels)
-        (vals_of items.now)) target.new }
+        (before.now ++ (key_text key.now ++ 58 ∷ [])) target.new }
 {
-    target.take_text("[")?;
-    for (i, item) in items.iter().enumerate() {
-        write_item::<R, T>(i > 0, item, records, levels, target)?;
-    }
-    target.take_text("]")
+    target.take_text(before)?;
+    write_key_text(key, target)?;
+    target.take_text(":")
 }
 
-#[cycle(compact)]
-fn write_item<R: Records, T: Target>(
-    later: bool,
-    item: &Value,
-    records: &R,
-    levels: usize,
-    target: &mut T,
-) -> Result<(), TargetFailed>
-    ensures { Takes T.took T.stopped result target.old
-        (item_json (namespace_data (R.records records.now) levels) later item.now) target.new }
-{
-    write_comma(later, target)?;
-    write_data::<R, T>(item, records, levels, target)
-}
-
-#[cycle(compact)]
-fn write_object<R: Records, T: Target>(
-    pairs: &[(Value, Value)],
-    records: &R,
-    levels: usize,
-    target: &mut T,
-) -> Result<(), TargetFailed>
-    ensures { Takes T.took T.stopped result target.old
-        (object_text (namespace_data (R.records records.now) levels)
-        (pairs_of pairs.now)) target.new }
-{
-    target.take_text("{")?;
-    for (i, pair) in pairs.iter().enumerate() {
-        write_member::<R, T>(i > 0, pair, records, levels, target)?;
-    }
-    target.take_text("}")
-}
-
-#[cycle(compact)]
-fn write_member<R: Records, T: Target>(
-    later: bool,
-    pair: &(Value, Value),
-    records: &R,
-    levels: usize,
-    target: &mut T,
-) -> Result<(), TargetFailed>
-    ensures { Takes T.took T.stopped result target.old
-        (member_json (namespace_data (R.records records.now) levels) later pair.now) target.new }
-{
-    write_comma(later, target)?;
-    write_key(&pair.0, target)?;
-    target.take_text(":")?;
-    write_data::<R, T>(&pair.1, records, levels, target)
-}
-
-#[cycle(compact)]
-fn write_namespace<R: Records, T: Target>(
-    state: u64,
-    index: usize,
-    records: &R,
-    levels: usize,
-    target: &mut T,
-) -> Result<(), TargetFailed>
-    ensures { Takes T.took T.stopped result target.old
-        (compact_text (namespace_data (R.records records.now) levels state index)) target.new }
-{
-    let Some(inside) = levels.checked_sub(1) else {
-        return target.take_text("null");
-    };
-    match find_namespace(records, state, index) {
-        Some(entries) => write_object::<R, T>(entries.pairs(), records, inside, target),
-        None => target.take_text("null"),
-    }
-}
-
-fn write_comma<T: Target>(later: bool, target: &mut T) -> Result<(), TargetFailed>
-    ensures { Takes T.took T.stopped result target.old (comma_if later) target.new }
-{
-    target.take_text(if later { "," } else { "" })
-}
-
-fn write_key<T: Target>(key: &Value, target: &mut T) -> Result<(), TargetFailed>
+fn write_key_text<T: Target>(key: &Value, target: &mut T) -> Result<(), TargetFailed>
     ensures { Takes T.took T.stopped result target.old (key_text key.now) target.new }
 {
     match key.as_str() {

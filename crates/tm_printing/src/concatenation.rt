@@ -41,19 +41,24 @@ fn join<R: Records>(alloc: Global, left: &Value, right: &Value, records: &R) -> 
         return Err(error);
     }
     let mut text = String::new(alloc);
-    print_behind(left, records, &mut text)?;
-    print_behind(right, records, &mut text)?;
+    print_behind(alloc, left, records, &mut text)?;
+    print_behind(alloc, right, records, &mut text)?;
     Ok(Value::shared_text(RcStr::from_string(text)?, false))
 }
 
 // Appends the printed text.
-fn print_behind<R: Records>(value: &Value, records: &R, text: &mut String) -> Result<(), Error>
+fn print_behind<R: Records>(
+    alloc: Global,
+    value: &Value,
+    records: &R,
+    text: &mut String,
+) -> Result<(), Error>
     ensures { MatchResult result
         (λ _. string_bytes text.new ≡
         string_bytes text.old ++ printed (R.records records.now) value.now)
         (λ e. e ≡ ErrorKind.OutOfMemory ∷ []) }
 {
-    match print(value, records, text) {
+    match print(alloc, value, records, text) {
         Ok(()) => Ok(()),
         Err(_) => Err(Error::from(ErrorKind::OutOfMemory)),
     }

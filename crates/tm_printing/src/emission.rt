@@ -5,11 +5,13 @@ ghost use Rattle.tm_values.specs.Val.{number};
 ghost use Rattle.tm_printing.specs.Emits.{Emits};
 ghost use Rattle.tm_output.specs.Targets.{Takes};
 ghost use Rattle.tm_values.specs.Answer.{IsAnswer};
+ghost use Rattle.tm_printing.specs.Left.{Writes};
 ghost use Rattle.tm_definitions.specs.Emitted.{emission_verdict, emitted_text, map_ok, text_answer};
 
 use crate::check::{check_json, check_print};
 use crate::compact::write_json;
 use crate::printing::{print, write_html};
+use crate::rest::Unwritten;
 use crate::spelling::Html;
 use crate::text::{write_number, write_spelled};
 use std::alloc::Global;
@@ -39,24 +41,26 @@ pub fn check_emission<R: Records>(
 
 /// Writes what is emitted for the value under the escape: a safe text as it is, and else what is
 /// printed, what is printed escaped for HTML, or JSON. Ask `check_emission` first: what is written
-/// of a value that it refuses stands for nothing. TargetFailed where the target fails.
+/// of a value that it refuses stands for nothing. `Target` where the target fails, `Memory` where a
+/// list of what is left to write finds none.
 pub fn emit<R: Records, T: Target>(
+    alloc: Global,
     value: &Value,
     escape: AutoEscape,
     records: &R,
     target: &mut T,
-) -> Result<(), TargetFailed>
-    ensures { Takes T.took T.stopped result target.old
+) -> Result<(), Unwritten>
+    ensures { Writes T.took T.stopped result target.old
         (emitted_text escape (R.records records.now) value.now) target.new }
 {
     if let Node::Text(content, true) = &value.node {
-        return target.take_text(content.as_str());
+        return Ok(target.take_text(content.as_str())?);
     }
     match escape {
-        AutoEscape::None => print(value, records, target),
-        AutoEscape::Html => write_html(value, records, target),
-        AutoEscape::Json => write_json(value, records, target),
-        AutoEscape::Custom(_) => target.take_text(""),
+        AutoEscape::None => print(alloc, value, records, target),
+        AutoEscape::Html => write_html(alloc, value, records, target),
+        AutoEscape::Json => write_json(alloc, value, records, target),
+        AutoEscape::Custom(_) => Ok(target.take_text("")?),
     }
 }
 
@@ -111,8 +115,8 @@ pub fn to_text<R: Records>(alloc: Global, value: &Value, records: &R) -> Result<
 {
     check_print(alloc, value, records)?;
     let mut text = String::new(alloc);
-    match print(value, records, &mut text) {
+    match print(alloc, value, records, &mut text) {
         Ok(()) => Ok(text),
-        Err(TargetFailed) => Err(Error::from(ErrorKind::OutOfMemory)),
+        Err(_) => Err(Error::from(ErrorKind::OutOfMemory)),
     }
 }

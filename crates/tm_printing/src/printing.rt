@@ -1,55 +1,62 @@
 //! Values as text, written piece by piece.
 ghost use Rattle.std.specs.Prelude.{◌≡◌, Some, None, MatchOption, flat_map, decimal};
 ghost use Rattle.tm_output.specs.Targets.{Takes};
-ghost use Rattle.tm_values.specs.Val.{vals_of, pairs_of};
+ghost use Rattle.tm_values.specs.Val.{namespace};
 ghost use Rattle.tm_definitions.specs.Emitted.{html_text};
 ghost use Rattle.tm_definitions.specs.Loops.{loop_text, position_text, progress_text};
-ghost use Rattle.tm_definitions.specs.Printed.{printed, bare_text, inner, item_text, pair_text, comma_after, list_text, map_text};
-ghost use Rattle.tm_definitions.specs.Printed.{namespace_text, macro_text};
+ghost use Rattle.tm_definitions.specs.Printed.{printed, bare_text, inner, comma_after, namespace_text, macro_text};
+ghost use Rattle.tm_printing.specs.Left.{Writes};
+ghost use Rattle.tm_printing.specs.Rests.{IsNext, IsNextLighter, IsOpened, IsLeaf, leaf_text};
 
+use crate::rest::{Rest, Step, Unwritten};
 use crate::spelling::{Escape, Html, Verbatim};
 use crate::text::{write_number, write_quoted, write_spelled};
+use crate::walk::{Notation, write_parts};
+use std::alloc::Global;
 use tm_output::{Target, TargetFailed};
 use tm_values::{LoopPosition, Macro, Node, Records, Value, find_loop, find_namespace};
 
 /// Writes what the value is printed as. Ask `check_print` first: what it refuses has no text of its
-/// own. TargetFailed where the target fails.
+/// own. `Target` where the target fails, `Memory` where a list of what is left to write finds none.
 pub fn print<R: Records, T: Target>(
+    alloc: Global,
     value: &Value,
     records: &R,
     target: &mut T,
-) -> Result<(), TargetFailed>
-    ensures { Takes T.took T.stopped result target.old
+) -> Result<(), Unwritten>
+    ensures { Writes T.took T.stopped result target.old
         (printed (R.records records.now) value.now) target.new }
 {
-    write_value::<Verbatim, R, T>(value, records, target)
+    write_value::<Verbatim, R, T>(alloc, value, records, target)
 }
 
 /// Writes what the value is printed as, escaped for HTML as a whole. Ask `check_print` first.
-/// TargetFailed where the target fails.
+/// `Target` where the target fails, `Memory` where a list of what is left to write finds none.
 pub fn write_html<R: Records, T: Target>(
+    alloc: Global,
     value: &Value,
     records: &R,
     target: &mut T,
-) -> Result<(), TargetFailed>
-    ensures { Takes T.took T.stopped result target.old
+) -> Result<(), Unwritten>
+    ensures { Writes T.took T.stopped result target.old
         (html_text (R.records records.now) value.now) target.new }
 {
-    write_value::<Html, R, T>(value, records, target)
+    write_value::<Html, R, T>(alloc, value, records, target)
 }
 
 // The value as it stands by itself.
 fn write_value<E: Escape, R: Records, T: Target>(
+    alloc: Global,
     value: &Value,
     records: &R,
     target: &mut T,
-) -> Result<(), TargetFailed>
-    ensures { Takes T.took T.stopped result target.old
+) -> Result<(), Unwritten>
+    ensures { Writes T.took T.stopped result target.old
         (flat_map E.spelled (printed (R.records records.now) value.now)) target.new }
 {
     match bare_text(value) {
-        Some(text) => write_spelled::<E, T>(text, target),
-        None => write_inner::<E, R, T>(value, records, records.namespace_count(), target),
+        Some(text) => Ok(write_spelled::<E, T>(text, target)?),
+        None => write_parts::<E, R, T>(alloc, value, records, target),
     }
 }
 
@@ -65,17 +72,151 @@ fn bare_text(value: &Value) -> Option<&str>
     }
 }
 
-// The value as it stands within a list or a map. Namespaces are entered so many levels deep.
-#[cycle(writing)]
-fn write_inner<E: Escape, R: Records, T: Target>(
+// As a value stands within a list or a map.
+impl<E: Escape> Notation for E {
+    ghost use Rattle.std.specs.Prelude.{flat_map};
+    ghost use Rattle.tm_definitions.specs.Printed.{inner, namespace_text};
+    ghost use Rattle.tm_printing.specs.Rests.{printed_rest};
+
+    ghost value_text = { λ r levels v. flat_map E.spelled (inner r (namespace_text r levels) v) };
+
+    ghost rest_text = { λ r rest. flat_map E.spelled (printed_rest r rest) };
+
+    fn begin<'a, R: Records, T: Target>(
+        value: &'a Value,
+        levels: usize,
+        records: &'a R,
+        target: &mut T,
+    ) -> Result<Option<Rest<'a>>, TargetFailed> {
+        match open(value, levels, records) {
+            Some((opening, rest)) => {
+                write_spelled::<E, T>(opening, target)?;
+                Ok(Some(rest))
+            }
+            None => {
+                write_leaf::<E, R, T>(value, records, target)?;
+                Ok(None)
+            }
+        }
+    }
+
+    fn advance<'a, T: Target>(
+        rest: Rest<'a>,
+        target: &mut T,
+    ) -> Result<Option<Step<'a>>, TargetFailed> {
+        match take_next(rest) {
+            Next::Value(before, step) => {
+                write_spelled::<E, T>(before, target)?;
+                Ok(Some(step))
+            }
+            Next::End(closing) => {
+                write_spelled::<E, T>(closing, target)?;
+                Ok(None)
+            }
+        }
+    }
+}
+
+/// What comes next of a list or a map.
+#[derive(Clone, Copy)]
+pub enum Next<'a> {
+    /// A text, and then a value.
+    Value(&'static str, Step<'a>),
+    /// The closing bracket.
+    End(&'static str),
+}
+
+// What comes next.
+fn take_next<'a>(rest: Rest<'a>) -> Next<'a>
+    ensures text { IsNext rest.entry result }
+    ensures weight { IsNextLighter rest.entry result }
+{
+    match rest {
+        Rest::Items(left, later, levels) => match left.split_first() {
+            Some((value, left)) => Next::Value(
+                comma(later),
+                Step {
+                    value,
+                    levels,
+                    behind: Rest::Items(left, true, levels),
+                },
+            ),
+            None => Next::End("]"),
+        },
+        Rest::Pairs(left, later, levels) => match left.split_first() {
+            Some((pair, left)) => Next::Value(
+                comma(later),
+                Step {
+                    value: &pair.0,
+                    levels,
+                    behind: Rest::Member(&pair.1, left, levels),
+                },
+            ),
+            None => Next::End("}"),
+        },
+        Rest::Member(value, left, levels) => Next::Value(
+            ": ",
+            Step {
+                value,
+                levels,
+                behind: Rest::Pairs(left, true, levels),
+            },
+        ),
+    }
+}
+
+fn comma(later: bool) -> &'static str
+    ensures { result.now ≡ comma_after later }
+{
+    if later { ", " } else { "" }
+}
+
+// The bracket that opens a list, a map or a namespace that is there, and what is left behind it.
+fn open<'a, R: Records>(
+    value: &'a Value,
+    levels: usize,
+    records: &'a R,
+) -> Option<(&'static str, Rest<'a>)>
+    ensures { MatchOption result (IsLeaf (R.records records.now) levels value.now)
+        (λ opened. IsOpened (R.records records.now) levels value.now opened.0.now opened.1) }
+{
+    match &value.node {
+        Node::List(items, _) => Some(("[", Rest::Items(items.as_slice(), false, levels))),
+        Node::Map(pairs, _) | Node::Keywords(pairs, _) => {
+            Some(("{", Rest::Pairs(pairs.as_slice(), false, levels)))
+        }
+        Node::Namespace(state, index) => open_namespace(*state, *index, levels, records),
+        _ => None,
+    }
+}
+
+fn open_namespace<'a, R: Records>(
+    state: u64,
+    index: usize,
+    levels: usize,
+    records: &'a R,
+) -> Option<(&'static str, Rest<'a>)>
+    ensures { MatchOption result (IsLeaf (R.records records.now) levels (namespace state index))
+        (λ opened. IsOpened (R.records records.now) levels (namespace state index)
+        opened.0.now opened.1) }
+{
+    let Some(inside) = levels.checked_sub(1) else {
+        return None;
+    };
+    match find_namespace(records, state, index) {
+        Some(entries) => Some(("{", Rest::Pairs(entries.pairs(), false, inside))),
+        None => None,
+    }
+}
+
+// A value without parts. What has parts is opened, and a namespace that isn't there has no text.
+fn write_leaf<E: Escape, R: Records, T: Target>(
     value: &Value,
     records: &R,
-    levels: usize,
     target: &mut T,
 ) -> Result<(), TargetFailed>
-    ensures { Takes T.took T.stopped result target.old (flat_map E.spelled
-        (inner (R.records records.now) (namespace_text (R.records records.now) levels)
-        value.now)) target.new }
+    ensures { Takes T.took T.stopped result target.old
+        (flat_map E.spelled (leaf_text (R.records records.now) value.now)) target.new }
 {
     match &value.node {
         Node::Undefined(_) => write_spelled::<E, T>("undefined", target),
@@ -84,117 +225,13 @@ fn write_inner<E: Escape, R: Records, T: Target>(
         Node::Boolean(true) => write_spelled::<E, T>("true", target),
         Node::Number(number) => write_number::<E, T>(*number, target),
         Node::Text(content, _) => write_quoted::<E, T>(content.as_str(), target),
-        Node::List(items) => write_list::<E, R, T>(items.as_slice(), records, levels, target),
-        Node::Map(pairs) => write_map::<E, R, T>(pairs.as_slice(), records, levels, target),
-        Node::Keywords(pairs) => write_map::<E, R, T>(pairs.as_slice(), records, levels, target),
         Node::Exports(_, content) => write_spelled::<E, T>(content.as_str(), target),
         Node::Function(_) => write_spelled::<E, T>("<function>", target),
         Node::Macro(declared) => write_macro::<E, T>(declared, target),
         Node::Loop(state, index) => write_loop::<E, R, T>(*state, *index, records, target),
-        Node::Namespace(state, index) => {
-            write_namespace::<E, R, T>(*state, *index, records, levels, target)
+        Node::List(_, _) | Node::Map(_, _) | Node::Keywords(_, _) | Node::Namespace(_, _) => {
+            write_spelled::<E, T>("", target)
         }
-    }
-}
-
-#[cycle(writing)]
-fn write_list<E: Escape, R: Records, T: Target>(
-    items: &[Value],
-    records: &R,
-    levels: usize,
-    target: &mut T,
-) -> Result<(), TargetFailed>
-    ensures { Takes T.took T.stopped result target.old (flat_map E.spelled
-        (list_text (R.records records.now) (namespace_text (R.records records.now) levels)
-        (vals_of items.now))) target.new }
-{
-    write_spelled::<E, T>("[", target)?;
-    for (i, item) in items.iter().enumerate() {
-        write_item::<E, R, T>(i > 0, item, records, levels, target)?;
-    }
-    write_spelled::<E, T>("]", target)
-}
-
-#[cycle(writing)]
-fn write_item<E: Escape, R: Records, T: Target>(
-    later: bool,
-    item: &Value,
-    records: &R,
-    levels: usize,
-    target: &mut T,
-) -> Result<(), TargetFailed>
-    ensures { Takes T.took T.stopped result target.old (flat_map E.spelled
-        (item_text (R.records records.now) (namespace_text (R.records records.now) levels)
-        later item.now)) target.new }
-{
-    write_comma::<E, T>(later, target)?;
-    write_inner::<E, R, T>(item, records, levels, target)
-}
-
-#[cycle(writing)]
-fn write_map<E: Escape, R: Records, T: Target>(
-    pairs: &[(Value, Value)],
-    records: &R,
-    levels: usize,
-    target: &mut T,
-) -> Result<(), TargetFailed>
-    ensures { Takes T.took T.stopped result target.old (flat_map E.spelled
-        (map_text (R.records records.now) (namespace_text (R.records records.now) levels)
-        (pairs_of pairs.now))) target.new }
-{
-    write_spelled::<E, T>("{", target)?;
-    for (i, pair) in pairs.iter().enumerate() {
-        write_pair::<E, R, T>(i > 0, pair, records, levels, target)?;
-    }
-    write_spelled::<E, T>("}", target)
-}
-
-#[cycle(writing)]
-fn write_pair<E: Escape, R: Records, T: Target>(
-    later: bool,
-    pair: &(Value, Value),
-    records: &R,
-    levels: usize,
-    target: &mut T,
-) -> Result<(), TargetFailed>
-    ensures { Takes T.took T.stopped result target.old (flat_map E.spelled
-        (pair_text (R.records records.now) (namespace_text (R.records records.now) levels)
-        later pair.now)) target.new }
-{
-    write_comma::<E, T>(later, target)?;
-    write_inner::<E, R, T>(&pair.0, records, levels, target)?;
-    write_spelled::<E, T>(": ", target)?;
-    write_inner::<E, R, T>(&pair.1, records, levels, target)
-}
-
-#[cycle(writing)]
-fn write_namespace<E: Escape, R: Records, T: Target>(
-    state: u64,
-    index: usize,
-    records: &R,
-    levels: usize,
-    target: &mut T,
-) -> Result<(), TargetFailed>
-    ensures { Takes T.took T.stopped result target.old (flat_map E.spelled
-        (namespace_text (R.records records.now) levels state index)) target.new }
-{
-    let Some(inside) = levels.checked_sub(1) else {
-        return Ok(());
-    };
-    match find_namespace(records, state, index) {
-        Some(entries) => write_map::<E, R, T>(entries.pairs(), records, inside, target),
-        None => Ok(()),
-    }
-}
-
-fn write_comma<E: Escape, T: Target>(later: bool, target: &mut T) -> Result<(), TargetFailed>
-    ensures { Takes T.took T.stopped result target.old
-        (flat_map E.spelled (comma_after later)) target.new }
-{
-    if later {
-        write_spelled::<E, T>(", ", target)
-    } else {
-        Ok(())
     }
 }
 

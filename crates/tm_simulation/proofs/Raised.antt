@@ -33,7 +33,8 @@ use Rattle.tm_definitions.specs.Printed.{entered}
 use Rattle.tm_definitions.specs.Ranges.{range_of, given, at_most_arguments, required_in, later_in, or_invalid, some_of, bound_in, served}
 use Rattle.tm_definitions.specs.Ranges.{span_of}
 use Rattle.tm_definitions.specs.Ranges.{is_served}
-use Rattle.tm_definitions.specs.Verdicts.{Verdict, and_then, if_holds, in_json, no_json, fits_json, loop_verdict, key_verdict}
+use Rattle.tm_values.specs.Plain.{fits_json}
+use Rattle.tm_definitions.specs.Verdicts.{Verdict, and_then, if_holds, in_json, no_json, loop_verdict, key_verdict}
 use Rattle.tm_definitions.specs.Verdicts.{NamespaceVerdicts}
 use Rattle.tm_definitions.specs.Verdicts.{verdict, items_verdict, pairs_verdict, Way, through, namespace_verdict, print_verdict, nowhere}
 use Rattle.tm_definitions.specs.Slices.{sliced, cut, cut_by, parts_in, Parts}

@@ -2,7 +2,9 @@ pub mod Chain
 pub mod Cause
 pub mod Name
 pub mod Val
+pub mod Plain
 pub mod Order
+pub mod Comparing
 pub mod Total
 pub mod Map
 pub mod Code

@@ -106,7 +106,7 @@ impl Value {
     fn may_hold(&self) -> bool {
         matches!(
             &self.node,
-            Node::List(_) | Node::Map(_) | Node::Keywords(_) | Node::Exports(_, _)
+            Node::List(_, _) | Node::Map(_, _) | Node::Keywords(_, _) | Node::Exports(_, _)
         )
     }
 }

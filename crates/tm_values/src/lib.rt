@@ -1,6 +1,7 @@
 //! The values of templates and the errors of every call.
 #![tactic(auto, using(crate::proofs::Lists::round_trips))]
 
+mod comparing;
 mod defined;
 mod dropping;
 mod error;
@@ -8,6 +9,7 @@ mod escape;
 mod macros;
 mod map;
 mod order;
+mod plain;
 mod records;
 mod sharing;
 mod undefined;
@@ -19,6 +21,7 @@ pub use escape::AutoEscape;
 pub use macros::Macro;
 pub use map::{ValueMap, put_law};
 pub use order::{order_law, same_items};
+pub use plain::Plain;
 pub use records::{LoopPosition, NoRecords, Records, find_loop, find_namespace};
 pub use sharing::share_all;
 pub use undefined::{UndefinedBehavior, UndefinedUse};

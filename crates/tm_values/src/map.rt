@@ -7,6 +7,7 @@ ghost use Rattle.tm_values.specs.Order.{val_cmp};
 ghost use Rattle.tm_values.specs.Val.{Val, text, map, keywords, exports, pairs_of, entries_in};
 
 use crate::error::{Error, ErrorKind};
+use crate::plain::pairs_plain;
 use crate::value::{Node, Value};
 use std::alloc::Global;
 use std::cmp::Ordering;
@@ -115,8 +116,9 @@ impl Value {
         ensures { OkOrOutOfMemory result (λ v. v ≡ map (pairs_of entries)) }
     {
         let ValueMap { pairs } = entries;
+        let plain = pairs_plain(&pairs);
         Ok(Value {
-            node: Node::Map(Rc::new(alloc, pairs)?),
+            node: Node::Map(Rc::new(alloc, pairs)?, plain),
         })
     }
 
@@ -125,8 +127,9 @@ impl Value {
         ensures { OkOrOutOfMemory result (λ v. v ≡ keywords (pairs_of entries)) }
     {
         let ValueMap { pairs } = entries;
+        let plain = pairs_plain(&pairs);
         Ok(Value {
-            node: Node::Keywords(Rc::new(alloc, pairs)?),
+            node: Node::Keywords(Rc::new(alloc, pairs)?, plain),
         })
     }
 

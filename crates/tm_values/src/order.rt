@@ -5,18 +5,35 @@ ghost use Rattle.tm_values.specs.Order.{val_cmp, vals_cmp, pairs_cmp, macro_agai
 ghost use Rattle.std.specs.Ordering.{eq_by_cmp, is_eq};
 ghost use Rattle.tm_values.specs.Val.{Val, text, list, boolean, number, whole_of, vals_of, pairs_of};
 
+use crate::comparing::compare_by_list;
 use crate::macros::Macro;
 use crate::value::{Node, Value};
 use std::cmp::Ordering;
+
+// So many levels of lists and maps are compared by recursion.
+const NATIVE_LEVELS: usize = 200;
 
 impl Value {
     /// Where this value stands to the other: by kind, then by content. The kinds ascend: undefined,
     /// none, numbers (truth values among them, as 0 and 1), texts, lists, maps, keyword maps,
     /// modules, functions, macros, loops, namespaces.
-    #[cycle(compare)]
     pub fn compare(&self, other: &Value) -> Ordering
         ensures { result ≡ val_cmp self.now other.now }
     {
+        self.compare_within(other, NATIVE_LEVELS)
+    }
+
+    // The same. What lies so many levels deep is compared by a list, where there is memory for it.
+    #[cycle(compare)]
+    fn compare_within(&self, other: &Value, levels: usize) -> Ordering
+        ensures { result ≡ val_cmp self.now other.now }
+    {
+        if levels == 0 {
+            if let Some(order) = compare_by_list(self, other) {
+                return order;
+            }
+        }
+        let levels = levels.saturating_sub(1);
         let kinds = self.rank().cmp(&other.rank());
         if kinds != Ordering::Equal {
             return kinds;
@@ -25,14 +42,17 @@ impl Value {
             Node::Undefined(_) | Node::None => Ordering::Equal,
             Node::Boolean(_) | Node::Number(_) => self.whole_or_zero().cmp(&other.whole_or_zero()),
             Node::Text(content, _) => content.as_str().cmp(other.text_or_empty()),
-            Node::List(items) => compare_items(items.as_slice(), other.items()),
-            Node::Map(pairs) | Node::Keywords(pairs) => compare_pairs(
+            Node::List(items, _) => compare_items(items.as_slice(), other.items(), levels),
+            Node::Map(pairs, _) | Node::Keywords(pairs, _) => compare_pairs(
                 pairs.as_slice(),
                 other.pairs(),
+                levels,
             ),
-            Node::Exports(pairs, content) => compare_pairs(pairs.as_slice(), other.pairs()).then(
-                content.as_str().cmp(other.text_or_empty()),
-            ),
+            Node::Exports(pairs, content) => {
+                compare_pairs(pairs.as_slice(), other.pairs(), levels).then(
+                    content.as_str().cmp(other.text_or_empty()),
+                )
+            }
             Node::Function(index) => index.cmp(&other.function_or_zero()),
             Node::Macro(declared) => compare_macro(declared, other),
             Node::Loop(_, _) | Node::Namespace(_, _) => self.compare_record(other),
@@ -50,7 +70,7 @@ impl Value {
     }
 
     // Where this loop or namespace stands to another one.
-    fn compare_record(&self, other: &Value) -> Ordering
+    pub(crate) fn compare_record(&self, other: &Value) -> Ordering
         ensures { result ≡ record_cmp self.now other.now }
     {
         let (state, index) = self.record();
@@ -69,7 +89,7 @@ impl Value {
     }
 
     // A function's number.
-    fn function_or_zero(&self) -> usize
+    pub(crate) fn function_or_zero(&self) -> usize
         ensures { result ≡ function_in self.now }
     {
         match &self.node {
@@ -80,7 +100,7 @@ impl Value {
 }
 
 // Where a macro stands to a value, which is one too.
-fn compare_macro(left: &Macro, right: &Value) -> Ordering
+pub(crate) fn compare_macro(left: &Macro, right: &Value) -> Ordering
     ensures { result ≡ macro_against left.now right.now }
 {
     match &right.node {
@@ -93,18 +113,18 @@ fn compare_macro(left: &Macro, right: &Value) -> Ordering
 pub fn same_items(left: &[Value], right: &[Value]) -> bool
     ensures { result ≡ is_eq (val_cmp (list (vals_of left.now)) (list (vals_of right.now))) }
 {
-    compare_items(left, right) == Ordering::Equal
+    compare_items(left, right, NATIVE_LEVELS) == Ordering::Equal
 }
 
 #[cycle(compare)]
-fn compare_items(left: &[Value], right: &[Value]) -> Ordering
+fn compare_items(left: &[Value], right: &[Value], levels: usize) -> Ordering
     ensures { result ≡ vals_cmp (vals_of left.now) (vals_of right.now) }
 {
     for (i, item) in left.iter().enumerate() {
         if i >= right.len() {
             return Ordering::Greater;
         }
-        let items = item.compare(&right[i]);
+        let items = item.compare_within(&right[i], levels);
         if items != Ordering::Equal {
             return items;
         }
@@ -117,7 +137,7 @@ fn compare_items(left: &[Value], right: &[Value]) -> Ordering
 }
 
 #[cycle(compare)]
-fn compare_pairs(left: &[(Value, Value)], right: &[(Value, Value)]) -> Ordering
+fn compare_pairs(left: &[(Value, Value)], right: &[(Value, Value)], levels: usize) -> Ordering
     ensures { result ≡ pairs_cmp (pairs_of left.now) (pairs_of right.now) }
 {
     for (i, pair) in left.iter().enumerate() {
@@ -125,11 +145,11 @@ fn compare_pairs(left: &[(Value, Value)], right: &[(Value, Value)]) -> Ordering
             return Ordering::Greater;
         }
         let other = &right[i];
-        let keys = pair.0.compare(&other.0);
+        let keys = pair.0.compare_within(&other.0, levels);
         if keys != Ordering::Equal {
             return keys;
         }
-        let values = pair.1.compare(&other.1);
+        let values = pair.1.compare_within(&other.1, levels);
         if values != Ordering::Equal {
             return values;
         }

@@ -12,6 +12,7 @@ ghost use Rattle.tm_values.specs.Val.{vals_of, text_in, list_in, entries_in, ite
 use crate::dropping::{Held, drop_owner};
 use crate::error::Error;
 use crate::macros::Macro;
+use crate::plain::{Plain, values_plain};
 use std::alloc::Global;
 use std::marker::Model;
 use std::rc::{Rc, RcStr};
@@ -37,12 +38,12 @@ pub enum Node {
     Number(i128),
     /// A text, and whether it is safe: no escape changes it.
     Text(RcStr, bool),
-    /// Values in order.
-    List(Rc<Vec<Value>>),
-    /// Pairs in the order of their keys.
-    Map(Rc<Vec<(Value, Value)>>),
-    /// The keyword arguments of a call.
-    Keywords(Rc<Vec<(Value, Value)>>),
+    /// Values in order, and in which forms none of them is refused.
+    List(Rc<Vec<Value>>, Plain),
+    /// Pairs in the order of their keys, and in which forms none of them is refused.
+    Map(Rc<Vec<(Value, Value)>>, Plain),
+    /// The keyword arguments of a call, and in which forms none of them is refused.
+    Keywords(Rc<Vec<(Value, Value)>>, Plain),
     /// A module: what an import exports, and the text that it wrote.
     Exports(Rc<Vec<(Value, Value)>>, RcStr),
     /// A function, by its number.
@@ -63,12 +64,12 @@ impl Model for Value {
 
     ghost coded = { coded_Val };
 
-    ghost use Rattle.tm_values.specs.View.{node_view, HasOrder};
+    ghost use Rattle.tm_values.specs.View.{node_view, IsWellMade};
     ghost use Rattle.tm_values.specs.Val.{val_size};
 
     ghost view = { λ a. node_view a.node };
 
-    ghost invariant = { λ a. HasOrder a.node };
+    ghost invariant = { λ a. IsWellMade a.node };
 
     ghost size = { val_size };
 
@@ -104,9 +105,9 @@ impl Value {
     {
         let Value { node } = self;
         match node {
-            Node::List(items) => Held::items(items),
-            Node::Map(pairs) => Held::pairs(pairs),
-            Node::Keywords(pairs) => Held::pairs(pairs),
+            Node::List(items, _plain) => Held::items(items),
+            Node::Map(pairs, _plain) => Held::pairs(pairs),
+            Node::Keywords(pairs, _plain) => Held::pairs(pairs),
             Node::Exports(pairs, _content) => Held::pairs(pairs),
             Node::Undefined(_silent) => Held::Nothing,
             Node::None => Held::Nothing,
@@ -192,8 +193,9 @@ impl Value {
     pub fn list(alloc: Global, items: Vec<Value>) -> Result<Value, Error>
         ensures { OkOrOutOfMemory result (λ v. v ≡ list (vals_of items.items)) }
     {
+        let plain = values_plain(&items);
         Ok(Value {
-            node: Node::List(Rc::new(alloc, items)?),
+            node: Node::List(Rc::new(alloc, items)?, plain),
         })
     }
 
@@ -257,9 +259,9 @@ impl Value {
             Node::Boolean(truth) => Node::Boolean(*truth),
             Node::Number(whole) => Node::Number(*whole),
             Node::Text(content, safe) => Node::Text(content.clone()?, *safe),
-            Node::List(items) => Node::List(items.clone()?),
-            Node::Map(pairs) => Node::Map(pairs.clone()?),
-            Node::Keywords(pairs) => Node::Keywords(pairs.clone()?),
+            Node::List(items, plain) => Node::List(items.clone()?, *plain),
+            Node::Map(pairs, plain) => Node::Map(pairs.clone()?, *plain),
+            Node::Keywords(pairs, plain) => Node::Keywords(pairs.clone()?, *plain),
             Node::Exports(pairs, content) => Node::Exports(pairs.clone()?, content.clone()?),
             Node::Function(index) => Node::Function(*index),
             Node::Macro(declared) => Node::Macro(declared.clone()?),
@@ -296,7 +298,7 @@ impl Value {
         ensures { IsLent result (list_in self.now) }
     {
         match &self.node {
-            Node::List(items) => Some(items.as_slice()),
+            Node::List(items, _) => Some(items.as_slice()),
             _ => None,
         }
     }
@@ -306,7 +308,7 @@ impl Value {
         ensures { result.now ≡ items_in self.now }
     {
         match &self.node {
-            Node::List(items) => items.as_slice(),
+            Node::List(items, _) => items.as_slice(),
             _ => &[],
         }
     }
@@ -317,7 +319,9 @@ impl Value {
         ensures ordered { IsMap result.now }
     {
         match &self.node {
-            Node::Map(pairs) | Node::Keywords(pairs) | Node::Exports(pairs, _) => pairs.as_slice(),
+            Node::Map(pairs, _) | Node::Keywords(pairs, _) | Node::Exports(pairs, _) => {
+                pairs.as_slice()
+            }
             _ => &[],
         }
     }
@@ -331,9 +335,9 @@ impl Value {
             Node::None => 1,
             Node::Boolean(_) | Node::Number(_) => 2,
             Node::Text(_, _) => 3,
-            Node::List(_) => 4,
-            Node::Map(_) => 5,
-            Node::Keywords(_) => 6,
+            Node::List(_, _) => 4,
+            Node::Map(_, _) => 5,
+            Node::Keywords(_, _) => 6,
             Node::Exports(_, _) => 7,
             Node::Function(_) => 8,
             Node::Macro(_) => 9,

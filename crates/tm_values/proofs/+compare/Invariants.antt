@@ -3,8 +3,8 @@ use Rattle.tm_values.specs.Order.{vals_cmp, pairs_cmp}
 use Rattle.tm_values.specs.Val.{val_size, vals_size, vals_of, pairs_size, pairs_of}
 use Rattle.tm_values.proofs.+compare.Given as goal
 
-abbrev pub decreases-value::Value::compare : goal.decreases-value::Value::compare
-decreases-value::Value::compare l = val_size l.self.now
+abbrev pub decreases-value::Value::compare_within : goal.decreases-value::Value::compare_within
+decreases-value::Value::compare_within l = val_size l.self.now
 
 abbrev pub decreases-order::compare_items : goal.decreases-order::compare_items
 decreases-order::compare_items l = vals_size (vals_of l.left.now)

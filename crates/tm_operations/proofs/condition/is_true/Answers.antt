@@ -10,9 +10,6 @@ returns-in-Number c = search rules fits 100
 pub returns-in-Text : goal.returns-in-Text
 returns-in-Text c = search rules fits 100
 
-pub returns-in_default : goal.returns-in_default
-returns-in_default c = search rules fits 100
-
 pub returns-in-Undefined : goal.returns-in-Undefined
 returns-in-Undefined c = search rules fits 100
 

@@ -25,6 +25,3 @@ returns-in-None-find_namespace g c = search rules fits 100
 
 pub returns-in_default : goal.returns-in_default
 returns-in_default g c = grind (arith, common_steps)
-
-pub returns-in-Map : goal.returns-in-Map
-returns-in-Map g c = search rules fits 100

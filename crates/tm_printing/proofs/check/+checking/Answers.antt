@@ -9,8 +9,10 @@ use Rattle.tm_values.specs.View.{node_view}
 use Rattle.tm_definitions.specs.Verdicts.{Way, Verdict, and_then, in_json, verdict_within, pair_verdict, items_verdict, pairs_verdict}
 use Rattle.tm_definitions.specs.Verdicts.{through, namespace_verdict}
 use Rattle.tm_printing.proofs.Parts.{pair-smaller}
+use Rattle.tm_printing.proofs.Plain.{plain_fine}
 use Rattle.tm_printing.proofs.Verdicts.{passed, item_first, pair_first, namespace-there, restored, not_there}
-use Rattle.tm_printing.proofs.Weights.{weight, level-heavier}
+use Rattle.tm_printing.proofs.Weights.{level-heavier}
+use Rattle.tm_printing.specs.Left.{weight}
 use Rattle.tm_printing.proofs.check.+checking.Goals as goal
 
 pub check-returns-in-Exports-clause-answer : goal.check-returns-in-Exports-clause-answer
@@ -115,3 +117,9 @@ check_namespace-returns-clause-way g t c =
     let fresh : old n ≡ false = not_there _ _ c.in_ok-insert.ensures.added c.if-not-branch.false in
     let inside = λ (q : ℕ). ap (λ (w : Way). w q) c.in_ok-check_pairs.ensures.way ∙ c.in_ok-insert.ensures.updates.0 q in
     fun_ext (λ q. c.remove.ensures.updates.0 q ∙ (ap (λ (b : Bool). cond (nat_eq n q) false b) (inside q) ∙ restored old n q fresh))
+
+pub check-returns-then-is_plain-clause-answer : goal.check-returns-then-is_plain-clause-answer
+check-returns-then-is_plain-clause-answer g t c =
+    let r = g.R.Records.records c.args.records.now in
+    let inside = namespace_verdict c.args.form r c.args.levels (contains nat_eq c.args.way.now) in
+    plain_fine c.args.form r inside c.args.value.now (sym c.is_plain.ensures ∙ c.if-is_plain.true)

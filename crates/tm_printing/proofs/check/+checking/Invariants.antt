@@ -2,7 +2,7 @@ use Rattle.std.proofs.Common.{◌≡◌, ◌+◌, ◌*◌, drop, nat_eq}
 use Rattle.std.specs.HashSet.{contains}
 use Rattle.tm_values.specs.Val.{val_size, vals_size, pairs_size, vals_of, pairs_of}
 use Rattle.tm_definitions.specs.Verdicts.{items_verdict, pairs_verdict, namespace_verdict}
-use Rattle.tm_printing.proofs.Weights.{weight}
+use Rattle.tm_printing.specs.Left.{weight}
 use Rattle.tm_printing.proofs.check.+checking.Given as goal
 
 abbrev pub decreases-check : goal.decreases-check

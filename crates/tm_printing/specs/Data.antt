@@ -1,0 +1,57 @@
+-- What is left of a list or a map, as it is written as JSON.
+use Rattle.std.specs.Prelude.{◌≡◌, ℕ, ◌≤◌, ◌*◌, true, false, List, [], ◌∷◌, ◌++◌, Some, None, Ok}
+use Rattle.serde_json.specs.Data as json
+use Rattle.serde_json.specs.Written.{compact_text, items_text, members_text}
+use Rattle.tm_values.specs.Records.{RecordData}
+use Rattle.tm_values.specs.Val.{Val, undefined, none, boolean, number, text, list, map, keywords, exports, function, macro, loop, namespace}
+use Rattle.tm_values.specs.Val.{val_size, vals_of, pairs_of}
+use Rattle.tm_definitions.specs.Json.{json_within, data_of, items_of, members_of, namespace_data, key_text}
+use Rattle.tm_printing.specs.Left.{weight, power, rest_weight, IsLighter}
+use Rattle.tm_printing.specs.declared.rest.Rest.{Rest}
+use Rattle.tm_printing.specs.declared.rest.Rest.TheVariants as rest
+use Rattle.tm_printing.specs.declared.compact.Next.{Next}
+use Rattle.tm_printing.specs.declared.compact.Next.TheVariants as next
+
+-- up to the closing bracket
+abbrev pub json_rest : RecordData → Rest → List ℕ
+json_rest r (rest.Items left later levels) =
+    items_text later (items_of (namespace_data r levels) (vals_of left.now))
+json_rest r (rest.Pairs left later levels) =
+    members_text later (members_of (namespace_data r levels) (pairs_of left.now))
+json_rest r (rest.Member value left levels) =
+    58 ∷ (json_within r levels value.now
+    ++ members_text true (members_of (namespace_data r levels) (pairs_of left.now)))
+
+-- the text before the next value, the value, and what is left behind it
+abbrev pub IsNext : Rest → Next → Type 0
+IsNext x (next.Value before step) = (r : RecordData)
+    → json_rest r x
+    ≡ before.now ++ (json_within r step.levels step.value.now ++ json_rest r step.behind)
+IsNext x (next.Keyed before key step) = (r : RecordData)
+    → json_rest r x
+    ≡ (before.now ++ (key_text key.now ++ 58 ∷ []))
+    ++ (json_within r step.levels step.value.now ++ json_rest r step.behind)
+IsNext x (next.End closing) = (r : RecordData) → json_rest r x ≡ closing.now
+
+-- the next value and what is left behind it weigh less than what was left before
+abbrev pub IsNextLighter : Rest → Next → Type 0
+IsNextLighter x (next.Value before step) = IsLighter (Ok (Some step)) x
+IsNextLighter x (next.Keyed before key step) = IsLighter (Ok (Some step)) x
+IsNextLighter x (next.End closing) = IsLighter (Ok None) x
+
+-- of a value without parts; what has parts is opened, where it is there
+abbrev pub leaf_json : Val → List ℕ
+leaf_json (list vs) = []
+leaf_json (map ps) = []
+leaf_json (keywords ps) = []
+leaf_json (exports ps s) = []
+leaf_json v = compact_text (data_of (λ s n. json.null) v)
+
+-- an opening bracket, and what is left behind it
+abbrev pub IsOpened : RecordData → ℕ → Val → List ℕ → Rest → Type 0
+IsOpened r levels v opening x =
+    (json_within r levels v ≡ opening ++ json_rest r x)
+    × (rest_weight (weight r) x ≤ val_size v * power (weight r) levels)
+
+abbrev pub IsLeaf : RecordData → ℕ → Val → Type 0
+IsLeaf r levels v = json_within r levels v ≡ leaf_json v

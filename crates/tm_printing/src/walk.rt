@@ -1,0 +1,92 @@
+//! Values, written by a list of what is left, so that a deep value takes no deep stack.
+ghost use Rattle.std.specs.Prelude.{length};
+ghost use Rattle.tm_values.specs.Records.{RecordData};
+ghost use Rattle.tm_printing.specs.Left.{ValueText, RestText, Writes, Begins, Advances, IsNoHeavier, IsLighter};
+
+use crate::rest::{Rest, Step, Unwritten};
+use std::alloc::Global;
+use tm_output::{Target, TargetFailed};
+use tm_values::{Records, Value};
+
+/// How values are written.
+pub trait Notation {
+    // What a value is written as, where namespaces are entered so many levels deep.
+    ghost value_text: { ValueText };
+
+    // What the rest of a list or a map is written as.
+    ghost rest_text: { RestText };
+
+    /// Writes a value without parts, or what stands before the first part of one that has parts,
+    /// and gives what is left of that. TargetFailed where the target fails.
+    fn begin<'a, R: Records, T: Target>(
+        value: &'a Value,
+        levels: usize,
+        records: &'a R,
+        target: &mut T,
+    ) -> Result<Option<Rest<'a>>, TargetFailed>
+        ensures text { Begins T.took T.stopped result target.old
+            (value_text (R.records records.now) levels value.now)
+            (rest_text (R.records records.now)) target.new }
+        ensures weight { IsNoHeavier result (R.records records.now) levels value.now };
+
+    /// Writes what stands before the next value, and gives that; at the end what closes the list or
+    /// the map. TargetFailed where the target fails.
+    fn advance<'a, T: Target>(
+        rest: Rest<'a>,
+        target: &mut T,
+    ) -> Result<Option<Step<'a>>, TargetFailed>
+        ensures text { (r : RecordData) → Advances T.took T.stopped result target.old
+            (rest_text r rest.entry) (value_text r) (rest_text r) target.new }
+        ensures weight { IsLighter result rest.entry };
+}
+
+/// Writes a value. `Target` where the target fails, `Memory` where the list of what is left finds
+/// no memory.
+pub fn write_parts<N: Notation, R: Records, T: Target>(
+    alloc: Global,
+    value: &Value,
+    records: &R,
+    target: &mut T,
+) -> Result<(), Unwritten>
+    ensures { Writes T.took T.stopped result target.old (N.value_text (R.records records.now)
+        (length (R.records records.now).namespaces) value.now) target.new }
+{
+    let begun = N::begin::<R, T>(value, records.namespace_count(), records, target)?;
+    match begun {
+        Some(rest) => write_rest::<N, R, T>(alloc, rest, records, target),
+        None => Ok(()),
+    }
+}
+
+// Writes what is left of a list or a map.
+fn write_rest<'a, N: Notation, R: Records, T: Target>(
+    alloc: Global,
+    first: Rest<'a>,
+    records: &'a R,
+    target: &mut T,
+) -> Result<(), Unwritten>
+    ensures { Writes T.took T.stopped result target.old
+        (N.rest_text (R.records records.now) first.entry) target.new }
+{
+    let mut left = Vec::new(alloc);
+    let mut rest = first;
+    loop {
+        let next = N::advance::<T>(rest, target)?;
+        match next {
+            Some(step) => {
+                let begun = N::begin::<R, T>(step.value, step.levels, records, target)?;
+                match begun {
+                    Some(inside) => match left.push(step.behind) {
+                        Ok(()) => rest = inside,
+                        Err(_) => return Err(Unwritten::Memory),
+                    },
+                    None => rest = step.behind,
+                }
+            }
+            None => match left.pop() {
+                Some(outer) => rest = outer,
+                None => return Ok(()),
+            },
+        }
+    }
+}
