@@ -10,8 +10,8 @@ use mj_words::Refusal;
 use serde_json::{Map, Value as Json};
 use std::alloc::Global;
 use std::mem;
-use std::rc::{Rc, RcStr};
-use tm_values::{Error, Node, Value};
+use std::rc::RcStr;
+use tm_values::{Error, Value, ValueMap};
 
 /// The value that JSON gives, whose texts are moved out of it. OutOfMemory where no memory was
 /// found, Usage where a float is in it.
@@ -79,9 +79,7 @@ fn map_of(alloc: Global, pairs: Vec<(Value, Value)>) -> Result<Value, Refusal>
     ensures { MatchResult result (λ value. value ≡ map (pairs_of (put_all pairs.items)))
         (λ e. e ≡ Refusal.OutOfMemory) }
 {
-    Ok(Value {
-        node: Node::Map(Rc::new(alloc, pairs)?),
-    })
+    made(Value::from_map(alloc, ValueMap::from_ascending(pairs)))
 }
 
 /// What was made of values, whose making fails for want of memory alone.

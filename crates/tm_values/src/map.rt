@@ -58,6 +58,14 @@ impl ValueMap {
         Ok(ValueMap { pairs })
     }
 
+    /// The map of these pairs, whose keys ascend already.
+    pub fn from_ascending(pairs: Vec<(Value, Value)>) -> ValueMap
+        requires { IsMap pairs.items }
+        ensures { result ≡ pairs.items }
+    {
+        ValueMap { pairs }
+    }
+
     /// Puts the value at the key, in place of one that is there. Fails, by OutOfMemory, with the
     /// map unchanged.
     pub fn insert(&mut self, key: Value, value: Value) -> Result<(), Error>

@@ -5,4 +5,4 @@ use Rattle.mj_json.proofs.values.map_of.Goals as goal
 
 -- pairs whose keys ascend are the map as they stand
 pub returns : goal.returns
-returns c = ap (λ ps. map (pairs_of ps)) (ap (λ v. v.items) c.in_ok-new.ensures.ok ∙ sym (put_all-map c.args.pairs.items c.requires))
+returns c = search (rules, sym (put_all-map c.args.pairs.items c.requires)) fits 100
