@@ -1,11 +1,10 @@
 //! The keys of objects, each made once.
-ghost use Rattle.std.specs.Prelude.{◌≡◌, false};
-ghost use Rattle.tm_values.specs.Answer.{OkOrOutOfMemory};
+ghost use Rattle.std.specs.Prelude.{◌≡◌, false, IfOk};
 ghost use Rattle.tm_values.specs.Val.{text};
 
 use std::alloc::{AllocError, Global};
 use std::rc::RcStr;
-use tm_values::{Error, Value};
+use tm_values::Value;
 
 /// How many keys are kept.
 const PLACES: usize = 64;
@@ -17,7 +16,7 @@ pub(crate) struct Keys {
 }
 
 impl Keys {
-    /// The empty key alone. Fails by want of memory.
+    /// The empty key at each place. Fails where there is no memory.
     pub(crate) fn new(alloc: Global) -> Result<Keys, AllocError> {
         let empty = RcStr::from_str(alloc, "")?;
         let mut kept = Vec::with_capacity(alloc, PLACES)?;
@@ -27,10 +26,10 @@ impl Keys {
         Ok(Keys { kept })
     }
 
-    /// The text as a value, which shares the contents of the kept key where that is the same text.
-    /// Fails by OutOfMemory alone.
-    pub(crate) fn key(&mut self, alloc: Global, content: &str) -> Result<Value, Error>
-        ensures { OkOrOutOfMemory result (λ v. v ≡ text content.now false) }
+    /// The text as a value, which shares the contents of the key at its place where that is the same
+    /// text, and else takes its place. Fails where there is no memory.
+    pub(crate) fn key(&mut self, alloc: Global, content: &str) -> Result<Value, AllocError>
+        ensures { IfOk result (λ key. key ≡ text content.now false) }
     {
         let place = place_of(content);
         if let Some(kept) = self.kept.get(place) {

@@ -58,7 +58,7 @@ pub(crate) fn members_of(
 {
     let mut pairs = Vec::with_capacity(alloc, members.len())?;
     for (key, member) in members.iter_mut() {
-        let key = made(keys.key(alloc, key.as_str()))?;
+        let key = keys.key(alloc, key.as_str())?;
         pairs.push((key, value_of(alloc, keys, member)?))?;
     }
     Ok(pairs)

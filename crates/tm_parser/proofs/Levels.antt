@@ -1,9 +1,10 @@
 -- Levels of operators, read in one go.
-use Rattle.std.specs.Prelude.{nat_eq, nat_le, option_and_then, if◌then◌else◌}
+use Rattle.std.specs.Prelude.{nat_eq, nat_le, nat_lt, ◌&&◌, is_some, option_and_then, if◌then◌else◌}
 use Rattle.std.proofs.Common.{◌≡◌, ℕ, zero, suc, ◌+◌, ◌-◌, ◌<◌, ◌≤◌, Bool, true, false, List, [], ◌∷◌, Option, None, Some, refl, sym, ap, arith, ◌∙◌}
-use Rattle.std.proofs.lemmas.Bool.{leb-true, leb-false, eqb-true, eq-eqb, ne_eqb}
+use Rattle.std.proofs.lemmas.Bool.{leb-true, leb-false, ltb-true, ltb-false, eqb-true, eq-eqb, ne_eqb, and_from, and_parts}
 use Rattle.tm_syntax.specs.declared.token.Token.{Token}
 use Rattle.tm_syntax.specs.declared.token.Token.TheVariants as tokens
+use Rattle.tm_syntax.specs.declared.token.Sign.TheVariants as sign
 use Rattle.tm_syntax.specs.declared.tree.Expr.{Expr}
 use Rattle.tm_syntax.specs.declared.tree.Expr.TheVariants as exprs
 use Rattle.tm_syntax.specs.declared.tree.Step.{Step}
@@ -11,30 +12,36 @@ use Rattle.tm_syntax.specs.declared.tree.UnaryOperator.{UnaryOperator}
 use Rattle.tm_grammar.specs.Meanings.{Read, got, known, first_sees, branch_reads}
 use Rattle.tm_grammar.specs.Laws.{not_got, same_got}
 use Rattle.tm_grammar.specs.Growth as growth
-use Rattle.tm_grammar.specs.Combinators.{◌>>=◌, pure, one_more}
-use Rattle.tm_parser.specs.Grammar.{Inside, primary, operand, expr_at, prefix, prefix_of, link, step, steps_from, chained, at_level}
-use Rattle.tm_parser.specs.Levels.{up_to, prefix_up_to, climbed, levels, EndsBefore, GoesOnAt}
+use Rattle.tm_grammar.specs.Combinators.{first, ◌>>=◌, pure, one_more}
+use Rattle.tm_parser.specs.Grammar.{Inside, is, primary, operand, expr_at, whole, prefix, prefix_of, link, step, steps_from, chained, at_level}
+use Rattle.tm_parser.specs.Grammar.{postfix_level, or_level, condition, conditions_from}
+use Rattle.tm_parser.specs.declared.expressions.OperandStart.{OperandStart}
+use Rattle.tm_parser.specs.Levels.{up_to, prefix_up_to, operand_start, climbed, levels, EndsBefore, GoesOnAt}
 
 -- what is found at a level
 module _ {A : Type 0} where
-  beyond : (level m : ℕ) (o : Option (ℕ × A)) → up_to level o ≡ None → m ≤ level → at_level m o ≡ None
-  beyond level m None h le = refl
-  beyond level m (Some x) h le = by_tests (nat_le x.0 level) refl (nat_eq x.0 m) refl
+  beyond : (level m : ℕ) (o : Option (ℕ × A)) → up_to level o ≡ None → 0 < m → m ≤ level → at_level m o ≡ None
+  beyond level m None h low high = refl
+  beyond level m (Some x) h low high = by_tests (nat_lt 0 x.0) refl (nat_le x.0 level) refl (nat_eq x.0 m) refl
     where
-      by_tests : (b : Bool) → nat_le x.0 level ≡ b → (c : Bool) → nat_eq x.0 m ≡ c → at_level m (Some x) ≡ None
-      by_tests b e false f = ap (λ t. if t then Some x.1 else None) f
-      by_tests true e true f = absurd (let g = sym (ap (λ t. if t then Some x else None) e) ∙ h in cc)
-      by_tests false e true f = absurd (omega (arith, leb-false x.0 level e, eqb-true x.0 m f, le))
+      by_tests : (a : Bool) → nat_lt 0 x.0 ≡ a → (b : Bool) → nat_le x.0 level ≡ b → (c : Bool) → nat_eq x.0 m ≡ c → at_level m (Some x) ≡ None
+      by_tests a d b e false f = ap (λ t. if t then Some x.1 else None) f
+      by_tests true d true e true f =
+          absurd (let g = sym (ap (λ t. if t then Some x else None) (and_from (nat_lt 0 x.0) (nat_le x.0 level) d e)) ∙ h in cc)
+      by_tests false d b e true f = absurd (omega (arith, ltb-false 0 x.0 d, eqb-true x.0 m f, low))
+      by_tests true d false e true f = absurd (omega (arith, leb-false x.0 level e, eqb-true x.0 m f, high))
 
-  within : (level : ℕ) (o : Option (ℕ × A)) (x : ℕ × A) → up_to level o ≡ Some x → (o ≡ Some x) × (x.0 ≤ level)
+  within : (level : ℕ) (o : Option (ℕ × A)) (x : ℕ × A) → up_to level o ≡ Some x → (o ≡ Some x) × (0 < x.0) × (x.0 ≤ level)
   within level None x h = absurd (let g : ◌≡◌ {A = Option (ℕ × A)} None (Some x) = h in cc)
-  within level (Some y) x h = by_test (nat_le y.0 level) refl
+  within level (Some y) x h = by_test (nat_lt 0 y.0 && nat_le y.0 level) refl
     where
-      by_test : (b : Bool) → nat_le y.0 level ≡ b → (Some y ≡ Some x) × (x.0 ≤ level)
+      by_test : (b : Bool) → (nat_lt 0 y.0 && nat_le y.0 level) ≡ b → (Some y ≡ Some x) × (0 < x.0) × (x.0 ≤ level)
       by_test true e =
           let same : Some y ≡ Some x = sym (ap (λ t. if t then Some y else None) e) ∙ h in
           let first : y ≡ x = cc in
-          (same, omega (arith, leb-true y.0 level e, ap (λ (z : ℕ × A). z.0) first))
+          let parts = and_parts (nat_lt 0 y.0) (nat_le y.0 level) e in
+          let level_is : y.0 ≡ x.0 = ap (λ (z : ℕ × A). z.0) first in
+          (same, omega (arith, ltb-true 0 y.0 parts.0, level_is), omega (arith, leb-true y.0 level parts.1, level_is))
       by_test false e = absurd (let g = sym (ap (λ t. if t then Some y else None) e) ∙ h in cc)
 
   here : (x : ℕ × A) → at_level x.0 (Some x) ≡ Some x.1
@@ -53,17 +60,18 @@ module _ {A : Type 0} where
       let same = same_got y x ts rest h in
       (ap Some same.0, same.1)
 
-no_prefix : (level m : ℕ) (ts : List Token) → first_sees (prefix_up_to level) ts ≡ None → m ≤ level → (prefix m).sees ts ≡ None
-no_prefix level m [] h le = refl
-no_prefix level m (tokens.Raw text ∷ ts) h le = refl
-no_prefix level m (tokens.Tag tag ∷ ts) h le = refl
-no_prefix level m (tokens.Name name ∷ ts) h le = refl
-no_prefix level m (tokens.Literal v ∷ ts) h le = refl
-no_prefix level m (tokens.Sign s ∷ ts) h le = ap (known ts) (beyond level m (prefix_of s) (not_known ts (up_to level (prefix_of s)) h) le)
+no_prefix : (level m : ℕ) (ts : List Token) → first_sees (prefix_up_to level) ts ≡ None → 0 < m → m ≤ level → (prefix m).sees ts ≡ None
+no_prefix level m [] h low high = refl
+no_prefix level m (tokens.Raw text ∷ ts) h low high = refl
+no_prefix level m (tokens.Tag tag ∷ ts) h low high = refl
+no_prefix level m (tokens.Name name ∷ ts) h low high = refl
+no_prefix level m (tokens.Literal v ∷ ts) h low high = refl
+no_prefix level m (tokens.Sign s ∷ ts) h low high = ap (known ts) (beyond level m (prefix_of s) (not_known ts (up_to level (prefix_of s)) h)
+    low high)
 
 -- what a prefix is at each level
 a_prefix : (level m : ℕ) (ts rest : List Token) (x : ℕ × UnaryOperator) → first_sees (prefix_up_to level) ts ≡ got x rest →
-    ((prefix m).sees ts ≡ known rest (at_level m (Some x))) × (x.0 ≤ level)
+    ((prefix m).sees ts ≡ known rest (at_level m (Some x))) × (0 < x.0) × (x.0 ≤ level)
 a_prefix level m [] rest x h = absurd (not_got x rest h)
 a_prefix level m (tokens.Raw text ∷ ts) rest x h = absurd (not_got x rest h)
 a_prefix level m (tokens.Tag tag ∷ ts) rest x h = absurd (not_got x rest h)
@@ -72,7 +80,7 @@ a_prefix level m (tokens.Literal v ∷ ts) rest x h = absurd (not_got x rest h)
 a_prefix level m (tokens.Sign s ∷ ts) rest x h =
     let same = is_known ts rest (up_to level (prefix_of s)) x h in
     let found = within level (prefix_of s) x same.0 in
-    (ap (λ o. known ts (at_level m o)) found.0 ∙ ap (λ left. known left (at_level m (Some x))) same.1, found.1)
+    (ap (λ o. known ts (at_level m o)) found.0 ∙ ap (λ left. known left (at_level m (Some x))) same.1, found.1, found.2)
 
 module _ (i : Inside) where
   -- where no prefix stands, an operand of a level begins with one of the level below
@@ -84,6 +92,11 @@ module _ (i : Inside) where
   all_of : (o : Read Token Expr) → o ≡ option_and_then (λ x. got x.0 x.1) o
   all_of None = refl
   all_of (Some x) = refl
+
+  moved : {A B : Type 0} (f : Expr → A) (go : A → List Token → Read Token B) (o : Read Token Expr) →
+      option_and_then (λ y. go y.0 y.1) (option_and_then (λ x. got (f x.0) x.1) o) ≡ option_and_then (λ x. go (f x.0) x.1) o
+  moved f go None = refl
+  moved f go (Some x) = refl
 
   regrouped : (steps : List Token → Read Token (List Step)) (go : Expr → List Token → Read Token Expr) (o : Read Token Expr) →
       option_and_then (λ y. go y.0 y.1) (option_and_then (λ x. option_and_then (λ s. got (chained x.0 s.0) s.1) (steps x.1)) o) ≡
@@ -97,24 +110,21 @@ module _ (i : Inside) where
       behind None = refl
       behind (Some s) = refl
 
-  -- an operand of a level, from an operand of a lower level on
-  from_lower : (n level k : ℕ) (ts : List Token) → level ≡ n + k → ((m : ℕ) → k < m → m ≤ level → (prefix m).sees ts ≡ None) →
-      (operand i level).reads ts ≡ (operand i k >>= climbed i n k).reads ts
+  -- an operand of a level, and the steps of levels behind it, from an operand of a lower level on
+  down : (n all m level k : ℕ) (ts : List Token) → all ≡ n + m → level ≡ n + k →
+      ((j : ℕ) → k < j → j ≤ level → (prefix j).sees ts ≡ None) →
+      (operand i level >>= climbed i m level).reads ts ≡ (operand i k >>= climbed i all k).reads ts
   unfolding climbed expr_at
-  from_lower zero level k ts e none =
+  down zero all m level k ts c e none =
       let same : level ≡ k = omega (arith, e) in
-      ap (λ l. (operand i l).reads ts) same ∙ all_of ((operand i k).reads ts)
-  from_lower (suc n) level k ts e none =
-      from_lower n level (suc k) ts (omega (arith, e)) (λ m above most. none m (omega (arith, above)) most)
-      ∙ ap (option_and_then (λ x. (climbed i n (suc k) x.0).reads x.1)) (below k ts (none (suc k) (omega arith) (omega (arith, e))))
-      ∙ regrouped ((steps_from i (operand i k) k []).reads) (λ x. (climbed i n (suc k) x).reads) ((operand i k).reads ts)
-
-  pub plain_operand : (level : ℕ) (ts : List Token) → first_sees (prefix_up_to level) ts ≡ None →
-      (operand i level).reads ts ≡ (primary i >>= levels i 0 level).reads ts
-  unfolding operand
-  plain_operand level ts h =
-      from_lower level level 0 ts (omega arith) (λ m above most. no_prefix level m ts h most)
-      ∙ ap (λ n. (primary i >>= climbed i n 0).reads ts) (omega arith)
+      let count : m ≡ all = omega (arith, c) in
+      ap (λ l. (operand i l >>= climbed i m l).reads ts) same ∙ ap (λ n. (operand i k >>= climbed i n k).reads ts) count
+  down (suc n) all m level k ts c e none =
+      let count : suc (n + m) ≡ all = omega (arith, c) in
+      down n (n + m) m level (suc k) ts refl (omega (arith, e)) (λ j above most. none j (omega (arith, above)) most)
+      ∙ ap (option_and_then (λ x. (climbed i (n + m) (suc k) x.0).reads x.1)) (below k ts (none (suc k) (omega arith) (omega (arith, e))))
+      ∙ regrouped ((steps_from i (operand i k) k []).reads) (λ x. (climbed i (n + m) (suc k) x).reads) ((operand i k).reads ts)
+      ∙ ap (λ n. (operand i k >>= climbed i n k).reads ts) count
 
   taken : (found : ℕ) (op : UnaryOperator) (ts rest : List Token) → 0 < found → (prefix found).sees ts ≡ got op rest →
       (operand i found).reads ts ≡ (i.operand found >>= (λ x. pure (exprs.Unary op x))).reads rest
@@ -123,25 +133,50 @@ module _ (i : Inside) where
   taken (suc k) op ts rest above is =
       ap (λ seen. branch_reads (λ op. (i.operand (suc k) >>= (λ x. pure (exprs.Unary op x))).reads) (expr_at i k).reads seen ts) is
 
-  -- behind a prefix
-  pub prefixed_operand : (level found : ℕ) (op : UnaryOperator) (ts rest : List Token) →
-      first_sees (prefix_up_to level) ts ≡ got (found, op) rest → 0 < found →
-      (operand i level).reads ts ≡ (i.operand found >>= (λ x. levels i found level (exprs.Unary op x))).reads rest
-  prefixed_operand level found op ts rest h above =
-      let at : (m : ℕ) → ((prefix m).sees ts ≡ known rest (at_level m (Some (found, op)))) × (found ≤ level) =
-      λ m. a_prefix level m ts rest (found, op) h in
-      let most : found ≤ level = (at found).1 in
-      let is : (prefix found).sees ts ≡ got op rest = (at found).0 ∙ ap (known rest) (here (found, op)) in
-      from_lower (level - found) level found ts (omega (arith, most))
-      (λ m more below. (at m).0 ∙ ap (known rest) (elsewhere m (found, op) (λ e. omega (arith, e, more))))
-      ∙ ap (option_and_then (λ x. (climbed i (level - found) found x.0).reads x.1)) (taken found op ts rest above is)
-      ∙ moved ((i.operand found).reads rest)
+  abbrev plain : Expr → OperandStart
+  plain x = record { value = x; level = postfix_level }
+
+  abbrev prefixed : ℕ × UnaryOperator → Expr → OperandStart
+  prefixed p x = record { value = exprs.Unary p.1 x; level = p.0 }
+
+  -- from a start on, up to the end
+  abbrev onward : ℕ → OperandStart → List Token → Read Token Expr
+  onward end s = (levels i s.level end s.value).reads
+
+  abbrev started : ℕ → List Token → Read Token (ℕ × UnaryOperator) → Read Token Expr
+  started end ts seen = option_and_then (λ y. onward end y.0 y.1)
+      (branch_reads (λ p. (i.operand p.0 >>= (λ x. pure (prefixed p x))).reads) (primary i >>= (λ x. pure (plain x))).reads seen ts)
+
+  -- the same from its start on
+  from_start : (m end level : ℕ) (ts : List Token) → end ≡ level + m →
+      (operand i level >>= climbed i m level).reads ts ≡ (operand_start i level >>= (λ s. levels i s.level end s.value)).reads ts
+  unfolding operand operand_start
+  from_start m end level ts e = by_prefix (first_sees (prefix_up_to level) ts) refl
     where
-      moved : (o : Read Token Expr) →
-          option_and_then (λ y. (climbed i (level - found) found y.0).reads y.1) (option_and_then (λ x. got (exprs.Unary op x.0) x.1) o) ≡
-          option_and_then (λ x. (climbed i (level - found) found (exprs.Unary op x.0)).reads x.1) o
-      moved None = refl
-      moved (Some x) = refl
+      by_prefix : (seen : Read Token (ℕ × UnaryOperator)) → first_sees (prefix_up_to level) ts ≡ seen →
+          (operand i level >>= climbed i m level).reads ts ≡ (operand_start i level >>= (λ s. levels i s.level end s.value)).reads ts
+      by_prefix None h =
+          down level (end - postfix_level) m level 0 ts (omega (arith, e)) (omega arith) (λ j low high. no_prefix level j ts h low high)
+          ∙ sym (moved plain (onward end) ((primary i).reads ts)) ∙ sym (ap (started end ts) h)
+      by_prefix (Some x) h =
+          let at : (j : ℕ) → ((prefix j).sees ts ≡ known x.1 (at_level j (Some x.0))) × (0 < x.0.0) × (x.0.0 ≤ level) =
+          λ j. a_prefix level j ts x.1 x.0 h in
+          let low : 0 < x.0.0 = (at 0).1 in
+          let high : x.0.0 ≤ level = (at 0).2 in
+          down (level - x.0.0) (end - x.0.0) m level x.0.0 ts (omega (arith, e, high)) (omega (arith, high))
+          (λ j more less. (at j).0 ∙ ap (known x.1) (elsewhere j x.0 (λ is. omega (arith, is, more))))
+          ∙ ap (option_and_then (λ y. (levels i x.0.0 end y.0).reads y.1)) (taken x.0.0 x.0.1 ts x.1 low ((at x.0.0).0 ∙ ap (known x.1) (here x.0)))
+          ∙ moved (exprs.Unary x.0.1) (λ y. (levels i x.0.0 end y).reads) ((i.operand x.0.0).reads x.1)
+          ∙ sym (moved (prefixed x.0) (onward end) ((i.operand x.0.0).reads x.1)) ∙ sym (ap (started end ts) h)
+
+  pub operand_from : (level : ℕ) (ts : List Token) →
+      (operand i level).reads ts ≡ (operand_start i level >>= (λ s. levels i s.level level s.value)).reads ts
+  unfolding climbed
+  operand_from level ts = all_of ((operand i level).reads ts) ∙ from_start 0 level level ts (omega arith)
+
+  pub whole_from : (ts : List Token) → (whole i).reads ts ≡ (operand_start i or_level >>= (λ s. levels i s.level (or_level + 1) s.value)).reads ts
+  unfolding climbed expr_at
+  whole_from ts = from_start 1 (or_level + 1) or_level ts (omega arith)
 
   -- where nothing goes on at a level
   passes : (level : ℕ) (ts : List Token) → (link level).sees ts ≡ None → (n : ℕ) (x : Expr) →
@@ -186,4 +221,11 @@ module _ (i : Inside) where
     unfolding climbed
     climb_fails h = at_found ∙ ap (option_and_then (λ s. (climbed i (end - (found + 1)) (suc found) (chained x s.0)).reads s.1)) h
 
-pub ruleset operands = (plain_operand, prefixed_operand)
+pub ruleset operands = (operand_from, whole_from)
+
+pub no_condition : (i : Inside) (ts : List Token) → is_some (first_sees (is sign.If) ts) ≡ false → (conditions_from i []).reads ts ≡ got [] ts
+no_condition i ts none = growth.grow_none (first (is sign.If)) (λ a. one_more (condition i)) [] ts (not_seen (first_sees (is sign.If) ts) none)
+  where
+    not_seen : {A : Type 0} (o : Option A) → is_some o ≡ false → o ≡ None
+    not_seen None h = refl
+    not_seen (Some x) h = absurd (cc h)

@@ -1,20 +1,32 @@
 -- Levels of operators, read in one go.
-use Rattle.std.specs.Prelude.{◌≡◌, ℕ, zero, suc, ◌-◌, ◌<◌, ◌≤◌, List, [], Option, Some, None, nat_le, if◌then◌else◌}
+use Rattle.std.specs.Prelude.{◌≡◌, ℕ, zero, suc, ◌-◌, ◌<◌, ◌≤◌, List, [], Option, Some, None, nat_le, nat_lt, ◌&&◌, if◌then◌else◌}
 use Rattle.tm_syntax.specs.declared.token.Token.{Token}
 use Rattle.tm_syntax.specs.declared.token.Token.TheVariants as tokens
 use Rattle.tm_syntax.specs.declared.tree.UnaryOperator.{UnaryOperator}
 use Rattle.tm_syntax.specs.declared.tree.Expr.{Expr}
-use Rattle.tm_grammar.specs.Combinators.{pure, ◌>>=◌}
-use Rattle.tm_parser.specs.Grammar.{Rule, Inside, prefix_of, link, operand, steps_from, chained}
+use Rattle.tm_syntax.specs.declared.tree.Expr.TheVariants as exprs
+use Rattle.tm_parser.specs.declared.expressions.OperandStart.{OperandStart}
+use Rattle.tm_grammar.specs.Combinators.{first, branch, pure, ◌>>=◌}
+use Rattle.tm_parser.specs.Grammar.{Rule, Inside, postfix_level, prefix_of, primary, link, operand, steps_from, chained}
 
 abbrev pub up_to : {A : Type 0} → ℕ → Option (ℕ × A) → Option (ℕ × A)
 up_to level None = None
-up_to level (Some x) = if nat_le x.0 level then Some x else None
+up_to level (Some x) = if nat_lt postfix_level x.0 && nat_le x.0 level then Some x else None
 
 -- a sign before an operand of at most a level: that operand's level, and the operator
 abbrev pub prefix_up_to : ℕ → Token → Option (ℕ × UnaryOperator)
 prefix_up_to level (tokens.Sign s) = up_to level (prefix_of s)
 prefix_up_to level _ = None
+
+-- what an operand of a level begins with, and the level of which that is an operand
+unfoldable pub operand_start : Inside → ℕ → Rule OperandStart
+operand_start i level = branch (first (prefix_up_to level))
+    (λ p. do
+      x ← i.operand p.0
+      pure (record { value = exprs.Unary p.1 x; level = p.0 }))
+    (do
+      x ← primary i
+      pure (record { value = x; level = postfix_level }))
 
 -- an operand of a level, and the steps of as many levels behind it, from its own on
 unfoldable pub climbed : Inside → ℕ → ℕ → Expr → Rule Expr

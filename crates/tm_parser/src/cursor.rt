@@ -1,5 +1,5 @@
 //! Tokens one after another.
-ghost use Rattle.std.specs.Prelude.{◌≡◌, ◌<◌, ◌∷◌, [], ◌↔◌, IfSome, IsTrue, MatchResult, is_some};
+ghost use Rattle.std.specs.Prelude.{◌≡◌, ◌∷◌, [], ◌↔◌, IsTrue, MatchResult, is_some};
 ghost use Rattle.tm_parser.specs.Parses.{Parses, TakesFirst, TakesSign};
 ghost use Rattle.tm_parser.specs.Grammar.{is, a_name, a_constant, comma, ends_part, ends_target, is_comma, keyword_start, link};
 ghost use Rattle.tm_parser.specs.Grammar.{target_comma};
@@ -8,8 +8,11 @@ ghost use Rattle.tm_parser.specs.Looks.{starts};
 ghost use Rattle.tm_parser.specs.Statements.{a_start, ends_iterated, is_tag, is_word, iterated_comma, lone, same_name};
 ghost use Rattle.tm_grammar.specs.Combinators.{token};
 ghost use Rattle.tm_grammar.specs.Meanings.{first_sees};
+ghost use Rattle.tm_syntax.specs.declared.token.Sign.TheVariants as sign;
 
-use crate::tables::{Link, Start, constant_of, link_of, negated_link_of, prefix_of, start_of};
+use crate::tables::{
+    Link, POSTFIX_LEVEL, Start, constant_of, link_of, negated_link_of, prefix_of, start_of,
+};
 use std::marker::Model;
 use tm_syntax::{Name, Sign, Tag, Token, UnaryOperator};
 use tm_values::{Error, ErrorKind, Value};
@@ -72,6 +75,16 @@ impl<'t> Cursor<'t> {
     {
         match self.rest {
             [Token::Sign(Sign::Comma), ..] => true,
+            _ => false,
+        }
+    }
+
+    /// Whether `if` stands here.
+    pub fn is_at_if(&self) -> bool
+        ensures { result ≡ is_some (first_sees (is sign.If) self.now) }
+    {
+        match self.rest {
+            [Token::Sign(Sign::If), ..] => true,
             _ => false,
         }
     }
@@ -279,13 +292,12 @@ impl<'t> Cursor<'t> {
     /// Takes a sign before an operand of at most this level; that operand's level, and the
     /// operator.
     pub fn take_prefix(&mut self, level: u8) -> Option<(u8, UnaryOperator)>
-        ensures taken { TakesFirst result self.old self.new
+        ensures { TakesFirst result self.old self.new
             (first_sees (prefix_up_to level) self.old) }
-        ensures above { IfSome result (λ x. 0 < x.0) }
     {
         match self.rest {
             [Token::Sign(sign), rest @ ..] => match prefix_of(*sign) {
-                Some((found, operator)) if found <= level => {
+                Some((found, operator)) if POSTFIX_LEVEL < found && found <= level => {
                     self.rest = rest;
                     Some((found, operator))
                 }

@@ -4,10 +4,11 @@ ghost use Rattle.tm_parser.specs.Parses.{Parses};
 ghost use Rattle.tm_parser.specs.Grammar as grammar;
 ghost use Rattle.tm_parser.specs.Grammar.{inside, behind_comparison, comparison, comparisons_from};
 ghost use Rattle.tm_parser.specs.Grammar.{condition, conditions_from, conjunction, disjunction};
-ghost use Rattle.tm_parser.specs.Grammar.{else_part, expr, expr_at, last_part, named_step, operand};
+ghost use Rattle.tm_parser.specs.Grammar.{else_part, expr, last_part, named_step, operand};
 ghost use Rattle.tm_parser.specs.Grammar.{operation, part, slice, step, steps_from, subscript};
 ghost use Rattle.tm_parser.specs.Grammar.{whole};
-ghost use Rattle.tm_parser.specs.Levels.{levels};
+ghost use Rattle.tm_parser.specs.Levels.{levels, operand_start};
+ghost use Rattle.tm_syntax.specs.declared.tree.Expr.TheVariants as exprs;
 ghost use Rattle.tm_grammar.specs.Combinators.{one_more};
 ghost use Rattle.tm_values.specs.declared.error.ErrorKind.TheVariants.{OutOfMemory};
 
@@ -15,8 +16,17 @@ use crate::cursor::{Cursor, refusal};
 use crate::tables::{Link, OR_LEVEL, POSTFIX_LEVEL};
 use sqlite_items::{Boxed, Items};
 use std::alloc::Global;
-use tm_syntax::{BinaryOperator, Comparison, Condition, Expr, Sign, Step};
+use tm_syntax::{BinaryOperator, Comparison, Condition, Expr, Sign, Step, UnaryOperator};
 use tm_values::{Error, Value};
+
+/// What an operand begins with, before the operators of its levels.
+#[derive(Drop)]
+pub struct OperandStart {
+    /// The value.
+    pub value: Boxed<Expr>,
+    /// The level of which it is an operand.
+    pub level: u8,
+}
 
 // Each method reads one rule, with `depth` nestings to go. SyntaxError where no tokens spell it.
 impl Cursor<'_> {
@@ -57,11 +67,14 @@ impl Cursor<'_> {
 
     /// An expression: a value, and the conditions behind it.
     #[cycle(expressions)]
-    #[tactic(auto, unfolding(crate::specs::Grammar::expr))]
+    #[tactic(auto, unfolding(crate::specs::Grammar::expr), using(crate::proofs::Levels::no_condition))]
     pub fn expr(&mut self, alloc: Global, depth: u8) -> Result<Boxed<Expr>, Error>
         ensures { Parses result self.new ((expr (inside depth)).reads self.old) }
     {
-        let value = self.expr_at(alloc, depth, OR_LEVEL)?;
+        let value = self.whole(alloc, depth)?;
+        if !self.is_at_if() {
+            return Ok(value);
+        }
         let conditions = self.conditions(alloc, depth)?;
         conditional(alloc, value, conditions)
     }
@@ -92,7 +105,7 @@ impl Cursor<'_> {
             ((one_more (condition (inside depth)) conditions).reads self.old) }
     {
         let mut conditions = conditions;
-        let test = self.expr_at(alloc, depth, OR_LEVEL)?;
+        let test = self.whole(alloc, depth)?;
         let otherwise = self.else_part(alloc, depth)?;
         conditions.push(Condition { test, otherwise })?;
         Ok(conditions)
@@ -111,21 +124,13 @@ impl Cursor<'_> {
     }
 
     /// A value with all operators, without conditions behind it.
+    #[cycle(expressions)]
+    #[tactic(auto, using(crate::proofs::Levels::operands))]
     pub fn whole(&mut self, alloc: Global, depth: u8) -> Result<Boxed<Expr>, Error>
         ensures { Parses result self.new ((whole (inside depth)).reads self.old) }
     {
-        self.expr_at(alloc, depth, OR_LEVEL)
-    }
-
-    /// An operand of a level, and the steps of that level behind it.
-    #[cycle(expressions)]
-    #[tactic(auto, unfolding(crate::specs::Grammar::expr_at))]
-    fn expr_at(&mut self, alloc: Global, depth: u8, level: u8) -> Result<Boxed<Expr>, Error>
-        ensures { Parses result self.new ((expr_at (inside depth) level).reads self.old) }
-    {
-        let value = self.operand(alloc, depth, level)?;
-        let steps = self.steps(alloc, depth, level)?;
-        chained(alloc, value, steps)
+        let start = self.operand_start(alloc, depth, OR_LEVEL)?;
+        self.climb(alloc, depth, start.level, OR_LEVEL + 1, start.value)
     }
 
     /// An operand of a level.
@@ -134,13 +139,27 @@ impl Cursor<'_> {
     pub fn operand(&mut self, alloc: Global, depth: u8, level: u8) -> Result<Boxed<Expr>, Error>
         ensures { Parses result self.new ((operand (inside depth) level).reads self.old) }
     {
-        if let Some((found, operator)) = self.take_prefix(level) {
-            let value = self.inner_operand(alloc, depth, found)?;
-            let value = Boxed::new(alloc, Expr::Unary(operator, value))?;
-            return self.climb(alloc, depth, found, level, value);
+        let start = self.operand_start(alloc, depth, level)?;
+        self.climb(alloc, depth, start.level, level, start.value)
+    }
+
+    /// What an operand of a level begins with: a prefix and its operand, else what stands between
+    /// operators.
+    #[cycle(expressions)]
+    #[tactic(auto, unfolding(crate::specs::Levels::operand_start))]
+    fn operand_start(&mut self, alloc: Global, depth: u8, level: u8) -> Result<OperandStart, Error>
+        ensures { Parses result self.new ((operand_start (inside depth) level).reads self.old) }
+    {
+        if let Some((level, operator)) = self.take_prefix(level) {
+            let operand = self.inner_operand(alloc, depth, level)?;
+            let value = unary(alloc, operator, operand)?;
+            return Ok(OperandStart { value, level });
         }
         let value = self.primary(alloc, depth)?;
-        self.climb(alloc, depth, POSTFIX_LEVEL, level, value)
+        Ok(OperandStart {
+            value,
+            level: POSTFIX_LEVEL,
+        })
     }
 
     /// Behind an operand of a level, the steps of all levels before the end, from its own on.
@@ -382,6 +401,7 @@ impl Cursor<'_> {
 }
 
 /// What stands for a missing part. OutOfMemory for want of memory.
+#[inline(never)]
 fn missing(alloc: Global) -> Result<Boxed<Expr>, Error>
     ensures { MatchResult result
         (λ expr. expr ≡ grammar.missing)
@@ -391,6 +411,7 @@ fn missing(alloc: Global) -> Result<Boxed<Expr>, Error>
 }
 
 /// What stands for a missing else part. OutOfMemory for want of memory.
+#[inline(never)]
 fn no_else(alloc: Global) -> Result<Boxed<Expr>, Error>
     ensures { MatchResult result
         (λ expr. expr ≡ grammar.no_else)
@@ -401,6 +422,7 @@ fn no_else(alloc: Global) -> Result<Boxed<Expr>, Error>
 
 /// A comparison, and those in a row behind it.
 #[tactic(auto, using(crate::proofs::Nesting::comparisons))]
+#[inline(never)]
 fn compared(operator: BinaryOperator, right: Boxed<Expr>, behind: Items<Comparison>) -> Step
     ensures { result ≡ grammar.compared operator right behind }
 {
@@ -413,6 +435,7 @@ fn compared(operator: BinaryOperator, right: Boxed<Expr>, behind: Items<Comparis
 /// A value and its conditions; the value itself where there are none. OutOfMemory for want of
 /// memory.
 #[tactic(auto, using(crate::proofs::Nesting::conditions))]
+#[inline(never)]
 fn conditional(
     alloc: Global,
     value: Boxed<Expr>,
@@ -428,8 +451,19 @@ fn conditional(
     Ok(Boxed::new(alloc, Expr::Conditional(value, conditions))?)
 }
 
+/// An operator before its operand. OutOfMemory for want of memory.
+#[inline(never)]
+fn unary(alloc: Global, operator: UnaryOperator, operand: Boxed<Expr>) -> Result<Boxed<Expr>, Error>
+    ensures { MatchResult result
+        (λ expr. expr ≡ exprs.Unary operator operand)
+        (λ e. e ≡ OutOfMemory ∷ []) }
+{
+    Ok(Boxed::new(alloc, Expr::Unary(operator, operand))?)
+}
+
 /// A value and its steps; the value itself where there are none. OutOfMemory for want of memory.
 #[tactic(auto, using(crate::proofs::Nesting::chains))]
+#[inline(never)]
 pub fn chained(alloc: Global, value: Boxed<Expr>, steps: Items<Step>) -> Result<Boxed<Expr>, Error>
     ensures { MatchResult result
         (λ expr. expr ≡ grammar.chained value steps)

@@ -51,6 +51,7 @@ impl Cursor<'_> {
     /// A name, or the call of one.
     #[cycle(expressions)]
     #[tactic(auto, unfolding(crate::specs::Grammar::named))]
+    #[inline(never)]
     fn named(&mut self, alloc: Global, depth: u8, name: Name) -> Result<Boxed<Expr>, Error>
         ensures { Parses result self.new ((named (inside depth) name).reads self.old) }
     {
@@ -65,6 +66,7 @@ impl Cursor<'_> {
     /// The expression or tuple in round brackets, and their end.
     #[cycle(expressions)]
     #[tactic(auto, unfolding(crate::specs::Grammar::bracketed))]
+    #[inline(never)]
     fn bracketed(&mut self, alloc: Global, depth: u8) -> Result<Boxed<Expr>, Error>
         ensures { Parses result self.new ((bracketed (inside depth)).reads self.old) }
     {
@@ -82,6 +84,7 @@ impl Cursor<'_> {
     /// A tuple behind its first item, and the end of its brackets.
     #[cycle(expressions)]
     #[tactic(auto, unfolding(crate::specs::Grammar::tuple))]
+    #[inline(never)]
     fn tuple(&mut self, alloc: Global, depth: u8, first: Boxed<Expr>) -> Result<Boxed<Expr>, Error>
         ensures { Parses result self.new ((tuple (inside depth) first).reads self.old) }
     {
@@ -95,6 +98,7 @@ impl Cursor<'_> {
     /// The items of a list, and the end of its brackets.
     #[cycle(expressions)]
     #[tactic(auto, unfolding(crate::specs::Grammar::list_literal))]
+    #[inline(never)]
     fn list_literal(&mut self, alloc: Global, depth: u8) -> Result<Boxed<Expr>, Error>
         ensures { Parses result self.new ((list_literal (inside depth)).reads self.old) }
     {
@@ -106,6 +110,7 @@ impl Cursor<'_> {
     /// The pairs of a map, and the end of its brackets.
     #[cycle(expressions)]
     #[tactic(auto, unfolding(crate::specs::Grammar::map_literal))]
+    #[inline(never)]
     fn map_literal(&mut self, alloc: Global, depth: u8) -> Result<Boxed<Expr>, Error>
         ensures { Parses result self.new ((map_literal (inside depth)).reads self.old) }
     {

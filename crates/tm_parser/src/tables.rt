@@ -1,5 +1,5 @@
 //! What a sign or a tag begins: the tables of the grammar.
-ghost use Rattle.std.specs.Prelude.{◌≡◌, ◌<◌, IfSome};
+ghost use Rattle.std.specs.Prelude.{◌≡◌};
 ghost use Rattle.tm_parser.specs.Grammar as grammar;
 ghost use Rattle.tm_parser.specs.Statements as statements;
 
@@ -169,8 +169,7 @@ pub fn negated_link_of(sign: Sign) -> Option<(u8, Link)>
 
 /// The operator before an operand, and the level of the operand.
 pub fn prefix_of(sign: Sign) -> Option<(u8, UnaryOperator)>
-    ensures value { result ≡ grammar.prefix_of sign }
-    ensures above { IfSome result (λ x. 0 < x.0) }
+    ensures { result ≡ grammar.prefix_of sign }
 {
     Some(match sign {
         Sign::Minus => (POWER_LEVEL, UnaryOperator::Negate),

@@ -1,5 +1,6 @@
 //! Names, and the words that are no names.
-ghost use Rattle.std.specs.Prelude.{◌≡◌, ◌<◌, true, false, length, IfSome, encode_utf8_all};
+ghost use Rattle.std.specs.Prelude.{◌≡◌, ◌<◌, true, false, length, nat_eq, IfSome, encode_utf8_all};
+ghost use Rattle.std.specs.Cmp.Lexicographic.{pointwise};
 ghost use Rattle.std.specs.Str.{chars};
 ghost use Rattle.unicode_ident.specs.Ident.{is_xid_continue};
 ghost use Rattle.tm_delimiters.specs.Front.{until};
@@ -57,22 +58,40 @@ pub(crate) fn name_at(text: &str) -> Option<(&str, &str)>
     }
 }
 
+/// Whether the name is this word; texts of another length aren't read.
+#[inline(always)]
+fn is(name: &str, word: &str) -> bool
+    ensures { result ≡ pointwise nat_eq word.now name.now }
+{
+    name.len() == word.len() && name == word
+}
+
 /// Which reserved word the name is.
 pub(crate) fn reserved(name: &str) -> Option<Sign>
     ensures { result ≡ spec.reserved name.now }
 {
-    match name {
-        "and" => Some(Sign::And),
-        "or" => Some(Sign::Or),
-        "not" => Some(Sign::Not),
-        "if" => Some(Sign::If),
-        "else" => Some(Sign::Else),
-        "in" => Some(Sign::In),
-        "is" => Some(Sign::Is),
-        "true" | "True" => Some(Sign::True),
-        "false" | "False" => Some(Sign::False),
-        "none" | "None" => Some(Sign::None),
-        _ => None,
+    if is(name, "and") {
+        Some(Sign::And)
+    } else if is(name, "or") {
+        Some(Sign::Or)
+    } else if is(name, "not") {
+        Some(Sign::Not)
+    } else if is(name, "if") {
+        Some(Sign::If)
+    } else if is(name, "else") {
+        Some(Sign::Else)
+    } else if is(name, "in") {
+        Some(Sign::In)
+    } else if is(name, "is") {
+        Some(Sign::Is)
+    } else if is(name, "true") || is(name, "True") {
+        Some(Sign::True)
+    } else if is(name, "false") || is(name, "False") {
+        Some(Sign::False)
+    } else if is(name, "none") || is(name, "None") {
+        Some(Sign::None)
+    } else {
+        None
     }
 }
 

@@ -15,6 +15,9 @@ use tm_delimiters::{Side, SyntaxConfig, next_tag, trimmed};
 use tm_syntax::Token;
 use tm_values::Error;
 
+/// How many bytes of a source a token stands for, so that the list of tokens seldom grows.
+const BYTES_PER_TOKEN: usize = 3;
+
 /// The source without one newline at its end.
 fn without_final_newline(source: &str) -> &str
     ensures { result.now ≡ spec.without_final_newline source.now }
@@ -48,9 +51,9 @@ pub fn scan(alloc: Global, syntax: &SyntaxConfig, source: &RcStr) -> Result<Vec<
 {
     syntax.note_usable();
     let mut names = NamePool::new(alloc);
-    let mut tokens = Vec::new(alloc);
     let mut before = None;
     let mut rest = read_of(syntax, source.as_str());
+    let mut tokens = Vec::with_capacity(alloc, rest.len() / BYTES_PER_TOKEN)?;
     let shared = SharedSource::new(source, rest);
     while let Some((text, start, behind)) = next_tag(syntax, rest) {
         let part = trimmed(syntax, before, Some(start), shared.part(rest, text));

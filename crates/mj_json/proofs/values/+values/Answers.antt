@@ -2,7 +2,6 @@ use Rattle.std.proofs.Common.{◌≡◌, ◌≤◌, ◌+◌, List, ◌∷◌, So
 use Rattle.std.proofs.lemmas.List.{drop_more, drop-set-lt}
 use Rattle.std.specs.BTreeMap.IterMut.{iter_mut_rest}
 use Rattle.std.specs.Prelude.{false}
-use Rattle.tm_values.specs.Answer.{OkOrOutOfMemory}
 use Rattle.tm_values.specs.Map.{put_all}
 use Rattle.tm_values.specs.Val.{Val, text, map, pairs_of}
 use Rattle.serde_json.specs.Data.{depth, items_depth, members_depth}
@@ -21,9 +20,7 @@ members_of-loop-key-preserved t c =
     let whole = members_of (members_view entries) in
     let key = c.in-Some.key.now in
     let left = iter_mut_rest c.next.new.self in
-    let named : c.in_ok-key.key ≡ text (string_bytes key) false =
-    subst (λ r. OkOrOutOfMemory r (λ v. v ≡ text c.as_str.result.now false)) c.in_ok-key.ensures c.key.ensures
-    ∙ ap (λ s. text s false) c.as_str.ensures.value in
+    let named : c.in_ok-key.key ≡ text (string_bytes key) false = c.in_ok-key.ensures ∙ ap (λ s. text s false) c.as_str.ensures.value in
     let leaves = subst (λ es. Leaves done (members_of (members_view es)) whole) c.in-Some.ensures.steps c.loop-key.invariant.left in
     let deep = subst (λ es. members_depth (members_view es) ≤ members_depth (members_view entries)) c.in-Some.ensures.steps
     c.loop-key.invariant.no_deeper in

@@ -87,6 +87,9 @@ level_room = 8
 abbrev pub decreases-climb : goal.decreases-climb
 decreases-climb l = nesting_room * l.depth + level_room * l.end + 7
 
+abbrev pub decreases-operand_start : goal.decreases-operand_start
+decreases-operand_start l = nesting_room * l.depth + 7
+
 abbrev pub decreases-operand : goal.decreases-operand
 decreases-operand l = nesting_room * l.depth + level_room * l.level + 8
 
@@ -117,8 +120,8 @@ decreases-one_step l = nesting_room * l.depth + level_room * l.level + 13
 abbrev pub decreases-steps : goal.decreases-steps
 decreases-steps l = nesting_room * l.depth + level_room * l.level + 14
 
-abbrev pub decreases-expr_at : goal.decreases-expr_at
-decreases-expr_at l = nesting_room * l.depth + level_room * l.level + 15
+abbrev pub decreases-whole : goal.decreases-whole
+decreases-whole l = nesting_room * l.depth + 80
 
 abbrev pub decreases-else_part : goal.decreases-else_part
 decreases-else_part l = nesting_room * l.depth + 1
