@@ -27,7 +27,7 @@ use tm_operations::{check_settable, dict, namespace, range};
 use tm_printing::check_emission;
 use tm_syntax::{Code, Instruction, LoopFlags, Name, NameMap};
 use tm_tables::{
-    Called, Context, Frame, FuelTracker, Host, LoopState, View, following_at, position_at,
+    Called, Context, Exhausted, Frame, FuelTracker, Host, LoopState, View, following_at, position_at,
     previous_at,
 };
 use tm_values::{
@@ -126,18 +126,18 @@ impl<'env> StateData<'env> {
         }
     }
 
-    /// Charges an instruction; OutOfFuel where no more than its charge is left.
+    /// Charges an instruction; Exhausted where no more than its charge is left.
     #[inline(always)]
-    pub fn charge(&mut self, instruction: &Instruction) -> Result<(), Error>
+    pub fn charge(&mut self, instruction: &Instruction) -> Result<(), Exhausted>
         ensures ok { OnOk result (pay instruction.now self.old ≡ Good tt self.new) }
-        ensures err { IfErr result (λ e. (e ≡ ErrorKind.OutOfFuel ∷ [])
-            × (pay instruction.now self.old ≡ Bad e self.new)) }
+        ensures err { OnErr result
+            (pay instruction.now self.old ≡ Bad (ErrorKind.OutOfFuel ∷ []) self.new) }
         ensures spent { OnOk result
             (self.new.fuel + charge_of instruction.now ≡ self.old.fuel) }
         ensures kept { KeepsIdAndFuel self.old self.new }
         ensures rest { self.new ≡ record self.old { fuel = self.new.fuel } }
     {
-        self.fuel.track(instruction)
+        self.fuel.pay(instruction)
     }
 
     /// The innermost scope's own value of a name, where it has one.

@@ -14,7 +14,7 @@ mod view;
 
 pub use callable::{Callable, CallableAnswer, Called};
 pub use context::{Context, Found, Frame};
-pub use fuel::FuelTracker;
+pub use fuel::{Exhausted, FuelTracker};
 pub use host::Host;
 pub use language::language_globals;
 pub use loops::{LoopState, following_at, position_at, previous_at};

@@ -11,7 +11,7 @@ use std::alloc::{AllocError, Global};
 use std::collections::BTreeMap;
 use std::marker::Model;
 use tm_syntax::Name;
-use tm_values::Value;
+use tm_values::{Node, Value};
 
 /// How many names are told apart by their hashes, one after the other. An index has those behind them, so
 /// that no scope with many names is slow.
@@ -110,9 +110,19 @@ impl Locals {
     pub(crate) fn insert_at_once(&mut self, name: &Name, value: &Value) -> bool
         ensures { OrStays result self.old self.new (self.new ≡ put name.now value.now self.old) }
     {
-        let Ok(value) = value.share() else {
-            return false;
-        };
+        if let Node::Number(whole) = &value.node {
+            return self.put_at_once(name, Value::number(*whole));
+        }
+        match value.share() {
+            Ok(value) => self.put_at_once(name, value),
+            Err(_) => false,
+        }
+    }
+
+    #[inline(always)]
+    fn put_at_once(&mut self, name: &Name, value: Value) -> bool
+        ensures { OrStays result self.old self.new (self.new ≡ put name.now value self.old) }
+    {
         match place_of(&self.first, name) {
             Some(place) => {
                 self.first[place].1 = value;

@@ -1,5 +1,6 @@
 //! A step: an instruction is paid for and done.
-ghost use Rattle.std.specs.Prelude.{◌≡◌, ◌+◌, [], ◌∷◌, OnOk, IfErr, length};
+ghost use Rattle.std.specs.Prelude.{◌≡◌, ◌+◌, [], ◌∷◌, OnOk, OnErr, length};
+ghost use Rattle.tm_values.specs.declared.error.ErrorKind.TheVariants.{OutOfFuel};
 ghost use Rattle.tm_meaning.specs.World.{Good, Bad};
 ghost use Rattle.tm_meaning.specs.Steps.{charge_of, pay, effect, finish, step};
 ghost use Rattle.tm_vm.specs.Answers.{program, CanGoOn, Performs, Finishes, Paid};
@@ -12,7 +13,7 @@ use std::alloc::Global;
 use tm_meaning::Base;
 use tm_parts::{Halt, Sink};
 use tm_syntax::{BinaryOperator, Code, Instruction, UnaryOperator};
-use tm_tables::Host;
+use tm_tables::{Exhausted, Host};
 use tm_values::{Error, ErrorKind};
 
 impl Machine<'_> {
@@ -135,12 +136,13 @@ impl Machine<'_> {
         self.run.place
     }
 
-    /// Pays for an instruction; OutOfFuel where no more than its charge is left.
-    pub(crate) fn charge(&mut self, instruction: &Instruction) -> Result<(), Error>
+    /// Pays for an instruction; Exhausted where no more than its charge is left.
+    #[inline(always)]
+    pub(crate) fn charge(&mut self, instruction: &Instruction) -> Result<(), Exhausted>
         ensures ok { OnOk result
             (pay instruction.now self.old.world ≡ Good tt self.new.world) }
-        ensures err { IfErr result (λ e. (e ≡ ErrorKind.OutOfFuel ∷ [])
-            × (pay instruction.now self.old.world ≡ Bad e self.new.world)) }
+        ensures err { OnErr result
+            (pay instruction.now self.old.world ≡ Bad (OutOfFuel ∷ []) self.new.world) }
         ensures spent { OnOk result
             (self.new.world.fuel + charge_of instruction.now ≡ self.old.world.fuel) }
         ensures kept { KeepsIdAndFuel self.old.world self.new.world }
@@ -187,8 +189,8 @@ impl Machine<'_> {
         let Some(instruction) = instructions.get(self.place()) else {
             return self.finish(base, instructions.len());
         };
-        if let Err(error) = self.charge(instruction) {
-            return Err(Halt::Fault(error));
+        if let Err(_exhausted) = self.charge(instruction) {
+            return Err(Halt::Fault(Error::from(ErrorKind::OutOfFuel)));
         }
         self.perform(alloc, host, base, code, instruction, writer)
     }

@@ -2,24 +2,24 @@ use Rattle.std.proofs.Common.{◌≡◌, ◌∙◌, ◌++◌, [], ◌∷◌, ap,
 use Rattle.tm_syntax.specs.Named.{find, put}
 use Rattle.tm_tables.specs.Locals.{IsPlace, in_order}
 use Rattle.tm_tables.proofs.Ordered.{put_at, put_behind, the_name}
-use Rattle.tm_tables.proofs.locals.Locals.insert_at_once.Goals as goal
+use Rattle.tm_tables.proofs.locals.Locals.put_at_once.Goals as goal
 
 pub returns-in-Some : goal.returns-in-Some
 returns-in-Some c =
     let x = c.args.name.now in
     let first = c.self.inside.first.items in
     let place = subst (λ ps. IsPlace x ps (Some c.in-Some.place)) c.deref.ensures.value c.in-Some.ensures in
-    put_at x c.in-Ok.value c.index_mut.result.now.0 first c.self.inside.others.entries c.in-Some.place
+    put_at x c.args.value c.index_mut.result.now.0 first c.self.inside.others.entries c.in-Some.place
     (the_name x first c.in-Some.place c.index_mut.result.now place c.index_mut.ensures.value) place
-    ∙ (ap (put x c.in-Ok.value) c.self.view_is ∙ ap (λ v. put x v c.args.self.now) c.in-Ok.ensures)
+    ∙ ap (put x c.args.value) c.self.view_is
 
-pub returns-in-Ok-share : goal.returns-in-Ok-share
-returns-in-Ok-share c =
+pub returns-in-Ok : goal.returns-in-Ok
+returns-in-Ok c =
     let x = c.args.name.now in
     let first = c.self.inside.first.items in
     let others = c.self.inside.others.entries in
     ap (λ l. in_order (l ++ others)) c.push_reserved.ensures.items
-    ∙ (subst (λ y. in_order ((first ++ (y, c.in-Ok.value) ∷ []) ++ others) ≡ put x c.in-Ok.value (in_order (first ++ others)))
-    (sym c.in-Ok-share.ensures) (put_behind x c.in-Ok.value first others
+    ∙ (subst (λ y. in_order ((first ++ (y, c.args.value) ∷ []) ++ others) ≡ put x c.args.value (in_order (first ++ others)))
+    (sym c.in-Ok.ensures) (put_behind x c.args.value first others
     (subst (λ ps. find x ps ≡ None) c.deref.ensures.value c.in-None.ensures))
-    ∙ (ap (put x c.in-Ok.value) c.self.view_is ∙ ap (λ v. put x v c.args.self.now) c.in-Ok.ensures))
+    ∙ ap (put x c.args.value) c.self.view_is)
