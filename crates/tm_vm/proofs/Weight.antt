@@ -185,24 +185,9 @@ adds p f (i.BuildTuple n) c = listed 1 n c.run.operands c
 adds p f (i.BuildMap n) c = on_taken_all (Adds 1 c) (ends_adds 1 c) (taken (n + n) [] c.run.operands) c.world _ (λ vs rest. none_more 1 c)
 adds p f (i.BuildKwargs n) c = on_taken_all (Adds 1 c) (ends_adds 1 c) (taken (n + n) [] c.run.operands) c.world _
     (λ vs rest. none_more 1 c)
-adds p f i.Eq c = two_replaced (operated p.host binaries.Equal) c
-adds p f i.Ne c = two_replaced (operated p.host binaries.NotEqual) c
-adds p f i.Lt c = two_replaced (operated p.host binaries.Less) c
-adds p f i.Lte c = two_replaced (operated p.host binaries.LessOrEqual) c
-adds p f i.Gt c = two_replaced (operated p.host binaries.Greater) c
-adds p f i.Gte c = two_replaced (operated p.host binaries.GreaterOrEqual) c
-adds p f i.In c = two_replaced (operated p.host binaries.In) c
 adds p f (i.CompareAndPreserve op) c =
     on_top_all (Adds 1 c) (ends_adds 1 c) c.run.operands c.world _ (λ b vs. on_top_all (Adds 1 c) (ends_adds 1 c) vs c.world _ (λ a rest.
     after_all (Adds 1 c) (ends_adds 1 c) (operated p.host op a b c.world) _ (λ x w. none_more 1 c)))
-adds p f i.Add c = two_replaced (operated p.host binaries.Add) c
-adds p f i.Sub c = two_replaced (operated p.host binaries.Subtract) c
-adds p f i.StringConcat c = two_replaced (operated p.host binaries.Concatenate) c
-adds p f i.Mul c = two_replaced (operated p.host binaries.Multiply) c
-adds p f i.Div c = two_replaced (operated p.host binaries.Divide) c
-adds p f i.IntDiv c = two_replaced (operated p.host binaries.FloorDivide) c
-adds p f i.Rem c = two_replaced (operated p.host binaries.Remainder) c
-adds p f i.Pow c = two_replaced (operated p.host binaries.Power) c
 adds p f i.Neg c = one_replaced (applied_unary p.host unaries.Negate) c
 adds p f i.Not c = one_replaced (applied_unary p.host unaries.Not) c
 adds p f i.Swap c = on_top_all (Adds 1 c) (ends_adds 1 c) c.run.operands c.world _
@@ -248,6 +233,8 @@ adds p f i.EndCapture c = choose_all (Adds 1 c) (ends_adds 1 c) (nat_lt c.run.fl
 adds p f i.PushAutoEscape c = on_top_all (Adds 0 c) (ends_adds 0 c) c.run.operands c.world _
     (λ v vs. after_all (Adds 0 c) (ends_adds 0 c) (answered (escape_for f.first v) c.world) _ (λ e w. none_more 0 c))
 adds p f i.PopAutoEscape c = escape_adds 0 c c.run.escapes
+-- the operators of two operands
+adds p f _ c = search two_replaced
 
 -- ---------------------------------------------------------------- free instructions
 -- What an instruction gives goes on to the next place, or returns from a loop, or ends the run: a run of its own it doesn't need.
