@@ -13,6 +13,7 @@ use tm_values::Value;
 
 /// The members of the JSON object that the bytes spell, each a key and a value. OutOfMemory where
 /// no memory was found, Usage where the bytes are no UTF-8, no JSON, no object or hold a float.
+/// The tree that they are read into is not freed.
 pub fn members(alloc: Global, bytes: &[u8]) -> Result<Vec<(Value, Value)>, Refusal>
     ensures { MatchResult result
         (λ members. IsUtf8 bytes.now × (members_read bytes.now ≡ Some members.items))

@@ -24,17 +24,20 @@ fn value_of(alloc: Global, keys: &mut Keys, json: &mut Json) -> Result<Value, Re
         Json::Bool(truth) => Ok(Value::boolean(*truth)),
         Json::Number(number) => Ok(Value::number(number.as_i128().ok_or(Refusal::Usage)?)),
         Json::String(content) => text_of(alloc, content),
-        Json::Array(items) => made(Value::list(alloc, values_of(alloc, keys, items)?)),
+        Json::Array(items) => made(Value::list(
+            alloc,
+            values_of(alloc, keys, items.as_mut_slice())?,
+        )),
         Json::Object(members) => map_of(alloc, members_of(alloc, keys, members)?),
     }
 }
 
 /// The values of the items of an array, with the same refusals.
 #[cycle(values)]
-fn values_of(alloc: Global, keys: &mut Keys, items: &mut Vec<Json>) -> Result<Vec<Value>, Refusal>
+fn values_of(alloc: Global, keys: &mut Keys, items: &mut [Json]) -> Result<Vec<Value>, Refusal>
     ensures { MatchResult result
-        (λ values. spec.values_of (items_view items.old.items) ≡ Some values.items)
-        (λ e. spec.IsRefusal e (spec.values_of (items_view items.old.items))) }
+        (λ values. spec.values_of (items_view items.old) ≡ Some values.items)
+        (λ e. spec.IsRefusal e (spec.values_of (items_view items.old))) }
 {
     let mut values = Vec::with_capacity(alloc, items.len())?;
     for item in items.iter_mut() {

@@ -62,10 +62,10 @@ value_of-returns-in_ok-members_of-in-Object t c =
 
 pub values_of-value_of-requires : goal.values_of-value_of-requires
 values_of-value_of-requires t c =
-    let items = c.loop-item.item-items in
+    let items = c.loop-item.items in
     let item = c.item-item.result in
     let cut = drop_more items c.loop-item.item-index item (omega arith) in
-    let deep = subst (λ es. items_depth (items_view es) ≤ items_depth (items_view c.args.items.now.items)) cut
+    let deep = subst (λ es. items_depth (items_view es) ≤ items_depth (items_view c.args.items.now)) cut
     c.loop-item.invariant.no_deeper in
     let below = (max_below (depth (view (get_or items c.loop-item.item-index item)))
     (items_depth (items_view (drop (c.loop-item.item-index + 1) items))) _ deep).0 in
@@ -74,8 +74,8 @@ values_of-value_of-requires t c =
 pub values_of-loop-item-preserved : goal.values_of-loop-item-preserved
 values_of-loop-item-preserved t c =
     let done = c.loop-item.values.items in
-    let whole = values_of (items_view c.args.items.now.items) in
-    let items = c.loop-item.item-items in
+    let whole = values_of (items_view c.args.items.now) in
+    let items = c.loop-item.items in
     let at = c.loop-item.item-index in
     let item = get_or items at c.item-item.result in
     let left = drop (at + 1) items in
@@ -83,7 +83,7 @@ values_of-loop-item-preserved t c =
     let kept : drop (at + 1) (set items at emptied) ≡ left = drop-set-lt (at + 1) items at emptied (omega arith) in
     let cut : drop at items ≡ item ∷ left = drop_more items at c.item-item.result (omega arith) in
     let leaves = subst (λ es. Leaves done (values_of (items_view es)) whole) cut c.loop-item.invariant.left in
-    let deep = subst (λ es. items_depth (items_view es) ≤ items_depth (items_view c.args.items.now.items)) cut
+    let deep = subst (λ es. items_depth (items_view es) ≤ items_depth (items_view c.args.items.now)) cut
     c.loop-item.invariant.no_deeper in
     record {
       left = rw (kept, c.in_ok-push.ensures.items)

@@ -11,7 +11,7 @@ abbrev pub decreases-value_of : goal.decreases-value_of
 decreases-value_of l = 2 * depth (view l.json.now)
 
 abbrev pub decreases-values_of : goal.decreases-values_of
-decreases-values_of l = 2 * items_depth (items_view l.items.now.items) + 1
+decreases-values_of l = 2 * items_depth (items_view l.items.now) + 1
 
 abbrev pub decreases-members_of : goal.decreases-members_of
 decreases-members_of l = 2 * members_depth (members_view l.members.now.entries) + 1
@@ -19,8 +19,8 @@ decreases-members_of l = 2 * members_depth (members_view l.members.now.entries) 
 -- the items from the next one on are left
 abbrev pub invariant-values_of-loop-item : goal.invariant-values_of-loop-item
 invariant-values_of-loop-item l = record {
-  left : Leaves l.values.items (values_of (items_view (drop l.item-index l.item-items))) (values_of (items_view l.fn.items.items));
-  no_deeper : items_depth (items_view (drop l.item-index l.item-items)) ≤ items_depth (items_view l.fn.items.items);
+  left : Leaves l.values.items (values_of (items_view (drop l.item-index l.items))) (values_of (items_view l.fn.items));
+  no_deeper : items_depth (items_view (drop l.item-index l.items)) ≤ items_depth (items_view l.fn.items);
 }
 
 -- the members that the iterator still has are left
