@@ -23,6 +23,9 @@ use tm_syntax::{
 };
 use tm_values::{Error, ErrorKind, Value};
 
+// A frame has room for the locals of all that is inlined, so deep trees take less stack where the
+// rarer functions are not.
+
 /// The instruction of a prefix operator.
 fn unary(operator: UnaryOperator) -> Instruction
     ensures { result ≡ unary_code operator }
@@ -34,6 +37,7 @@ fn unary(operator: UnaryOperator) -> Instruction
 }
 
 /// Adds the code of an operator; OutOfMemory.
+#[inline(never)]
 fn push_binary(code: &mut Builder, operator: BinaryOperator) -> Result<(), Error>
     ensures ok { OnOk result (code.new ≡ put (straight (binary_code operator)) code.old) }
     ensures err { IfErr result (λ e. e ≡ OutOfMemory ∷ []) }
@@ -63,6 +67,7 @@ fn push_binary(code: &mut Builder, operator: BinaryOperator) -> Result<(), Error
 }
 
 /// How many arguments a call has whose keywords are one together; OutOfMemory.
+#[inline(never)]
 fn call_count(given: usize, named: usize) -> Result<usize, Error>
     ensures ok { IfOk result (λ n. n ≡ given + min named 1) }
     ensures err { IfErr result (λ e. e ≡ OutOfMemory ∷ []) }
@@ -74,6 +79,7 @@ fn call_count(given: usize, named: usize) -> Result<usize, Error>
 }
 
 /// How many values a call of a method has: these arguments and the value that is called by; OutOfMemory.
+#[inline(never)]
 fn method_count(given: usize, named: usize) -> Result<usize, Error>
     ensures ok { IfOk result (λ n. n ≡ given + min named 1 + 1) }
     ensures err { IfErr result (λ e. e ≡ OutOfMemory ∷ []) }
@@ -131,6 +137,7 @@ pub(crate) fn push_expr(code: &mut Builder, expr: &Expr) -> Result<(), Error>
 
 /// Adds the code of expressions; OutOfMemory.
 #[cycle(expressions)]
+#[inline(never)]
 fn push_exprs(code: &mut Builder, items: &[Expr]) -> Result<(), Error>
     ensures ok { OnOk result (code.new ≡ put (exprs_code (exprs items.now)) code.old) }
     ensures err { IfErr result (λ e. e ≡ OutOfMemory ∷ []) }
@@ -143,6 +150,7 @@ fn push_exprs(code: &mut Builder, items: &[Expr]) -> Result<(), Error>
 
 /// Adds the code of pairs; OutOfMemory.
 #[cycle(expressions)]
+#[inline(never)]
 fn push_pairs(code: &mut Builder, entries: &[Pair]) -> Result<(), Error>
     ensures ok { OnOk result (code.new ≡ put (pairs_code (pairs entries.now)) code.old) }
     ensures err { IfErr result (λ e. e ≡ OutOfMemory ∷ []) }
@@ -167,6 +175,7 @@ fn push_argument(code: &mut Builder, argument: &Argument) -> Result<(), Error>
 
 /// Adds the code of arguments; OutOfMemory.
 #[cycle(expressions)]
+#[inline(never)]
 fn push_arguments(code: &mut Builder, given: &[Argument]) -> Result<(), Error>
     ensures ok { OnOk result (code.new ≡ put (arguments_code (arguments given.now)) code.old) }
     ensures err { IfErr result (λ e. e ≡ OutOfMemory ∷ []) }
@@ -193,6 +202,7 @@ fn push_keywords(code: &mut Builder, named: &[Keyword]) -> Result<(), Error>
 
 /// Adds the code of keywords as one argument, where there are any; OutOfMemory.
 #[cycle(expressions)]
+#[inline(never)]
 fn push_named(code: &mut Builder, named: &[Keyword]) -> Result<(), Error>
     ensures ok { OnOk result (code.new ≡ put (named_code (keywords named.now)) code.old) }
     ensures err { IfErr result (λ e. e ≡ OutOfMemory ∷ []) }
@@ -207,6 +217,7 @@ fn push_named(code: &mut Builder, named: &[Keyword]) -> Result<(), Error>
 /// Adds the tests of conditions, the last first, each with a jump out of what comes after it. Adds
 /// to `outers` the jumps out of what is around each; OutOfMemory.
 #[cycle(expressions)]
+#[inline(never)]
 fn push_tests(
     code: &mut Builder,
     conditions: &[Condition],
@@ -230,6 +241,7 @@ fn push_tests(
 /// Adds what stands for a value where its conditions are false, the first first. Takes from
 /// `outers` the jumps out of what is around each; OutOfMemory.
 #[cycle(expressions)]
+#[inline(never)]
 fn push_otherwise(
     code: &mut Builder,
     conditions: &[Condition],
@@ -251,6 +263,7 @@ fn push_otherwise(
 
 /// Adds the code of a step; OutOfMemory.
 #[cycle(expressions)]
+#[inline(never)]
 fn push_step(code: &mut Builder, step: &Step) -> Result<(), Error>
     ensures ok { OnOk result (code.new ≡ put (step_code step.now) code.old) }
     ensures err { IfErr result (λ e. e ≡ OutOfMemory ∷ []) }
@@ -288,6 +301,7 @@ fn push_step(code: &mut Builder, step: &Step) -> Result<(), Error>
 
 /// Adds the code of an expression, and a jump over it; OutOfMemory.
 #[cycle(expressions)]
+#[inline(never)]
 fn push_over(code: &mut Builder, kind: JumpKind, expr: &Expr) -> Result<(), Error>
     ensures ok { OnOk result (code.new ≡ put (over kind (expr_code expr.now)) code.old) }
     ensures err { IfErr result (λ e. e ≡ OutOfMemory ∷ []) }
@@ -301,6 +315,7 @@ fn push_over(code: &mut Builder, kind: JumpKind, expr: &Expr) -> Result<(), Erro
 
 /// Adds the code of a comparison and those after it; OutOfMemory.
 #[cycle(expressions)]
+#[inline(never)]
 fn push_comparisons(
     code: &mut Builder,
     operator: BinaryOperator,

@@ -13,6 +13,7 @@ use tm_values::{Error, Value};
 
 /// Adds the code of what a loop goes over: with a condition the items for which that is true. A
 /// loop of its own leaves these on the stack below their count; OutOfMemory.
+#[inline(never)]
 pub(crate) fn push_iterable(
     code: &mut Builder,
     target: &AssignmentTarget,

@@ -99,6 +99,7 @@ fn push_statement(
 
 /// Adds the code of a condition and its bodies, like that of a statement; OutOfMemory.
 #[cycle(statements)]
+#[inline(never)]
 fn push_if(
     stream: &mut StreamBuilder,
     blocks: &mut NameMap<Code>,
@@ -148,6 +149,7 @@ fn push_if_true(
 
 /// Adds the code of a loop, like that of a statement; OutOfMemory.
 #[cycle(statements)]
+#[inline(never)]
 fn push_for(
     stream: &mut StreamBuilder,
     blocks: &mut NameMap<Code>,
@@ -177,6 +179,7 @@ fn push_for(
 
 /// Adds the code of a loop's rounds, and that of their blocks; OutOfMemory.
 #[cycle(statements)]
+#[inline(never)]
 fn push_rounds(
     stream: &mut StreamBuilder,
     blocks: &mut NameMap<Code>,
@@ -207,6 +210,7 @@ fn push_rounds(
 /// Adds the code of statements within something that is open around them, and that of their blocks;
 /// OutOfMemory.
 #[cycle(statements)]
+#[inline(never)]
 fn push_within(
     stream: &mut StreamBuilder,
     blocks: &mut NameMap<Code>,
@@ -246,6 +250,7 @@ fn push_statements(
 
 /// Adds a block's own stream to the blocks, after those of the blocks in it; OutOfMemory.
 #[cycle(statements)]
+#[inline(never)]
 fn push_block(
     alloc: Global,
     blocks: &mut NameMap<Code>,

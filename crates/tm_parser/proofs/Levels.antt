@@ -1,6 +1,7 @@
 -- Levels of operators, read in one go.
 use Rattle.std.specs.Prelude.{nat_eq, nat_le, nat_lt, ◌&&◌, is_some, option_and_then, if◌then◌else◌}
-use Rattle.std.proofs.Common.{◌≡◌, ℕ, zero, suc, ◌+◌, ◌-◌, ◌<◌, ◌≤◌, Bool, true, false, List, [], ◌∷◌, Option, None, Some, refl, sym, ap, arith, ◌∙◌}
+use Rattle.std.proofs.Common.{◌≡◌, ℕ, zero, suc, ◌+◌, ◌-◌, ◌<◌, ◌≤◌, Bool, true, false, List, [], ◌∷◌, Option, None, Some, refl, sym}
+use Rattle.std.proofs.Common.{ap, arith, ◌∙◌}
 use Rattle.std.proofs.lemmas.Bool.{leb-true, leb-false, ltb-true, ltb-false, eqb-true, eq-eqb, ne_eqb, and_from, and_parts}
 use Rattle.tm_syntax.specs.declared.token.Token.{Token}
 use Rattle.tm_syntax.specs.declared.token.Token.TheVariants as tokens
@@ -13,8 +14,8 @@ use Rattle.tm_grammar.specs.Meanings.{Read, got, known, first_sees, branch_reads
 use Rattle.tm_grammar.specs.Laws.{not_got, same_got}
 use Rattle.tm_grammar.specs.Growth as growth
 use Rattle.tm_grammar.specs.Combinators.{first, ◌>>=◌, pure, one_more}
-use Rattle.tm_parser.specs.Grammar.{Inside, is, primary, operand, expr_at, whole, prefix, prefix_of, link, step, steps_from, chained, at_level}
-use Rattle.tm_parser.specs.Grammar.{postfix_level, or_level, condition, conditions_from}
+use Rattle.tm_parser.specs.Grammar.{Inside, is, primary, operand, expr_at, whole, prefix, prefix_of, link, step, at_level}
+use Rattle.tm_parser.specs.Grammar.{steps_from, chained, postfix_level, or_level, condition, conditions_from}
 use Rattle.tm_parser.specs.declared.expressions.OperandStart.{OperandStart}
 use Rattle.tm_parser.specs.Levels.{up_to, prefix_up_to, operand_start, climbed, levels, EndsBefore, GoesOnAt}
 
@@ -24,7 +25,8 @@ module _ {A : Type 0} where
   beyond level m None h low high = refl
   beyond level m (Some x) h low high = by_tests (nat_lt 0 x.0) refl (nat_le x.0 level) refl (nat_eq x.0 m) refl
     where
-      by_tests : (a : Bool) → nat_lt 0 x.0 ≡ a → (b : Bool) → nat_le x.0 level ≡ b → (c : Bool) → nat_eq x.0 m ≡ c → at_level m (Some x) ≡ None
+      by_tests : (a : Bool) → nat_lt 0 x.0 ≡ a → (b : Bool) → nat_le x.0 level ≡ b → (c : Bool) → nat_eq x.0 m ≡ c →
+          at_level m (Some x) ≡ None
       by_tests a d b e false f = ap (λ t. if t then Some x.1 else None) f
       by_tests true d true e true f =
           absurd (let g = sym (ap (λ t. if t then Some x else None) (and_from (nat_lt 0 x.0) (nat_le x.0 level) d e)) ∙ h in cc)
@@ -86,7 +88,8 @@ module _ (i : Inside) where
   -- where no prefix stands, an operand of a level begins with one of the level below
   below : (k : ℕ) (ts : List Token) → (prefix (suc k)).sees ts ≡ None → (operand i (suc k)).reads ts ≡ (expr_at i k).reads ts
   unfolding operand expr_at
-  below k ts none = ap (λ seen. branch_reads (λ op. (i.operand (suc k) >>= (λ x. pure (exprs.Unary op x))).reads) (expr_at i k).reads seen ts)
+  below k ts none =
+      ap (λ seen. branch_reads (λ op. (i.operand (suc k) >>= (λ x. pure (exprs.Unary op x))).reads) (expr_at i k).reads seen ts)
       none
 
   all_of : (o : Read Token Expr) → o ≡ option_and_then (λ x. got x.0 x.1) o
@@ -165,7 +168,8 @@ module _ (i : Inside) where
           let high : x.0.0 ≤ level = (at 0).2 in
           down (level - x.0.0) (end - x.0.0) m level x.0.0 ts (omega (arith, e, high)) (omega (arith, high))
           (λ j more less. (at j).0 ∙ ap (known x.1) (elsewhere j x.0 (λ is. omega (arith, is, more))))
-          ∙ ap (option_and_then (λ y. (levels i x.0.0 end y.0).reads y.1)) (taken x.0.0 x.0.1 ts x.1 low ((at x.0.0).0 ∙ ap (known x.1) (here x.0)))
+          ∙ ap (option_and_then (λ y. (levels i x.0.0 end y.0).reads y.1)) (taken x.0.0 x.0.1 ts x.1 low
+          ((at x.0.0).0 ∙ ap (known x.1) (here x.0)))
           ∙ moved (exprs.Unary x.0.1) (λ y. (levels i x.0.0 end y).reads) ((i.operand x.0.0).reads x.1)
           ∙ sym (moved (prefixed x.0) (onward end) ((i.operand x.0.0).reads x.1)) ∙ sym (ap (started end ts) h)
 
@@ -174,7 +178,8 @@ module _ (i : Inside) where
   unfolding climbed
   operand_from level ts = all_of ((operand i level).reads ts) ∙ from_start 0 level level ts (omega arith)
 
-  pub whole_from : (ts : List Token) → (whole i).reads ts ≡ (operand_start i or_level >>= (λ s. levels i s.level (or_level + 1) s.value)).reads ts
+  pub whole_from : (ts : List Token) →
+      (whole i).reads ts ≡ (operand_start i or_level >>= (λ s. levels i s.level (or_level + 1) s.value)).reads ts
   unfolding climbed expr_at
   whole_from ts = from_start 1 (or_level + 1) or_level ts (omega arith)
 
@@ -223,8 +228,10 @@ module _ (i : Inside) where
 
 pub ruleset operands = (operand_from, whole_from)
 
-pub no_condition : (i : Inside) (ts : List Token) → is_some (first_sees (is sign.If) ts) ≡ false → (conditions_from i []).reads ts ≡ got [] ts
-no_condition i ts none = growth.grow_none (first (is sign.If)) (λ a. one_more (condition i)) [] ts (not_seen (first_sees (is sign.If) ts) none)
+pub no_condition : (i : Inside) (ts : List Token) → is_some (first_sees (is sign.If) ts) ≡ false →
+    (conditions_from i []).reads ts ≡ got [] ts
+no_condition i ts none =
+    growth.grow_none (first (is sign.If)) (λ a. one_more (condition i)) [] ts (not_seen (first_sees (is sign.If) ts) none)
   where
     not_seen : {A : Type 0} (o : Option A) → is_some o ≡ false → o ≡ None
     not_seen None h = refl

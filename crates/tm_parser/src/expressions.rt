@@ -29,6 +29,8 @@ pub struct OperandStart {
 }
 
 // Each method reads one rule, with `depth` nestings to go. SyntaxError where no tokens spell it.
+// A frame has room for the locals of all that is inlined, so nested expressions take less stack
+// where the rarer methods are not.
 impl Cursor<'_> {
     /// Refuses a bracket for which no nesting is left.
     #[tactic(auto, using(crate::proofs::Nesting::expressions))]
@@ -95,6 +97,7 @@ impl Cursor<'_> {
     /// A condition and its else part, at the end of others.
     #[cycle(expressions)]
     #[tactic(auto, unfolding(crate::specs::Grammar::condition))]
+    #[inline(never)]
     fn one_condition(
         &mut self,
         alloc: Global,
@@ -236,6 +239,7 @@ impl Cursor<'_> {
     /// An attribute, or the call of a method.
     #[cycle(expressions)]
     #[tactic(auto, unfolding(crate::specs::Grammar::named_step))]
+    #[inline(never)]
     fn named_step(&mut self, alloc: Global, depth: u8) -> Result<Step, Error>
         ensures { Parses result self.new ((named_step (inside depth)).reads self.old) }
     {
@@ -251,6 +255,7 @@ impl Cursor<'_> {
     /// The item or slice in square brackets, and their end.
     #[cycle(expressions)]
     #[tactic(auto, unfolding(crate::specs::Grammar::subscript))]
+    #[inline(never)]
     fn subscript(&mut self, alloc: Global, depth: u8) -> Result<Step, Error>
         ensures { Parses result self.new ((subscript (inside depth)).reads self.old) }
     {
@@ -322,6 +327,7 @@ impl Cursor<'_> {
     /// The right side of a comparison, and the comparisons in a row behind it.
     #[cycle(expressions)]
     #[tactic(auto, unfolding(crate::specs::Grammar::comparison))]
+    #[inline(never)]
     fn comparison(
         &mut self,
         alloc: Global,

@@ -1,6 +1,5 @@
 pub mod Newlines
 pub mod Pools
-pub mod Words
 pub mod Steps
 pub mod Runs
 pub mod Refusals

@@ -99,24 +99,41 @@ pub(crate) fn reserved(name: &str) -> Option<Sign>
 pub(crate) fn tag_of(name: &str) -> Option<Tag>
     ensures { result ≡ spec.tag_of name.now }
 {
-    match name {
-        "if" => Some(Tag::If),
-        "elif" => Some(Tag::Elif),
-        "else" => Some(Tag::Else),
-        "endif" => Some(Tag::Endif),
-        "for" => Some(Tag::For),
-        "endfor" => Some(Tag::Endfor),
-        "break" => Some(Tag::Break),
-        "continue" => Some(Tag::Continue),
-        "block" => Some(Tag::Block),
-        "endblock" => Some(Tag::Endblock),
-        "set" => Some(Tag::Set),
-        "endset" => Some(Tag::Endset),
-        "with" => Some(Tag::With),
-        "endwith" => Some(Tag::Endwith),
-        "do" => Some(Tag::Do),
-        "autoescape" => Some(Tag::Autoescape),
-        "endautoescape" => Some(Tag::Endautoescape),
-        _ => None,
+    if is(name, "if") {
+        Some(Tag::If)
+    } else if is(name, "elif") {
+        Some(Tag::Elif)
+    } else if is(name, "else") {
+        Some(Tag::Else)
+    } else if is(name, "endif") {
+        Some(Tag::Endif)
+    } else if is(name, "for") {
+        Some(Tag::For)
+    } else if is(name, "endfor") {
+        Some(Tag::Endfor)
+    } else if is(name, "break") {
+        Some(Tag::Break)
+    } else if is(name, "continue") {
+        Some(Tag::Continue)
+    } else if is(name, "block") {
+        Some(Tag::Block)
+    } else if is(name, "endblock") {
+        Some(Tag::Endblock)
+    } else if is(name, "set") {
+        Some(Tag::Set)
+    } else if is(name, "endset") {
+        Some(Tag::Endset)
+    } else if is(name, "with") {
+        Some(Tag::With)
+    } else if is(name, "endwith") {
+        Some(Tag::Endwith)
+    } else if is(name, "do") {
+        Some(Tag::Do)
+    } else if is(name, "autoescape") {
+        Some(Tag::Autoescape)
+    } else if is(name, "endautoescape") {
+        Some(Tag::Endautoescape)
+    } else {
+        None
     }
 }
