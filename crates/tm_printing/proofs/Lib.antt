@@ -1,4 +1,5 @@
 pub mod Begun
+pub mod Checks
 pub mod Members
 pub mod Parts
 pub mod Plain

@@ -1,16 +1,15 @@
 -- Verdicts part by part, and the way through namespaces.
 use mathlib.Core.Path.{fun_ext}
-use Rattle.std.proofs.Common.{◌≡◌, ◌<◌, ◌+◌, ℕ, suc, Bool, true, false, cond, nat_eq, List, [], ◌∷◌, length, drop, get_or, ap, sym, ◌∙◌}
+use Rattle.std.proofs.Common.{◌≡◌, ℕ, suc, Bool, true, false, cond, nat_eq, List, length, ap, sym, ◌∙◌}
 use Rattle.std.proofs.Common.{subst, refl, not, Option, Some, Ok, Err}
 use Rattle.std.proofs.lemmas.Bool.{eqb-true}
-use Rattle.std.proofs.lemmas.List.{drop_more}
 use Rattle.std.specs.Result.{IsErrAnd}
 use Rattle.tm_values.specs.Answer.{Answer, IsAnswer, is_memory_alone, invalid}
 use Rattle.tm_values.specs.Records.{RecordData, namespace_at}
-use Rattle.tm_values.specs.Val.{Val, Pairs, vals_of, pairs_of}
+use Rattle.tm_values.specs.Val.{Val, Pairs, pairs_of}
 use Rattle.tm_values.specs.declared.error.ErrorKind.{ErrorKind}
 use Rattle.tm_definitions.specs.Printed.{entered}
-use Rattle.tm_definitions.specs.Verdicts.{NamespaceVerdicts, Way, and_then, verdict, pair_verdict, items_verdict, pairs_verdict, through}
+use Rattle.tm_definitions.specs.Verdicts.{Way, pairs_verdict, through}
 use Rattle.tm_definitions.specs.Verdicts.{nowhere, namespace_verdict, verdict_within}
 use Rattle.tm_definitions.specs.declared.form.Form.{Form}
 
@@ -19,23 +18,6 @@ pub passed : {A : Type 0} (r : Answer A) (e : List ErrorKind) (stated : Answer A
     (is_memory_alone e ≡ false → stated ≡ Err e) → IsAnswer r stated
 passed (Ok u) e stated is h = absurd is
 passed (Err x) e stated is h = subst (λ (y : List ErrorKind). is_memory_alone y ≡ false → stated ≡ Err y) (sym is) h
-
-module _ (form : Form) (r : RecordData) (inside : NamespaceVerdicts) where
-  pub item_first : (vs : List Val) (i : ℕ) (v : Val) → i < length vs → v ≡ get_or vs i v →
-      items_verdict form r inside (vals_of (drop i vs))
-      ≡ and_then (verdict form r inside v) (items_verdict form r inside (vals_of (drop (i + 1) vs)))
-  item_first vs i v h is =
-      let behind = items_verdict form r inside (vals_of (drop (i + 1) vs)) in
-      ap (λ (l : List Val). items_verdict form r inside (vals_of l)) (drop_more vs i v h)
-      ∙ ap (λ (x : Val). and_then (verdict form r inside x) behind) (sym is)
-
-  pub pair_first : (ps : List (Val × Val)) (i : ℕ) (p : Val × Val) → i < length ps → p ≡ get_or ps i p →
-      pairs_verdict form r inside (pairs_of (drop i ps))
-      ≡ and_then (pair_verdict form r inside p) (pairs_verdict form r inside (pairs_of (drop (i + 1) ps)))
-  pair_first ps i p h is =
-      let behind = pairs_verdict form r inside (pairs_of (drop (i + 1) ps)) in
-      ap (λ (l : List (Val × Val)). pairs_verdict form r inside (pairs_of l)) (drop_more ps i p h)
-      ∙ ap (λ (x : Val × Val). and_then (pair_verdict form r inside x) behind) (sym is)
 
 -- a namespace that is there and not on the way, with a level left
 pub namespace-there : (form : Form) (r : RecordData) (levels below : ℕ) (way : Way) (s n : ℕ) (ps : List (Val × Val)) → levels ≡ suc below →

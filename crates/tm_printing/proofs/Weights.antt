@@ -1,7 +1,7 @@
 -- Measures of walks that enter namespaces: a level outweighs what any one namespace holds.
-use Rattle.std.proofs.Common.{◌≡◌, ◌+◌, ◌*◌, ◌<◌, ◌≤◌, ℕ, zero, suc, List, [], ◌∷◌, Option, Some, None, slice_get, arith, subst, cond, ◌==◌}
+use Rattle.std.proofs.Common.{◌≡◌, ◌+◌, ◌*◌, ◌<◌, ◌≤◌, ℕ, zero, suc, List, [], ◌∷◌, Some, None, slice_get, arith, subst, cond, ◌==◌}
 use Rattle.std.proofs.Common.{true, false}
-use Rattle.std.proofs.Math.Nat.{suc-mul, mul-pos, add-mul, mul-lt-mul_of_pos_right}
+use Rattle.std.proofs.Math.Nat.{mul-pos, add-mul, mul-lt-mul_of_pos_right}
 use Rattle.tm_values.specs.Records.{RecordData, namespace_at}
 use Rattle.tm_values.specs.Val.{Val, val_size, vals_size, vals_of, pairs_size, pairs_of}
 use Rattle.tm_printing.specs.Left.{all_sizes, weight, power}
@@ -19,18 +19,9 @@ lighter (qs ∷ rest) zero ps is =
     (omega (arith, positive rest))
 lighter (qs ∷ rest) (suc n) ps is = omega (arith, lighter rest n ps is)
 
-is_there : (r : RecordData) (s n : ℕ) (ps : List (Val × Val)) → namespace_at r s n ≡ Some ps → slice_get r.namespaces n ≡ Some ps
+pub is_there : (r : RecordData) (s n : ℕ) (ps : List (Val × Val)) → namespace_at r s n ≡ Some ps → slice_get r.namespaces n ≡ Some ps
 is_there r s n ps is = elim (r.state == s) as (λ b. cond b (slice_get r.namespaces n) None ≡ Some ps →
     slice_get r.namespaces n ≡ Some ps) [ true ↦ λ h. h | false ↦ λ h. absurd (cc h) ] is
-
--- what a namespace holds weighs less than a level
-pub level-heavier : (r : RecordData) (s n levels : ℕ) (ps : List (Val × Val)) → namespace_at r s n ≡ Some ps →
-    levels * weight r + 2 * pairs_size (pairs_of ps) < (levels + 1) * weight r
-level-heavier r s n levels ps is =
-    let there = is_there r s n ps is in
-    let more : suc levels * weight r ≡ levels * weight r + weight r = suc-mul levels (weight r) in
-    let one : levels + 1 ≡ suc levels = omega arith in
-    rw one (omega (arith, lighter r.namespaces n ps there, more))
 
 scaled : (a k p : ℕ) → a ≤ k → a * p ≤ 1 * (k * p)
 scaled a k p h = grind arith
@@ -68,6 +59,15 @@ pub keyed_lighter : (pair : Val × Val) (ps left : List (Val × Val)) (p : ℕ) 
     val_size pair.1 * p + (pairs_size (pairs_of ps) + 1) * p < (pairs_size (pairs_of left) + 1) * p
 keyed_lighter pair ps left p is pos =
     rw is (parts_lighter (val_size pair.1) (pairs_size (pairs_of ps) + 1)
+    (val_size pair.0 + val_size pair.1 + pairs_size (pairs_of ps) + 2 + 1) p pos (omega arith))
+
+-- where the value and the pairs behind it are put aside
+pub pair_lighter : (pair : Val × Val) (ps left : List (Val × Val)) (p : ℕ) → left ≡ pair ∷ ps → 0 < p →
+    (pairs_size (pairs_of ps) + 1) * p + (val_size pair.1 + 1) * p + val_size pair.0 * p < (pairs_size (pairs_of left) + 1) * p
+pair_lighter pair ps left p is pos =
+    let both : (pairs_size (pairs_of ps) + 1 + (val_size pair.1 + 1)) * p ≡ (pairs_size (pairs_of ps) + 1) * p + (val_size pair.1 + 1) * p =
+    add-mul (pairs_size (pairs_of ps) + 1) (val_size pair.1 + 1) p in
+    rw (is, ← both) (parts_lighter (pairs_size (pairs_of ps) + 1 + (val_size pair.1 + 1)) (val_size pair.0)
     (val_size pair.0 + val_size pair.1 + pairs_size (pairs_of ps) + 2 + 1) p pos (omega arith))
 
 pub value_lighter : (v ps p : ℕ) → 0 < p → v * p + (ps + 1) * p < (v + ps + 2) * p

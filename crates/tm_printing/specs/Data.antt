@@ -1,9 +1,9 @@
 -- What is left of a list or a map, as it is written as JSON.
-use Rattle.std.specs.Prelude.{◌≡◌, ℕ, ◌≤◌, ◌*◌, true, false, List, [], ◌∷◌, ◌++◌, Some, None, Ok}
+use Rattle.std.specs.Prelude.{◌≡◌, ℕ, ◌≤◌, ◌*◌, true, List, [], ◌∷◌, ◌++◌, Some, None, Ok}
 use Rattle.serde_json.specs.Data as json
 use Rattle.serde_json.specs.Written.{compact_text, items_text, members_text}
 use Rattle.tm_values.specs.Records.{RecordData}
-use Rattle.tm_values.specs.Val.{Val, undefined, none, boolean, number, text, list, map, keywords, exports, function, macro, loop, namespace}
+use Rattle.tm_values.specs.Val.{Val, list, map, keywords, exports}
 use Rattle.tm_values.specs.Val.{val_size, vals_of, pairs_of}
 use Rattle.tm_definitions.specs.Json.{json_within, data_of, items_of, members_of, namespace_data, key_text}
 use Rattle.tm_printing.specs.Left.{weight, power, rest_weight, IsLighter}

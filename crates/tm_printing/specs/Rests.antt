@@ -1,7 +1,7 @@
 -- What is left of a list or a map, as it is printed.
-use Rattle.std.specs.Prelude.{◌≡◌, ℕ, ◌≤◌, ◌*◌, true, List, [], ◌∷◌, ◌++◌, Some, None, Ok, codes}
+use Rattle.std.specs.Prelude.{◌≡◌, ℕ, ◌≤◌, ◌*◌, true, List, [], ◌++◌, Some, None, Ok, codes}
 use Rattle.tm_values.specs.Records.{RecordData}
-use Rattle.tm_values.specs.Val.{Val, undefined, none, boolean, number, text, list, map, keywords, exports, function, macro, loop, namespace}
+use Rattle.tm_values.specs.Val.{Val, list, map, keywords}
 use Rattle.tm_values.specs.Val.{val_size, vals_of, pairs_of}
 use Rattle.tm_definitions.specs.Printed.{inner, inner_items, inner_pairs, namespace_text}
 use Rattle.tm_printing.specs.Left.{weight, power, rest_weight, IsLighter}

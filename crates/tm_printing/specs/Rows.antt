@@ -1,5 +1,5 @@
 -- Worked values that no template makes, and what they are written as.
-use Rattle.std.specs.Prelude.{◌≡◌, ℕ, false, List, [], Option, None, Ok, codes}
+use Rattle.std.specs.Prelude.{◌≡◌, ℕ, false, List, [], None, Ok, codes}
 use Rattle.tm_values.specs.Answer.{Answer, refused}
 use Rattle.tm_values.specs.Records.{no_records}
 use Rattle.tm_values.specs.Val.{Val, macro}

@@ -1,11 +1,12 @@
 //! Whether a value can be printed or written as JSON. Nothing is written here.
-ghost use Rattle.std.specs.Prelude.{◌≡◌, OnOk, nat_eq};
+ghost use Rattle.std.specs.Prelude.{◌≡◌, ◌+◌, ◌*◌, ◌≤◌, ◌<◌, ◌++◌, ◌∷◌, [], length, IfErr, MatchOption, OnOk, nat_eq};
 ghost use Rattle.std.specs.HashSet.{contains};
 ghost use Rattle.tm_values.specs.Answer.{IsAnswer};
 ghost use Rattle.tm_values.specs.Plain.{fits_json};
-ghost use Rattle.tm_values.specs.Val.{vals_of, pairs_of};
+ghost use Rattle.tm_values.specs.Val.{val_size, vals_size, pairs_size, namespace, vals_of, pairs_of};
 ghost use Rattle.tm_printing.specs.Plain.{is_plain};
-ghost use Rattle.tm_definitions.specs.Verdicts.{in_json, key_verdict, if_holds, no_json, items_verdict, pair_verdict};
+ghost use Rattle.tm_printing.specs.Unchecked.{Checked, IsLeaf, IsParts, IsWayOf, leaf_verdict, level_weight, unchecked_weight};
+ghost use Rattle.tm_definitions.specs.Verdicts.{in_json, key_verdict, if_holds, no_json, nowhere, items_verdict};
 ghost use Rattle.tm_definitions.specs.Verdicts.{pairs_verdict, namespace_verdict, loop_verdict, verdict_within, print_verdict, json_verdict};
 
 use std::alloc::Global;
@@ -14,8 +15,8 @@ use tm_definitions::Form;
 use tm_values::{Error, ErrorKind, Node, Records, Value, find_loop, find_namespace};
 
 /// Whether the value can be printed: InvalidOperation where a loop or a namespace in it has no
-/// record, or a namespace holds itself. OutOfMemory where the way through namespaces finds no
-/// memory.
+/// record, or a namespace holds itself. OutOfMemory where the list of what is left to check finds
+/// no memory.
 #[inline(always)]
 pub fn check_print<R: Records>(alloc: Global, value: &Value, records: &R) -> Result<(), Error>
     ensures { IsAnswer result (print_verdict (R.records records.now) value.now) }
@@ -26,60 +27,220 @@ pub fn check_print<R: Records>(alloc: Global, value: &Value, records: &R) -> Res
         | Node::Boolean(_)
         | Node::Number(_)
         | Node::Text(_, _) => Ok(()),
-        _ => check_parts(alloc, value, records),
+        _ => check(Form::Printed, alloc, value, records),
     }
-}
-
-// The same of a value that may have parts, out of line.
-#[inline(never)]
-fn check_parts<R: Records>(alloc: Global, value: &Value, records: &R) -> Result<(), Error>
-    ensures { IsAnswer result (print_verdict (R.records records.now) value.now) }
-{
-    let levels = records.namespace_count();
-    let mut way = HashSet::new(alloc);
-    check(Form::Printed, value, records, levels, &mut way)
 }
 
 /// Whether the value can be written as JSON: BadSerialization at a number outside -2^63 to 2^64-1,
 /// a key that is no text, a function, a macro or a loop; InvalidOperation at a namespace that has
-/// no record or holds itself; the first of these from the left. OutOfMemory where the way through
-/// namespaces finds no memory.
+/// no record or holds itself; the first of these from the left. OutOfMemory where the list of what
+/// is left to check finds no memory.
 pub fn check_json<R: Records>(alloc: Global, value: &Value, records: &R) -> Result<(), Error>
     ensures { IsAnswer result (json_verdict (R.records records.now) value.now) }
 {
-    let levels = records.namespace_count();
-    let mut way = HashSet::new(alloc);
-    check(Form::Json, value, records, levels, &mut way)
+    check(Form::Json, alloc, value, records)
 }
 
-// The numbers of the namespaces that are being gone through are in `way`.
-#[cycle(checking)]
-fn check<R: Records>(
+/// What is left to check. Namespaces in it are entered so many levels deep.
+#[derive(Clone, Copy)]
+pub enum Unchecked<'a> {
+    /// Items of a list.
+    Items(&'a [Value], usize),
+    /// Pairs of a map or a namespace.
+    Pairs(&'a [(Value, Value)], usize),
+    /// A value of a pair.
+    Value(&'a Value, usize),
+    /// The end of the namespace of this number.
+    End(usize),
+}
+
+// What is looked at is in the list, and the numbers of the namespaces that are being gone through
+// are in `way`.
+fn check<R: Records>(form: Form, alloc: Global, value: &Value, records: &R) -> Result<(), Error>
+    ensures { IsAnswer result (verdict_within form (R.records records.now)
+        (length (R.records records.now).namespaces) nowhere value.now) }
+{
+    let mut left = Vec::new(alloc);
+    let mut way = HashSet::new(alloc);
+    enter(
+        form,
+        value,
+        records.namespace_count(),
+        records,
+        &mut left,
+        &mut way,
+    )?;
+    while let Some(last) = left.pop() {
+        match last {
+            Unchecked::Items(items, levels) => {
+                check_items(form, items, levels, records, &mut left, &mut way)?
+            }
+            Unchecked::Pairs(pairs, levels) => {
+                check_pairs(form, pairs, levels, records, &mut left, &mut way)?
+            }
+            Unchecked::Value(value, levels) => {
+                enter(form, value, levels, records, &mut left, &mut way)?
+            }
+            Unchecked::End(index) => {
+                way.remove(&index);
+            }
+        }
+    }
+    Ok(())
+}
+
+// Checks the first item, and puts the others into the list.
+fn check_items<'a, R: Records>(
     form: Form,
-    value: &Value,
-    records: &R,
+    items: &'a [Value],
     levels: usize,
+    records: &'a R,
+    left: &mut Vec<Unchecked<'a>>,
     way: &mut HashSet<usize>,
 ) -> Result<(), Error>
-    ensures answer { IsAnswer result
-        (verdict_within form (R.records records.now) levels (contains nat_eq way.old) value.now) }
-    ensures way { OnOk result (contains nat_eq way.new ≡ contains nat_eq way.old) }
+    requires { IsWayOf left.old.items (contains nat_eq way.old) }
+    ensures verdict { Checked form (R.records records.now) result (items_verdict form
+        (R.records records.now) (namespace_verdict form (R.records records.now) levels
+        (contains nat_eq way.old)) (vals_of items.now)) left.old.items left.new.items }
+    ensures way { OnOk result (IsWayOf left.new.items (contains nat_eq way.new)) }
+    ensures weight { OnOk result (unchecked_weight (R.records records.now) left.new.items
+        < unchecked_weight (R.records records.now) left.old.items
+        + (vals_size (vals_of items.now) + 1) * level_weight (R.records records.now) levels) }
+{
+    let Some((item, behind)) = items.split_first() else {
+        return Ok(());
+    };
+    put(Unchecked::Items(behind, levels), left)?;
+    enter(form, item, levels, records, left, way)
+}
+
+// Checks the first pair's key, and puts its value and the other pairs into the list.
+fn check_pairs<'a, R: Records>(
+    form: Form,
+    pairs: &'a [(Value, Value)],
+    levels: usize,
+    records: &'a R,
+    left: &mut Vec<Unchecked<'a>>,
+    way: &mut HashSet<usize>,
+) -> Result<(), Error>
+    requires { IsWayOf left.old.items (contains nat_eq way.old) }
+    ensures verdict { Checked form (R.records records.now) result (pairs_verdict form
+        (R.records records.now) (namespace_verdict form (R.records records.now) levels
+        (contains nat_eq way.old)) (pairs_of pairs.now)) left.old.items left.new.items }
+    ensures way { OnOk result (IsWayOf left.new.items (contains nat_eq way.new)) }
+    ensures weight { OnOk result (unchecked_weight (R.records records.now) left.new.items
+        < unchecked_weight (R.records records.now) left.old.items
+        + (pairs_size (pairs_of pairs.now) + 1) * level_weight (R.records records.now) levels) }
+{
+    let Some((pair, behind)) = pairs.split_first() else {
+        return Ok(());
+    };
+    check_key(form, &pair.0)?;
+    put(Unchecked::Pairs(behind, levels), left)?;
+    put(Unchecked::Value(&pair.1, levels), left)?;
+    enter(form, &pair.0, levels, records, left, way)
+}
+
+// Checks a value without parts, or puts the parts into the list.
+fn enter<'a, R: Records>(
+    form: Form,
+    value: &'a Value,
+    levels: usize,
+    records: &'a R,
+    left: &mut Vec<Unchecked<'a>>,
+    way: &mut HashSet<usize>,
+) -> Result<(), Error>
+    requires { IsWayOf left.old.items (contains nat_eq way.old) }
+    ensures verdict { Checked form (R.records records.now) result (verdict_within form
+        (R.records records.now) levels (contains nat_eq way.old) value.now)
+        left.old.items left.new.items }
+    ensures way { OnOk result (IsWayOf left.new.items (contains nat_eq way.new)) }
+    ensures weight { OnOk result (unchecked_weight (R.records records.now) left.new.items
+        ≤ unchecked_weight (R.records records.now) left.old.items
+        + val_size value.now * level_weight (R.records records.now) levels) }
 {
     if is_plain(form, value) {
         return Ok(());
     }
     match &value.node {
-        Node::Undefined(_) | Node::None | Node::Boolean(_) | Node::Text(_, _) => Ok(()),
+        Node::Namespace(state, index) => {
+            enter_namespace(form, *state, *index, levels, records, left, way)
+        }
+        _ => match parts(form, value, levels) {
+            Some(parts) => put(parts, left),
+            None => check_leaf(form, value, records),
+        },
+    }
+}
+
+// Puts what a namespace holds into the list, and before that its end.
+fn enter_namespace<'a, R: Records>(
+    form: Form,
+    state: u64,
+    index: usize,
+    levels: usize,
+    records: &'a R,
+    left: &mut Vec<Unchecked<'a>>,
+    way: &mut HashSet<usize>,
+) -> Result<(), Error>
+    requires { IsWayOf left.old.items (contains nat_eq way.old) }
+    ensures verdict { Checked form (R.records records.now) result (verdict_within form
+        (R.records records.now) levels (contains nat_eq way.old) (namespace state index))
+        left.old.items left.new.items }
+    ensures way { OnOk result (IsWayOf left.new.items (contains nat_eq way.new)) }
+    ensures weight { OnOk result (unchecked_weight (R.records records.now) left.new.items
+        ≤ unchecked_weight (R.records records.now) left.old.items
+        + level_weight (R.records records.now) levels) }
+{
+    let Some(inside) = levels.checked_sub(1) else {
+        return Err(Error::from(ErrorKind::InvalidOperation));
+    };
+    let Some(entries) = find_namespace(records, state, index) else {
+        return Err(Error::from(ErrorKind::InvalidOperation));
+    };
+    if !way.insert(index)? {
+        return Err(Error::from(ErrorKind::InvalidOperation));
+    }
+    put(Unchecked::End(index), left)?;
+    put(Unchecked::Pairs(entries.pairs(), inside), left)
+}
+
+fn put<'a>(unchecked: Unchecked<'a>, left: &mut Vec<Unchecked<'a>>) -> Result<(), Error>
+    ensures items { OnOk result (left.new.items ≡ left.old.items ++ unchecked.entry ∷ []) }
+    ensures memory { IfErr result (λ e. e ≡ ErrorKind.OutOfMemory ∷ []) }
+{
+    match left.push(unchecked) {
+        Ok(()) => Ok(()),
+        Err(_) => Err(Error::from(ErrorKind::OutOfMemory)),
+    }
+}
+
+// The parts of a list, a map or, in JSON, a module.
+fn parts<'a>(form: Form, value: &'a Value, levels: usize) -> Option<Unchecked<'a>>
+    ensures { MatchOption result (IsLeaf form value.now) (IsParts form levels value.now) }
+{
+    match &value.node {
+        Node::List(items, _) => Some(Unchecked::Items(items.as_slice(), levels)),
+        Node::Map(pairs, _) | Node::Keywords(pairs, _) => {
+            Some(Unchecked::Pairs(pairs.as_slice(), levels))
+        }
+        Node::Exports(pairs, _) => match form {
+            Form::Printed => None,
+            Form::Json => Some(Unchecked::Pairs(pairs.as_slice(), levels)),
+        },
+        _ => None,
+    }
+}
+
+// Checks a value without parts. What has parts is put into the list.
+fn check_leaf<R: Records>(form: Form, value: &Value, records: &R) -> Result<(), Error>
+    ensures { IsAnswer result (leaf_verdict form (R.records records.now) value.now) }
+{
+    match &value.node {
         Node::Number(number) => check_number(form, *number),
-        Node::List(items, _) => check_items(form, items.as_slice(), records, levels, way),
-        Node::Map(pairs, _) => check_pairs(form, pairs.as_slice(), records, levels, way),
-        Node::Keywords(pairs, _) => check_pairs(form, pairs.as_slice(), records, levels, way),
-        Node::Exports(pairs, _) => check_module(form, pairs.as_slice(), records, levels, way),
         Node::Function(_) | Node::Macro(_) => check_unwritable(form),
         Node::Loop(state, index) => check_loop(form, *state, *index, records),
-        Node::Namespace(state, index) => check_namespace(
-            form, *state, *index, records, levels, way,
-        ),
+        _ => Ok(()),
     }
 }
 
@@ -91,110 +252,6 @@ fn is_plain(form: Form, value: &Value) -> bool
         Form::Printed => value.plain().in_print,
         Form::Json => value.plain().in_json,
     }
-}
-
-// A module is printed as its text.
-#[cycle(checking)]
-fn check_module<R: Records>(
-    form: Form,
-    pairs: &[(Value, Value)],
-    records: &R,
-    levels: usize,
-    way: &mut HashSet<usize>,
-) -> Result<(), Error>
-    ensures answer { IsAnswer result (in_json form (pairs_verdict form (R.records records.now)
-        (namespace_verdict form (R.records records.now) levels (contains nat_eq way.old))
-        (pairs_of pairs.now))) }
-    ensures way { OnOk result (contains nat_eq way.new ≡ contains nat_eq way.old) }
-{
-    match form {
-        Form::Printed => Ok(()),
-        Form::Json => check_pairs(form, pairs, records, levels, way),
-    }
-}
-
-#[cycle(checking)]
-fn check_items<R: Records>(
-    form: Form,
-    items: &[Value],
-    records: &R,
-    levels: usize,
-    way: &mut HashSet<usize>,
-) -> Result<(), Error>
-    ensures answer { IsAnswer result (items_verdict form (R.records records.now)
-        (namespace_verdict form (R.records records.now) levels (contains nat_eq way.old))
-        (vals_of items.now)) }
-    ensures way { OnOk result (contains nat_eq way.new ≡ contains nat_eq way.old) }
-{
-    for item in items {
-        check(form, item, records, levels, way)?;
-    }
-    Ok(())
-}
-
-#[cycle(checking)]
-fn check_pairs<R: Records>(
-    form: Form,
-    pairs: &[(Value, Value)],
-    records: &R,
-    levels: usize,
-    way: &mut HashSet<usize>,
-) -> Result<(), Error>
-    ensures answer { IsAnswer result (pairs_verdict form (R.records records.now)
-        (namespace_verdict form (R.records records.now) levels (contains nat_eq way.old))
-        (pairs_of pairs.now)) }
-    ensures way { OnOk result (contains nat_eq way.new ≡ contains nat_eq way.old) }
-{
-    for pair in pairs {
-        check_pair(form, pair, records, levels, way)?;
-    }
-    Ok(())
-}
-
-#[cycle(checking)]
-fn check_pair<R: Records>(
-    form: Form,
-    pair: &(Value, Value),
-    records: &R,
-    levels: usize,
-    way: &mut HashSet<usize>,
-) -> Result<(), Error>
-    ensures answer { IsAnswer result (pair_verdict form (R.records records.now)
-        (namespace_verdict form (R.records records.now) levels (contains nat_eq way.old))
-        pair.now) }
-    ensures way { OnOk result (contains nat_eq way.new ≡ contains nat_eq way.old) }
-{
-    check_key(form, &pair.0)?;
-    check(form, &pair.0, records, levels, way)?;
-    check(form, &pair.1, records, levels, way)
-}
-
-#[cycle(checking)]
-fn check_namespace<R: Records>(
-    form: Form,
-    state: u64,
-    index: usize,
-    records: &R,
-    levels: usize,
-    way: &mut HashSet<usize>,
-) -> Result<(), Error>
-    ensures answer { IsAnswer result
-        (namespace_verdict form (R.records records.now) levels (contains nat_eq way.old)
-        state index) }
-    ensures way { OnOk result (contains nat_eq way.new ≡ contains nat_eq way.old) }
-{
-    let Some(inside) = levels.checked_sub(1) else {
-        return Err(Error::from(ErrorKind::InvalidOperation));
-    };
-    let Some(entries) = find_namespace(records, state, index) else {
-        return Err(Error::from(ErrorKind::InvalidOperation));
-    };
-    if !way.insert(index)? {
-        return Err(Error::from(ErrorKind::InvalidOperation));
-    }
-    check_pairs(form, entries.pairs(), records, inside, way)?;
-    way.remove(&index);
-    Ok(())
 }
 
 fn check_number(form: Form, number: i128) -> Result<(), Error>

@@ -5,8 +5,9 @@ ghost use Rattle.tm_output.specs.Targets.{Takes};
 use std::alloc::{AllocError, Global};
 use std::io::{self, Write};
 use std::test::Fail;
-use tm_output::{Counted, NullWriter, Target, TargetFailed, write_text};
-use tm_printing::{Html, write_spelled};
+use tm_output::{Counted, Limited, NullWriter, Target, TargetFailed, write_text};
+use tm_printing::{Html, Unwritten, check_emission, emit, write_spelled};
+use tm_values::{AutoEscape, Error, NoRecords, Value};
 
 /// A writer that takes at most `step` bytes a call until `room` is spent, and then fails, also at a
 /// flush, or takes nothing where it has no error.
@@ -152,4 +153,58 @@ fn the_error_of_a_fault(rt: HostRuntime) {
     let interrupted = Some(io::ErrorKind::Interrupted);
     assert!(rt; fault_of(rt.alloc(), None) == Some(io::ErrorKind::WriteZero));
     assert!(rt; fault_of(rt.alloc(), interrupted) == interrupted);
+}
+
+// A number within so many lists, each of as many items, which are the same.
+fn nested(alloc: Global, depth: usize, items: usize) -> Result<Value, Error> {
+    let mut value = Value::number(1);
+    for _ in 0..depth {
+        value = repeated(alloc, value, items)?;
+    }
+    Ok(value)
+}
+
+fn repeated(alloc: Global, value: Value, count: usize) -> Result<Value, Error> {
+    let mut items = Vec::new(alloc);
+    for _ in 0..count {
+        items.push(value.share()?)?;
+    }
+    Value::list(alloc, items)
+}
+
+// Whether the value is written, in so many bytes.
+fn is_written(alloc: Global, value: &Value, escape: AutoEscape, length: usize) -> bool {
+    let mut writer = Counted::new(Fake::new(alloc, usize::MAX, usize::MAX, None));
+    check_emission(alloc, value, escape, &NoRecords).is_ok()
+        && emit(alloc, value, escape, &NoRecords, &mut writer) == Ok(())
+        && writer.inner().bytes.len() == length
+}
+
+// Whether the value, which is too long for the writer, is written up to its end in few calls.
+fn is_cut_off(alloc: Global, value: &Value, escape: AutoEscape) -> bool {
+    let writer = Counted::new(Fake::new(alloc, usize::MAX, usize::MAX, None));
+    let mut limited = Limited::new(writer, 1000);
+    check_emission(alloc, value, escape, &NoRecords).is_ok()
+        && emit(alloc, value, escape, &NoRecords, &mut limited) == Err(Unwritten::Target)
+        && limited.inner().inner().bytes.len() == 1000
+        && limited.inner().inner().calls < 2000
+}
+
+#[test]
+fn deep_values_take_no_deep_stack(rt: HostRuntime) -> Result<(), Fail> {
+    let value = nested(rt.alloc(), 1_000_000, 1)?;
+    assert!(rt; is_written(rt.alloc(), &value, AutoEscape::None, 2_000_001));
+    assert!(rt; is_written(rt.alloc(), &value, AutoEscape::Html, 2_000_001));
+    assert!(rt; is_written(rt.alloc(), &value, AutoEscape::Json, 2_000_001));
+    assert!(rt; value == nested(rt.alloc(), 1_000_000, 1)?);
+    Ok(())
+}
+
+#[test]
+fn doubled_values_are_checked_at_once(rt: HostRuntime) -> Result<(), Fail> {
+    let value = nested(rt.alloc(), 60, 2)?;
+    assert!(rt; is_cut_off(rt.alloc(), &value, AutoEscape::None));
+    assert!(rt; is_cut_off(rt.alloc(), &value, AutoEscape::Html));
+    assert!(rt; is_cut_off(rt.alloc(), &value, AutoEscape::Json));
+    Ok(())
 }

@@ -1,4 +1,4 @@
-use Rattle.std.proofs.Common.{ℕ, List, [], ◌∷◌, ◌++◌}
+use Rattle.std.proofs.Common.{[], ◌∷◌, ◌++◌}
 use Rattle.tm_output.proofs.Written.{at_opening, within, closed}
 use Rattle.tm_definitions.specs.Json.{key_text}
 use Rattle.tm_printing.proofs.compact.write_key.Goals as goal

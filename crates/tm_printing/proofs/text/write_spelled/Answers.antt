@@ -1,8 +1,8 @@
 use Rattle.std.proofs.lemmas.Grind.{common_steps}
-use Rattle.std.proofs.Common.{◌≡◌, ◌<◌, ◌+◌, ◌++◌, ℕ, [], ◌∷◌, get_or, length, sym, ap, ◌∙◌, arith, subst, rules}
+use Rattle.std.proofs.Common.{◌≡◌, ◌<◌, ◌+◌, ◌++◌, ℕ, [], ◌∷◌, get_or, length, ap, ◌∙◌, arith, subst}
 use Rattle.std.proofs.lemmas.Str.{IsCharBoundary-start, IsCharBoundary-after_ascii}
 use Rattle.tm_output.proofs.Written.{all_ahead, rest_is, past}
-use Rattle.tm_printing.proofs.Runs.{left, plain_step, spelled_step, left-at_end}
+use Rattle.tm_printing.proofs.Runs.{left, plain_step, spelled_step}
 use Rattle.tm_printing.proofs.text.write_spelled.Goals as goal
 use Rattle.tm_printing.proofs.text.write_spelled.Goals.{in-Some+in_ok-take_text+in_ok-take_text-2, in_default}
 

@@ -1,4 +1,4 @@
-use Rattle.std.proofs.Common.{◌≡◌, ℕ, Option, Some, Ok, ap, sym, subst, length}
+use Rattle.std.proofs.Common.{ℕ, Option, Some, Ok, subst, length}
 use Rattle.tm_printing.proofs.Begun.{behind_it}
 use Rattle.tm_printing.specs.Left.{Begins}
 use Rattle.tm_printing.specs.declared.rest.Rest.{Rest}
