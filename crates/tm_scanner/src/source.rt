@@ -15,8 +15,11 @@ use tm_delimiters::{Side, SyntaxConfig, next_tag, trimmed};
 use tm_syntax::Token;
 use tm_values::Error;
 
-/// How many bytes of a source a token stands for, so that the list of tokens seldom grows.
+/// How many bytes of a source a token takes at least, mostly.
 const BYTES_PER_TOKEN: usize = 3;
+
+/// For how many tokens there is room from the start, at most.
+const MOST_ROOM: usize = 4096;
 
 /// The source without one newline at its end.
 fn without_final_newline(source: &str) -> &str
@@ -53,7 +56,8 @@ pub fn scan(alloc: Global, syntax: &SyntaxConfig, source: &RcStr) -> Result<Vec<
     let mut names = NamePool::new(alloc);
     let mut before = None;
     let mut rest = read_of(syntax, source.as_str());
-    let mut tokens = Vec::with_capacity(alloc, rest.len() / BYTES_PER_TOKEN)?;
+    let room = MOST_ROOM.min(rest.len() / BYTES_PER_TOKEN);
+    let mut tokens = Vec::with_capacity(alloc, room)?;
     let shared = SharedSource::new(source, rest);
     while let Some((text, start, behind)) = next_tag(syntax, rest) {
         let part = trimmed(syntax, before, Some(start), shared.part(rest, text));
