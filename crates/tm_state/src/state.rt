@@ -1,6 +1,6 @@
 //! The data of a state.
 ghost use Rattle.std.specs.List.Sorted.{IsStrictlySortedBy};
-ghost use Rattle.std.specs.Prelude.{◌≡◌, ◌+◌, ◌≤◌, ◌<◌, List, [], ◌∷◌, ◌++◌, Some, None, false, true, is_some, length};
+ghost use Rattle.std.specs.Prelude.{◌-◌, ◌≡◌, ◌+◌, ◌≤◌, ◌<◌, List, [], ◌∷◌, ◌++◌, Some, None, false, true, is_some, length};
 ghost use Rattle.std.specs.Prelude.{nat_lt, slice_get, Ok, OnOk, OnErr, IfErr, IfOk, IfSome, MatchOption, MatchResult};
 ghost use Rattle.tm_values.specs.Answer.{IsAnswer, OkOrOutOfMemory, OrStays, IsLent};
 ghost use Rattle.tm_meaning.specs.Memory.{is_want_of_memory};
@@ -138,6 +138,23 @@ impl<'env> StateData<'env> {
         ensures rest { self.new ≡ record self.old { fuel = self.new.fuel } }
     {
         self.fuel.pay(instruction)
+    }
+
+    /// Whether a charge of one can be paid.
+    #[inline(always)]
+    pub fn can_pay(&self) -> bool
+        ensures { result ≡ nat_lt 1 self.now.fuel }
+    {
+        self.fuel.can_pay()
+    }
+
+    /// Pays a charge of one.
+    #[inline(always)]
+    pub fn pay_one(&mut self)
+        requires { 1 < self.old.fuel }
+        ensures { self.new ≡ record self.old { fuel = self.old.fuel - 1 } }
+    {
+        self.fuel.pay_one();
     }
 
     /// The innermost scope's own value of a name, where it has one.

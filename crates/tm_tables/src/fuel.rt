@@ -1,5 +1,5 @@
 //! Fuel: how many charges a run may take.
-ghost use Rattle.std.specs.Prelude.{◌≡◌, ◌+◌, ◌≤◌, [], ◌∷◌, Some, None, OnOk, IfErr};
+ghost use Rattle.std.specs.Prelude.{◌≡◌, ◌+◌, ◌≤◌, [], ◌∷◌, Some, None, OnOk, IfErr, ◌<◌, ◌-◌, nat_lt};
 ghost use Rattle.tm_values.specs.declared.error.ErrorKind.TheVariants.{OutOfFuel};
 ghost use Rattle.tm_meaning.specs.World.{charged};
 ghost use Rattle.tm_meaning.specs.Steps.{charge_of};
@@ -143,6 +143,23 @@ impl FuelTracker {
         }
         self.remaining -= charge;
         Ok(())
+    }
+
+    /// Whether a charge of one can be paid.
+    #[inline(always)]
+    pub fn can_pay(&self) -> bool
+        ensures { result ≡ nat_lt 1 self.now.left }
+    {
+        1 < self.remaining
+    }
+
+    /// Pays a charge of one.
+    #[inline(always)]
+    pub fn pay_one(&mut self)
+        requires { 1 < self.old.left }
+        ensures { self.new ≡ record self.old { left = self.old.left - 1 } }
+    {
+        self.remaining -= 1;
     }
 
     /// The fuel that is left.

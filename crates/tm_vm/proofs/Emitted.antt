@@ -15,7 +15,7 @@ use Rattle.tm_output.specs.declared.target.TargetFailed.{TargetFailed}
 use Rattle.tm_output.specs.Counts.{AppendsBeginning}
 use Rattle.tm_state.specs.Answers.{KeepsIdAndFuel}
 use Rattle.tm_vm.specs.Answers.{SameScopes, output}
-use Rattle.tm_vm.specs.AtOnce.{Attempted, written_of}
+use Rattle.tm_vm.specs.AtOnce.{Attempted, paid, written_of}
 use Rattle.tm_vm.proofs.Performed.{chosen}
 
 -- no formatter is asked, and nothing refuses
@@ -46,28 +46,30 @@ pub emitted_at_once : (told now : Option (List ℕ)) (failures count : ℕ) (hos
     (rest : List Val) (answer : Result (Unit {0}) TargetFailed) → old.captures ≡ [] → audible f old ≡ true →
     old.run.operands ≡ v ∷ rest → host.formatter ≡ None → refusal_of host.undefined Emission v ≡ None →
     emission_verdict old.world.escape (records_of old.world) v ≡ Ok tt →
-    new ≡ record old { run = record old.run { operands = drop 1 old.run.operands; place = old.run.place + 1 } } →
+    new ≡ record (paid old) { run = record old.run { operands = drop 1 old.run.operands; place = old.run.place + 1 } } →
     MatchResult answer
     (λ _. IsToldWhole told failures (emitted_text old.world.escape (records_of old.world) v) now count)
     (λ _. IsToldInPart told failures (emitted_text old.world.escape (records_of old.world) v) now count) →
-    Attempted (written_of answer) (emit_of host f old) old new told now failures count
+    Attempted (written_of answer) (emit_of host f) old new told now failures count
 emitted_at_once told now failures count host f old new v rest (Ok u) none heard top unformatted defined fine moved taken =
+    let c = paid old in
     let text = emitted_text old.world.escape (records_of old.world) v in
-    let at = goes_on host f old new v rest text none heard top (emitted_known host v old.world unformatted defined fine) moved in
+    let at = goes_on host f c new v rest text none heard top (emitted_known host v c.world unformatted defined fine) moved in
     record {
       did = (at ∙ ap (λ t. More t new) (sym (ap output at)), subst (λ t. Appends told now t) (sym (ap output at)) taken.0);
       counted = taken.1;
-      kept = kept_in old new moved;
-      same_scopes = subst (λ (w : World). SameScopes old.world w) (sym (ap (λ (c : Config). c.world) moved)) (refl, refl);
+      kept = kept_in c new moved;
+      same_scopes = subst (λ (w : World). SameScopes c.world w) (sym (ap (λ (c : Config). c.world) moved)) (refl, refl);
       same_stream = ap (λ (c : Config). c.run.stream) moved;
     }
 emitted_at_once told now failures count host f old new v rest (Err e) none heard top unformatted defined fine moved taken =
+    let c = paid old in
     let text = emitted_text old.world.escape (records_of old.world) v in
-    let at = goes_on host f old new v rest text none heard top (emitted_known host v old.world unformatted defined fine) moved in
+    let at = goes_on host f c new v rest text none heard top (emitted_known host v c.world unformatted defined fine) moved in
     record {
       did = (tt, subst (λ t. AppendsBeginning told now t) (sym (ap output at)) taken.0);
       counted = taken.1;
-      kept = kept_in old new moved;
-      same_scopes = subst (λ (w : World). SameScopes old.world w) (sym (ap (λ (c : Config). c.world) moved)) (refl, refl);
+      kept = kept_in c new moved;
+      same_scopes = subst (λ (w : World). SameScopes c.world w) (sym (ap (λ (c : Config). c.world) moved)) (refl, refl);
       same_stream = ap (λ (c : Config). c.run.stream) moved;
     }

@@ -9,7 +9,9 @@ use Rattle.tm_meaning.specs.Instructions.{call_block_of}
 use Rattle.tm_meaning.specs.Machine.{Config, Next, More, Nest, Program, after, asked_in_place, audible, base_of, start, with_world}
 use Rattle.tm_meaning.specs.Meaning.{none_waits}
 use Rattle.tm_meaning.specs.declared.stream.StreamId.{StreamId}
-use Rattle.tm_meaning.specs.Steps.{act, effect, pay, step}
+use Rattle.std.proofs.Common.{◌-◌, nat_lt}
+use Rattle.std.proofs.lemmas.Bool.Decides.{nat_tests}
+use Rattle.tm_meaning.specs.Steps.{act, charge_of, effect, pay, step}
 use Rattle.tm_syntax.specs.declared.instruction.Instruction.{Instruction}
 use Rattle.tm_state.specs.Answers.{KeepsIdAndFuel}
 use Rattle.tm_vm.proofs.Loop.{kept_then}
@@ -21,7 +23,9 @@ use Rattle.tm_meaning.specs.World.{World, Good, block_of, choose}
 use Rattle.tm_state.specs.State.{runs_block, saved_of}
 use Rattle.tm_vm.specs.Answers.{Depths, Did, Enters, entered, OneDeeper, Performs, Writes, Silently, Opens, Shifts, Needs, SameScopes}
 use Rattle.tm_vm.specs.Answers.{NoFewer, KeepsBaseScopes, output}
-use Rattle.tm_vm.specs.AtOnce.{Attempted, IsAtOnce, attempt_of}
+use Rattle.tm_vm.specs.AtOnce.{Attempted, IsAtOnce, IsPaid, attempt_of, paid}
+use Rattle.tm_vm.specs.declared.at_once.Attempt.{Attempt}
+use Rattle.tm_vm.specs.declared.at_once.Attempt.TheVariants.{Done, Left, WriterFailed}
 use Rattle.tm_vm.specs.declared.flow.NestedRun.{NestedRun}
 use Rattle.tm_vm.specs.declared.flow.Flow.{Flow}
 use Rattle.tm_vm.specs.declared.flow.Flow.TheVariants as flow
@@ -219,7 +223,7 @@ block_entered p f old x s e new w waits heard enters moved is =
     same_entry e d old.world new is refl (call_block_of p f x old) (goes ∙ ap (entered d old.world) (sym moved))
 
 -- one that was done at once or left, and writes nothing
-pub at_once : (n : Next) (old new : Config) (told : Option (List ℕ)) (failures : ℕ) (done : Bool) → IsAtOnce done n old new →
+pub at_once : (n : Config → Next) (old new : Config) (told : Option (List ℕ)) (failures : ℕ) (done : Bool) → IsAtOnce done n old new →
     Attempted (attempt_of done) n old new told told failures failures
 at_once n old new told failures true s = record {
   did = nothing_written told s.did;
@@ -230,14 +234,10 @@ at_once n old new told failures true s = record {
 }
 at_once n old new told failures false same = (same, refl, refl)
 
--- what was left is done as if nothing had been tried
-pub left : {limit : ℕ} {f : Base} {now : Option (List ℕ)} {count : ℕ} {result : Result Flow Halt} (n : Config → Next) (old mid new : Config)
-    (told between : Option (List ℕ)) (failures many : ℕ) → (mid ≡ old) × (between ≡ told) × (many ≡ failures) →
-    Performs limit f (n mid) mid new between now many count result → Performs limit f (n old) old new told now failures count result
-left {limit = limit} {f = f} {now = now} {count = count} {result = result} n old mid new told between failures many same h =
-    subst (λ (k : ℕ). Performs limit f (n old) old new told now k count result) same.2
-    (subst (λ (t : Option (List ℕ)). Performs limit f (n old) old new t now many count result) same.1
-    (subst (λ (c : Config). Performs limit f (n c) c new between now many count result) same.0 h))
+pub is_paid : (x : Instruction) (fuel : ℕ) (attempt : Attempt) → charge_of x ≡ 1 → 1 < fuel → IsPaid attempt x fuel
+is_paid x fuel Done one more = (one, more)
+is_paid x fuel WriterFailed one more = (one, more)
+is_paid x fuel Left one more = tt
 
 pub ruleset kinds = (silent, opened, shifted, wrote, needed)
 
@@ -286,3 +286,28 @@ pub read_at : {A : Type 0} (xs : List A) (n : ℕ) (x : A) → n < length xs →
 read_at [] n x within read = absurd (omega (arith, within))
 read_at (y ∷ ys) zero x within read = ap (λ z. Some z) (sym (read y))
 read_at (y ∷ ys) (suc n) x within read = read_at ys n x (omega (arith, within)) read
+
+-- ---------------------------------------------------------------- at once
+pays_one : (x : Instruction) (w : World) → charge_of x ≡ 1 → 1 < w.fuel → pay x w ≡ Good tt (record w { fuel = w.fuel - 1 })
+pays_one x w one more = let enough : nat_lt 1 w.fuel ≡ true = grind (arith, nat_tests) in rw (one, enough) refl
+
+paid_keeps : (w : World) → KeepsIdAndFuel w (record w { fuel = w.fuel - 1 })
+paid_keeps w = record { same_id = refl; same_fuel_set = refl; no_more_fuel = omega arith }
+
+-- the instruction at the place was paid for and did its part at once
+pub done_at_once : {limit : ℕ} {told now : Option (List ℕ)} {failures count : ℕ} (p : Program) (f : Base) (x : Instruction)
+    (old new : Config) (result : Result Flow Halt)
+    → slice_get (p.code old.run.stream) old.run.place ≡ Some x → charge_of x ≡ 1 → 1 < old.world.fuel →
+    Performs limit f (effect p f x (paid old)) (paid old) new told now failures count result →
+    Performs limit f (step p f old) old new told now failures count result
+done_at_once p f x old new result found one more h =
+    step_done p f x old (paid old) new result found (pays_one x old.world one more) (paid_keeps old.world) refl h
+
+-- a step that is done behind an attempt that left all as it was
+pub left : {limit : ℕ} {f : Base} {now : Option (List ℕ)} {count : ℕ} {result : Result Flow Halt} (n : Config → Next) (old mid new : Config)
+    (told between : Option (List ℕ)) (failures many : ℕ) → (mid ≡ old) × (between ≡ told) × (many ≡ failures) →
+    Performs limit f (n mid) mid new between now many count result → Performs limit f (n old) old new told now failures count result
+left {limit = limit} {f = f} {now = now} {count = count} {result = result} n old mid new told between failures many same h =
+    subst (λ (k : ℕ). Performs limit f (n old) old new told now k count result) same.2
+    (subst (λ (t : Option (List ℕ)). Performs limit f (n old) old new t now many count result) same.1
+    (subst (λ (c : Config). Performs limit f (n c) c new between now many count result) same.0 h))

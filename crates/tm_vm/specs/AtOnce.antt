@@ -1,5 +1,7 @@
 -- What comes of an instruction that is done at once where it can be.
-use Rattle.std.specs.Prelude.{◌≡◌, ℕ, List, Option, Result, Ok, Err, Bool, true, false}
+use Rattle.std.specs.Prelude.{◌≡◌, ◌<◌, ◌-◌, ℕ, List, Option, Result, Ok, Err, Bool, true, false}
+use Rattle.tm_syntax.specs.declared.instruction.Instruction.{Instruction}
+use Rattle.tm_meaning.specs.Steps.{charge_of}
 use Rattle.tm_meaning.specs.Machine.{Config, Next}
 use Rattle.tm_parts.specs.declared.halt.Halt.TheVariants as halt
 use Rattle.tm_output.specs.declared.target.TargetFailed.{TargetFailed}
@@ -16,13 +18,23 @@ abbrev pub written_of : Result (Unit {0}) TargetFailed → Attempt
 written_of (Ok _) = Done
 written_of (Err _) = WriterFailed
 
--- It was done, and the run goes on; or all stayed as it was.
-abbrev pub IsAtOnce : Bool → Next → Config → Config → Type 0
-IsAtOnce true n old new = Silently n old new (Ok flow.GoOn)
+-- a charge of one is paid
+abbrev pub paid : Config → Config
+paid c = record c { world = record c.world { fuel = c.world.fuel - 1 } }
+
+-- It was paid for and done, and the run goes on; or all stayed as it was.
+abbrev pub IsAtOnce : Bool → (Config → Next) → Config → Config → Type 0
+IsAtOnce true n old new = Silently (n (paid old)) (paid old) new (Ok flow.GoOn)
 IsAtOnce false n old new = new ≡ old
 
 -- The same of one that may write: by the writer it may have ended.
-abbrev pub Attempted : Attempt → Next → Config → Config → Option (List ℕ) → Option (List ℕ) → ℕ → ℕ → Type 0
-Attempted Done n old new told now failures count = Writes n old new told now failures count (Ok flow.GoOn)
-Attempted WriterFailed n old new told now failures count = Writes n old new told now failures count (Err halt.Writer)
+abbrev pub Attempted : Attempt → (Config → Next) → Config → Config → Option (List ℕ) → Option (List ℕ) → ℕ → ℕ → Type 0
+Attempted Done n old new told now failures count = Writes (n (paid old)) (paid old) new told now failures count (Ok flow.GoOn)
+Attempted WriterFailed n old new told now failures count = Writes (n (paid old)) (paid old) new told now failures count (Err halt.Writer)
 Attempted Left n old new told now failures count = (new ≡ old) × (now ≡ told) × (count ≡ failures)
+
+-- What was done is charged one, which there was.
+abbrev pub IsPaid : Attempt → Instruction → ℕ → Type 0
+IsPaid Left x fuel = Unit {0}
+IsPaid Done x fuel = (charge_of x ≡ 1) × (1 < fuel)
+IsPaid WriterFailed x fuel = (charge_of x ≡ 1) × (1 < fuel)

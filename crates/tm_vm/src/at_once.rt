@@ -1,11 +1,11 @@
-//! The instructions that are done at once where they can be: where they need no memory, run nothing, and fail only
-//! by the writer.
-ghost use Rattle.std.specs.Prelude.{◌≡◌};
+//! The instructions that are paid for and done at once where they can be: where they need no memory, run nothing,
+//! and fail only by the writer.
+ghost use Rattle.std.specs.Prelude.{◌≡◌, ◌<◌, ◌+◌};
 ghost use Rattle.tm_meaning.specs.Instructions.{binary_of, emit_of, emit_raw_of, get_attr_of, iterate_of, jump_if_false_of};
 ghost use Rattle.tm_meaning.specs.Instructions.{load_const_of, lookup_of, store_local_of};
 ghost use Rattle.tm_meaning.specs.Steps.{effect};
 ghost use Rattle.tm_vm.specs.Answers.{program, CanGoOn};
-ghost use Rattle.tm_vm.specs.AtOnce.{Attempted, IsAtOnce, attempt_of, written_of};
+ghost use Rattle.tm_vm.specs.AtOnce.{Attempted, IsAtOnce, IsPaid, attempt_of, paid, written_of};
 
 use crate::machine::Machine;
 use tm_meaning::Base;
@@ -55,11 +55,25 @@ impl Attempt {
 }
 
 impl Machine<'_> {
+    /// Pays a charge of one and goes on to the next place.
+    #[inline(always)]
+    fn pay_and_advance(&mut self)
+        requires in_place { CanGoOn self.old.run }
+        requires can_pay { 1 < self.old.world.fuel }
+        ensures { self.new ≡ record (paid self.old) {
+          run = record self.old.run { place = self.old.run.place + 1 };
+        } }
+    {
+        self.state.pay_one();
+        self.run.advance();
+    }
+
     /// Pushes the innermost scope's own value of a name.
     #[inline(always)]
     fn lookup_at_once<H: Host>(&mut self, host: &H, name: &Name) -> bool
-        requires { CanGoOn self.old.run }
-        ensures { IsAtOnce result (lookup_of (H.meaning host.now) name.now self.old)
+        requires in_place { CanGoOn self.old.run }
+        requires can_pay { 1 < self.old.world.fuel }
+        ensures { IsAtOnce result (lookup_of (H.meaning host.now) name.now)
             self.old self.new }
     {
         let _host = host;
@@ -69,58 +83,62 @@ impl Machine<'_> {
         if !self.run.push_shared(value) {
             return false;
         }
-        self.run.advance();
+        self.pay_and_advance();
         true
     }
 
     /// Replaces a map by its attribute.
     #[inline(always)]
     fn get_attr_at_once<H: Host>(&mut self, host: &H, name: &Name) -> bool
-        requires { CanGoOn self.old.run }
-        ensures { IsAtOnce result (get_attr_of (H.meaning host.now) name.now self.old)
+        requires in_place { CanGoOn self.old.run }
+        requires can_pay { 1 < self.old.world.fuel }
+        ensures { IsAtOnce result (get_attr_of (H.meaning host.now) name.now)
             self.old self.new }
     {
         let _host = host;
         if !self.run.replace_by_member(name.as_str()) {
             return false;
         }
-        self.run.advance();
+        self.pay_and_advance();
         true
     }
 
     /// Pushes a literal.
     #[inline(always)]
     fn load_const_at_once(&mut self, value: &Value) -> bool
-        requires { CanGoOn self.old.run }
-        ensures { IsAtOnce result (load_const_of value.now self.old) self.old self.new }
+        requires in_place { CanGoOn self.old.run }
+        requires can_pay { 1 < self.old.world.fuel }
+        ensures { IsAtOnce result (load_const_of value.now) self.old self.new }
     {
         if !self.run.push_shared(value) {
             return false;
         }
-        self.run.advance();
+        self.pay_and_advance();
         true
     }
 
     /// Replaces two numbers by what an operator gives of them.
     #[inline(always)]
     fn binary_at_once<H: Host>(&mut self, host: &H, operator: BinaryOperator) -> bool
-        requires { CanGoOn self.old.run }
-        ensures { IsAtOnce result (binary_of (H.meaning host.now) operator self.old)
+        requires in_place { CanGoOn self.old.run }
+        requires can_pay { 1 < self.old.world.fuel }
+        ensures { IsAtOnce result (binary_of (H.meaning host.now) operator)
             self.old self.new }
     {
         let _host = host;
         if !self.run.operate(operator) {
             return false;
         }
-        self.run.advance();
+        self.pay_and_advance();
         true
     }
 
     /// Pops a truth value, and goes on at a place where it is false.
     #[inline(always)]
     fn jump_if_false_at_once<H: Host>(&mut self, host: &H, place: usize) -> bool
-        requires { CanGoOn self.old.run }
-        ensures { IsAtOnce result (jump_if_false_of (H.meaning host.now) place self.old)
+        requires in_place { CanGoOn self.old.run }
+        requires can_pay { 1 < self.old.world.fuel }
+        ensures { IsAtOnce result (jump_if_false_of (H.meaning host.now) place)
             self.old self.new }
     {
         let _host = host;
@@ -129,14 +147,16 @@ impl Machine<'_> {
             Some(false) => self.run.jump(place),
             None => return false,
         }
+        self.state.pay_one();
         true
     }
 
     /// Pops a value, and gives it to a name of the innermost scope.
     #[inline(always)]
     fn store_local_at_once(&mut self, name: &Name) -> bool
-        requires { CanGoOn self.old.run }
-        ensures { IsAtOnce result (store_local_of name.now self.old) self.old self.new }
+        requires in_place { CanGoOn self.old.run }
+        requires can_pay { 1 < self.old.world.fuel }
+        ensures { IsAtOnce result (store_local_of name.now) self.old self.new }
     {
         let Some(value) = self.run.top() else {
             return false;
@@ -145,15 +165,16 @@ impl Machine<'_> {
             return false;
         }
         self.run.drop_top();
-        self.run.advance();
+        self.pay_and_advance();
         true
     }
 
     /// Pushes the next item of the innermost loop, where one is left.
     #[inline(always)]
     fn iterate_at_once(&mut self, place: usize) -> bool
-        requires { CanGoOn self.old.run }
-        ensures { IsAtOnce result (iterate_of place self.old) self.old self.new }
+        requires in_place { CanGoOn self.old.run }
+        requires can_pay { 1 < self.old.world.fuel }
+        ensures { IsAtOnce result (iterate_of place) self.old self.new }
     {
         let _place = place;
         if !self.run.has_loop() {
@@ -170,22 +191,23 @@ impl Machine<'_> {
         }
         self.state.next_turn();
         self.state.clear_locals();
-        self.run.advance();
+        self.pay_and_advance();
         true
     }
 
     /// Writes a text as it stands, where no capture is open and it is heard.
     #[inline(always)]
     fn emit_raw_at_once<W: Sink>(&mut self, base: &Base, text: &RawText, writer: &mut W) -> Attempt
-        requires { CanGoOn self.old.run }
-        ensures { Attempted result (emit_raw_of base.now text.now self.old) self.old self.new
+        requires in_place { CanGoOn self.old.run }
+        requires can_pay { 1 < self.old.world.fuel }
+        ensures { Attempted result (emit_raw_of base.now text.now) self.old self.new
             (W.written writer.old) (W.written writer.new)
             (W.failures writer.old) (W.failures writer.new) }
     {
         if !self.captures.is_empty() || !self.is_audible(base) {
             return Attempt::Left;
         }
-        self.run.advance();
+        self.pay_and_advance();
         match put_text(writer, text.as_str().as_bytes()) {
             Ok(()) => Attempt::Done,
             Err(_failed) => Attempt::WriterFailed,
@@ -195,8 +217,9 @@ impl Machine<'_> {
     /// Pops a number or a text and writes what it is emitted as, where no capture is open and it is heard.
     #[inline(always)]
     fn emit_at_once<H: Host, W: Sink>(&mut self, host: &H, base: &Base, writer: &mut W) -> Attempt
-        requires { CanGoOn self.old.run }
-        ensures { Attempted result (emit_of (H.meaning host.now) base.now self.old) self.old self.new
+        requires in_place { CanGoOn self.old.run }
+        requires can_pay { 1 < self.old.world.fuel }
+        ensures { Attempted result (emit_of (H.meaning host.now) base.now) self.old self.new
             (W.written writer.old) (W.written writer.new)
             (W.failures writer.old) (W.failures writer.new) }
     {
@@ -214,13 +237,13 @@ impl Machine<'_> {
             return Attempt::Left;
         };
         self.run.drop_top();
-        self.run.advance();
+        self.pay_and_advance();
         Attempt::written(answer)
     }
 
-    /// Does an instruction that was paid for, where it can be done at once.
+    /// Pays for an instruction and does it, where it can be done at once.
     #[inline(always)]
-    #[tactic(auto, using(crate::proofs::Performed::at_once))]
+    #[tactic(auto, using(crate::proofs::Performed::at_once, crate::proofs::Performed::is_paid))]
     pub(crate) fn attempt<H: Host, W: Sink>(
         &mut self,
         host: &H,
@@ -229,13 +252,16 @@ impl Machine<'_> {
         writer: &mut W,
     ) -> Attempt
         requires { CanGoOn self.old.run }
-        ensures { Attempted result
-            (effect (program (H.meaning host.now) (H.code host.now)) base.now instruction.now
-            self.old)
+        ensures done { Attempted result
+            (effect (program (H.meaning host.now) (H.code host.now)) base.now instruction.now)
             self.old self.new
             (W.written writer.old) (W.written writer.new)
             (W.failures writer.old) (W.failures writer.new) }
+        ensures paid { IsPaid result instruction.now self.old.world.fuel }
     {
+        if !self.state.can_pay() {
+            return Attempt::Left;
+        }
         match instruction {
             Instruction::EmitRaw(text) => self.emit_raw_at_once(base, text, writer),
             Instruction::Emit => self.emit_at_once(host, base, writer),
@@ -254,6 +280,7 @@ impl Machine<'_> {
             Instruction::IntDiv => Attempt::of(self.binary_at_once(host, BinaryOperator::FloorDivide)),
             Instruction::Rem => Attempt::of(self.binary_at_once(host, BinaryOperator::Remainder)),
             Instruction::Jump(place) => {
+                self.state.pay_one();
                 self.run.jump(*place);
                 Attempt::Done
             }

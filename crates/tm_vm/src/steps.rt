@@ -17,10 +17,10 @@ use tm_tables::{Exhausted, Host};
 use tm_values::{Error, ErrorKind};
 
 impl Machine<'_> {
-    /// Does an instruction that was paid for, by its method.
+    /// Does an instruction that was paid for.
     #[inline(always)]
     #[tactic(auto, using(crate::proofs::Performed::kinds))]
-    fn dispatch<H: Host, W: Sink>(
+    pub(crate) fn perform<H: Host, W: Sink>(
         &mut self,
         alloc: Global,
         host: &H,
@@ -101,34 +101,6 @@ impl Machine<'_> {
         }
     }
 
-    /// Does an instruction that was paid for: at once where it can be, else by its method.
-    #[inline(always)]
-    #[tactic(auto, using(crate::proofs::Performed::wrote))]
-    pub(crate) fn perform<H: Host, W: Sink>(
-        &mut self,
-        alloc: Global,
-        host: &H,
-        base: &Base,
-        code: &Code,
-        instruction: &Instruction,
-        writer: &mut W,
-    ) -> Result<Flow, Halt>
-        requires in_place { CanGoOn self.old.run }
-        requires its_code { code.now ≡ H.code host.now self.old.run.stream }
-        ensures { Performs (H.meaning host.now).limit base.now
-            (effect (program (H.meaning host.now) (H.code host.now)) base.now instruction.now
-            self.old)
-            self.old self.new
-            (W.written writer.old) (W.written writer.new)
-            (W.failures writer.old) (W.failures writer.new) result }
-    {
-        match self.attempt(host, base, instruction, writer) {
-            Attempt::Done => Ok(Flow::GoOn),
-            Attempt::WriterFailed => Err(Halt::Writer),
-            Attempt::Left => self.dispatch(alloc, host, base, code, instruction, writer),
-        }
-    }
-
     /// The place at which the run stands.
     pub(crate) fn place(&self) -> usize
         ensures { result ≡ self.now.run.place }
@@ -168,9 +140,9 @@ impl Machine<'_> {
         Err(Halt::Stuck)
     }
 
-    /// Pays for the instruction at the place and does it, and answers where the run goes on.
+    /// Pays for the instruction at the place and does it by its method, and answers where the run goes on.
     #[inline(always)]
-    pub(crate) fn step<H: Host, W: Sink>(
+    fn step_by_method<H: Host, W: Sink>(
         &mut self,
         alloc: Global,
         host: &H,
@@ -193,5 +165,45 @@ impl Machine<'_> {
             return Err(Halt::Fault(Error::from(ErrorKind::OutOfFuel)));
         }
         self.perform(alloc, host, base, code, instruction, writer)
+    }
+
+    /// Pays for the instruction at the place and does it, where there is one and it can be done at once.
+    #[inline(always)]
+    fn attempt_next<H: Host, W: Sink>(
+        &mut self,
+        host: &H,
+        base: &Base,
+        code: &Code,
+        writer: &mut W,
+    ) -> Attempt
+    {
+        match code.as_slice().get(self.place()) {
+            Some(instruction) => self.attempt(host, base, instruction, writer),
+            None => Attempt::Left,
+        }
+    }
+
+    /// Pays for the instruction at the place and does it, at once where it can be, and answers where the run goes on.
+    #[inline(always)]
+    pub(crate) fn step<H: Host, W: Sink>(
+        &mut self,
+        alloc: Global,
+        host: &H,
+        base: &Base,
+        code: &Code,
+        writer: &mut W,
+    ) -> Result<Flow, Halt>
+        requires { code.now ≡ H.code host.now self.old.run.stream }
+        ensures performs { Performs (H.meaning host.now).limit base.now
+            (step (program (H.meaning host.now) (H.code host.now)) base.now self.old)
+            self.old self.new (W.written writer.old) (W.written writer.new)
+            (W.failures writer.old) (W.failures writer.new) result }
+        ensures paid { Paid (length code.now) result self.old self.new }
+    {
+        match self.attempt_next(host, base, code, writer) {
+            Attempt::Done => Ok(Flow::GoOn),
+            Attempt::WriterFailed => Err(Halt::Writer),
+            Attempt::Left => self.step_by_method(alloc, host, base, code, writer),
+        }
     }
 }

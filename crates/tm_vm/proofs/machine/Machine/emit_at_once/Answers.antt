@@ -1,4 +1,4 @@
-use Rattle.std.proofs.Common.{◌≡◌, ◌+◌, ◌∙◌, List, true, refl, subst, sym, ap}
+use Rattle.std.proofs.Common.{◌≡◌, ◌+◌, ◌-◌, ◌∙◌, List, true, refl, subst, sym, ap}
 use Rattle.tm_values.specs.declared.escape.AutoEscape.{AutoEscape}
 use Rattle.tm_definitions.specs.Emitted.{emission_verdict, emitted_text}
 use Rattle.tm_meaning.specs.World.{records_of}
@@ -13,8 +13,12 @@ returns g c =
     let heard = sym (subst (λ (m : Config). true ≡ audible c.args.base.now m) (sym c.self.view_is) c.if-not-is_audible.ensures) in
     let fine = rw c.escape.ensures at e.1 in
     let taken = rw c.escape.ensures at e.2 in
-    let moved = ap (λ (r : Activation). record { run = r; captures = c.self.inside.captures; world = c.self.inside.state })
-    (c.advance.ensures ∙ ap (λ (r : Activation). record r { place = r.place + 1 }) c.drop_top.ensures) in
+    let w = c.self.inside.state in
+    let moved = c.pay_and_advance.ensures ∙ ap (λ (r : Activation). record {
+      run = record r { place = r.place + 1 };
+      captures = c.self.inside.captures;
+      world = record w { fuel = w.fuel - 1 };
+    }) c.drop_top.ensures in
     rw (sym c.self.view_is, c.written.ensures) (emitted_at_once _ _ _ _ host c.args.base.now _ _ c.in-Some.value.now c.in-Some.ensures.0
     c.in-Some-emit_at_once.answer (c.if-not-is_empty.ensures.0 refl) heard c.in-Some.ensures.1
     (g.met.H.Host.unformatted c.args.host.now) (e.0 host.undefined) fine moved taken)
