@@ -5,3 +5,4 @@ pub mod Emitted
 pub mod Weight
 pub mod Counted
 pub mod Returned
+pub mod StepsAtOnce

@@ -1,11 +1,12 @@
 -- What comes of an instruction that is done at once where it can be.
 use Rattle.std.specs.Prelude.{◌≡◌, ◌<◌, ◌-◌, ℕ, List, Option, Result, Ok, Err, Bool, true, false}
 use Rattle.tm_syntax.specs.declared.instruction.Instruction.{Instruction}
-use Rattle.tm_meaning.specs.Steps.{charge_of}
-use Rattle.tm_meaning.specs.Machine.{Config, Next}
+use Rattle.tm_meaning.specs.Steps.{charge_of, step}
+use Rattle.tm_meaning.specs.Machine.{Config, Next, Program}
+use Rattle.tm_meaning.specs.declared.base.Base.{Base}
 use Rattle.tm_parts.specs.declared.halt.Halt.TheVariants as halt
 use Rattle.tm_output.specs.declared.target.TargetFailed.{TargetFailed}
-use Rattle.tm_vm.specs.Answers.{Silently, Writes}
+use Rattle.tm_vm.specs.Answers.{Paid, Performs, Silently, Writes}
 use Rattle.tm_vm.specs.declared.at_once.Attempt.{Attempt}
 use Rattle.tm_vm.specs.declared.at_once.Attempt.TheVariants.{Done, Left, WriterFailed}
 use Rattle.tm_vm.specs.declared.flow.Flow.TheVariants as flow
@@ -38,3 +39,11 @@ abbrev pub IsPaid : Attempt → Instruction → ℕ → Type 0
 IsPaid Left x fuel = Unit {0}
 IsPaid Done x fuel = (charge_of x ≡ 1) × (1 < fuel)
 IsPaid WriterFailed x fuel = (charge_of x ≡ 1) × (1 < fuel)
+
+-- The step was done at once, or ended by the writer; or all stayed as it was.
+abbrev pub StepAttempted : Attempt → ℕ → Base → Program → ℕ → Config → Config → Option (List ℕ) → Option (List ℕ) → ℕ → ℕ → Type 0
+StepAttempted Done limit f p size old new told now failures count =
+    Performs limit f (step p f old) old new told now failures count (Ok flow.GoOn) × Paid size (Ok flow.GoOn) old new
+StepAttempted WriterFailed limit f p size old new told now failures count =
+    Performs limit f (step p f old) old new told now failures count (Err halt.Writer)
+StepAttempted Left limit f p size old new told now failures count = (new ≡ old) × (now ≡ told) × (count ≡ failures)

@@ -4,6 +4,7 @@ ghost use Rattle.tm_values.specs.declared.error.ErrorKind.TheVariants.{OutOfFuel
 ghost use Rattle.tm_meaning.specs.World.{Good, Bad};
 ghost use Rattle.tm_meaning.specs.Steps.{charge_of, pay, effect, finish, step};
 ghost use Rattle.tm_vm.specs.Answers.{program, CanGoOn, Performs, Finishes, Paid};
+ghost use Rattle.tm_vm.specs.AtOnce.{StepAttempted};
 ghost use Rattle.tm_state.specs.Answers.{KeepsIdAndFuel};
 
 use crate::at_once::Attempt;
@@ -176,6 +177,11 @@ impl Machine<'_> {
         code: &Code,
         writer: &mut W,
     ) -> Attempt
+        requires { code.now ≡ H.code host.now self.old.run.stream }
+        ensures { StepAttempted result (H.meaning host.now).limit base.now
+            (program (H.meaning host.now) (H.code host.now)) (length code.now) self.old self.new
+            (W.written writer.old) (W.written writer.new)
+            (W.failures writer.old) (W.failures writer.new) }
     {
         match code.as_slice().get(self.place()) {
             Some(instruction) => self.attempt(host, base, instruction, writer),
