@@ -263,7 +263,16 @@ fn push_block(
     ensures err { IfErr result (λ e. e ≡ OutOfMemory ∷ []) }
 {
     let inner = stream(alloc, blocks, body)?;
-    blocks.insert(name.share()?, inner)?;
+    add_block(blocks, name, inner)
+}
+
+/// Adds a block's own stream by the block's name; OutOfMemory.
+#[inline(never)]
+fn add_block(blocks: &mut NameMap<Code>, name: &Name, code: Code) -> Result<(), Error>
+    ensures blocks { OnOk result (blocks.new ≡ put_named name.now code blocks.old) }
+    ensures err { IfErr result (λ e. e ≡ OutOfMemory ∷ []) }
+{
+    blocks.insert(name.share()?, code)?;
     Ok(())
 }
 

@@ -172,12 +172,29 @@ fn repeated(alloc: Global, value: Value, count: usize) -> Result<Value, Error> {
     Value::list(alloc, items)
 }
 
+/// A writer that only counts what it takes.
+#[derive(Drop)]
+struct Length {
+    taken: usize,
+}
+
+impl Write for Length {
+    fn write(&mut self, bytes: &[u8]) -> io::Result<usize> {
+        self.taken = self.taken.saturating_add(bytes.len());
+        Ok(bytes.len())
+    }
+
+    fn flush(&mut self) -> io::Result<()> {
+        Ok(())
+    }
+}
+
 // Whether the value is written, in so many bytes.
 fn is_written(alloc: Global, value: &Value, escape: AutoEscape, length: usize) -> bool {
-    let mut writer = Counted::new(Fake::new(alloc, usize::MAX, usize::MAX, None));
+    let mut writer = Counted::new(Length { taken: 0 });
     check_emission(alloc, value, escape, &NoRecords).is_ok()
         && emit(alloc, value, escape, &NoRecords, &mut writer) == Ok(())
-        && writer.inner().bytes.len() == length
+        && writer.inner().taken == length
 }
 
 // Whether the value, which is too long for the writer, is written up to its end in few calls.
