@@ -1,5 +1,6 @@
 -- The list of what is left to check, as it grows and shrinks.
-use Rattle.std.proofs.Common.{◌≡◌, ℕ, suc, ◌+◌, ◌*◌, ◌<◌, ◌≤◌, false, List, [], ◌∷◌, ◌++◌, Result, Ok, Err, Some, OnOk, IfErr, refl, sym, ap, subst, ◌∙◌, arith}
+use Rattle.std.proofs.Common.{◌≡◌, ℕ, suc, ◌+◌, ◌*◌, ◌<◌, ◌≤◌, false, List, [], ◌∷◌, ◌++◌}
+use Rattle.std.proofs.Common.{Result, Ok, Err, Some, OnOk, IfErr, refl, sym, ap, subst, ◌∙◌, arith}
 use Rattle.std.proofs.Math.Nat.{add-mul}
 use Rattle.tm_values.specs.Records.{RecordData, namespace_at}
 use Rattle.tm_values.specs.Val.{Val, pairs_size, pairs_of}
@@ -11,7 +12,8 @@ use Rattle.tm_values.specs.declared.value.Node.TheVariants as node
 use Rattle.tm_definitions.specs.Verdicts.{Verdict, fine, and_then, Way, nowhere}
 use Rattle.tm_definitions.specs.declared.form.Form.{Form}
 use Rattle.tm_printing.specs.Left.{weight, power}
-use Rattle.tm_printing.specs.Unchecked.{one_verdict, way_past, way_of, left_verdict, IsNew, AllNew, IsWayOf, Checked, one_weight, unchecked_weight, is_namespace}
+use Rattle.tm_printing.specs.Unchecked.{one_verdict, way_past, way_of, left_verdict, IsNew}
+use Rattle.tm_printing.specs.Unchecked.{AllNew, IsWayOf, Checked, one_weight, unchecked_weight, is_namespace}
 use Rattle.tm_printing.specs.declared.check.Unchecked.{Unchecked}
 use Rattle.tm_printing.proofs.Weights.{lighter, is_there, power_positive}
 
@@ -52,7 +54,8 @@ module _ (form : Form) (r : RecordData) where
       parts ∙ ap (λ (o : Verdict). and_then o rest) (h m)
 
   -- what is put into the list, where there is memory
-  pub checked_put : (result : Result (Unit {0}) (List ErrorKind)) (stated : Verdict) (x : Unchecked) (left between new : List Unchecked) (way : Way)
+  pub checked_put : (result : Result (Unit {0}) (List ErrorKind)) (stated : Verdict) (x : Unchecked) (left between new : List Unchecked)
+      (way : Way)
       → way ≡ way_of nowhere between → OnOk result (new ≡ between ++ x ∷ []) → IfErr result (λ e. e ≡ OutOfMemory ∷ [])
       → stated ≡ one_verdict form r way x → left_verdict form r nowhere between ≡ left_verdict form r nowhere left
       → Checked form r result stated left new
@@ -101,7 +104,8 @@ pub weight-joined : (r : RecordData) (left new : List Unchecked) (x : Unchecked)
 weight-joined r left new x is = ap (unchecked_weight r) is ∙ weight-push r left x
 
 -- what left the list
-module _ (form : Form) (r : RecordData) (below left : List Unchecked) (way : Way) (last x : Unchecked) (there : left ≡ below ++ last ∷ []) (is : last ≡ x) where
+module _ (form : Form) (r : RecordData) (below left : List Unchecked) (way : Way) (last x : Unchecked) (there : left ≡ below ++ last ∷
+    []) (is : last ≡ x) where
   last_is : left ≡ below ++ x ∷ []
   last_is = there ∙ ap (λ (y : Unchecked). below ++ y ∷ []) is
 
@@ -128,7 +132,8 @@ way_put (Ok u) between new way x is h fresh same = subst (IsWayOf new) same (way
 way_put (Err chain) between new way x is h fresh same = tt
 
 pub weight_put : (r : RecordData) (result : Result (Unit {0}) (List ErrorKind)) (between new : List Unchecked) (x : Unchecked) (bound : ℕ)
-    → OnOk result (new ≡ between ++ x ∷ []) → unchecked_weight r between + one_weight r x ≤ bound → OnOk result (unchecked_weight r new ≤ bound)
+    → OnOk result (new ≡ between ++ x ∷ []) → unchecked_weight r between + one_weight r x ≤ bound → OnOk result (unchecked_weight r new ≤
+    bound)
 weight_put r (Ok u) between new x bound is h = omega (arith, weight-joined r between new x is, h)
 weight_put r (Err chain) between new x bound is h = tt
 
@@ -149,8 +154,10 @@ namespace_lighter r s n below ps is =
     let p = power (weight r + 1) below in
     let some : 0 < p = level_positive r below in
     let less : pairs_size (pairs_of ps) + 1 + 1 ≤ weight r + 1 = omega (arith, lighter r.namespaces n ps (is_there r s n ps is)) in
-    let both : (pairs_size (pairs_of ps) + 1 + 1) * p ≤ (weight r + 1) * p = scaled (pairs_size (pairs_of ps) + 1 + 1) (weight r + 1) p less in
-    let split : (pairs_size (pairs_of ps) + 1 + 1) * p ≡ (pairs_size (pairs_of ps) + 1) * p + 1 * p = add-mul (pairs_size (pairs_of ps) + 1) 1 p in
+    let both : (pairs_size (pairs_of ps) + 1 + 1) * p ≤ (weight r + 1) * p = scaled (pairs_size (pairs_of ps) + 1 + 1) (weight r + 1) p
+    less in
+    let split : (pairs_size (pairs_of ps) + 1 + 1) * p ≡ (pairs_size (pairs_of ps) + 1) * p + 1 * p = add-mul (pairs_size (pairs_of ps) +
+    1) 1 p in
     omega (arith, some, both, split)
 
 -- a value that is no namespace

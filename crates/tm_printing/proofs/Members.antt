@@ -9,7 +9,8 @@ use Rattle.tm_definitions.specs.Json.{NamespaceData, data_of, members_of, key_te
 
 pub member_first : (inside : NamespaceData) (later : Bool) (left ps : List (Val × Val)) (p : Val × Val) → left ≡ p ∷ ps →
     members_text later (members_of inside (pairs_of left))
-    ≡ (comma_if later ++ (key_text p.0 ++ 58 ∷ [])) ++ (compact_text (data_of inside p.1) ++ members_text true (members_of inside (pairs_of ps)))
+    ≡ (comma_if later ++ (key_text p.0 ++ 58 ∷ [])) ++ (compact_text (data_of inside p.1) ++ members_text true (members_of inside
+    (pairs_of ps)))
 member_first inside later left ps p is =
     let behind = compact_text (data_of inside p.1) ++ members_text true (members_of inside (pairs_of ps)) in
     ap (λ (l : List (Val × Val)). members_text later (members_of inside (pairs_of l))) is

@@ -1,5 +1,6 @@
 -- The list of what is left to write, as it grows and shrinks.
-use Rattle.std.proofs.Common.{◌≡◌, ℕ, ◌+◌, ◌*◌, ◌<◌, ◌≤◌, List, [], ◌∷◌, ◌++◌, Option, Some, None, Ok, refl, sym, ap, subst, ◌∙◌, append-nil, append_assoc, arith}
+use Rattle.std.proofs.Common.{◌≡◌, ℕ, ◌+◌, ◌*◌, ◌<◌, ◌≤◌, List, [], ◌∷◌, ◌++◌, Option}
+use Rattle.std.proofs.Common.{Some, None, Ok, refl, sym, ap, subst, ◌∙◌, append-nil, append_assoc, arith}
 use Rattle.tm_output.specs.Targets.{Laws}
 use Rattle.tm_values.specs.Records.{RecordData}
 use Rattle.tm_values.specs.Val.{Val, val_size}
@@ -18,30 +19,32 @@ left_weight-push k [] x = omega arith
 left_weight-push k (y ∷ ys) x = omega (arith, left_weight-push k ys x)
 
 module _ {T : Type 0} (took stopped : T → List ℕ → T → Type 0) (laws : Laws took stopped) (value : ℕ → Val → List ℕ) (text : Rest → List ℕ)
-    (start : T) (whole : List ℕ) (now : T) (x : Rest) (xs : List Rest) (begun : Begun took start whole now (text x ++ left_text text xs)) where
-  -- the target stops before the next value
-  pub fails_before : (new : T) → stopped now (text x) new → stopped start whole new
-  fails_before new part = stops took stopped laws start now new whole _ (text x) (left_text text xs) begun refl part
+    (start : T) (whole : List ℕ) (now : T) (x : Rest) (xs : List Rest) (begun : Begun took start whole now (text x ++ left_text text xs))
+  where
+    -- the target stops before the next value
+    pub fails_before : (new : T) → stopped now (text x) new → stopped start whole new
+    fails_before new part = stops took stopped laws start now new whole _ (text x) (left_text text xs) begun refl part
 
-  -- the list or the map is written
-  pub closed : (new : T) (o : Option Step) → o ≡ None → Advances took stopped (Ok o) now (text x) value text new
-      → Begun took start whole new (left_text text xs)
-  closed new o is written =
-      let taken : took now (text x) new = subst (λ (p : Option Step). Advances took stopped (Ok p) now (text x) value text new) is written in
-      past took stopped laws start now new whole _ (text x) (left_text text xs) begun refl taken
+    -- the list or the map is written
+    pub closed : (new : T) (o : Option Step) → o ≡ None → Advances took stopped (Ok o) now (text x) value text new
+        → Begun took start whole new (left_text text xs)
+    closed new o is written =
+        let taken : took now (text x) new = subst (λ (p : Option Step). Advances took stopped (Ok p) now (text x) value text new) is
+        written in
+        past took stopped laws start now new whole _ (text x) (left_text text xs) begun refl taken
 
-  -- a value comes next
-  pub at_value : (new : T) (o : Option Step) (s : Step) → o ≡ Some s → Advances took stopped (Ok o) now (text x) value text new
-      → Begun took start whole new (value s.levels s.value.now ++ (text s.behind ++ left_text text xs))
-  at_value new o s is written =
-      let before : Advances took stopped (Ok (Some s)) now (text x) value text new =
-      subst (λ (p : Option Step). Advances took stopped (Ok p) now (text x) value text new) is written in
-      let v = value s.levels s.value.now in
-      let parts : text x ++ left_text text xs ≡ before.0 ++ (v ++ (text s.behind ++ left_text text xs)) =
-      ap (λ (l : List ℕ). l ++ left_text text xs) before.1.1
-      ∙ (append_assoc before.0 (v ++ text s.behind) (left_text text xs)
-      ∙ ap (λ (l : List ℕ). before.0 ++ l) (append_assoc v (text s.behind) (left_text text xs))) in
-      past took stopped laws start now new whole _ before.0 _ begun parts before.1.0
+    -- a value comes next
+    pub at_value : (new : T) (o : Option Step) (s : Step) → o ≡ Some s → Advances took stopped (Ok o) now (text x) value text new
+        → Begun took start whole new (value s.levels s.value.now ++ (text s.behind ++ left_text text xs))
+    at_value new o s is written =
+        let before : Advances took stopped (Ok (Some s)) now (text x) value text new =
+        subst (λ (p : Option Step). Advances took stopped (Ok p) now (text x) value text new) is written in
+        let v = value s.levels s.value.now in
+        let parts : text x ++ left_text text xs ≡ before.0 ++ (v ++ (text s.behind ++ left_text text xs)) =
+        ap (λ (l : List ℕ). l ++ left_text text xs) before.1.1
+        ∙ (append_assoc before.0 (v ++ text s.behind) (left_text text xs)
+        ∙ ap (λ (l : List ℕ). before.0 ++ l) (append_assoc v (text s.behind) (left_text text xs))) in
+        past took stopped laws start now new whole _ before.0 _ begun parts before.1.0
 
 module _ {T : Type 0} (took stopped : T → List ℕ → T → Type 0) (laws : Laws took stopped) (text : Rest → List ℕ)
     (start : T) (whole : List ℕ) (now : T) (v more : List ℕ) (begun : Begun took start whole now (v ++ more)) where

@@ -18,14 +18,18 @@ then_equal Less = refl
 then_equal Equal = refl
 then_equal Greater = refl
 
-pub pairs_next : (x y : Val × Val) (xs ys left right : List (Val × Val)) (o : Ordering) → left ≡ x ∷ xs → right ≡ y ∷ ys → ordering_then (pairs_cmp (pairs_of left) (pairs_of right)) o ≡ ordering_then (val_cmp x.0 y.0) (ordering_then (val_cmp x.1 y.1) (ordering_then (pairs_cmp (pairs_of xs) (pairs_of ys)) o))
+pub pairs_next : (x y : Val × Val) (xs ys left right : List (Val × Val)) (o : Ordering) → left ≡ x ∷ xs → right ≡ y ∷ ys → ordering_then
+    (pairs_cmp (pairs_of left) (pairs_of right)) o ≡ ordering_then (val_cmp x.0 y.0) (ordering_then (val_cmp x.1 y.1) (ordering_then
+    (pairs_cmp (pairs_of xs) (pairs_of ys)) o))
 pairs_next x y xs ys left right o is also =
     let rest = pairs_cmp (pairs_of xs) (pairs_of ys) in
-    rw (is, also) (then_assoc (val_cmp x.0 y.0) (ordering_then (val_cmp x.1 y.1) rest) o ∙ ap (ordering_then (val_cmp x.0 y.0)) (then_assoc (val_cmp x.1 y.1) rest o))
+    rw (is, also) (then_assoc (val_cmp x.0 y.0) (ordering_then (val_cmp x.1 y.1) rest) o ∙ ap (ordering_then (val_cmp x.0 y.0))
+    (then_assoc (val_cmp x.1 y.1) rest o))
 
 pub left_cmp-push : (fs : List Uncompared) (f : Uncompared) → left_cmp (fs ++ f ∷ []) ≡ ordering_then (uncompared_cmp f) (left_cmp fs)
 left_cmp-push [] f = sym (then_equal (uncompared_cmp f))
-left_cmp-push (g ∷ fs) f = ap (λ (o : Ordering). ordering_then o (uncompared_cmp g)) (left_cmp-push fs f) ∙ then_assoc (uncompared_cmp f) (left_cmp fs) (uncompared_cmp g)
+left_cmp-push (g ∷ fs) f = ap (λ (o : Ordering). ordering_then o (uncompared_cmp g)) (left_cmp-push fs f) ∙ then_assoc (uncompared_cmp f)
+    (left_cmp fs) (uncompared_cmp g)
 
 pub left_weight-push : (fs : List Uncompared) (f : Uncompared) → left_weight (fs ++ f ∷ []) ≡ left_weight fs + uncompared_weight f
 left_weight-push [] f = omega arith
@@ -40,9 +44,11 @@ module _ (left below : List Uncompared) (f : Uncompared) (is : left ≡ below ++
   innermost_weight = ap left_weight is ∙ left_weight-push below f
 
 -- two values, and then what is behind them
-pub values_next : (a b c : Ordering) (x y : Val) (f behind : Uncompared) → a ≡ ordering_then (uncompared_cmp f) b → uncompared_cmp f ≡ ordering_then (val_cmp x y) (uncompared_cmp behind) → c ≡ ordering_then (uncompared_cmp behind) b → a ≡ ordering_then (val_cmp x y) c
+pub values_next : (a b c : Ordering) (x y : Val) (f behind : Uncompared) → a ≡ ordering_then (uncompared_cmp f) b → uncompared_cmp f ≡
+    ordering_then (val_cmp x y) (uncompared_cmp behind) → c ≡ ordering_then (uncompared_cmp behind) b → a ≡ ordering_then (val_cmp x y) c
 values_next a b c x y f behind all next then =
-    all ∙ (ap (λ (o : Ordering). ordering_then o b) next ∙ (then_assoc (val_cmp x y) (uncompared_cmp behind) b ∙ ap (ordering_then (val_cmp x y)) (sym then)))
+    all ∙ (ap (λ (o : Ordering). ordering_then o b) next ∙ (then_assoc (val_cmp x y) (uncompared_cmp behind) b ∙ ap (ordering_then
+    (val_cmp x y)) (sym then)))
 
 -- a test for not being Equal
 pub differs : (a b c : Ordering) (t : Bool) → t ≡ not (ordering_index a == 1) → t ≡ true → c ≡ ordering_then a b → a ≡ c

@@ -34,8 +34,10 @@ loop-last-init g c =
 
 pub check_items-requires : goal.check_items-requires
 check_items-requires g c =
-    way_there c.args.form (g.R.Records.records c.args.records.now) c.pop.new.self.items c.loop-last.left.items (contains nat_eq c.loop-last.way)
-    c.in-Some.last (unchecked.Items c.in-Items.items c.in-Items.levels) c.in-Some.ensures.items c.in-Items.is c.loop-last.invariant.way (λ w. refl)
+    way_there c.args.form (g.R.Records.records c.args.records.now) c.pop.new.self.items c.loop-last.left.items (contains nat_eq
+    c.loop-last.way)
+    c.in-Some.last (unchecked.Items c.in-Items.items c.in-Items.levels) c.in-Some.ensures.items c.in-Items.is c.loop-last.invariant.way
+    (λ w. refl)
 
 pub loop-last-smaller-in-Continue-branch-2 : goal.loop-last-smaller-in-Continue-branch-2
 loop-last-smaller-in-Continue-branch-2 g c =
@@ -53,8 +55,10 @@ loop-last-preserved-in-Continue-branch-2 g c =
     let left = c.loop-last.left.items in
     let way = contains nat_eq c.loop-last.way in
     let x = unchecked.Items c.in-Items.items c.in-Items.levels in
-    let there = way_there form r below left way c.in-Some.last x c.in-Some.ensures.items c.in-Items.is c.loop-last.invariant.way (λ w. refl) in
-    let whole = verdict_there form r below left way c.in-Some.last x c.in-Some.ensures.items c.in-Items.is _ there.same c.loop-last.invariant.rest in
+    let there = way_there form r below left way c.in-Some.last x c.in-Some.ensures.items c.in-Items.is c.loop-last.invariant.way (λ w.
+    refl) in
+    let whole = verdict_there form r below left way c.in-Some.last x c.in-Some.ensures.items c.in-Items.is _ there.same
+    c.loop-last.invariant.rest in
     record { rest = c.in_ok-check_items-in-Items.ensures.verdict ∙ sym whole; way = c.in_ok-check_items-in-Items.ensures.way }
 
 pub returns-in_err-check_items-in-Items : goal.returns-in_err-check_items-in-Items
@@ -66,15 +70,19 @@ returns-in_err-check_items-in-Items g c =
     let way = contains nat_eq c.loop-last.way in
     let x = unchecked.Items c.in-Items.items c.in-Items.levels in
     let e = c.in_err-check_items-in-Items.field-0.0 in
-    let there = way_there form r below left way c.in-Some.last x c.in-Some.ensures.items c.in-Items.is c.loop-last.invariant.way (λ w. refl) in
-    let whole = verdict_there form r below left way c.in-Some.last x c.in-Some.ensures.items c.in-Items.is _ there.same c.loop-last.invariant.rest in
+    let there = way_there form r below left way c.in-Some.last x c.in-Some.ensures.items c.in-Items.is c.loop-last.invariant.way (λ w.
+    refl) in
+    let whole = verdict_there form r below left way c.in-Some.last x c.in-Some.ensures.items c.in-Items.is _ there.same
+    c.loop-last.invariant.rest in
     passed _ e _ c.from_residual-in_err-check_items-in-Items.ensures.1
     (λ m. whole ∙ ap (λ (o : Verdict). and_then o (left_verdict form r nowhere below)) (c.in_err-check_items-in-Items.ensures.verdict m))
 
 pub check_pairs-requires : goal.check_pairs-requires
 check_pairs-requires g c =
-    way_there c.args.form (g.R.Records.records c.args.records.now) c.pop.new.self.items c.loop-last.left.items (contains nat_eq c.loop-last.way)
-    c.in-Some.last (unchecked.Pairs c.in-Pairs.pairs c.in-Pairs.levels) c.in-Some.ensures.items c.in-Pairs.is c.loop-last.invariant.way (λ w. refl)
+    way_there c.args.form (g.R.Records.records c.args.records.now) c.pop.new.self.items c.loop-last.left.items (contains nat_eq
+    c.loop-last.way)
+    c.in-Some.last (unchecked.Pairs c.in-Pairs.pairs c.in-Pairs.levels) c.in-Some.ensures.items c.in-Pairs.is c.loop-last.invariant.way
+    (λ w. refl)
 
 pub loop-last-smaller-in-Continue-branch-3 : goal.loop-last-smaller-in-Continue-branch-3
 loop-last-smaller-in-Continue-branch-3 g c =
@@ -92,8 +100,10 @@ loop-last-preserved-in-Continue-branch-3 g c =
     let left = c.loop-last.left.items in
     let way = contains nat_eq c.loop-last.way in
     let x = unchecked.Pairs c.in-Pairs.pairs c.in-Pairs.levels in
-    let there = way_there form r below left way c.in-Some.last x c.in-Some.ensures.items c.in-Pairs.is c.loop-last.invariant.way (λ w. refl) in
-    let whole = verdict_there form r below left way c.in-Some.last x c.in-Some.ensures.items c.in-Pairs.is _ there.same c.loop-last.invariant.rest in
+    let there = way_there form r below left way c.in-Some.last x c.in-Some.ensures.items c.in-Pairs.is c.loop-last.invariant.way (λ w.
+    refl) in
+    let whole = verdict_there form r below left way c.in-Some.last x c.in-Some.ensures.items c.in-Pairs.is _ there.same
+    c.loop-last.invariant.rest in
     record { rest = c.in_ok-check_pairs-in-Pairs.ensures.verdict ∙ sym whole; way = c.in_ok-check_pairs-in-Pairs.ensures.way }
 
 pub returns-in_err-check_pairs-in-Pairs : goal.returns-in_err-check_pairs-in-Pairs
@@ -105,15 +115,19 @@ returns-in_err-check_pairs-in-Pairs g c =
     let way = contains nat_eq c.loop-last.way in
     let x = unchecked.Pairs c.in-Pairs.pairs c.in-Pairs.levels in
     let e = c.in_err-check_pairs-in-Pairs.field-0.0 in
-    let there = way_there form r below left way c.in-Some.last x c.in-Some.ensures.items c.in-Pairs.is c.loop-last.invariant.way (λ w. refl) in
-    let whole = verdict_there form r below left way c.in-Some.last x c.in-Some.ensures.items c.in-Pairs.is _ there.same c.loop-last.invariant.rest in
+    let there = way_there form r below left way c.in-Some.last x c.in-Some.ensures.items c.in-Pairs.is c.loop-last.invariant.way (λ w.
+    refl) in
+    let whole = verdict_there form r below left way c.in-Some.last x c.in-Some.ensures.items c.in-Pairs.is _ there.same
+    c.loop-last.invariant.rest in
     passed _ e _ c.from_residual-in_err-check_pairs-in-Pairs.ensures.1
     (λ m. whole ∙ ap (λ (o : Verdict). and_then o (left_verdict form r nowhere below)) (c.in_err-check_pairs-in-Pairs.ensures.verdict m))
 
 pub enter-requires-in-Value : goal.enter-requires-in-Value
 enter-requires-in-Value g c =
-    way_there c.args.form (g.R.Records.records c.args.records.now) c.pop.new.self.items c.loop-last.left.items (contains nat_eq c.loop-last.way)
-    c.in-Some.last (unchecked.Value c.in-Value.value c.in-Value.levels) c.in-Some.ensures.items c.in-Value.is c.loop-last.invariant.way (λ w. refl)
+    way_there c.args.form (g.R.Records.records c.args.records.now) c.pop.new.self.items c.loop-last.left.items (contains nat_eq
+    c.loop-last.way)
+    c.in-Some.last (unchecked.Value c.in-Value.value c.in-Value.levels) c.in-Some.ensures.items c.in-Value.is c.loop-last.invariant.way
+    (λ w. refl)
 
 pub loop-last-smaller-in-Continue-branch-4 : goal.loop-last-smaller-in-Continue-branch-4
 loop-last-smaller-in-Continue-branch-4 g c =
@@ -132,8 +146,10 @@ loop-last-preserved-in-Continue-branch-4 g c =
     let left = c.loop-last.left.items in
     let way = contains nat_eq c.loop-last.way in
     let x = unchecked.Value c.in-Value.value c.in-Value.levels in
-    let there = way_there form r below left way c.in-Some.last x c.in-Some.ensures.items c.in-Value.is c.loop-last.invariant.way (λ w. refl) in
-    let whole = verdict_there form r below left way c.in-Some.last x c.in-Some.ensures.items c.in-Value.is _ there.same c.loop-last.invariant.rest in
+    let there = way_there form r below left way c.in-Some.last x c.in-Some.ensures.items c.in-Value.is c.loop-last.invariant.way (λ w.
+    refl) in
+    let whole = verdict_there form r below left way c.in-Some.last x c.in-Some.ensures.items c.in-Value.is _ there.same
+    c.loop-last.invariant.rest in
     record { rest = c.in_ok-enter-in-Value.ensures.verdict ∙ sym whole; way = c.in_ok-enter-in-Value.ensures.way }
 
 pub returns-in_err-enter-in-Value : goal.returns-in_err-enter-in-Value
@@ -145,8 +161,10 @@ returns-in_err-enter-in-Value g c =
     let way = contains nat_eq c.loop-last.way in
     let x = unchecked.Value c.in-Value.value c.in-Value.levels in
     let e = c.in_err-enter-in-Value.field-0.0 in
-    let there = way_there form r below left way c.in-Some.last x c.in-Some.ensures.items c.in-Value.is c.loop-last.invariant.way (λ w. refl) in
-    let whole = verdict_there form r below left way c.in-Some.last x c.in-Some.ensures.items c.in-Value.is _ there.same c.loop-last.invariant.rest in
+    let there = way_there form r below left way c.in-Some.last x c.in-Some.ensures.items c.in-Value.is c.loop-last.invariant.way (λ w.
+    refl) in
+    let whole = verdict_there form r below left way c.in-Some.last x c.in-Some.ensures.items c.in-Value.is _ there.same
+    c.loop-last.invariant.rest in
     passed _ e _ c.from_residual-in_err-enter-in-Value.ensures.1
     (λ m. whole ∙ ap (λ (o : Verdict). and_then o (left_verdict form r nowhere below)) (c.in_err-enter-in-Value.ensures.verdict m))
 

@@ -39,7 +39,8 @@ returns-clause-verdict g c =
     ∙ and_then-regroups key value behind) in
     let more : left_verdict form r nowhere c.put-2.new.left.items ≡ and_then (and_then value behind) (left_verdict form r nowhere left) =
     joined form r between c.put-2.new.left.items old _ one.same c.in_ok-put-2.ensures.items
-    ∙ (ap (and_then value) (joined form r left between old (unchecked.Pairs c.in-Some.behind c.args.levels) c.requires.same c.in_ok-put.ensures.items)
+    ∙ (ap (and_then value) (joined form r left between old (unchecked.Pairs c.in-Some.behind c.args.levels) c.requires.same
+    c.in_ok-put.ensures.items)
     ∙ sym (and_then-regroups value behind (left_verdict form r nowhere left))) in
     checked_first form r c.enter.result key (and_then value behind) _ left c.put-2.new.left.items c.enter.new.left.items
     c.enter.ensures.verdict parts more

@@ -24,9 +24,13 @@ returns-in-Some g c =
     let x = c.in-Some.parts in
     let facts = c.in-Some.ensures r old in
     record {
-      verdict = checked_put form r c.put.result _ x left left c.put.new.left.items old c.requires.same c.put.ensures.items c.put.ensures.memory
+      verdict = checked_put form r c.put.result _ x left left c.put.new.left.items old c.requires.same c.put.ensures.items
+          c.put.ensures.memory
           facts.0 refl;
       way = way_put c.put.result left c.put.new.left.items old x c.put.ensures.items c.requires facts.1.0 facts.1.1.0;
       weight = weight_put r c.put.result left c.put.new.left.items x
-          (unchecked_weight r left + val_size c.args.value.now * level_weight r c.args.levels) c.put.ensures.items (omega (arith, facts.1.1.1));
+          (unchecked_weight r left + val_size c.args.value.now * level_weight r c.args.levels) c.put.ensures.items (omega (
+            arith,
+            facts.1.1.1,
+          ));
     }

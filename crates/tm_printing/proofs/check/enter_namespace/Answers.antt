@@ -22,7 +22,8 @@ returns-clause-verdict g c =
     let more : c.args.levels ≡ suc below = omega (arith, c.in-Some.ensures) in
     let fresh : old n ≡ false = not_there _ _ c.in_ok-insert.ensures.added c.if-not-branch.false in
     let ended = way_joined left between old (unchecked.End n) c.requires c.in_ok-put.ensures.items fresh in
-    checked_put form r c.put-2.result _ (unchecked.Pairs c.pairs.result below) left between c.put-2.new.left.items (through n old) ended.same
+    checked_put form r c.put-2.result _ (unchecked.Pairs c.pairs.result below) left between c.put-2.new.left.items (through n old)
+    ended.same
     c.put-2.ensures.items c.put-2.ensures.memory
     (namespace-there form r c.args.levels below old c.args.state n c.pairs.result.now more is fresh)
     (joined form r left between old (unchecked.End n) c.requires.same c.in_ok-put.ensures.items)

@@ -9,11 +9,13 @@ pub returns-in-Some-clause-weight : goal.returns-in-Some-clause-weight
 returns-in-Some-clause-weight c = λ k pos.
     let p = power k c.in-Items.levels in
     rw c.in-Items.is
-    (item_lighter c.in-Some.value.now c.in-Some.left.now c.in-Items.left.now p c.in-Some.ensures.cases.0 (power_positive k c.in-Items.levels pos))
+    (item_lighter c.in-Some.value.now c.in-Some.left.now c.in-Items.left.now p c.in-Some.ensures.cases.0 (power_positive k
+    c.in-Items.levels pos))
 
 pub returns-in-None-clause-weight : goal.returns-in-None-clause-weight
 returns-in-None-clause-weight c = λ k pos.
-    rw c.in-Items.is (end_positive (vals_size (vals_of c.in-Items.left.now)) (power k c.in-Items.levels) (power_positive k c.in-Items.levels pos))
+    rw c.in-Items.is (end_positive (vals_size (vals_of c.in-Items.left.now)) (power k c.in-Items.levels) (power_positive k
+    c.in-Items.levels pos))
 
 pub returns-in-Some-split_first-clause-weight : goal.returns-in-Some-split_first-clause-weight
 returns-in-Some-split_first-clause-weight c = λ k pos.
@@ -24,7 +26,8 @@ returns-in-Some-split_first-clause-weight c = λ k pos.
 
 pub returns-in-None-split_first-clause-weight : goal.returns-in-None-split_first-clause-weight
 returns-in-None-split_first-clause-weight c = λ k pos.
-    rw c.in-Pairs.is (end_positive (pairs_size (pairs_of c.in-Pairs.left.now)) (power k c.in-Pairs.levels) (power_positive k c.in-Pairs.levels pos))
+    rw c.in-Pairs.is (end_positive (pairs_size (pairs_of c.in-Pairs.left.now)) (power k c.in-Pairs.levels) (power_positive k
+    c.in-Pairs.levels pos))
 
 pub returns-in-Member-clause-weight : goal.returns-in-Member-clause-weight
 returns-in-Member-clause-weight c = λ k pos.
@@ -35,4 +38,5 @@ pub returns-in-Some-split_first-clause-text : goal.returns-in-Some-split_first-c
 returns-in-Some-split_first-clause-text c = λ r.
     let next = c.in-Some-split_first in
     let inside = namespace_data r c.in-Pairs.levels in
-    rw c.in-Pairs.is (rw c.comma-in-Some-split_first.ensures (member_first inside c.in-Pairs.later c.in-Pairs.left.now next.left.now next.pair.now next.ensures.cases.0))
+    rw c.in-Pairs.is (rw c.comma-in-Some-split_first.ensures (member_first inside c.in-Pairs.later c.in-Pairs.left.now next.left.now
+    next.pair.now next.ensures.cases.0))

@@ -12,7 +12,8 @@ returns-in-Some g c =
     let text = g.N.Notation.rest_text r in
     let whole = g.N.Notation.value_text r (length r.namespaces) c.args.value.now in
     let begun : Begins took stopped (Ok c.in_ok-begun.begun) c.args.target.now whole text c.begin.new.target =
-    subst (λ (levels : ℕ). Begins took stopped (Ok c.in_ok-begun.begun) c.args.target.now (g.N.Notation.value_text r levels c.args.value.now) text c.begin.new.target)
+    subst (λ (levels : ℕ). Begins took stopped (Ok c.in_ok-begun.begun) c.args.target.now (g.N.Notation.value_text r levels
+    c.args.value.now) text c.begin.new.target)
     c.namespace_count.ensures c.in_ok-begun.ensures.text in
     let before : Begins took stopped (Ok (Some c.in-Some.rest)) c.args.target.now whole text c.begin.new.target =
     subst (λ (o : Option Rest). Begins took stopped (Ok o) c.args.target.now whole text c.begin.new.target) c.in-Some.is begun in

@@ -1,6 +1,7 @@
 use Rattle.std.proofs.Common.{◌≡◌, ◌+◌, ◌++◌, ℕ, List, ap, sym, subst, ◌∙◌, arith}
 use Rattle.tm_printing.proofs.Begun.{Begun, beginning}
-use Rattle.tm_printing.proofs.Steps.{left_text-push, left_weight-push, closed, at_value, written_whole, opened, closed_lighter, step_lighter, opened_lighter}
+use Rattle.tm_printing.proofs.Steps.{left_text-push, left_weight-push, closed, at_value}
+use Rattle.tm_printing.proofs.Steps.{written_whole, opened, closed_lighter, step_lighter, opened_lighter}
 use Rattle.tm_printing.proofs.Weights.{positive}
 use Rattle.tm_printing.specs.Left.{left_text, left_weight, rest_weight, weight}
 use Rattle.tm_printing.proofs.walk.write_rest.Goals as goal
