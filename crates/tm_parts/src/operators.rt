@@ -9,8 +9,8 @@ ghost use Rattle.tm_values.specs.declared.error.ErrorKind.TheVariants.{OutOfMemo
 
 use std::alloc::Global;
 use tm_operations::{
-    ComparisonOperator, add, compare, contains, divide, floor_divide, multiply, negate, power, remainder,
-    subtract, truth,
+    ComparisonOperator, add, compare, contains, divide, floor_divide, multiply, negate, power,
+    remainder, subtract, truth,
 };
 use tm_primitives::whole;
 use tm_printing::concatenate;

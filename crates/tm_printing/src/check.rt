@@ -22,11 +22,8 @@ pub fn check_print<R: Records>(alloc: Global, value: &Value, records: &R) -> Res
     ensures { IsAnswer result (print_verdict (R.records records.now) value.now) }
 {
     match &value.node {
-        Node::Undefined(_)
-        | Node::None
-        | Node::Boolean(_)
-        | Node::Number(_)
-        | Node::Text(_, _) => Ok(()),
+        Node::Undefined(_) | Node::None | Node::Boolean(_) | Node::Number(_) | Node::Text(_, _) =>
+            Ok(()),
         _ => check(Form::Printed, alloc, value, records),
     }
 }

@@ -27,8 +27,8 @@ use tm_operations::{check_settable, dict, namespace, range};
 use tm_printing::check_emission;
 use tm_syntax::{Code, Instruction, LoopFlags, Name, NameMap};
 use tm_tables::{
-    Called, Context, Exhausted, Frame, FuelTracker, Host, LoopState, View, following_at, position_at,
-    previous_at,
+    Called, Context, Exhausted, Frame, FuelTracker, Host, LoopState, View, following_at,
+    position_at, previous_at,
 };
 use tm_values::{
     AutoEscape, Error, ErrorKind, LoopPosition, Node, Records, UndefinedUse, Value, ValueMap,

@@ -273,18 +273,26 @@ impl Machine<'_> {
             Instruction::Lt => Attempt::of(self.binary_at_once(host, BinaryOperator::Less)),
             Instruction::Lte => Attempt::of(self.binary_at_once(host, BinaryOperator::LessOrEqual)),
             Instruction::Gt => Attempt::of(self.binary_at_once(host, BinaryOperator::Greater)),
-            Instruction::Gte => Attempt::of(self.binary_at_once(host, BinaryOperator::GreaterOrEqual)),
+            Instruction::Gte => Attempt::of(self.binary_at_once(
+                host,
+                BinaryOperator::GreaterOrEqual,
+            )),
             Instruction::Add => Attempt::of(self.binary_at_once(host, BinaryOperator::Add)),
             Instruction::Sub => Attempt::of(self.binary_at_once(host, BinaryOperator::Subtract)),
             Instruction::Mul => Attempt::of(self.binary_at_once(host, BinaryOperator::Multiply)),
-            Instruction::IntDiv => Attempt::of(self.binary_at_once(host, BinaryOperator::FloorDivide)),
+            Instruction::IntDiv => Attempt::of(self.binary_at_once(
+                host,
+                BinaryOperator::FloorDivide,
+            )),
             Instruction::Rem => Attempt::of(self.binary_at_once(host, BinaryOperator::Remainder)),
             Instruction::Jump(place) => {
                 self.state.pay_one();
                 self.run.jump(*place);
                 Attempt::Done
             }
-            Instruction::JumpIfFalse(place) => Attempt::of(self.jump_if_false_at_once(host, *place)),
+            Instruction::JumpIfFalse(place) => Attempt::of(self.jump_if_false_at_once(
+                host, *place,
+            )),
             Instruction::StoreLocal(name) => Attempt::of(self.store_local_at_once(name)),
             Instruction::Iterate(place) => Attempt::of(self.iterate_at_once(*place)),
             _ => Attempt::Left,

@@ -1,6 +1,8 @@
 //! The machine: one method for each instruction, and the loop.
 #![tactic(auto)]
 
+mod activation;
+mod at_once;
 mod calls;
 mod captures;
 mod flow;
@@ -9,8 +11,6 @@ mod loops;
 mod machine;
 mod operands;
 mod output;
-mod activation;
-mod at_once;
 mod scopes;
 mod steps;
 

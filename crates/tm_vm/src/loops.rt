@@ -3,9 +3,9 @@ ghost use Rattle.std.specs.Prelude.{◌≡◌};
 ghost use Rattle.tm_meaning.specs.Instructions.{push_loop_of, iterate_of, push_did_not_iterate_of, pop_loop_frame_of, returns};
 ghost use Rattle.tm_vm.specs.Answers.{program, resumed, CanGoOn, Silently, Opens, Shifts};
 
+use crate::activation::Return;
 use crate::flow::Flow;
 use crate::machine::Machine;
-use crate::activation::Return;
 use std::alloc::Global;
 use tm_meaning::Base;
 use tm_operations::iterate;

@@ -8,8 +8,8 @@ ghost use Rattle.tm_state.specs.Answers.{KeepsIdAndFuel};
 ghost use Rattle.tm_state.specs.State.{put_back};
 ghost use Rattle.tm_vm.specs.Nested.{RanNested, WroteBeginning, IsBack, IsWrapped, IsCaptured, base_in, start_in};
 
-use crate::flow::{Flow, NestedRun};
 use crate::activation::Activation;
+use crate::flow::{Flow, NestedRun};
 use std::alloc::Global;
 use std::marker::Model;
 use std::mem;
