@@ -55,22 +55,9 @@ namespace_data r zero s n = json.null
 namespace_data r (suc levels) s n =
     entered (namespace_at r s n) json.null (object_data (namespace_data r levels))
 
--- the text of a list, of an item with its comma, of a map, of a key and of a member with its comma
-abbrev pub array_text : NamespaceData → Vals → List ℕ
-array_text inside vs = compact_text (json.array (items_of inside vs))
-
-abbrev pub item_json : NamespaceData → Bool → Val → List ℕ
-item_json inside later v = comma_if later ++ compact_text (data_of inside v)
-
-abbrev pub object_text : NamespaceData → Pairs → List ℕ
-object_text inside ps = compact_text (object_data inside ps)
-
+-- the text of a key
 abbrev pub key_text : Val → List ℕ
 key_text k = quoted (key_bytes k)
-
-abbrev pub member_json : NamespaceData → Bool → Val × Val → List ℕ
-member_json inside later p =
-    comma_if later ++ (key_text p.0 ++ ((58 ∷ []) ++ compact_text (data_of inside p.1)))
 
 abbrev pub json_within : RecordData → ℕ → Val → List ℕ
 json_within r levels v = compact_text (data_of (namespace_data r levels) v)

@@ -53,17 +53,6 @@ abbrev mutual
       (comma_after later ++ (inner r inside k ++ (codes ": " ++ inner r inside v)))
       ++ inner_pairs r inside true ps
 
--- an item, and a pair
-abbrev pub item_text : RecordData → NamespaceTexts → Bool → Val → List ℕ
-item_text r inside later v = comma_after later ++ inner r inside v
-
-abbrev pub pair_text : RecordData → NamespaceTexts → Bool → Val × Val → List ℕ
-pair_text r inside later p =
-    comma_after later ++ (inner r inside p.0 ++ (codes ": " ++ inner r inside p.1))
-
-abbrev pub list_text : RecordData → NamespaceTexts → Vals → List ℕ
-list_text r inside vs = codes "[" ++ inner_items r inside false vs
-
 abbrev pub map_text : RecordData → NamespaceTexts → Pairs → List ℕ
 map_text r inside ps = codes "{" ++ inner_pairs r inside false ps
 

@@ -82,10 +82,6 @@ abbrev mutual
       (member_verdict form k (verdict form r inside k) (verdict form r inside v))
       (pairs_verdict form r inside ps)
 
-abbrev pub pair_verdict : Form → RecordData → NamespaceVerdicts → Val × Val → Verdict
-pair_verdict form r inside p =
-    member_verdict form p.0 (verdict form r inside p.0) (verdict form r inside p.1)
-
 -- the namespaces that are being gone through
 abbrev pub Way : Type 0
 Way = ℕ → Bool
