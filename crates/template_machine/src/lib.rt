@@ -23,7 +23,7 @@ pub use tm_parts::{Counted, Limited, NullWriter, Output, Sink, WriteWrapper};
 pub use tm_printing as printing;
 pub use tm_syntax::{Assignment, AssignmentTarget, Code};
 pub use tm_tables::{
-    CallableAnswer, Answering, Callable, Called, FuelTracker, Objects, Parties, Plain, View,
+    Answering, Callable, CallableAnswer, Called, FuelTracker, Objects, Parties, Plain, View,
 };
 pub use tm_templates::{
     CompiledTemplate, EscapeSetting, Source, TemplateConfig, default_auto_escape_callback,

@@ -1,8 +1,7 @@
-use Rattle.std.proofs.Common.{sym, ap, ◌∙◌}
-use Rattle.tm_values.specs.Val.{map, pairs_of}
+use Rattle.std.proofs.Common.{rules}
 use Rattle.mj_json.proofs.Ascending.{put_all-map}
 use Rattle.mj_json.proofs.values.map_of.Goals as goal
 
 -- pairs whose keys ascend are the map as they stand
 pub returns : goal.returns
-returns c = search (rules, sym (put_all-map c.args.pairs.items c.requires)) fits 100
+returns c = rw (put_all-map c.args.pairs.items c.requires) (search rules fits 100)
