@@ -6,7 +6,9 @@ use Rattle.tm_syntax.specs.declared.tree.BinaryOperator.TheVariants as binaries
 use Rattle.tm_syntax.specs.declared.tree.Expr.{Expr, Const, List', Call', end_of-Expr as no_expr, more_of-Expr as expr}
 use Rattle.tm_syntax.specs.declared.tree.Expr.{end_of-Argument as no_argument, more_of-Argument as argument, end_of-Keyword as no_keyword}
 use Rattle.tm_syntax.specs.declared.tree.Expr.{end_of-Step as no_step, more_of-Step as step}
-use Rattle.tm_syntax.specs.declared.tree.Step.{Attribute, Method'}
+use Rattle.tm_syntax.specs.declared.tree.Application.{Application}
+use Rattle.tm_syntax.specs.declared.tree.Application.TheVariants as applications
+use Rattle.tm_syntax.specs.declared.tree.Step.{Attribute, Apply'}
 use Rattle.tm_syntax.specs.declared.tree.AssignmentTarget.{Name as To, Attribute as Member}
 use Rattle.tm_syntax.specs.declared.tree.Stmt.{Stmt, EmitExpr, EmitLoop, For', Set, Do, end_of-Stmt as no_statement}
 use Rattle.tm_syntax.specs.declared.tree.Stmt.{more_of-Stmt as statement, None' as no_else}
@@ -125,13 +127,14 @@ unknown_behind f = with_functions f f (page (two (raw (codes "a")) (EmitExpr
 
 -- a method of no argument, and of these
 abbrev pub method_none : Expr → List ℕ → Expr
-method_none e m = and_one e (Method' m [] no_argument [] no_keyword)
+method_none e m = and_one e (Apply' applications.Method m [] no_argument [] no_keyword)
 
 abbrev pub method_one : Expr → List ℕ → Expr → Expr
-method_one e m a = and_one e (Method' m (tt ∷ []) (argument (plain a) no_argument) [] no_keyword)
+method_one e m a = and_one e (Apply' applications.Method m (tt ∷ []) (argument (plain a) no_argument) [] no_keyword)
 
 abbrev pub method_two : Expr → List ℕ → Expr → Expr → Expr
-method_two e m a b = and_one e (Method' m (tt ∷ tt ∷ []) (argument (plain a) (argument (plain b) no_argument)) [] no_keyword)
+method_two e m a b =
+    and_one e (Apply' applications.Method m (tt ∷ tt ∷ []) (argument (plain a) (argument (plain b) no_argument)) [] no_keyword)
 
 -- {% for x in [1,1,2] %}{{ loop.changed(x) }} {% endfor %}
 abbrev pub changed_or_not : Page

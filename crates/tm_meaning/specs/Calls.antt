@@ -5,18 +5,22 @@ use Rattle.std.specs.Ordering.{is_eq}
 use Rattle.tm_definitions.specs.Maps.{dict_of, namespace_of}
 use Rattle.tm_definitions.specs.Ranges.{range_of}
 use Rattle.tm_definitions.specs.Members.{macro_member, or_undefined}
+use Rattle.tm_definitions.specs.Truth.{is_true}
 use Rattle.tm_values.specs.Answer.{Answer}
 use Rattle.tm_values.specs.Order.{val_cmp}
 use Rattle.tm_values.specs.Records.{RecordData}
 use Rattle.tm_values.specs.Val.{Val, undefined, boolean, list, map, function, macro, loop, pairs_of, vals_of}
 use Rattle.tm_values.specs.declared.error.ErrorKind.{ErrorKind}
-use Rattle.tm_values.specs.declared.error.ErrorKind.TheVariants.{InvalidOperation, UnknownFunction, UnknownMethod, UnknownBlock}
+use Rattle.tm_values.specs.declared.error.ErrorKind.TheVariants.{InvalidOperation, UnknownFilter, UnknownTest, UnknownFunction}
+use Rattle.tm_values.specs.declared.error.ErrorKind.TheVariants.{UnknownMethod, UnknownBlock}
+use Rattle.tm_syntax.specs.declared.tree.Application.{Application}
+use Rattle.tm_syntax.specs.declared.tree.Application.TheVariants as applications
 use Rattle.tm_meaning.specs.declared.function.GlobalFunction.{GlobalFunction}
 use Rattle.tm_meaning.specs.declared.wrapping.Wrapping.{Wrapping}
 use Rattle.tm_meaning.specs.Memory.{kind_of_wrapping}
 use Rattle.tm_meaning.specs.declared.function.GlobalFunction.TheVariants as own
 use Rattle.tm_meaning.specs.World.{TemplateId, own, entry, StreamId, block_of, Named, find, put_each, same_name, Card, Layers, Loop, World}
-use Rattle.tm_meaning.specs.World.{HostValue, View, Scope, Stated, Function, callers, languages, Res, Good, Bad, bind, bad, answered}
+use Rattle.tm_meaning.specs.World.{HostValue, View, Scope, Object, Function, callers, languages, Res, Good, Bad, bind, bad, answered}
 use Rattle.tm_meaning.specs.World.{items_over, innermost, records_of, make_namespace, need, check, card_at, view_of, lookup}
 use Rattle.tm_meaning.specs.World.{context_member, place_of, plain_scope, push}
 use Rattle.tm_meaning.specs.declared.reply.Reply.{Reply}
@@ -103,10 +107,14 @@ given_by own.Range args w = answered (range_of args) w
 given_by own.Dict args w = bind (answered (dict_of (records_of w) args) w) (λ ps world1. Good (map (pairs_of ps)) world1)
 given_by own.Namespace args w = bind (answered (namespace_of (records_of w) args) w) (λ ps world1. make_namespace ps world1)
 
-abbrev pub call_by : HostValue → Function → List Val → World → Asked
-call_by host (callers f) args w =
+-- an object of the caller is called
+abbrev pub call_object : HostValue → Object → List Val → World → Asked
+call_object host f args w =
     let stated = f args (view_of host w) in
     replied stated.reply (record w { temps = put_each stated.temps w.temps })
+
+abbrev pub call_by : HostValue → Function → List Val → World → Asked
+call_by host (callers f) args w = call_object host f args w
 call_by host (languages g) args w = ask (given_by g args w) has
 
 -- a value is called: of values alone a function can be, by its number
@@ -176,6 +184,28 @@ call_method host x v args w =
 abbrev pub call_first : HostValue → List ℕ → List Val → World → Asked
 call_first host x [] w = refused (InvalidOperation ∷ []) w
 call_first host x (v ∷ args) w = call_method host x v args w
+
+-- ---------------------------------------------------------------- filters and tests
+abbrev pub apply_filter : HostValue → List ℕ → List Val → World → Asked
+apply_filter host x args w = ask (need (find x host.filters) UnknownFilter w) (λ f world1. call_object host f args world1)
+
+-- Of a test's answer the truth alone counts, whatever undefined values do.
+abbrev pub as_truth : Asked → Asked
+as_truth (has v w) = has (boolean (is_true v)) w
+as_truth (refused chain w) = refused chain w
+as_truth (runs c w) = runs c w
+as_truth (recurs n items w) = recurs n items w
+
+abbrev pub perform_test : HostValue → List ℕ → List Val → World → Asked
+perform_test host x args w =
+    as_truth (ask (need (find x host.tests) UnknownTest w) (λ f world1. call_object host f args world1))
+
+-- Values are passed to what a name stands for: the first one's method, a filter or a test.
+abbrev pub applied : HostValue → Application → List ℕ → List Val → World → Asked
+applied host applications.Method x vs w = call_first host x vs w
+applied host applications.Filter x vs w = apply_filter host x vs w
+applied host applications.Test x vs w = perform_test host x vs w
+applied host applications.NegatedTest x vs w = perform_test host x vs w
 
 -- ---------------------------------------------------------------- loops
 abbrev pub same_template : TemplateId → TemplateId → Bool

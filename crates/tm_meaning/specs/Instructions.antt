@@ -13,7 +13,8 @@ use Rattle.tm_meaning.specs.World.{choose, TemplateId, World, HostValue, Loop, t
 use Rattle.tm_meaning.specs.World.{items_over, Res, Good, answered, looked_up, emitted, escape_for, with_escape, store, unpacked_items}
 use Rattle.tm_meaning.specs.World.{set_member, push, pop, plain_scope, captured_text}
 use Rattle.tm_syntax.specs.Loops.{loops_before}
-use Rattle.tm_meaning.specs.Calls.{enter_block, call_named, call_first, call_innermost}
+use Rattle.tm_syntax.specs.declared.tree.Application.{Application}
+use Rattle.tm_meaning.specs.Calls.{enter_block, call_named, applied, call_innermost}
 use Rattle.tm_meaning.specs.Meaning.{none_waits, truth, applied_unary, operated, attribute, item_at, slice_of, list_of_values, map_of_pairs}
 use Rattle.tm_meaning.specs.Meaning.{keyword_map}
 use Rattle.tm_meaning.specs.Machine.{Capture, Return, Activation, Config, Base, Next, More, after, on_top, take_n, on, goes, pushed}
@@ -242,9 +243,9 @@ pop_auto_escape_of c = pop_auto_escape_with c.run.escapes c
 abbrev pub call_function_of : Program → List ℕ → ℕ → Config → Next
 call_function_of p x n c = take_n n c.run.operands c.world (λ vs rest. asked p c rest (call_named p.host x vs c.world))
 
--- the first of the values is called by its method
-abbrev pub call_method_of : Program → List ℕ → ℕ → Config → Next
-call_method_of p x n c = take_n n c.run.operands c.world (λ vs rest. asked p c rest (call_first p.host x vs c.world))
+-- values are passed to what a name stands for: the first one's method, a filter or a test
+abbrev pub apply_of : Program → Application → List ℕ → ℕ → Config → Next
+apply_of p k x n c = take_n n c.run.operands c.world (λ vs rest. asked p c rest (applied p.host k x vs c.world))
 
 abbrev pub call_block_of : Program → Base → List ℕ → Config → Next
 call_block_of p f b c =

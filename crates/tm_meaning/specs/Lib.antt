@@ -9,6 +9,7 @@ pub mod Steps
 pub mod Rows
 pub mod LoopRows
 pub mod CallRows
+pub mod FilterRows
 pub mod OperatorRows
 pub mod GuardRows
 pub mod LookUp

@@ -28,7 +28,9 @@ use Rattle.tm_syntax.specs.declared.tree.Expr.{end_of-Argument as no_argument, m
 use Rattle.tm_syntax.specs.declared.tree.Expr.{end_of-Keyword as no_keyword, Row_of-Step, end_of-Step as no_step, more_of-Step as step}
 use Rattle.tm_syntax.specs.declared.tree.Expr.{Row_of-Condition, end_of-Condition as no_condition}
 use Rattle.tm_syntax.specs.declared.tree.Argument.{Argument}
-use Rattle.tm_syntax.specs.declared.tree.Step.{Step, Attribute, Method', Row_of-Comparison, end_of-Comparison as no_comparison}
+use Rattle.tm_syntax.specs.declared.tree.Application.{Application}
+use Rattle.tm_syntax.specs.declared.tree.Application.TheVariants as applications
+use Rattle.tm_syntax.specs.declared.tree.Step.{Step, Attribute, Apply', Row_of-Comparison, end_of-Comparison as no_comparison}
 use Rattle.tm_syntax.specs.declared.tree.AssignmentTarget.{AssignmentTarget, Name as To, Unpack' as Items, Attribute as Member}
 use Rattle.tm_syntax.specs.declared.tree.AssignmentTarget.{Row_of-AssignmentTarget}
 use Rattle.tm_syntax.specs.declared.tree.AssignmentTarget.{end_of-AssignmentTarget as no_target, more_of-AssignmentTarget as target}
@@ -45,7 +47,7 @@ use Rattle.tm_meaning.specs.World.{choose, TemplateId, root_of, World, HostValue
 use Rattle.tm_meaning.specs.World.{records_of, template_at, emitted, escape_for, with_escape, captured_text, open_loop, next_turn}
 use Rattle.tm_meaning.specs.World.{cleared, items_over, store, set_member, unpacked_items, push, pop, plain_scope}
 use Rattle.tm_meaning.specs.Calls.{Callee, whole, Call, Asked, has, refused, runs, recurs, undone, wrapped, enter_block, call_named}
-use Rattle.tm_meaning.specs.Calls.{call_method, call_innermost, own_blocks}
+use Rattle.tm_meaning.specs.Calls.{applied, call_innermost, own_blocks}
 use Rattle.tm_meaning.specs.Tree.{Body, Trees}
 
 -- ---------------------------------------------------------------- runs and outcomes
@@ -219,6 +221,13 @@ map_of_pairs ps = map (pairs_of (put_all ps))
 abbrev pub keyword_map : List (Val × Val) → Val
 keyword_map ps = keywords (pairs_of (put_all ps))
 
+-- what a test answered is turned round, charged, where that is asked for
+abbrev pub turned : HostValue → Application → Val → World → Res Val
+turned host applications.Method v w = Good v w
+turned host applications.Filter v w = Good v w
+turned host applications.Test v w = Good v w
+turned host applications.NegatedTest v w = ticked w (λ world1. applied_unary host unaries.Not v world1)
+
 -- ---------------------------------------------------------------- expressions
 -- what is guarded where the condition is true, with the jump behind it, and else what stands for it
 abbrev pub under_condition : HostValue → (World → Res Val) → (World → Res Val) → (World → Res Val) → World → Res Val
@@ -284,9 +293,9 @@ abbrev mutual
   -- a value goes on; `and` and `or` charge their test, and give the operand that ran last
   pub eval_step : Under → Run → Step → Val → World → Res Val
   eval_step u run (Attribute x) v w = ticked w (λ world1. attribute u.host v x world1)
-  eval_step u run (Method' x _ given _ named) v w =
+  eval_step u run (Apply' k x _ given _ named) v w =
       bind (eval_arguments u run given w) (λ vs world1. bind (eval_named u run named world1) (λ ks world2.
-      ticked world2 (λ world3. value_of u run (call_method u.host x v (vs ++ ks) world3))))
+      ticked world2 (λ world3. bind (value_of u run (applied u.host k x (v ∷ (vs ++ ks)) world3)) (λ y world4. turned u.host k y world4))))
   eval_step u run (item a) v w = bind (eval u run a w) (λ k world1. ticked world1 (λ world2. item_at u.host v k world2))
   eval_step u run (slice a b c) v w =
       bind (eval u run a w) (λ x world1. bind (eval u run b world1) (λ y world2.

@@ -22,7 +22,7 @@ use Rattle.tm_syntax.specs.declared.tree.Stmt.{end_of-Stmt as no_statement, more
 use Rattle.tm_syntax.specs.declared.tree.Stmt.{None' as no_else, Some' as otherwise}
 use Rattle.tm_syntax.specs.Forms.{unary, chained, conditional, with_condition, with_comparison, binary, compare, and_then, or_else}
 use Rattle.tm_meaning.specs.Compiled.{code_of}
-use Rattle.tm_meaning.specs.World.{Bindings, find_name, view_of, own, World, HostValue, Function, View, fuel_levels}
+use Rattle.tm_meaning.specs.World.{Bindings, find_name, view_of, own, World, HostValue, Function, Named, Object, View, fuel_levels}
 use Rattle.tm_meaning.specs.Calls.{whole}
 use Rattle.tm_meaning.specs.Tree.{Body, body_of, TemplateTree, Trees, template_of, trees_of}
 use Rattle.tm_meaning.specs.Meaning.{rendered, first_world, chain_of}
@@ -35,6 +35,8 @@ pub record Page : Type 0 where
   pub context : Val
   pub globals : Bindings
   pub functions : List Function
+  pub filters : Named Object
+  pub tests : Named Object
   pub formatter : Option (Val → View → Answer (List ℕ))
   pub undefined : UndefinedBehavior
   pub limit : ℕ
@@ -45,6 +47,8 @@ page body context = record {
   context = context;
   globals = [];
   functions = [];
+  filters = [];
+  tests = [];
   formatter = None;
   undefined = Lenient;
   limit = 500;
@@ -59,8 +63,8 @@ host_of p = record {
   templates = [];
   globals = p.globals;
   functions = p.functions;
-  filters = [];
-  tests = [];
+  filters = p.filters;
+  tests = p.tests;
   join = λ x parent. Ok x;
   formatter = p.formatter;
   unknown_method = None;

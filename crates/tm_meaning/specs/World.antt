@@ -128,9 +128,13 @@ pub record Stated : Type 0 where
   pub temps : Bindings
   pub reply : Reply
 
+-- An object of the caller that is called: what it answers, by its arguments and what it sees.
+abbrev pub Object : Type 0
+Object = List Val → View → Stated
+
 -- A function that the environment has: an object of the caller, or one of the language.
 pub data Function : Type 0 where
-  callers : (List Val → View → Stated) → Function
+  callers : Object → Function
   languages : GlobalFunction → Function
 
 -- What the environment gives. Trees and code aren't here: they are functions of a stream.
@@ -139,8 +143,8 @@ pub record HostValue : Type 0 where
   pub templates : Named Template
   pub globals : Bindings
   pub functions : List Function
-  pub filters : Named Function
-  pub tests : Named Function
+  pub filters : Named Object
+  pub tests : Named Object
   pub join : List ℕ → List ℕ → Answer (List ℕ)
   pub formatter : Option (Val → View → Answer (List ℕ))
   pub unknown_method : Option (Val → List ℕ → List Val → View → Stated)

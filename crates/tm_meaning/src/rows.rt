@@ -22,6 +22,11 @@ ghost use Rattle.tm_meaning.specs.CallRows.{depth_inside_recursive, tree_in_plac
 ghost use Rattle.tm_meaning.specs.CallRows.{called_behind_its_end, range_of_three, range_by_name, dict_by_names};
 ghost use Rattle.tm_meaning.specs.CallRows.{summed, do_call, last_function, faulty, calling, keep_and_read};
 ghost use Rattle.tm_meaning.specs.CallRows.{unknown_behind};
+ghost use Rattle.tm_meaning.specs.FilterRows.{in_capitals, one_after_the_other, not_odd, divided, not_divided};
+ghost use Rattle.tm_meaning.specs.FilterRows.{is_unsure, under, unknown};
+ghost use Rattle.tm_syntax.specs.declared.tree.Application.TheVariants.{Filter, Test, NegatedTest};
+ghost use Rattle.tm_values.specs.declared.undefined.UndefinedBehavior.TheVariants.{Strict};
+ghost use Rattle.tm_values.specs.declared.error.ErrorKind.TheVariants.{UnknownFilter, UnknownTest};
 
 /// `Hello {{ name }}!` with the name World takes 4 charges, so 5 units of fuel; with fewer it ends where the fuel does.
 pub fn hello_rows()
@@ -207,6 +212,21 @@ pub fn call_rows()
     ensures arguments_first { Fails (unknown_behind (faulty (MissingArgument ∷ []))) (codes "a")
         (MissingArgument ∷ []) }
     ensures not_found { Fails (unknown_behind last_function) (codes "a") (UnknownFunction ∷ []) }
+{}
+
+/// `{{ "a"|upper }}`, `{{ 1|second("b")|upper }}`, `{{ 1 is not odd }}`, `{{ 6 is divisible 3 }}`,
+/// `{{ not 6 is divisible 3 }}`, a test that answers undefined, under Strict, and names that are
+/// those of no filter and no test.
+pub fn filter_rows()
+    ensures upper { Charges in_capitals (codes "A") 3 }
+    ensures chain { Charges one_after_the_other (codes "B") 5 }
+    ensures not_odd { Charges not_odd (codes "false") 4 }
+    ensures divisible { Charges divided (codes "true") 4 }
+    ensures negated { Charges not_divided (codes "false") 5 }
+    ensures unsure { Charges (under Strict is_unsure) (codes "false") 3 }
+    ensures no_filter { Fails (unknown Filter (codes "odd")) [] (UnknownFilter ∷ []) }
+    ensures no_test { Fails (unknown Test (codes "upper")) [] (UnknownTest ∷ []) }
+    ensures no_negated { Fails (unknown NegatedTest (codes "upper")) [] (UnknownTest ∷ []) }
 {}
 
 /// Loops that are called: `{{ loop(x) }}` in place, over `[[]]`, a number, in a loop that can't be

@@ -5,23 +5,27 @@ use Rattle.std.proofs.Common.{ltb-true, length-append, ◌≤◌}
 use Rattle.std.specs.Prelude.{slice_get, not, ◌&&◌, codes, if◌then◌else◌}
 use Rattle.tm_values.specs.Val.{Val, undefined, function, loop}
 use Rattle.tm_values.specs.declared.error.ErrorKind.{ErrorKind}
-use Rattle.tm_values.specs.declared.error.ErrorKind.TheVariants.{InvalidOperation, UnknownBlock, UnknownFunction, UnknownMethod}
+use Rattle.tm_values.specs.declared.error.ErrorKind.TheVariants.{InvalidOperation, UnknownBlock, UnknownFilter, UnknownTest}
+use Rattle.tm_values.specs.declared.error.ErrorKind.TheVariants.{UnknownFunction, UnknownMethod}
+use Rattle.tm_syntax.specs.declared.tree.Application.{Application}
+use Rattle.tm_syntax.specs.declared.tree.Application.TheVariants as applications
 use Rattle.tm_definitions.specs.Maps.{dict_of, namespace_of}
 use Rattle.tm_meaning.specs.World.{unpacked_items, emitted, escape_for, view_of, find, same_name, block_of, World, HostValue, Scope, Loop}
 use Rattle.tm_meaning.specs.World.{innermost}
 use Rattle.tm_meaning.specs.World.{items_over, Res, Good, Bad}
 use Rattle.tm_meaning.specs.World.{need, check, answered, depth, lookup, Function, callers, languages, records_of}
-use Rattle.tm_meaning.specs.World.{plain_scope, Stated, View}
+use Rattle.tm_meaning.specs.World.{plain_scope, Object, View}
 use Rattle.tm_meaning.specs.declared.reply.Reply.{Reply}
 use Rattle.tm_meaning.specs.declared.reply.Reply.TheVariants.{Value as gives, Fault as faults}
 use Rattle.tm_meaning.specs.Calls.{whole, of_block, undone, Asked, has, refused, runs, recurs, ask, same_stream, wrapped_as}
 use Rattle.tm_meaning.specs.Calls.{call_loop, call_innermost, one_argument, call_found, enter_block, call_named, call_value, call_method}
+use Rattle.tm_meaning.specs.Calls.{call_object, call_first, apply_filter, perform_test, as_truth, applied}
 use Rattle.tm_meaning.specs.Calls.{loop_method, method_in, of_loop, record_at, call_by, given_by, replied, required_alone}
 use Rattle.tm_meaning.specs.declared.function.GlobalFunction.{GlobalFunction}
 use Rattle.tm_meaning.specs.declared.function.GlobalFunction.TheVariants as own
 use Rattle.tm_meaning.specs.declared.stream.StreamId.{StreamId}
 use Rattle.tm_syntax.specs.Named.{put_each}
-use Rattle.tm_simulation.specs.Chains.{is_raised, Arises, wrapped as wraps, by_function}
+use Rattle.tm_simulation.specs.Chains.{is_raised, Arises, wrapped as wraps, by_object, IsObject, is_function, is_filter, is_test}
 use Rattle.tm_simulation.proofs.Raised.{unpacked_raises, escape_raises, emitted_arises, iterated_raises, range_raises, dict_raises}
 use Rattle.tm_simulation.proofs.Raised.{namespace_raises, name_raises, method_raises}
 use Rattle.tm_simulation.proofs.Advances.{Advances, Kept, advances_then, lasts_by_namespaces, lasts_by_temps, advances_same}
@@ -112,19 +116,22 @@ given_gives host own.Namespace args w =
     refl refl refl refl)
 
 -- values that are kept are kept first, also where the rest is a fault
-replied_asks : (host : HostValue) (n : ℕ) (f : List Val → View → Stated) (args : List Val) (view : View) (w : World) (reply : Reply) →
-    slice_get host.functions n ≡ Some (callers f) → (f args view).reply ≡ reply → Asks host w (replied reply w)
-replied_asks host n f args view w (gives v) e s = kept_same w
-replied_asks host n f args view w (faults chain) e s = (advances_same w, by_function n f args view e s)
+replied_asks : (host : HostValue) (f : Object) (args : List Val) (view : View) (w : World) (reply : Reply) →
+    IsObject host f → (f args view).reply ≡ reply → Asks host w (replied reply w)
+replied_asks host f args view w (gives v) e s = kept_same w
+replied_asks host f args view w (faults chain) e s = (advances_same w, by_object f args view e s)
 
-by_asks : (host : HostValue) (n : ℕ) (f : Function) (args : List Val) (w : World) → slice_get host.functions n ≡ Some f →
-    Asks host w (call_by host f args w)
-by_asks host n (callers f) args w e =
+object_asks : (host : HostValue) (f : Object) (args : List Val) (w : World) → IsObject host f → Asks host w (call_object host f args w)
+object_asks host f args w e =
     let stated = f args (view_of host w) in
     let temps = put_each stated.temps w.temps in
     asks_then host w (record w { temps = temps }) (replied stated.reply (record w { temps = temps }))
     (kept_lasting (lasts_by_temps w temps (put_each_long stated.temps w.temps)) refl refl refl refl)
-    (replied_asks host n f args (view_of host w) _ stated.reply e refl)
+    (replied_asks host f args (view_of host w) _ stated.reply e refl)
+
+by_asks : (host : HostValue) (n : ℕ) (f : Function) (args : List Val) (w : World) → slice_get host.functions n ≡ Some f →
+    Asks host w (call_by host f args w)
+by_asks host n (callers f) args w e = object_asks host f args w (is_function n e)
 by_asks host n (languages g) args w e = ask_then host w (given_by g args w) has (given_gives host g args w) (λ v world1. kept_same world1)
 
 value_asks : (host : HostValue) (v : Val) (args : List Val) (w : World) → Asks host w (call_value host v args w)
@@ -157,9 +164,36 @@ found_asks host x v args w =
     (λ found world1.
     ask_need host world1 found UnknownMethod (λ f world2. call_value host f args world2) refl (λ f e. value_asks host f args world1))
 
-pub method_asks : (host : HostValue) (x : List ℕ) (v : Val) (args : List Val) (w : World) → Asks host w (call_method host x v args w)
+method_asks : (host : HostValue) (x : List ℕ) (v : Val) (args : List Val) (w : World) → Asks host w (call_method host x v args w)
 method_asks host x (loop state n) args w = loop_asks host x state n args w
 method_asks host x v args w = found_asks host x v args w
+
+-- ---------------------------------------------------------------- filters and tests
+first_asks : (host : HostValue) (x : List ℕ) (vs : List Val) (w : World) → Asks host w (call_first host x vs w)
+first_asks host x [] w = asks_refused host w InvalidOperation refl
+first_asks host x (v ∷ args) w = method_asks host x v args w
+
+filter_asks : (host : HostValue) (x : List ℕ) (args : List Val) (w : World) → Asks host w (apply_filter host x args w)
+filter_asks host x args w =
+    ask_need host w (find x host.filters) UnknownFilter (λ f world1. call_object host f args world1) refl
+    (λ f e. object_asks host f args w (is_filter x e))
+
+truth_asks : (host : HostValue) (w : World) (q : Asked) → Asks host w q → Asks host w (as_truth q)
+truth_asks host w (has v world1) h = h
+truth_asks host w (refused chain world1) h = h
+truth_asks host w (runs c world1) h = h
+truth_asks host w (recurs n items world1) h = h
+
+test_asks : (host : HostValue) (x : List ℕ) (args : List Val) (w : World) → Asks host w (perform_test host x args w)
+test_asks host x args w =
+    truth_asks host w _ (ask_need host w (find x host.tests) UnknownTest (λ f world1. call_object host f args world1) refl
+    (λ f e. object_asks host f args w (is_test x e)))
+
+pub applied_asks : (host : HostValue) (k : Application) (x : List ℕ) (vs : List Val) (w : World) → Asks host w (applied host k x vs w)
+applied_asks host applications.Method x vs w = first_asks host x vs w
+applied_asks host applications.Filter x vs w = filter_asks host x vs w
+applied_asks host applications.Test x vs w = test_asks host x vs w
+applied_asks host applications.NegatedTest x vs w = test_asks host x vs w
 
 -- ---------------------------------------------------------------- operations
 pub items_give : (host : HostValue) (v : Val) (w : World) → Gives host w (items_over host v w)

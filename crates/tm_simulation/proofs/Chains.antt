@@ -7,9 +7,13 @@ use Rattle.std.specs.Prelude.{slice_get}
 use Rattle.tm_values.specs.Val.{Val}
 use Rattle.tm_values.specs.declared.error.ErrorKind.{ErrorKind}
 use Rattle.tm_meaning.specs.Tree.{Trees}
-use Rattle.tm_meaning.specs.World.{World, HostValue, Function, callers, Stated, View}
+use Rattle.tm_meaning.specs.World.{World, HostValue, Function, Object, callers, View, Named, find}
+use Rattle.tm_syntax.specs.Named.{name_cmp}
+use Rattle.std.specs.BTreeMap.{is_at}
+use Rattle.std.specs.Prelude.{cond, Option}
 use Rattle.tm_meaning.specs.Meaning.{rendered, chain_of}
-use Rattle.tm_simulation.specs.Chains.{wrapped, is_raised, Arises, raised, by_function, AnswersOnly, by_formatter, RepliesOnly, IfAny}
+use Rattle.tm_simulation.specs.Chains.{wrapped, is_raised, Arises, raised, by_object, AnswersOnly, by_formatter, RepliesOnly, IfAny}
+use Rattle.tm_simulation.specs.Chains.{IsObject, is_function, is_filter, is_test, ObjectStates, NamedStates}
 use Rattle.tm_simulation.specs.Chains.{HasRaised, FunctionStates, FormatterStates, StatesOnly, ends_in_memory, StatesNoMemory, MayWrap}
 use Rattle.tm_simulation.specs.Chains.{is_foreign}
 use Rattle.tm_simulation.specs.Chains.{HasNoForeign}
@@ -19,7 +23,7 @@ use Rattle.tm_values.specs.Chain.{is_memory}
 use Rattle.tm_values.specs.declared.error.ErrorKind.TheVariants as kinds
 
 -- what a function that is there states
-states_at : (Has : List ErrorKind → Type 0) (fs : List Function) → All (FunctionStates Has) fs → (n : ℕ) (f : List Val → View → Stated) →
+states_at : (Has : List ErrorKind → Type 0) (fs : List Function) → All (FunctionStates Has) fs → (n : ℕ) (f : Object) →
     slice_get fs n ≡ Some (callers f) → FunctionStates Has (callers f)
 states_at Has [] h n f e = absurd (cc e)
 states_at Has (g ∷ fs) h zero f e =
@@ -27,13 +31,30 @@ states_at Has (g ∷ fs) h zero f e =
     subst (FunctionStates Has) same (All-head (FunctionStates Has) g fs h)
 states_at Has (g ∷ fs) h (suc n) f e = states_at Has fs (All-tail (FunctionStates Has) g fs h) n f e
 
+-- what the object of a name states
+named_by : (Has : List ErrorKind → Type 0) (b : Bool) (g f : Object) (rest : Option Object) → cond b (Some g) rest ≡ Some f →
+    ObjectStates Has g → (rest ≡ Some f → ObjectStates Has f) → ObjectStates Has f
+named_by Has true g f rest e h k = let same : g ≡ f = cc e in subst (ObjectStates Has) same h
+named_by Has false g f rest e h k = k e
+
+named_states : (Has : List ErrorKind → Type 0) (fs : Named Object) → All (NamedStates Has) fs → (x : List ℕ) (f : Object) →
+    find x fs ≡ Some f → ObjectStates Has f
+named_states Has [] h x f e = absurd (cc e)
+named_states Has (p ∷ ps) h x f e =
+    named_by Has (is_at (name_cmp x) p.0) p.1 f (find x ps) e (All-head (NamedStates Has) p ps h)
+    (named_states Has ps (All-tail (NamedStates Has) p ps h) x f)
+
 module _ (Has : List ErrorKind → Type 0) (host : HostValue) (has : HasRaised Has) (states : StatesOnly Has host) where
+  object_states : (f : Object) → IsObject host f → ObjectStates Has f
+  object_states f (is_function n e) = states_at Has host.functions states.functions n f e
+  object_states f (is_filter x e) = named_states Has host.filters states.filters x f e
+  object_states f (is_test x e) = named_states Has host.tests states.tests x f e
+
   -- What arises has the property.
   arisen_has : {chain : List ErrorKind} → Arises host chain → Has chain
   arisen_has (raised {kind = k} e) = has.raised k e
   arisen_has (wrapped {kind = k} {chain = c} e h) = has.wrapped k c e (arisen_has h)
-  arisen_has (by_function n f args view e s) =
-      subst (RepliesOnly Has) s (states_at Has host.functions states.functions n f e args view)
+  arisen_has (by_object f args view e s) = subst (RepliesOnly Has) s (object_states f e args view)
   arisen_has (by_formatter f v view e s) =
       subst (AnswersOnly Has) s (subst (FormatterStates Has) e states.formatter v view)
 

@@ -16,7 +16,9 @@ use Rattle.tm_syntax.specs.declared.tree.Expr.{Row_of-Keyword, end_of-Keyword as
 use Rattle.tm_syntax.specs.declared.tree.Expr.{end_of-Step as no_step, more_of-Step as step, Row_of-Condition}
 use Rattle.tm_syntax.specs.declared.tree.Expr.{end_of-Condition as no_condition}
 use Rattle.tm_syntax.specs.declared.tree.Argument.{Argument}
-use Rattle.tm_syntax.specs.declared.tree.Step.{Step, Attribute, Method', Row_of-Comparison, end_of-Comparison as no_comparison}
+use Rattle.tm_syntax.specs.declared.tree.Application.{Application}
+use Rattle.tm_syntax.specs.declared.tree.Application.TheVariants as applications
+use Rattle.tm_syntax.specs.declared.tree.Step.{Step, Attribute, Apply', Row_of-Comparison, end_of-Comparison as no_comparison}
 use Rattle.tm_syntax.specs.declared.tree.AssignmentTarget.{AssignmentTarget, Name as To, Unpack' as Items, Attribute as Member}
 use Rattle.tm_syntax.specs.declared.tree.AssignmentTarget.{Row_of-AssignmentTarget}
 use Rattle.tm_syntax.specs.declared.tree.AssignmentTarget.{end_of-AssignmentTarget as no_target, more_of-AssignmentTarget as target}
@@ -28,12 +30,12 @@ use Rattle.tm_definitions.specs.Members.{settable}
 use Rattle.tm_meaning.specs.World.{World, HostValue, loop_scope, next_turn, cleared, items_over, Res, bind, answered, tick, depth}
 use Rattle.tm_meaning.specs.World.{looked_up}
 use Rattle.tm_meaning.specs.World.{lookup, records_of, with_member, set_member, unpacked_items}
-use Rattle.tm_meaning.specs.Calls.{Callee, Call, undone, wrapped, Asked, has, refused, runs, recurs}
+use Rattle.tm_meaning.specs.Calls.{Callee, Call, undone, wrapped, Asked, has, refused, runs, recurs, applied}
 use Rattle.tm_meaning.specs.Meaning.{text_behind, Run, Outcome, Ending, done, leave, next, fault, Under, audible, value_of, value_behind}
 use Rattle.tm_meaning.specs.Meaning.{in_place_of, behind, truth, applied_unary, operated, applied_binary, eval, eval_all, eval_pairs}
 use Rattle.tm_meaning.specs.Meaning.{eval_argument, eval_arguments, eval_keywords, eval_named, one_counted, selected, loop_items}
 use Rattle.tm_meaning.specs.Meaning.{under_condition, eval_conditions, eval_step, eval_links, eval_steps, assign, assign_all, set_to}
-use Rattle.tm_meaning.specs.Meaning.{set_each, capturing}
+use Rattle.tm_meaning.specs.Meaning.{set_each, capturing, turned}
 use Rattle.tm_meaning.specs.declared.wrapping.Wrapping.{Wrapping}
 use Rattle.tm_simulation.specs.Chains.{Arises, wrapped as wraps}
 use Rattle.tm_simulation.proofs.Raised.{truth_raises, unary_raises, binary_raises, attribute_raises, item_raises, settable_raises}
@@ -45,7 +47,7 @@ use Rattle.tm_simulation.proofs.Gives.{Gives, RunEnds, run_ends_as, EndingKeeps,
 use Rattle.tm_simulation.proofs.Gives.{choose_gives, tick_gives}
 use Rattle.tm_simulation.proofs.Gives.{ticked_gives}
 use Rattle.tm_simulation.proofs.Gives.{operation_gives, ends_here, ends_fault, ends_then, opened_gives}
-use Rattle.tm_simulation.proofs.Asks.{unpacked_gives, method_asks, Asks, lookup_gives, items_give, named_asks}
+use Rattle.tm_simulation.proofs.Asks.{unpacked_gives, applied_asks, Asks, lookup_gives, items_give, named_asks}
 use Rattle.tm_meaning.specs.declared.wrapping.Wrapping.TheVariants as wrapping
 
 -- ---------------------------------------------------------------- operators
@@ -148,6 +150,13 @@ place_by host w world1 c run next o h k = ends_here host w _ run o.text (k o.wor
 place_by host w world1 c run (fault chain) o h k =
     ends_fault host w _ run o.text (wrapped c.wrap chain) (k o.world h.0).advances (wrap_arises host c.wrap chain h.1)
 
+-- what a test answered, turned round or not
+pub turned_gives : (host : HostValue) (k : Application) (v : Val) (w : World) → Gives host w (turned host k v w)
+turned_gives host applications.Method v w = kept_same w
+turned_gives host applications.Filter v w = kept_same w
+turned_gives host applications.Test v w = kept_same w
+turned_gives host applications.NegatedTest v w = ticked_gives host w _ (λ world1. unary_gives host unaries.Not v world1)
+
 -- ---------------------------------------------------------------- trees
 -- where the test, what is guarded and what stands for it do
 pub condition_gives : (host : HostValue) (test guarded other : World → Res Val) → ((w : World) → Gives host w (test w)) →
@@ -163,7 +172,7 @@ condition_gives host test guarded other first given last w =
 module _ (u : Under) (nest_ends : (k : Callee) (heard : Bool) (out : List ℕ) (w : World) → RunEnds u.host w (u.nests k heard out w))
     (again_ends : (n : ℕ) (items : List Val) (run : Run) (out : List ℕ) (w : World) →
     OutcomeKeeps u.host w (u.again n items run out w)) where
-  value_gives : (w : World) (run : Run) (q : Asked) → Asks u.host w q → Gives u.host w (value_of u run q)
+  pub value_gives : (w : World) (run : Run) (q : Asked) → Asks u.host w q → Gives u.host w (value_of u run q)
   value_gives w run (has v world1) h = h
   value_gives w run (refused chain world1) h = h
   value_gives w run (recurs n items world1) h =
@@ -251,10 +260,13 @@ module _ (u : Under) (nest_ends : (k : Callee) (heard : Bool) (out : List ℕ) (
     pub step_gives : (run : Run) (s : Step) (v : Val) (w : World) → Gives u.host w (eval_step u run s v w)
     step_gives run (Attribute x) v w = ticked_gives u.host w _
         (λ world1. operation_gives u.host _ world1 (attribute_raises u.host.undefined (records_of world1) v x))
-    step_gives run (Method' x _ given _ named) v w =
+    step_gives run (Apply' k x _ given _ named) v w =
         gives_bind u.host w (eval_arguments u run given w) _ (arguments_give run given w) (λ vs world1.
         gives_bind u.host world1 (eval_named u run named world1) _ (named_give run named world1) (λ ks world2.
-        ticked_gives u.host world2 _ (λ world3. value_gives world3 run _ (method_asks u.host x v (vs ++ ks) world3))))
+        ticked_gives u.host world2 _ (λ world3.
+        let q = applied u.host k x (v ∷ (vs ++ ks)) world3 in
+        gives_bind u.host world3 (value_of u run q) _ (value_gives world3 run q (applied_asks u.host k x (v ∷ (vs ++ ks)) world3))
+        (λ y world4. turned_gives u.host k y world4))))
     step_gives run (item a) v w =
         gives_bind u.host w (eval u run a w) _ (eval_gives run a w) (λ k world1. ticked_gives u.host world1 _ (λ world2.
         operation_gives u.host _ world2 (item_raises u.host.undefined (records_of world2) v k)))

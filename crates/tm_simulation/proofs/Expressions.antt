@@ -14,12 +14,14 @@ use Rattle.tm_syntax.specs.declared.tree.Expr.{Row_of-Keyword, end_of-Keyword as
 use Rattle.tm_syntax.specs.declared.tree.Expr.{end_of-Step as no_step, more_of-Step as step_and, Row_of-Condition}
 use Rattle.tm_syntax.specs.declared.tree.Expr.{end_of-Condition as no_condition}
 use Rattle.tm_syntax.specs.declared.tree.Argument.{Argument}
-use Rattle.tm_syntax.specs.declared.tree.Step.{Step, Attribute, Method', Row_of-Comparison, end_of-Comparison as no_comparison}
+use Rattle.tm_syntax.specs.declared.tree.Application.{Application}
+use Rattle.tm_syntax.specs.declared.tree.Application.TheVariants as applications
+use Rattle.tm_syntax.specs.declared.tree.Step.{Step, Attribute, Apply', Row_of-Comparison, end_of-Comparison as no_comparison}
 use Rattle.tm_syntax.specs.declared.instruction.Instruction.{Instruction}
 use Rattle.tm_syntax.specs.declared.instruction.Instruction.TheVariants as i
 use Rattle.tm_syntax.specs.Forms.{unary, chained, conditional, with_condition, with_comparison, with_pair, plain, with_keyword}
 use Rattle.tm_syntax.specs.Forms.{item, slice, binary, compare, and_then, or_else}
-use Rattle.tm_syntax.specs.Code.{count_keywords, together, count, count_exprs, count_pairs, unary_code, binary_code}
+use Rattle.tm_syntax.specs.Code.{count_keywords, together, count, count_exprs, count_pairs, unary_code, binary_code, application_code}
 use Rattle.tm_syntax.specs.Fragments.{Fragment, ◌⨾◌, Labels, outward, beyond_all, beyond}
 use Rattle.tm_syntax.specs.Fragments.{either}
 use Rattle.tm_syntax.specs.Code.{expr_code, conditions_code, exprs_code, pairs_code, argument_code}
@@ -28,9 +30,9 @@ use Rattle.tm_syntax.specs.Code.{links_code, steps_code}
 use Rattle.tm_meaning.specs.World.{World}
 use Rattle.tm_meaning.specs.World.{Res, Good, bind, tick}
 use Rattle.tm_meaning.specs.World.{looked_up}
-use Rattle.tm_meaning.specs.Calls.{call_named, call_first, call_method}
+use Rattle.tm_meaning.specs.Calls.{call_named, applied}
 use Rattle.tm_meaning.specs.Meaning.{Run}
-use Rattle.tm_meaning.specs.Meaning.{Under, truth, applied_unary, operated}
+use Rattle.tm_meaning.specs.Meaning.{Under, truth, applied_unary, operated, turned, value_of}
 use Rattle.tm_meaning.specs.Meaning.{applied_binary, attribute, item_at, slice_of, list_of_values, map_of_pairs}
 use Rattle.tm_meaning.specs.Meaning.{eval, eval_all, eval_pairs, eval_argument, eval_arguments}
 use Rattle.tm_meaning.specs.Meaning.{eval_keywords, eval_named, keyword_map, under_condition}
@@ -38,13 +40,13 @@ use Rattle.tm_meaning.specs.Meaning.{eval_conditions, eval_step, eval_links, eva
 use Rattle.tm_meaning.specs.Machine.{Config}
 use Rattle.tm_meaning.specs.Machine.{after, goes, taken, on_taken, asked}
 use Rattle.tm_meaning.specs.Machine.{with_world}
-use Rattle.tm_meaning.specs.Instructions.{binary_of, paired}
+use Rattle.tm_meaning.specs.Instructions.{binary_of, apply_of, paired}
 use Rattle.tm_meaning.specs.Steps.{act}
 use Rattle.tm_syntax.proofs.Standing.{HasAt, At}
 use Rattle.tm_simulation.proofs.Gives.{Gives, tick_gives}
-use Rattle.tm_simulation.proofs.Asks.{named_asks, method_asks}
+use Rattle.tm_simulation.proofs.Asks.{named_asks, applied_asks}
 use Rattle.tm_simulation.proofs.Evaluates.{eval_gives, condition_gives, all_give, pairs_give, argument_gives, arguments_give}
-use Rattle.tm_simulation.proofs.Evaluates.{keywords_give, named_give, step_gives}
+use Rattle.tm_simulation.proofs.Evaluates.{keywords_give, named_give, step_gives, value_gives}
 use Rattle.tm_simulation.proofs.Evaluates.{binary_gives, truth_gives, operated_gives}
 use Rattle.tm_simulation.proofs.Follow.{LeadsToEnd}
 use Rattle.tm_simulation.proofs.Follow.{Spot, told, cfg}
@@ -97,6 +99,43 @@ module _ (setting : Setting) where
       (operated_gives context.program.host binaries.In a b world1) h1 (λ v world2 k2 h2.
       unary_then unaries.Not s (pc + 1) v stack world2 is.1.0 h2)))))
   binary_then op s pc a b stack w is h = operates op _ (λ c. refl) s pc a b stack w is.0 h
+
+  -- an instruction that passes values to what a name stands for
+  passes : (k : Application) (x : Instruction) (f : List ℕ) (m : ℕ) →
+      ((c : Config) → act context.program context.base (Some x) c ≡ after (tick c.world)
+      (λ _ world1. apply_of context.program k f m (with_world world1 c))) →
+      (run : Run) (s : Spot) (pc : ℕ) (vs stack : List Val) (w : World) (P : Val → World → Type 0) → length vs ≡ m → Here setting run s w →
+      slice_get (context.program.code s.run.stream) pc ≡ Some x →
+      Follows context (told s) (bind (tick w) (λ _ world1. bind (value_of u run (applied context.program.host k f vs world1))
+      (λ y world2. turned context.program.host k y world2))) P →
+      ((y : Val) (world1 : World) → Follows context (told s) (turned context.program.host k y world1) P →
+      Go context s (pc + 1) (y ∷ stack) world1) → Go context s pc (onto vs stack) w
+  passes k x f m is run s pc vs stack w P long d e h go =
+      at context x s pc (onto vs stack) w e (subst (λ q. LeadsToEnd context (told s) q) (sym (is (cfg s pc (onto vs stack) w)))
+      (after_then context (told s) (tick w) _ (bind_then context (told s) w (tick w) _ _ _ (tick_gives _ w) h (λ _ world1 k1 h1.
+      let q = applied context.program.host k f vs world1 in
+      let asks = applied_asks context.program.host k f vs world1 in
+      subst (λ t. LeadsToEnd context (told s) (on_taken t world1 (λ xs rest. asked context.program
+      (cfg s pc (onto vs stack) world1) rest (applied context.program.host k f xs world1))))
+      (sym (taken_all vs m stack long))
+      (asked_then setting run s pc stack (onto vs stack) world1 world1 q asks (here_kept setting run s k1 d)
+      (bind_then context (told s) world1 (value_of u run q) _ _ _ (value_gives u (nest_ends setting) again_kept world1 run q asks) h1
+      (λ y world2 k2 h2. go y world2 h2)))))))
+
+  passed_then : (k : Application) (f : List ℕ) (m : ℕ) (run : Run) (s : Spot) (pc : ℕ) (vs stack : List Val) (w : World) →
+      length vs ≡ m → Here setting run s w → HasAt (context.program.code s.run.stream) pc (application_code k f m) →
+      Follows context (told s) (bind (tick w) (λ _ world1. bind (value_of u run (applied context.program.host k f vs world1))
+      (λ y world2. turned context.program.host k y world2)))
+      (λ y world1. Go context s (beyond_all pc (application_code k f m)) (y ∷ stack) world1) → Go context s pc (onto vs stack) w
+  passed_then applications.Method f m run s pc vs stack w long d is h =
+      passes applications.Method (i.CallMethod f m) f m (λ c. refl) run s pc vs stack w _ long d is.0 h (λ y world1 g. g)
+  passed_then applications.Filter f m run s pc vs stack w long d is h =
+      passes applications.Filter (i.ApplyFilter f m) f m (λ c. refl) run s pc vs stack w _ long d is.0 h (λ y world1 g. g)
+  passed_then applications.Test f m run s pc vs stack w long d is h =
+      passes applications.Test (i.PerformTest f m) f m (λ c. refl) run s pc vs stack w _ long d is.0 h (λ y world1 g. g)
+  passed_then applications.NegatedTest f m run s pc vs stack w long d is h =
+      passes applications.NegatedTest (i.PerformTest f m) f m (λ c. refl) run s pc vs stack w _ long d is.0 h
+      (λ y world1 g. unary_then unaries.Not s (pc + 1) y stack world1 is.1.0 g)
 
   -- values become one
   pub built_then : (made : List Val → Val) (s : Spot) (pc n : ℕ) (vs stack : List Val) (w : World) → length vs ≡ n →
@@ -335,26 +374,19 @@ module _ (setting : Setting) where
         at context (i.GetAttr x) s pc (v ∷ stack) w is.0 (after_then context (told s) (tick w) _
         (bind_then context (told s) w (tick w) _ _ _ (tick_gives _ w) h (λ _ world1 k h1.
         pushes context s pc stack (v ∷ stack) world1 (attribute context.program.host v x world1) h1)))
-    step_runs (Method' x _ given _ named) run s l pc v stack w d is h =
+    step_runs (Apply' k x _ given _ named) run s l pc v stack w d is h =
         let n = count given + together named + 1 in
         let pc1 = beyond (beyond pc (arguments_code given)) (named_code named) in
         arguments_run given run s l pc (v ∷ stack) w d is.0
         (bind_long context (told s) w (count given) (eval_arguments u run given w) _ _ _
-        (arguments_give u (nest_ends setting) again_kept run given w) (arguments_long u run given w) h (λ vs world1 k m h1.
-        named_runs named run s l _ (onto vs (v ∷ stack)) world1 (here_kept setting run s k d) is.1.0
+        (arguments_give u (nest_ends setting) again_kept run given w) (arguments_long u run given w) h (λ vs world1 k1 m h1.
+        named_runs named run s l _ (onto vs (v ∷ stack)) world1 (here_kept setting run s k1 d) is.1.0
         (bind_long context (told s) world1 (together named) (eval_named u run named world1) _ _ _
         (named_give u (nest_ends setting) again_kept run named world1) (named_long u run named world1) h1 (λ ks world2 k2 left_last h2.
         let long : length (v ∷ (vs ++ ks)) ≡ n = omega (arith, length-append vs ks, m, left_last) in
         subst (λ us. Go context s pc1 us world2) (onto_both vs ks (v ∷ stack))
-        (at context (i.CallMethod x n) s pc1 (onto (v ∷ (vs ++ ks)) stack) world2 is.1.1.0
-        (after_then context (told s) (tick world2) _ (bind_then context (told s) world2 (tick world2) _ _ _ (tick_gives _ world2) h2
-        (λ _ world3 k3 h3.
-        subst (λ t. LeadsToEnd context (told s) (on_taken t world3 (λ xs rest. asked context.program
-        (cfg s pc1 (onto (v ∷ (vs ++ ks)) stack) world3) rest (call_first context.program.host x xs world3))))
-        (sym (taken_all (v ∷ (vs ++ ks)) n stack long))
-        (asked_then setting run s pc1 stack (onto (v ∷ (vs ++ ks)) stack) world3 world3
-        (call_method context.program.host x v (vs ++ ks) world3) (method_asks context.program.host x v (vs ++ ks) world3)
-        (here_kept setting run s k3 (here_kept setting run s k2 (here_kept setting run s k d))) h3)))))))))
+        (passed_then k x n run s pc1 (v ∷ (vs ++ ks)) stack world2 long
+        (here_kept setting run s k2 (here_kept setting run s k1 d)) is.1.1 h2)))))
     step_runs (item a) run s l pc v stack w d is h =
         expr_runs a run s l pc (v ∷ stack) w d is.0
         (bind_then context (told s) w (eval u run a w) _ _ _ (eval_gives u (nest_ends setting) again_kept run a w) h (λ k world1 e h1.

@@ -15,7 +15,9 @@ use Rattle.tm_syntax.specs.declared.tree.Expr.{Row_of-Keyword, end_of-Keyword as
 use Rattle.tm_syntax.specs.declared.tree.Expr.{end_of-Step as no_step, more_of-Step as step, Row_of-Condition}
 use Rattle.tm_syntax.specs.declared.tree.Expr.{end_of-Condition as no_condition}
 use Rattle.tm_syntax.specs.declared.tree.Argument.{Argument}
-use Rattle.tm_syntax.specs.declared.tree.Step.{Step, Attribute, Method', Row_of-Comparison, end_of-Comparison as no_comparison}
+use Rattle.tm_syntax.specs.declared.tree.Application.{Application}
+use Rattle.tm_syntax.specs.declared.tree.Application.TheVariants as applications
+use Rattle.tm_syntax.specs.declared.tree.Step.{Step, Attribute, Apply', Row_of-Comparison, end_of-Comparison as no_comparison}
 use Rattle.tm_syntax.specs.declared.tree.AssignmentTarget.{AssignmentTarget, Name as To, Unpack' as Items, Attribute as Member}
 use Rattle.tm_syntax.specs.declared.tree.AssignmentTarget.{Row_of-AssignmentTarget}
 use Rattle.tm_syntax.specs.declared.tree.AssignmentTarget.{end_of-AssignmentTarget as no_target, more_of-AssignmentTarget as target}
@@ -28,7 +30,7 @@ use Rattle.tm_syntax.specs.declared.opened.Opened.{Opened}
 use Rattle.tm_syntax.specs.declared.opened.Opened.TheVariants.{Scope as a_scope, Escape as an_escape, Capture as a_capture}
 use Rattle.tm_syntax.specs.Forms.{unary, chained, conditional, with_condition, with_comparison, with_pair, plain, with_keyword}
 use Rattle.tm_syntax.specs.Forms.{item, slice, binary, compare, and_then, or_else}
-use Rattle.tm_syntax.specs.Code.{unary_code, binary_code, close_all, for_flags}
+use Rattle.tm_syntax.specs.Code.{unary_code, binary_code, application_code, count, together, close_all, for_flags}
 use Rattle.tm_syntax.specs.Blocks.{body_of}
 use Rattle.tm_syntax.specs.Loops.{FoundLoop, with_pass, within_loop, passes, past, pasts, past_else, loops_of, loops_in, loops_else}
 use Rattle.tm_syntax.specs.Fragments.{Fragment, straight, ◌⨾◌, looped, Labels}
@@ -45,6 +47,12 @@ use Rattle.tm_simulation.proofs.Begins.{before_none, over_begins, either_begins}
 unary_loopless : (op : UnaryOperator) → NoneBegins (unary_code op ∷ [])
 unary_loopless unaries.Not = (refl, tt)
 unary_loopless _ = (refl, tt)
+
+application_loopless : (k : Application) (x : List ℕ) (n : ℕ) → NoneBegins (application_code k x n)
+application_loopless applications.NegatedTest x n = (refl, (refl, tt))
+application_loopless applications.Method x n = (refl, tt)
+application_loopless applications.Filter x n = (refl, tt)
+application_loopless applications.Test x n = (refl, tt)
 
 binary_loopless : (op : BinaryOperator) → NoneBegins (binary_code op)
 binary_loopless binaries.NotIn = (refl, (refl, tt))
@@ -92,7 +100,8 @@ mutual
   step_loopless : (s : Step) → Loopless (step_code s)
   step_loopless (Attribute x) = (refl, tt)
   step_loopless (item a) = (expr_loopless a, (refl, tt))
-  step_loopless (Method' x _ given _ named) = (arguments_loopless given, (named_loopless named, (refl, tt)))
+  step_loopless (Apply' k x _ given _ named) =
+      (arguments_loopless given, (named_loopless named, application_loopless k x (count given + together named + 1)))
   step_loopless (slice a b c) = (expr_loopless a, (expr_loopless b, (expr_loopless c, (refl, tt))))
   step_loopless (binary op a) = (expr_loopless a, binary_loopless op)
   step_loopless (compare op a _ cs) = (expr_loopless a, (links_loopless op cs, (refl, (refl, tt))))

@@ -7,7 +7,7 @@ use Rattle.tm_values.specs.Val.{Val}
 use Rattle.tm_values.specs.declared.error.ErrorKind.{ErrorKind}
 use Rattle.tm_values.specs.declared.error.ErrorKind.TheVariants as kinds
 use Rattle.tm_meaning.specs.Memory.{is_wrapping}
-use Rattle.tm_meaning.specs.World.{HostValue, View, Stated, Function, callers, languages}
+use Rattle.tm_meaning.specs.World.{HostValue, View, Object, Function, callers, languages, find}
 use Rattle.tm_meaning.specs.declared.reply.Reply.{Reply}
 use Rattle.tm_meaning.specs.declared.reply.Reply.TheVariants.{Value as gives, Fault as faults}
 
@@ -16,6 +16,8 @@ abbrev pub is_raised : ErrorKind → Bool
 is_raised kinds.InvalidOperation = true
 is_raised kinds.TooManyArguments = true
 is_raised kinds.MissingArgument = true
+is_raised kinds.UnknownFilter = true
+is_raised kinds.UnknownTest = true
 is_raised kinds.UnknownFunction = true
 is_raised kinds.UnknownMethod = true
 is_raised kinds.UnknownBlock = true
@@ -25,12 +27,18 @@ is_raised kinds.BadSerialization = true
 is_raised kinds.OutOfFuel = true
 is_raised _ = false
 
+-- An object of the caller that the environment has: a function of a number, or a filter or a test of a name.
+pub data IsObject (host : HostValue) (f : Object) : Type 0 where
+  is_function : (n : ℕ) → slice_get host.functions n ≡ Some (callers f) → IsObject host f
+  is_filter : (x : List ℕ) → find x host.filters ≡ Some f → IsObject host f
+  is_test : (x : List ℕ) → find x host.tests ≡ Some f → IsObject host f
+
 -- A chain arises in a render: it raises a kind, a kind wraps a chain that arises, or an object of the caller states it.
 pub data Arises (host : HostValue) : List ErrorKind → Type 0 where
   raised : {kind : ErrorKind} → is_raised kind ≡ true → Arises host (kind ∷ [])
   wrapped : {kind : ErrorKind} {chain : List ErrorKind} → is_wrapping kind ≡ true → Arises host chain → Arises host (kind ∷ chain)
-  by_function : {chain : List ErrorKind} (n : ℕ) (f : List Val → View → Stated) (args : List Val) (view : View) →
-      slice_get host.functions n ≡ Some (callers f) → (f args view).reply ≡ faults chain → Arises host chain
+  by_object : {chain : List ErrorKind} (f : Object) (args : List Val) (view : View) →
+      IsObject host f → (f args view).reply ≡ faults chain → Arises host chain
   by_formatter : {chain : List ErrorKind} (f : Val → View → Answer (List ℕ)) (v : Val) (view : View) →
       host.formatter ≡ Some f → f v view ≡ Err chain → Arises host chain
 
@@ -53,18 +61,28 @@ abbrev pub RepliesOnly : (List ErrorKind → Type 0) → Reply → Type 0
 RepliesOnly Has (gives v) = Unit {0}
 RepliesOnly Has (faults chain) = Has chain
 
--- Whatever it is called with, and whatever it sees, an object of the caller replies so. Of the language's own functions nothing is asked.
+-- Whatever it is called with, and whatever it sees, an object of the caller replies so.
+abbrev pub ObjectStates : (List ErrorKind → Type 0) → Object → Type 0
+ObjectStates Has f = (args : List Val) (view : View) → RepliesOnly Has (f args view).reply
+
+-- Of the language's own functions nothing is asked.
 abbrev pub FunctionStates : (List ErrorKind → Type 0) → Function → Type 0
-FunctionStates Has (callers f) = (args : List Val) (view : View) → RepliesOnly Has (f args view).reply
+FunctionStates Has (callers f) = ObjectStates Has f
 FunctionStates Has (languages g) = Unit {0}
 
 abbrev pub FormatterStates : (List ErrorKind → Type 0) → Option (Val → View → Answer (List ℕ)) → Type 0
 FormatterStates Has None = Unit {0}
 FormatterStates Has (Some f) = (v : Val) (view : View) → AnswersOnly Has (f v view)
 
--- The functions and the formatter of the caller state only faults that have the property.
+-- The same of the object of a name.
+abbrev pub NamedStates : (List ErrorKind → Type 0) → List ℕ × Object → Type 0
+NamedStates Has named = ObjectStates Has named.1
+
+-- The functions, the filters, the tests and the formatter of the caller state only faults that have the property.
 pub record StatesOnly (Has : List ErrorKind → Type 0) (host : HostValue) : Type 0 where
   pub functions : All (FunctionStates Has) host.functions
+  pub filters : All (NamedStates Has) host.filters
+  pub tests : All (NamedStates Has) host.tests
   pub formatter : FormatterStates Has host.formatter
 
 -- ---------------------------------------------------------------- out of memory
@@ -78,7 +96,7 @@ ends_in_memory (k ∷ c ∷ cs) = ends_in_memory (c ∷ cs)
 abbrev pub MayWrap : ErrorKind → Type 0
 MayWrap kind = (kind ≡ kinds.EvalBlock) ⊎ (kind ≡ kinds.BadInclude) ⊎ (kind ≡ kinds.InvalidOperation)
 
--- No function and no formatter of the caller states a fault that ends in OutOfMemory.
+-- No object and no formatter of the caller states a fault that ends in OutOfMemory.
 abbrev pub StatesNoMemory : HostValue → Type 0
 StatesNoMemory host = StatesOnly (λ chain. ends_in_memory chain ≡ false) host
 

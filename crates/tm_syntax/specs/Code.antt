@@ -12,7 +12,9 @@ use Rattle.tm_syntax.specs.declared.tree.Expr.{Row_of-Keyword, end_of-Keyword as
 use Rattle.tm_syntax.specs.declared.tree.Expr.{end_of-Step as no_step, more_of-Step as step, Row_of-Condition}
 use Rattle.tm_syntax.specs.declared.tree.Expr.{end_of-Condition as no_condition}
 use Rattle.tm_syntax.specs.declared.tree.Argument.{Argument}
-use Rattle.tm_syntax.specs.declared.tree.Step.{Step, Attribute, Method', Row_of-Comparison, end_of-Comparison as no_comparison}
+use Rattle.tm_syntax.specs.declared.tree.Application.{Application}
+use Rattle.tm_syntax.specs.declared.tree.Application.TheVariants as applications
+use Rattle.tm_syntax.specs.declared.tree.Step.{Step, Attribute, Apply', Row_of-Comparison, end_of-Comparison as no_comparison}
 use Rattle.tm_syntax.specs.declared.tree.AssignmentTarget.{AssignmentTarget, Name as To, Unpack' as Items, Attribute as Member}
 use Rattle.tm_syntax.specs.declared.tree.AssignmentTarget.{Row_of-AssignmentTarget}
 use Rattle.tm_syntax.specs.declared.tree.AssignmentTarget.{end_of-AssignmentTarget as no_target, more_of-AssignmentTarget as target}
@@ -53,6 +55,13 @@ binary_code binaries.Divide = i.Div ∷ []
 binary_code binaries.FloorDivide = i.IntDiv ∷ []
 binary_code binaries.Remainder = i.Rem ∷ []
 binary_code binaries.Power = i.Pow ∷ []
+
+-- so many values are replaced by what a name answers to them
+abbrev pub application_code : Application → List ℕ → ℕ → List Instruction
+application_code applications.Method x n = i.CallMethod x n ∷ []
+application_code applications.Filter x n = i.ApplyFilter x n ∷ []
+application_code applications.Test x n = i.PerformTest x n ∷ []
+application_code applications.NegatedTest x n = i.PerformTest x n ∷ i.Not ∷ []
 
 abbrev pub count : {n : _} → Row_of-Argument n → ℕ
 count no_argument = 0
@@ -126,8 +135,8 @@ abbrev mutual
   pub step_code : Step → Fragment
   step_code (Attribute x) = straight (i.GetAttr x ∷ [])
   step_code (item a) = expr_code a ⨾ straight (i.GetItem ∷ [])
-  step_code (Method' x _ given _ named) = arguments_code given ⨾ named_code named ⨾ straight
-      (i.CallMethod x (count given + together named + 1) ∷ [])
+  step_code (Apply' k x _ given _ named) = arguments_code given ⨾ named_code named ⨾ straight
+      (application_code k x (count given + together named + 1))
   step_code (slice a b c) = expr_code a ⨾ expr_code b ⨾ expr_code c ⨾ straight (i.Slice ∷ [])
   step_code (binary op a) = expr_code a ⨾ straight (binary_code op)
   step_code (compare op a _ cs) = expr_code a ⨾ fork (links_code op cs) drop_right

@@ -110,6 +110,10 @@ pub enum Instruction {
     CallFunction(Name, usize),
     /// Replaces so many values by what the first one's method of a name answers to the others.
     CallMethod(Name, usize),
+    /// Replaces so many values by what the filter of a name answers to them.
+    ApplyFilter(Name, usize),
+    /// Replaces so many values by whether what the test of a name answers to them is true.
+    PerformTest(Name, usize),
     /// Runs the block of a name.
     CallBlock(Name),
     /// Pops a value, and gives it to a name of the innermost scope.

@@ -52,6 +52,19 @@ pub enum BinaryOperator {
     Power,
 }
 
+/// How a value is called, as the first argument of what a name stands for.
+#[derive(Clone, Copy, PartialEq, Eq)]
+pub enum Application {
+    /// Its method: `a.m(b)`.
+    Method,
+    /// A filter: `a|f(b)`.
+    Filter,
+    /// A test: `a is t(b)`.
+    Test,
+    /// A test whose answer is turned round: `a is not t(b)`.
+    NegatedTest,
+}
+
 /// An expression.
 #[cycle(expr)]
 #[derive(Drop)]
@@ -132,8 +145,8 @@ pub enum Step {
     Attribute(Name),
     /// Its item at a key.
     Item(Boxed<Expr>),
-    /// What its method of a name answers, called with arguments by their places and by their names.
-    Method(Name, Items<Argument>, Items<Keyword>),
+    /// What its method, a filter or a test of a name answers, with further arguments by their places and by their names.
+    Apply(Application, Name, Items<Argument>, Items<Keyword>),
     /// Its slice from a start to a stop by a step, each the literal none where it is missing.
     Slice(Boxed<Expr>, Boxed<Expr>, Boxed<Expr>),
     /// The operator with this right side.

@@ -1,0 +1,103 @@
+-- Pages with filters and tests.
+use Rattle.std.specs.Prelude.{ℕ, ◌-◌, ◌%◌, List, [], ◌∷◌, false, codes, pos, nat_lt, nat_eq, ◌&&◌, map as each, if◌then◌else◌}
+use Rattle.tm_values.specs.Val.{Val, undefined, boolean, number, text}
+use Rattle.tm_values.specs.Order.{bytes_in}
+use Rattle.tm_values.specs.declared.undefined.UndefinedBehavior.{UndefinedBehavior}
+use Rattle.tm_syntax.specs.declared.tree.Application.{Application}
+use Rattle.tm_syntax.specs.declared.tree.Application.TheVariants as applications
+use Rattle.tm_syntax.specs.declared.tree.Expr.{Expr, end_of-Argument as no_argument, more_of-Argument as argument}
+use Rattle.tm_syntax.specs.declared.tree.Expr.{end_of-Keyword as no_keyword, end_of-Step as no_step, more_of-Step as step}
+use Rattle.tm_syntax.specs.declared.tree.UnaryOperator.TheVariants as unaries
+use Rattle.tm_syntax.specs.declared.tree.Step.{Apply'}
+use Rattle.tm_syntax.specs.declared.tree.Stmt.{EmitExpr}
+use Rattle.tm_syntax.specs.Forms.{chained, plain, unary}
+use Rattle.tm_meaning.specs.World.{Object}
+use Rattle.tm_meaning.specs.CallRows.{answers}
+use Rattle.tm_meaning.specs.declared.reply.Reply.{Reply}
+use Rattle.tm_meaning.specs.declared.reply.Reply.TheVariants.{Value as gives}
+use Rattle.tm_meaning.specs.Rows.{Page, page, one, nothing, literal, literal_number, and_one}
+
+-- ---------------------------------------------------------------- objects
+abbrev pub first_of : List Val → Val
+first_of [] = nothing
+first_of (v ∷ vs) = v
+
+abbrev pub whole_of : Val → ℕ
+whole_of (number (pos n)) = n
+whole_of v = 0
+
+abbrev pub capital : ℕ → ℕ
+capital c = if nat_lt 96 c && nat_lt c 123 then c - 32 else c
+
+-- the first argument in capitals
+abbrev pub upper : Object
+upper vs view = answers (gives (text (each capital (bytes_in (first_of vs))) false))
+
+-- the second argument
+abbrev pub second : Object
+second (v ∷ x ∷ vs) view = answers (gives x)
+second vs view = answers (gives nothing)
+
+-- whether the first is odd
+abbrev pub odd : Object
+odd vs view = answers (gives (boolean (nat_eq (whole_of (first_of vs) % 2) 1)))
+
+-- whether the first can be divided by the second
+abbrev pub divisible : Object
+divisible (v ∷ x ∷ vs) view = answers (gives (boolean (nat_eq (whole_of v % whole_of x) 0)))
+divisible vs view = answers (gives nothing)
+
+-- answers undefined
+abbrev pub unsure : Object
+unsure vs view = answers (gives (undefined false))
+
+-- ---------------------------------------------------------------- pages
+abbrev pub filtering : Expr → Page
+filtering e = record (page (one (EmitExpr e)) nothing) {
+  filters = (codes "second", second) ∷ (codes "upper", upper) ∷ [];
+  tests = (codes "divisible", divisible) ∷ (codes "odd", odd) ∷ (codes "u", unsure) ∷ [];
+}
+
+abbrev pub under : UndefinedBehavior → Page → Page
+under behavior p = record p { undefined = behavior }
+
+-- a value passed to what a name stands for, alone, and with one argument behind it
+abbrev pub passed_alone : Application → Expr → List ℕ → Expr
+passed_alone k e x = and_one e (Apply' k x [] no_argument [] no_keyword)
+
+abbrev pub passed_with : Application → Expr → List ℕ → Expr → Expr
+passed_with k e x a = and_one e (Apply' k x (tt ∷ []) (argument (plain a) no_argument) [] no_keyword)
+
+-- {{ "a"|upper }}
+abbrev pub in_capitals : Page
+in_capitals = filtering (passed_alone applications.Filter (literal (codes "a")) (codes "upper"))
+
+-- {{ 1|second("b")|upper }}
+abbrev pub one_after_the_other : Page
+one_after_the_other =
+    filtering (chained (literal_number 1) (tt ∷ tt ∷ [])
+    (step (Apply' applications.Filter (codes "second") (tt ∷ []) (argument (plain (literal (codes "b"))) no_argument) [] no_keyword)
+    (step (Apply' applications.Filter (codes "upper") [] no_argument [] no_keyword) no_step)))
+
+-- {{ 1 is not odd }}
+abbrev pub not_odd : Page
+not_odd = filtering (passed_alone applications.NegatedTest (literal_number 1) (codes "odd"))
+
+abbrev pub six_by_three : Expr
+six_by_three = passed_with applications.Test (literal_number 6) (codes "divisible") (literal_number 3)
+
+-- {{ 6 is divisible 3 }}
+abbrev pub divided : Page
+divided = filtering six_by_three
+
+-- {{ not 6 is divisible 3 }}
+abbrev pub not_divided : Page
+not_divided = filtering (unary unaries.Not six_by_three)
+
+-- {{ 1 is u }}
+abbrev pub is_unsure : Page
+is_unsure = filtering (passed_alone applications.Test (literal_number 1) (codes "u"))
+
+-- a name that nothing of its kind has
+abbrev pub unknown : Application → List ℕ → Page
+unknown k x = filtering (passed_alone k (literal_number 1) x)
