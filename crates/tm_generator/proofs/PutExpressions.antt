@@ -32,7 +32,8 @@ use Rattle.tm_syntax.specs.declared.jump.JumpKind.TheVariants.{IfFalseOrPop, IfT
 use Rattle.tm_syntax.specs.Fragments.{Fragment, straight, ◌⨾◌, over, either}
 use Rattle.tm_syntax.specs.contracts.tree.Argument.{enum as the_enum}
 use Rattle.tm_syntax.proofs.Forms.{whole}
-use Rattle.tm_syntax.specs.Code.{unary_code, binary_code, count, count_keywords, together, count_exprs, count_pairs}
+use Rattle.tm_syntax.specs.declared.tree.Application.{Application}
+use Rattle.tm_syntax.specs.Code.{unary_code, binary_code, application_code, count, count_keywords, together, count_exprs, count_pairs}
 use Rattle.tm_syntax.specs.Code.{expr_code, exprs_code, pairs_code, argument_code, arguments_code, keywords_code, named_code}
 use Rattle.tm_syntax.specs.Code.{conditions_code, step_code, steps_code, row_code, links_code}
 use Rattle.tm_generator.specs.declared.builder.Out.{Out}
@@ -100,13 +101,14 @@ unfolding hidden hidden-the_row-Expr-0
 put-chain b x ss = refl
 
 -- ---------------------------------------------------------------- steps
-pub put-method : (b : Builder) (f : List ℕ) (xs : List Argument) (ks : List Keyword) → put (step_code (s.Method f xs ks)) b ≡
-    with_one (i.CallMethod f (length xs + min (length ks) 1 + 1)) (put (named_code (keywords ks)) (put (arguments_code (arguments xs)) b))
+pub put-apply : (b : Builder) (k : Application) (f : List ℕ) (xs : List Argument) (ks : List Keyword) →
+    put (step_code (s.Apply k f xs ks)) b ≡ put (straight (application_code k f (length xs + min (length ks) 1 + 1)))
+    (put (named_code (keywords ks)) (put (arguments_code (arguments xs)) b))
 unfolding hidden
-put-method b f xs ks =
-    ap {B = Builder} (λ n. with_one (i.CallMethod f (n + together (keywords ks) + 1))
+put-apply b k f xs ks =
+    ap {B = Builder} (λ n. put (straight (application_code k f (n + together (keywords ks) + 1)))
     (put (named_code (keywords ks)) (put (arguments_code (arguments xs)) b))) (count-arguments xs)
-    ∙ ap {B = Builder} (λ n. with_one (i.CallMethod f (length xs + n + 1))
+    ∙ ap {B = Builder} (λ n. put (straight (application_code k f (length xs + n + 1)))
     (put (named_code (keywords ks)) (put (arguments_code (arguments xs)) b))) (together-is ks)
 
 pub put-item : (b : Builder) (x : Expr) → put (step_code (s.Item x)) b ≡ with_one i.GetItem (put (expr_code x) b)
@@ -152,14 +154,14 @@ made-call b m1 m2 m3 f g n n1 n2 xs ks p q l1 l2 l h r =
     ∙ ap {B = Builder} (λ m. with_one (i.CallFunction f (length xs + min (length ks) 1)) m) (q
     ∙ ap {B = Builder} (λ m. put (named_code (keywords ks)) m) p) ∙ sym (put-call b f xs ks)
 
-pub made-method : (b m1 m2 m3 : Builder) (f g : List ℕ) (n n1 n2 : ℕ) (xs : List Argument) (ks : List Keyword) →
+pub made-apply : (b m1 m2 m3 : Builder) (k : Application) (f : List ℕ) (n n1 n2 : ℕ) (xs : List Argument) (ks : List Keyword) →
     m1 ≡ put (arguments_code (arguments xs)) b → m2 ≡ put (named_code (keywords ks)) m1 → n1 ≡ length xs → n2 ≡ length ks →
-    n ≡ n1 + min n2 1 + 1 → g ≡ f → m3 ≡ with_one (i.CallMethod g n) m2 → m3 ≡ put (step_code (s.Method f xs ks)) b
-made-method b m1 m2 m3 f g n n1 n2 xs ks p q l1 l2 l h r =
-    r ∙ ap {B = Builder} (λ k. with_one (i.CallMethod k n) m2) h
-    ∙ ap {B = Builder} (λ k. with_one (i.CallMethod f k) m2) (l ∙ ap (λ k. k + min n2 1 + 1) l1 ∙ ap (λ k. length xs + min k 1 + 1) l2)
-    ∙ ap {B = Builder} (λ m. with_one (i.CallMethod f (length xs + min (length ks) 1 + 1)) m) (q
-    ∙ ap {B = Builder} (λ m. put (named_code (keywords ks)) m) p) ∙ sym (put-method b f xs ks)
+    n ≡ n1 + min n2 1 + 1 → m3 ≡ put (straight (application_code k f n)) m2 → m3 ≡ put (step_code (s.Apply k f xs ks)) b
+made-apply b m1 m2 m3 k f n n1 n2 xs ks p q l1 l2 l r =
+    r ∙ ap {B = Builder} (λ c. put (straight (application_code k f c)) m2)
+    (l ∙ ap (λ c. c + min n2 1 + 1) l1 ∙ ap (λ c. length xs + min c 1 + 1) l2)
+    ∙ ap {B = Builder} (λ m. put (straight (application_code k f (length xs + min (length ks) 1 + 1))) m) (q
+    ∙ ap {B = Builder} (λ m. put (named_code (keywords ks)) m) p) ∙ sym (put-apply b k f xs ks)
 
 pub made-unary : (b m1 m2 : Builder) (o : Instruction) (op : UnaryOperator) (x : Expr) → m1 ≡ put (expr_code x) b → o ≡ unary_code op →
     m2 ≡ with_one o m1 → m2 ≡ put (expr_code (e.Unary op x)) b

@@ -3,7 +3,8 @@
 
 ghost use Rattle.std.specs.Prelude.{◌≡◌, ◌++◌, ◌+◌, [], ◌∷◌, OnOk, IfOk, IfErr, min, reverse};
 ghost use Rattle.tm_generator.specs.Building.{put, asked, kept, answered};
-ghost use Rattle.tm_syntax.specs.Code.{unary_code, binary_code, expr_code, exprs_code, pairs_code};
+ghost use Rattle.tm_syntax.specs.Code.{unary_code, binary_code, application_code, expr_code};
+ghost use Rattle.tm_syntax.specs.Code.{exprs_code, pairs_code};
 ghost use Rattle.tm_syntax.specs.Code.{argument_code, arguments_code, keywords_code, named_code};
 ghost use Rattle.tm_syntax.specs.Code.{step_code, steps_code, row_code, links_code};
 ghost use Rattle.tm_syntax.specs.Fragments.{straight, over};
@@ -18,8 +19,8 @@ ghost use Rattle.tm_values.specs.declared.error.ErrorKind.TheVariants.{OutOfMemo
 use crate::builder::{Builder, Out};
 use sqlite_items::Items;
 use tm_syntax::{
-    Argument, BinaryOperator, Comparison, Condition, Expr, Instruction, JumpKind, Keyword, Pair,
-    Step, UnaryOperator,
+    Application, Argument, BinaryOperator, Comparison, Condition, Expr, Instruction, JumpKind,
+    Keyword, Name, Pair, Step, UnaryOperator,
 };
 use tm_values::{Error, ErrorKind, Value};
 
@@ -66,6 +67,30 @@ fn push_binary(code: &mut Builder, operator: BinaryOperator) -> Result<(), Error
     code.emit(instruction)
 }
 
+/// Adds the code that passes so many values to what a name stands for; OutOfMemory.
+#[inline(never)]
+fn push_application(
+    code: &mut Builder,
+    application: Application,
+    name: &Name,
+    count: usize,
+) -> Result<(), Error>
+    ensures ok { OnOk result
+        (code.new ≡ put (straight (application_code application name.now count)) code.old) }
+    ensures err { IfErr result (λ e. e ≡ OutOfMemory ∷ []) }
+{
+    let instruction = match application {
+        Application::Method => Instruction::CallMethod(name.share()?, count),
+        Application::Filter => Instruction::ApplyFilter(name.share()?, count),
+        Application::Test => Instruction::PerformTest(name.share()?, count),
+        Application::NegatedTest => {
+            code.emit(Instruction::PerformTest(name.share()?, count))?;
+            Instruction::Not
+        }
+    };
+    code.emit(instruction)
+}
+
 /// How many arguments a call has whose keywords are one together; OutOfMemory.
 #[inline(never)]
 fn call_count(given: usize, named: usize) -> Result<usize, Error>
@@ -78,9 +103,9 @@ fn call_count(given: usize, named: usize) -> Result<usize, Error>
     }
 }
 
-/// How many values a call of a method has: these arguments and the value that is called by; OutOfMemory.
+/// How many values are passed behind a value, with it: these arguments and the value; OutOfMemory.
 #[inline(never)]
-fn method_count(given: usize, named: usize) -> Result<usize, Error>
+fn passed_count(given: usize, named: usize) -> Result<usize, Error>
     ensures ok { IfOk result (λ n. n ≡ given + min named 1 + 1) }
     ensures err { IfErr result (λ e. e ≡ OutOfMemory ∷ []) }
 {
@@ -270,11 +295,11 @@ fn push_step(code: &mut Builder, step: &Step) -> Result<(), Error>
 {
     match step {
         Step::Attribute(name) => code.emit(Instruction::GetAttr(name.share()?)),
-        Step::Method(name, given, named) => {
+        Step::Apply(application, name, given, named) => {
             push_arguments(code, given.as_slice())?;
             push_named(code, named.as_slice())?;
-            let count = method_count(given.len(), named.len())?;
-            code.emit(Instruction::CallMethod(name.share()?, count))
+            let count = passed_count(given.len(), named.len())?;
+            push_application(code, *application, name, count)
         }
         Step::Item(key) => {
             push_expr(code, key.get())?;

@@ -82,6 +82,8 @@ fn charge(instruction: &Instruction) -> u64
         | Instruction::JumpIfTrueOrPop(_)
         | Instruction::CallFunction(_, _)
         | Instruction::CallMethod(_, _)
+        | Instruction::ApplyFilter(_, _)
+        | Instruction::PerformTest(_, _)
         | Instruction::CallBlock(_)
         | Instruction::StoreLocal(_)
         | Instruction::UnpackList(_)

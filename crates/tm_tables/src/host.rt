@@ -4,9 +4,10 @@ ghost use Rattle.tm_syntax.specs.declared.instruction.Instruction.{Instruction};
 ghost use Rattle.tm_meaning.specs.World.{HostValue as Meaning, template_at, card_at};
 ghost use Rattle.tm_meaning.specs.declared.stream.StreamId.{StreamId as Stream};
 ghost use Rattle.tm_meaning.specs.Calls.{is_required};
-ghost use Rattle.tm_tables.specs.Stated.{IsCalled};
+ghost use Rattle.tm_syntax.specs.Named.{find};
+ghost use Rattle.tm_tables.specs.Stated.{IsCalled, IsNamedAnswer};
 
-use crate::callable::Called;
+use crate::callable::{CallableAnswer, Called};
 use crate::view::View;
 use std::alloc::Global;
 use tm_meaning::{StreamId, TemplateId};
@@ -54,6 +55,28 @@ pub trait Host {
     ) -> Option<Called>
         ensures { MatchOption (slice_get (meaning self.now).functions number) (result ≡ None)
             (λ f. IsSomeAnd result (λ called. IsCalled called f args.now view.now)) };
+
+    /// What the filter of a name answers; none where there is none of that name.
+    fn apply_filter(
+        &self,
+        alloc: Global,
+        name: &str,
+        args: &[Value],
+        view: &View<'_>,
+    ) -> Option<CallableAnswer>
+        ensures { IsNamedAnswer result (find name.now (meaning self.now).filters)
+            args.now view.now };
+
+    /// What the test of a name answers; none where there is none of that name.
+    fn perform_test(
+        &self,
+        alloc: Global,
+        name: &str,
+        args: &[Value],
+        view: &View<'_>,
+    ) -> Option<CallableAnswer>
+        ensures { IsNamedAnswer result (find name.now (meaning self.now).tests)
+            args.now view.now };
 
     ghost unformatted: { (host : Self) → (meaning host).formatter ≡ None };
 }

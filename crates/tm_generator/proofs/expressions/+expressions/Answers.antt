@@ -5,7 +5,7 @@ use Rattle.tm_syntax.specs.declared.tree.Comparison.{Comparison}
 use Rattle.tm_syntax.specs.declared.tree.Argument.TheBlock.{hidden-the_row-Comparison-7 as comparisons}
 use Rattle.tm_syntax.specs.Code.{expr_code, row_code}
 use Rattle.tm_generator.specs.Building.{put}
-use Rattle.tm_generator.proofs.PutExpressions.{made-call, made-method, made-unary, made-chain, made-slice, made-binary, made-compare}
+use Rattle.tm_generator.proofs.PutExpressions.{made-call, made-apply, made-unary, made-chain, made-slice, made-binary, made-compare}
 use Rattle.tm_generator.proofs.PutExpressions.{made-plain}
 use Rattle.tm_generator.proofs.PutExpressions.{put_two, made-keyword, made-conditional, no-named, made-named, next, more-links}
 use Rattle.tm_generator.proofs.PutExpressions.{no_more-links}
@@ -57,14 +57,15 @@ push_named-returns-clause-ok t c =
     on_ok_weaker c.emit.result (made-named c.args.code.now c.push_keywords.new.code c.emit.new.self _ c.args.named.now
     (sym c.is_empty.ensures ∙ c.if-is_empty.false) c.in_ok-push_keywords.ensures.ok refl) c.emit.ensures.ok
 
-pub push_step-returns-in_ok-share-in-Method-clause-ok : goal.push_step-returns-in_ok-share-in-Method-clause-ok
-push_step-returns-in_ok-share-in-Method-clause-ok t c =
-    rw c.in-Method.is (on_ok_weaker c.emit-in-Method.result
-    (made-method c.args.code.now c.push_arguments.new.code c.push_named.new.code c.emit-in-Method.new.self c.in-Method.name _ _ _ _
-    c.in-Method.given c.in-Method.named
-    (rw (← c.as_slice.ensures) c.in_ok-push_arguments-in-Method.ensures.ok)
-    (rw (← c.as_slice-in-Method.ensures) c.in_ok-push_named-in-Method.ensures.ok) c.len.ensures c.len-in-Method.ensures
-    c.in_ok-count-in-Method.ensures.ok c.in_ok-share-in-Method.ensures) c.emit-in-Method.ensures.ok)
+pub push_step-returns-in_ok-count-clause-ok : goal.push_step-returns-in_ok-count-clause-ok
+push_step-returns-in_ok-count-clause-ok t c =
+    rw c.in-Apply.is (on_ok_weaker c.push_application.result
+    (made-apply c.args.code.now c.push_arguments.new.code c.push_named.new.code c.push_application.new.code c.in-Apply.application
+    c.in-Apply.name _ _ _
+    c.in-Apply.given c.in-Apply.named
+    (rw (← c.as_slice.ensures) c.in_ok-push_arguments-in-Apply.ensures.ok)
+    (rw (← c.as_slice-in-Apply.ensures) c.in_ok-push_named-in-Apply.ensures.ok) c.len.ensures c.len-in-Apply.ensures
+    c.in_ok-count.ensures.ok) c.push_application.ensures.ok)
 
 pub push_step-returns-in_ok-push_expr-in-Slice-3-clause-ok : goal.push_step-returns-in_ok-push_expr-in-Slice-3-clause-ok
 push_step-returns-in_ok-push_expr-in-Slice-3-clause-ok t c =
