@@ -1,5 +1,6 @@
 -- What a state's calls answer, beside what the definitions say.
 use Rattle.std.specs.Prelude.{◌≡◌, ◌≤◌, ℕ, List, ◌∷◌, Option, Some, Bool, Result, Ok, Err, false}
+use Rattle.tm_values.specs.Val.{boolean}
 use Rattle.tm_meaning.specs.Memory.{is_want_of_memory}
 use Rattle.tm_values.specs.declared.error.ErrorKind.{ErrorKind}
 use Rattle.tm_values.specs.declared.error.ErrorKind.TheVariants.{InvalidOperation}
@@ -8,8 +9,8 @@ use Rattle.tm_values.specs.Val.{Val}
 use Rattle.tm_tables.specs.declared.callable.Called.{Called}
 use Rattle.tm_tables.specs.declared.callable.Called.TheVariants as called
 use Rattle.tm_tables.specs.Stated.{is_for_memory}
-use Rattle.tm_meaning.specs.World.{World, Loop, Res, Good, Bad}
-use Rattle.tm_meaning.specs.Calls.{Asked, has, refused, recurs, ask, replied, given_by, is_changed}
+use Rattle.tm_meaning.specs.World.{World, HostValue, Object, Stated, Loop, Res, Good, Bad, need}
+use Rattle.tm_meaning.specs.Calls.{Asked, has, refused, recurs, ask, replied, call_object, given_by, is_changed}
 use Rattle.tm_state.specs.declared.calls.CallResult.{CallResult}
 use Rattle.tm_state.specs.declared.calls.CallResult.TheVariants as outcome
 use Rattle.tm_state.specs.declared.calls.Recursion.{Recursion}
@@ -32,6 +33,21 @@ Calls (Ok (called.Answered answer)) asked args w = is_for_memory answer.reply �
     asked ≡ replied answer.reply (record w { temps = put_each answer.temps w.temps })
 Calls (Ok (called.Language g)) asked args w = asked ≡ ask (given_by g args w) has
 Calls (Err chain) asked args w = is_want_of_memory chain ≡ false → asked ≡ refused chain w
+
+-- An object of the caller is called, where it is there; else the call is refused by a kind.
+abbrev pub object_called : HostValue → Option Object → ErrorKind → List Val → World → Asked
+object_called host found kind args w = ask (need found kind w) (λ f world1. call_object host f args world1)
+
+-- What a call comes to of which this is the answer, with its values kept; or the call is refused.
+abbrev pub Answers : Result Stated (List ErrorKind) → Asked → World → Type 0
+Answers (Ok answer) asked w = is_for_memory answer.reply ≡ false →
+    asked ≡ replied answer.reply (record w { temps = put_each answer.temps w.temps })
+Answers (Err chain) asked w = is_want_of_memory chain ≡ false → asked ≡ refused chain w
+
+-- What a test came to, but for want of memory: a truth value and the world behind it, or a fault.
+abbrev pub Tests : Result Bool (List ErrorKind) → Asked → World → Type 0
+Tests (Ok b) asked w = asked ≡ has (boolean b) w
+Tests (Err chain) asked w = is_want_of_memory chain ≡ false → asked ≡ refused chain w
 
 -- What a call came to, but for want of memory: a value and the world behind it, or a fault.
 abbrev pub Comes : Result Val (List ErrorKind) → Asked → World → Type 0

@@ -134,7 +134,7 @@ impl StateData<'_> {
     /// map, keyword map, module or namespace has at the name, called. UnknownMethod where there is none,
     /// InvalidOperation where it can't be called or the record of a loop or a namespace isn't there, and what
     /// the function refuses.
-    pub fn call_method<H: Host>(
+    pub(crate) fn call_method<H: Host>(
         &mut self,
         alloc: Global,
         host: &H,
@@ -247,7 +247,7 @@ impl StateData<'_> {
     }
 
     /// Keeps what an answer asks for, and gives its value or its fault.
-    fn take_answer(&mut self, answer: CallableAnswer) -> Result<Value, Error>
+    pub(crate) fn take_answer(&mut self, answer: CallableAnswer) -> Result<Value, Error>
         ensures called { Comes result (replied answer.reply
             (record self.old { temps = put_each answer.temps self.old.temps })) self.new }
         ensures rest { self.new ≡ record self.old { temps = self.new.temps } }

@@ -1,6 +1,7 @@
 //! The data of a state: what a render starts from, what its names and functions give, its blocks and its fuel.
 #![tactic(auto)]
 
+mod applied;
 mod calls;
 mod records;
 mod saved;

@@ -57,15 +57,15 @@ push_named-returns-clause-ok t c =
     on_ok_weaker c.emit.result (made-named c.args.code.now c.push_keywords.new.code c.emit.new.self _ c.args.named.now
     (sym c.is_empty.ensures ∙ c.if-is_empty.false) c.in_ok-push_keywords.ensures.ok refl) c.emit.ensures.ok
 
-pub push_step-returns-in_ok-count-clause-ok : goal.push_step-returns-in_ok-count-clause-ok
-push_step-returns-in_ok-count-clause-ok t c =
+pub push_step-returns-in_ok-count-in-Apply-clause-ok : goal.push_step-returns-in_ok-count-in-Apply-clause-ok
+push_step-returns-in_ok-count-in-Apply-clause-ok t c =
     rw c.in-Apply.is (on_ok_weaker c.push_application.result
     (made-apply c.args.code.now c.push_arguments.new.code c.push_named.new.code c.push_application.new.code c.in-Apply.application
     c.in-Apply.name _ _ _
     c.in-Apply.given c.in-Apply.named
     (rw (← c.as_slice.ensures) c.in_ok-push_arguments-in-Apply.ensures.ok)
     (rw (← c.as_slice-in-Apply.ensures) c.in_ok-push_named-in-Apply.ensures.ok) c.len.ensures c.len-in-Apply.ensures
-    c.in_ok-count.ensures.ok) c.push_application.ensures.ok)
+    c.in_ok-count-in-Apply.ensures.ok) c.push_application.ensures.ok)
 
 pub push_step-returns-in_ok-push_expr-in-Slice-3-clause-ok : goal.push_step-returns-in_ok-push_expr-in-Slice-3-clause-ok
 push_step-returns-in_ok-push_expr-in-Slice-3-clause-ok t c =

@@ -1,0 +1,134 @@
+//! What values give that are passed to what a name stands for: a method, a filter or a test.
+ghost use Rattle.tm_meaning.specs.Calls.{applied, apply_filter, call_first, perform_test};
+ghost use Rattle.tm_state.specs.Answers.{Answers, Comes, Tests, object_called};
+ghost use Rattle.tm_syntax.specs.Named.{find};
+ghost use Rattle.tm_values.specs.declared.error.ErrorKind.TheVariants.{UnknownFilter, UnknownTest};
+
+use crate::state::StateData;
+use std::alloc::Global;
+use tm_operations::is_true;
+use tm_syntax::Application;
+use tm_tables::{CallableAnswer, Host};
+use tm_values::{Error, ErrorKind, Value};
+
+impl StateData<'_> {
+    /// What these values give that are passed to what a name stands for: the first one's method, a filter, or
+    /// the truth of what a test answers. InvalidOperation for a method of no value, and what the call refuses.
+    pub fn apply<H: Host>(
+        &mut self,
+        alloc: Global,
+        host: &H,
+        application: Application,
+        name: &str,
+        args: &[Value],
+    ) -> Result<Value, Error>
+        ensures called { Comes result
+            (applied (H.meaning host.now) application name.now args.now self.old) self.new }
+        ensures rest { self.new ≡ record self.old
+            { temps = self.new.temps; namespaces = self.new.namespaces; loops = self.new.loops } }
+    {
+        match application {
+            Application::Method => self.call_first(alloc, host, name, args),
+            Application::Filter => self.apply_filter(alloc, host, name, args),
+            Application::Test | Application::NegatedTest => {
+                let holds = self.perform_test(alloc, host, name, args)?;
+                Ok(Value::boolean(holds))
+            }
+        }
+    }
+
+    /// What the first value's method of a name gives for the others.
+    fn call_first<H: Host>(
+        &mut self,
+        alloc: Global,
+        host: &H,
+        name: &str,
+        args: &[Value],
+    ) -> Result<Value, Error>
+        ensures called { Comes result
+            (call_first (H.meaning host.now) name.now args.now self.old) self.new }
+        ensures rest { self.new ≡ record self.old
+            { temps = self.new.temps; namespaces = self.new.namespaces; loops = self.new.loops } }
+    {
+        match args.split_first() {
+            Some((receiver, others)) => self.call_method(alloc, host, receiver, name, others),
+            None => Err(Error::from(ErrorKind::InvalidOperation)),
+        }
+    }
+
+    /// What the filter of a name gives for these values; what it keeps is kept, also where it answers a fault.
+    /// UnknownFilter where there is none of that name, and the filter's fault.
+    #[tactic(auto, using(crate::proofs::Answered::taken))]
+    pub fn apply_filter<H: Host>(
+        &mut self,
+        alloc: Global,
+        host: &H,
+        name: &str,
+        args: &[Value],
+    ) -> Result<Value, Error>
+        ensures called { Comes result
+            (apply_filter (H.meaning host.now) name.now args.now self.old) self.new }
+        ensures rest { self.new ≡ record self.old { temps = self.new.temps } }
+    {
+        let answer = self.filter_answer(alloc, host, name, args)?;
+        self.take_answer(answer)
+    }
+
+    /// Whether what the test of a name answers to these values is true, whatever undefined values do; what it
+    /// keeps is kept, also where it answers a fault. UnknownTest where there is none of that name, and the
+    /// test's fault.
+    #[tactic(auto, using(crate::proofs::Answered::taken_truth))]
+    pub fn perform_test<H: Host>(
+        &mut self,
+        alloc: Global,
+        host: &H,
+        name: &str,
+        args: &[Value],
+    ) -> Result<bool, Error>
+        ensures called { Tests result
+            (perform_test (H.meaning host.now) name.now args.now self.old) self.new }
+        ensures rest { self.new ≡ record self.old { temps = self.new.temps } }
+    {
+        let answer = self.test_answer(alloc, host, name, args)?;
+        let value = self.take_answer(answer)?;
+        Ok(is_true(&value))
+    }
+
+    /// What the filter of a name answers.
+    #[tactic(auto, using(crate::proofs::Answered::named))]
+    fn filter_answer<H: Host>(
+        &self,
+        alloc: Global,
+        host: &H,
+        name: &str,
+        args: &[Value],
+    ) -> Result<CallableAnswer, Error>
+        ensures { Answers result (object_called (H.meaning host.now)
+            (find name.now (H.meaning host.now).filters) UnknownFilter args.now self.now) self.now }
+    {
+        let view = self.view(host);
+        match host.apply_filter(alloc, name, args, &view) {
+            Some(answer) => Ok(answer),
+            None => Err(Error::from(ErrorKind::UnknownFilter)),
+        }
+    }
+
+    /// What the test of a name answers.
+    #[tactic(auto, using(crate::proofs::Answered::named))]
+    fn test_answer<H: Host>(
+        &self,
+        alloc: Global,
+        host: &H,
+        name: &str,
+        args: &[Value],
+    ) -> Result<CallableAnswer, Error>
+        ensures { Answers result (object_called (H.meaning host.now)
+            (find name.now (H.meaning host.now).tests) UnknownTest args.now self.now) self.now }
+    {
+        let view = self.view(host);
+        match host.perform_test(alloc, name, args, &view) {
+            Some(answer) => Ok(answer),
+            None => Err(Error::from(ErrorKind::UnknownTest)),
+        }
+    }
+}
