@@ -13,11 +13,11 @@ use Rattle.tm_delimiters.specs.Syntax.{Syntax, default_syntax}
 use Rattle.tm_syntax.specs.declared.tree.Tree.{Tree}
 use Rattle.tm_syntax.specs.Named.{Named, find, put}
 use Rattle.tm_compiler.specs.Spells.{Spells, SpellsNone}
-use Rattle.tm_meaning.specs.World.{Function, View, Stated, World}
+use Rattle.tm_meaning.specs.World.{Object, World}
 use Rattle.tm_meaning.specs.Meaning.{Ending, done, leave, next, fault, Outcome, chain_in, chain_of}
 use Rattle.tm_output.specs.Counts.{Tally, AppendsBeginning}
 use Rattle.tm_templates.specs.Defaults.{escape_by_name, escape_of}
-use Rattle.tm_tables.specs.Stated.{Table, language_functions, functions_of, behind_language}
+use Rattle.tm_tables.specs.Stated.{Table, StatedObjects, language_functions, stated_of, language_alone}
 use Rattle.tm_templates.specs.Templates.{Compiled, IsRefused}
 use Rattle.tm_meaning.specs.declared.stream.TemplateId.{TemplateId}
 use Rattle.tm_meaning.specs.declared.stream.TemplateId.TheVariants.{Entry}
@@ -36,7 +36,7 @@ found_there name t = ap (λ o. cond (is_eq o) (Some t) None) (tied_itself nat_li
 found_is_put : (name : Text) (t u : Compiled) → find name (put name t []) ≡ Some u → t ≡ u
 found_is_put name t u e = let there : find name (put name t []) ≡ Some t = found_there name t in cc
 
--- Objects that are no functions: a template means what it means where there are none.
+-- Objects of which nothing but this is stated: a template means what it means where there are none.
 abbrev template_over : {O : Type 0} → O → Text → Named Compiled → Option ℕ → ℕ → Compiled → TemplateValue O
 template_over objects name templates fuel limit t = record {
   environment = record (expected_environment objects) { templates = templates; fuel = fuel; limit = limit };
@@ -44,17 +44,17 @@ template_over objects name templates fuel limit t = record {
   template = t;
 }
 
-means_same : {O P : Type 0} (fs gs : List Function) (o : O) (p : P) (name : Text) (templates : Named Compiled) (fuel : Option ℕ) (limit : ℕ)
+means_same : {O P : Type 0} (fs gs : StatedObjects) (o : O) (p : P) (name : Text) (templates : Named Compiled) (fuel : Option ℕ) (limit : ℕ)
     (t : Compiled) (id : ℕ) (context : Val) → fs ≡ gs →
     meaning (λ _. fs) (template_over o name templates fuel limit t) id context
     ≡ meaning (λ _. gs) (template_over p name templates fuel limit t) id context
 means_same fs gs o p name templates fuel limit t id context same =
-    ap (λ (hs : List Function). meaning (λ x. x) (template_over hs name templates fuel limit t) id context) same
+    ap (λ (hs : StatedObjects). meaning (λ x. x) (template_over hs name templates fuel limit t) id context) same
 
 -- without objects there are the functions of the language
-pub none_of : {C : Type 0} (answers : C → List Val → View → Stated) (objects : Table C) → objects ≡ language_functions →
-    functions_of answers objects ≡ behind_language true []
-none_of answers objects none = ap (functions_of answers) none
+pub none_of : {C : Type 0} (answers : C → Object) (objects : Table C) → objects ≡ language_functions →
+    stated_of answers objects ≡ language_alone
+none_of answers objects none = ap (stated_of answers) none
 
 compiled_is : (t : Compiled) (name source : Text) (escape : AutoEscape) → t.name ≡ name → t.source ≡ source → t.escape ≡ escape →
     t ≡ record { name = name; source = source; escape = escape; tree = t.tree }
@@ -88,9 +88,9 @@ module _ {C : Type 0} where
   put_alone a t = put_there_as a t t
 
   -- The template that is found means what the words and a tree of the source mean.
-  pub is_meant : (fs : List Function) (i : Input) (set added : EnvironmentValue (Table C)) (t : Compiled) (found : TemplateValue (Table C))
+  pub is_meant : (fs : StatedObjects) (i : Input) (set added : EnvironmentValue (Table C)) (t : Compiled) (found : TemplateValue (Table C))
       (context : Val) →
-      (found.environment.objects ≡ language_functions → fs ≡ behind_language true []) → set ≡ settled i.asked →
+      (found.environment.objects ≡ language_functions → fs ≡ language_alone) → set ≡ settled i.asked →
       IsTemplateOf set i.asked.file i.source t → added ≡ record set { templates = put i.asked.file t set.templates } →
       IsEntryOf added i.asked.file found → context ≡ context_of i.members i.asked.texts →
       IsMeant (λ _. fs) found context i
@@ -117,7 +117,7 @@ module _ {C : Type 0} where
         subst (λ (e : EnvironmentValue (Table C)). Spells e.syntax source t.tree) start is.spelled,
         ap (λ (v : TemplateValue (Table C)). meaning (λ _. fs) v 0 context) alone
             ∙ (ap (λ v. meaning (λ _. fs) (put_alone a t) 0 v) given
-            ∙ (means_same {O = Table C} {P = List Function} fs (behind_language true []) language_functions (behind_language true []) a.file
+            ∙ (means_same {O = Table C} {P = StatedObjects} fs language_alone language_functions language_alone a.file
             (put a.file t []) a.fuel (limit_of a.limit) t 0 (context_of i.members a.texts) (none objects)
             ∙ ap (λ (u : Compiled). meaning (λ fs. fs) (template_in a u) 0 (context_of i.members a.texts)) named)),
       )
@@ -133,13 +133,12 @@ module _ {C : Type 0} where
       absurd (cc)
 
 -- a render as the first state of a counter
-pub at_first : {P : Type 0} (functions : P →
-    List Function) (t : TemplateValue P) (context : Val) (id : ℕ) (r : Result (CapturedValue (StateValue P)) (List ErrorKind))
+pub at_first : {P : Type 0} (stated : P → StatedObjects) (t : TemplateValue P) (context : Val) (id : ℕ) (r : Result (CapturedValue (StateValue P)) (List ErrorKind))
     (told now : Option Text) (failures count : ℕ) → id ≡ 0 →
-    (id < greatest → Rendered t (meaning functions t id context) r told now failures count) →
-    Rendered t (meaning functions t 0 context) r told now failures count
-at_first functions t context id r told now failures count e rendered =
-    subst (λ n. Rendered t (meaning functions t n context) r told now failures count) e (rendered (omega (arith, e)))
+    (id < greatest → Rendered t (meaning stated t id context) r told now failures count) →
+    Rendered t (meaning stated t 0 context) r told now failures count
+at_first stated t context id r told now failures count e rendered =
+    subst (λ n. Rendered t (meaning stated t n context) r told now failures count) e (rendered (omega (arith, e)))
 
 -- an error that was passed on
 pub passed : {T E : Type 0} (r : Result T E) (P : T → Type 0) (Q : E → Type 0) (e : E) → IsErrAnd r (λ x. x ≡ e) → Q e → MatchResult r P Q

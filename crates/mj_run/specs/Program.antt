@@ -11,14 +11,13 @@ use Rattle.tm_delimiters.specs.Syntax.{default_syntax}
 use Rattle.tm_syntax.specs.declared.tree.Tree.{Tree}
 use Rattle.tm_syntax.specs.Named.{put}
 use Rattle.tm_compiler.specs.Spells.{Spells, SpellsNone}
-use Rattle.tm_meaning.specs.World.{Function}
 use Rattle.tm_meaning.specs.Meaning.{Outcome, chain_of}
 use Rattle.tm_output.specs.Counts.{Tally, saturating_increment, AppendsBeginning}
 use Rattle.tm_templates.specs.Defaults.{escape_by_name}
 use Rattle.tm_templates.specs.Templates.{Compiled}
 use Rattle.tm_meaning.specs.declared.stream.TemplateId.TheVariants.{Entry}
 use Rattle.template_machine.specs.Environment.{TemplateValue, expected_environment, greatest_limit}
-use Rattle.tm_tables.specs.Stated.{behind_language}
+use Rattle.tm_tables.specs.Stated.{StatedObjects, language_alone}
 use Rattle.template_machine.specs.Renders.{meaning}
 use Rattle.mj_words.specs.CommandLine.{Text, ArgumentsValue, asked, asked_of}
 use Rattle.mj_words.specs.declared.arguments.Arguments.{Arguments}
@@ -47,27 +46,27 @@ limit_of None = greatest_limit
 limit_of (Some n) = min n greatest_limit
 
 -- the one template of a new environment, which has the functions of the language, with the fuel and the limit of the words
-abbrev pub template_in : ArgumentsValue → Compiled → TemplateValue (List Function)
+abbrev pub template_in : ArgumentsValue → Compiled → TemplateValue StatedObjects
 template_in a t = record {
-  environment = record (expected_environment (behind_language true []))
+  environment = record (expected_environment language_alone)
       { templates = put a.file t []; fuel = a.fuel; limit = limit_of a.limit };
   id = Entry a.file;
   template = t;
 }
 
 -- the template that a source and its tree are under the name of the file, which says how it is escaped
-abbrev pub template_of : ArgumentsValue → Text → Tree → TemplateValue (List Function)
+abbrev pub template_of : ArgumentsValue → Text → Tree → TemplateValue StatedObjects
 template_of a source tree = template_in a (record { name = a.file; source = source; escape = escape_by_name a.file; tree = tree })
 
 -- what a render of this tree means, as the first state: over the context, with the fuel of the words
 abbrev pub meaning_of : Input → Tree → Outcome
-meaning_of input tree = meaning (λ functions. functions) (template_of input.asked input.source tree) 0
+meaning_of input tree = meaning (λ stated. stated) (template_of input.asked input.source tree) 0
     (context_of input.members input.asked.texts)
 
 -- A template over a context means, as the first state, what a tree of the source means over the context that is given.
-abbrev pub IsMeant : {P : Type 0} → (P → List Function) → TemplateValue P → Val → Input → Type 0
-IsMeant functions t context input = (tree : Tree) × Spells default_syntax input.source tree
-    × (meaning functions t 0 context ≡ meaning_of input tree)
+abbrev pub IsMeant : {P : Type 0} → (P → StatedObjects) → TemplateValue P → Val → Input → Type 0
+IsMeant stated t context input = (tree : Tree) × Spells default_syntax input.source tree
+    × (meaning stated t 0 context ≡ meaning_of input tree)
 
 -- What may be read of a file later may be read of it before.
 abbrev pub FilesStay : {T : Type 0} → (T → Text → Option Text → Type 0) → T → T → Type 0

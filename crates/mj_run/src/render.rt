@@ -85,7 +85,7 @@ fn render_template<P: Parties, O: Write + Drop>(
     context: Value,
     out: &mut Counted<O>,
 ) -> Result<(), Error>
-    ensures { (input : Input) → IsMeant P.functions template.now context input →
+    ensures { (input : Input) → IsMeant P.stated template.now context input →
         MatchResult result (λ _. IsRendered O.contents input out.old out.new)
         (λ e. IsFault O.contents input e out.old out.new) }
 {

@@ -4,7 +4,8 @@ use Rattle.std.specs.declared.alloc.Global.{Global}
 use Rattle.tm_values.specs.Val.{Val}
 use Rattle.tm_values.specs.declared.error.ErrorKind.{ErrorKind}
 use Rattle.tm_values.specs.declared.error.ErrorKind.TheVariants.{InvalidOperation}
-use Rattle.tm_meaning.specs.World.{Function, World}
+use Rattle.tm_meaning.specs.World.{World}
+use Rattle.tm_tables.specs.Stated.{StatedObjects}
 use Rattle.tm_meaning.specs.Calls.{whole}
 use Rattle.tm_meaning.specs.Machine.{Capture, Config, Finished, Program, base_of, start}
 use Rattle.tm_parts.specs.Halts.{failures_after}
@@ -16,41 +17,40 @@ use Rattle.template_machine.specs.Environment.{IsTemplateOf, IsMadeIn, Environme
 use Rattle.template_machine.specs.Renders.{meaning, meaning_from, IsFresh, Ran, RenderedText, RenderedSource, source_rendered, IsUnnumbered}
 use Rattle.template_machine.proofs.Answered.{run_done, run_halted}
 
-module _ {O : Type 0} (functions : O →
-    List Function) (t r : TemplateValue O) (same : r
+module _ {O : Type 0} (stated : O → StatedObjects) (t r : TemplateValue O) (same : r
     ≡ t) (captures new : List Capture) (w left : World) (told now : Option (List ℕ)) (failures count : ℕ)
     (config : Config) (begins : config ≡ start (whole w.stream) captures w) (fresh : IsFresh captures) where
   abbrev p : Program
-  p = program (host_of functions r) (code r)
+  p = program (host_of stated r) (code r)
 
   pub over_done : (parts : List Capture × World) → parts.0 ≡ new → parts.1 ≡ left →
       ReachesEnd p (base_of true config.captures config.world) config told now (Finished new left) → count ≡ failures →
-      Ran (meaning_from functions t w) (Ok parts) captures told now failures count
+      Ran (meaning_from stated t w) (Ok parts) captures told now failures count
   over_done parts first second comes counted =
-      subst (λ (v : TemplateValue O). Ran (meaning_from functions v w) (Ok parts) captures told now failures count) same
+      subst (λ (v : TemplateValue O). Ran (meaning_from stated v w) (Ok parts) captures told now failures count) same
       (run_done p (trees r) (λ s. refl) captures new w left told now failures count parts fresh first second
       (subst (λ (c : Config). ReachesEnd p (base_of true c.captures c.world) c told now (Finished new left)) begins comes) counted)
 
   pub over_halted : (why : Halt) → HaltsAs why left (ReachesEnd p (base_of true config.captures config.world) config told now) →
       WroteBeginning p (base_of true config.captures config.world) config told now →
-      count ≡ failures_after {A = Unit {0}} (Err why) failures → Ran (meaning_from functions t w) (Err why) captures told now failures count
+      count ≡ failures_after {A = Unit {0}} (Err why) failures → Ran (meaning_from stated t w) (Err why) captures told now failures count
   over_halted why ends begun counted =
-      subst (λ (v : TemplateValue O). Ran (meaning_from functions v w) (Err why) captures told now failures count) same
+      subst (λ (v : TemplateValue O). Ran (meaning_from stated v w) (Err why) captures told now failures count) same
       (run_halted p (trees r) (λ s. refl) captures new w left told now failures count why fresh
       (subst (λ (c : Config). HaltsAs why left (ReachesEnd p (base_of true c.captures c.world) c told now)) begins ends)
       (subst (λ (c : Config). WroteBeginning p (base_of true c.captures c.world) c told now) begins begun) counted)
 
 -- a source that was rendered
-pub source_done : {O : Type 0} (functions : O →
-    List Function) (e : EnvironmentValue O) (t : TemplateValue O) (name source : List ℕ) (old new : ℕ) (context : Val)
+pub source_done : {O : Type 0} (stated : O → StatedObjects) (e : EnvironmentValue O) (t : TemplateValue O)
+    (name source : List ℕ) (old new : ℕ) (context : Val)
     (result : Result (String Global) (List ErrorKind)) →
-    IsMadeIn e name source t → RenderedText (meaning functions t old context) result → new ≡ old + 1 →
-    RenderedSource functions e name source old new context result
-source_done functions e t name source old new context result made text counted =
+    IsMadeIn e name source t → RenderedText (meaning stated t old context) result → new ≡ old + 1 →
+    RenderedSource stated e name source old new context result
+source_done stated e t name source old new context result made text counted =
     source_rendered t.template made.2
-    (subst (λ e. RenderedText (meaning functions (record { environment = e; id = Own; template = t.template }) old context) result)
+    (subst (λ e. RenderedText (meaning stated (record { environment = e; id = Own; template = t.template }) old context) result)
     made.0
-    (subst (λ id. RenderedText (meaning functions (record { environment = t.environment; id = id; template = t.template }) old context)
+    (subst (λ id. RenderedText (meaning stated (record { environment = t.environment; id = id; template = t.template }) old context)
     result) made.1 text)) counted
 
 -- one that spells a template, where the counter is full

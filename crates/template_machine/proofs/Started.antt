@@ -7,7 +7,8 @@ use Rattle.tm_values.specs.declared.escape.AutoEscape.{AutoEscape}
 use Rattle.tm_syntax.specs.declared.instruction.Instruction.{Instruction}
 use Rattle.tm_syntax.specs.Blocks.{Body, code_of, blocks_in}
 use Rattle.tm_syntax.specs.Named.{Named, by_name}
-use Rattle.tm_meaning.specs.World.{Function, World}
+use Rattle.tm_meaning.specs.World.{World}
+use Rattle.tm_tables.specs.Stated.{StatedObjects}
 use Rattle.tm_meaning.specs.Calls.{own_blocks}
 use Rattle.tm_meaning.specs.Tree.{carded}
 use Rattle.tm_meaning.specs.declared.stream.TemplateId.{TemplateId}
@@ -34,26 +35,26 @@ pub held_meant : {O : Type 0} (e : EnvironmentValue O) (h : TemplateRef) → IsH
 held_meant e (Lent x t) is = rw is refl
 held_meant e (Owned t) is = refl
 
-pub first_is : {O : Type 0} (functions : O → List Function) (t : TemplateValue O) (id : ℕ) (context : Val) → meant t t.id ≡ t.template →
-    started id t.id (block_codes t.template.tree) t.template.escape t.environment.fuel context ≡ first functions t id context
-first_is functions t id context is =
+pub first_is : {O : Type 0} (stated : O → StatedObjects) (t : TemplateValue O) (id : ℕ) (context : Val) → meant t t.id ≡ t.template →
+    started id t.id (block_codes t.template.tree) t.template.escape t.environment.fuel context ≡ first stated t id context
+first_is stated t id context is =
     let bs = blocks_in (body t.template.tree).row in
     let same : layers_of t.id (block_codes t.template.tree)
     ≡ own_blocks t.id (map carded (by_name bs)) = ap (layers_of t.id) (by_name-turned code_of bs) ∙ layered_each t.id (by_name bs) in
-    let there : template_of (tree_of t.template) ≡ template_at (host_of functions t) t.id =
-    sym (template_meant functions t t.id ∙ ap (λ (c : Compiled). template_of (tree_of c)) is) in
-    ap (λ ls. record (first functions t id context) { blocks = ls; escape = t.template.escape }) same
-    ∙ ap (λ (x : Template). record (first functions t id context) { blocks = own_blocks t.id x.blocks; escape = x.escape }) there
+    let there : template_of (tree_of t.template) ≡ template_at (host_of stated t) t.id =
+    sym (template_meant stated t t.id ∙ ap (λ (c : Compiled). template_of (tree_of c)) is) in
+    ap (λ ls. record (first stated t id context) { blocks = ls; escape = t.template.escape }) same
+    ∙ ap (λ (x : Template). record (first stated t id context) { blocks = own_blocks t.id x.blocks; escape = x.escape }) there
 
 -- the same of what was made
-pub first_at : {O : Type 0} (functions : O →
-    List Function) (t : TemplateValue O) (root : TemplateId) (own : Compiled) (blocks : Named (List Instruction)) (escape : AutoEscape)
+pub first_at : {O : Type 0} (stated : O → StatedObjects) (t : TemplateValue O) (root : TemplateId) (own : Compiled)
+    (blocks : Named (List Instruction)) (escape : AutoEscape)
     (fuel : Option ℕ) (id number : ℕ) (context : Val)
     (made : Result World (List ErrorKind)) → meant t t.id ≡ t.template → root ≡ t.id → own ≡ t.template → blocks ≡ block_codes own.tree →
     escape ≡ own.escape → fuel ≡ t.environment.fuel → id ≡ number →
-    OkOrOutOfMemory made (λ s. s ≡ started id root blocks escape fuel context) → IfOk made (λ s. s ≡ first functions t number context)
-first_at functions t root own blocks escape fuel id number context (Err e) is root_is own_is blocks_are escape_is fuel_is id_is made_is = tt
-first_at functions t root own blocks escape fuel id number context (Ok s) is root_is own_is blocks_are escape_is fuel_is id_is made_is =
+    OkOrOutOfMemory made (λ s. s ≡ started id root blocks escape fuel context) → IfOk made (λ s. s ≡ first stated t number context)
+first_at stated t root own blocks escape fuel id number context (Err e) is root_is own_is blocks_are escape_is fuel_is id_is made_is = tt
+first_at stated t root own blocks escape fuel id number context (Ok s) is root_is own_is blocks_are escape_is fuel_is id_is made_is =
     made_is
     ∙ ap (λ n. started n root blocks escape fuel context) id_is
     ∙ ap (λ r. started number r blocks escape fuel context) root_is
@@ -61,4 +62,4 @@ first_at functions t root own blocks escape fuel id number context (Ok s) is roo
     ∙ ap (λ e. started number t.id blocks e t.environment.fuel context) (escape_is ∙ ap (λ (o : Compiled). o.escape) own_is)
     ∙ ap (λ bs. started number t.id bs t.template.escape t.environment.fuel context) (blocks_are
     ∙ ap (λ (o : Compiled). block_codes o.tree) own_is)
-    ∙ first_is functions t number context is
+    ∙ first_is stated t number context is

@@ -10,10 +10,10 @@ use Rattle.tm_delimiters.specs.Syntax.{Syntax, default_syntax}
 use Rattle.tm_meaning.specs.declared.stream.StreamId.{StreamId}
 use Rattle.tm_meaning.specs.declared.stream.TemplateId.{TemplateId}
 use Rattle.tm_meaning.specs.declared.stream.TemplateId.TheVariants.{Own, Entry}
-use Rattle.tm_meaning.specs.World.{Bindings, HostValue, Template, Function, or_is}
+use Rattle.tm_meaning.specs.World.{Bindings, HostValue, Template, or_is}
 use Rattle.tm_meaning.specs.Tree.{TemplateTree, Trees, template_of, trees_of}
 use Rattle.tm_tables.specs.Language.{language_globals}
-use Rattle.tm_tables.specs.Stated.{Table, language_functions, with_object, next_number}
+use Rattle.tm_tables.specs.Stated.{Table, StatedObjects, language_functions, with_object, next_number}
 use Rattle.tm_templates.specs.Templates.{Compiled, IsTemplate, tree_of}
 use Rattle.tm_templates.specs.declared.defaults.EscapeSetting.{EscapeSetting}
 use Rattle.tm_templates.specs.declared.defaults.EscapeSetting.TheVariants as escapes
@@ -80,6 +80,10 @@ abbrev pub with_function : {C : Type 0} → List ℕ → C → EnvironmentValue 
 with_function x object e =
     record e { objects = with_object object e.objects; globals = put x (function (next_number e.objects)) e.globals }
 
+-- the same environment with other objects
+abbrev pub with_objects : {O : Type 0} → O → EnvironmentValue O → EnvironmentValue O
+with_objects objects e = record e { objects = objects }
+
 -- ---------------------------------------------------------------- what it is to the machine
 abbrev pub trees_in : Named Compiled → Named TemplateTree
 trees_in ts = each (λ (t : List ℕ × Compiled). (t.0, tree_of t.1)) ts
@@ -87,15 +91,15 @@ trees_in ts = each (λ (t : List ℕ × Compiled). (t.0, tree_of t.1)) ts
 abbrev pub templates_in : Named Compiled → Named Template
 templates_in ts = each (λ (t : List ℕ × Compiled). (t.0, template_of (tree_of t.1))) ts
 
--- What a template's environment gives, where these are the functions of objects.
-abbrev pub host_of : {O : Type 0} → (O → List Function) → TemplateValue O → HostValue
-host_of functions t = record {
+-- What a template's environment gives, where objects state this.
+abbrev pub host_of : {O : Type 0} → (O → StatedObjects) → TemplateValue O → HostValue
+host_of stated t = record {
   own = template_of (tree_of t.template);
   templates = templates_in t.environment.templates;
   globals = t.environment.globals;
-  functions = functions t.environment.objects;
-  filters = [];
-  tests = [];
+  functions = (stated t.environment.objects).functions;
+  filters = (stated t.environment.objects).filters;
+  tests = (stated t.environment.objects).tests;
   join = λ x parent. Ok x;
   formatter = None;
   unknown_method = None;

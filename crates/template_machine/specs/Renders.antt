@@ -8,7 +8,8 @@ use Rattle.tm_values.specs.Val.{Val}
 use Rattle.tm_values.specs.declared.error.ErrorKind.{ErrorKind}
 use Rattle.tm_values.specs.declared.error.ErrorKind.TheVariants.{InvalidOperation, WriteFailure}
 use Rattle.tm_syntax.specs.Named.{put}
-use Rattle.tm_meaning.specs.World.{Function, World}
+use Rattle.tm_meaning.specs.World.{World}
+use Rattle.tm_tables.specs.Stated.{StatedObjects}
 use Rattle.tm_meaning.specs.declared.stream.TemplateId.TheVariants.{Own}
 use Rattle.tm_meaning.specs.Machine.{Capture, new_capture, put_in, put_out}
 use Rattle.tm_meaning.specs.Meaning.{Ending, fault, Outcome, first_world, rendered}
@@ -38,17 +39,17 @@ greatest = 2 ^ 64 - 1
 
 -- ---------------------------------------------------------------- meanings
 -- the world that a render starts from, as the state of this number over this context value
-abbrev pub first : {O : Type 0} → (O → List Function) → TemplateValue O → ℕ → Val → World
-first functions t id context = first_world (host_of functions t) t.id id t.environment.fuel context
+abbrev pub first : {O : Type 0} → (O → StatedObjects) → TemplateValue O → ℕ → Val → World
+first stated t id context = first_world (host_of stated t) t.id id t.environment.fuel context
 
 -- what a template means from a world, where these are the functions of objects
-abbrev pub meaning_from : {O : Type 0} → (O → List Function) → TemplateValue O → World → Outcome
-meaning_from functions t w = rendered (host_of functions t) (trees t) w
+abbrev pub meaning_from : {O : Type 0} → (O → StatedObjects) → TemplateValue O → World → Outcome
+meaning_from stated t w = rendered (host_of stated t) (trees t) w
 
 -- What a template means, rendered as the state of this number over this context value: its tree, under what its environment gives, from the
 -- environment's fuel.
-abbrev pub meaning : {O : Type 0} → (O → List Function) → TemplateValue O → ℕ → Val → Outcome
-meaning functions t id context = meaning_from functions t (first functions t id context)
+abbrev pub meaning : {O : Type 0} → (O → StatedObjects) → TemplateValue O → ℕ → Val → Outcome
+meaning stated t id context = meaning_from stated t (first stated t id context)
 
 abbrev pub answer_by : Ending → World → Answer World
 answer_by (fault chain) w = Err chain
@@ -93,14 +94,14 @@ pub data RenderedText (m : Outcome) (result : Result (String Global) (List Error
 
 -- How a render of a source ended, whose template has this name: refused, since it spells no template or no memory was found, and no state
 -- was numbered; or rendered, as the template that it spells.
-pub data RenderedSource {O : Type 0} (functions : O →
-    List Function) (e : EnvironmentValue O) (name source : List ℕ) (old new : ℕ) (context : Val)
+pub data RenderedSource {O : Type 0} (stated : O → StatedObjects) (e : EnvironmentValue O)
+    (name source : List ℕ) (old new : ℕ) (context : Val)
     (result : Result (String Global) (List ErrorKind)) : Type 0 where
   source_refused : (chain : List ErrorKind) → result ≡ Err chain → IsRefused e.syntax source chain → new ≡ old →
-      RenderedSource functions e name source old new context result
+      RenderedSource stated e name source old new context result
   source_rendered : (t : Compiled) → IsTemplateOf e name source t →
-      RenderedText (meaning functions (record { environment = e; id = Own; template = t }) old context) result → new ≡ old + 1 →
-      RenderedSource functions e name source old new context result
+      RenderedText (meaning stated (record { environment = e; id = Own; template = t }) old context) result → new ≡ old + 1 →
+      RenderedSource stated e name source old new context result
 
 -- What is answered to a source where the counter is full, whose template has this name: why it was refused, or InvalidOperation, since no
 -- state can be numbered.

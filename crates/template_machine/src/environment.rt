@@ -2,7 +2,7 @@
 ghost use Rattle.std.specs.Prelude.{◌≡◌, ◌≢◌, ◌<◌, [], ◌∷◌, Some, None, codes, min, OnOk, OnErr, IfOk, IfErr};
 ghost use Rattle.std.specs.Prelude.{MatchResult, length, slice_get};
 ghost use Rattle.tm_syntax.specs.Named.{find, pairs_of, put, without};
-ghost use Rattle.tm_tables.specs.Stated.{no_functions};
+ghost use Rattle.tm_tables.specs.Stated.{no_functions, with_filter, without_filter, with_test, without_test};
 ghost use Rattle.tm_templates.specs.Templates.{Compiled, IsRefused};
 ghost use Rattle.tm_values.specs.Answer.{IsLent, OkOrOutOfMemory};
 ghost use Rattle.tm_values.specs.Val.{function};
@@ -10,7 +10,8 @@ ghost use Rattle.std.specs.Prelude.{string_bytes};
 ghost use Rattle.tm_templates.specs.Sources.{source_bytes};
 ghost use Rattle.template_machine.specs.Renders.{greatest, IsUnnumbered, RenderedSource};
 ghost use Rattle.template_machine.specs.Environment.{IsTemplateOf, IsEntryOf, IsMadeIn, empty_environment};
-ghost use Rattle.template_machine.specs.Environment.{new_environment, with_function, with_global, greatest_limit};
+ghost use Rattle.template_machine.specs.Environment.{new_environment, with_function, with_global, with_objects};
+ghost use Rattle.template_machine.specs.Environment.{greatest_limit};
 
 use crate::ids::StateIds;
 use crate::template::{TemplateOf, TemplateRef};
@@ -285,7 +286,7 @@ impl<'source, O: Parties> EnvironmentOf<'source, O> {
             IsUnnumbered self.now (codes "<string>") source.entry.now result
             × (ids.new ≡ ids.old) }
         ensures rendered { ids.old < greatest →
-            RenderedSource O.functions self.now (codes "<string>") source.entry.now
+            RenderedSource O.stated self.now (codes "<string>") source.entry.now
             ids.old ids.new context result }
     {
         self.render_named_str(ids, UNNAMED, source, context)
@@ -304,7 +305,7 @@ impl<'source, O: Parties> EnvironmentOf<'source, O> {
         ensures full { ids.old ≡ greatest →
             IsUnnumbered self.now name.now source.entry.now result × (ids.new ≡ ids.old) }
         ensures rendered { ids.old < greatest →
-            RenderedSource O.functions self.now name.now source.entry.now
+            RenderedSource O.stated self.now name.now source.entry.now
             ids.old ids.new context result }
     {
         let template = self.template_from_named_str(name, source)?;
@@ -385,5 +386,44 @@ impl<'source, C: Drop> EnvironmentOf<'source, Objects<C>> {
             return Err(Error::from(ErrorKind::OutOfMemory));
         }
         Ok(())
+    }
+
+    /// Makes an object the filter of a name, in place of what was; templates call it as `a|name(b)`, with a as its
+    /// first argument. Where there is no memory, OutOfMemory, and the environment stays as it was.
+    pub fn add_filter(&mut self, name: &str, object: C) -> Result<(), Error>
+        ensures ok { OnOk result
+            (self.new ≡ with_objects (with_filter name.now object self.old.objects) self.old) }
+        ensures kind { IfErr result (λ e. e ≡ ErrorKind.OutOfMemory ∷ []) }
+        ensures err { OnErr result (self.new ≡ self.old) }
+    {
+        let name = Name::new(self.alloc, name)?;
+        self.objects.add_filter(name, object)
+    }
+
+    /// Drops the filter of a name, if there is one.
+    pub fn remove_filter(&mut self, name: &str)
+        ensures { self.new ≡ with_objects (without_filter name.now self.old.objects) self.old }
+    {
+        self.objects.remove_filter(name);
+    }
+
+    /// Makes an object the test of a name, in place of what was; templates call it as `a is name(b)`, with a as
+    /// its first argument, and its answer counts by its truth. Where there is no memory, OutOfMemory, and the
+    /// environment stays as it was.
+    pub fn add_test(&mut self, name: &str, object: C) -> Result<(), Error>
+        ensures ok { OnOk result
+            (self.new ≡ with_objects (with_test name.now object self.old.objects) self.old) }
+        ensures kind { IfErr result (λ e. e ≡ ErrorKind.OutOfMemory ∷ []) }
+        ensures err { OnErr result (self.new ≡ self.old) }
+    {
+        let name = Name::new(self.alloc, name)?;
+        self.objects.add_test(name, object)
+    }
+
+    /// Drops the test of a name, if there is one.
+    pub fn remove_test(&mut self, name: &str)
+        ensures { self.new ≡ with_objects (without_test name.now self.old.objects) self.old }
+    {
+        self.objects.remove_test(name);
     }
 }

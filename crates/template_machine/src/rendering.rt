@@ -8,7 +8,7 @@ use std::alloc::Global;
 use std::marker::Model;
 use tm_meaning::{StreamId, TemplateId};
 use tm_syntax::{Code, Name, NameMap};
-use tm_tables::{Called, Host, Parties, View};
+use tm_tables::{CallableAnswer, Called, Host, Parties, View};
 use tm_templates::CompiledTemplate;
 use tm_values::{UndefinedBehavior, Value};
 
@@ -81,7 +81,7 @@ impl<O: Parties> Host for Rendering<'_, O> {
     ghost use Rattle.std.specs.Prelude.{refl};
     ghost use Rattle.template_machine.specs.Environment.{host_of, code};
 
-    ghost meaning = { host_of O.functions };
+    ghost meaning = { host_of O.stated };
 
     ghost code = { code };
 
@@ -119,6 +119,30 @@ impl<O: Parties> Host for Rendering<'_, O> {
         self.environment
             .objects()
             .call_function(alloc, number, args, view)
+    }
+
+    fn apply_filter(
+        &self,
+        alloc: Global,
+        name: &str,
+        args: &[Value],
+        view: &View<'_>,
+    ) -> Option<CallableAnswer> {
+        self.environment
+            .objects()
+            .apply_filter(alloc, name, args, view)
+    }
+
+    fn perform_test(
+        &self,
+        alloc: Global,
+        name: &str,
+        args: &[Value],
+        view: &View<'_>,
+    ) -> Option<CallableAnswer> {
+        self.environment
+            .objects()
+            .perform_test(alloc, name, args, view)
     }
 
     ghost unformatted = { λ host. refl };

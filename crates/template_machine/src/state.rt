@@ -103,7 +103,7 @@ impl<'env, O: Drop> StateOf<'env, O> {
 impl<'env, O: Parties> StateOf<'env, O> {
     /// The name of the template that runs.
     pub fn name(&self) -> &str
-        ensures { result.now ≡ name_of (host_of O.functions self.now.template) self.now.world }
+        ensures { result.now ≡ name_of (host_of O.stated self.now.template) self.now.world }
     {
         self.rendering.template_name(&self.kept.stream().template)
     }
@@ -112,7 +112,7 @@ impl<'env, O: Parties> StateOf<'env, O> {
     /// a scope on the way is over a namespace whose record isn't there; OutOfMemory.
     pub fn lookup(&self, name: &str) -> Result<Option<Value>, Error>
         ensures { IsAnswer result (find_name
-            (view_of (host_of O.functions self.now.template) self.now.world) name.now) }
+            (view_of (host_of O.stated self.now.template) self.now.world) name.now) }
     {
         let hashed = Name::new(self.rendering.allocator(), name)?;
         self.kept.lookup(&self.rendering, &hashed)
@@ -124,7 +124,7 @@ impl<'env, O: Parties> StateOf<'env, O> {
         ensures order { IfOk result
             (λ names. IsStrictlySortedBy name_cmp (texts_of names.items)) }
         ensures found { IfOk result (λ names. AreFound
-            (find_name (view_of (host_of O.functions self.now.template) self.now.world))
+            (find_name (view_of (host_of O.stated self.now.template) self.now.world))
             (texts_of names.items)) }
         ensures err { IfErr result
             (NamingFails (records_of self.now.world) self.now.world.scopes.frames) }

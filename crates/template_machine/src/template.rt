@@ -145,7 +145,7 @@ impl<'env, 'source, O: Parties> TemplateOf<'env, 'source, O> {
             (result ≡ Err (ErrorKind.InvalidOperation ∷ [])) × (ids.new ≡ ids.old) }
         ensures next { ids.old < greatest → ids.new ≡ ids.old + 1 }
         ensures rendered { ids.old < greatest →
-            RenderedText (meaning O.functions self.now ids.old context) result }
+            RenderedText (meaning O.stated self.now ids.old context) result }
     {
         let alloc = self.environment.allocator();
         let state = self.first_state(ids, context)?;
@@ -173,7 +173,7 @@ impl<'env, 'source, O: Parties> TemplateOf<'env, 'source, O> {
             × (W.failures writer.new ≡ W.failures writer.old) }
         ensures next { ids.old < greatest → ids.new ≡ ids.old + 1 }
         ensures rendered { ids.old < greatest →
-            Rendered self.now (meaning O.functions self.now ids.old context) result
+            Rendered self.now (meaning O.stated self.now ids.old context) result
             (W.written writer.old) (W.written writer.new) (W.failures writer.old) (W.failures writer.new) }
     {
         let first = self.first_state(ids, context)?;
@@ -187,7 +187,7 @@ impl<'env, 'source, O: Parties> TemplateOf<'env, 'source, O> {
         ensures full { ids.old ≡ greatest →
             (result ≡ Err (ErrorKind.InvalidOperation ∷ [])) × (ids.new ≡ ids.old) }
         ensures next { ids.old < greatest → ids.new ≡ ids.old + 1 }
-        ensures state { IfOk result (λ s. s ≡ first O.functions self.now ids.old context) }
+        ensures state { IfOk result (λ s. s ≡ first O.stated self.now ids.old context) }
         ensures memory { ids.old < greatest → IfErr result (λ e. e ≡ ErrorKind.OutOfMemory ∷ []) }
     {
         let id = ids.next()?;
@@ -214,7 +214,7 @@ impl<'env, 'source, O: Parties> TemplateOf<'env, 'source, O> {
     ) -> Result<(Captures, StateData<'state>), Halt>
         requires own { state.stream ≡ root_of self.now.id }
         requires fresh { IsFresh captures }
-        ensures { Ran (meaning_from O.functions self.now state.entry) result captures
+        ensures { Ran (meaning_from O.stated self.now state.entry) result captures
             (W.written writer.old) (W.written writer.new) (W.failures writer.old) (W.failures writer.new) }
     {
         let alloc = self.environment.allocator();

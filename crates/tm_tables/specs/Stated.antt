@@ -101,6 +101,10 @@ stated_of answers t = record {
   tests = named_objects answers t.tests;
 }
 
+-- the functions of the language, and no object of the caller
+abbrev pub language_alone : StatedObjects
+language_alone = record { functions = behind_language true []; filters = []; tests = [] }
+
 -- An object of a name answered as it states; none did where there is none of that name.
 abbrev pub IsNamedAnswer : Option Stated → Option Object → List Val → View → Type 0
 IsNamedAnswer None found args view = found ≡ None

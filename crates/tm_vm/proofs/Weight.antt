@@ -8,13 +8,16 @@ use Rattle.tm_syntax.specs.Loops.{loops_before}
 use Rattle.tm_syntax.specs.declared.instruction.Instruction.{Instruction}
 use Rattle.tm_syntax.specs.declared.instruction.Instruction.TheVariants as i
 use Rattle.tm_syntax.specs.declared.instruction.LoopPlace.{LoopPlace}
+use Rattle.tm_syntax.specs.declared.tree.Application.{Application}
+use Rattle.tm_syntax.specs.declared.tree.Application.TheVariants as applications
 use Rattle.tm_syntax.specs.declared.tree.BinaryOperator.TheVariants as binaries
 use Rattle.tm_syntax.specs.declared.tree.UnaryOperator.TheVariants as unaries
 use Rattle.tm_meaning.specs.World.{choose, World, Loop, HostValue, Res, Good, Bad, answered, emitted, looked_up, escape_for, items_over}
 use Rattle.tm_meaning.specs.World.{unpacked_items, set_member, open_loop, top_mark, top_loop, push, plain_scope}
-use Rattle.tm_meaning.specs.Calls.{Asked, has, refused, runs, recurs, call_named, call_first, call_innermost, enter_block}
+use Rattle.tm_meaning.specs.Calls.{Asked, has, refused, runs, recurs, call_named, applied, call_innermost, enter_block}
 use Rattle.tm_meaning.specs.Meaning.{none_waits, truth, applied_unary, operated, attribute, item_at, slice_of}
-use Rattle.tm_meaning.specs.Instructions.{replaces_one, replaces_two, list_on, on_count, count_in, on_truth, iterate_with, end_capture_with}
+use Rattle.tm_meaning.specs.Instructions.{apply_of, replaces_one, replaces_two, list_on, on_count, count_in, on_truth, iterate_with}
+use Rattle.tm_meaning.specs.Instructions.{end_capture_with}
 use Rattle.tm_meaning.specs.Instructions.{pop_auto_escape_with, is_no_loop, on_loop, pop_loop_with, returned, returns, with_text}
 use Rattle.tm_meaning.specs.Machine.{Activation, Capture, Return, Config, Program, End, Failed, Stuck, Next, More, Over, Nest, Back, after}
 use Rattle.tm_meaning.specs.Machine.{on_top, on_taken, taken, on, with_world, writes, audible, new_capture, recursion, place_of_loop, asked}
@@ -160,6 +163,10 @@ escape_adds : (n : ℕ) (c : Config) (es : List AutoEscape) → Adds n c (pop_au
 escape_adds n c [] = tt
 escape_adds n c (e ∷ es) = none_more n c
 
+apply_adds : (p : Program) (k : Application) (x : List ℕ) (n : ℕ) (c : Config) → Adds 1 c (apply_of p k x n c)
+apply_adds p k x n c = on_taken_all (Adds 1 c) (ends_adds 1 c) (taken n [] c.run.operands) c.world _
+    (λ vs rest. asked_adds p c rest (applied p.host k x vs c.world))
+
 -- an instruction leaves at most as many loops more open that were called as it is charged
 adds : (p : Program) (f : Base) (x : Instruction) (c : Config) → Adds (charge_of x) c (effect p f x c)
 adds p f (i.EmitRaw t) c = written_adds 1 c (on c.run.operands c) f t refl
@@ -200,8 +207,9 @@ adds p f (i.JumpIfFalseOrPop n) c = on_truth_adds p.host c _ _ (λ v vs w. none_
 adds p f (i.JumpIfTrueOrPop n) c = on_truth_adds p.host c _ _ (λ v vs w. none_more 1 c) (λ v vs w. none_more 1 c)
 adds p f (i.CallFunction x n) c = on_taken_all (Adds 1 c) (ends_adds 1 c) (taken n [] c.run.operands) c.world _
     (λ vs rest. asked_adds p c rest (call_named p.host x vs c.world))
-adds p f (i.CallMethod x n) c = on_taken_all (Adds 1 c) (ends_adds 1 c) (taken n [] c.run.operands) c.world _
-    (λ vs rest. asked_adds p c rest (call_first p.host x vs c.world))
+adds p f (i.CallMethod x n) c = apply_adds p applications.Method x n c
+adds p f (i.ApplyFilter x n) c = apply_adds p applications.Filter x n c
+adds p f (i.PerformTest x n) c = apply_adds p applications.Test x n c
 adds p f i.FastRecurse c = on_top_all (Adds 1 c) (ends_adds 1 c) c.run.operands c.world _
     (λ v vs. asked_in_place_adds p f c vs (call_innermost p.host v c.world))
 adds p f (i.CallBlock b) c =

@@ -1,7 +1,7 @@
 //! The calls.
 ghost use Rattle.std.specs.Prelude.{◌≡◌, ◌∷◌, drop};
 ghost use Rattle.tm_meaning.specs.Machine.{goes};
-ghost use Rattle.tm_meaning.specs.Instructions.{call_function_of, call_method_of, call_block_of, fast_recurse_of};
+ghost use Rattle.tm_meaning.specs.Instructions.{call_function_of, apply_of, call_block_of, fast_recurse_of};
 ghost use Rattle.tm_vm.specs.Answers.{program, recurses, CanGoOn, Silently, Opens, Needs};
 
 use crate::flow::{Flow, NestedRun};
@@ -10,7 +10,7 @@ use std::alloc::Global;
 use tm_meaning::Base;
 use tm_parts::Halt;
 use tm_state::{CallResult, Recursion};
-use tm_syntax::{CaptureMode, Code, Name};
+use tm_syntax::{Application, CaptureMode, Code, Name};
 use tm_tables::Host;
 use tm_values::{Error, ErrorKind, Value};
 
@@ -96,28 +96,27 @@ impl Machine<'_> {
         Ok(Flow::GoOn)
     }
 
-    /// Replaces so many values by what the first one's method of a name answers to the others.
-    pub(crate) fn do_call_method<H: Host>(
+    /// Replaces so many values by what they give, passed to what a name stands for: the first one's method, a
+    /// filter or a test.
+    pub(crate) fn do_apply<H: Host>(
         &mut self,
         alloc: Global,
         host: &H,
+        application: Application,
         name: &Name,
         count: usize,
     ) -> Result<Flow, Halt>
         requires { CanGoOn self.old.run }
-        ensures { Silently (call_method_of
-            (program (H.meaning host.now) (H.code host.now)) name.now count self.old)
+        ensures { Silently (apply_of
+            (program (H.meaning host.now) (H.code host.now)) application name.now count self.old)
             self.old self.new result }
     {
         let Some(values) = self.run.operands.args(count) else {
             return Err(Halt::Stuck);
         };
-        let Some((receiver, args)) = values.split_first() else {
-            return Err(Halt::Fault(Error::from(ErrorKind::InvalidOperation)));
-        };
         let value = self
             .state
-            .call_method(alloc, host, receiver, name.as_str(), args)?;
+            .apply(alloc, host, application, name.as_str(), values)?;
         self.replace(count, value)
     }
 

@@ -13,7 +13,7 @@ use crate::machine::Machine;
 use std::alloc::Global;
 use tm_meaning::Base;
 use tm_parts::{Halt, Sink};
-use tm_syntax::{BinaryOperator, Code, Instruction, UnaryOperator};
+use tm_syntax::{Application, BinaryOperator, Code, Instruction, UnaryOperator};
 use tm_tables::{Exhausted, Host};
 use tm_values::{Error, ErrorKind};
 
@@ -82,7 +82,13 @@ impl Machine<'_> {
                 self.do_call_function(alloc, host, code, name, *count)
             }
             Instruction::CallMethod(name, count) => {
-                self.do_call_method(alloc, host, name, *count)
+                self.do_apply(alloc, host, Application::Method, name, *count)
+            }
+            Instruction::ApplyFilter(name, count) => {
+                self.do_apply(alloc, host, Application::Filter, name, *count)
+            }
+            Instruction::PerformTest(name, count) => {
+                self.do_apply(alloc, host, Application::Test, name, *count)
             }
             Instruction::FastRecurse => self.do_fast_recurse(alloc, host, base, code),
             Instruction::CallBlock(name) => self.do_call_block(alloc, host, base, name),

@@ -54,6 +54,8 @@ fn word(instruction: &Instruction) -> &'static str {
         Instruction::JumpIfTrueOrPop(_) => "or:",
         Instruction::CallFunction(_, _) => "call:",
         Instruction::CallMethod(_, _) => "method:",
+        Instruction::ApplyFilter(_, _) => "filter:",
+        Instruction::PerformTest(_, _) => "test:",
         Instruction::CallBlock(_) => "block:",
         Instruction::StoreLocal(_) => "store:",
         Instruction::UnpackList(_) => "unpack:",
@@ -120,6 +122,8 @@ fn detail(instruction: &Instruction) -> &str {
         | Instruction::GetAttr(name)
         | Instruction::CallFunction(name, _)
         | Instruction::CallMethod(name, _)
+        | Instruction::ApplyFilter(name, _)
+        | Instruction::PerformTest(name, _)
         | Instruction::CallBlock(name)
         | Instruction::StoreLocal(name)
         | Instruction::SetAttr(name) => name.as_str(),
@@ -140,9 +144,10 @@ fn detail(instruction: &Instruction) -> &str {
 
 fn count(instruction: &Instruction) -> &'static str {
     match instruction {
-        Instruction::CallFunction(_, number) | Instruction::CallMethod(_, number) => numeral(
-            *number,
-        ),
+        Instruction::CallFunction(_, number)
+        | Instruction::CallMethod(_, number)
+        | Instruction::ApplyFilter(_, number)
+        | Instruction::PerformTest(_, number) => numeral(*number),
         _ => "",
     }
 }

@@ -26,7 +26,7 @@ returns g c = record {
         left.1,
       );
   rendered = λ h.
-      source_done g.O.Parties.functions c.args.self.now c.in_ok-template.template c.args.name.now c.args.source.now c.args.ids.now
+      source_done g.O.Parties.stated c.args.self.now c.in_ok-template.template c.args.name.now c.args.source.now c.args.ids.now
       c.render.new.ids c.args.context c.render.result
       c.in_ok-template.ensures.compiled (c.render.ensures.rendered h) (c.render.ensures.next h);
 }

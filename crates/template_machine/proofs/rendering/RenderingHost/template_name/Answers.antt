@@ -7,4 +7,4 @@ use Rattle.template_machine.proofs.rendering.RenderingHost.template_name.Goals a
 pub returns : goal.returns
 returns g c =
     c.name.ensures ∙ ap (λ (t : Compiled). t.name) c.template.ensures
-    ∙ ap (λ (t : Template). t.name) (sym (template_meant g.O.Parties.functions c.args.self.now c.args.template.now))
+    ∙ ap (λ (t : Template). t.name) (sym (template_meant g.O.Parties.stated c.args.self.now c.args.template.now))

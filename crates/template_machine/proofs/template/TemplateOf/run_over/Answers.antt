@@ -15,7 +15,7 @@ returns g c =
     let begins = c.new-machine.ensures
     ∙ ap (λ s. start (whole s) c.args.captures c.args.state) (c.root-stream.ensures ∙ ap root_of c.in-Ok.ensures.ok
     ∙ sym c.requires.own) in
-    over_done g.O.Parties.functions c.args.self.now c.rendering.result c.rendering.ensures c.args.captures c.run.new.self.captures
+    over_done g.O.Parties.stated c.args.self.now c.rendering.result c.rendering.ensures c.args.captures c.run.new.self.captures
     c.args.state c.run.new.self.world
     (g.W.Sink.written c.args.writer.now) (g.W.Sink.written c.run.new.writer) (g.W.Sink.failures c.args.writer.now)
     (g.W.Sink.failures c.run.new.writer)
@@ -33,9 +33,9 @@ returns-in_err-run g c =
     let count = g.W.Sink.failures c.run.new.writer in
     let why = c.in_err-run.field-0.0 in
     let Ends : Result (List Capture × World) Halt →
-    Type 0 = λ r. Ran (meaning_from g.O.Parties.functions c.args.self.now c.args.state) r c.args.captures told now failures count in
+    Type 0 = λ r. Ran (meaning_from g.O.Parties.stated c.args.self.now c.args.state) r c.args.captures told now failures count in
     passed c.from_residual.result Ends why c.from_residual.ensures.1
-    (over_halted g.O.Parties.functions c.args.self.now c.rendering.result c.rendering.ensures c.args.captures c.run.new.self.captures
+    (over_halted g.O.Parties.stated c.args.self.now c.rendering.result c.rendering.ensures c.args.captures c.run.new.self.captures
     c.args.state c.run.new.self.world
     told now failures count c.new-machine.result begins c.requires.fresh why c.in_err-run.ensures.ended c.in_err-run.ensures.beginning
     c.in_err-run.ensures.failures)

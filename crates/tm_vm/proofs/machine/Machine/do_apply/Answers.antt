@@ -1,5 +1,5 @@
 use Rattle.std.proofs.Common.{rules}
-use Rattle.tm_vm.proofs.machine.Machine.do_call_method.Goals as goal
+use Rattle.tm_vm.proofs.machine.Machine.do_apply.Goals as goal
 
 pub returns : goal.returns
 returns g c = search rules fits 100
