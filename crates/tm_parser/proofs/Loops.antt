@@ -9,9 +9,10 @@ use Rattle.tm_syntax.specs.declared.tree.AssignmentTarget.{AssignmentTarget}
 use Rattle.tm_grammar.specs.Meanings.{Read, got}
 use Rattle.tm_grammar.specs.Rule.{Rule, Look}
 use Rattle.tm_grammar.specs.Growth as growth
-use Rattle.tm_grammar.specs.Combinators.{grow, one_more, many_from}
+use Rattle.tm_grammar.specs.Combinators.{first, grow, one_more, many_from}
 use Rattle.tm_values.specs.Answer.{Refused}
 use Rattle.tm_parser.specs.declared.primaries.Passed.{Passed}
+use Rattle.tm_parser.specs.Grammar.{is, more_parts, one_part}
 use Rattle.tm_parser.specs.Grammar.{Inside, more_items, comma, one_passed, more_passed, single, more_targets, target_comma, whole}
 use Rattle.tm_parser.specs.Statements.{iterated_comma, more_iterated}
 
@@ -168,3 +169,26 @@ module _ (i : Inside) where
   iterated_ends xs ts rest all = ends iterated_comma (λ _. whole i) xs ts all rest
 
 pub ruleset iterations = (iterated_goes_on, iterated_comes_nearer, iterated_refuses, iterated_ends)
+
+-- the same of the names of a dotted name
+pub part_goes_on : (x y : List ℕ) (ts behind rest : List Token) (all : Read Token (List ℕ)) → (more_parts x).reads ts ≡ all →
+    (first (is sign.Dot)).sees ts ≡ got tt behind → (one_part x).reads behind ≡ got y rest → (more_parts y).reads rest ≡ all
+unfolding more_parts
+part_goes_on x y ts behind rest all = grows_on (first (is sign.Dot)) (λ _ name. one_part name) x ts all tt behind y rest
+
+pub part_comes_nearer : (x y : List ℕ) (ts behind rest : List Token) → (first (is sign.Dot)).sees ts ≡ got tt behind →
+    (one_part x).reads behind ≡ got y rest → length rest < length ts
+part_comes_nearer x y ts behind rest = grows_nearer (first (is sign.Dot)) (λ _ name. one_part name) x ts tt behind y rest
+
+pub part_refuses : (x : List ℕ) (ts behind : List Token) (all : Read Token (List ℕ)) (chain : List ErrorKind) →
+    (more_parts x).reads ts ≡ all →
+    (first (is sign.Dot)).sees ts ≡ got tt behind → Refused chain ((one_part x).reads behind ≡ None) → Refused chain (all ≡ None)
+unfolding more_parts
+part_refuses x ts behind all chain = grows_not (first (is sign.Dot)) (λ _ name. one_part name) x ts all tt behind chain
+
+pub part_ends : (x : List ℕ) (ts rest : List Token) (all : Read Token (List ℕ)) → (more_parts x).reads ts ≡ all →
+    ((first (is sign.Dot)).sees ts ≡ None) × (rest ≡ ts) → all ≡ got x rest
+unfolding more_parts
+part_ends x ts rest all = is_grown (first (is sign.Dot)) (λ _ name. one_part name) x ts all rest
+
+pub ruleset parts = (part_goes_on, part_comes_nearer, part_refuses, part_ends)

@@ -1,5 +1,7 @@
 -- The grammar of expressions and targets.
 use Rattle.std.specs.Prelude.{ℕ, zero, suc, List, [], ◌∷◌, true, false, Bool, Option, Some, None, ◌++◌, option_map, if◌then◌else◌, nat_eq}
+use Rattle.std.specs.Prelude.{◌||◌, codes}
+use Rattle.std.specs.Cmp.Lexicographic.{pointwise}
 use denote.Enum.Bare.{sameb}
 use Rattle.tm_values.specs.Val as value
 use Rattle.tm_values.specs.Val.{Val}
@@ -12,6 +14,8 @@ use Rattle.tm_syntax.specs.declared.tree.UnaryOperator.{UnaryOperator}
 use Rattle.tm_syntax.specs.declared.tree.UnaryOperator.TheVariants as unaries
 use Rattle.tm_syntax.specs.declared.tree.BinaryOperator.{BinaryOperator}
 use Rattle.tm_syntax.specs.declared.tree.BinaryOperator.TheVariants as binaries
+use Rattle.tm_syntax.specs.declared.tree.Application.{Application}
+use Rattle.tm_syntax.specs.declared.tree.Application.TheVariants as applications
 use Rattle.tm_syntax.specs.declared.tree.Expr.{Expr, Var}
 use Rattle.tm_syntax.specs.declared.tree.Expr.TheVariants as exprs
 use Rattle.tm_syntax.specs.declared.tree.Argument.{Argument}
@@ -85,6 +89,8 @@ or_level = 7
 abbrev pub link_of : Sign → Option (ℕ × Link)
 link_of sign.Dot = Some (postfix_level, links.Member)
 link_of sign.OpenSquare = Some (postfix_level, links.Item)
+link_of sign.Bar = Some (postfix_level, links.Filter)
+link_of sign.Is = Some (postfix_level, links.Test)
 link_of sign.DoubleStar = Some (power_level, links.Operator binaries.Power)
 link_of sign.Star = Some (product_level, links.Operator binaries.Multiply)
 link_of sign.Slash = Some (product_level, links.Operator binaries.Divide)
@@ -255,7 +261,7 @@ named_step i = do
       (λ _. do
         room ← i.room
         given ← all_passed i
-        pure (steps.Method name given.by_place given.by_name))
+        pure (steps.Apply applications.Method name given.by_place given.by_name))
       (pure (steps.Attribute name))
 
 -- what stands behind a part of a slice
@@ -293,6 +299,83 @@ subscript i = do
     branch (first (is sign.Colon)) (λ _. slice i x) (do
       end ← token (is sign.CloseSquare)
       pure (steps.Item x)))
+
+-- a name, behind the names before it and a dot
+unfoldable pub one_part : List ℕ → Rule (List ℕ)
+one_part before = do
+  name ← token a_name
+  pure (before ++ codes "." ++ name)
+
+unfoldable pub more_parts : List ℕ → Rule (List ℕ)
+more_parts before = grow (first (is sign.Dot)) (λ _ name. one_part name) before
+
+-- names with dots between them, as one
+unfoldable pub dotted : Rule (List ℕ)
+dotted = do
+  name ← token a_name
+  more_parts name
+
+-- the arguments in brackets, if they stand there
+unfoldable pub given : Inside → Rule Passed
+given i = branch (first (is sign.OpenRound))
+    (λ _. do
+      room ← i.room
+      all_passed i)
+    (pure (passed [] []))
+
+-- a filter, and its arguments behind the value
+unfoldable pub filter_step : Inside → Rule Step
+filter_step i = do
+  name ← dotted
+  xs ← given i
+  pure (steps.Apply applications.Filter name xs.by_place xs.by_name)
+
+-- the reserved words that name a test: all but `not`
+abbrev pub test_word : Sign → Option (List ℕ)
+test_word sign.And = Some (codes "and")
+test_word sign.Or = Some (codes "or")
+test_word sign.If = Some (codes "if")
+test_word sign.Else = Some (codes "else")
+test_word sign.In = Some (codes "in")
+test_word sign.Is = Some (codes "is")
+test_word sign.True = Some (codes "true")
+test_word sign.False = Some (codes "false")
+test_word sign.None = Some (codes "none")
+test_word _ = None
+
+abbrev pub a_test_word : Token → Option (List ℕ)
+a_test_word (tokens.Sign s) = test_word s
+a_test_word _ = None
+
+-- the name of a test: a reserved word, or names with dots between them
+unfoldable pub test_name : Rule (List ℕ)
+test_name = branch (first a_test_word) pure dotted
+
+-- the words that may stand behind a value in a tag
+abbrev pub is_kept : List ℕ → Bool
+is_kept name =
+    pointwise nat_eq name (codes "recursive") || pointwise nat_eq name (codes "ignore") || pointwise nat_eq name (codes "as")
+    || pointwise nat_eq name (codes "import")
+
+-- what a test is passed without brackets: a name that is no such word, or a literal
+abbrev pub bare : Token → Option Expr
+bare (tokens.Name name) = if is_kept name then None else Some (exprs.Var name)
+bare (tokens.Literal v) = Some (exprs.Const v)
+bare (tokens.Sign s) = option_map exprs.Const (constant_of s)
+bare _ = None
+
+unfoldable pub passed_to_test : Inside → Rule Passed
+passed_to_test i = branch (first bare) (λ x. pure (passed (arguments.Plain x ∷ []) [])) (given i)
+
+-- a test, and its arguments behind the value
+unfoldable pub tested : Inside → Application → Rule Step
+tested i k = do
+  name ← test_name
+  xs ← passed_to_test i
+  pure (steps.Apply k name xs.by_place xs.by_name)
+
+unfoldable pub test_step : Inside → Rule Step
+test_step i = branch (first (is sign.Not)) (λ _. tested i applications.NegatedTest) (tested i applications.Test)
 
 unfoldable pub operation : Rule Expr → BinaryOperator → Rule Step
 operation right op = do
@@ -338,6 +421,8 @@ disjunction right = do
 abbrev pub step : Inside → Rule Expr → ℕ → Link → Rule Step
 step i right level links.Member = named_step i
 step i right level links.Item = subscript i
+step i right level links.Filter = filter_step i
+step i right level links.Test = test_step i
 step i right level (links.Operator op) = operation right op
 step i right level (links.Comparison op) = comparison right level op
 step i right level links.And = conjunction right

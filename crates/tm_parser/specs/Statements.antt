@@ -11,7 +11,8 @@ use Rattle.tm_syntax.specs.declared.token.Token.TheVariants as tokens
 use Rattle.tm_syntax.specs.declared.tree.Expr.{Expr, Call', Row_of-Argument, end_of-Argument as no_argument}
 use Rattle.tm_syntax.specs.declared.tree.Expr.{more_of-Argument as argument, Row_of-Keyword, end_of-Keyword as no_keyword, Row_of-Step}
 use Rattle.tm_syntax.specs.declared.tree.Expr.{end_of-Step as no_step, more_of-Step as more_steps}
-use Rattle.tm_syntax.specs.declared.tree.Step.{Step, Method'}
+use Rattle.tm_syntax.specs.declared.tree.Application.TheVariants as applications
+use Rattle.tm_syntax.specs.declared.tree.Step.{Step, Apply'}
 use Rattle.tm_syntax.specs.Forms.{plain, with_keyword, chained as chained_steps}
 use Rattle.tm_syntax.specs.declared.tree.Expr.TheVariants as exprs
 use Rattle.tm_syntax.specs.declared.tree.AssignmentTarget.{AssignmentTarget}
@@ -278,7 +279,7 @@ autoescape_tag i t looping = do
   pure (stmts.AutoEscape x body)
 
 abbrev pub is_method : Step → Bool
-is_method (Method' name _ given _ named) = true
+is_method (Apply' applications.Method name _ given _ named) = true
 is_method _ = false
 
 -- whether the last of these steps is the call of a method, or this where there is none

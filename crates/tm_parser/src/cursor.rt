@@ -2,7 +2,7 @@
 ghost use Rattle.std.specs.Prelude.{◌≡◌, ◌∷◌, [], ◌↔◌, IsTrue, MatchResult, is_some};
 ghost use Rattle.tm_parser.specs.Parses.{Parses, TakesFirst, TakesSign};
 ghost use Rattle.tm_parser.specs.Grammar.{is, a_name, a_constant, comma, ends_part, ends_target, is_comma, keyword_start, link};
-ghost use Rattle.tm_parser.specs.Grammar.{target_comma};
+ghost use Rattle.tm_parser.specs.Grammar.{a_test_word, bare, is_kept, target_comma};
 ghost use Rattle.tm_parser.specs.Levels.{GoesOnAt, prefix_up_to};
 ghost use Rattle.tm_parser.specs.Looks.{starts};
 ghost use Rattle.tm_parser.specs.Statements.{a_start, ends_iterated, is_tag, is_word, iterated_comma, lone, same_name};
@@ -12,9 +12,12 @@ ghost use Rattle.tm_syntax.specs.declared.token.Sign.TheVariants as sign;
 
 use crate::tables::{
     Link, POSTFIX_LEVEL, Start, constant_of, link_of, negated_link_of, prefix_of, start_of,
+    test_word,
 };
+use sqlite_items::Boxed;
+use std::alloc::Global;
 use std::marker::Model;
-use tm_syntax::{Name, Sign, Tag, Token, UnaryOperator};
+use tm_syntax::{Expr, Name, Sign, Tag, Token, UnaryOperator};
 use tm_values::{Error, ErrorKind, Value};
 
 /// The tokens that are left. A contract sees them as a list.
@@ -41,6 +44,13 @@ pub fn refusal() -> Error
     ensures { result ≡ ErrorKind.SyntaxError ∷ [] }
 {
     Error::from(ErrorKind::SyntaxError)
+}
+
+/// Whether a name is a word that may stand behind a value in a tag.
+fn is_kept(name: &Name) -> bool
+    ensures { result ≡ is_kept name.now }
+{
+    name.is("recursive") || name.is("ignore") || name.is("as") || name.is("import")
 }
 
 // What the methods that take answer: whether what they look for stood first.
@@ -249,6 +259,49 @@ impl<'t> Cursor<'t> {
         };
         self.rest = &self.rest[1..];
         Ok(Some(value))
+    }
+
+    /// Takes a reserved word that names a test, and answers it as a name. OutOfMemory where there is
+    /// no memory for that.
+    pub fn take_test_word(&mut self, alloc: Global) -> Result<Option<Name>, Error>
+        ensures { MatchResult result
+            (λ name. TakesFirst name self.old self.new (first_sees a_test_word self.old))
+            (λ e. e ≡ ErrorKind.OutOfMemory ∷ []) }
+    {
+        let name = match self.rest {
+            [Token::Sign(sign), ..] => match test_word(*sign) {
+                Some(word) => Name::new(alloc, word)?,
+                None => return Ok(None),
+            },
+            _ => return Ok(None),
+        };
+        self.rest = &self.rest[1..];
+        Ok(Some(name))
+    }
+
+    /// Takes what a test may be passed without brackets, as an expression. OutOfMemory where there is
+    /// no memory for that.
+    pub fn take_bare(&mut self, alloc: Global) -> Result<Option<Boxed<Expr>>, Error>
+        ensures { MatchResult result
+            (λ expr. TakesFirst expr self.old self.new (first_sees bare self.old))
+            (λ e. e ≡ ErrorKind.OutOfMemory ∷ []) }
+    {
+        let expr = match self.rest {
+            [Token::Name(name), ..] => {
+                if is_kept(name) {
+                    return Ok(None);
+                }
+                Boxed::new(alloc, Expr::Var(name.share()?))?
+            }
+            [Token::Literal(value), ..] => Boxed::new(alloc, Expr::Const(value.share()?))?,
+            [Token::Sign(sign), ..] => match constant_of(*sign) {
+                Some(value) => Boxed::new(alloc, Expr::Const(value))?,
+                None => return Ok(None),
+            },
+            _ => return Ok(None),
+        };
+        self.rest = &self.rest[1..];
+        Ok(Some(expr))
     }
 
     /// Takes what goes on with a value at this level: a sign, or `not` and one.

@@ -16,7 +16,7 @@ use crate::cursor::{Cursor, refusal};
 use crate::tables::{Link, OR_LEVEL, POSTFIX_LEVEL};
 use sqlite_items::{Boxed, Items};
 use std::alloc::Global;
-use tm_syntax::{BinaryOperator, Comparison, Condition, Expr, Sign, Step, UnaryOperator};
+use tm_syntax::{Application, BinaryOperator, Comparison, Condition, Expr, Sign, Step, UnaryOperator};
 use tm_values::{Error, Value};
 
 /// What an operand begins with, before the operators of its levels.
@@ -229,6 +229,8 @@ impl Cursor<'_> {
         match link {
             Link::Member => self.named_step(alloc, depth),
             Link::Item => self.subscript(alloc, depth),
+            Link::Filter => self.filter_step(alloc, depth),
+            Link::Test => self.test_step(alloc, depth),
             Link::Operator(operator) => self.operation(alloc, depth, level, operator),
             Link::Comparison(operator) => self.comparison(alloc, depth, level, operator),
             Link::And => self.conjunction(alloc, depth, level),
@@ -249,7 +251,12 @@ impl Cursor<'_> {
         }
         self.room(depth)?;
         let given = self.all_passed(alloc, depth)?;
-        Ok(Step::Method(name, given.by_place, given.by_name))
+        Ok(Step::Apply(
+            Application::Method,
+            name,
+            given.by_place,
+            given.by_name,
+        ))
     }
 
     /// The item or slice in square brackets, and their end.

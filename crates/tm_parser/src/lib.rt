@@ -1,6 +1,7 @@
 //! From the tokens of a template to its tree.
 #![tactic(auto)]
 
+mod applications;
 mod blocks;
 mod cursor;
 mod expressions;

@@ -15,7 +15,7 @@ use crate::tables::Start;
 use crate::targets::LoopHead;
 use sqlite_items::{Boxed, Items};
 use std::alloc::Global;
-use tm_syntax::{Argument, AssignmentTarget, Expr, ForLoop, Sign, Step, Stmt, Tag};
+use tm_syntax::{Application, Argument, AssignmentTarget, Expr, ForLoop, Sign, Step, Stmt, Tag};
 use tm_values::Error;
 
 // Each method reads one rule, with `depth` nestings to go, and where `looping` with a loop around
@@ -448,7 +448,7 @@ fn is_method(step: &Step) -> bool
     ensures { result ≡ spec.is_method step.now }
 {
     match step {
-        Step::Method(_, _, _) => true,
+        Step::Apply(Application::Method, _, _, _) => true,
         _ => false,
     }
 }

@@ -1,5 +1,5 @@
 //! What a sign or a tag begins: the tables of the grammar.
-ghost use Rattle.std.specs.Prelude.{◌≡◌};
+ghost use Rattle.std.specs.Prelude.{◌≡◌, MatchOption, Some, None};
 ghost use Rattle.tm_parser.specs.Grammar as grammar;
 ghost use Rattle.tm_parser.specs.Statements as statements;
 
@@ -13,6 +13,10 @@ pub enum Link {
     Member,
     /// By what stands in square brackets.
     Item,
+    /// By a filter.
+    Filter,
+    /// By a test.
+    Test,
     /// By the right side of an operator.
     Operator(BinaryOperator),
     /// By the right side of a comparison.
@@ -75,6 +79,8 @@ pub fn link_of(sign: Sign) -> Option<(u8, Link)>
     Some(match sign {
         Sign::Dot => (POSTFIX_LEVEL, Link::Member),
         Sign::OpenSquare => (POSTFIX_LEVEL, Link::Item),
+        Sign::Bar => (POSTFIX_LEVEL, Link::Filter),
+        Sign::Is => (POSTFIX_LEVEL, Link::Test),
         Sign::DoubleStar => (POWER_LEVEL, Link::Operator(BinaryOperator::Power)),
         Sign::Star => (PRODUCT_LEVEL, Link::Operator(BinaryOperator::Multiply)),
         Sign::Slash => (PRODUCT_LEVEL, Link::Operator(BinaryOperator::Divide)),
@@ -115,7 +121,6 @@ pub fn link_of(sign: Sign) -> Option<(u8, Link)>
         | Sign::Not
         | Sign::If
         | Sign::Else
-        | Sign::Is
         | Sign::True
         | Sign::False
         | Sign::None => return None,
@@ -150,6 +155,7 @@ pub fn negated_link_of(sign: Sign) -> Option<(u8, Link)>
         | Sign::Plus
         | Sign::Minus
         | Sign::Tilde
+        | Sign::Bar
         | Sign::Star
         | Sign::Slash
         | Sign::DoubleSlash
@@ -195,6 +201,7 @@ pub fn prefix_of(sign: Sign) -> Option<(u8, UnaryOperator)>
         | Sign::GreaterOrEqual
         | Sign::Plus
         | Sign::Tilde
+        | Sign::Bar
         | Sign::Star
         | Sign::Slash
         | Sign::DoubleSlash
@@ -242,6 +249,7 @@ pub fn constant_of(sign: Sign) -> Option<Value>
         | Sign::Plus
         | Sign::Minus
         | Sign::Tilde
+        | Sign::Bar
         | Sign::Star
         | Sign::Slash
         | Sign::DoubleSlash
@@ -254,6 +262,53 @@ pub fn constant_of(sign: Sign) -> Option<Value>
         | Sign::Else
         | Sign::In
         | Sign::Is => return None,
+    })
+}
+
+/// The reserved word that names a test, `not` aside.
+pub fn test_word(sign: Sign) -> Option<&'static str>
+    ensures { MatchOption result (grammar.test_word sign ≡ None)
+        (λ word. grammar.test_word sign ≡ Some word.now) }
+{
+    Some(match sign {
+        Sign::And => "and",
+        Sign::Or => "or",
+        Sign::If => "if",
+        Sign::Else => "else",
+        Sign::In => "in",
+        Sign::Is => "is",
+        Sign::True => "true",
+        Sign::False => "false",
+        Sign::None => "none",
+        Sign::VariableStart
+        | Sign::VariableEnd
+        | Sign::BlockEnd
+        | Sign::OpenRound
+        | Sign::CloseRound
+        | Sign::OpenSquare
+        | Sign::CloseSquare
+        | Sign::OpenCurly
+        | Sign::CloseCurly
+        | Sign::Comma
+        | Sign::Dot
+        | Sign::Colon
+        | Sign::Assign
+        | Sign::Equal
+        | Sign::NotEqual
+        | Sign::Less
+        | Sign::LessOrEqual
+        | Sign::Greater
+        | Sign::GreaterOrEqual
+        | Sign::Plus
+        | Sign::Minus
+        | Sign::Tilde
+        | Sign::Bar
+        | Sign::Star
+        | Sign::Slash
+        | Sign::DoubleSlash
+        | Sign::Percent
+        | Sign::DoubleStar
+        | Sign::Not => return None,
     })
 }
 

@@ -21,7 +21,8 @@ marks =
     (codes "**", sign.DoubleStar) ∷ (codes "*", sign.Star) ∷ (codes "//", sign.DoubleSlash) ∷ (codes "/", sign.Slash)
     ∷ (codes "<=", sign.LessOrEqual) ∷ (codes "<", sign.Less) ∷ (codes ">=", sign.GreaterOrEqual) ∷ (codes ">", sign.Greater)
     ∷ (codes "==", sign.Equal) ∷ (codes "=", sign.Assign) ∷ (codes "!=", sign.NotEqual) ∷ (codes "+", sign.Plus) ∷ (codes "-", sign.Minus)
-    ∷ (codes "~", sign.Tilde) ∷ (codes "%", sign.Percent) ∷ (codes "(", sign.OpenRound) ∷ (codes ")", sign.CloseRound)
+    ∷ (codes "~", sign.Tilde) ∷ (codes "|", sign.Bar) ∷ (codes "%", sign.Percent)
+    ∷ (codes "(", sign.OpenRound) ∷ (codes ")", sign.CloseRound)
     ∷ (codes "[", sign.OpenSquare) ∷ (codes "]", sign.CloseSquare) ∷ (codes "{", sign.OpenCurly) ∷ (codes "}", sign.CloseCurly)
     ∷ (codes ",", sign.Comma) ∷ (codes ".", sign.Dot) ∷ (codes ":", sign.Colon) ∷ []
 

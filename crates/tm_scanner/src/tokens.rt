@@ -50,6 +50,7 @@ fn mark(text: &str) -> Option<(Sign, &str)>
         b'+' => Some((Sign::Plus, rest)),
         b'-' => Some((Sign::Minus, rest)),
         b'~' => Some((Sign::Tilde, rest)),
+        b'|' => Some((Sign::Bar, rest)),
         b'%' => Some((Sign::Percent, rest)),
         b'=' => Some(longer(rest, "=", Sign::Equal, Sign::Assign)),
         b'!' => Some((Sign::NotEqual, strip(rest, "=")?)),
@@ -147,6 +148,7 @@ fn depth_behind(token: &Token, depth: usize) -> Option<usize>
             | Sign::Plus
             | Sign::Minus
             | Sign::Tilde
+            | Sign::Bar
             | Sign::Star
             | Sign::Slash
             | Sign::DoubleSlash

@@ -50,6 +50,8 @@ pub enum Sign {
     Minus,
     /// `~`
     Tilde,
+    /// `|`
+    Bar,
     /// `*`
     Star,
     /// `/`

@@ -68,6 +68,21 @@ decreases-slice l = nesting_room * l.depth + 3
 abbrev pub decreases-named_step : goal.decreases-named_step
 decreases-named_step l = nesting_room * l.depth + 5
 
+abbrev pub decreases-given : goal.decreases-given
+decreases-given l = nesting_room * l.depth + 5
+
+abbrev pub decreases-filter_step : goal.decreases-filter_step
+decreases-filter_step l = nesting_room * l.depth + 6
+
+abbrev pub decreases-passed_to_test : goal.decreases-passed_to_test
+decreases-passed_to_test l = nesting_room * l.depth + 6
+
+abbrev pub decreases-tested : goal.decreases-tested
+decreases-tested l = nesting_room * l.depth + 7
+
+abbrev pub decreases-test_step : goal.decreases-test_step
+decreases-test_step l = nesting_room * l.depth + 8
+
 abbrev pub decreases-subscript : goal.decreases-subscript
 decreases-subscript l = nesting_room * l.depth + 4
 
