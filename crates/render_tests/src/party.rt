@@ -103,11 +103,42 @@ static FUNCTIONS: &[(&str, Party)] = &[
     ("hungry", Party::Faulty(ErrorKind::OutOfMemory)),
 ];
 
+static FILTERS: &[(&str, Party)] = &[
+    ("f", Party::Last),
+    ("second", Party::Second),
+    ("my.second", Party::Second),
+    ("gone", Party::Second),
+    ("keep", Party::Keeper),
+    ("missing", Party::Faulty(ErrorKind::MissingArgument)),
+];
+
+static TESTS: &[(&str, Party)] = &[
+    ("in", Party::Last),
+    ("second", Party::Second),
+    ("my.second", Party::Second),
+    ("gone", Party::Second),
+    ("missing", Party::Faulty(ErrorKind::MissingArgument)),
+];
+
 /// Adds the functions of the rows.
-pub(crate) fn add_functions(environment: &mut Rows<'_>) -> Result<(), Error> {
+fn add_functions(environment: &mut Rows<'_>) -> Result<(), Error> {
     for &(name, party) in FUNCTIONS {
         environment.add_function(name, party)?;
     }
+    Ok(())
+}
+
+/// Adds the functions, filters and tests of the rows.
+pub(crate) fn add_objects(environment: &mut Rows<'_>) -> Result<(), Error> {
+    add_functions(environment)?;
+    for &(name, party) in FILTERS {
+        environment.add_filter(name, party)?;
+    }
+    for &(name, party) in TESTS {
+        environment.add_test(name, party)?;
+    }
+    environment.remove_filter("gone");
+    environment.remove_test("gone");
     Ok(())
 }
 

@@ -67,6 +67,39 @@ pub(crate) const CALLS: &str = r#"Functions of the language and of the caller.
 - {% if %} =>  => SyntaxError
 - {{ 1_ }} =>  => SyntaxError"#;
 
+/// Filters and tests of the caller.
+pub(crate) const FILTERS: &str = r#"Filters and tests of the caller.
+- {{ 1|second("b") }} => b => 4
+- {{ 1|my . second(2)|f }} => 2 => 5
+- {{ 1|f(2, k=3) }} => {"k": 3} => 7
+- {{ [1, 2]|f[0] }} => 1 => 7
+- {{ -2|second(3) ** 2 }} => 9 => 7
+- {{ 1|nope }} =>  => UnknownFilter
+- a{{ 1|gone }} => a => UnknownFilter
+- a{{ 1|missing }} => a => MissingArgument
+- {{ 1|keep }}{{ read() }} => 21 => 5 => keeps k
+- {{ 6 is second 0 }} => false => 4
+- {{ 6 is second(4) or 1 }} => true => 5
+- {{ 6 is my.second "x" }} => true => 4
+- {{ 1 is not second 0 }} => true => 5
+- {{ not 6 is second 3 }} => false => 5
+- {{ 1 is in }} => true => 3
+- {{ 1 is in [1] }} =>  => 5
+- {{ 1 is second none }} => false => 4
+- {{ 1 is nope }} =>  => UnknownTest
+- {{ 1 is not nope }} =>  => UnknownTest
+- {{ 1 is gone }} =>  => UnknownTest
+- {{ 1 is missing }} =>  => MissingArgument
+- {% for x in [1, 0, 2] if x is in %}{{ x }}{% endfor %} => 12 => 42
+- {% if w is not in %}x{% endif %} =>  => 4
+- {% do "a"|f %} =>  => SyntaxError
+- {{ 1| }} =>  => SyntaxError
+- {{ 1|f. }} =>  => SyntaxError
+- {{ 1|in }} =>  => SyntaxError
+- {{ 1 is }} =>  => SyntaxError
+- {{ 1 is not not }} =>  => SyntaxError
+- {{ 1 is in in [1] }} => true => 6"#;
+
 /// Operators, conditions and literals.
 pub(crate) const EXPRESSIONS: &str = r#"Operators, conditions and literals.
 - {{ 2 ** 3 ** 2 }} => 64 => 6

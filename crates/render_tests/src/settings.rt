@@ -1,6 +1,6 @@
 //! Tables of rows, with settings between them.
 
-use crate::party::{Party, Rows, add_functions};
+use crate::party::{Party, Rows, add_objects};
 use crate::renders::{Given, Setup, are, expect_row, row_of, usual};
 use crate::{bounds, loops, rows, values};
 use std::alloc::Global;
@@ -149,9 +149,10 @@ fn expect_table<'source>(
     Ok(())
 }
 
-static TABLES: [&str; 20] = [
+static TABLES: [&str; 21] = [
     rows::TEXTS,
     rows::CALLS,
+    rows::FILTERS,
     rows::EXPRESSIONS,
     rows::SCOPES,
     loops::LOOPS,
@@ -174,7 +175,7 @@ static TABLES: [&str; 20] = [
 
 /// Renders all tables. A setting holds until the next one, also in the tables behind its own.
 fn expect_tables(alloc: Global, environment: &mut Rows<'_>) -> Result<(), Fail> {
-    add_functions(environment)?;
+    add_objects(environment)?;
     for table in TABLES {
         expect_table(alloc, environment, table)?;
     }

@@ -31,8 +31,22 @@ fn works_on(captured: &mut CapturedOf<Left<'_>>) -> Result<bool, Error> {
     Ok(before.is_none() && kept(captured.state()) == Some(3) && captured.output().is_empty())
 }
 
-/// Whether the state of a render keeps what it is given, also apart from the text.
-fn keeps_the_last(template: &Page<'_, '_>) -> Result<bool, Error> {
+/// Whether a state has the filter and the test `second`, and no others.
+fn applies(alloc: Global, state: &mut Left<'_>) -> Result<bool, Error> {
+    let mut values = Vec::new(alloc);
+    values.push(Value::number(1))?;
+    values.push(Value::number(0))?;
+    let filtered = state.apply_filter("second", &values)?;
+    let holds = state.perform_test("second", &values)?;
+    let unknown = match state.apply_filter("no", &values) {
+        Ok(_) => false,
+        Err(error) => error.kind() == ErrorKind::UnknownFilter,
+    };
+    Ok(filtered.as_whole() == Some(0) && !holds && unknown)
+}
+
+/// Whether the state of a render keeps what it is given, also apart from the text, and filters.
+fn keeps_the_last(alloc: Global, template: &Page<'_, '_>) -> Result<bool, Error> {
     let mut ids = StateIds::new();
     let mut captured = template.render_captured_to(&mut ids, Value::undefined(), &mut NullWriter)?;
     if !works_on(&mut captured)? {
@@ -40,7 +54,8 @@ fn keeps_the_last(template: &Page<'_, '_>) -> Result<bool, Error> {
     }
     let (output, mut state) = captured.into_parts();
     let before = replaced(&mut state, 2)?;
-    Ok(output.is_empty() && before == Some(3) && kept(&state) == Some(2))
+    let applies = applies(alloc, &mut state)?;
+    Ok(output.is_empty() && before == Some(3) && kept(&state) == Some(2) && applies)
 }
 
 /// Whether a template that was given no name has the usual one, and renders its source.
@@ -57,20 +72,22 @@ fn renders_at_once(environment: &Rows<'_>) -> Result<bool, Error> {
     Ok(named.as_str() == "named" && unnamed.as_str() == "<string>")
 }
 
-fn renders_otherwise(environment: &Rows<'_>) -> Result<bool, Error> {
+fn renders_otherwise(alloc: Global, environment: &Rows<'_>) -> Result<bool, Error> {
     let template = environment.template_from_str("x")?;
-    Ok(is_unnamed(&template)? && keeps_the_last(&template)?)
+    Ok(is_unnamed(&template)? && keeps_the_last(alloc, &template)?)
 }
 
-fn is_well(environment: &mut Rows<'_>) -> Result<bool, Error> {
+fn is_well(alloc: Global, environment: &mut Rows<'_>) -> Result<bool, Error> {
     environment.add_function("title", Party::Title)?;
-    Ok(renders_at_once(environment)? && renders_otherwise(environment)?)
+    environment.add_filter("second", Party::Second)?;
+    environment.add_test("second", Party::Second)?;
+    Ok(renders_at_once(environment)? && renders_otherwise(alloc, environment)?)
 }
 
 #[test]
 fn states_keep(rt: HostRuntime) -> Result<(), Fail> {
     let mut environment = Rows::new(rt.alloc())?;
-    assert!(rt; is_well(&mut environment)?);
+    assert!(rt; is_well(rt.alloc(), &mut environment)?);
     Ok(())
 }
 

@@ -33,6 +33,10 @@ pub record CapturedValue (S : Type 0) : Type 0 where
 abbrev pub with_temp : {O : Type 0} → List ℕ → Val → StateValue O → StateValue O
 with_temp x value s = record s { world = record s.world { temps = put x value s.world.temps } }
 
+-- the state, with another world
+abbrev pub with_world : {O : Type 0} → World → StateValue O → StateValue O
+with_world w s = record s { world = w }
+
 -- the greatest u64: a counter of state ids that stands there is full, and a count of failures stays there
 abbrev pub greatest : ℕ
 greatest = 2 ^ 64 - 1

@@ -6,9 +6,11 @@ ghost use Rattle.tm_syntax.specs.Named.{find, name_cmp, texts_of};
 ghost use Rattle.tm_values.specs.Answer.{IsAnswer, IsLent, OkOrOutOfMemory};
 ghost use Rattle.tm_meaning.specs.World.{find_name, fuel_levels, name_of, records_of, view_of};
 ghost use Rattle.tm_tables.specs.Known.{AreFound, NamingFails};
+ghost use Rattle.tm_meaning.specs.Calls.{apply_filter, perform_test};
+ghost use Rattle.tm_state.specs.Answers.{Comes, Tests};
 ghost use Rattle.tm_state.specs.State.{exported};
 ghost use Rattle.template_machine.specs.Environment.{host_of};
-ghost use Rattle.template_machine.specs.Renders.{with_temp};
+ghost use Rattle.template_machine.specs.Renders.{with_temp, with_world};
 
 use crate::rendering::Rendering;
 use std::marker::Model;
@@ -116,6 +118,34 @@ impl<'env, O: Parties> StateOf<'env, O> {
     {
         let hashed = Name::new(self.rendering.allocator(), name)?;
         self.kept.lookup(&self.rendering, &hashed)
+    }
+
+    /// What the filter of a name gives for these values, the first of which is the one that is filtered; what it
+    /// keeps is kept, also where it answers a fault. The name is looked up as it is: UnknownFilter where there is
+    /// none, and the filter's fault.
+    pub fn apply_filter(&mut self, name: &str, args: &[Value]) -> Result<Value, Error>
+        ensures called { Comes result
+            (apply_filter (host_of O.stated self.old.template) name.now args.now self.old.world)
+            self.new.world }
+        ensures rest { self.new ≡ with_world
+            (record self.old.world { temps = self.new.world.temps }) self.old }
+    {
+        let alloc = self.rendering.allocator();
+        self.kept.apply_filter(alloc, &self.rendering, name, args)
+    }
+
+    /// Whether what the test of a name answers to these values is true, the first of which is the one that is
+    /// tested; what it keeps is kept, also where it answers a fault. The name is looked up as it is: UnknownTest
+    /// where there is none, and the test's fault.
+    pub fn perform_test(&mut self, name: &str, args: &[Value]) -> Result<bool, Error>
+        ensures called { Tests result
+            (perform_test (host_of O.stated self.old.template) name.now args.now self.old.world)
+            self.new.world }
+        ensures rest { self.new ≡ with_world
+            (record self.old.world { temps = self.new.world.temps }) self.old }
+    {
+        let alloc = self.rendering.allocator();
+        self.kept.perform_test(alloc, &self.rendering, name, args)
     }
 
     /// The names that a look-up finds, of the scopes and of the globals, each once, in their order.

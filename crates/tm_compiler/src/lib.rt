@@ -8,6 +8,6 @@ pub use source::{one_tree, parse};
 pub use streams::{Streams, generate};
 pub use tm_scanner::{SyntaxConfig, SyntaxConfigBuilder};
 pub use tm_syntax::{
-    Argument, BinaryOperator, Code, Comparison, Condition, Expr, ForLoop, Instruction, Keyword,
-    Name, NameMap, Pair, RawText, Step, Stmt, Tree, UnaryOperator,
+    Application, Argument, BinaryOperator, Code, Comparison, Condition, Expr, ForLoop, Instruction,
+    Keyword, Name, NameMap, Pair, RawText, Step, Stmt, Tree, UnaryOperator,
 };

@@ -23,12 +23,7 @@ impl Cursor<'_> {
     {
         let name = self.dotted(alloc)?;
         let given = self.given(alloc, depth)?;
-        Ok(Step::Apply(
-            Application::Filter,
-            name,
-            given.by_place,
-            given.by_name,
-        ))
+        Ok(Step::Apply(Application::Filter, name, given.by_place, given.by_name))
     }
 
     /// A test, or `not` and a test, and its arguments behind the value.
@@ -47,22 +42,12 @@ impl Cursor<'_> {
     /// The name of a test, and its arguments behind the value.
     #[cycle(expressions)]
     #[tactic(auto, unfolding(crate::specs::Grammar::tested))]
-    fn tested(
-        &mut self,
-        alloc: Global,
-        depth: u8,
-        application: Application,
-    ) -> Result<Step, Error>
+    fn tested(&mut self, alloc: Global, depth: u8, application: Application) -> Result<Step, Error>
         ensures { Parses result self.new ((tested (inside depth) application).reads self.old) }
     {
         let name = self.test_name(alloc)?;
         let given = self.passed_to_test(alloc, depth)?;
-        Ok(Step::Apply(
-            application,
-            name,
-            given.by_place,
-            given.by_name,
-        ))
+        Ok(Step::Apply(application, name, given.by_place, given.by_name))
     }
 
     /// What a test is passed: a name or a literal without brackets, or the arguments in brackets.

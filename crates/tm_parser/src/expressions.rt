@@ -16,7 +16,9 @@ use crate::cursor::{Cursor, refusal};
 use crate::tables::{Link, OR_LEVEL, POSTFIX_LEVEL};
 use sqlite_items::{Boxed, Items};
 use std::alloc::Global;
-use tm_syntax::{Application, BinaryOperator, Comparison, Condition, Expr, Sign, Step, UnaryOperator};
+use tm_syntax::{
+    Application, BinaryOperator, Comparison, Condition, Expr, Sign, Step, UnaryOperator,
+};
 use tm_values::{Error, Value};
 
 /// What an operand begins with, before the operators of its levels.
@@ -251,12 +253,7 @@ impl Cursor<'_> {
         }
         self.room(depth)?;
         let given = self.all_passed(alloc, depth)?;
-        Ok(Step::Apply(
-            Application::Method,
-            name,
-            given.by_place,
-            given.by_name,
-        ))
+        Ok(Step::Apply(Application::Method, name, given.by_place, given.by_name))
     }
 
     /// The item or slice in square brackets, and their end.
