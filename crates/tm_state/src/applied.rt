@@ -1,4 +1,5 @@
 //! What values give that are passed to what a name stands for: a method, a filter or a test.
+ghost use Rattle.std.specs.Prelude.{◌≡◌};
 ghost use Rattle.tm_meaning.specs.Calls.{applied, apply_filter, call_first, perform_test};
 ghost use Rattle.tm_state.specs.Answers.{Answers, Comes, Tests, object_called};
 ghost use Rattle.tm_syntax.specs.Named.{find};
