@@ -40,5 +40,5 @@ refused_truth chain reply asked x w c d = λ m. ap as_truth (taken (Err chain) r
 -- an object of a name answered
 pub named : (host : HostValue) (found : Option Object) (answer : Stated) (kind : ErrorKind) (args : List Val) (w : World) →
     IsNamedAnswer (Some answer) found args (view_of host w) → Answers (Ok answer) (object_called host found kind args w) w
-named host found answer kind args w (f, (there, stated)) = λ m.
+named host found answer kind args w (f, there, stated) = λ m.
     rw (there, stated m) refl
