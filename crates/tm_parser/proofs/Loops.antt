@@ -1,5 +1,5 @@
 -- What a loop that reads one thing after another has still to read.
-use Rattle.std.proofs.Common.{◌≡◌, ◌<◌, List, length, None, inl, inr, sym, ◌∙◌, ap, arith}
+use Rattle.std.proofs.Common.{◌≡◌, ℕ, ◌<◌, List, length, None, inl, inr, sym, ◌∙◌, ap, arith}
 use Rattle.tm_values.specs.declared.error.ErrorKind.{ErrorKind}
 use Rattle.tm_syntax.specs.declared.token.Token.{Token}
 use Rattle.tm_syntax.specs.declared.token.Sign.{Sign}
