@@ -7,7 +7,9 @@ ghost use Rattle.tm_values.specs.Answer.{IsAnswer};
 use std::alloc::Global;
 use tm_primitives::characters;
 use tm_primitives::places::Places;
-use tm_values::{Error, ErrorKind, Node, SharedText, UndefinedBehavior, UndefinedUse, Value, check_defined};
+use tm_values::{
+    Error, ErrorKind, Node, SharedText, UndefinedBehavior, UndefinedUse, Value, check_defined,
+};
 
 /// The slice `value[start:stop:step]`: of a list its items, of a text its characters, which aren't
 /// safe, and of undefined and none the empty list. Parts are whole numbers, or none where they are
