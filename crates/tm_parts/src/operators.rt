@@ -59,7 +59,9 @@ pub fn binary<R: Records>(
         }
         BinaryOperator::Add => return add_to(alloc, left, right),
         BinaryOperator::Subtract => return subtract(alloc, &left, right),
-        BinaryOperator::Concatenate => return concatenate_to(alloc, left, right, records, undefined),
+        BinaryOperator::Concatenate => return concatenate_to(
+            alloc, left, right, records, undefined,
+        ),
         BinaryOperator::Multiply => return multiply(alloc, &left, right),
         BinaryOperator::Divide => return divide(alloc, &left, right),
         BinaryOperator::FloorDivide => return floor_divide(alloc, &left, right),
