@@ -167,9 +167,7 @@ pub(crate) fn literal(alloc: Global, quote: Quote, text: &str) -> Result<(Value,
         rest = behind;
     }
     match past_quote(quote, rest) {
-        Some(behind) => {
-            Ok((Value::text(alloc, &content)?, behind))
-        }
+        Some(behind) => { Ok((Value::text(alloc, &content)?, behind)) }
         None => Err(Error::from(ErrorKind::SyntaxError)),
     }
 }
