@@ -3,8 +3,7 @@ ghost use Rattle.std.specs.Prelude.{◌≡◌, false, IfOk};
 ghost use Rattle.tm_values.specs.Val.{text};
 
 use std::alloc::{AllocError, Global};
-use std::rc::RcStr;
-use tm_values::Value;
+use tm_values::{SharedText, Value};
 
 /// How many keys are kept.
 const PLACES: usize = 64;
@@ -12,16 +11,16 @@ const PLACES: usize = 64;
 /// The keys that were made last, each at the place that its hash gives.
 #[derive(Drop)]
 pub(crate) struct Keys {
-    kept: Vec<RcStr>,
+    kept: Vec<SharedText>,
 }
 
 impl Keys {
     /// The empty key at each place. Fails where there is no memory.
     pub(crate) fn new(alloc: Global) -> Result<Keys, AllocError> {
-        let empty = RcStr::from_str(alloc, "")?;
+        let empty = SharedText::from_str(alloc, "")?;
         let mut kept = Vec::with_capacity(alloc, PLACES)?;
         for _ in 0..PLACES {
-            kept.push(empty.clone()?)?;
+            kept.push(empty.share()?)?;
         }
         Ok(Keys { kept })
     }
@@ -34,12 +33,12 @@ impl Keys {
         let place = place_of(content);
         if let Some(kept) = self.kept.get(place) {
             if kept.as_str() == content {
-                return Ok(Value::shared_text(kept.clone()?, false));
+                return Ok(Value::shared_text(kept.share()?, false));
             }
         }
-        let key = RcStr::from_str(alloc, content)?;
+        let key = SharedText::from_str(alloc, content)?;
         if let Some(kept) = self.kept.get_mut(place) {
-            *kept = key.clone()?;
+            *kept = key.share()?;
         }
         Ok(Value::shared_text(key, false))
     }

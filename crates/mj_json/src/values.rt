@@ -10,8 +10,7 @@ use mj_words::Refusal;
 use serde_json::{Map, Value as Json};
 use std::alloc::Global;
 use std::mem;
-use std::rc::RcStr;
-use tm_values::{Error, Value, ValueMap};
+use tm_values::{Error, SharedText, Value, ValueMap};
 
 /// The value that JSON gives, whose texts are moved out of it. OutOfMemory where no memory was
 /// found, Usage where a float is in it.
@@ -73,7 +72,7 @@ fn text_of(alloc: Global, content: &mut String) -> Result<Value, Refusal>
         (λ e. e ≡ Refusal.OutOfMemory) }
 {
     let content = mem::replace(content, String::new(alloc));
-    Ok(Value::shared_text(RcStr::from_string(content)?, false))
+    Ok(Value::shared_text(SharedText::from_string(content)?, false))
 }
 
 /// The map of the pairs, whose keys ascend. OutOfMemory where no memory was found.

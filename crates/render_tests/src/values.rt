@@ -27,6 +27,8 @@ pub(crate) const OPERATIONS: &str = r#"Operations on values.
 - {{ -(7) }} => -7 => ok
 - {{ -true }} => -1 => ok
 - {{ [1] + [2] }} => [1, 2] => ok
+- {% set a = 'a' %}{{ a ~ 'x' ~ 'y' }}{{ a }}{{ a + 'x' + 'y' }}{{ a }} => axyaaxya => ok
+- {% set a = 'a' %}{% set b = a ~ 'x' %}{{ b ~ 'y' }}{{ b + a }}{{ b ~ b ~ b }}{{ a }} => axyaxaaxaxaxa => ok
 - {{ 1 + true }} => 2 => ok
 - {{ true + true }} => 2 => ok
 - {{ 1 + 'a' }} =>  => InvalidOperation
@@ -121,6 +123,7 @@ pub(crate) const OPERATIONS: &str = r#"Operations on values.
 - @name p.html
 - {% set s %}<b>{% endset %}{{ s[0] }}{{ s[::-1] }}{{ s + '<' }} => &lt;&gt;b&lt;&lt;b&gt;&lt; => ok
 - {% set s %}<a>{% endset %}{{ s ~ [1, 2] }}{{ u ~ s }} => &lt;a&gt;[1, 2]&lt;a&gt; => ok
+- {% set s %}<b>{% endset %}{{ s ~ '' }}{{ s + '' }}{{ s }} => &lt;b&gt;&lt;b&gt;<b> => ok
 - {% set s %}1{% endset %}{{ s == '1' }} => true => ok"#;
 
 /// Undefined operands under each behavior, from the loosest.

@@ -29,6 +29,6 @@ pub use tm_templates::{
     CompiledTemplate, EscapeSetting, Source, TemplateConfig, default_auto_escape_callback,
 };
 pub use tm_values::{
-    AutoEscape, Error, ErrorKind, LoopPosition, NoRecords, Records, UndefinedBehavior,
+    AutoEscape, Error, ErrorKind, LoopPosition, NoRecords, Records, SharedText, UndefinedBehavior,
     UndefinedUse, Value, ValueMap, check_defined,
 };

@@ -1,27 +1,44 @@
 //! Arithmetic.
-ghost use Rattle.std.specs.Prelude.{◌≡◌, ◌∷◌, [], MatchOption, string_bytes};
+ghost use Rattle.std.specs.Prelude.{◌≡◌, ◌∷◌, [], None, MatchOption};
 ghost use Rattle.tm_definitions.specs.Arithmetic.{both, number_answer, added, subtracted, multiplied, floor_divided, remaining, raised};
 ghost use Rattle.tm_definitions.specs.Arithmetic.{negated, divided, text_added, list_added};
 ghost use Rattle.tm_values.specs.Answer.{IsAnswer};
 ghost use Rattle.tm_values.specs.Val.{whole_in, text_in, list_in};
 
 use std::alloc::Global;
-use std::rc::RcStr;
 use tm_primitives::whole;
-use tm_values::{Error, ErrorKind, Node, Value, share_all};
+use tm_values::{Error, ErrorKind, Node, SharedText, Value, share_all};
 
 /// The sum of two numbers, truth values counted as 0 and 1; or two texts or two lists, one after
 /// another, not safe. InvalidOperation for other values and a sum out of range, or OutOfMemory.
 pub fn add(alloc: Global, left: &Value, right: &Value) -> Result<Value, Error>
     ensures { IsAnswer result (added left.now right.now) }
 {
-    match &left.node {
-        Node::Text(content, _) => add_text(alloc, content.as_str(), right),
-        Node::List(items, _) => add_list(alloc, items.as_slice(), right),
-        _ => match whole_operands(left, right) {
-            Some((a, b)) => number_or_invalid(alloc, whole::add(a, b)),
-            None => Err(not_numbers(alloc)),
-        },
+    add_to(alloc, left.share()?, right)
+}
+
+/// The same sum, for which the left value is used up: a text that has no other owner is added to in
+/// place.
+pub fn add_to(alloc: Global, left: Value, right: &Value) -> Result<Value, Error>
+    ensures { IsAnswer result (added left right.now) }
+{
+    match left.into_text() {
+        Ok((content, _safe)) => add_text(alloc, content, right),
+        Err(left) => add_others(alloc, &left, right),
+    }
+}
+
+// The sum, where the left value is no text.
+fn add_others(alloc: Global, left: &Value, right: &Value) -> Result<Value, Error>
+    requires { text_in left.now ≡ None }
+    ensures { IsAnswer result (added left.now right.now) }
+{
+    if let Node::List(items, _) = &left.node {
+        return add_list(alloc, items.as_slice(), right);
+    }
+    match whole_operands(left, right) {
+        Some((a, b)) => number_or_invalid(alloc, whole::add(a, b)),
+        None => Err(not_numbers(alloc)),
     }
 }
 
@@ -145,16 +162,14 @@ fn not_numbers(alloc: Global) -> Error
     )
 }
 
-fn add_text(alloc: Global, content: &str, right: &Value) -> Result<Value, Error>
-    ensures { IsAnswer result (text_added content.now (text_in right.now)) }
+fn add_text(alloc: Global, mut content: SharedText, right: &Value) -> Result<Value, Error>
+    ensures { IsAnswer result (text_added content (text_in right.now)) }
 {
     let Some(behind) = right.as_str() else {
         return Err(not_numbers(alloc));
     };
-    let mut joined = String::with_capacity(alloc, content.len())?;
-    joined.push_str(content)?;
-    joined.push_str(behind)?;
-    Ok(Value::shared_text(RcStr::from_string(joined)?, false))
+    content.append(behind)?;
+    Ok(Value::shared_text(content, false))
 }
 
 fn add_list(alloc: Global, items: &[Value], right: &Value) -> Result<Value, Error>

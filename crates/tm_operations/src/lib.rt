@@ -13,7 +13,9 @@ mod ranges;
 mod rows;
 mod slices;
 
-pub use arithmetic::{add, divide, floor_divide, multiply, negate, power, remainder, subtract};
+pub use arithmetic::{
+    add, add_to, divide, floor_divide, multiply, negate, power, remainder, subtract,
+};
 pub use comparisons::compare;
 pub use condition::{is_true, truth};
 pub use containment::contains;

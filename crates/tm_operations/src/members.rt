@@ -152,7 +152,7 @@ fn text_list(alloc: Global, texts: &[RcStr]) -> Result<Value, Error>
 {
     let mut values = Vec::with_capacity(alloc, texts.len())?;
     for text in texts {
-        values.push(Value::shared_text(text.clone()?, false))?;
+        values.push(Value::text(alloc, text.as_str())?)?;
     }
     Value::list(alloc, values)
 }

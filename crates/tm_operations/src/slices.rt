@@ -5,10 +5,11 @@ ghost use Rattle.tm_primitives.specs.Places.{places_of};
 ghost use Rattle.tm_values.specs.Answer.{IsAnswer};
 
 use std::alloc::Global;
-use std::rc::RcStr;
 use tm_primitives::characters;
 use tm_primitives::places::Places;
-use tm_values::{Error, ErrorKind, Node, UndefinedBehavior, UndefinedUse, Value, check_defined};
+use tm_values::{
+    Error, ErrorKind, Node, SharedText, UndefinedBehavior, UndefinedUse, Value, check_defined,
+};
 
 /// The slice `value[start:stop:step]`: of a list its items, of a text its characters, which aren't
 /// safe, and of undefined and none the empty list. Parts are whole numbers, or none where they are
@@ -83,7 +84,7 @@ fn cut(
         Node::List(items, _) => cut_list(alloc, items.as_slice(), start, stop, step),
         Node::Text(content, _) => {
             let picked = characters::slice(alloc, content.as_str(), start, stop, step)?;
-            Ok(Value::shared_text(RcStr::from_string(picked)?, false))
+            Ok(Value::shared_text(SharedText::from_string(picked)?, false))
         }
         Node::Undefined(_) | Node::None => Value::list(alloc, Vec::new(alloc)),
         _ => Err(not_a_slice(alloc)),

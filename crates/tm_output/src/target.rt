@@ -4,13 +4,14 @@ ghost use Rattle.tm_output.specs.Targets.{Takes, Laws, Grows, GrowsInPart, IsTol
 ghost use Rattle.tm_output.specs.Laws.{string_laws, writer_laws};
 
 use crate::sink::{Sink, put_text};
+use tm_values::SharedText;
 
 /// That a target failed. Only one who holds the target knows why: a `String` found no memory, a
 /// writer failed or took nothing.
 #[derive(Clone, Copy, Debug, PartialEq, Eq)]
 pub struct TargetFailed;
 
-/// Whatever takes a text piece by piece: a `String`, a writer.
+/// Whatever takes a text piece by piece: a `String`, a shared text, a writer.
 pub trait Target {
     // What the target is after it took the whole text.
     ghost took: { Self → List ℕ → Self → Type 0 };
@@ -36,6 +37,19 @@ impl Target for String {
     }
 
     ghost laws = { string_laws string_bytes };
+}
+
+impl Target for SharedText {
+    ghost took = { λ old text new. Grows old text new };
+
+    ghost stopped = { λ old text new. GrowsInPart old text new };
+
+    /// Fails where there is no memory.
+    fn take_text(&mut self, text: &str) -> Result<(), TargetFailed> {
+        self.append(text).map_err(|_| TargetFailed)
+    }
+
+    ghost laws = { string_laws (λ bytes. bytes) };
 }
 
 impl<S: Sink> Target for S {

@@ -9,11 +9,11 @@ ghost use Rattle.tm_values.specs.declared.error.ErrorKind.TheVariants.{OutOfMemo
 
 use std::alloc::Global;
 use tm_operations::{
-    ComparisonOperator, add, compare, contains, divide, floor_divide, multiply, negate, power,
+    ComparisonOperator, add_to, compare, contains, divide, floor_divide, multiply, negate, power,
     remainder, subtract, truth,
 };
 use tm_primitives::whole;
-use tm_printing::concatenate;
+use tm_printing::concatenate_to;
 use tm_syntax::{BinaryOperator, UnaryOperator};
 use tm_values::{Error, Node, Records, UndefinedBehavior, Value};
 
@@ -32,17 +32,17 @@ pub fn unary(
     }
 }
 
-/// What an operator gives of two values, or why it gives nothing.
+/// What an operator gives of two values, or why it gives nothing. The left one is used up.
 pub fn binary<R: Records>(
     alloc: Global,
     operator: BinaryOperator,
-    left: &Value,
+    left: Value,
     right: &Value,
     records: &R,
     undefined: UndefinedBehavior,
 ) -> Result<Value, Error>
     ensures { IsAnswer result
-        (result_of operator undefined (R.records records.now) left.now right.now) }
+        (result_of operator undefined (R.records records.now) left right.now) }
 {
     let comparison = match operator {
         BinaryOperator::Equal => ComparisonOperator::Equal,
@@ -52,21 +52,23 @@ pub fn binary<R: Records>(
         BinaryOperator::Greater => ComparisonOperator::Greater,
         BinaryOperator::GreaterOrEqual => ComparisonOperator::GreaterOrEqual,
         BinaryOperator::In => {
-            return Ok(Value::boolean(contains(alloc, right, left, records, undefined)?));
+            return Ok(Value::boolean(contains(alloc, right, &left, records, undefined)?));
         }
         BinaryOperator::NotIn => {
-            return Ok(Value::boolean(!contains(alloc, right, left, records, undefined)?));
+            return Ok(Value::boolean(!contains(alloc, right, &left, records, undefined)?));
         }
-        BinaryOperator::Add => return add(alloc, left, right),
-        BinaryOperator::Subtract => return subtract(alloc, left, right),
-        BinaryOperator::Concatenate => return concatenate(alloc, left, right, records, undefined),
-        BinaryOperator::Multiply => return multiply(alloc, left, right),
-        BinaryOperator::Divide => return divide(alloc, left, right),
-        BinaryOperator::FloorDivide => return floor_divide(alloc, left, right),
-        BinaryOperator::Remainder => return remainder(alloc, left, right),
-        BinaryOperator::Power => return power(alloc, left, right),
+        BinaryOperator::Add => return add_to(alloc, left, right),
+        BinaryOperator::Subtract => return subtract(alloc, &left, right),
+        BinaryOperator::Concatenate => return concatenate_to(
+            alloc, left, right, records, undefined,
+        ),
+        BinaryOperator::Multiply => return multiply(alloc, &left, right),
+        BinaryOperator::Divide => return divide(alloc, &left, right),
+        BinaryOperator::FloorDivide => return floor_divide(alloc, &left, right),
+        BinaryOperator::Remainder => return remainder(alloc, &left, right),
+        BinaryOperator::Power => return power(alloc, &left, right),
     };
-    Ok(Value::boolean(compare(comparison, left, right, undefined)?))
+    Ok(Value::boolean(compare(comparison, &left, right, undefined)?))
 }
 
 /// What an operator gives of two numbers, where it needs no more than them.

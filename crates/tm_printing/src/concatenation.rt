@@ -1,5 +1,5 @@
 //! Printed texts, one after the other.
-ghost use Rattle.std.specs.Prelude.{◌≡◌, ◌++◌, ◌∷◌, [], OnOk, IfErr, MatchResult, string_bytes};
+ghost use Rattle.std.specs.Prelude.{◌≡◌, ◌++◌, ◌∷◌, [], OnOk, IfErr, MatchResult};
 ghost use Rattle.tm_definitions.specs.Concatenation.{joined, concatenated};
 ghost use Rattle.tm_definitions.specs.Printed.{printed};
 ghost use Rattle.tm_values.specs.Answer.{IsAnswer};
@@ -7,8 +7,9 @@ ghost use Rattle.tm_values.specs.Answer.{IsAnswer};
 use crate::check::check_print;
 use crate::printing::print;
 use std::alloc::Global;
-use std::rc::RcStr;
-use tm_values::{Error, ErrorKind, Records, UndefinedBehavior, UndefinedUse, Value, check_defined};
+use tm_values::{
+    Error, ErrorKind, Records, SharedText, UndefinedBehavior, UndefinedUse, Value, check_defined,
+};
 
 /// `left ~ right`: the two printed texts, one after the other, not safe. UndefinedError where a
 /// side is undefined and the behaviour refuses that; InvalidOperation where one can't be printed,
@@ -22,7 +23,21 @@ pub fn concatenate<R: Records>(
 ) -> Result<Value, Error>
     ensures { IsAnswer result (concatenated behavior (R.records records.now) left.now right.now) }
 {
-    if let Err(error) = check_defined(left, behavior, UndefinedUse::Comparison) {
+    concatenate_to(alloc, left.share()?, right, records, behavior)
+}
+
+/// The same text, for which the left value is used up: a text that has no other owner is added to in
+/// place.
+pub fn concatenate_to<R: Records>(
+    alloc: Global,
+    left: Value,
+    right: &Value,
+    records: &R,
+    behavior: UndefinedBehavior,
+) -> Result<Value, Error>
+    ensures { IsAnswer result (concatenated behavior (R.records records.now) left right.now) }
+{
+    if let Err(error) = check_defined(&left, behavior, UndefinedUse::Comparison) {
         return Err(error);
     }
     if let Err(error) = check_defined(right, behavior, UndefinedUse::Comparison) {
@@ -31,19 +46,33 @@ pub fn concatenate<R: Records>(
     join(alloc, left, right, records)
 }
 
-fn join<R: Records>(alloc: Global, left: &Value, right: &Value, records: &R) -> Result<Value, Error>
-    ensures { IsAnswer result (joined (R.records records.now) left.now right.now) }
+fn join<R: Records>(alloc: Global, left: Value, right: &Value, records: &R) -> Result<Value, Error>
+    ensures { IsAnswer result (joined (R.records records.now) left right.now) }
 {
-    if let Err(error) = check_print(alloc, left, records) {
+    if let Err(error) = check_print(alloc, &left, records) {
         return Err(error);
     }
     if let Err(error) = check_print(alloc, right, records) {
         return Err(error);
     }
-    let mut text = String::new(alloc);
-    print_behind(alloc, left, records, &mut text)?;
+    let mut text = into_printed(alloc, left, records)?;
     print_behind(alloc, right, records, &mut text)?;
-    Ok(Value::shared_text(RcStr::from_string(text)?, false))
+    Ok(Value::shared_text(text, false))
+}
+
+// The printed text; that of a text is its own.
+fn into_printed<R: Records>(alloc: Global, value: Value, records: &R) -> Result<SharedText, Error>
+    ensures { MatchResult result (λ text. text ≡ printed (R.records records.now) value)
+        (λ e. e ≡ ErrorKind.OutOfMemory ∷ []) }
+{
+    match value.into_text() {
+        Ok((content, _safe)) => Ok(content),
+        Err(value) => {
+            let mut text = SharedText::from_string(String::new(alloc))?;
+            print_behind(alloc, &value, records, &mut text)?;
+            Ok(text)
+        }
+    }
 }
 
 // Appends the printed text.
@@ -51,11 +80,10 @@ fn print_behind<R: Records>(
     alloc: Global,
     value: &Value,
     records: &R,
-    text: &mut String,
+    text: &mut SharedText,
 ) -> Result<(), Error>
     ensures { MatchResult result
-        (λ _. string_bytes text.new ≡
-        string_bytes text.old ++ printed (R.records records.now) value.now)
+        (λ _. text.new ≡ text.old ++ printed (R.records records.now) value.now)
         (λ e. e ≡ ErrorKind.OutOfMemory ∷ []) }
 {
     match print(alloc, value, records, text) {

@@ -6,7 +6,6 @@ ghost use Rattle.tm_delimiters.specs.Views.{Shortens, step_of, place_of};
 
 use memchr::memchr2;
 use std::alloc::Global;
-use std::rc::RcStr;
 use tm_delimiters::front::{ascii, strip};
 use tm_values::{Error, ErrorKind, Value};
 
@@ -168,10 +167,7 @@ pub(crate) fn literal(alloc: Global, quote: Quote, text: &str) -> Result<(Value,
         rest = behind;
     }
     match past_quote(quote, rest) {
-        Some(behind) => {
-            let content = RcStr::from_str(alloc, &content)?;
-            Ok((Value::shared_text(content, false), behind))
-        }
+        Some(behind) => { Ok((Value::text(alloc, &content)?, behind)) }
         None => Err(Error::from(ErrorKind::SyntaxError)),
     }
 }

@@ -1,6 +1,5 @@
 -- What a node stands for, and what holds of it.
 use Rattle.std.specs.Prelude.{◌≡◌, List, map as each}
-use Rattle.std.specs.Rc.{rc_str_bytes}
 use Rattle.tm_values.specs.Map.{IsMap}
 use Rattle.tm_values.specs.Plain.{vals_plain, pairs_plain}
 use Rattle.tm_values.specs.Val.{Val, undefined, none, boolean, number, text, list, map, keywords, exports, function, macro, loop, namespace}
@@ -13,11 +12,11 @@ node_view (node.Undefined silent) = undefined silent
 node_view node.None = none
 node_view (node.Boolean b) = boolean b
 node_view (node.Number z) = number z
-node_view (node.Text content safe) = text (rc_str_bytes content) safe
+node_view (node.Text content safe) = text content safe
 node_view (node.List items plain) = list (vals_of items.value.items)
 node_view (node.Map pairs plain) = map (pairs_of pairs.value.items)
 node_view (node.Keywords pairs plain) = keywords (pairs_of pairs.value.items)
-node_view (node.Exports pairs content) = exports (pairs_of pairs.value.items) (rc_str_bytes content)
+node_view (node.Exports pairs content) = exports (pairs_of pairs.value.items) content
 node_view (node.Function n) = function n
 node_view (node.Macro m) = macro m.value
 node_view (node.Loop state n) = loop state n

@@ -1,6 +1,5 @@
 //! Maps: one that is being made, and what a value has at a name.
 ghost use Rattle.std.specs.Prelude.{◌≡◌, [], ◌∷◌, ◌==◌, None, Some, true, false, length, IfOk, IfErr, MatchOption, MatchResult};
-ghost use Rattle.std.specs.Rc.{rc_str_bytes};
 ghost use Rattle.tm_values.specs.Answer.{OkOrOutOfMemory, IsLent};
 ghost use Rattle.tm_values.specs.Map.{put, put_all, find, member, IsMap, IsThere, IsGapFor, IsFoundWherePut, KeepsOtherKeys};
 ghost use Rattle.tm_values.specs.Order.{val_cmp};
@@ -8,11 +7,12 @@ ghost use Rattle.tm_values.specs.Val.{Val, text, map, keywords, exports, pairs_o
 
 use crate::error::{Error, ErrorKind};
 use crate::plain::pairs_plain;
+use crate::shared_text::SharedText;
 use crate::value::{Node, Value};
 use std::alloc::Global;
 use std::cmp::Ordering;
 use std::marker::Model;
-use std::rc::{Rc, RcStr};
+use std::rc::Rc;
 
 /// A map that is being made. A contract sees it as its pairs, whose keys ascend.
 #[derive(Drop)]
@@ -142,9 +142,9 @@ impl Value {
     }
 
     /// The module that exports these pairs and wrote this text. Fails by OutOfMemory alone.
-    pub fn module(alloc: Global, entries: ValueMap, content: RcStr) -> Result<Value, Error>
+    pub fn module(alloc: Global, entries: ValueMap, content: SharedText) -> Result<Value, Error>
         ensures { OkOrOutOfMemory result
-            (λ v. v ≡ exports (pairs_of entries) (rc_str_bytes content)) }
+            (λ v. v ≡ exports (pairs_of entries) content) }
     {
         let ValueMap { pairs } = entries;
         Ok(Value {

@@ -1,6 +1,5 @@
 //! Values. A contract sees plain data; what is shared never shows.
 ghost use Rattle.std.specs.Prelude.{◌≡◌, ◌<◌, [], ◌∷◌, List, Some, None, true, false, IfOk, MatchResult, MatchOption, string_bytes};
-ghost use Rattle.std.specs.Rc.{rc_str_bytes};
 ghost use Rattle.tm_values.specs.Map.{IsMap};
 ghost use Rattle.tm_values.specs.Order.{rank, bytes_in, whole_or_zero};
 ghost use Rattle.tm_values.specs.Answer.{OkOrOutOfMemory, IsLent};
@@ -13,9 +12,10 @@ use crate::dropping::{Held, drop_owner};
 use crate::error::Error;
 use crate::macros::Macro;
 use crate::plain::{Plain, values_plain};
+use crate::shared_text::SharedText;
 use std::alloc::Global;
 use std::marker::Model;
-use std::rc::{Rc, RcStr};
+use std::rc::Rc;
 
 /// A value. Its contents are shared: a second owner costs no memory, whatever the size.
 #[cycle(value)]
@@ -37,7 +37,7 @@ pub enum Node {
     /// A whole number.
     Number(i128),
     /// A text, and whether it is safe: no escape changes it.
-    Text(RcStr, bool),
+    Text(SharedText, bool),
     /// Values in order, and in which forms none of them is refused.
     List(Rc<Vec<Value>>, Plain),
     /// Pairs in the order of their keys, and in which forms none of them is refused.
@@ -45,7 +45,7 @@ pub enum Node {
     /// The keyword arguments of a call, and in which forms none of them is refused.
     Keywords(Rc<Vec<(Value, Value)>>, Plain),
     /// A module: what an import exports, and the text that it wrote.
-    Exports(Rc<Vec<(Value, Value)>>, RcStr),
+    Exports(Rc<Vec<(Value, Value)>>, SharedText),
     /// A function, by its number.
     Function(usize),
     /// A macro.
@@ -168,7 +168,7 @@ impl Value {
     pub fn text(alloc: Global, content: &str) -> Result<Value, Error>
         ensures { OkOrOutOfMemory result (λ v. v ≡ text content.now false) }
     {
-        let content = RcStr::from_str(alloc, content)?;
+        let content = SharedText::from_str(alloc, content)?;
         Ok(Value::shared_text(content, false))
     }
 
@@ -176,13 +176,13 @@ impl Value {
     pub fn safe_text(alloc: Global, content: &str) -> Result<Value, Error>
         ensures { OkOrOutOfMemory result (λ v. v ≡ text content.now true) }
     {
-        let content = RcStr::from_str(alloc, content)?;
+        let content = SharedText::from_str(alloc, content)?;
         Ok(Value::shared_text(content, true))
     }
 
     /// The text that is shared here, and whether it is safe.
-    pub fn shared_text(content: RcStr, safe: bool) -> Value
-        ensures { result ≡ text (rc_str_bytes content) safe }
+    pub fn shared_text(content: SharedText, safe: bool) -> Value
+        ensures { result ≡ text content safe }
     {
         Value {
             node: Node::Text(content, safe),
@@ -258,17 +258,29 @@ impl Value {
             Node::None => Node::None,
             Node::Boolean(truth) => Node::Boolean(*truth),
             Node::Number(whole) => Node::Number(*whole),
-            Node::Text(content, safe) => Node::Text(content.clone()?, *safe),
+            Node::Text(content, safe) => Node::Text(content.share()?, *safe),
             Node::List(items, plain) => Node::List(items.clone()?, *plain),
             Node::Map(pairs, plain) => Node::Map(pairs.clone()?, *plain),
             Node::Keywords(pairs, plain) => Node::Keywords(pairs.clone()?, *plain),
-            Node::Exports(pairs, content) => Node::Exports(pairs.clone()?, content.clone()?),
+            Node::Exports(pairs, content) => Node::Exports(pairs.clone()?, content.share()?),
             Node::Function(index) => Node::Function(*index),
             Node::Macro(declared) => Node::Macro(declared.clone()?),
             Node::Loop(state, index) => Node::Loop(*state, *index),
             Node::Namespace(state, index) => Node::Namespace(*state, *index),
         };
         Ok(Value { node })
+    }
+
+    /// The text and whether it is safe, where the value is one; and else the value again.
+    pub fn into_text(self) -> Result<(SharedText, bool), Value>
+        ensures { MatchResult result (λ x. self ≡ text x.0 x.1)
+            (λ v. (v ≡ self) × (text_in self ≡ None)) }
+    {
+        let Value { node } = self;
+        match node {
+            Node::Text(content, safe) => Ok((content, safe)),
+            node => Err(Value { node }),
+        }
     }
 
     /// The text, where the value is one.

@@ -105,7 +105,7 @@ impl Machine<'_> {
             return Err(Halt::Stuck);
         };
         let behavior = host.undefined_behavior();
-        let given = binary(alloc, operator, &left, &right, &self.state, behavior)?;
+        let given = binary(alloc, operator, left, &right, &self.state, behavior)?;
         self.push_next(given)
     }
 
@@ -127,7 +127,7 @@ impl Machine<'_> {
             return Err(Halt::Stuck);
         };
         let undefined = host.undefined_behavior();
-        let given = binary(alloc, operator, &left, &right, &self.state, undefined)?;
+        let given = binary(alloc, operator, left, &right, &self.state, undefined)?;
         self.run.push(right)?;
         self.push_next(given)
     }

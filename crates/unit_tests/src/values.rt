@@ -2,7 +2,9 @@
 use std::alloc::Global;
 use std::rc::RcStr;
 use std::test::Fail;
-use tm_values::{Error, Macro, NoRecords, Records, Value, ValueMap, find_loop, find_namespace};
+use tm_values::{
+    Error, Macro, NoRecords, Records, SharedText, Value, ValueMap, find_loop, find_namespace,
+};
 
 fn has_no_records() -> bool {
     NoRecords.namespace_count() == 0
@@ -21,7 +23,7 @@ fn sizes_and_records(rt: HostRuntime) {
 fn makes_a_module(alloc: Global) -> Result<bool, Error> {
     let mut exports = ValueMap::new(alloc);
     exports.insert(Value::text(alloc, "a")?, Value::number(1))?;
-    let module = Value::module(alloc, exports, RcStr::from_str(alloc, "x")?)?;
+    let module = Value::module(alloc, exports, SharedText::from_str(alloc, "x")?)?;
     Ok(module.member("a") == Some(&Value::number(1)))
 }
 

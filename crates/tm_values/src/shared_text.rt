@@ -1,0 +1,80 @@
+//! Texts that values share.
+ghost use Rattle.std.specs.Prelude.{◌≡◌, ◌++◌, IfOk, OnErr, OnOk, string_bytes};
+
+use std::alloc::{AllocError, Global};
+use std::marker::Model;
+use std::rc::Rc;
+
+/// A text whose owners share its bytes. A contract sees these bytes.
+#[derive(Drop)]
+pub struct SharedText {
+    content: Rc<String>,
+}
+
+impl Model for SharedText {
+    ghost use Rattle.std.specs.Prelude.{ℕ, List, string_bytes};
+
+    ghost Value = { List ℕ };
+
+    ghost view = { λ a. string_bytes a.content.value };
+}
+
+impl SharedText {
+    /// A text of these bytes. Fails where there is no memory.
+    pub fn from_str(alloc: Global, content: &str) -> Result<SharedText, AllocError>
+        ensures { IfOk result (λ made. made ≡ content.now) }
+    {
+        SharedText::from_string(String::from_str(alloc, content)?)
+    }
+
+    /// This text, which is moved. Fails where there is no memory.
+    pub fn from_string(content: String) -> Result<SharedText, AllocError>
+        ensures { IfOk result (λ made. made ≡ string_bytes content) }
+    {
+        match Rc::new(*content.allocator(), content) {
+            Ok(content) => Ok(SharedText { content }),
+            Err(_) => Err(AllocError),
+        }
+    }
+
+    /// The text.
+    #[inline(always)]
+    pub fn as_str(&self) -> &str
+        ensures { result.now ≡ self.now }
+    {
+        self.content.as_ref().as_str()
+    }
+
+    /// A second owner of the same bytes. Fails only where the owners can't be counted.
+    #[inline(always)]
+    pub fn share(&self) -> Result<SharedText, AllocError>
+        ensures { IfOk result (λ shared. shared ≡ self.now) }
+    {
+        let content = self.content.clone()?;
+        Ok(SharedText { content })
+    }
+
+    /// Adds a text behind it: in place where it has no other owner, and else to a copy, since the
+    /// others keep what they have. Where there is no memory it stays as it was.
+    pub fn append(&mut self, behind: &str) -> Result<(), AllocError>
+        ensures ok { OnOk result (self.new ≡ self.old ++ behind.now) }
+        ensures err { OnErr result (self.new ≡ self.old) }
+    {
+        if let Some(own) = Rc::get_mut(&mut self.content) {
+            return own.push_str(behind);
+        }
+        *self = joined(self.as_str(), behind, *self.content.allocator())?;
+        Ok(())
+    }
+}
+
+// The two texts, one after the other.
+fn joined(front: &str, behind: &str, alloc: Global) -> Result<SharedText, AllocError>
+    ensures { IfOk result (λ made. made ≡ front.now ++ behind.now) }
+{
+    let room = front.len().saturating_add(behind.len());
+    let mut content = String::with_capacity(alloc, room)?;
+    content.push_str(front)?;
+    content.push_str(behind)?;
+    SharedText::from_string(content)
+}
