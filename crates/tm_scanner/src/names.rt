@@ -2,7 +2,7 @@
 ghost use Rattle.std.specs.Prelude.{◌≡◌, ◌<◌, true, false, length, nat_eq, IfSome, encode_utf8_all};
 ghost use Rattle.std.specs.Cmp.Lexicographic.{pointwise};
 ghost use Rattle.std.specs.Str.{chars};
-ghost use Rattle.unicode_ident.specs.Ident.{is_xid_continue};
+ghost use Rattle.unicode_ident.specs.Ident.{is_xid_start, is_xid_continue};
 ghost use Rattle.tm_delimiters.specs.Front.{until};
 ghost use Rattle.tm_scanner.specs.Names as spec;
 ghost use Rattle.tm_delimiters.specs.Views.{Shortens, cut_of};
