@@ -48,14 +48,10 @@ fn write_error<E: Write + Drop>(err: &mut Counted<E>, error: &Error) -> io::Resu
     ensures { (kind : Kind) × (kinds : List Kind) × (error.now ≡ kind ∷ kinds)
         × IsWritten E.contents result err.old err.new (message kind kinds) }
 {
-    if let Err(fault) = write_line(err, "error: ", error.kind()) {
-        return Err(fault);
-    }
+    write_line(err, "error: ", error.kind())?;
     let mut next = error.cause();
     while let Some(cause) = next {
-        if let Err(fault) = write_line(err, "cause: ", cause.kind()) {
-            return Err(fault);
-        }
+        write_line(err, "cause: ", cause.kind())?;
         next = cause.cause();
     }
     Ok(())
@@ -65,11 +61,7 @@ fn write_error<E: Write + Drop>(err: &mut Counted<E>, error: &Error) -> io::Resu
 fn write_line<E: Write + Drop>(err: &mut Counted<E>, word: &str, kind: ErrorKind) -> io::Result<()>
     ensures { IsWritten E.contents result err.old err.new (line word.now kind) }
 {
-    if let Err(fault) = write_text(err, word.as_bytes()) {
-        return Err(fault);
-    }
-    if let Err(fault) = write_text(err, kind.name().as_bytes()) {
-        return Err(fault);
-    }
+    write_text(err, word.as_bytes())?;
+    write_text(err, kind.name().as_bytes())?;
     write_text(err, b"\n")
 }

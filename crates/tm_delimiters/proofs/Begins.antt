@@ -173,6 +173,46 @@ found_at s bs x y z from at u ex ey ez old h =
     let rest = take (length bs - from) (drop from bs) in
     later s bs rest from at u refl old (by_bytes s x y z rest (length rest) at ex ey ez h)
 
+-- where the search stops: within the bytes and between characters, and no start delimiter stands before
+pub record Stop (s : Syntax) (bs : List ℕ) (k : ℕ) : Type 0 where
+  pub inside : k < length bs
+  pub before : Nowhere (BeginsAt s bs) 0 k
+  pub boundary : IsCharBoundary bs k
+
+first_of_word : (bs w : List ℕ) (k : ℕ) → w ≢ [] → IsUtf8 w → slice_index bs k ≡ slice_index w 0 → 128 ≤ slice_index bs k →
+    192 ≤ slice_index bs k
+first_of_word bs w k some utf8 same high = rw same ((IsCharBoundary-start w utf8).1 (some_bytes w some) (rw (← same) high))
+
+pub stops_at : (s : Syntax) (bs x y z : List ℕ) (from at : ℕ) → HasAll s → s.block_start ≡ x → s.variable_start ≡ y → s.comment_start ≡ z →
+    IsUtf8 x → IsUtf8 y → IsUtf8 z → Nowhere (BeginsAt s bs) 0 from →
+    NoneBefore (Passes (is_byte3 (slice_index x 0) (slice_index y 0) (slice_index z 0)) (take (length bs - from) (drop from bs))) 0
+    (length (take (length bs - from) (drop from bs))) at
+    × Passes (is_byte3 (slice_index x 0) (slice_index y 0) (slice_index z 0)) (take (length bs - from) (drop from bs)) at →
+    Stop s bs (from + at)
+stops_at s bs x y z from at u ex ey ez ux uy uz old h =
+    let here = found_at s bs x y z from at u ex ey ez old h.0 in
+    let byte : slice_index (take (length bs - from) (drop from bs)) at ≡ slice_index bs (from + at) =
+    get_or-take (length bs - from) (drop from bs) at 0 (omega (arith, here.0)) ∙ get_or-drop from bs at 0
+    ∙ ap (λ i. get_or bs i 0) (omega arith) in
+    let passes = ap (is_byte3 (slice_index x 0) (slice_index y 0) (slice_index z 0)) (sym byte) ∙ h.1 in record {
+      inside = here.0;
+      before = here.1;
+      boundary = (
+        omega (arith, here.0),
+        λ inside high. by_word high
+            (either (slice_index bs (from + at) == slice_index x 0) (slice_index bs (from + at) == slice_index y 0)
+            (slice_index bs (from + at) == slice_index z 0) passes),
+      );
+    }
+  where
+    by_word : 128 ≤ slice_index bs (from + at) →
+        ((slice_index bs (from + at) == slice_index x 0) ≡ true)
+        ⊎ (((slice_index bs (from + at) == slice_index y 0) ≡ true) ⊎ ((slice_index bs (from + at) == slice_index z 0) ≡ true)) →
+        192 ≤ slice_index bs (from + at)
+    by_word high (inl e) = first_of_word bs x (from + at) (λ none. u.block_start (ex ∙ none)) ux (eqb-true _ _ e) high
+    by_word high (inr (inl e)) = first_of_word bs y (from + at) (λ none. u.variable_start (ey ∙ none)) uy (eqb-true _ _ e) high
+    by_word high (inr (inr e)) = first_of_word bs z (from + at) (λ none. u.comment_start (ez ∙ none)) uz (eqb-true _ _ e) high
+
 pub found_none : (s : Syntax) (bs x y z : List ℕ) (from : ℕ) → HasAll s → s.block_start ≡ x → s.variable_start ≡ y → s.comment_start ≡ z →
     Nowhere (BeginsAt s bs) 0 from →
     Nowhere (Passes (is_byte3 (slice_index x 0) (slice_index y 0) (slice_index z 0)) (take (length bs - from) (drop from bs))) 0
@@ -272,9 +312,9 @@ next_some s bs k x first here =
     (λ j less. tags_start s (drop j bs) (not_true (begins s (drop j bs)) (first.before j (omega arith) less)))
     (omega (arith, first.high)) here
 
--- where a start delimiter stands, a tag starts
-pub tag_there : (s : Syntax) (cs : List ℕ) → begins s cs ≡ true → None ≡ tag_start s cs → ⊥
-tag_there s cs stands none = cc (sym stands ∙ no_start s cs (by_opening (opening s cs) (sym none)))
+-- where no tag starts, no start delimiter stands
+pub no_tag : (s : Syntax) (cs : List ℕ) → None ≡ tag_start s cs → begins s cs ≡ false
+no_tag s cs none = no_start s cs (by_opening (opening s cs) (sym none))
   where
     by_opening : (r : Option (Kind × List ℕ)) → option_map side_at r ≡ None → r ≡ None
     by_opening None h = refl

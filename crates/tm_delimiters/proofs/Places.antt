@@ -1,13 +1,17 @@
 -- Words at the front of bytes, and places in them.
 use Rattle.std.proofs.Common.{◌≡◌, ◌≢◌, ℕ, zero, suc, ◌<◌, ◌≤◌, ◌++◌, List, [], ◌∷◌, Bool, true, false, nat_eq, Option, Some, None, length}
-use Rattle.std.proofs.Common.{drop, take, get_or, refl, sym, ◌∙◌, ap, arith, MatchOption, Bor}
-use Rattle.std.specs.Prelude.{if◌then◌else◌, option_map}
+use Rattle.std.proofs.Common.{drop, take, get_or, refl, sym, ◌∙◌, ap, arith, MatchOption, Bor, length-append}
+use Rattle.std.proofs.Math.Seq.{drop-append_seam, take-append_seam}
+use Rattle.std.specs.Prelude.{if◌then◌else◌, option_map, is_some, slice_index, nat_lt, encode_utf8 as encode}
+use Rattle.std.specs.Str.{IsUtf8}
+use Rattle.std.proofs.lemmas.Str.{chars_past_char, encode_ascii}
+use Rattle.std.proofs.lemmas.Bool.Decides.{nat_tests}
 use Rattle.std.specs.Option.{option_or}
-use Rattle.std.specs.Str.Pattern.{FindsText, FindsTextPrefix, StripsPrefix, SplitsAroundMatch}
+use Rattle.std.specs.Str.Pattern.{FindsText, SplitsAroundMatch}
 use Rattle.std.proofs.lemmas.Bool.{eqb-true, eq-eqb}
 use Rattle.memchr.specs.Find.{IsFirstByte}
-use Rattle.tm_delimiters.specs.Front.{behind, first_of, until, first_is}
-use Rattle.tm_delimiters.specs.Views.{place_of, cut_of}
+use Rattle.tm_delimiters.specs.Front.{behind, ascii, first_of, until, first_is}
+use Rattle.tm_delimiters.specs.Views.{IsFirst, cut_of, step_of}
 
 pub not_true : (b : Bool) → (b ≡ true → ⊥) → b ≡ false
 not_true true h = absurd (h refl)
@@ -37,11 +41,6 @@ lacks_by text word h (Some rest) e = absurd (h rest (behind-split word text rest
 
 pub lacks : (text word : List ℕ) → ((rest : List ℕ) → text ≢ word ++ rest) → behind word text ≡ None
 lacks text word h = lacks_by text word h (behind word text) refl
-
-pub strips : (text word : List ℕ) (r : Option (Bor (List ℕ))) →
-    MatchOption r (FindsTextPrefix word text None) (λ x. StripsPrefix (FindsTextPrefix word) text x.now) → place_of r ≡ behind word text
-strips text word None h = sym (lacks text word h)
-strips text word (Some x) h = sym (ap (behind word) (h.1.1 ∙ ap (λ b. word ++ b) (sym h.2)) ∙ behind-append word x.now)
 
 -- the first place where something is found
 pub first_of-at : {A : Type 0} (find : List ℕ → Option A) (cs : List ℕ) (i : ℕ) (x : A) → ((k : ℕ) → k < i → find (drop k cs) ≡ None) →
@@ -113,3 +112,81 @@ cut_at test cs k h = until_at (first_is test) cs k
 
 pub cut_nowhere : (test : ℕ → Bool) (cs : List ℕ) → IsFirstByte test cs None → until (first_is test) cs ≡ (cs, [])
 cut_nowhere test cs h = until_end (first_is test) cs (λ j less here. h j (omega arith) less (sym (byte_there test cs j less) ∙ here))
+
+joined : Option (ℕ × List ℕ) → List ℕ
+joined None = []
+joined (Some x) = x.0 ∷ x.1
+
+-- the first byte, where it is ASCII, is the first character
+pub ascii_first : (text : List ℕ) (r : ℕ × Bor (List ℕ)) → IsUtf8 text → step_of (Some r) ≡ ascii text → IsFirst (Some r) text
+unfolding joined
+ascii_first [] r utf8 h = cc
+ascii_first (c ∷ cs) r utf8 h = by_test (nat_lt c 128) refl h
+  where
+    by_test : (small : Bool) → nat_lt c 128 ≡ small → step_of (Some r) ≡ (if small then Some (c, cs) else None) →
+        IsFirst (Some r) (c ∷ cs)
+    by_test true e h =
+        let whole : c ∷ cs ≡ r.0 ∷ r.1.now = sym (ap joined h) in
+        let same : c ≡ r.0 = cc in
+        let small : r.0 < 128 = grind (arith, nat_tests) in
+        let split : c ∷ cs ≡ encode r.0 ++ r.1.now = whole ∙ sym (ap (λ front. front ++ r.1.now) (encode_ascii r.0 small)) in
+        (chars_past_char (c ∷ cs) r.1.now r.0 utf8 split, split)
+    by_test false e h = cc
+
+-- whether bytes begin with a word, place by place
+pub all_same : (ws cs : List ℕ) → length ws ≤ length cs → ((k : ℕ) → k < length ws → slice_index cs k ≡ slice_index ws k) →
+    is_some (behind ws cs) ≡ true
+all_same [] cs fits same = refl
+all_same (w ∷ ws) [] fits same = absurd (omega (arith, fits))
+all_same (w ∷ ws) (c ∷ cs) fits same =
+    ap (λ b. is_some {T = List ℕ} (if b then behind ws cs else None)) (eq-eqb w c (sym (same 0 (omega arith))))
+    ∙ all_same ws cs (omega (arith, fits)) (λ k less. same (suc k) (omega (arith, less)))
+
+pub one_differs : (ws cs : List ℕ) (k : ℕ) → k < length ws → slice_index cs k ≢ slice_index ws k → is_some (behind ws cs) ≡ false
+one_differs [] cs k less differs = absurd (omega (arith, less))
+one_differs (w ∷ ws) [] k less differs = refl
+one_differs (w ∷ ws) (c ∷ cs) zero less differs = by_test (nat_eq w c) refl
+  where
+    by_test : (same : Bool) → nat_eq w c ≡ same → is_some {T = List ℕ} (if same then behind ws cs else None) ≡ false
+    by_test true e = absurd (differs (sym (eqb-true w c e)))
+    by_test false e = refl
+one_differs (w ∷ ws) (c ∷ cs) (suc k) less differs = by_test (one_differs ws cs k (omega (arith, less)) differs) (nat_eq w c)
+  where
+    by_test : is_some (behind ws cs) ≡ false → (same : Bool) → is_some {T = List ℕ} (if same then behind ws cs else None) ≡ false
+    by_test others true = others
+    by_test others false = refl
+
+pub too_short : (ws cs : List ℕ) → length cs < length ws → is_some (behind ws cs) ≡ false
+too_short [] cs less = absurd (omega (arith, less))
+too_short (w ∷ ws) [] less = refl
+too_short (w ∷ ws) (c ∷ cs) less = by_test (too_short ws cs (omega (arith, less))) (nat_eq w c)
+  where
+    by_test : is_some (behind ws cs) ≡ false → (same : Bool) → is_some {T = List ℕ} (if same then behind ws cs else None) ≡ false
+    by_test others true = others
+    by_test others false = refl
+
+-- what is left behind the word, where the bytes begin with it
+pub record Stripped (ws cs : List ℕ) : Type 0 where
+  pub left : behind ws cs ≡ Some (drop (length ws) cs)
+  pub front : take (length ws) cs ≡ ws
+  pub fits : length ws ≤ length cs
+
+pub stripped : (ws cs : List ℕ) → is_some (behind ws cs) ≡ true → Stripped ws cs
+stripped ws cs h = by_rest (behind ws cs) refl h
+  where
+    by_rest : (r : Option (List ℕ)) → behind ws cs ≡ r → is_some r ≡ true → Stripped ws cs
+    by_rest None e some = cc
+    by_rest (Some rest) e some =
+        let split : cs ≡ ws ++ rest = behind-split ws cs rest e in
+        record {
+          left = e ∙ ap Some (sym (ap (drop (length ws)) split ∙ drop-append_seam ws rest));
+          front = ap (take (length ws)) split ∙ take-append_seam ws rest;
+          fits = omega (arith, ap length split, length-append ws rest);
+        }
+
+pub unlike : (ws cs : List ℕ) → is_some (behind ws cs) ≡ false → behind ws cs ≡ None
+unlike ws cs h = by_rest (behind ws cs) h
+  where
+    by_rest : (r : Option (List ℕ)) → is_some r ≡ false → r ≡ None
+    by_rest None h = refl
+    by_rest (Some rest) h = cc

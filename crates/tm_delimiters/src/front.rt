@@ -1,7 +1,26 @@
 //! Bytes at the front of a text.
-ghost use Rattle.std.specs.Prelude.{◌≡◌, ◌+◌, ◌<◌, ◌≤◌, length, IfSome};
+ghost use Rattle.std.specs.Prelude.{◌≡◌, ◌+◌, ◌<◌, ◌≤◌, length, IfSome, is_some};
 ghost use Rattle.tm_delimiters.specs.Front as spec;
 ghost use Rattle.tm_delimiters.specs.Views.{IsFirst, Shortens, cut_of, place_of, step_of};
+
+/// Whether the bytes begin with a word. The word's last byte is compared first: by it delimiters
+/// differ from one another.
+#[inline(always)]
+fn is_front(bytes: &[u8], word: &[u8]) -> bool
+    ensures { result ≡ is_some (spec.behind word.now bytes.now) }
+{
+    if bytes.len() < word.len() {
+        return false;
+    }
+    let mut place = word.len();
+    while place > 0 {
+        place -= 1;
+        if bytes[place] != word[place] {
+            return false;
+        }
+    }
+    true
+}
 
 /// What is left behind the word, where the text begins with it.
 #[inline(always)]
@@ -9,7 +28,11 @@ pub fn strip<'t>(text: &'t str, word: &str) -> Option<&'t str>
     ensures value { place_of result ≡ spec.behind word.now text.now }
     ensures len { IfSome result (λ rest. length word.now + length rest.now ≡ length text.now) }
 {
-    text.strip_prefix(word)
+    if is_front(text.as_bytes(), word.as_bytes()) {
+        Some(&text[word.len()..])
+    } else {
+        None
+    }
 }
 
 /// What stands before the first place of the word, and what is left behind it.
@@ -39,7 +62,19 @@ pub fn ascii(text: &str) -> Option<(u8, &str)>
 }
 
 /// The first character, and what is left behind it.
+#[inline(always)]
 pub fn first(text: &str) -> Option<(char, &str)>
+    ensures value { IsFirst result text.now }
+    ensures shorter { Shortens result text.now }
+{
+    if let Some((byte, rest)) = ascii(text) {
+        return Some((char::from(byte), rest));
+    }
+    decoded(text)
+}
+
+/// The first character, decoded, and what is left behind it.
+fn decoded(text: &str) -> Option<(char, &str)>
     ensures value { IsFirst result text.now }
     ensures shorter { Shortens result text.now }
 {

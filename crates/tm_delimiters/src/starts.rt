@@ -104,13 +104,24 @@ fn tag_start<'s>(syntax: &SyntaxConfig, text: &'s str) -> Option<(Side, &'s str)
 }
 
 /// The text before the next tag, the start of that tag, and what is left behind it.
+#[inline(always)]
 pub fn next_tag<'s>(syntax: &SyntaxConfig, text: &'s str) -> Option<(&'s str, Side, &'s str)>
     requires usable { HasAll syntax.now }
     ensures value { parts_of result ≡ first_of (spec.tag_start syntax.now) text.now }
     ensures shorter { IfSome result (λ x. length x.2.now < length text.now) }
 {
-    let place = next_start(syntax, text.as_bytes())?;
-    let (front, tag) = text.split_at(place);
-    let (side, rest) = tag_start(syntax, tag)?;
-    Some((front, side, rest))
+    let bytes = text.as_bytes();
+    let block = syntax.start(Kind::Block).as_bytes()[0];
+    let variable = syntax.start(Kind::Variable).as_bytes()[0];
+    let comment = syntax.start(Kind::Comment).as_bytes()[0];
+    let mut from = 0;
+    while let Some(at) = memchr3(block, variable, comment, &bytes[from..]) {
+        let place = from + at;
+        let (front, tag) = text.split_at(place);
+        if let Some((side, rest)) = tag_start(syntax, tag) {
+            return Some((front, side, rest));
+        }
+        from = place + 1;
+    }
+    None
 }

@@ -75,6 +75,7 @@ fn without_indent(starts_line: bool, text: &str) -> &str
 }
 
 /// What the tag before a text leaves of it.
+#[inline(always)]
 fn by_before<'t>(syntax: &SyntaxConfig, before: Option<Side>, text: &'t str) -> &'t str
     ensures { result.now ≡ spec.by_before syntax.now before text.now }
 {
@@ -95,6 +96,7 @@ fn by_before<'t>(syntax: &SyntaxConfig, before: Option<Side>, text: &'t str) -> 
 }
 
 /// What the tag behind a text leaves of it.
+#[inline(always)]
 fn by_after<'t>(
     syntax: &SyntaxConfig,
     starts_line: bool,
@@ -120,6 +122,7 @@ fn by_after<'t>(
 }
 
 /// What is left of a raw text between two tags, of which the source's start and end have none.
+#[inline(always)]
 pub fn trimmed<'s>(
     syntax: &SyntaxConfig,
     before: Option<Side>,

@@ -29,6 +29,7 @@ pub fn whitespace_at(text: &str) -> (Whitespace, &str)
 }
 
 /// The end delimiter at the front with a mark before it or none, and what is left behind it.
+#[inline(always)]
 pub fn ending<'t>(end: &str, text: &'t str) -> Option<(Whitespace, &'t str)>
     ensures value { step_of result ≡ spec.ending end.now text.now }
     ensures no_longer { IfSome result (λ x. length x.1.now ≤ length text.now) }

@@ -1,5 +1,5 @@
 //! Code that is being made, with jumps that lead nowhere yet.
-#![tactic(auto, unfolding(crate::specs::Building::with_one, crate::specs::Building::jumped, crate::specs::Building::left, crate::specs::Building::continued, crate::specs::Building::begun, crate::specs::Building::bound, crate::specs::Building::joined, crate::specs::Building::place_of, crate::specs::Building::outs_of, crate::specs::Building::outer_of, crate::specs::Building::loop_begun, crate::specs::Building::rounds_ended,))]
+#![tactic(auto, unfolding(crate::proofs::Steps::steps))]
 
 ghost use Rattle.std.specs.Prelude.{◌≡◌, ◌++◌, [], ◌∷◌, OnOk, IfOk, IfErr, length, slice_set};
 ghost use Rattle.tm_generator.specs.Building.{with_one, jumped, left, continued, begun, bound, joined};

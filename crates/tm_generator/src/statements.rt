@@ -8,7 +8,8 @@ ghost use Rattle.tm_syntax.specs.Fragments.{◌⨾◌, over};
 ghost use Rattle.tm_syntax.specs.Named.{put as put_named, put_each};
 ghost use Rattle.tm_syntax.specs.declared.jump.JumpKind.TheVariants.{IfFalse};
 ghost use Rattle.tm_syntax.specs.declared.tree.Stmt.TheBlock.{hidden-the_row-Stmt-0 as statements};
-ghost use Rattle.tm_syntax.specs.declared.tree.Stmt.TheVariants.{For, If};
+ghost use Rattle.tm_syntax.specs.declared.tree.Stmt.TheVariants.{AutoEscape, Block, Break};
+ghost use Rattle.tm_syntax.specs.declared.tree.Stmt.TheVariants.{Continue, Do, For, If, SetBlock, With};
 ghost use Rattle.tm_values.specs.declared.error.ErrorKind.TheVariants.{OutOfMemory};
 
 use crate::builder::Builder;
@@ -20,9 +21,13 @@ use sqlite_items::Items;
 use std::alloc::Global;
 use std::mem;
 use tm_syntax::{
-    CaptureMode, Code, Expr, ForLoop, Instruction, JumpKind, LoopFlags, Name, NameMap, Opened, Stmt,
+    Assignment, AssignmentTarget, CaptureMode, Code, Expr, ForLoop, Instruction, JumpKind,
+    LoopFlags, Name, NameMap, Opened, Stmt,
 };
 use tm_values::Error;
+
+// A frame has room for the locals of all that is inlined, and clears them at its start: so what is
+// seldom is not.
 
 /// A stream that is being made: its code, and what is open where the code has come to.
 #[derive(Drop)]
@@ -58,43 +63,131 @@ fn push_statement(
             push_if(stream, blocks, condition.get(), body.as_slice(), other)
         }
         Stmt::For(for_loop) => push_for(stream, blocks, for_loop),
-        Stmt::Break => {
-            stream.enclosing.close_all(&mut stream.code)?;
-            stream.code.break_loop()
-        }
-        Stmt::Continue => {
-            stream.enclosing.close_all(&mut stream.code)?;
-            stream.code.next_round()
-        }
-        Stmt::Block(name, body) => {
-            push_block(stream.code.alloc(), blocks, name, body.as_slice())?;
-            stream.code.emit(Instruction::CallBlock(name.share()?))
-        }
+        Stmt::Break => push_break(stream),
+        Stmt::Continue => push_continue(stream),
+        Stmt::Block(name, body) => push_call_of_block(stream, blocks, name, body.as_slice()),
         Stmt::Set(target, value) => push_set(&mut stream.code, target, value.get()),
-        Stmt::SetBlock(target, body) => {
-            let capture = Instruction::BeginCapture(CaptureMode::Capture);
-            stream.code.emit(capture)?;
-            push_within(stream, blocks, Opened::Capture, body.as_slice())?;
-            stream.code.emit(Instruction::EndCapture)?;
-            push_target(&mut stream.code, target)
-        }
-        Stmt::With(given, body) => {
-            stream.code.emit(Instruction::PushWith)?;
-            push_assignments(&mut stream.code, given.as_slice())?;
-            push_within(stream, blocks, Opened::Scope, body.as_slice())?;
-            stream.code.emit(Instruction::PopFrame)
-        }
-        Stmt::Do(call) => {
-            push_expr(&mut stream.code, call.get())?;
-            stream.code.emit(Instruction::DiscardTop)
-        }
-        Stmt::AutoEscape(value, body) => {
-            push_expr(&mut stream.code, value.get())?;
-            stream.code.emit(Instruction::PushAutoEscape)?;
-            push_within(stream, blocks, Opened::Escape, body.as_slice())?;
-            stream.code.emit(Instruction::PopAutoEscape)
-        }
+        Stmt::SetBlock(target, body) => push_set_block(stream, blocks, target, body.as_slice()),
+        Stmt::With(given, body) => push_with(stream, blocks, given.as_slice(), body.as_slice()),
+        Stmt::Do(call) => push_do(stream, call.get()),
+        Stmt::AutoEscape(value, body) => push_escaped(stream, blocks, value.get(), body.as_slice()),
     }
+}
+
+/// Adds the code of a `break`; OutOfMemory.
+#[inline(never)]
+fn push_break(stream: &mut StreamBuilder) -> Result<(), Error>
+    ensures code { OnOk result (stream.new ≡ put_in
+        (statement_code stream.old.enclosing Break) stream.old) }
+    ensures err { IfErr result (λ e. e ≡ OutOfMemory ∷ []) }
+{
+    stream.enclosing.close_all(&mut stream.code)?;
+    stream.code.break_loop()
+}
+
+/// Adds the code of a `continue`; OutOfMemory.
+#[inline(never)]
+fn push_continue(stream: &mut StreamBuilder) -> Result<(), Error>
+    ensures code { OnOk result (stream.new ≡ put_in
+        (statement_code stream.old.enclosing Continue) stream.old) }
+    ensures err { IfErr result (λ e. e ≡ OutOfMemory ∷ []) }
+{
+    stream.enclosing.close_all(&mut stream.code)?;
+    stream.code.next_round()
+}
+
+/// Adds the code of a `do`; OutOfMemory.
+#[inline(never)]
+fn push_do(stream: &mut StreamBuilder, call: &Expr) -> Result<(), Error>
+    ensures code { OnOk result (stream.new ≡ put_in
+        (statement_code stream.old.enclosing (Do call.now)) stream.old) }
+    ensures err { IfErr result (λ e. e ≡ OutOfMemory ∷ []) }
+{
+    push_expr(&mut stream.code, call)?;
+    stream.code.emit(Instruction::DiscardTop)
+}
+
+/// Adds the call of a block, and the block's own stream, like that of a statement; OutOfMemory.
+#[cycle(statements)]
+#[inline(never)]
+fn push_call_of_block(
+    stream: &mut StreamBuilder,
+    blocks: &mut NameMap<Code>,
+    name: &Name,
+    body: &[Stmt],
+) -> Result<(), Error>
+    ensures code { OnOk result (stream.new ≡ put_in
+        (statement_code stream.old.enclosing (Block name.now body.now)) stream.old) }
+    ensures blocks { OnOk result
+        (blocks.new ≡ put_each (compiled_blocks (blocks_of (Block name.now body.now))) blocks.old) }
+    ensures err { IfErr result (λ e. e ≡ OutOfMemory ∷ []) }
+{
+    push_block(stream.code.alloc(), blocks, name, body)?;
+    stream.code.emit(Instruction::CallBlock(name.share()?))
+}
+
+/// Adds the code of a set block, like that of a statement; OutOfMemory.
+#[cycle(statements)]
+#[inline(never)]
+fn push_set_block(
+    stream: &mut StreamBuilder,
+    blocks: &mut NameMap<Code>,
+    target: &AssignmentTarget,
+    body: &[Stmt],
+) -> Result<(), Error>
+    ensures code { OnOk result (stream.new ≡ put_in
+        (statement_code stream.old.enclosing (SetBlock target.now body.now)) stream.old) }
+    ensures blocks { OnOk result
+        (blocks.new ≡ put_each (compiled_blocks (blocks_of (SetBlock target.now body.now))) blocks.old) }
+    ensures err { IfErr result (λ e. e ≡ OutOfMemory ∷ []) }
+{
+    let capture = Instruction::BeginCapture(CaptureMode::Capture);
+    stream.code.emit(capture)?;
+    push_within(stream, blocks, Opened::Capture, body)?;
+    stream.code.emit(Instruction::EndCapture)?;
+    push_target(&mut stream.code, target)
+}
+
+/// Adds the code of a `with`, like that of a statement; OutOfMemory.
+#[cycle(statements)]
+#[inline(never)]
+fn push_with(
+    stream: &mut StreamBuilder,
+    blocks: &mut NameMap<Code>,
+    given: &[Assignment],
+    body: &[Stmt],
+) -> Result<(), Error>
+    ensures code { OnOk result (stream.new ≡ put_in
+        (statement_code stream.old.enclosing (With given.now body.now)) stream.old) }
+    ensures blocks { OnOk result
+        (blocks.new ≡ put_each (compiled_blocks (blocks_of (With given.now body.now))) blocks.old) }
+    ensures err { IfErr result (λ e. e ≡ OutOfMemory ∷ []) }
+{
+    stream.code.emit(Instruction::PushWith)?;
+    push_assignments(&mut stream.code, given)?;
+    push_within(stream, blocks, Opened::Scope, body)?;
+    stream.code.emit(Instruction::PopFrame)
+}
+
+/// Adds the code of an `autoescape`, like that of a statement; OutOfMemory.
+#[cycle(statements)]
+#[inline(never)]
+fn push_escaped(
+    stream: &mut StreamBuilder,
+    blocks: &mut NameMap<Code>,
+    value: &Expr,
+    body: &[Stmt],
+) -> Result<(), Error>
+    ensures code { OnOk result (stream.new ≡ put_in
+        (statement_code stream.old.enclosing (AutoEscape value.now body.now)) stream.old) }
+    ensures blocks { OnOk result
+        (blocks.new ≡ put_each (compiled_blocks (blocks_of (AutoEscape value.now body.now))) blocks.old) }
+    ensures err { IfErr result (λ e. e ≡ OutOfMemory ∷ []) }
+{
+    push_expr(&mut stream.code, value)?;
+    stream.code.emit(Instruction::PushAutoEscape)?;
+    push_within(stream, blocks, Opened::Escape, body)?;
+    stream.code.emit(Instruction::PopAutoEscape)
 }
 
 /// Adds the code of a condition and its bodies, like that of a statement; OutOfMemory.

@@ -201,14 +201,16 @@ all_passed i = branch (first (is sign.CloseRound)) (λ _. pure (passed [] [])) (
   end ← token (is sign.CloseRound)
   pure given)
 
+-- the call of a name, behind its opening bracket
+unfoldable pub called : Inside → List ℕ → Rule Expr
+called i name = do
+  room ← i.room
+  given ← all_passed i
+  pure (exprs.Call name given.by_place given.by_name)
+
 -- a name, or the call of one
 unfoldable pub named : Inside → List ℕ → Rule Expr
-named i name = branch (first (is sign.OpenRound))
-    (λ _. do
-      room ← i.room
-      given ← all_passed i
-      pure (exprs.Call name given.by_place given.by_name))
-    (pure (exprs.Var name))
+named i name = branch (first (is sign.OpenRound)) (λ _. called i name) (pure (exprs.Var name))
 
 -- a tuple behind its first item
 unfoldable pub tuple : Inside → Expr → Rule Expr

@@ -327,6 +327,7 @@ impl<'t> Cursor<'t> {
 
     /// The level, from this one on and before the end, at which what stands here goes on with a
     /// value.
+    #[inline(always)]
     pub fn link_level(&self, from: u8, end: u8) -> Option<u8>
         ensures { GoesOnAt result from end self.now }
     {

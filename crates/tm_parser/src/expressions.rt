@@ -131,6 +131,7 @@ impl Cursor<'_> {
     /// A value with all operators, without conditions behind it.
     #[cycle(expressions)]
     #[tactic(auto, using(crate::proofs::Levels::operands))]
+    #[inline(always)]
     pub fn whole(&mut self, alloc: Global, depth: u8) -> Result<Boxed<Expr>, Error>
         ensures { Parses result self.new ((whole (inside depth)).reads self.old) }
     {
@@ -152,6 +153,7 @@ impl Cursor<'_> {
     /// operators.
     #[cycle(expressions)]
     #[tactic(auto, unfolding(crate::specs::Levels::operand_start))]
+    #[inline(always)]
     fn operand_start(&mut self, alloc: Global, depth: u8, level: u8) -> Result<OperandStart, Error>
         ensures { Parses result self.new ((operand_start (inside depth) level).reads self.old) }
     {
@@ -169,6 +171,7 @@ impl Cursor<'_> {
 
     /// Behind an operand of a level, the steps of all levels before the end, from its own on.
     #[cycle(expressions)]
+    #[inline(always)]
     fn climb(
         &mut self,
         alloc: Global,
@@ -192,6 +195,7 @@ impl Cursor<'_> {
 
     /// As many steps of a level as there are.
     #[cycle(expressions)]
+    #[inline(never)]
     pub fn steps(&mut self, alloc: Global, depth: u8, level: u8) -> Result<Items<Step>, Error>
         ensures { Parses result self.new
             ((steps_from (inside depth) (operand (inside depth) level) level []).reads self.old) }

@@ -1,7 +1,7 @@
 //! What stands between operators: literals, names, calls, and what stands in brackets.
 ghost use Rattle.std.specs.Prelude.{[]};
 ghost use Rattle.tm_parser.specs.Parses.{Parses};
-ghost use Rattle.tm_parser.specs.Grammar.{inside, all_passed, argument, bracketed, items, keyword};
+ghost use Rattle.tm_parser.specs.Grammar.{inside, all_passed, argument, bracketed, called, items, keyword};
 ghost use Rattle.tm_parser.specs.Grammar.{list_literal, map_literal, more_items, more_passed};
 ghost use Rattle.tm_parser.specs.Grammar.{named, one_passed, pair, primary, tuple};
 ghost use Rattle.tm_grammar.specs.Combinators.{one_more};
@@ -27,6 +27,7 @@ impl Cursor<'_> {
     /// A literal, a name, a call, or what stands in brackets.
     #[cycle(expressions)]
     #[tactic(auto, unfolding(crate::specs::Grammar::primary))]
+    #[inline(always)]
     pub fn primary(&mut self, alloc: Global, depth: u8) -> Result<Boxed<Expr>, Error>
         ensures { Parses result self.new ((primary (inside depth)).reads self.old) }
     {
@@ -51,13 +52,23 @@ impl Cursor<'_> {
     /// A name, or the call of one.
     #[cycle(expressions)]
     #[tactic(auto, unfolding(crate::specs::Grammar::named))]
-    #[inline(never)]
+    #[inline(always)]
     fn named(&mut self, alloc: Global, depth: u8, name: Name) -> Result<Boxed<Expr>, Error>
         ensures { Parses result self.new ((named (inside depth) name).reads self.old) }
     {
-        if !self.take(Sign::OpenRound) {
-            return Ok(Boxed::new(alloc, Expr::Var(name))?);
+        if self.take(Sign::OpenRound) {
+            return self.called(alloc, depth, name);
         }
+        Ok(Boxed::new(alloc, Expr::Var(name))?)
+    }
+
+    /// The call of a name behind its opening bracket.
+    #[cycle(expressions)]
+    #[tactic(auto, unfolding(crate::specs::Grammar::called))]
+    #[inline(never)]
+    fn called(&mut self, alloc: Global, depth: u8, name: Name) -> Result<Boxed<Expr>, Error>
+        ensures { Parses result self.new ((called (inside depth) name).reads self.old) }
+    {
         self.room(depth)?;
         let given = self.all_passed(alloc, depth)?;
         Ok(Boxed::new(alloc, Expr::Call(name, given.by_place, given.by_name))?)

@@ -1,5 +1,5 @@
 //! Statements.
-ghost use Rattle.std.specs.Prelude.{◌≡◌, false, is_some};
+ghost use Rattle.std.specs.Prelude.{◌≡◌, ◌++◌, [], ◌∷◌, false, is_some, MatchResult};
 ghost use Rattle.tm_parser.specs.Parses.{Parses};
 ghost use Rattle.tm_parser.specs.Grammar.{inside};
 ghost use Rattle.tm_parser.specs.Statements as spec;
@@ -8,6 +8,7 @@ ghost use Rattle.tm_parser.specs.Statements.{emission, for_tag, if_tag, inner, j
 ghost use Rattle.tm_parser.specs.Statements.{with_tag};
 ghost use Rattle.tm_grammar.specs.Combinators.{one_more, provided};
 ghost use Rattle.tm_syntax.specs.declared.tree.Stmt.TheVariants.{Break, Continue};
+ghost use Rattle.tm_values.specs.declared.error.ErrorKind.TheVariants.{OutOfMemory};
 ghost use Rattle.tm_syntax.specs.declared.tree.Argument.TheBlock.{hidden-the_row-Step-5 as row_of_steps};
 
 use crate::cursor::{Cursor, refusal};
@@ -81,9 +82,49 @@ impl Cursor<'_> {
         Ok(body)
     }
 
-    /// The statement behind its start, at the end of others.
+    /// The statement behind its start, at the end of others. Most are raw texts and emissions: they
+    /// go to their place at once, since a statement is large.
     #[cycle(statements)]
+    #[inline(always)]
     fn one_statement(
+        &mut self,
+        alloc: Global,
+        depth: u8,
+        looping: bool,
+        start: Start,
+        body: Items<Stmt>,
+    ) -> Result<Items<Stmt>, Error>
+        ensures { Parses result self.new
+            ((one_more (statement (inside depth) (inner depth) looping start) body).reads
+            self.old) }
+    {
+        match start {
+            Start::Raw(text) => with_one(body, Stmt::EmitRaw(text)),
+            Start::Emit => self.one_emission(alloc, depth, body),
+            start => self.other_statement(alloc, depth, looping, start, body),
+        }
+    }
+
+    /// An emission, at the end of others.
+    #[inline(always)]
+    #[tactic(auto, unfolding(crate::specs::Statements::emission))]
+    fn one_emission(
+        &mut self,
+        alloc: Global,
+        depth: u8,
+        body: Items<Stmt>,
+    ) -> Result<Items<Stmt>, Error>
+        ensures { Parses result self.new ((one_more (emission (inside depth)) body).reads self.old) }
+    {
+        let value = self.expr(alloc, depth)?;
+        self.expect(Sign::VariableEnd)?;
+        with_emission(body, value)
+    }
+
+    /// The statement behind its start, whichever it is, at the end of others.
+    #[cycle(statements)]
+    #[inline(never)]
+    fn other_statement(
         &mut self,
         alloc: Global,
         depth: u8,
@@ -385,7 +426,34 @@ impl Cursor<'_> {
     }
 }
 
+/// Statements with one more. OutOfMemory for want of memory.
+#[inline(always)]
+fn with_one(body: Items<Stmt>, statement: Stmt) -> Result<Items<Stmt>, Error>
+    ensures { MatchResult result
+        (λ items. items ≡ body ++ statement ∷ [])
+        (λ e. e ≡ OutOfMemory ∷ []) }
+{
+    let mut body = body;
+    body.push(statement)?;
+    Ok(body)
+}
+
+/// Statements with one more that emits a value. OutOfMemory for want of memory.
+#[inline(always)]
+#[tactic(auto, unfolding(crate::specs::Statements::loop_argument))]
+fn with_emission(body: Items<Stmt>, value: Boxed<Expr>) -> Result<Items<Stmt>, Error>
+    ensures { MatchResult result
+        (λ items. items ≡ body ++ spec.emit_statement value ∷ [])
+        (λ e. e ≡ OutOfMemory ∷ []) }
+{
+    if is_call_of_loop(value.get()) {
+        return with_one(body, emit_statement(value));
+    }
+    with_one(body, Stmt::EmitExpr(value))
+}
+
 /// The statement that emits a value: a call of the innermost loop where it is one.
+#[inline(never)]
 #[tactic(auto, unfolding(crate::specs::Statements::loop_argument))]
 fn emit_statement(value: Boxed<Expr>) -> Stmt
     ensures { result ≡ spec.emit_statement value }

@@ -1,8 +1,9 @@
 //! The names of a source, each text held once.
-ghost use Rattle.std.specs.Prelude.{◌≡◌, [], ◌∷◌, IfOk, IfErr, OnOk};
-ghost use Rattle.tm_scanner.specs.NamePool.{IsWith};
+ghost use Rattle.std.specs.Prelude.{◌≡◌, [], ◌∷◌, true, IfOk, IfErr, IfSome, OnOk};
+ghost use Rattle.tm_scanner.specs.NamePool.{IsWith, holds};
 ghost use Rattle.tm_values.specs.declared.error.ErrorKind.TheVariants.{OutOfMemory};
 
+use crate::names::is;
 use std::alloc::Global;
 use std::collections::BTreeSet;
 use std::marker::Model;
@@ -10,13 +11,16 @@ use std::rc::RcStr;
 use tm_syntax::Name;
 use tm_values::Error;
 
-/// The texts of the names that a source had so far. A contract sees their bytes.
+/// How many names are looked up one after another.
+const FEW: usize = 8;
+
+/// The texts of names, by their order. A contract sees their bytes.
 #[derive(Drop)]
-pub(crate) struct NamePool {
+struct OrderedNames {
     texts: BTreeSet<RcStr>,
 }
 
-impl Model for NamePool {
+impl Model for OrderedNames {
     ghost use Rattle.std.specs.Prelude.{List, ℕ};
 
     ghost Value = { List (List ℕ) };
@@ -26,18 +30,19 @@ impl Model for NamePool {
     ghost view = { λ a. texts_of a.texts.keys };
 }
 
-impl NamePool {
+impl OrderedNames {
     /// No names.
-    pub(crate) fn new(alloc: Global) -> NamePool
+    fn new(alloc: Global) -> OrderedNames
         ensures { result ≡ [] }
     {
-        NamePool {
+        OrderedNames {
             texts: BTreeSet::new(alloc),
         }
     }
 
     /// The name of this text, which shares its memory with an earlier one. OutOfMemory.
-    pub(crate) fn name(&mut self, alloc: Global, text: &str) -> Result<Name, Error>
+    #[inline(never)]
+    fn name(&mut self, alloc: Global, text: &str) -> Result<Name, Error>
         ensures found { IfOk result (λ name. name ≡ text.now) }
         ensures kept { OnOk result (IsWith text.now self.old self.new) }
         ensures refused { IfErr result (λ e. e ≡ OutOfMemory ∷ []) }
@@ -48,5 +53,65 @@ impl NamePool {
         let name = RcStr::from_str(alloc, text)?;
         self.texts.insert(name.clone()?)?;
         Ok(Name::from_text(name))
+    }
+}
+
+/// The name of this text among some.
+#[inline(always)]
+fn among<'n>(names: &'n [Name], text: &str) -> Option<&'n Name>
+    ensures found { IfSome result (λ name. name.now ≡ text.now) }
+    ensures held { IfSome result (λ _. holds names.now text.now ≡ true) }
+{
+    for name in names {
+        if is(name.as_str(), text) {
+            return Some(name);
+        }
+    }
+    None
+}
+
+/// The names that a source had so far: the first ones as they came, and further ones by their
+/// order, so that a source of many names takes no longer for each. A contract sees their bytes.
+#[derive(Drop)]
+pub(crate) struct NamePool {
+    first: Vec<Name>,
+    further: OrderedNames,
+}
+
+impl Model for NamePool {
+    ghost use Rattle.std.specs.Prelude.{List, ℕ, ◌++◌};
+
+    ghost Value = { List (List ℕ) };
+
+    ghost view = { λ a. a.first.items ++ a.further };
+}
+
+impl NamePool {
+    /// No names.
+    pub(crate) fn new(alloc: Global) -> NamePool
+        ensures { result ≡ [] }
+    {
+        NamePool {
+            first: Vec::new(alloc),
+            further: OrderedNames::new(alloc),
+        }
+    }
+
+    /// The name of this text, which shares its memory with an earlier one. OutOfMemory.
+    #[inline(always)]
+    pub(crate) fn name(&mut self, alloc: Global, text: &str) -> Result<Name, Error>
+        ensures found { IfOk result (λ name. name ≡ text.now) }
+        ensures kept { OnOk result (IsWith text.now self.old self.new) }
+        ensures refused { IfErr result (λ e. e ≡ OutOfMemory ∷ []) }
+    {
+        if let Some(known) = among(&self.first, text) {
+            return Ok(known.share()?);
+        }
+        if self.first.len() >= FEW {
+            return self.further.name(alloc, text);
+        }
+        let name = Name::new(alloc, text)?;
+        self.first.push(name.share()?)?;
+        Ok(name)
     }
 }

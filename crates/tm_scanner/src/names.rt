@@ -2,7 +2,7 @@
 ghost use Rattle.std.specs.Prelude.{◌≡◌, ◌<◌, true, false, length, nat_eq, IfSome, encode_utf8_all};
 ghost use Rattle.std.specs.Cmp.Lexicographic.{pointwise};
 ghost use Rattle.std.specs.Str.{chars};
-ghost use Rattle.unicode_ident.specs.Ident.{is_xid_continue};
+ghost use Rattle.unicode_ident.specs.Ident.{is_xid_start, is_xid_continue};
 ghost use Rattle.tm_delimiters.specs.Front.{until};
 ghost use Rattle.tm_scanner.specs.Names as spec;
 ghost use Rattle.tm_delimiters.specs.Views.{Shortens, cut_of};
@@ -11,11 +11,35 @@ use tm_delimiters::front::first;
 use tm_syntax::{Sign, Tag};
 
 /// Whether a name may begin with the character.
+#[inline(always)]
 fn starts_name(c: char) -> bool
     ensures value { result ≡ spec.starts_name c }
     ensures goes_on { result ≡ true → is_xid_continue c ≡ true }
 {
-    c == '_' || unicode_ident::is_xid_start(c)
+    c == '_' || starts(c)
+}
+
+/// Whether the character has the property XID_Start.
+#[inline(always)]
+fn starts(c: char) -> bool
+    ensures value { result ≡ is_xid_start c }
+    ensures goes_on { result ≡ true → is_xid_continue c ≡ true }
+{
+    if c.is_ascii() {
+        return c.is_ascii_alphabetic();
+    }
+    unicode_ident::is_xid_start(c)
+}
+
+/// Whether a name may go on with the character.
+#[inline(always)]
+fn goes_on(c: char) -> bool
+    ensures { result ≡ is_xid_continue c }
+{
+    if c.is_ascii() {
+        return c.is_ascii_alphanumeric() || c == '_';
+    }
+    unicode_ident::is_xid_continue(c)
 }
 
 /// Whether a name doesn't go on with the text.
@@ -23,12 +47,13 @@ pub(crate) fn leaves_name(text: &str) -> bool
     ensures { result ≡ spec.leaves_name (chars text.now) }
 {
     match first(text) {
-        Some((c, _)) => !unicode_ident::is_xid_continue(c),
+        Some((c, _)) => !goes_on(c),
         None => true,
     }
 }
 
 /// The longest front of characters that a name may go on with, and what is left behind it.
+#[inline(always)]
 fn run(text: &str) -> (&str, &str)
     ensures front { result.0.now ≡ encode_utf8_all (until spec.leaves_name (chars text.now)).0 }
     ensures back { result.1.now ≡ encode_utf8_all (until spec.leaves_name (chars text.now)).1 }
@@ -37,7 +62,7 @@ fn run(text: &str) -> (&str, &str)
 {
     let mut rest = text;
     while let Some((c, behind)) = first(rest) {
-        if !unicode_ident::is_xid_continue(c) {
+        if !goes_on(c) {
             break;
         }
         rest = behind;
@@ -46,6 +71,7 @@ fn run(text: &str) -> (&str, &str)
 }
 
 /// The longest name at the front, reserved or not, and what is left behind it.
+#[inline(always)]
 pub(crate) fn name_at(text: &str) -> Option<(&str, &str)>
     ensures value { cut_of result ≡ spec.name_at text.now }
     ensures shorter { Shortens result text.now }
@@ -60,7 +86,7 @@ pub(crate) fn name_at(text: &str) -> Option<(&str, &str)>
 
 /// Whether the name is this word; texts of another length aren't read.
 #[inline(always)]
-fn is(name: &str, word: &str) -> bool
+pub(crate) fn is(name: &str, word: &str) -> bool
     ensures { result ≡ pointwise nat_eq word.now name.now }
 {
     name.len() == word.len() && name == word

@@ -19,6 +19,7 @@ use tm_syntax::{Sign, Tag, Token};
 use tm_values::{Error, ErrorKind};
 
 /// Adds the token of a raw text of the source, where it isn't empty. OutOfMemory.
+#[inline(always)]
 pub(crate) fn raw(
     alloc: Global,
     source: &SharedSource<'_>,

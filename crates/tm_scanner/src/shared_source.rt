@@ -35,6 +35,7 @@ impl<'s> SharedSource<'s> {
     }
 
     /// The text of a part, which owns no memory where it stands in this source. OutOfMemory.
+    #[inline(always)]
     pub(crate) fn raw_text(&self, alloc: Global, part: Part<'_>) -> Result<RawText, Error>
         ensures found { IfOk result (λ raw. raw ≡ part.entry.text.now) }
         ensures refused { IfErr result (λ e. e ≡ OutOfMemory ∷ []) }

@@ -18,11 +18,11 @@ push_for-returns-clause-blocks t c =
     (for-else-blocks c.args.for_loop.now c.in-Some.other c.args.blocks.now c.push_rounds.new.blocks c.push_if_true.new.blocks c.in-Some.is
     c.in_ok-push_rounds.ensures.blocks) (rw (← c.as_slice.ensures) c.push_if_true.ensures.blocks)
 
-pub push_statement-returns-in_ok-share-in-Block-clause-blocks : goal.push_statement-returns-in_ok-share-in-Block-clause-blocks
-push_statement-returns-in_ok-share-in-Block-clause-blocks t c =
-    rw c.in-Block.is (on_ok_weaker c.emit-in-Block.result
-    (λ e. block-blocks c.in-Block.name c.in-Block.body c.args.blocks.now c.push_block.new.blocks
-    (rw (← c.as_slice-in-Block.ensures) c.in_ok-push_block-in-Block.ensures.blocks)) c.emit-in-Block.ensures.ok)
+pub push_call_of_block-returns-clause-blocks : goal.push_call_of_block-returns-clause-blocks
+push_call_of_block-returns-clause-blocks t c =
+    on_ok_weaker c.emit.result
+    (λ e. block-blocks c.args.name.now c.args.body.now c.args.blocks.now c.push_block.new.blocks c.in_ok-push_block.ensures.blocks)
+    c.emit.ensures.ok
 
 pub push_statements-loop-statement-preserved : goal.push_statements-loop-statement-preserved
 push_statements-loop-statement-preserved t c =

@@ -4,7 +4,7 @@ use Rattle.tm_syntax.specs.Code.{statements_code}
 use Rattle.tm_syntax.specs.Named.{put_each}
 use Rattle.tm_syntax.specs.declared.tree.Stmt.TheBlock.{hidden-the_row-Stmt-0 as statements}
 use Rattle.tm_generator.specs.Building.{put_in}
-use Rattle.tm_syntax.specs.declared.tree.Stmt.TheVariants.{For, If}
+use Rattle.tm_syntax.specs.declared.tree.Stmt.TheVariants.{AutoEscape, Block, For, If, SetBlock, With}
 use Rattle.tm_syntax.proofs.tree.Stmt.TheLaws.{the_size}
 use Rattle.tm_generator.proofs.statements.+statements.Given as goal
 
@@ -23,6 +23,18 @@ decreases-push_statements l = 5 * goal.size-push_statements l + 3
 
 abbrev pub decreases-push_statement : goal.decreases-push_statement
 decreases-push_statement l = 5 * goal.size-push_statement l + 2
+
+abbrev pub decreases-push_call_of_block : goal.decreases-push_call_of_block
+decreases-push_call_of_block l = 5 * the_size (Block l.name.now l.body.now) + 1
+
+abbrev pub decreases-push_set_block : goal.decreases-push_set_block
+decreases-push_set_block l = 5 * the_size (SetBlock l.target.now l.body.now)
+
+abbrev pub decreases-push_with : goal.decreases-push_with
+decreases-push_with l = 5 * the_size (With l.given.now l.body.now)
+
+abbrev pub decreases-push_escaped : goal.decreases-push_escaped
+decreases-push_escaped l = 5 * the_size (AutoEscape l.value.now l.body.now)
 
 abbrev pub decreases-push_if : goal.decreases-push_if
 decreases-push_if l = 5 * the_size (If l.condition.now l.body.now l.other.now)

@@ -5,7 +5,7 @@ use Rattle.std.specs.Prelude.{not}
 use Rattle.tm_scanner.specs.Names.{leaves_name}
 use Rattle.tm_scanner.proofs.Runs.{begins, goes_on, ends, left_less, seam, split_there}
 use Rattle.tm_scanner.proofs.names.run.Goals as goal
-use Rattle.tm_scanner.proofs.names.run.Goals.{in-Some+then-not-is_xid_continue, in_default}
+use Rattle.tm_scanner.proofs.names.run.Goals.{in-Some+then-not-goes_on, in_default}
 
 pub loop-c-init : goal.loop-c-init
 loop-c-init c = (c.utf8.text, begins c.args.text.now)
@@ -14,7 +14,7 @@ pub loop-c-preserved : goal.loop-c-preserved
 loop-c-preserved c = (
   IsUtf8-past_char _ _ _ c.loop-c.invariant.0 c.in-Some.ensures.value.1,
   goes_on _ _ _ _ _ c.loop-c.invariant.1 c.in-Some.ensures.value.1 c.in-Some.ensures.shorter c.in-Some.ensures.value.0
-      (sym c.if-not-is_xid_continue.ensures.value),
+      (sym c.if-not-goes_on.ensures),
 )
 
 pub split_at-requires : goal.split_at-requires
@@ -31,8 +31,8 @@ returns c =
     (IsCharBoundary-at_seam _ _ _ here.bytes c.loop-c.invariant.0) in
     let over : leaves_name (chars rest) ≡ true =
     elim c.match-first.branch [
-      | in-Some+then-not-is_xid_continue w ↦ ap leaves_name w.in-Some.ensures.value.0
-          ∙ ap not (sym w.if-not-is_xid_continue.ensures.value)
+      | in-Some+then-not-goes_on w ↦ ap leaves_name w.in-Some.ensures.value.0
+          ∙ ap not (sym w.if-not-goes_on.ensures)
       | in_default w ↦ ap leaves_name (ap chars w.in_default.ensures.value
           ∙ chars-nil)
     ] in

@@ -65,8 +65,11 @@ decreases-last_part l = nesting_room * l.depth + 2
 abbrev pub decreases-slice : goal.decreases-slice
 decreases-slice l = nesting_room * l.depth + 3
 
+abbrev pub decreases-called : goal.decreases-called
+decreases-called l = nesting_room * l.depth + 5
+
 abbrev pub decreases-named_step : goal.decreases-named_step
-decreases-named_step l = nesting_room * l.depth + 5
+decreases-named_step l = nesting_room * l.depth + 6
 
 abbrev pub decreases-given : goal.decreases-given
 decreases-given l = nesting_room * l.depth + 5
@@ -84,56 +87,56 @@ abbrev pub decreases-test_step : goal.decreases-test_step
 decreases-test_step l = nesting_room * l.depth + 8
 
 abbrev pub decreases-subscript : goal.decreases-subscript
-decreases-subscript l = nesting_room * l.depth + 4
+decreases-subscript l = nesting_room * l.depth + 5
 
 abbrev pub decreases-bracketed : goal.decreases-bracketed
-decreases-bracketed l = nesting_room * l.depth + 5
+decreases-bracketed l = nesting_room * l.depth + 6
 
 abbrev pub decreases-named : goal.decreases-named
-decreases-named l = nesting_room * l.depth + 5
+decreases-named l = nesting_room * l.depth + 6
 
 abbrev pub decreases-primary : goal.decreases-primary
-decreases-primary l = nesting_room * l.depth + 6
+decreases-primary l = nesting_room * l.depth + 7
 
 -- and so has each level
 abbrev level_room : ℕ
 level_room = 8
 
 abbrev pub decreases-climb : goal.decreases-climb
-decreases-climb l = nesting_room * l.depth + level_room * l.end + 7
+decreases-climb l = nesting_room * l.depth + level_room * l.end + 8
 
 abbrev pub decreases-operand_start : goal.decreases-operand_start
-decreases-operand_start l = nesting_room * l.depth + 7
+decreases-operand_start l = nesting_room * l.depth + 8
 
 abbrev pub decreases-operand : goal.decreases-operand
-decreases-operand l = nesting_room * l.depth + level_room * l.level + 8
+decreases-operand l = nesting_room * l.depth + level_room * l.level + 9
 
 abbrev pub decreases-operation : goal.decreases-operation
-decreases-operation l = nesting_room * l.depth + level_room * l.level + 9
+decreases-operation l = nesting_room * l.depth + level_room * l.level + 10
 
 abbrev pub decreases-one_comparison : goal.decreases-one_comparison
-decreases-one_comparison l = nesting_room * l.depth + level_room * l.level + 9
+decreases-one_comparison l = nesting_room * l.depth + level_room * l.level + 10
 
 abbrev pub decreases-comparisons : goal.decreases-comparisons
-decreases-comparisons l = nesting_room * l.depth + level_room * l.level + 10
+decreases-comparisons l = nesting_room * l.depth + level_room * l.level + 11
 
 abbrev pub decreases-comparison : goal.decreases-comparison
-decreases-comparison l = nesting_room * l.depth + level_room * l.level + 11
+decreases-comparison l = nesting_room * l.depth + level_room * l.level + 12
 
 abbrev pub decreases-conjunction : goal.decreases-conjunction
-decreases-conjunction l = nesting_room * l.depth + level_room * l.level + 9
+decreases-conjunction l = nesting_room * l.depth + level_room * l.level + 10
 
 abbrev pub decreases-disjunction : goal.decreases-disjunction
-decreases-disjunction l = nesting_room * l.depth + level_room * l.level + 9
+decreases-disjunction l = nesting_room * l.depth + level_room * l.level + 10
 
 abbrev pub decreases-step : goal.decreases-step
-decreases-step l = nesting_room * l.depth + level_room * l.level + 12
+decreases-step l = nesting_room * l.depth + level_room * l.level + 13
 
 abbrev pub decreases-one_step : goal.decreases-one_step
-decreases-one_step l = nesting_room * l.depth + level_room * l.level + 13
+decreases-one_step l = nesting_room * l.depth + level_room * l.level + 14
 
 abbrev pub decreases-steps : goal.decreases-steps
-decreases-steps l = nesting_room * l.depth + level_room * l.level + 14
+decreases-steps l = nesting_room * l.depth + level_room * l.level + 15
 
 abbrev pub decreases-whole : goal.decreases-whole
 decreases-whole l = nesting_room * l.depth + 80

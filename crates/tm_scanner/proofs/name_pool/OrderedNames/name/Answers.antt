@@ -5,7 +5,7 @@ use Rattle.std.specs.Cmp.Lexicographic.{pointwise}
 use Rattle.std.specs.Rc.{rc_str_bytes}
 use Rattle.tm_scanner.specs.NamePool.{holds, texts_of}
 use Rattle.tm_scanner.proofs.Pools.{holds-keys, with_held, with_key}
-use Rattle.tm_scanner.proofs.name_pool.NamePool.name.Goals as goal
+use Rattle.tm_scanner.proofs.name_pool.OrderedNames.name.Goals as goal
 
 pub returns-in-Some-clause-found : goal.returns-in-Some-clause-found
 returns-in-Some-clause-found c =

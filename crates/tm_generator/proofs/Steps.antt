@@ -1,0 +1,8 @@
+-- What a builder does in one step.
+use Rattle.tm_generator.specs.Building.{with_one, jumped, left, continued, begun, bound, joined, place_of, outs_of, outer_of}
+use Rattle.tm_generator.specs.Building.{loop_begun, rounds_ended}
+
+-- `unfolding steps` opens each of them
+unfoldable pub steps : Unit {0}
+unfolding with_one jumped left continued begun bound joined place_of outs_of outer_of loop_begun rounds_ended
+steps = tt
