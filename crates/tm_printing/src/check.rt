@@ -15,8 +15,8 @@ use tm_definitions::Form;
 use tm_values::{Error, ErrorKind, Node, Records, Value, ValueMap, find_loop, find_namespace};
 
 /// Whether the value can be printed: InvalidOperation where a loop or a namespace in it has no
-/// record, or a namespace holds itself. OutOfMemory where the list of what is left to check finds
-/// no memory.
+/// record, or a namespace holds itself. OutOfMemory where no memory is found for what is left to
+/// check, or for what is known of namespaces.
 #[inline(always)]
 pub fn check_print<R: Records>(alloc: Global, value: &Value, records: &R) -> Result<(), Error>
     ensures { IsAnswer result (print_verdict (R.records records.now) value.now) }
@@ -30,8 +30,8 @@ pub fn check_print<R: Records>(alloc: Global, value: &Value, records: &R) -> Res
 
 /// Whether the value can be written as JSON: BadSerialization at a number outside -2^63 to 2^64-1,
 /// a key that is no text, a function, a macro or a loop; InvalidOperation at a namespace that has
-/// no record or holds itself; the first of these from the left. OutOfMemory where the list of what
-/// is left to check finds no memory.
+/// no record or holds itself; the first of these from the left. OutOfMemory where no memory is
+/// found for what is left to check, or for what is known of namespaces.
 pub fn check_json<R: Records>(alloc: Global, value: &Value, records: &R) -> Result<(), Error>
     ensures { IsAnswer result (json_verdict (R.records records.now) value.now) }
 {
