@@ -3,7 +3,7 @@ use Rattle.std.proofs.Common.{◌≡◌, ◌⊎◌, inl, inr, ℕ, zero, suc, �
 use Rattle.std.proofs.Common.{Result, Ok, Err, Some, None, OnOk, IfErr, refl, sym, ap, subst, ◌∙◌, append-nil, arith}
 use Rattle.std.proofs.lemmas.Bool.{cases_eq, eqb-true}
 use Rattle.std.specs.Result.{IsErrAnd}
-use Rattle.tm_values.specs.Answer.{IsAnswer, invalid, is_memory_alone}
+use Rattle.tm_values.specs.Answer.{IsAnswer, is_memory_alone}
 use Rattle.tm_values.specs.Records.{RecordData, namespace_at}
 use Rattle.tm_values.specs.Val.{Val, vals_of, pairs_of, pairs_size}
 use Rattle.tm_values.specs.View.{node_view}
@@ -11,11 +11,11 @@ use Rattle.tm_values.specs.declared.error.ErrorKind.{ErrorKind}
 use Rattle.tm_values.specs.declared.error.ErrorKind.TheVariants.{OutOfMemory, InvalidOperation}
 use Rattle.tm_values.specs.declared.value.Node.{Node}
 use Rattle.tm_values.specs.declared.value.Node.TheVariants as node
-use Rattle.tm_definitions.specs.Verdicts.{NamespaceVerdicts, Verdict, fine, and_then, nowhere, through}
+use Rattle.tm_definitions.specs.Verdicts.{NamespaceVerdicts, Verdict, fine, and_then, nowhere}
 use Rattle.tm_definitions.specs.Verdicts.{in_json, key_verdict, verdict, items_verdict, pairs_verdict, namespace_verdict, verdict_within}
 use Rattle.tm_definitions.specs.declared.form.Form.{Form}
 use Rattle.tm_printing.specs.Unchecked.{Part, nothing, part_of, is_end, among, AllFine, HoldsFine, Settled, opens, AllNew}
-use Rattle.tm_printing.specs.Unchecked.{mark_at, mark_of, IsMarked, Remains, unmet, one_each, Stands, Goes}
+use Rattle.tm_printing.specs.Unchecked.{mark_at, mark_of, IsMarked, Remains, one_each, Stands, Goes}
 use Rattle.tm_printing.specs.Unchecked.{one_weight, unchecked_weight, held_weight, to_check, is_namespace}
 use Rattle.tm_printing.specs.declared.check.Mark.{Mark}
 use Rattle.tm_printing.specs.declared.check.Mark.TheVariants as mark

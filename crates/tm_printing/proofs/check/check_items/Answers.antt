@@ -1,4 +1,4 @@
-use Rattle.std.proofs.Common.{◌≡◌, ◌+◌, List, ap, refl, ◌∙◌, arith}
+use Rattle.std.proofs.Common.{◌≡◌, ◌+◌, List, ap, refl, arith}
 use Rattle.tm_values.specs.Val.{Val, val_size, vals_size, vals_of}
 use Rattle.tm_definitions.specs.Verdicts.{items_verdict, verdict}
 use Rattle.tm_printing.proofs.Checks.{no_items, instead, pushed, goes_from, weight-joined, less_after}

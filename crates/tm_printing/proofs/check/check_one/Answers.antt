@@ -1,4 +1,4 @@
-use Rattle.std.proofs.Common.{◌≡◌, ◌+◌, ◌++◌, [], ◌∷◌, List, ap, refl, ◌∙◌, arith}
+use Rattle.std.proofs.Common.{◌++◌, [], ◌∷◌, ap, refl, arith}
 use Rattle.tm_printing.proofs.Checks.{popped, goes_from, goes_closed, less_after, less_marked}
 use Rattle.tm_printing.specs.Unchecked.{nothing, part_of, one_weight}
 use Rattle.tm_printing.specs.declared.check.Unchecked.{Unchecked}

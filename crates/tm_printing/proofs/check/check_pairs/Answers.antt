@@ -1,8 +1,7 @@
-use Rattle.std.proofs.Common.{◌≡◌, ◌+◌, List, ap, sym, refl, ◌∙◌, arith}
+use Rattle.std.proofs.Common.{◌≡◌, ◌+◌, List, ap, refl, ◌∙◌, arith}
 use Rattle.tm_values.specs.Val.{Val, val_size, pairs_size, pairs_of}
 use Rattle.tm_definitions.specs.Verdicts.{Verdict, and_then, verdict, pairs_verdict}
 use Rattle.tm_printing.proofs.Checks.{no_items, goes_passed, instead, pushed, goes_from, goes_key, weight-joined, less_after}
-use Rattle.tm_printing.proofs.Verdicts.{and_then-regroups}
 use Rattle.tm_printing.specs.Unchecked.{Part, nothing, to_check}
 use Rattle.tm_printing.specs.declared.check.Unchecked.TheVariants as unchecked
 use Rattle.tm_printing.proofs.check.check_pairs.Goals as goal

@@ -1,4 +1,4 @@
-use Rattle.std.proofs.Common.{ap, sym, ◌∙◌, ◌+◌, arith}
+use Rattle.std.proofs.Common.{sym, ◌∙◌, ◌+◌, arith}
 use Rattle.tm_definitions.specs.Verdicts.{verdict}
 use Rattle.tm_values.specs.Val.{val_size}
 use Rattle.tm_printing.proofs.Checks.{instead, goes_put, goes_leaf, weight_put, unweighed, no_namespace}

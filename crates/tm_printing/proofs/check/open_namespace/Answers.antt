@@ -1,5 +1,5 @@
-use Rattle.std.proofs.Common.{◌≡◌, ap, sym, subst, ◌∙◌, refl, Some, List, arith}
-use Rattle.tm_values.specs.Val.{Val, pairs_of}
+use Rattle.std.proofs.Common.{◌≡◌, ap, sym, ◌∙◌, refl, Some, arith}
+use Rattle.tm_values.specs.Val.{pairs_of}
 use Rattle.tm_values.specs.Records.{namespace_at}
 use Rattle.tm_definitions.specs.Verdicts.{pairs_verdict}
 use Rattle.tm_printing.proofs.Checks.{opened, goes_from, goes_put, weight-joined, weight_put, weight_opened}
