@@ -246,10 +246,8 @@ fn put<'a>(unchecked: Unchecked<'a>, left: &mut Vec<Unchecked<'a>>) -> Result<()
     ensures items { OnOk result (left.new.items ≡ left.old.items ++ unchecked.entry ∷ []) }
     ensures memory { IfErr result (λ e. e ≡ ErrorKind.OutOfMemory ∷ []) }
 {
-    match left.push(unchecked) {
-        Ok(()) => Ok(()),
-        Err(_) => Err(Error::from(ErrorKind::OutOfMemory)),
-    }
+    left.push(unchecked)?;
+    Ok(())
 }
 
 // The parts of a list, a map or, in JSON, a module.
