@@ -39,7 +39,7 @@ abbrev pub among : List ℕ → Way
 among [] = nowhere
 among (n ∷ ns) = through n (among ns)
 
--- the namespaces of these numbers are fine
+-- the namespaces of these numbers are fine, whatever is said of others
 abbrev pub AllFine : RecordData → List ℕ → NamespaceVerdicts → Type 0
 AllFine r ns inside = (n : ℕ) → among ns n ≡ true → inside r.state n ≡ fine
 
@@ -84,8 +84,9 @@ pub record IsUnmet (r : RecordData) (s n : ℕ) (ps : List (Val × Val)) (marks 
 
 -- ---- what is left
 
--- Of all that is open, also of the whole: what was looked at is fine wherever the namespaces found
--- fine are, so what is left of it has its verdict. The innermost stands last, and `top` behind it.
+-- Of the whole, and of each namespace that is open: what was looked at of it is fine wherever the
+-- namespaces found fine are, so what is left of it has its verdict. The innermost stands last, and
+-- `top` behind the list; `later` is what is left of the one around, which is looked at last.
 abbrev pub Remains : Form → RecordData → List ℕ → Part → Part → Part → List Unchecked → Type 0
 Remains form r fines top whole later [] =
     (inside : NamespaceVerdicts) → AllFine r fines inside → and_then (top inside) (later inside) ≡ whole inside
@@ -113,7 +114,8 @@ unmet size (ps ∷ nss) marks = if_unmet (marks 0) (size ps) + unmet size nss (�
 abbrev pub one_each : List (Val × Val) → ℕ
 one_each ps = 1
 
--- a value of which this part and that list are left to check, where namespaces are marked so
+-- A value of which this part and that list are left to check, where namespaces are marked so. Those
+-- open, those found fine and those that weren't met are all.
 pub record Stands (form : Form) (r : RecordData) (v : Val) (top : Part) (left : List Unchecked) (marks : List Mark) : Type 0 where
   pub fines : List ℕ
   pub settled : Settled form r fines
