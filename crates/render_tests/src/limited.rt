@@ -8,6 +8,11 @@ use template_machine::*;
 const DOUBLED: &str =
     "{% set n = namespace(s=[1]) %}{% for i in range(20) %}{% set n.s = [n.s, n.s] %}{% endfor %}{{ n.s }}";
 
+/// A namespace that holds one twice, which holds another one twice, and so on, sixty deep. To go through each as often as it is held
+/// would take a lifetime.
+const DOUBLED_NAMESPACE: &str =
+    "{% set n = namespace(s=1) %}{% for i in range(60) %}{% set n.s = namespace(a=n.s, b=n.s) %}{% endfor %}{{ n.s }}";
+
 type Bytes = Limited<Counted<Vec<u8>>>;
 
 /// A render into so many bytes: how much of the limit is left, and what stands in the sink behind it.
@@ -69,6 +74,13 @@ static CASES: &[Case] = &[
         limit: 1000,
         left: 0,
         start: "[[[[[[[[[[[[[[[[[[[[[1], [1]], [[1], [1]]], ",
+        fails: true,
+    },
+    Case {
+        source: DOUBLED_NAMESPACE,
+        limit: 1000,
+        left: 0,
+        start: "{\"a\": {\"a\": {\"a\": ",
         fails: true,
     },
 ];

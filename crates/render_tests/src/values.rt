@@ -255,4 +255,8 @@ pub(crate) const WRITTEN: &str = r#"How values are written: plainly, in HTML and
 - {% set n = namespace() %}{% set n.a = [n] %}{% autoescape "html" %}{{ n }}{% endautoescape %} =>  => InvalidOperation
 - {% set n = namespace() %}{% set n.a = [n] %}{% autoescape "json" %}{{ n }}{% endautoescape %} =>  => InvalidOperation
 - {% set n = namespace() %}{% set n.a = [n] %}{{ [range, n] }} =>  => InvalidOperation
-- {% set n = namespace() %}{% set n.a = [n] %}{% autoescape "json" %}{{ [range, n] }}{% endautoescape %} =>  => BadSerialization"#;
+- {% set n = namespace() %}{% set n.a = [n] %}{% autoescape "json" %}{{ [range, n] }}{% endautoescape %} =>  => BadSerialization
+- {% set b = namespace(x=1) %}{% set n = namespace(a=b, b=b) %}{% set n.c = n %}{{ [b, n] }} =>  => InvalidOperation
+- {% set h = namespace(v=1) %}{% for i in range(60) %}{% set h.v = namespace(a=h.v, b=h.v) %}{% endfor %}{{ [h.v, lost] }} =>  => InvalidOperation
+- {% set h = namespace(v=1) %}{% for i in range(60) %}{% set h.v = namespace(a=h.v, b=h.v) %}{% endfor %}{% autoescape "html" %}{{ [h.v, lost] }}{% endautoescape %} =>  => InvalidOperation
+- {% set h = namespace(v=1) %}{% for i in range(60) %}{% set h.v = namespace(a=h.v, b=h.v) %}{% endfor %}{% autoescape "json" %}{{ [h.v, range, lost] }}{% endautoescape %} =>  => BadSerialization"#;

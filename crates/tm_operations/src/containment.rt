@@ -22,12 +22,8 @@ pub fn contains<R: Records>(
 ) -> Result<bool, Error>
     ensures { IsAnswer result (contained behavior (R.records records.now) container.now item.now) }
 {
-    if let Err(error) = check_defined(container, behavior, UndefinedUse::Containment) {
-        return Err(error);
-    }
-    if let Err(error) = check_defined(item, behavior, UndefinedUse::Comparison) {
-        return Err(error);
-    }
+    check_defined(container, behavior, UndefinedUse::Containment)?;
+    check_defined(item, behavior, UndefinedUse::Comparison)?;
     find_in(alloc, container, item, records)
 }
 

@@ -29,9 +29,7 @@ pub fn iterate<R: Records>(
     ensures { IsAnswerRead result (λ items. items.value.items)
         (iterated behavior (R.records records.now) value.now) }
 {
-    if let Err(error) = check_defined(value, behavior, UndefinedUse::Iteration) {
-        return Err(error);
-    }
+    check_defined(value, behavior, UndefinedUse::Iteration)?;
     items(alloc, value, records)
 }
 
@@ -47,10 +45,8 @@ pub fn unpack<R: Records>(
     ensures { IsAnswerRead result (λ items. items.value.items)
         (unpacked (R.records records.now) count value.now) }
 {
-    match items_or(alloc, value, records, ErrorKind::CannotUnpack) {
-        Ok(items) => exactly(alloc, items, count),
-        Err(error) => Err(error),
-    }
+    let items = items_or(alloc, value, records, ErrorKind::CannotUnpack)?;
+    exactly(alloc, items, count)
 }
 
 fn items<R: Records>(alloc: Global, value: &Value, records: &R) -> Result<Rc<Vec<Value>>, Error>

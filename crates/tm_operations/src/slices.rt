@@ -26,9 +26,7 @@ pub fn slice(
 ) -> Result<Value, Error>
     ensures { IsAnswer result (sliced behavior value.now start.now stop.now step.now) }
 {
-    if let Err(error) = check_defined(value, behavior, UndefinedUse::Slice) {
-        return Err(error);
-    }
+    check_defined(value, behavior, UndefinedUse::Slice)?;
     cut_by(alloc, value, start, stop, step)
 }
 

@@ -1,5 +1,6 @@
 pub mod Begun
 pub mod Checks
+pub mod Marked
 pub mod Members
 pub mod Parts
 pub mod Plain

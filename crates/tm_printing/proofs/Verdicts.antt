@@ -1,17 +1,22 @@
 -- Verdicts part by part, and the way through namespaces.
-use mathlib.Core.Path.{fun_ext}
-use Rattle.std.proofs.Common.{◌≡◌, ℕ, suc, Bool, true, false, cond, nat_eq, List, length, ap, sym, ◌∙◌}
-use Rattle.std.proofs.Common.{subst, refl, not, Option, Some, Ok, Err}
-use Rattle.std.proofs.lemmas.Bool.{eqb-true}
+use Rattle.std.proofs.Common.{◌≡◌, ℕ, zero, suc, Bool, true, false, cond, List, ap, ◌∙◌}
+use Rattle.std.proofs.Common.{subst, refl, sym, Option, Some, None, Ok, Err}
 use Rattle.std.specs.Result.{IsErrAnd}
 use Rattle.tm_values.specs.Answer.{Answer, IsAnswer, is_memory_alone, invalid}
 use Rattle.tm_values.specs.Records.{RecordData, namespace_at}
 use Rattle.tm_values.specs.Val.{Val, Pairs, pairs_of}
 use Rattle.tm_values.specs.declared.error.ErrorKind.{ErrorKind}
 use Rattle.tm_definitions.specs.Printed.{entered}
-use Rattle.tm_definitions.specs.Verdicts.{Way, pairs_verdict, through}
-use Rattle.tm_definitions.specs.Verdicts.{nowhere, namespace_verdict, verdict_within}
+use Rattle.tm_definitions.specs.Verdicts.{Verdict, fine, and_then, Way, pairs_verdict, through, namespace_verdict}
 use Rattle.tm_definitions.specs.declared.form.Form.{Form}
+
+pub and_then-fine : (o : Verdict) → and_then o fine ≡ o
+and_then-fine (Ok u) = refl
+and_then-fine (Err chain) = refl
+
+pub and_then-regroups : (a b c : Verdict) → and_then (and_then a b) c ≡ and_then a (and_then b c)
+and_then-regroups (Ok u) b c = refl
+and_then-regroups (Err chain) b c = refl
 
 -- an error that a part of the walk answers is the answer of the whole
 pub passed : {A : Type 0} (r : Answer A) (e : List ErrorKind) (stated : Answer A) → IsErrAnd r (λ x. x ≡ e) →
@@ -29,20 +34,22 @@ namespace-there form r levels below way s n ps more is fresh =
     ∙ (ap (λ (o : Option (List (Val × Val))). entered o invalid (λ qs. cond (way n) invalid (held qs))) is
     ∙ ap (λ (b : Bool). cond b invalid (held (pairs_of ps))) fresh)
 
--- where a number that wasn't on the way is put there and taken away again, the way is as it was
-pub restored : (way : Way) (n q : ℕ) → way n ≡ false → cond (nat_eq n q) false (through n way q) ≡ way q
-restored way n q fresh = by_test (nat_eq n q) refl where
-  by_test : (b : Bool) → nat_eq n q ≡ b → cond b false (cond b true (way q)) ≡ way q
-  by_test true same = sym fresh ∙ ap way (eqb-true n q same)
-  by_test false other = refl
+-- on the way it is refused, however many levels are left
+pub namespace-on_way : (form : Form) (r : RecordData) (levels : ℕ) (way : Way) (s n : ℕ) → way n ≡ true →
+    namespace_verdict form r levels way s n ≡ invalid
+namespace-on_way form r zero way s n there = refl
+namespace-on_way form r (suc below) way s n there = by_case (namespace_at r s n) where
+  held : Pairs → Answer (Unit {0})
+  held = pairs_verdict form r (namespace_verdict form r below (through n way))
 
--- a number that was added wasn't there
-pub not_there : (added there : Bool) → added ≡ not there → added ≡ true → there ≡ false
-not_there added true is new = absurd (cc (is, new))
-not_there added false is new = refl
+  by_case : (o : Option (List (Val × Val))) → entered o invalid (λ qs. cond (way n) invalid (held qs)) ≡ invalid
+  by_case None = refl
+  by_case (Some ps) = ap (λ (b : Bool). cond b invalid (held (pairs_of ps))) there
 
--- at the start no namespace is on the way
-pub at_start : (form : Form) (r : RecordData) (levels : ℕ) (way : Way) (v : Val) → levels ≡ length r.namespaces →
-    ((q : ℕ) → way q ≡ false) → verdict_within form r levels way v ≡ verdict_within form r (length r.namespaces) nowhere v
-at_start form r levels way v all none =
-    ap (λ (l : ℕ). verdict_within form r l way v) all ∙ ap (λ (w : Way). verdict_within form r (length r.namespaces) w v) (fun_ext none)
+-- so is one that isn't there
+pub namespace-missing : (form : Form) (r : RecordData) (levels : ℕ) (way : Way) (s n : ℕ) → namespace_at r s n ≡ None →
+    namespace_verdict form r levels way s n ≡ invalid
+namespace-missing form r zero way s n is = refl
+namespace-missing form r (suc below) way s n is =
+    let held : Pairs → Answer (Unit {0}) = pairs_verdict form r (namespace_verdict form r below (through n way)) in
+    ap (λ (o : Option (List (Val × Val))). entered o invalid (λ qs. cond (way n) invalid (held qs))) is

@@ -61,15 +61,6 @@ keyed_lighter pair ps left p is pos =
     rw is (parts_lighter (val_size pair.1) (pairs_size (pairs_of ps) + 1)
     (val_size pair.0 + val_size pair.1 + pairs_size (pairs_of ps) + 2 + 1) p pos (omega arith))
 
--- where the value and the pairs behind it are put aside
-pub pair_lighter : (pair : Val × Val) (ps left : List (Val × Val)) (p : ℕ) → left ≡ pair ∷ ps → 0 < p →
-    (pairs_size (pairs_of ps) + 1) * p + (val_size pair.1 + 1) * p + val_size pair.0 * p < (pairs_size (pairs_of left) + 1) * p
-pair_lighter pair ps left p is pos =
-    let both : (pairs_size (pairs_of ps) + 1 + (val_size pair.1 + 1)) * p ≡ (pairs_size (pairs_of ps) + 1) * p + (val_size pair.1 + 1) * p =
-    add-mul (pairs_size (pairs_of ps) + 1) (val_size pair.1 + 1) p in
-    rw (is, ← both) (parts_lighter (pairs_size (pairs_of ps) + 1 + (val_size pair.1 + 1)) (val_size pair.0)
-    (val_size pair.0 + val_size pair.1 + pairs_size (pairs_of ps) + 2 + 1) p pos (omega arith))
-
 pub value_lighter : (v ps p : ℕ) → 0 < p → v * p + (ps + 1) * p < (v + ps + 2) * p
 value_lighter v ps p pos = parts_lighter v (ps + 1) (v + ps + 2) p pos (omega arith)
 

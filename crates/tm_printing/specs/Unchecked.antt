@@ -1,90 +1,164 @@
--- What is left to check of a value, and the namespaces on the way.
-use Rattle.std.specs.Prelude.{◌≡◌, ℕ, ◌+◌, ◌*◌, ◌≤◌, Bool, true, false, List, [], ◌∷◌, Result, Ok, Err}
+-- What is left to check of a value, and what is known of the namespaces that were met.
+use Rattle.std.specs.Prelude.{◌≡◌, ℕ, suc, ◌+◌, ◌≤◌, Bool, true, false, cond, List, [], ◌∷◌, length, slice_index_or, Some, Result, Ok, Err}
 use Rattle.tm_values.specs.Answer.{is_memory_alone}
-use Rattle.tm_values.specs.Records.{RecordData}
+use Rattle.tm_values.specs.Records.{RecordData, namespace_at}
 use Rattle.tm_values.specs.Plain.{fits_json}
 use Rattle.tm_values.specs.Val.{number, function, macro, loop, namespace}
 use Rattle.tm_values.specs.Val.{Val, val_size, vals_size, pairs_size, vals_of, pairs_of}
 use Rattle.tm_values.specs.declared.error.ErrorKind.{ErrorKind}
-use Rattle.tm_definitions.specs.Verdicts.{Verdict, fine, and_then, Way, nowhere, through, verdict_within, namespace_verdict, items_verdict}
+use Rattle.tm_definitions.specs.Verdicts.{Verdict, fine, and_then, Way, nowhere, through, verdict_within, items_verdict}
 use Rattle.tm_definitions.specs.Verdicts.{NamespaceVerdicts, pairs_verdict, verdict, loop_verdict, in_json, if_holds, no_json}
 use Rattle.tm_definitions.specs.declared.form.Form.{Form}
-use Rattle.tm_printing.specs.Left.{weight, power}
 use Rattle.tm_printing.specs.declared.check.Unchecked.{Unchecked}
 use Rattle.tm_printing.specs.declared.check.Unchecked.TheVariants as unchecked
+use Rattle.tm_printing.specs.declared.check.Mark.{Mark}
+use Rattle.tm_printing.specs.declared.check.Mark.TheVariants as mark
 
--- of one of them, behind the namespaces on the way to it
-abbrev pub one_verdict : Form → RecordData → Way → Unchecked → Verdict
-one_verdict form r way (unchecked.Items items levels) =
-    items_verdict form r (namespace_verdict form r levels way) (vals_of items.now)
-one_verdict form r way (unchecked.Pairs pairs levels) =
-    pairs_verdict form r (namespace_verdict form r levels way) (pairs_of pairs.now)
-one_verdict form r way (unchecked.Value value levels) = verdict_within form r levels way value.now
-one_verdict form r way (unchecked.End n) = fine
+-- the verdict of a part of the value, by those of the namespaces
+abbrev pub Part : Type 0
+Part = NamespaceVerdicts → Verdict
 
--- what stands behind the end of a namespace in the list lies in that namespace
-abbrev pub way_past : Way → Unchecked → Way
-way_past way (unchecked.Items items levels) = way
-way_past way (unchecked.Pairs pairs levels) = way
-way_past way (unchecked.Value value levels) = way
-way_past way (unchecked.End n) = through n way
+abbrev pub nothing : Part
+nothing inside = fine
 
-abbrev pub way_of : Way → List Unchecked → Way
-way_of way [] = way
-way_of way (x ∷ xs) = way_of (way_past way x) xs
+-- of one of what is left; the end of a namespace stands for the namespace
+abbrev pub part_of : Form → RecordData → Unchecked → Part
+part_of form r (unchecked.Items items) inside = items_verdict form r inside (vals_of items.now)
+part_of form r (unchecked.Pairs pairs) inside = pairs_verdict form r inside (pairs_of pairs.now)
+part_of form r (unchecked.Value value) inside = verdict form r inside value.now
+part_of form r (unchecked.End n) inside = inside r.state n
 
--- of all that is left; the innermost stands last
-abbrev pub left_verdict : Form → RecordData → Way → List Unchecked → Verdict
-left_verdict form r way [] = fine
-left_verdict form r way (x ∷ xs) =
-    and_then (left_verdict form r (way_past way x) xs) (one_verdict form r way x)
+abbrev pub is_end : Unchecked → Bool
+is_end (unchecked.End n) = true
+is_end x = false
 
--- no namespace is entered within itself
-abbrev pub IsNew : Way → Unchecked → Type 0
-IsNew way (unchecked.Items items levels) = Unit
-IsNew way (unchecked.Pairs pairs levels) = Unit
-IsNew way (unchecked.Value value levels) = Unit
-IsNew way (unchecked.End n) = way n ≡ false
+-- ---- namespaces that were met
 
-abbrev pub AllNew : Way → List Unchecked → Type 0
-AllNew way [] = Unit
-AllNew way (x ∷ xs) = IsNew way x × AllNew (way_past way x) xs
+-- these numbers
+abbrev pub among : List ℕ → Way
+among [] = nowhere
+among (n ∷ ns) = through n (among ns)
 
--- the namespaces that are being gone through
-pub record IsWayOf (left : List Unchecked) (way : Way) : Type 0 where
-  pub same : way ≡ way_of nowhere left
-  pub new : AllNew nowhere left
+-- the namespaces of these numbers are fine, whatever is said of others
+abbrev pub AllFine : RecordData → List ℕ → NamespaceVerdicts → Type 0
+AllFine r ns inside = (n : ℕ) → among ns n ≡ true → inside r.state n ≡ fine
 
--- what was looked at is no longer left, or it refuses
-abbrev pub Checked : {U : Type 0} → Form → RecordData → Result U (List ErrorKind) → Verdict
-    → List Unchecked → List Unchecked → Type 0
-Checked form r (Ok u) stated old new =
-    left_verdict form r nowhere new ≡ and_then stated (left_verdict form r nowhere old)
-Checked form r (Err chain) stated old new = is_memory_alone chain ≡ false → stated ≡ Err chain
+-- what a namespace holds is fine wherever these namespaces are
+abbrev pub HoldsFine : Form → RecordData → List ℕ → ℕ → Type 0
+HoldsFine form r ns n = (ps : List (Val × Val)) × ((namespace_at r r.state n ≡ Some ps)
+    × ((inside : NamespaceVerdicts) → AllFine r ns inside → pairs_verdict form r inside (pairs_of ps) ≡ fine))
 
--- ---- how much is left: a level outweighs what any one namespace holds
+-- found fine one after the other, the last one first
+abbrev pub Settled : Form → RecordData → List ℕ → Type 0
+Settled form r [] = Unit
+Settled form r (n ∷ ns) = (among ns n ≡ false) × (HoldsFine form r ns n × Settled form r ns)
 
-abbrev pub level_weight : RecordData → ℕ → ℕ
-level_weight r levels = power (weight r + 1) levels
+-- the namespaces that are open, the innermost first
+abbrev pub opens : List ℕ → List Unchecked → List ℕ
+opens around [] = around
+opens around (unchecked.Items items ∷ xs) = opens around xs
+opens around (unchecked.Pairs pairs ∷ xs) = opens around xs
+opens around (unchecked.Value value ∷ xs) = opens around xs
+opens around (unchecked.End n ∷ xs) = opens (n ∷ around) xs
 
-abbrev pub one_weight : RecordData → Unchecked → ℕ
-one_weight r (unchecked.Items items levels) = (vals_size (vals_of items.now) + 1) * level_weight r levels
-one_weight r (unchecked.Pairs pairs levels) = (pairs_size (pairs_of pairs.now) + 1) * level_weight r levels
-one_weight r (unchecked.Value value levels) = (val_size value.now + 1) * level_weight r levels
-one_weight r (unchecked.End n) = 1
+-- no open one is found fine already, and none is opened within itself
+abbrev pub AllNew : List ℕ → List ℕ → Type 0
+AllNew fines [] = Unit
+AllNew fines (n ∷ around) = (among fines n ≡ false) × ((among around n ≡ false) × AllNew fines around)
 
-abbrev pub unchecked_weight : RecordData → List Unchecked → ℕ
-unchecked_weight r [] = 0
-unchecked_weight r (x ∷ xs) = one_weight r x + unchecked_weight r xs
+abbrev pub mark_at : List Mark → ℕ → Mark
+mark_at marks n = slice_index_or marks n mark.Unmet
+
+abbrev pub mark_of : List ℕ → List ℕ → ℕ → Mark
+mark_of fines around n = cond (among fines n) mark.Fine (cond (among around n) mark.Open mark.Unmet)
+
+-- the mark of one namespace is replaced
+pub record IsMarked (m : Mark) (n : ℕ) (old new : List Mark) : Type 0 where
+  pub here : mark_at new n ≡ m
+  pub elsewhere : (k : ℕ) → (n ≡ k → ⊥) → mark_at new k ≡ mark_at old k
+
+-- a namespace is there, and wasn't met
+pub record IsUnmet (r : RecordData) (s n : ℕ) (ps : List (Val × Val)) (marks : List Mark) : Type 0 where
+  pub there : namespace_at r s n ≡ Some ps
+  pub mark : mark_at marks n ≡ mark.Unmet
+
+-- ---- what is left
+
+-- Of the whole, and of each namespace that is open: what was looked at of it is fine wherever the
+-- namespaces found fine are, so what is left of it has its verdict. The innermost stands last, and
+-- `top` behind the list; `later` is what is left of the one around, which is looked at last.
+abbrev pub Remains : Form → RecordData → List ℕ → Part → Part → Part → List Unchecked → Type 0
+Remains form r fines top whole later [] =
+    (inside : NamespaceVerdicts) → AllFine r fines inside → and_then (top inside) (later inside) ≡ whole inside
+Remains form r fines top whole later (unchecked.Items items ∷ xs) =
+    Remains form r fines top whole (λ inside. and_then (items_verdict form r inside (vals_of items.now)) (later inside)) xs
+Remains form r fines top whole later (unchecked.Pairs pairs ∷ xs) =
+    Remains form r fines top whole (λ inside. and_then (pairs_verdict form r inside (pairs_of pairs.now)) (later inside)) xs
+Remains form r fines top whole later (unchecked.Value value ∷ xs) =
+    Remains form r fines top whole (λ inside. and_then (verdict form r inside value.now) (later inside)) xs
+Remains form r fines top whole later (unchecked.End n ∷ xs) =
+    ((inside : NamespaceVerdicts) → AllFine r fines inside → and_then (inside r.state n) (later inside) ≡ whole inside)
+    × ((ps : List (Val × Val)) × ((namespace_at r r.state n ≡ Some ps)
+    × Remains form r fines top (λ inside. pairs_verdict form r inside (pairs_of ps)) nothing xs))
+
+-- a number for each namespace that wasn't met yet
+abbrev pub if_unmet : Mark → ℕ → ℕ
+if_unmet mark.Unmet n = n
+if_unmet mark.Open n = 0
+if_unmet mark.Fine n = 0
+
+abbrev pub unmet : (List (Val × Val) → ℕ) → List (List (Val × Val)) → (ℕ → Mark) → ℕ
+unmet size [] marks = 0
+unmet size (ps ∷ nss) marks = if_unmet (marks 0) (size ps) + unmet size nss (λ n. marks (suc n))
+
+abbrev pub one_each : List (Val × Val) → ℕ
+one_each ps = 1
+
+-- A value of which this part and that list are left to check, where namespaces are marked so. Those
+-- open, those found fine and those that weren't met are all.
+pub record Stands (form : Form) (r : RecordData) (v : Val) (top : Part) (left : List Unchecked) (marks : List Mark) : Type 0 where
+  pub fines : List ℕ
+  pub settled : Settled form r fines
+  pub new : AllNew fines (opens [] left)
+  pub marked : (n : ℕ) → mark_at marks n ≡ mark_of fines (opens [] left) n
+  pub counted : unmet one_each r.namespaces (mark_at marks) + (length fines + length (opens [] left)) ≡ length r.namespaces
+  pub rest : Remains form r fines top (λ inside. verdict form r inside v) nothing left
+
+-- The part was looked at, and what is left of the whole is in the list; or the whole is refused.
+abbrev pub Goes : {U : Type 0} → Form → RecordData → Result U (List ErrorKind) → Part
+    → List Unchecked → List Mark → List Unchecked → List Mark → Type 0
+Goes form r (Ok u) part left marks new_left new_marks =
+    (v : Val) → Stands form r v part left marks → Stands form r v nothing new_left new_marks
+Goes form r (Err chain) part left marks new_left new_marks = is_memory_alone chain ≡ false
+    → (v : Val) → Stands form r v part left marks
+    → verdict_within form r (length r.namespaces) nowhere v ≡ Err chain
+
+-- ---- how much is left
+
+abbrev pub one_weight : Unchecked → ℕ
+one_weight (unchecked.Items items) = vals_size (vals_of items.now) + 1
+one_weight (unchecked.Pairs pairs) = pairs_size (pairs_of pairs.now) + 1
+one_weight (unchecked.Value value) = val_size value.now + 1
+one_weight (unchecked.End n) = 1
+
+abbrev pub unchecked_weight : List Unchecked → ℕ
+unchecked_weight [] = 0
+unchecked_weight (x ∷ xs) = one_weight x + unchecked_weight xs
+
+-- of a namespace, with its end
+abbrev pub held_weight : List (Val × Val) → ℕ
+held_weight ps = pairs_size (pairs_of ps) + 2
+
+-- Each namespace counts until it is met.
+abbrev pub to_check : RecordData → List Unchecked → List Mark → ℕ
+to_check r left marks = unchecked_weight left + unmet held_weight r.namespaces (mark_at marks)
 
 -- ---- one value
 
 -- the parts of a value, which is no namespace, weigh no more than it
-abbrev pub IsParts : Form → ℕ → Val → Unchecked → Type 0
-IsParts form levels v x = (r : RecordData) (way : Way)
-    → (verdict_within form r levels way v ≡ one_verdict form r way x)
-    × (IsNew way x × ((way_past way x ≡ way)
-    × (one_weight r x ≤ val_size v * level_weight r levels)))
+abbrev pub IsParts : Form → Val → Unchecked → Type 0
+IsParts form v x = ((r : RecordData) (inside : NamespaceVerdicts) → verdict form r inside v ≡ part_of form r x inside)
+    × ((is_end x ≡ false) × (one_weight x ≤ val_size v))
 
 -- of a value without parts; parts are looked at one by one
 abbrev pub leaf_verdict : Form → RecordData → Val → Verdict

@@ -1,22 +1,22 @@
 //! Whether a value can be printed or written as JSON. Nothing is written here.
-ghost use Rattle.std.specs.Prelude.{◌≡◌, ◌+◌, ◌*◌, ◌≤◌, ◌<◌, ◌++◌, ◌∷◌, [], length, IfErr, MatchOption, OnOk, nat_eq};
-ghost use Rattle.std.specs.HashSet.{contains};
+ghost use Rattle.std.specs.Prelude.{◌≡◌, ℕ, ◌+◌, ◌≤◌, ◌<◌, ◌++◌, ◌∷◌, [], length, IfErr, MatchOption, OnOk};
 ghost use Rattle.tm_values.specs.Answer.{IsAnswer};
 ghost use Rattle.tm_values.specs.Plain.{fits_json};
-ghost use Rattle.tm_values.specs.Val.{val_size, vals_size, pairs_size, namespace, vals_of, pairs_of};
+ghost use Rattle.tm_values.specs.Records.{RecordData};
+ghost use Rattle.tm_values.specs.Val.{val_size, vals_size, pairs_size, vals_of, pairs_of};
 ghost use Rattle.tm_printing.specs.Plain.{is_plain};
-ghost use Rattle.tm_printing.specs.Unchecked.{Checked, IsLeaf, IsParts, IsWayOf, leaf_verdict, level_weight, unchecked_weight};
+ghost use Rattle.tm_printing.specs.Unchecked.{Goes, IsLeaf, IsParts, IsMarked, IsUnmet, leaf_verdict, mark_at};
+ghost use Rattle.tm_printing.specs.Unchecked.{nothing, one_weight, to_check};
 ghost use Rattle.tm_definitions.specs.Verdicts.{in_json, key_verdict, if_holds, no_json, nowhere, items_verdict};
-ghost use Rattle.tm_definitions.specs.Verdicts.{pairs_verdict, namespace_verdict, loop_verdict, verdict_within, print_verdict, json_verdict};
+ghost use Rattle.tm_definitions.specs.Verdicts.{pairs_verdict, loop_verdict, verdict, verdict_within, print_verdict, json_verdict};
 
 use std::alloc::Global;
-use std::collections::HashSet;
 use tm_definitions::Form;
-use tm_values::{Error, ErrorKind, Node, Records, Value, find_loop, find_namespace};
+use tm_values::{Error, ErrorKind, Node, Records, Value, ValueMap, find_loop, find_namespace};
 
 /// Whether the value can be printed: InvalidOperation where a loop or a namespace in it has no
-/// record, or a namespace holds itself. OutOfMemory where the list of what is left to check finds
-/// no memory.
+/// record, or a namespace holds itself. OutOfMemory where no memory is found for what is left to
+/// check, or for what is known of namespaces.
 #[inline(always)]
 pub fn check_print<R: Records>(alloc: Global, value: &Value, records: &R) -> Result<(), Error>
     ensures { IsAnswer result (print_verdict (R.records records.now) value.now) }
@@ -30,200 +30,238 @@ pub fn check_print<R: Records>(alloc: Global, value: &Value, records: &R) -> Res
 
 /// Whether the value can be written as JSON: BadSerialization at a number outside -2^63 to 2^64-1,
 /// a key that is no text, a function, a macro or a loop; InvalidOperation at a namespace that has
-/// no record or holds itself; the first of these from the left. OutOfMemory where the list of what
-/// is left to check finds no memory.
+/// no record or holds itself; the first of these from the left. OutOfMemory where no memory is
+/// found for what is left to check, or for what is known of namespaces.
 pub fn check_json<R: Records>(alloc: Global, value: &Value, records: &R) -> Result<(), Error>
     ensures { IsAnswer result (json_verdict (R.records records.now) value.now) }
 {
     check(Form::Json, alloc, value, records)
 }
 
-/// What is left to check. Namespaces in it are entered so many levels deep.
+/// What is left to check.
 #[derive(Clone, Copy)]
 pub enum Unchecked<'a> {
     /// Items of a list.
-    Items(&'a [Value], usize),
+    Items(&'a [Value]),
     /// Pairs of a map or a namespace.
-    Pairs(&'a [(Value, Value)], usize),
+    Pairs(&'a [(Value, Value)]),
     /// A value of a pair.
-    Value(&'a Value, usize),
+    Value(&'a Value),
     /// The end of the namespace of this number.
     End(usize),
 }
 
-// What is looked at is in the list, and the numbers of the namespaces that are being gone through
-// are in `way`.
+/// What is known of a namespace.
+#[derive(Clone, Copy)]
+pub enum Mark {
+    /// It wasn't met.
+    Unmet,
+    /// It is being gone through.
+    Open,
+    /// Nothing in it is refused.
+    Fine,
+}
+
+// What is left is in a list, and what is known of namespaces in `marks`, by their numbers: each is
+// gone through once.
 fn check<R: Records>(form: Form, alloc: Global, value: &Value, records: &R) -> Result<(), Error>
     ensures { IsAnswer result (verdict_within form (R.records records.now)
         (length (R.records records.now).namespaces) nowhere value.now) }
 {
     let mut left = Vec::new(alloc);
-    let mut way = HashSet::new(alloc);
-    enter(
-        form,
-        value,
-        records.namespace_count(),
-        records,
-        &mut left,
-        &mut way,
-    )?;
+    let mut marks = Vec::new(alloc);
+    enter(form, value, records, &mut left, &mut marks)?;
     while let Some(last) = left.pop() {
-        match last {
-            Unchecked::Items(items, levels) => {
-                check_items(form, items, levels, records, &mut left, &mut way)?
-            }
-            Unchecked::Pairs(pairs, levels) => {
-                check_pairs(form, pairs, levels, records, &mut left, &mut way)?
-            }
-            Unchecked::Value(value, levels) => {
-                enter(form, value, levels, records, &mut left, &mut way)?
-            }
-            Unchecked::End(index) => {
-                way.remove(&index);
-            }
-        }
+        check_one(form, last, records, &mut left, &mut marks)?
     }
     Ok(())
+}
+
+// Checks one of what is left.
+fn check_one<'a, R: Records>(
+    form: Form,
+    last: Unchecked<'a>,
+    records: &'a R,
+    left: &mut Vec<Unchecked<'a>>,
+    marks: &mut Vec<Mark>,
+) -> Result<(), Error>
+    ensures verdict { Goes form (R.records records.now) result nothing
+        (left.old.items ++ last.entry ∷ []) marks.old.items left.new.items marks.new.items }
+    ensures weight { OnOk result (to_check (R.records records.now) left.new.items marks.new.items
+        < to_check (R.records records.now) left.old.items marks.old.items + one_weight last.entry) }
+{
+    match last {
+        Unchecked::Items(items) => check_items(form, items, records, left, marks),
+        Unchecked::Pairs(pairs) => check_pairs(form, pairs, records, left, marks),
+        Unchecked::Value(value) => enter(form, value, records, left, marks),
+        Unchecked::End(index) => set_mark(Mark::Fine, index, marks),
+    }
 }
 
 // Checks the first item, and puts the others into the list.
 fn check_items<'a, R: Records>(
     form: Form,
     items: &'a [Value],
-    levels: usize,
     records: &'a R,
     left: &mut Vec<Unchecked<'a>>,
-    way: &mut HashSet<usize>,
+    marks: &mut Vec<Mark>,
 ) -> Result<(), Error>
-    requires { IsWayOf left.old.items (contains nat_eq way.old) }
-    ensures verdict { Checked form (R.records records.now) result (items_verdict form
-        (R.records records.now) (namespace_verdict form (R.records records.now) levels
-        (contains nat_eq way.old)) (vals_of items.now)) left.old.items left.new.items }
-    ensures way { OnOk result (IsWayOf left.new.items (contains nat_eq way.new)) }
-    ensures weight { OnOk result (unchecked_weight (R.records records.now) left.new.items
-        < unchecked_weight (R.records records.now) left.old.items
-        + (vals_size (vals_of items.now) + 1) * level_weight (R.records records.now) levels) }
+    ensures verdict { Goes form (R.records records.now) result
+        (λ inside. items_verdict form (R.records records.now) inside (vals_of items.now))
+        left.old.items marks.old.items left.new.items marks.new.items }
+    ensures weight { OnOk result (to_check (R.records records.now) left.new.items marks.new.items
+        < to_check (R.records records.now) left.old.items marks.old.items
+        + (vals_size (vals_of items.now) + 1)) }
 {
     let Some((item, behind)) = items.split_first() else {
         return Ok(());
     };
-    put(Unchecked::Items(behind, levels), left)?;
-    enter(form, item, levels, records, left, way)
+    put(Unchecked::Items(behind), left)?;
+    enter(form, item, records, left, marks)
 }
 
 // Checks the first pair's key, and puts its value and the other pairs into the list.
 fn check_pairs<'a, R: Records>(
     form: Form,
     pairs: &'a [(Value, Value)],
-    levels: usize,
     records: &'a R,
     left: &mut Vec<Unchecked<'a>>,
-    way: &mut HashSet<usize>,
+    marks: &mut Vec<Mark>,
 ) -> Result<(), Error>
-    requires { IsWayOf left.old.items (contains nat_eq way.old) }
-    ensures verdict { Checked form (R.records records.now) result (pairs_verdict form
-        (R.records records.now) (namespace_verdict form (R.records records.now) levels
-        (contains nat_eq way.old)) (pairs_of pairs.now)) left.old.items left.new.items }
-    ensures way { OnOk result (IsWayOf left.new.items (contains nat_eq way.new)) }
-    ensures weight { OnOk result (unchecked_weight (R.records records.now) left.new.items
-        < unchecked_weight (R.records records.now) left.old.items
-        + (pairs_size (pairs_of pairs.now) + 1) * level_weight (R.records records.now) levels) }
+    ensures verdict { Goes form (R.records records.now) result
+        (λ inside. pairs_verdict form (R.records records.now) inside (pairs_of pairs.now))
+        left.old.items marks.old.items left.new.items marks.new.items }
+    ensures weight { OnOk result (to_check (R.records records.now) left.new.items marks.new.items
+        < to_check (R.records records.now) left.old.items marks.old.items
+        + (pairs_size (pairs_of pairs.now) + 1)) }
 {
     let Some((pair, behind)) = pairs.split_first() else {
         return Ok(());
     };
     check_key(form, &pair.0)?;
-    put(Unchecked::Pairs(behind, levels), left)?;
-    put(Unchecked::Value(&pair.1, levels), left)?;
-    enter(form, &pair.0, levels, records, left, way)
+    put(Unchecked::Pairs(behind), left)?;
+    put(Unchecked::Value(&pair.1), left)?;
+    enter(form, &pair.0, records, left, marks)
 }
 
 // Checks a value without parts, or puts the parts into the list.
 fn enter<'a, R: Records>(
     form: Form,
     value: &'a Value,
-    levels: usize,
     records: &'a R,
     left: &mut Vec<Unchecked<'a>>,
-    way: &mut HashSet<usize>,
+    marks: &mut Vec<Mark>,
 ) -> Result<(), Error>
-    requires { IsWayOf left.old.items (contains nat_eq way.old) }
-    ensures verdict { Checked form (R.records records.now) result (verdict_within form
-        (R.records records.now) levels (contains nat_eq way.old) value.now)
-        left.old.items left.new.items }
-    ensures way { OnOk result (IsWayOf left.new.items (contains nat_eq way.new)) }
-    ensures weight { OnOk result (unchecked_weight (R.records records.now) left.new.items
-        ≤ unchecked_weight (R.records records.now) left.old.items
-        + val_size value.now * level_weight (R.records records.now) levels) }
+    ensures verdict { Goes form (R.records records.now) result
+        (λ inside. verdict form (R.records records.now) inside value.now)
+        left.old.items marks.old.items left.new.items marks.new.items }
+    ensures weight { OnOk result (to_check (R.records records.now) left.new.items marks.new.items
+        ≤ to_check (R.records records.now) left.old.items marks.old.items + val_size value.now) }
 {
     if is_plain(form, value) {
         return Ok(());
     }
     match &value.node {
-        Node::Namespace(state, index) => {
-            enter_namespace(form, *state, *index, levels, records, left, way)
-        }
-        _ => match parts(form, value, levels) {
+        Node::Namespace(state, index) => enter_namespace(
+            form, *state, *index, records, left, marks,
+        ),
+        _ => match parts(form, value) {
             Some(parts) => put(parts, left),
             None => check_leaf(form, value, records),
         },
     }
 }
 
-// Puts what a namespace holds into the list, and before that its end.
+// Opens a namespace that wasn't met before. One that is open holds itself.
 fn enter_namespace<'a, R: Records>(
     form: Form,
     state: u64,
     index: usize,
-    levels: usize,
     records: &'a R,
     left: &mut Vec<Unchecked<'a>>,
-    way: &mut HashSet<usize>,
+    marks: &mut Vec<Mark>,
 ) -> Result<(), Error>
-    requires { IsWayOf left.old.items (contains nat_eq way.old) }
-    ensures verdict { Checked form (R.records records.now) result (verdict_within form
-        (R.records records.now) levels (contains nat_eq way.old) (namespace state index))
-        left.old.items left.new.items }
-    ensures way { OnOk result (IsWayOf left.new.items (contains nat_eq way.new)) }
-    ensures weight { OnOk result (unchecked_weight (R.records records.now) left.new.items
-        ≤ unchecked_weight (R.records records.now) left.old.items
-        + level_weight (R.records records.now) levels) }
+    ensures verdict { Goes form (R.records records.now) result (λ inside. inside state index)
+        left.old.items marks.old.items left.new.items marks.new.items }
+    ensures weight { OnOk result (to_check (R.records records.now) left.new.items marks.new.items
+        ≤ to_check (R.records records.now) left.old.items marks.old.items) }
 {
-    let Some(inside) = levels.checked_sub(1) else {
-        return Err(Error::from(ErrorKind::InvalidOperation));
-    };
     let Some(entries) = find_namespace(records, state, index) else {
         return Err(Error::from(ErrorKind::InvalidOperation));
     };
-    if !way.insert(index)? {
-        return Err(Error::from(ErrorKind::InvalidOperation));
+    match mark_at(index, marks.as_slice()) {
+        Mark::Fine => Ok(()),
+        Mark::Open => Err(Error::from(ErrorKind::InvalidOperation)),
+        Mark::Unmet => open_namespace(index, entries, left, marks),
     }
+}
+
+// Puts what a namespace holds into the list, and before that its end. It is fine no sooner than
+// there.
+fn open_namespace<'a>(
+    index: usize,
+    entries: &'a ValueMap,
+    left: &mut Vec<Unchecked<'a>>,
+    marks: &mut Vec<Mark>,
+) -> Result<(), Error>
+    ensures verdict { (form : Form) (r : RecordData) (state : ℕ)
+        → IsUnmet r state index entries.now marks.old.items
+        → Goes form r result (λ inside. inside state index)
+        left.old.items marks.old.items left.new.items marks.new.items }
+    ensures weight { (r : RecordData) (state : ℕ)
+        → IsUnmet r state index entries.now marks.old.items
+        → OnOk result (to_check r left.new.items marks.new.items
+        ≤ to_check r left.old.items marks.old.items) }
+{
+    set_mark(Mark::Open, index, marks)?;
     put(Unchecked::End(index), left)?;
-    put(Unchecked::Pairs(entries.pairs(), inside), left)
+    put(Unchecked::Pairs(entries.pairs()), left)
+}
+
+// What is known of a namespace.
+fn mark_at(index: usize, marks: &[Mark]) -> Mark
+    ensures { result ≡ mark_at marks.now index }
+{
+    match marks.get(index) {
+        Some(mark) => *mark,
+        None => Mark::Unmet,
+    }
+}
+
+// Replaces a namespace's mark.
+fn set_mark(mark: Mark, index: usize, marks: &mut Vec<Mark>) -> Result<(), Error>
+    ensures marked { OnOk result (IsMarked mark index marks.old.items marks.new.items) }
+    ensures memory { IfErr result (λ e. e ≡ ErrorKind.OutOfMemory ∷ []) }
+{
+    if index < marks.len() {
+        marks[index] = mark;
+        return Ok(());
+    }
+    marks.resize(index, Mark::Unmet)?;
+    marks.push(mark)?;
+    Ok(())
 }
 
 fn put<'a>(unchecked: Unchecked<'a>, left: &mut Vec<Unchecked<'a>>) -> Result<(), Error>
     ensures items { OnOk result (left.new.items ≡ left.old.items ++ unchecked.entry ∷ []) }
     ensures memory { IfErr result (λ e. e ≡ ErrorKind.OutOfMemory ∷ []) }
 {
-    match left.push(unchecked) {
-        Ok(()) => Ok(()),
-        Err(_) => Err(Error::from(ErrorKind::OutOfMemory)),
-    }
+    left.push(unchecked)?;
+    Ok(())
 }
 
 // The parts of a list, a map or, in JSON, a module.
-fn parts<'a>(form: Form, value: &'a Value, levels: usize) -> Option<Unchecked<'a>>
-    ensures { MatchOption result (IsLeaf form value.now) (IsParts form levels value.now) }
+fn parts<'a>(form: Form, value: &'a Value) -> Option<Unchecked<'a>>
+    ensures { MatchOption result (IsLeaf form value.now) (IsParts form value.now) }
 {
     match &value.node {
-        Node::List(items, _) => Some(Unchecked::Items(items.as_slice(), levels)),
+        Node::List(items, _) => Some(Unchecked::Items(items.as_slice())),
         Node::Map(pairs, _) | Node::Keywords(pairs, _) => {
-            Some(Unchecked::Pairs(pairs.as_slice(), levels))
+            Some(Unchecked::Pairs(pairs.as_slice()))
         }
         Node::Exports(pairs, _) => match form {
             Form::Printed => None,
-            Form::Json => Some(Unchecked::Pairs(pairs.as_slice(), levels)),
+            Form::Json => Some(Unchecked::Pairs(pairs.as_slice())),
         },
         _ => None,
     }

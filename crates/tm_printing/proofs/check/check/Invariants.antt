@@ -1,17 +1,9 @@
-use Rattle.std.proofs.Common.{◌≡◌, nat_eq, length}
-use Rattle.std.specs.HashSet.{contains}
-use Rattle.tm_definitions.specs.Verdicts.{nowhere, verdict_within}
-use Rattle.tm_printing.specs.Unchecked.{left_verdict, IsWayOf, unchecked_weight}
+use Rattle.tm_printing.specs.Unchecked.{Stands, nothing, to_check}
 use Rattle.tm_printing.proofs.check.check.Given as goal
 
 abbrev pub decreases-loop-last : goal.decreases-loop-last
-decreases-loop-last g l = unchecked_weight (g.R.Records.records l.records) l.left.items
+decreases-loop-last g l = to_check (g.R.Records.records l.records) l.left.items l.marks.items
 
--- what is left is as fine as the whole value
+-- what is left is left of the whole value
 abbrev pub invariant-loop-last : goal.invariant-loop-last
-invariant-loop-last g l =
-    let r = g.R.Records.records l.records in
-    record {
-      rest : left_verdict l.form r nowhere l.left.items ≡ verdict_within l.form r (length r.namespaces) nowhere l.value;
-      way : IsWayOf l.left.items (contains nat_eq l.way);
-    }
+invariant-loop-last g l = Stands l.form (g.R.Records.records l.records) l.value nothing l.left.items l.marks.items
