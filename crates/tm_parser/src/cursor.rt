@@ -244,7 +244,21 @@ impl<'t> Cursor<'t> {
 
     /// Takes a literal or a word for a value, and answers a second owner of the value. OutOfMemory
     /// where there can be none.
+    #[inline(always)]
     pub fn take_constant(&mut self) -> Result<Option<Value>, Error>
+        ensures { MatchResult result
+            (λ value. TakesFirst value self.old self.new (first_sees a_constant self.old))
+            (λ e. e ≡ ErrorKind.OutOfMemory ∷ []) }
+    {
+        match self.rest {
+            [Token::Name(_), ..] => Ok(None),
+            _ => self.read_constant(),
+        }
+    }
+
+    /// The same; a call of its own, since most values are names.
+    #[inline(never)]
+    fn read_constant(&mut self) -> Result<Option<Value>, Error>
         ensures { MatchResult result
             (λ value. TakesFirst value self.old self.new (first_sees a_constant self.old))
             (λ e. e ≡ ErrorKind.OutOfMemory ∷ []) }

@@ -71,7 +71,7 @@ fn among<'n>(names: &'n [Name], text: &str) -> Option<&'n Name>
 }
 
 /// The names that a source had so far: the first ones as they came, and further ones by their
-/// order, so that a source of many names takes no longer for each. A contract sees their bytes.
+/// order, so that each of many costs few comparisons. A contract sees their bytes.
 #[derive(Drop)]
 pub(crate) struct NamePool {
     first: Vec<Name>,

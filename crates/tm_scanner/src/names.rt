@@ -19,7 +19,7 @@ fn starts_name(c: char) -> bool
     c == '_' || starts(c)
 }
 
-/// Whether the character has the property XID_Start.
+/// Whether the character has the property XID_Start; for ASCII no table is read.
 #[inline(always)]
 fn starts(c: char) -> bool
     ensures value { result ≡ is_xid_start c }
@@ -31,7 +31,7 @@ fn starts(c: char) -> bool
     unicode_ident::is_xid_start(c)
 }
 
-/// Whether a name may go on with the character.
+/// Whether a name may go on with the character; for ASCII no table is read.
 #[inline(always)]
 fn goes_on(c: char) -> bool
     ensures { result ≡ is_xid_continue c }
