@@ -37,24 +37,16 @@ pub fn concatenate_to<R: Records>(
 ) -> Result<Value, Error>
     ensures { IsAnswer result (concatenated behavior (R.records records.now) left right.now) }
 {
-    if let Err(error) = check_defined(&left, behavior, UndefinedUse::Comparison) {
-        return Err(error);
-    }
-    if let Err(error) = check_defined(right, behavior, UndefinedUse::Comparison) {
-        return Err(error);
-    }
+    check_defined(&left, behavior, UndefinedUse::Comparison)?;
+    check_defined(right, behavior, UndefinedUse::Comparison)?;
     join(alloc, left, right, records)
 }
 
 fn join<R: Records>(alloc: Global, left: Value, right: &Value, records: &R) -> Result<Value, Error>
     ensures { IsAnswer result (joined (R.records records.now) left right.now) }
 {
-    if let Err(error) = check_print(alloc, &left, records) {
-        return Err(error);
-    }
-    if let Err(error) = check_print(alloc, right, records) {
-        return Err(error);
-    }
+    check_print(alloc, &left, records)?;
+    check_print(alloc, right, records)?;
     let mut text = into_printed(alloc, left, records)?;
     print_behind(alloc, right, records, &mut text)?;
     Ok(Value::shared_text(text, false))
