@@ -3,6 +3,7 @@
 
 mod applied;
 mod calls;
+mod fuel;
 mod records;
 mod saved;
 mod state;

@@ -7,9 +7,8 @@ ghost use Rattle.tm_meaning.specs.Memory.{is_want_of_memory};
 ghost use Rattle.tm_syntax.specs.Named.{find, name_cmp, put, put_each, texts_of};
 ghost use Rattle.tm_meaning.specs.World.{depth, with_escape, innermost, loop_depth, top_loop, top_mark, next_turn};
 ghost use Rattle.tm_meaning.specs.World.{cleared, pop, store, set_member, make_namespace, emitted, records_of};
-ghost use Rattle.tm_meaning.specs.World.{HostValue, fuel_levels, find_name, view_of, name_of, Good, Bad, block_of};
+ghost use Rattle.tm_meaning.specs.World.{HostValue, find_name, view_of, name_of, Good, Bad, block_of};
 ghost use Rattle.tm_meaning.specs.Calls.{enter_block, given_by, refused, of_loop, told_changed, told_turn};
-ghost use Rattle.tm_meaning.specs.Steps.{charge_of, pay};
 ghost use Rattle.tm_definitions.specs.Emitted.{emitted_text};
 ghost use Rattle.tm_tables.specs.Known.{AreFound, NamingFails};
 ghost use Rattle.tm_tables.specs.Scopes.{PushFails};
@@ -25,10 +24,10 @@ use std::rc::Rc;
 use tm_meaning::{GlobalFunction, LoopMark, StreamId, TemplateId};
 use tm_operations::{check_settable, dict, namespace, range};
 use tm_printing::check_emission;
-use tm_syntax::{Code, Instruction, LoopFlags, Name, NameMap};
+use tm_syntax::{Code, LoopFlags, Name, NameMap};
 use tm_tables::{
-    Called, Context, Exhausted, Frame, FuelTracker, Host, LoopState, View, following_at,
-    position_at, previous_at,
+    Called, Context, Frame, FuelTracker, Host, LoopState, View, following_at, position_at,
+    previous_at,
 };
 use tm_values::{
     AutoEscape, Error, ErrorKind, LoopPosition, Node, Records, UndefinedUse, Value, ValueMap,
@@ -48,8 +47,8 @@ pub struct StateData<'env> {
     block: Option<Name>,
     escape: AutoEscape,
     stream: StreamId,
-    fuel: FuelTracker,
-    fuel_is_set: bool,
+    pub(crate) fuel: FuelTracker,
+    pub(crate) fuel_is_set: bool,
 }
 
 impl<'env> Model for StateData<'env> {
@@ -112,49 +111,6 @@ impl<'env> StateData<'env> {
             fuel: FuelTracker::new(fuel.unwrap_or(u64::MAX)),
             fuel_is_set: fuel.is_some(),
         })
-    }
-
-    /// The fuel consumed and the fuel left, where fuel was set; together they are what was set.
-    pub fn fuel_levels(&self) -> Option<(u64, u64)>
-        ensures levels { result ≡ fuel_levels self.now }
-        ensures sum { IfSome result (λ p. Some (p.0 + p.1) ≡ self.now.fuel_set) }
-    {
-        if self.fuel_is_set {
-            Some((self.fuel.consumed(), self.fuel.remaining()))
-        } else {
-            None
-        }
-    }
-
-    /// Charges an instruction; Exhausted where no more than its charge is left.
-    #[inline(always)]
-    pub fn charge(&mut self, instruction: &Instruction) -> Result<(), Exhausted>
-        ensures ok { OnOk result (pay instruction.now self.old ≡ Good tt self.new) }
-        ensures err { OnErr result
-            (pay instruction.now self.old ≡ Bad (ErrorKind.OutOfFuel ∷ []) self.new) }
-        ensures spent { OnOk result
-            (self.new.fuel + charge_of instruction.now ≡ self.old.fuel) }
-        ensures kept { KeepsIdAndFuel self.old self.new }
-        ensures rest { self.new ≡ record self.old { fuel = self.new.fuel } }
-    {
-        self.fuel.pay(instruction)
-    }
-
-    /// Whether a charge of one can be paid.
-    #[inline(always)]
-    pub fn can_pay(&self) -> bool
-        ensures { result ≡ nat_lt 1 self.now.fuel }
-    {
-        self.fuel.can_pay()
-    }
-
-    /// Pays a charge of one.
-    #[inline(always)]
-    pub fn pay_one(&mut self)
-        requires { 1 < self.old.fuel }
-        ensures { self.new ≡ record self.old { fuel = self.old.fuel - 1 } }
-    {
-        self.fuel.pay_one();
     }
 
     /// The innermost scope's own value of a name, where it has one.

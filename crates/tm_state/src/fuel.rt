@@ -1,0 +1,55 @@
+//! The fuel of a state.
+ghost use Rattle.std.specs.Prelude.{◌≡◌, ◌+◌, ◌-◌, ◌<◌, [], ◌∷◌, Some, IfSome, OnOk, OnErr, nat_lt};
+ghost use Rattle.tm_values.specs.declared.error.ErrorKind.TheVariants.{OutOfFuel};
+ghost use Rattle.tm_meaning.specs.World.{fuel_levels, Good, Bad};
+ghost use Rattle.tm_meaning.specs.Steps.{charge_of, pay};
+ghost use Rattle.tm_state.specs.Answers.{KeepsIdAndFuel};
+
+use crate::state::StateData;
+use tm_syntax::Instruction;
+use tm_tables::Exhausted;
+
+impl StateData<'_> {
+    /// The fuel consumed and the fuel left, where fuel was set; together they are what was set.
+    pub fn fuel_levels(&self) -> Option<(u64, u64)>
+        ensures levels { result ≡ fuel_levels self.now }
+        ensures sum { IfSome result (λ p. Some (p.0 + p.1) ≡ self.now.fuel_set) }
+    {
+        if self.fuel_is_set {
+            Some((self.fuel.consumed(), self.fuel.remaining()))
+        } else {
+            None
+        }
+    }
+
+    /// Charges an instruction; Exhausted where no more than its charge is left.
+    #[inline(always)]
+    pub fn charge(&mut self, instruction: &Instruction) -> Result<(), Exhausted>
+        ensures ok { OnOk result (pay instruction.now self.old ≡ Good tt self.new) }
+        ensures err { OnErr result
+            (pay instruction.now self.old ≡ Bad (OutOfFuel ∷ []) self.new) }
+        ensures spent { OnOk result
+            (self.new.fuel + charge_of instruction.now ≡ self.old.fuel) }
+        ensures kept { KeepsIdAndFuel self.old self.new }
+        ensures rest { self.new ≡ record self.old { fuel = self.new.fuel } }
+    {
+        self.fuel.pay(instruction)
+    }
+
+    /// Whether a charge of one can be paid.
+    #[inline(always)]
+    pub fn can_pay(&self) -> bool
+        ensures { result ≡ nat_lt 1 self.now.fuel }
+    {
+        self.fuel.can_pay()
+    }
+
+    /// Pays a charge of one.
+    #[inline(always)]
+    pub fn pay_one(&mut self)
+        requires { 1 < self.old.fuel }
+        ensures { self.new ≡ record self.old { fuel = self.old.fuel - 1 } }
+    {
+        self.fuel.pay_one();
+    }
+}
