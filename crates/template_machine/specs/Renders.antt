@@ -46,7 +46,7 @@ greatest = 2 ^ 64 - 1
 abbrev pub first : {O : Type 0} → (O → StatedObjects) → TemplateValue O → ℕ → Val → World
 first stated t id context = first_world (host_of stated t) t.id id t.environment.fuel context
 
--- what a template means from a world, where these are the functions of objects
+-- what a template means from a world, where objects state this
 abbrev pub meaning_from : {O : Type 0} → (O → StatedObjects) → TemplateValue O → World → Outcome
 meaning_from stated t w = rendered (host_of stated t) (trees t) w
 
