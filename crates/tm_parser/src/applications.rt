@@ -10,7 +10,7 @@ use crate::primaries::Passed;
 use sqlite_items::Items;
 use std::alloc::Global;
 use tm_syntax::{Application, Argument, Name, Sign, Step};
-use tm_values::Error;
+use tm_values::{Error, SharedText};
 
 // Each method reads one rule, with `depth` nestings to go. SyntaxError where no tokens spell it.
 impl Cursor<'_> {
@@ -108,32 +108,31 @@ impl Cursor<'_> {
     fn more_parts(&mut self, alloc: Global, first: Name) -> Result<Name, Error>
         ensures { Parses result self.new ((more_parts first).reads self.old) }
     {
-        let mut name = first;
+        let mut name = SharedText::from_str(alloc, first.as_str())?;
         while self.take(Sign::Dot) {
-            name = self.one_part(alloc, name)?;
+            name = self.one_part(name)?;
         }
-        Ok(name)
+        Ok(Name::new(alloc, name.as_str())?)
     }
 
     /// A name, behind the names before it and a dot.
     #[tactic(auto, unfolding(crate::specs::Grammar::one_part))]
-    fn one_part(&mut self, alloc: Global, before: Name) -> Result<Name, Error>
+    fn one_part(&mut self, before: SharedText) -> Result<SharedText, Error>
         ensures { Parses result self.new ((one_part before).reads self.old) }
     {
         let name = self.expect_name()?;
-        joined(alloc, &before, &name)
+        joined(before, &name)
     }
 }
 
-/// Two names with a dot between them. OutOfMemory for want of memory.
-fn joined(alloc: Global, before: &Name, name: &Name) -> Result<Name, Error>
+/// Two names with a dot between them, the first of which is added to. OutOfMemory for want of memory.
+fn joined(before: SharedText, name: &Name) -> Result<SharedText, Error>
     ensures { MatchResult result
-        (λ whole. whole ≡ before.now ++ codes "." ++ name.now)
+        (λ whole. whole ≡ before ++ codes "." ++ name.now)
         (λ e. e ≡ OutOfMemory ∷ []) }
 {
-    let mut text = String::new(alloc);
-    text.push_str(before.as_str())?;
-    text.push_str(".")?;
-    text.push_str(name.as_str())?;
-    Ok(Name::new(alloc, text.as_str())?)
+    let mut whole = before;
+    whole.append(".")?;
+    whole.append(name.as_str())?;
+    Ok(whole)
 }
