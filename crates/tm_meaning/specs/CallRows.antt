@@ -5,6 +5,7 @@ use Rattle.tm_values.specs.declared.error.ErrorKind.{ErrorKind}
 use Rattle.tm_syntax.specs.declared.tree.BinaryOperator.TheVariants as binaries
 use Rattle.tm_syntax.specs.declared.tree.Expr.{Expr, Const, List', Call', end_of-Expr as no_expr, more_of-Expr as expr}
 use Rattle.tm_syntax.specs.declared.tree.Expr.{end_of-Argument as no_argument, more_of-Argument as argument, end_of-Keyword as no_keyword}
+use Rattle.tm_syntax.specs.declared.tree.Expr.{more_of-Keyword as keyword_and}
 use Rattle.tm_syntax.specs.declared.tree.Expr.{end_of-Step as no_step, more_of-Step as step}
 use Rattle.tm_syntax.specs.declared.tree.Application.{Application}
 use Rattle.tm_syntax.specs.declared.tree.Application.TheVariants as applications
@@ -12,7 +13,7 @@ use Rattle.tm_syntax.specs.declared.tree.Step.{Attribute, Apply'}
 use Rattle.tm_syntax.specs.declared.tree.AssignmentTarget.{Name as To, Attribute as Member}
 use Rattle.tm_syntax.specs.declared.tree.Stmt.{Stmt, EmitExpr, EmitLoop, For', Set, Do, end_of-Stmt as no_statement}
 use Rattle.tm_syntax.specs.declared.tree.Stmt.{more_of-Stmt as statement, None' as no_else}
-use Rattle.tm_syntax.specs.Forms.{chained, plain, with_keyword, binary}
+use Rattle.tm_syntax.specs.Forms.{chained, plain, keyword, binary}
 use Rattle.tm_meaning.specs.World.{find, Stated, Function, callers, languages}
 use Rattle.tm_meaning.specs.declared.reply.Reply.{Reply}
 use Rattle.tm_meaning.specs.declared.reply.Reply.TheVariants.{Value as gives, Fault as faults}
@@ -82,7 +83,7 @@ abbrev pub called : List ℕ → Expr → Expr
 called f a = Call' f (tt ∷ []) (argument (plain a) no_argument) [] no_keyword
 
 abbrev pub one_named : List ℕ → List ℕ → Expr → Expr
-one_named f k a = Call' f [] no_argument (tt ∷ []) (with_keyword k a no_keyword)
+one_named f k a = Call' f [] no_argument (tt ∷ []) (keyword_and (keyword k a) no_keyword)
 
 -- {{ range(3) }}
 abbrev pub range_of_three : Page
@@ -99,7 +100,7 @@ map_of_a n = Const (map (pairs_of ((text (codes "a") false, number (pos n)) ∷ 
 abbrev pub dict_by_names : Page
 dict_by_names =
     with_languages (page (one (EmitExpr (Call' (codes "dict") (tt ∷ []) (argument (plain (map_of_a 1)) no_argument)
-    (tt ∷ tt ∷ []) (with_keyword (codes "a") (literal_number 2) (with_keyword (codes "b") (literal_number 3) no_keyword))))) nothing)
+    (tt ∷ tt ∷ []) (keyword_and (keyword (codes "a") (literal_number 2)) (keyword_and (keyword (codes "b") (literal_number 3)) no_keyword))))) nothing)
 
 abbrev pub ns : Expr
 ns = named (codes "ns")

@@ -122,6 +122,11 @@ abbrev pub call_value : HostValue → Val → List Val → World → Asked
 call_value host (function n) args w = ask (need (slice_get host.functions n) InvalidOperation w) (λ f world1. call_by host f args world1)
 call_value host v args w = refused (InvalidOperation ∷ []) w
 
+-- the first of the values is called with the others
+abbrev pub call_callee : HostValue → List Val → World → Asked
+call_callee host [] w = refused (InvalidOperation ∷ []) w
+call_callee host (v ∷ args) w = call_value host v args w
+
 -- ---------------------------------------------------------------- methods
 -- whether these arguments differ from those that were kept last
 abbrev pub is_changed : Option (List Val) → List Val → Bool

@@ -14,10 +14,10 @@ use Rattle.tm_meaning.specs.World.{items_over, Res, Good, answered, looked_up, e
 use Rattle.tm_meaning.specs.World.{set_member, push, pop, plain_scope, captured_text}
 use Rattle.tm_syntax.specs.Loops.{loops_before}
 use Rattle.tm_syntax.specs.declared.tree.Application.{Application}
-use Rattle.tm_meaning.specs.Calls.{enter_block, call_named, applied, call_innermost}
+use Rattle.tm_meaning.specs.Calls.{enter_block, call_named, call_callee, applied, call_innermost}
 use Rattle.tm_meaning.specs.Meaning.{none_waits, truth, applied_unary, operated, attribute, item_at, slice_of, list_of_values, map_of_pairs}
-use Rattle.tm_meaning.specs.Meaning.{keyword_map}
-use Rattle.tm_meaning.specs.Machine.{Capture, Return, Activation, Config, Base, Next, More, after, on_top, take_n, on, goes, pushed}
+use Rattle.tm_meaning.specs.Meaning.{keyword_map, merged_values, items_of_lists}
+use Rattle.tm_meaning.specs.Machine.{Capture, Return, Activation, Config, Base, Next, More, after, on_top, take_n, onto, on, goes, pushed}
 use Rattle.tm_meaning.specs.Machine.{Program, jumps, stuck, with_world, audible, writes, new_capture, captured_value, asked, asked_in_place}
 
 -- ---------------------------------------------------------------- output
@@ -77,9 +77,6 @@ slice_instruction_of host c =
     after (slice_of host v start stop by c.world) (λ x w. goes (x ∷ rest) w c)))))
 
 -- ---------------------------------------------------------------- lists and maps
-abbrev pub list_on : ℕ → List Val → Config → Next
-list_on n us c = take_n n us c.world (λ vs rest. goes (list_of_values vs ∷ rest) c.world c)
-
 -- how many a number counts
 abbrev pub count_in : Val → Option ℕ
 count_in (number (pos n)) = Some n
@@ -89,10 +86,13 @@ abbrev pub on_count : Option ℕ → World → (ℕ → Next) → Next
 on_count None w f = stuck w
 on_count (Some n) w f = f n
 
--- so many values, or as many as the number on top of them counts
+-- so many values, the lowest first, or as many as the number on top of them counts
+abbrev pub take_counted : Option ℕ → List Val → World → (List Val → List Val → Next) → Next
+take_counted (Some n) vs w f = take_n n vs w f
+take_counted None vs w f = on_top vs w (λ v us. on_count (count_in v) w (λ n. take_n n us w f))
+
 abbrev pub build_list_of : Option ℕ → Config → Next
-build_list_of (Some n) c = list_on n c.run.operands c
-build_list_of None c = on_top c.run.operands c.world (λ v us. on_count (count_in v) c.world (λ n. list_on n us c))
+build_list_of n c = take_counted n c.run.operands c.world (λ vs rest. goes (list_of_values vs ∷ rest) c.world c)
 
 -- keys, each with its value behind it
 abbrev pub paired : List Val → List (Val × Val)
@@ -105,6 +105,19 @@ build_map_of n c = take_n (n + n) c.run.operands c.world (λ vs rest. goes (map_
 -- names, each with its value behind it
 abbrev pub build_kwargs_of : ℕ → Config → Next
 build_kwargs_of n c = take_n (n + n) c.run.operands c.world (λ vs rest. goes (keyword_map (paired vs) ∷ rest) c.world c)
+
+-- ---------------------------------------------------------------- what is spread
+abbrev pub merge_kwargs_of : HostValue → ℕ → Config → Next
+merge_kwargs_of host n c =
+    take_n n c.run.operands c.world (λ vs rest. after (merged_values host vs c.world) (λ v w. goes (v ∷ rest) w c))
+
+-- how many items there are, on top of these
+abbrev pub group_on : List Val → List Val → List Val
+group_on vs rest = number (pos (length vs)) ∷ onto vs rest
+
+abbrev pub unpack_lists_of : HostValue → ℕ → Config → Next
+unpack_lists_of host n c =
+    take_n n c.run.operands c.world (λ vs rest. after (items_of_lists host vs c.world) (λ us w. goes (group_on us rest) w c))
 
 -- ---------------------------------------------------------------- jumps
 abbrev pub jump_of : ℕ → Config → Next
@@ -240,12 +253,17 @@ abbrev pub pop_auto_escape_of : Config → Next
 pop_auto_escape_of c = pop_auto_escape_with c.run.escapes c
 
 -- ---------------------------------------------------------------- calls
-abbrev pub call_function_of : Program → List ℕ → ℕ → Config → Next
-call_function_of p x n c = take_n n c.run.operands c.world (λ vs rest. asked p c rest (call_named p.host x vs c.world))
+abbrev pub call_function_of : Program → List ℕ → Option ℕ → Config → Next
+call_function_of p x n c =
+    take_counted n c.run.operands c.world (λ vs rest. asked p c rest (call_named p.host x vs c.world))
 
 -- values are passed to what a name stands for: the first one's method, a filter or a test
-abbrev pub apply_of : Program → Application → List ℕ → ℕ → Config → Next
-apply_of p k x n c = take_n n c.run.operands c.world (λ vs rest. asked p c rest (applied p.host k x vs c.world))
+abbrev pub apply_of : Program → Application → List ℕ → Option ℕ → Config → Next
+apply_of p k x n c = take_counted n c.run.operands c.world (λ vs rest. asked p c rest (applied p.host k x vs c.world))
+
+-- the first of the values is called with the others
+abbrev pub call_object_of : Program → Option ℕ → Config → Next
+call_object_of p n c = take_counted n c.run.operands c.world (λ vs rest. asked p c rest (call_callee p.host vs c.world))
 
 abbrev pub call_block_of : Program → Base → List ℕ → Config → Next
 call_block_of p f b c =

@@ -95,6 +95,11 @@ on_taken (Some r) w f = f r.0 r.1
 abbrev pub take_n : ℕ → List Val → World → (List Val → List Val → Next) → Next
 take_n n vs w f = on_taken (taken n [] vs) w f
 
+-- values on others, the last on top
+abbrev pub onto : List Val → List Val → List Val
+onto [] stack = stack
+onto (v ∷ vs) stack = onto vs (v ∷ stack)
+
 abbrev pub at_place : ℕ → List Val → Config → Config
 at_place n vs c = record c { run = record c.run { place = n; operands = vs } }
 

@@ -15,6 +15,8 @@ use Rattle.tm_definitions.specs.Truth.{truth_of}
 use Rattle.tm_definitions.specs.Comparison.{compared}
 use Rattle.tm_definitions.specs.Concatenation.{concatenated}
 use Rattle.tm_definitions.specs.Containment.{contained}
+use Rattle.tm_definitions.specs.Iteration.{items_of_all}
+use Rattle.tm_definitions.specs.Maps.{merged}
 use Rattle.tm_definitions.specs.Members.{attribute_of, item_of}
 use Rattle.tm_definitions.specs.Slices.{sliced}
 use Rattle.tm_definitions.specs.declared.comparison.ComparisonOperator.TheVariants as comparison
@@ -25,12 +27,13 @@ use Rattle.tm_syntax.specs.declared.tree.BinaryOperator.TheVariants as binaries
 use Rattle.tm_syntax.specs.declared.tree.Expr.{Expr, Var, Const, List', Tuple', Map', Call', Row_of-Expr, end_of-Expr as no_expr}
 use Rattle.tm_syntax.specs.declared.tree.Expr.{more_of-Expr as expr, Row_of-Pair, end_of-Pair as no_pair, Row_of-Argument}
 use Rattle.tm_syntax.specs.declared.tree.Expr.{end_of-Argument as no_argument, more_of-Argument as argument, Row_of-Keyword}
-use Rattle.tm_syntax.specs.declared.tree.Expr.{end_of-Keyword as no_keyword, Row_of-Step, end_of-Step as no_step, more_of-Step as step}
+use Rattle.tm_syntax.specs.declared.tree.Expr.{end_of-Keyword as no_keyword, more_of-Keyword as keyword_and, Row_of-Step}
+use Rattle.tm_syntax.specs.declared.tree.Expr.{end_of-Step as no_step, more_of-Step as step}
 use Rattle.tm_syntax.specs.declared.tree.Expr.{Row_of-Condition, end_of-Condition as no_condition}
 use Rattle.tm_syntax.specs.declared.tree.Argument.{Argument}
 use Rattle.tm_syntax.specs.declared.tree.Application.{Application}
 use Rattle.tm_syntax.specs.declared.tree.Application.TheVariants as applications
-use Rattle.tm_syntax.specs.declared.tree.Step.{Step, Attribute, Apply', Row_of-Comparison, end_of-Comparison as no_comparison}
+use Rattle.tm_syntax.specs.declared.tree.Step.{Step, Attribute, Apply', Call' as Called, Row_of-Comparison, end_of-Comparison as no_comparison}
 use Rattle.tm_syntax.specs.declared.tree.AssignmentTarget.{AssignmentTarget, Name as To, Unpack' as Items, Attribute as Member}
 use Rattle.tm_syntax.specs.declared.tree.AssignmentTarget.{Row_of-AssignmentTarget}
 use Rattle.tm_syntax.specs.declared.tree.AssignmentTarget.{end_of-AssignmentTarget as no_target, more_of-AssignmentTarget as target}
@@ -39,15 +42,15 @@ use Rattle.tm_syntax.specs.declared.tree.Stmt.{Stmt, EmitRaw, EmitExpr, EmitLoop
 use Rattle.tm_syntax.specs.declared.tree.Stmt.{With', Do, AutoEscape', Row_of-Stmt, end_of-Stmt as no_statement}
 use Rattle.tm_syntax.specs.declared.tree.Stmt.{more_of-Stmt as statement, Held-Stmt-If-2 as Otherwise, None' as no_else}
 use Rattle.tm_syntax.specs.declared.tree.Stmt.{Some' as otherwise}
-use Rattle.tm_syntax.specs.Forms.{unary, chained, conditional, with_condition, with_comparison, with_pair, plain, with_keyword, item}
-use Rattle.tm_syntax.specs.Forms.{slice, binary, compare, and_then, or_else}
-use Rattle.tm_syntax.specs.Code.{count_targets, for_flags, pass_flags}
+use Rattle.tm_syntax.specs.Forms.{unary, chained, conditional, with_condition, with_comparison, with_pair, plain, spread, keyword, item}
+use Rattle.tm_syntax.specs.Forms.{spread_keywords, slice, binary, compare, and_then, or_else}
+use Rattle.tm_syntax.specs.Code.{has_spread, has_spread_keyword, count_targets, for_flags, pass_flags}
 use Rattle.tm_syntax.specs.Loops.{passes, within_loop, past, pasts, FoundLoop, loops_in}
 use Rattle.tm_meaning.specs.World.{choose, TemplateId, root_of, World, HostValue, Res, Good, Bad, bind, answered, tick, ticked, looked_up}
 use Rattle.tm_meaning.specs.World.{records_of, template_at, emitted, escape_for, with_escape, captured_text, open_loop, next_turn}
 use Rattle.tm_meaning.specs.World.{cleared, items_over, store, set_member, unpacked_items, push, pop, plain_scope}
 use Rattle.tm_meaning.specs.Calls.{Callee, whole, Call, Asked, has, refused, runs, recurs, undone, wrapped, enter_block, call_named}
-use Rattle.tm_meaning.specs.Calls.{applied, call_innermost, own_blocks}
+use Rattle.tm_meaning.specs.Calls.{applied, call_callee, call_innermost, own_blocks}
 use Rattle.tm_meaning.specs.Tree.{Body, Trees}
 
 -- ---------------------------------------------------------------- runs and outcomes
@@ -221,6 +224,50 @@ map_of_pairs ps = map (pairs_of (put_all ps))
 abbrev pub keyword_map : List (Val × Val) → Val
 keyword_map ps = keywords (pairs_of (put_all ps))
 
+-- ---------------------------------------------------------------- arguments
+-- the keyword map of the pairs of all maps that are spread
+abbrev pub merged_values : HostValue → List Val → World → Res Val
+merged_values host vs w =
+    bind (answered (merged host.undefined (records_of w) vs) w) (λ ps world1. Good (keywords (pairs_of ps)) world1)
+
+-- the items of all lists
+abbrev pub items_of_lists : HostValue → List Val → World → Res (List Val)
+items_of_lists host vs w = answered (items_of_all host.undefined (records_of w) vs) w
+
+-- A row of values is a list, and one of names with their values a keyword map, charged, where there are any.
+abbrev pub listed : List Val → World → Res (List Val)
+listed [] w = Good [] w
+listed (v ∷ vs) w = ticked w (λ world1. Good (list_of_values (v ∷ vs) ∷ []) world1)
+
+abbrev pub mapped : List (Val × Val) → World → Res (List Val)
+mapped [] w = Good [] w
+mapped (p ∷ ps) w = ticked w (λ world1. Good (keyword_map (p ∷ ps) ∷ []) world1)
+
+-- maps become one, charged, where one was spread
+abbrev pub merged_by : Bool → HostValue → List Val → World → Res (List Val)
+merged_by false host ms w = Good ms w
+merged_by true host ms w = ticked w (λ world1. bind (merged_values host ms world1) (λ v world2. Good (v ∷ []) world2))
+
+-- What stands under a name is evaluated behind what stands at a place.
+abbrev pub both_passed : List Val → (World → Res (List Val)) → (World → Res (List Val)) → World → Res (List Val)
+both_passed before by_place by_name w =
+    bind (by_place w) (λ vs world1. bind (by_name world1) (λ ks world2. Good (before ++ (vs ++ ks)) world2))
+
+-- What a call is passed, behind values before the arguments: one by one; or the items of lists, charged, where some are spread.
+abbrev pub passed_by : Bool → HostValue → List Val → (World → Res (List Val)) → (World → Res (List Val)) →
+    ((World → Res (List Val)) → World → Res (List Val)) → World → Res (List Val)
+passed_by false host before by_place by_name lists w = both_passed before by_place by_name w
+passed_by true host before by_place by_name lists w =
+    bind (lists by_name w) (λ ls world1. ticked world1 (λ world2. items_of_lists host ls world2))
+
+abbrev pub named_by : {n : _} → HostValue → Row_of-Keyword n → (World → Res (List Val)) → World → Res (List Val)
+named_by host named maps w = bind (maps w) (λ ms world1. merged_by (has_spread_keyword named) host ms world1)
+
+abbrev pub passed : {n m : _} → HostValue → List Val → Row_of-Argument n → Row_of-Keyword m → (World → Res (List Val)) →
+    (World → Res (List Val)) → ((World → Res (List Val)) → World → Res (List Val)) → World → Res (List Val)
+passed host before given named by_place maps lists w =
+    passed_by (has_spread given) host before by_place (named_by host named maps) lists w
+
 -- what a test answered is turned round, charged, where that is asked for
 abbrev pub turned : HostValue → Application → Val → World → Res Val
 turned host applications.Method v w = Good v w
@@ -243,8 +290,9 @@ abbrev mutual
   eval u run (Tuple' _ es) w = bind (eval_all u run es w) (λ vs world1. ticked world1 (λ world2. Good (list_of_values vs) world2))
   eval u run (Map' _ ps) w = bind (eval_pairs u run ps w) (λ es world1. ticked world1 (λ world2. Good (map_of_pairs es) world2))
   eval u run (Call' f _ given _ named) w =
-      bind (eval_arguments u run given w) (λ vs world1. bind (eval_named u run named world1) (λ ks world2.
-      ticked world2 (λ world3. value_of u run (call_named u.host f (vs ++ ks) world3))))
+      bind (passed u.host [] given named (λ world1. eval_arguments u run given world1) (λ world1. eval_keywords u run [] named world1)
+      (λ by_name world1. eval_lists u run [] given by_name world1) w) (λ vs world1.
+      ticked world1 (λ world2. value_of u run (call_named u.host f vs world2)))
   eval u run (unary op a) w = bind (eval u run a w) (λ v world1. ticked world1 (λ world2. applied_unary u.host op v world2))
   eval u run (chained a _ ss) w = bind (eval u run a w) (λ v world1. eval_steps u run ss v world1)
   eval u run (conditional a _ cs) w = eval_conditions u run cs (λ world1. eval u run a world1) w
@@ -270,32 +318,42 @@ abbrev mutual
 
   pub eval_argument : Under → Run → Argument → World → Res Val
   eval_argument u run (plain a) w = eval u run a w
+  eval_argument u run (spread a) w = eval u run a w
 
   pub eval_arguments : {n : _} → Under → Run → Row_of-Argument n → World → Res (List Val)
   eval_arguments u run no_argument w = Good [] w
   eval_arguments u run (argument a more) w =
       bind (eval_argument u run a w) (λ v world1. bind (eval_arguments u run more world1) (λ vs world2. Good (v ∷ vs) world2))
 
-  -- a name, charged, before its value
-  pub eval_keywords : {n : _} → Under → Run → Row_of-Keyword n → World → Res (List (Val × Val))
-  eval_keywords u run no_keyword w = Good [] w
-  eval_keywords u run (with_keyword x a more) w =
-      ticked w (λ world1. bind (eval u run a world1) (λ v world2.
-      bind (eval_keywords u run more world2) (λ ks world3. Good ((text x false, v) ∷ ks) world3)))
+  -- behind a row of values: each row as a list, and each value that is spread; what stands under a name is in the last row
+  pub eval_lists : {n : _} → Under → Run → List Val → Row_of-Argument n → (World → Res (List Val)) → World → Res (List Val)
+  eval_lists u run row no_argument by_name w = bind (by_name w) (λ ks world1. listed (row ++ ks) world1)
+  eval_lists u run row (argument (plain a) more) by_name w =
+      bind (eval u run a w) (λ v world1. eval_lists u run (row ++ v ∷ []) more by_name world1)
+  eval_lists u run row (argument (spread a) more) by_name w =
+      bind (listed row w) (λ ls world1. bind (eval u run a world1) (λ v world2.
+      bind (eval_lists u run [] more by_name world2) (λ vs world3. Good (ls ++ v ∷ vs) world3)))
 
-  -- arguments by their names are one argument, charged, where there are any
-  pub eval_named : {n : _} → Under → Run → Row_of-Keyword n → World → Res (List Val)
-  eval_named u run no_keyword w = Good [] w
-  eval_named u run (with_keyword x a more) w =
-      ticked w (λ world1. bind (eval u run a world1) (λ v world2. bind (eval_keywords u run more world2) (λ ks world3.
-      ticked world3 (λ world4. Good (keyword_map ((text x false, v) ∷ ks) ∷ []) world4))))
+  -- behind a row of names with their values, a name being charged: each row as a map, and each value that is spread
+  pub eval_keywords : {n : _} → Under → Run → List (Val × Val) → Row_of-Keyword n → World → Res (List Val)
+  eval_keywords u run row no_keyword w = mapped row w
+  eval_keywords u run row (keyword_and (keyword x a) more) w =
+      ticked w (λ world1. bind (eval u run a world1) (λ v world2. eval_keywords u run (row ++ (text x false, v) ∷ []) more world2))
+  eval_keywords u run row (keyword_and (spread_keywords a) more) w =
+      bind (mapped row w) (λ ms world1. bind (eval u run a world1) (λ v world2.
+      bind (eval_keywords u run [] more world2) (λ ns world3. Good (ms ++ v ∷ ns) world3)))
 
   -- a value goes on; `and` and `or` charge their test, and give the operand that ran last
   pub eval_step : Under → Run → Step → Val → World → Res Val
   eval_step u run (Attribute x) v w = ticked w (λ world1. attribute u.host v x world1)
   eval_step u run (Apply' k x _ given _ named) v w =
-      bind (eval_arguments u run given w) (λ vs world1. bind (eval_named u run named world1) (λ ks world2.
-      ticked world2 (λ world3. bind (value_of u run (applied u.host k x (v ∷ (vs ++ ks)) world3)) (λ y world4. turned u.host k y world4))))
+      bind (passed u.host (v ∷ []) given named (λ world1. eval_arguments u run given world1)
+      (λ world1. eval_keywords u run [] named world1) (λ by_name world1. eval_lists u run (v ∷ []) given by_name world1) w) (λ vs world1.
+      ticked world1 (λ world2. bind (value_of u run (applied u.host k x vs world2)) (λ y world3. turned u.host k y world3)))
+  eval_step u run (Called _ given _ named) v w =
+      bind (passed u.host (v ∷ []) given named (λ world1. eval_arguments u run given world1)
+      (λ world1. eval_keywords u run [] named world1) (λ by_name world1. eval_lists u run (v ∷ []) given by_name world1) w) (λ vs world1.
+      ticked world1 (λ world2. value_of u run (call_callee u.host vs world2)))
   eval_step u run (item a) v w = bind (eval u run a w) (λ k world1. ticked world1 (λ world2. item_at u.host v k world2))
   eval_step u run (slice a b c) v w =
       bind (eval u run a w) (λ x world1. bind (eval u run b world1) (λ y world2.

@@ -13,6 +13,7 @@ use Rattle.tm_meaning.specs.Machine.{with_world}
 use Rattle.tm_meaning.specs.Instructions.{emit_raw_of, emit_of, lookup_of, load_const_of, get_attr_of, unary_of, binary_of}
 use Rattle.tm_meaning.specs.Instructions.{compare_and_preserve_of, swap_of, dup_top_of, discard_top_of, get_item_of, slice_instruction_of}
 use Rattle.tm_meaning.specs.Instructions.{build_list_of, build_map_of, build_kwargs_of, jump_of, jump_if_false_of, jump_if_false_or_pop_of}
+use Rattle.tm_meaning.specs.Instructions.{merge_kwargs_of, unpack_lists_of, call_object_of}
 use Rattle.tm_meaning.specs.Instructions.{jump_if_true_or_pop_of, call_function_of, apply_of, fast_recurse_of, call_block_of}
 use Rattle.tm_meaning.specs.Instructions.{store_local_of, unpack_list_of, set_attr_of, push_with_of, pop_frame_of, push_loop_of, iterate_of}
 use Rattle.tm_meaning.specs.Instructions.{push_did_not_iterate_of, pop_loop_frame_of, begin_capture_of, end_capture_of, push_auto_escape_of}
@@ -41,6 +42,8 @@ charge_of (i.BuildList _) = 1
 charge_of (i.BuildTuple _) = 1
 charge_of (i.BuildMap _) = 1
 charge_of (i.BuildKwargs _) = 1
+charge_of (i.MergeKwargs _) = 1
+charge_of (i.UnpackLists _) = 1
 charge_of i.Eq = 1
 charge_of i.Ne = 1
 charge_of i.Lt = 1
@@ -66,6 +69,7 @@ charge_of (i.JumpIfFalseOrPop _) = 1
 charge_of (i.JumpIfTrueOrPop _) = 1
 charge_of (i.CallFunction _ _) = 1
 charge_of (i.CallMethod _ _) = 1
+charge_of (i.CallObject _) = 1
 charge_of (i.ApplyFilter _ _) = 1
 charge_of (i.PerformTest _ _) = 1
 charge_of (i.CallBlock _) = 1
@@ -92,6 +96,8 @@ effect p f (i.BuildList n) c = build_list_of n c
 effect p f (i.BuildTuple n) c = build_list_of (Some n) c
 effect p f (i.BuildMap n) c = build_map_of n c
 effect p f (i.BuildKwargs n) c = build_kwargs_of n c
+effect p f (i.MergeKwargs n) c = merge_kwargs_of p.host n c
+effect p f (i.UnpackLists n) c = unpack_lists_of p.host n c
 effect p f i.Eq c = binary_of p.host binaries.Equal c
 effect p f i.Ne c = binary_of p.host binaries.NotEqual c
 effect p f i.Lt c = binary_of p.host binaries.Less c
@@ -119,6 +125,7 @@ effect p f (i.JumpIfFalseOrPop n) c = jump_if_false_or_pop_of p.host n c
 effect p f (i.JumpIfTrueOrPop n) c = jump_if_true_or_pop_of p.host n c
 effect p f (i.CallFunction x n) c = call_function_of p x n c
 effect p f (i.CallMethod x n) c = apply_of p applications.Method x n c
+effect p f (i.CallObject n) c = call_object_of p n c
 effect p f (i.ApplyFilter x n) c = apply_of p applications.Filter x n c
 effect p f (i.PerformTest x n) c = apply_of p applications.Test x n c
 effect p f i.FastRecurse c = fast_recurse_of p f c

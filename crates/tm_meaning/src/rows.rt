@@ -24,8 +24,12 @@ ghost use Rattle.tm_meaning.specs.CallRows.{summed, do_call, last_function, faul
 ghost use Rattle.tm_meaning.specs.CallRows.{unknown_behind};
 ghost use Rattle.tm_meaning.specs.FilterRows.{in_capitals, one_after_the_other, not_odd, divided, not_divided};
 ghost use Rattle.tm_meaning.specs.FilterRows.{is_unsure, under, unknown};
+ghost use Rattle.tm_meaning.specs.Rows.{x};
+ghost use Rattle.tm_meaning.specs.SpreadRows.{sum_of_lists, sum_of_both, sum_of_items, spread_to_filter};
+ghost use Rattle.tm_meaning.specs.SpreadRows.{dict_of_maps, dict_between, dict_of_pairs, range_of_both};
+ghost use Rattle.tm_meaning.specs.SpreadRows.{namespace_of_one, called_item, called_number, called_text};
 ghost use Rattle.tm_syntax.specs.declared.tree.Application.TheVariants.{Filter, Test, NegatedTest};
-ghost use Rattle.tm_values.specs.declared.undefined.UndefinedBehavior.TheVariants.{Strict};
+ghost use Rattle.tm_values.specs.declared.undefined.UndefinedBehavior.TheVariants.{SemiStrict, Strict};
 ghost use Rattle.tm_values.specs.declared.error.ErrorKind.TheVariants.{UnknownFilter, UnknownTest};
 
 /// `Hello {{ name }}!` with the name World takes 4 charges, so 5 units of fuel; with fewer it ends where the fuel does.
@@ -227,6 +231,40 @@ pub fn filter_rows()
     ensures no_filter { Fails (unknown Filter (codes "odd")) [] (UnknownFilter ∷ []) }
     ensures no_test { Fails (unknown Test (codes "upper")) [] (UnknownTest ∷ []) }
     ensures no_negated { Fails (unknown NegatedTest (codes "upper")) [] (UnknownTest ∷ []) }
+{}
+
+/// `{{ sum(*[1], 2, *[3, 4]) }}`, `{{ sum(1, *[2]) }}`, `{{ sum(*x) }}` of an undefined name, also
+/// under Strict, `{{ sum(*5) }}`, and `{{ 1|second(*["b"]) }}`.
+pub fn spread_rows()
+    ensures lists { Charges sum_of_lists (decimal 10) 10 }
+    ensures both { Charges sum_of_both (decimal 3) 7 }
+    ensures undefined { Charges (sum_of_items x) (decimal 0) 4 }
+    ensures strict { Charges (under Strict (sum_of_items x)) (decimal 0) 4 }
+    ensures number { Says (sum_of_items (literal_number 5)) 1000 [] 998 (InvalidOperation ∷ []) }
+    ensures filter { Charges spread_to_filter (codes "b") 7 }
+{}
+
+/// `{{ dict(**{"a": 1}, **{"a": 2}, b=3) }}`, `{{ dict(a=1, **{"b": 2}, c=3) }}`,
+/// `{{ dict(**namespace(z=1)) }}`, `{{ dict(**x) }}` of an undefined name, `{{ dict(**1) }}` and
+/// `{{ range(*[1], **{}) }}`.
+pub fn spread_keyword_rows()
+    ensures maps { Charges dict_of_maps
+        (codes "{\"a\": " ++ decimal 2 ++ codes ", \"b\": " ++ decimal 3 ++ codes "}") 12 }
+    ensures between { Charges dict_between (codes "{\"a\": " ++ decimal 1 ++ codes ", \"b\": "
+        ++ decimal 2 ++ codes ", \"c\": " ++ decimal 3 ++ codes "}") 12 }
+    ensures namespace { Charges (dict_of_pairs namespace_of_one)
+        (codes "{\"z\": " ++ decimal 1 ++ codes "}") 7 }
+    ensures undefined { Fails (dict_of_pairs x) [] (InvalidOperation ∷ []) }
+    ensures semi_strict { Fails (under SemiStrict (dict_of_pairs x)) [] (UndefinedError ∷ []) }
+    ensures number { Fails (dict_of_pairs (literal_number 1)) [] (InvalidOperation ∷ []) }
+    ensures range { Fails range_of_both [] (InvalidOperation ∷ []) }
+{}
+
+/// `{{ [sum][0](1, 2) }}`, `{{ sum(1)(2) }}` and `{{ "x"() }}`.
+pub fn callee_rows()
+    ensures item { Charges called_item (decimal 3) 8 }
+    ensures number { Says called_number 1000 [] 996 (InvalidOperation ∷ []) }
+    ensures text { Says called_text 1000 [] 998 (InvalidOperation ∷ []) }
 {}
 
 /// Loops that are called: `{{ loop(x) }}` in place, over `[[]]`, a number, in a loop that can't be

@@ -19,7 +19,7 @@ use Rattle.tm_meaning.specs.declared.reply.Reply.{Reply}
 use Rattle.tm_meaning.specs.declared.reply.Reply.TheVariants.{Value as gives, Fault as faults}
 use Rattle.tm_meaning.specs.Calls.{whole, of_block, undone, Asked, has, refused, runs, recurs, ask, same_stream, wrapped_as}
 use Rattle.tm_meaning.specs.Calls.{call_loop, call_innermost, one_argument, call_found, enter_block, call_named, call_value, call_method}
-use Rattle.tm_meaning.specs.Calls.{call_object, call_first, apply_filter, perform_test, as_truth, applied}
+use Rattle.tm_meaning.specs.Calls.{call_callee, call_object, call_first, apply_filter, perform_test, as_truth, applied}
 use Rattle.tm_meaning.specs.Calls.{loop_method, method_in, of_loop, record_at, call_by, given_by, replied, required_alone}
 use Rattle.tm_meaning.specs.declared.function.GlobalFunction.{GlobalFunction}
 use Rattle.tm_meaning.specs.declared.function.GlobalFunction.TheVariants as own
@@ -139,6 +139,10 @@ value_asks host (function n) args w =
     ask_need host w (slice_get host.functions n) InvalidOperation (λ f world1. call_by host f args world1) refl
     (λ f e. by_asks host n f args w e)
 value_asks host _ args w = asks_refused host w InvalidOperation refl
+
+pub callee_asks : (host : HostValue) (vs : List Val) (w : World) → Asks host w (call_callee host vs w)
+callee_asks host [] w = asks_refused host w InvalidOperation refl
+callee_asks host (v ∷ args) w = value_asks host v args w
 
 -- ---------------------------------------------------------------- methods
 if_asks : (host : HostValue) (w : World) (b : Bool) (p q : Asked) → Asks host w p → Asks host w q → Asks host w (if b then p else q)

@@ -3,7 +3,7 @@ use Rattle.std.proofs.Common.{◌≡◌, ℕ, zero, suc, ◌+◌, List, [], ◌�
 use Rattle.std.proofs.Common.{refl, ap, arith}
 use Rattle.std.specs.Prelude.{if◌then◌else◌}
 use Rattle.tm_values.specs.Answer.{invalid}
-use Rattle.tm_values.specs.Val.{Val}
+use Rattle.tm_values.specs.Val.{Val, text}
 use Rattle.tm_values.specs.declared.error.ErrorKind.{ErrorKind}
 use Rattle.tm_syntax.specs.declared.tree.UnaryOperator.{UnaryOperator}
 use Rattle.tm_syntax.specs.declared.tree.UnaryOperator.TheVariants as unaries
@@ -12,20 +12,21 @@ use Rattle.tm_syntax.specs.declared.tree.BinaryOperator.TheVariants as binaries
 use Rattle.tm_syntax.specs.declared.tree.Expr.{Expr, Var, Const, List', Tuple', Map', Call', Row_of-Expr, end_of-Expr as no_expr}
 use Rattle.tm_syntax.specs.declared.tree.Expr.{more_of-Expr as expr, Row_of-Pair, end_of-Pair as no_pair}
 use Rattle.tm_syntax.specs.declared.tree.Expr.{Row_of-Argument, end_of-Argument as no_argument, more_of-Argument as argument}
-use Rattle.tm_syntax.specs.declared.tree.Expr.{Row_of-Keyword, end_of-Keyword as no_keyword, Row_of-Step}
+use Rattle.tm_syntax.specs.declared.tree.Expr.{Row_of-Keyword, end_of-Keyword as no_keyword, more_of-Keyword as keyword_and, Row_of-Step}
 use Rattle.tm_syntax.specs.declared.tree.Expr.{end_of-Step as no_step, more_of-Step as step, Row_of-Condition}
 use Rattle.tm_syntax.specs.declared.tree.Expr.{end_of-Condition as no_condition}
 use Rattle.tm_syntax.specs.declared.tree.Argument.{Argument}
 use Rattle.tm_syntax.specs.declared.tree.Application.{Application}
 use Rattle.tm_syntax.specs.declared.tree.Application.TheVariants as applications
-use Rattle.tm_syntax.specs.declared.tree.Step.{Step, Attribute, Apply', Row_of-Comparison, end_of-Comparison as no_comparison}
+use Rattle.tm_syntax.specs.declared.tree.Step.{Step, Attribute, Apply', Call' as Called, Row_of-Comparison, end_of-Comparison as no_comparison}
 use Rattle.tm_syntax.specs.declared.tree.AssignmentTarget.{AssignmentTarget, Name as To, Unpack' as Items, Attribute as Member}
 use Rattle.tm_syntax.specs.declared.tree.AssignmentTarget.{Row_of-AssignmentTarget}
 use Rattle.tm_syntax.specs.declared.tree.AssignmentTarget.{end_of-AssignmentTarget as no_target, more_of-AssignmentTarget as target}
 use Rattle.tm_syntax.specs.declared.tree.Assignment.{Assignment}
-use Rattle.tm_syntax.specs.Code.{pass_flags, count_targets}
-use Rattle.tm_syntax.specs.Forms.{unary, chained, conditional, with_condition, with_comparison, with_pair, plain, with_keyword}
-use Rattle.tm_syntax.specs.Forms.{item, slice, binary, compare, and_then, or_else}
+use Rattle.tm_syntax.specs.Code.{pass_flags, count_targets, has_spread, has_spread_keyword}
+use Rattle.tm_syntax.specs.Forms.{unary, chained, conditional, with_condition, with_comparison, with_pair, plain, spread, keyword}
+use Rattle.tm_syntax.specs.Forms.{spread_keywords, item, slice, binary, compare, and_then, or_else}
+use Rattle.tm_definitions.specs.Maps.{merged}
 use Rattle.tm_definitions.specs.Members.{settable}
 use Rattle.tm_meaning.specs.World.{World, HostValue, loop_scope, next_turn, cleared, items_over, Res, bind, answered, tick, depth}
 use Rattle.tm_meaning.specs.World.{looked_up}
@@ -33,13 +34,14 @@ use Rattle.tm_meaning.specs.World.{lookup, records_of, with_member, set_member, 
 use Rattle.tm_meaning.specs.Calls.{Callee, Call, undone, wrapped, Asked, has, refused, runs, recurs, applied}
 use Rattle.tm_meaning.specs.Meaning.{text_behind, Run, Outcome, Ending, done, leave, next, fault, Under, audible, value_of, value_behind}
 use Rattle.tm_meaning.specs.Meaning.{in_place_of, behind, truth, applied_unary, operated, applied_binary, eval, eval_all, eval_pairs}
-use Rattle.tm_meaning.specs.Meaning.{eval_argument, eval_arguments, eval_keywords, eval_named, one_counted, selected, loop_items}
+use Rattle.tm_meaning.specs.Meaning.{eval_argument, eval_arguments, eval_keywords, eval_lists, one_counted, selected, loop_items}
+use Rattle.tm_meaning.specs.Meaning.{listed, mapped, merged_by, merged_values, items_of_lists, named_by, passed_by}
 use Rattle.tm_meaning.specs.Meaning.{under_condition, eval_conditions, eval_step, eval_links, eval_steps, assign, assign_all, set_to}
 use Rattle.tm_meaning.specs.Meaning.{set_each, capturing, turned}
 use Rattle.tm_meaning.specs.declared.wrapping.Wrapping.{Wrapping}
 use Rattle.tm_simulation.specs.Chains.{Arises, wrapped as wraps}
 use Rattle.tm_simulation.proofs.Raised.{truth_raises, unary_raises, binary_raises, attribute_raises, item_raises, settable_raises}
-use Rattle.tm_simulation.proofs.Raised.{Raises, sliced_raises}
+use Rattle.tm_simulation.proofs.Raised.{Raises, sliced_raises, merged_raises, spread_items_raises}
 use Rattle.tm_simulation.proofs.Advances.{Advances, Kept, advances_then, lasts_by_namespaces, kept_same, kept_then, kept_lasting, in_stream}
 use Rattle.tm_simulation.proofs.Advances.{store_kept, kept_popped, kept_cleared, mark_behind, in_loop_of, kept_turned, advances_around}
 use Rattle.tm_simulation.proofs.Advances.{opened, opened_kept}
@@ -47,7 +49,7 @@ use Rattle.tm_simulation.proofs.Gives.{Gives, RunEnds, run_ends_as, EndingKeeps,
 use Rattle.tm_simulation.proofs.Gives.{choose_gives, tick_gives}
 use Rattle.tm_simulation.proofs.Gives.{ticked_gives}
 use Rattle.tm_simulation.proofs.Gives.{operation_gives, ends_here, ends_fault, ends_then, opened_gives}
-use Rattle.tm_simulation.proofs.Asks.{unpacked_gives, applied_asks, Asks, lookup_gives, items_give, named_asks}
+use Rattle.tm_simulation.proofs.Asks.{unpacked_gives, applied_asks, Asks, lookup_gives, items_give, named_asks, callee_asks}
 use Rattle.tm_meaning.specs.declared.wrapping.Wrapping.TheVariants as wrapping
 
 -- ---------------------------------------------------------------- operators
@@ -150,6 +152,48 @@ place_by host w world1 c run next o h k = ends_here host w _ run o.text (k o.wor
 place_by host w world1 c run (fault chain) o h k =
     ends_fault host w _ run o.text (wrapped c.wrap chain) (k o.world h.0).advances (wrap_arises host c.wrap chain h.1)
 
+-- ---------------------------------------------------------------- arguments
+pub merged_values_give : (host : HostValue) (vs : List Val) (w : World) → Gives host w (merged_values host vs w)
+merged_values_give host vs w =
+    gives_bind host w (answered (merged host.undefined (records_of w) vs) w) _
+    (operation_gives host _ w (merged_raises host.undefined (records_of w) vs)) (λ ps world1. kept_same world1)
+
+pub list_items_give : (host : HostValue) (vs : List Val) (w : World) → Gives host w (items_of_lists host vs w)
+list_items_give host vs w = operation_gives host _ w (spread_items_raises host.undefined (records_of w) vs)
+
+pub listed_gives : (host : HostValue) (vs : List Val) (w : World) → Gives host w (listed vs w)
+listed_gives host [] w = kept_same w
+listed_gives host (v ∷ vs) w = ticked_gives host w _ (λ world1. kept_same world1)
+
+pub mapped_gives : (host : HostValue) (ps : List (Val × Val)) (w : World) → Gives host w (mapped ps w)
+mapped_gives host [] w = kept_same w
+mapped_gives host (p ∷ ps) w = ticked_gives host w _ (λ world1. kept_same world1)
+
+pub merged_by_gives : (b : Bool) (host : HostValue) (ms : List Val) (w : World) → Gives host w (merged_by b host ms w)
+merged_by_gives false host ms w = kept_same w
+merged_by_gives true host ms w =
+    ticked_gives host w _ (λ world1.
+    gives_bind host world1 (merged_values host ms world1) _ (merged_values_give host ms world1) (λ v world2. kept_same world2))
+
+-- what values of arguments give, whatever the world
+abbrev pub Given : HostValue → (World → Res (List Val)) → Type 0
+Given host value = (w : World) → Gives host w (value w)
+
+pub named_by_gives : {n : _} → (host : HostValue) (ks : Row_of-Keyword n) (maps : World → Res (List Val)) → Given host maps →
+    Given host (named_by host ks maps)
+named_by_gives host ks maps given w =
+    gives_bind host w (maps w) _ (given w) (λ ms world1. merged_by_gives (has_spread_keyword ks) host ms world1)
+
+pub passed_by_gives : (b : Bool) (host : HostValue) (before : List Val) (by_place by_name : World → Res (List Val))
+    (lists : (World → Res (List Val)) → World → Res (List Val)) → Given host by_place → Given host by_name → Given host (lists by_name) →
+    Given host (passed_by b host before by_place by_name lists)
+passed_by_gives false host before by_place by_name lists h k m w =
+    gives_bind host w (by_place w) _ (h w) (λ vs world1.
+    gives_bind host world1 (by_name world1) _ (k world1) (λ ks world2. kept_same world2))
+passed_by_gives true host before by_place by_name lists h k m w =
+    gives_bind host w (lists by_name w) _ (m w) (λ ls world1.
+    ticked_gives host world1 _ (λ world2. list_items_give host ls world2))
+
 -- what a test answered, turned round or not
 pub turned_gives : (host : HostValue) (k : Application) (v : Val) (w : World) → Gives host w (turned host k v w)
 turned_gives host applications.Method v w = kept_same w
@@ -205,9 +249,13 @@ module _ (u : Under) (nest_ends : (k : Callee) (heard : Bool) (out : List ℕ) (
         gives_bind u.host w (eval_pairs u run ps w) _ (pairs_give run ps w)
         (λ xs world1. ticked_gives u.host world1 _ (λ world2. kept_same world2))
     eval_gives run (Call' f _ given _ named) w =
-        gives_bind u.host w (eval_arguments u run given w) _ (arguments_give run given w) (λ vs world1.
-        gives_bind u.host world1 (eval_named u run named world1) _ (named_give run named world1) (λ ks world2.
-        ticked_gives u.host world2 _ (λ world3. value_gives world3 run _ (named_asks u.host f (vs ++ ks) world3))))
+        let by_name = named_by u.host named (λ world1. eval_keywords u run [] named world1) in
+        let names = named_by_gives u.host named _ (λ world1. keywords_give run [] named world1) in
+        gives_bind u.host w (passed_by (has_spread given) u.host [] (λ world1. eval_arguments u run given world1) by_name
+        (λ by_name1 world1. eval_lists u run [] given by_name1 world1) w) _
+        (passed_by_gives (has_spread given) u.host [] _ by_name _ (λ world1. arguments_give run given world1) names
+        (λ world1. lists_give run [] given by_name names world1) w) (λ vs world1.
+        ticked_gives u.host world1 _ (λ world2. value_gives world2 run _ (named_asks u.host f vs world2)))
     eval_gives run (unary op a) w =
         gives_bind u.host w (eval u run a w) _ (eval_gives run a w)
         (λ v world1. ticked_gives u.host world1 _ (λ world2. unary_gives u.host op v world2))
@@ -237,6 +285,7 @@ module _ (u : Under) (nest_ends : (k : Callee) (heard : Bool) (out : List ℕ) (
 
     pub argument_gives : (run : Run) (a : Argument) (w : World) → Gives u.host w (eval_argument u run a w)
     argument_gives run (plain a) w = eval_gives run a w
+    argument_gives run (spread a) w = eval_gives run a w
 
     pub arguments_give : {n : _} → (run : Run) (given : Row_of-Argument n) (w : World) → Gives u.host w (eval_arguments u run given w)
     arguments_give run no_argument w = kept_same w
@@ -244,29 +293,52 @@ module _ (u : Under) (nest_ends : (k : Callee) (heard : Bool) (out : List ℕ) (
         gives_bind u.host w (eval_argument u run a w) _ (argument_gives run a w) (λ v world1.
         gives_bind u.host world1 (eval_arguments u run more world1) _ (arguments_give run more world1) (λ vs world2. kept_same world2))
 
-    pub keywords_give : {n : _} → (run : Run) (ks : Row_of-Keyword n) (w : World) → Gives u.host w (eval_keywords u run ks w)
-    keywords_give run no_keyword w = kept_same w
-    keywords_give run (with_keyword x a more) w =
-        ticked_gives u.host w _ (λ world1. gives_bind u.host world1 (eval u run a world1) _ (eval_gives run a world1) (λ v world2.
-        gives_bind u.host world2 (eval_keywords u run more world2) _ (keywords_give run more world2) (λ ks world3. kept_same world3)))
+    pub lists_give : {n : _} → (run : Run) (row : List Val) (given : Row_of-Argument n) (by_name : World → Res (List Val)) →
+        Given u.host by_name → (w : World) → Gives u.host w (eval_lists u run row given by_name w)
+    lists_give run row no_argument by_name h w =
+        gives_bind u.host w (by_name w) _ (h w) (λ ks world1. listed_gives u.host (row ++ ks) world1)
+    lists_give run row (argument (plain a) more) by_name h w =
+        gives_bind u.host w (eval u run a w) _ (eval_gives run a w) (λ v world1. lists_give run (row ++ v ∷ []) more by_name h world1)
+    lists_give run row (argument (spread a) more) by_name h w =
+        gives_bind u.host w (listed row w) _ (listed_gives u.host row w) (λ ls world1.
+        gives_bind u.host world1 (eval u run a world1) _ (eval_gives run a world1) (λ v world2.
+        gives_bind u.host world2 (eval_lists u run [] more by_name world2) _ (lists_give run [] more by_name h world2)
+        (λ vs world3. kept_same world3)))
 
-    pub named_give : {n : _} → (run : Run) (ks : Row_of-Keyword n) (w : World) → Gives u.host w (eval_named u run ks w)
-    named_give run no_keyword w = kept_same w
-    named_give run (with_keyword x a more) w =
-        ticked_gives u.host w _ (λ world1. gives_bind u.host world1 (eval u run a world1) _ (eval_gives run a world1) (λ v world2.
-        gives_bind u.host world2 (eval_keywords u run more world2) _ (keywords_give run more world2)
-        (λ ks world3. ticked_gives u.host world3 _ (λ world4. kept_same world4))))
+    pub keywords_give : {n : _} → (run : Run) (row : List (Val × Val)) (ks : Row_of-Keyword n) (w : World) →
+        Gives u.host w (eval_keywords u run row ks w)
+    keywords_give run row no_keyword w = mapped_gives u.host row w
+    keywords_give run row (keyword_and (keyword x a) more) w =
+        ticked_gives u.host w _ (λ world1. gives_bind u.host world1 (eval u run a world1) _ (eval_gives run a world1)
+        (λ v world2. keywords_give run (row ++ (text x false, v) ∷ []) more world2))
+    keywords_give run row (keyword_and (spread_keywords a) more) w =
+        gives_bind u.host w (mapped row w) _ (mapped_gives u.host row w) (λ ms world1.
+        gives_bind u.host world1 (eval u run a world1) _ (eval_gives run a world1) (λ v world2.
+        gives_bind u.host world2 (eval_keywords u run [] more world2) _ (keywords_give run [] more world2)
+        (λ ns world3. kept_same world3)))
 
     pub step_gives : (run : Run) (s : Step) (v : Val) (w : World) → Gives u.host w (eval_step u run s v w)
     step_gives run (Attribute x) v w = ticked_gives u.host w _
         (λ world1. operation_gives u.host _ world1 (attribute_raises u.host.undefined (records_of world1) v x))
     step_gives run (Apply' k x _ given _ named) v w =
-        gives_bind u.host w (eval_arguments u run given w) _ (arguments_give run given w) (λ vs world1.
-        gives_bind u.host world1 (eval_named u run named world1) _ (named_give run named world1) (λ ks world2.
-        ticked_gives u.host world2 _ (λ world3.
-        let q = applied u.host k x (v ∷ (vs ++ ks)) world3 in
-        gives_bind u.host world3 (value_of u run q) _ (value_gives world3 run q (applied_asks u.host k x (v ∷ (vs ++ ks)) world3))
-        (λ y world4. turned_gives u.host k y world4))))
+        let by_name = named_by u.host named (λ world1. eval_keywords u run [] named world1) in
+        let names = named_by_gives u.host named _ (λ world1. keywords_give run [] named world1) in
+        gives_bind u.host w (passed_by (has_spread given) u.host (v ∷ []) (λ world1. eval_arguments u run given world1) by_name
+        (λ by_name1 world1. eval_lists u run (v ∷ []) given by_name1 world1) w) _
+        (passed_by_gives (has_spread given) u.host (v ∷ []) _ by_name _ (λ world1. arguments_give run given world1) names
+        (λ world1. lists_give run (v ∷ []) given by_name names world1) w) (λ vs world1.
+        ticked_gives u.host world1 _ (λ world2.
+        let q = applied u.host k x vs world2 in
+        gives_bind u.host world2 (value_of u run q) _ (value_gives world2 run q (applied_asks u.host k x vs world2))
+        (λ y world3. turned_gives u.host k y world3)))
+    step_gives run (Called _ given _ named) v w =
+        let by_name = named_by u.host named (λ world1. eval_keywords u run [] named world1) in
+        let names = named_by_gives u.host named _ (λ world1. keywords_give run [] named world1) in
+        gives_bind u.host w (passed_by (has_spread given) u.host (v ∷ []) (λ world1. eval_arguments u run given world1) by_name
+        (λ by_name1 world1. eval_lists u run (v ∷ []) given by_name1 world1) w) _
+        (passed_by_gives (has_spread given) u.host (v ∷ []) _ by_name _ (λ world1. arguments_give run given world1) names
+        (λ world1. lists_give run (v ∷ []) given by_name names world1) w) (λ vs world1.
+        ticked_gives u.host world1 _ (λ world2. value_gives world2 run _ (callee_asks u.host vs world2)))
     step_gives run (item a) v w =
         gives_bind u.host w (eval u run a w) _ (eval_gives run a w) (λ k world1. ticked_gives u.host world1 _ (λ world2.
         operation_gives u.host _ world2 (item_raises u.host.undefined (records_of world2) v k)))

@@ -103,6 +103,12 @@ pub bound_follows : {A B : Type 0} (context : RunContext) (t : List ℕ) (m : Re
 bound_follows context t (Good a w) g K h = h
 bound_follows context t (Bad chain w) g K h = h
 
+-- what is bound twice, from the left
+pub bound_twice : {A B C : Type 0} (context : RunContext) (t : List ℕ) (m : Res A) (f : A → World → Res B) (g : B → World → Res C)
+    (K : C → World → Type 0) → Follows context t (bind (bind m f) g) K → Follows context t (bind m (λ a w. bind (f a w) g)) K
+bound_twice context t (Good a w) f g K h = h
+bound_twice context t (Bad chain w) f g K h = h
+
 -- the first part of what is bound, and what it keeps
 pub bind_then : {A B : Type 0} (context : RunContext) (t : List ℕ) (w : World) (m : Res A) (g : A → World → Res B) (K : B → World → Type 0)
     (L : A → World → Type 0) →

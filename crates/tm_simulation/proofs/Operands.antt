@@ -1,6 +1,6 @@
 -- Operands, and how many of them expressions push.
 use Rattle.std.proofs.Common.{◌≡◌, ℕ, suc, ◌+◌, List, [], ◌∷◌, ◌++◌, length, Some, None, Bool}
-use Rattle.std.proofs.Common.{true, false, refl, ap, ◌∙◌, arith, eqb-true}
+use Rattle.std.proofs.Common.{true, false, refl, subst, ap, ◌∙◌, arith, eqb-true, length-append}
 use Rattle.std.specs.Prelude.{ℤ, pos, ◌==◌, cond, if◌then◌else◌, Ok, Err}
 use Rattle.std.proofs.lemmas.List.{append-nil}
 use Rattle.tm_values.specs.Answer.{Answer, invalid}
@@ -11,27 +11,23 @@ use Rattle.tm_definitions.specs.Arithmetic.{added, number_answer}
 use Rattle.tm_syntax.specs.declared.tree.Expr.{Row_of-Expr, end_of-Expr as no_expr}
 use Rattle.tm_syntax.specs.declared.tree.Expr.{more_of-Expr as expr, Row_of-Pair, end_of-Pair as no_pair}
 use Rattle.tm_syntax.specs.declared.tree.Expr.{Row_of-Argument, end_of-Argument as no_argument, more_of-Argument as argument}
-use Rattle.tm_syntax.specs.declared.tree.Expr.{Row_of-Keyword, end_of-Keyword as no_keyword}
-use Rattle.tm_syntax.specs.Forms.{with_pair, with_keyword}
-use Rattle.tm_syntax.specs.Code.{count_keywords, together, count, count_exprs, count_pairs}
-use Rattle.tm_meaning.specs.World.{World}
+use Rattle.tm_syntax.specs.declared.tree.Expr.{Row_of-Keyword, end_of-Keyword as no_keyword, more_of-Keyword as keyword_and}
+use Rattle.tm_syntax.specs.Forms.{with_pair, plain, spread, keyword, spread_keywords}
+use Rattle.tm_syntax.specs.Code.{count_maps, has_spread_keyword, merged_count, rows_of, together, count, count_lists, count_exprs}
+use Rattle.tm_syntax.specs.Code.{count_pairs}
+use Rattle.tm_meaning.specs.World.{World, HostValue}
 use Rattle.tm_meaning.specs.World.{Res, Good, Bad, bind, tick}
 use Rattle.tm_meaning.specs.World.{unpacked_items, answered}
 use Rattle.tm_meaning.specs.Meaning.{Run}
 use Rattle.tm_meaning.specs.Meaning.{Under}
 use Rattle.tm_meaning.specs.Meaning.{eval, eval_all, eval_pairs, eval_argument, eval_arguments}
-use Rattle.tm_meaning.specs.Meaning.{eval_keywords, eval_named, incremented}
-use Rattle.tm_meaning.specs.Machine.{taken}
+use Rattle.tm_meaning.specs.Meaning.{eval_keywords, eval_lists, incremented, listed, mapped, merged_by, merged_values, named_by}
+use Rattle.tm_meaning.specs.Machine.{taken, onto}
 use Rattle.tm_meaning.specs.Instructions.{paired}
 use Rattle.tm_simulation.proofs.Advances.{Kept}
 use Rattle.tm_simulation.proofs.Gives.{Gives}
 use Rattle.tm_simulation.proofs.Follow.{RunContext}
 use Rattle.tm_simulation.proofs.Follow.{Follows}
-
--- values on a stack, the last on top
-abbrev pub onto : List Val → List Val → List Val
-onto [] stack = stack
-onto (v ∷ vs) stack = onto vs (v ∷ stack)
 
 pub onto_both : (vs ks stack : List Val) → onto (vs ++ ks) stack ≡ onto ks (onto vs stack)
 onto_both [] ks stack = refl
@@ -49,7 +45,7 @@ taken_all vs n stack e =
     ap (λ k. taken k [] (onto vs stack)) d ∙ taken_onto vs 0 [] stack ∙ ap (λ l. Some (l, stack)) (append-nil vs)
 
 -- as many as were asked for
-abbrev IsLong : {A : Type 0} → ℕ → Res (List A) → Type 0
+abbrev pub IsLong : {A : Type 0} → ℕ → Res (List A) → Type 0
 IsLong n (Good xs w) = length xs ≡ n
 IsLong n (Bad chain w) = Unit {0}
 
@@ -69,18 +65,70 @@ arguments_long u run (argument a more) w =
     long_bind _ (eval_argument u run a w) _ (λ v world1. long_more v (count more) (eval_arguments u run more world1)
     (arguments_long u run more world1))
 
-pub keywords_long : {n : _} → (u : Under) (run : Run) (ks : Row_of-Keyword n) (w : World) →
-    IsLong (count_keywords ks) (eval_keywords u run ks w)
-keywords_long u run no_keyword w = refl
-keywords_long u run (with_keyword x a more) w =
-    long_bind _ (tick w) _ (λ _ world1. long_bind _ (eval u run a world1) _ (λ v world2.
-    long_more (text x false, v) (count_keywords more) (eval_keywords u run more world2) (keywords_long u run more world2)))
+-- as many in other words
+at_length : {A : Type 0} (n m : ℕ) (q : Res (List A)) → n ≡ m → IsLong n q → IsLong m q
+at_length n m q e h = subst (λ k. IsLong k q) e h
 
-pub named_long : {n : _} → (u : Under) (run : Run) (ks : Row_of-Keyword n) (w : World) → IsLong (together ks) (eval_named u run ks w)
-named_long u run no_keyword w = refl
-named_long u run (with_keyword x a more) w =
+-- the same, given how many the first part has
+long_kept : {A B : Type 0} (n m : ℕ) (q : Res (List A)) (g : List A → World → Res (List B)) → IsLong n q →
+    ((xs : List A) (w : World) → length xs ≡ n → IsLong m (g xs w)) → IsLong m (bind q g)
+long_kept n m (Good xs w) g e k = k xs w e
+long_kept n m (Bad chain w) g e k = tt
+
+listed_long : (vs : List Val) (w : World) → IsLong (rows_of (length vs)) (listed vs w)
+listed_long [] w = refl
+listed_long (v ∷ vs) w = long_bind 1 (tick w) _ (λ _ world1. refl)
+
+mapped_long : (ps : List (Val × Val)) (w : World) → IsLong (rows_of (length ps)) (mapped ps w)
+mapped_long [] w = refl
+mapped_long (p ∷ ps) w = long_bind 1 (tick w) _ (λ _ world1. refl)
+
+-- what ends a row: the row, the value that is spread, and the rows behind it
+ended_long : (n m k : ℕ) (ls vs : List Val) (v : Val) → length ls ≡ n → length vs ≡ m → k ≡ n + 1 + m → length (ls ++ v ∷ vs) ≡ k
+ended_long n m k ls vs v e f g = omega (arith, length-append ls (v ∷ vs), e, f, g)
+
+pub keywords_long : {n : _} → (u : Under) (run : Run) (row : List (Val × Val)) (ks : Row_of-Keyword n) (w : World) →
+    IsLong (count_maps (length row) ks) (eval_keywords u run row ks w)
+keywords_long u run row no_keyword w = mapped_long row w
+keywords_long u run row (keyword_and (keyword x a) more) w =
     long_bind _ (tick w) _ (λ _ world1. long_bind _ (eval u run a world1) _ (λ v world2.
-    long_bind _ (eval_keywords u run more world2) _ (λ ks world3. long_bind _ (tick world3) _ (λ _ world4. refl))))
+    let row1 = row ++ (text x false, v) ∷ [] in
+    let one : length row1 ≡ length row + 1 = omega (arith, length-append row ((text x false, v) ∷ [])) in
+    let same : count_maps (length row1) more ≡ count_maps (length row + 1) more = ap (λ n. count_maps n more) one in
+    at_length _ _ _ (omega (arith, same)) (keywords_long u run row1 more world2)))
+keywords_long u run row (keyword_and (spread_keywords a) more) w =
+    long_kept (rows_of (length row)) _ (mapped row w) _ (mapped_long row w) (λ ms world1 e.
+    long_bind _ (eval u run a world1) _ (λ v world2.
+    long_kept (count_maps 0 more) _ (eval_keywords u run [] more world2) _ (keywords_long u run [] more world2) (λ ns world3 f.
+    ended_long _ _ _ ms ns v e f refl)))
+
+merged_long : (b : Bool) (n : ℕ) (host : HostValue) (ms : List Val) (w : World) → length ms ≡ n →
+    IsLong (merged_count b n) (merged_by b host ms w)
+merged_long false n host ms w e = e
+merged_long true n host ms w e = long_bind 1 (tick w) _ (λ _ world1. long_bind 1 (merged_values host ms world1) _ (λ v world2. refl))
+
+pub named_long : {n : _} → (host : HostValue) (ks : Row_of-Keyword n) (maps : World → Res (List Val)) →
+    ((w : World) → IsLong (count_maps 0 ks) (maps w)) → (w : World) → IsLong (together ks) (named_by host ks maps w)
+named_long host ks maps long w =
+    long_kept (count_maps 0 ks) _ (maps w) _ (long w) (λ ms world1 e. merged_long (has_spread_keyword ks) _ host ms world1 e)
+
+pub lists_long : {n : _} → (u : Under) (run : Run) (row : List Val) (given : Row_of-Argument n) (m : ℕ)
+    (by_name : World → Res (List Val)) → ((w : World) → IsLong m (by_name w)) → (w : World) →
+    IsLong (count_lists (length row) given m) (eval_lists u run row given by_name w)
+lists_long u run row no_argument m by_name long w =
+    long_kept m _ (by_name w) _ (long w) (λ ks world1 e.
+    at_length (rows_of (length (row ++ ks))) (rows_of (length row + m)) _
+    (ap rows_of (length-append row ks ∙ ap (λ n. length row + n) e)) (listed_long (row ++ ks) world1))
+lists_long u run row (argument (plain a) more) m by_name long w =
+    long_bind _ (eval u run a w) _ (λ v world1.
+    let one : length (row ++ v ∷ []) ≡ length row + 1 = omega (arith, length-append row (v ∷ [])) in
+    let same : count_lists (length (row ++ v ∷ [])) more m ≡ count_lists (length row + 1) more m = ap (λ n. count_lists n more m) one in
+    at_length _ _ _ (omega (arith, same)) (lists_long u run (row ++ v ∷ []) more m by_name long world1))
+lists_long u run row (argument (spread a) more) m by_name long w =
+    long_kept (rows_of (length row)) _ (listed row w) _ (listed_long row w) (λ ls world1 e.
+    long_bind _ (eval u run a world1) _ (λ v world2.
+    long_kept (count_lists 0 more m) _ (eval_lists u run [] more by_name world2) _ (lists_long u run [] more m by_name long world2)
+    (λ vs world3 f. ended_long _ _ _ ls vs v e f refl)))
 
 pub all_long : {n : _} → (u : Under) (run : Run) (es : Row_of-Expr n) (w : World) → IsLong (count_exprs es) (eval_all u run es w)
 all_long u run no_expr w = refl
@@ -119,6 +167,10 @@ bind_long context t w n (Bad chain world1) g K L e l h k = h
 abbrev pub flat : List (Val × Val) → List Val
 flat [] = []
 flat (x ∷ xs) = x.0 ∷ x.1 ∷ flat xs
+
+pub flat_more : (ps : List (Val × Val)) (k v : Val) (stack : List Val) → onto (flat (ps ++ (k, v) ∷ [])) stack ≡ v ∷ k ∷ onto (flat ps) stack
+flat_more [] k v stack = refl
+flat_more (p ∷ ps) k v stack = flat_more ps k v (p.1 ∷ p.0 ∷ stack)
 
 pub flat_long : (n : ℕ) (xs : List (Val × Val)) → length xs ≡ n → length (flat xs) ≡ n + n
 flat_long n [] e = omega (arith, e)

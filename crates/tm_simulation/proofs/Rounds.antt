@@ -50,7 +50,8 @@ use Rattle.tm_simulation.proofs.Follow.{later, Follows, Then, Ends, follows_map,
 use Rattle.tm_simulation.proofs.Follow.{Go, silent, at, after_then, pushes, choose_then}
 use Rattle.tm_simulation.proofs.Forms.{Stands}
 use Rattle.tm_meaning.specs.declared.stream.TemplateId.{TemplateId}
-use Rattle.tm_simulation.proofs.Operands.{items_back, one_more_then, onto}
+use Rattle.tm_meaning.specs.Machine.{onto}
+use Rattle.tm_simulation.proofs.Operands.{items_back, one_more_then}
 use Rattle.tm_simulation.proofs.Levels.{Deep, Here, Setting, as_at, deep_kept, deep_later, here, here_kept, here_within, meaning}
 use Rattle.tm_simulation.proofs.Levels.{nest_ends, stands_later}
 use Rattle.tm_simulation.proofs.Expressions.{In, built_then, expr_runs}

@@ -1,5 +1,5 @@
 -- The loops of a tree stand in its code, each at its number.
-use Rattle.std.proofs.Common.{◌≡◌, ℕ, ◌+◌, ◌⊎◌, inl, inr, List, [], ◌∷◌, Option, Some, None, Bool, false, ◌++◌, refl, sym, ap, subst}
+use Rattle.std.proofs.Common.{◌≡◌, ℕ, zero, suc, ◌+◌, ◌⊎◌, inl, inr, List, [], ◌∷◌, Option, Some, None, Bool, true, false, ◌++◌, refl, sym, ap, subst}
 use Rattle.std.proofs.Common.{arith}
 use Rattle.std.proofs.lemmas.List.{append-nil}
 use Rattle.tm_syntax.specs.declared.instruction.Instruction.{Instruction}
@@ -11,13 +11,14 @@ use Rattle.tm_syntax.specs.declared.tree.BinaryOperator.TheVariants as binaries
 use Rattle.tm_syntax.specs.declared.tree.Expr.{Expr, Var, Const, List', Tuple', Map', Call', Row_of-Expr, end_of-Expr as no_expr}
 use Rattle.tm_syntax.specs.declared.tree.Expr.{more_of-Expr as expr, Row_of-Pair, end_of-Pair as no_pair}
 use Rattle.tm_syntax.specs.declared.tree.Expr.{Row_of-Argument, end_of-Argument as no_argument, more_of-Argument as argument}
-use Rattle.tm_syntax.specs.declared.tree.Expr.{Row_of-Keyword, end_of-Keyword as no_keyword, Row_of-Step}
+use Rattle.tm_syntax.specs.declared.tree.Expr.{Row_of-Keyword, end_of-Keyword as no_keyword, more_of-Keyword as keyword_and, Row_of-Step}
 use Rattle.tm_syntax.specs.declared.tree.Expr.{end_of-Step as no_step, more_of-Step as step, Row_of-Condition}
 use Rattle.tm_syntax.specs.declared.tree.Expr.{end_of-Condition as no_condition}
 use Rattle.tm_syntax.specs.declared.tree.Argument.{Argument}
+use Rattle.tm_syntax.specs.declared.tree.Keyword.{Keyword}
 use Rattle.tm_syntax.specs.declared.tree.Application.{Application}
 use Rattle.tm_syntax.specs.declared.tree.Application.TheVariants as applications
-use Rattle.tm_syntax.specs.declared.tree.Step.{Step, Attribute, Apply', Row_of-Comparison, end_of-Comparison as no_comparison}
+use Rattle.tm_syntax.specs.declared.tree.Step.{Step, Attribute, Apply', Call' as Called, Row_of-Comparison, end_of-Comparison as no_comparison}
 use Rattle.tm_syntax.specs.declared.tree.AssignmentTarget.{AssignmentTarget, Name as To, Unpack' as Items, Attribute as Member}
 use Rattle.tm_syntax.specs.declared.tree.AssignmentTarget.{Row_of-AssignmentTarget}
 use Rattle.tm_syntax.specs.declared.tree.AssignmentTarget.{end_of-AssignmentTarget as no_target, more_of-AssignmentTarget as target}
@@ -28,15 +29,17 @@ use Rattle.tm_syntax.specs.declared.tree.Stmt.{more_of-Stmt as statement, Held-S
 use Rattle.tm_syntax.specs.declared.tree.Stmt.{Some' as otherwise}
 use Rattle.tm_syntax.specs.declared.opened.Opened.{Opened}
 use Rattle.tm_syntax.specs.declared.opened.Opened.TheVariants.{Scope as a_scope, Escape as an_escape, Capture as a_capture}
-use Rattle.tm_syntax.specs.Forms.{unary, chained, conditional, with_condition, with_comparison, with_pair, plain, with_keyword}
-use Rattle.tm_syntax.specs.Forms.{item, slice, binary, compare, and_then, or_else}
-use Rattle.tm_syntax.specs.Code.{unary_code, binary_code, application_code, count, together, close_all, for_flags}
+use Rattle.tm_syntax.specs.Forms.{unary, chained, conditional, with_condition, with_comparison, with_pair, plain, spread, keyword}
+use Rattle.tm_syntax.specs.Forms.{spread_keywords, item, slice, binary, compare, and_then, or_else}
+use Rattle.tm_syntax.specs.Code.{unary_code, binary_code, application_code, passed_count, merging, passing_by, close_all, for_flags}
+use Rattle.tm_syntax.specs.Code.{list_of_row, map_of_row, merged_code, has_spread, has_spread_keyword, row_behind, keywords_behind}
 use Rattle.tm_syntax.specs.Blocks.{body_of}
 use Rattle.tm_syntax.specs.Loops.{FoundLoop, with_pass, within_loop, passes, past, pasts, past_else, loops_of, loops_in, loops_else}
 use Rattle.tm_syntax.specs.Fragments.{Fragment, straight, ◌⨾◌, looped, Labels}
 use Rattle.tm_syntax.specs.declared.jump.JumpKind.TheVariants.{IfFalse}
 use Rattle.tm_syntax.specs.Code.{expr_code, conditions_code, exprs_code, pairs_code, argument_code}
-use Rattle.tm_syntax.specs.Code.{arguments_code, keywords_code, named_code, step_code, links_code, steps_code, target_code}
+use Rattle.tm_syntax.specs.Code.{arguments_code, listed_code, lists_code, keyword_code, keywords_code, step_code, links_code}
+use Rattle.tm_syntax.specs.Code.{steps_code, target_code}
 use Rattle.tm_syntax.specs.Code.{targets_code, set_code, assignments_code, iterable_code, pass_round, statement_code, statements_code}
 use Rattle.tm_syntax.specs.Code.{branches_code, after_loop_code}
 use Rattle.tm_syntax.proofs.Standing.{HasAt, At}
@@ -48,7 +51,7 @@ unary_loopless : (op : UnaryOperator) → NoneBegins (unary_code op ∷ [])
 unary_loopless unaries.Not = (refl, tt)
 unary_loopless _ = (refl, tt)
 
-application_loopless : (k : Application) (x : List ℕ) (n : ℕ) → NoneBegins (application_code k x n)
+application_loopless : (k : Application) (x : List ℕ) (n : Option ℕ) → NoneBegins (application_code k x n)
 application_loopless applications.NegatedTest x n = (refl, (refl, tt))
 application_loopless applications.Method x n = (refl, tt)
 application_loopless applications.Filter x n = (refl, tt)
@@ -58,6 +61,25 @@ binary_loopless : (op : BinaryOperator) → NoneBegins (binary_code op)
 binary_loopless binaries.NotIn = (refl, (refl, tt))
 binary_loopless _ = (refl, tt)
 
+-- ---------------------------------------------------------------- nor do arguments
+list_loopless : (n : ℕ) → NoneBegins (list_of_row n)
+list_loopless zero = tt
+list_loopless (suc n) = (refl, tt)
+
+map_loopless : (n : ℕ) → NoneBegins (map_of_row n)
+map_loopless zero = tt
+map_loopless (suc n) = (refl, tt)
+
+merged_loopless : (b : Bool) (n : ℕ) → NoneBegins (merged_code b n)
+merged_loopless false n = tt
+merged_loopless true n = (refl, tt)
+
+passing_loopless : {n m : _} → (b : Bool) (before : ℕ) (given : Row_of-Argument n) (named : Row_of-Keyword m) (by_place by_name : Fragment)
+    (lists : Fragment → Fragment) → Loopless by_place → Loopless by_name → Loopless (lists by_name) →
+    Loopless (passing_by b before given named by_place by_name lists)
+passing_loopless false before given named by_place by_name lists h k m = (h, k)
+passing_loopless true before given named by_place by_name lists h k m = (m, (refl, tt))
+
 mutual
   pub expr_loopless : (e : Expr) → Loopless (expr_code e)
   expr_loopless (Var x) = (refl, tt)
@@ -65,7 +87,10 @@ mutual
   expr_loopless (List' _ es) = (exprs_loopless es, (refl, tt))
   expr_loopless (Tuple' _ es) = (exprs_loopless es, (refl, tt))
   expr_loopless (Map' _ ps) = (pairs_loopless ps, (refl, tt))
-  expr_loopless (Call' f _ given _ named) = (arguments_loopless given, (named_loopless named, (refl, tt)))
+  expr_loopless (Call' f _ given _ named) =
+      let by_name : Loopless (merging named (keywords_code 0 named)) = (keywords_loopless 0 named, merged_loopless (has_spread_keyword named) _) in
+      (passing_loopless (has_spread given) 0 given named _ _ _ (arguments_loopless given) by_name
+      (lists_loopless 0 given _ _ by_name), (refl, tt))
   expr_loopless (unary op a) = (expr_loopless a, unary_loopless op)
   expr_loopless (chained a _ ss) = (expr_loopless a, steps_loopless ss)
   expr_loopless (conditional a _ cs) = conditions_loopless cs (expr_code a) (expr_loopless a)
@@ -84,24 +109,41 @@ mutual
 
   argument_loopless : (a : Argument) → Loopless (argument_code a)
   argument_loopless (plain a) = expr_loopless a
+  argument_loopless (spread a) = expr_loopless a
 
   arguments_loopless : {n : _} → (given : Row_of-Argument n) → Loopless (arguments_code given)
   arguments_loopless no_argument = tt
   arguments_loopless (argument a more) = (argument_loopless a, arguments_loopless more)
 
-  keywords_loopless : {n : _} → (ks : Row_of-Keyword n) → Loopless (keywords_code ks)
-  keywords_loopless no_keyword = tt
-  keywords_loopless (with_keyword x a more) = ((refl, tt), (expr_loopless a, keywords_loopless more))
+  listed_loopless : (n : ℕ) (a : Argument) → Loopless (listed_code n a)
+  listed_loopless n (plain a) = expr_loopless a
+  listed_loopless n (spread a) = (list_loopless n, expr_loopless a)
 
-  named_loopless : {n : _} → (ks : Row_of-Keyword n) → Loopless (named_code ks)
-  named_loopless no_keyword = tt
-  named_loopless (with_keyword x a more) = ((refl, tt), (expr_loopless a, (keywords_loopless more, (refl, tt))))
+  lists_loopless : {n : _} → (before : ℕ) (given : Row_of-Argument n) (more : ℕ) (by_name : Fragment) → Loopless by_name →
+      Loopless (lists_code before given more by_name)
+  lists_loopless before no_argument more by_name h = (h, list_loopless (before + more))
+  lists_loopless before (argument a rest) more by_name h =
+      (listed_loopless before a, lists_loopless (row_behind before a) rest more by_name h)
+
+  keyword_loopless : (n : ℕ) (k : Keyword) → Loopless (keyword_code n k)
+  keyword_loopless n (keyword x a) = ((refl, tt), expr_loopless a)
+  keyword_loopless n (spread_keywords a) = (map_loopless n, expr_loopless a)
+
+  keywords_loopless : {n : _} → (before : ℕ) (ks : Row_of-Keyword n) → Loopless (keywords_code before ks)
+  keywords_loopless before no_keyword = map_loopless before
+  keywords_loopless before (keyword_and k more) = (keyword_loopless before k, keywords_loopless (keywords_behind before k) more)
 
   step_loopless : (s : Step) → Loopless (step_code s)
   step_loopless (Attribute x) = (refl, tt)
   step_loopless (item a) = (expr_loopless a, (refl, tt))
   step_loopless (Apply' k x _ given _ named) =
-      (arguments_loopless given, (named_loopless named, application_loopless k x (count given + together named + 1)))
+      let by_name : Loopless (merging named (keywords_code 0 named)) = (keywords_loopless 0 named, merged_loopless (has_spread_keyword named) _) in
+      (passing_loopless (has_spread given) 1 given named _ _ _ (arguments_loopless given) by_name
+      (lists_loopless 1 given _ _ by_name), application_loopless k x (passed_count 1 given named))
+  step_loopless (Called _ given _ named) =
+      let by_name : Loopless (merging named (keywords_code 0 named)) = (keywords_loopless 0 named, merged_loopless (has_spread_keyword named) _) in
+      (passing_loopless (has_spread given) 1 given named _ _ _ (arguments_loopless given) by_name
+      (lists_loopless 1 given _ _ by_name), (refl, tt))
   step_loopless (slice a b c) = (expr_loopless a, (expr_loopless b, (expr_loopless c, (refl, tt))))
   step_loopless (binary op a) = (expr_loopless a, binary_loopless op)
   step_loopless (compare op a _ cs) = (expr_loopless a, (links_loopless op cs, (refl, (refl, tt))))

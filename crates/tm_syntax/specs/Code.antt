@@ -1,5 +1,5 @@
 -- The code of a tree.
-use Rattle.std.specs.Prelude.{ℕ, ◌+◌, pos, List, [], ◌∷◌, ◌++◌, Option, Some, None, Bool, true, false}
+use Rattle.std.specs.Prelude.{ℕ, zero, suc, ◌+◌, ◌||◌, pos, List, [], ◌∷◌, ◌++◌, Option, Some, None, Bool, true, false}
 use Rattle.tm_values.specs.Val.{number, text}
 use Rattle.tm_syntax.specs.declared.tree.UnaryOperator.{UnaryOperator}
 use Rattle.tm_syntax.specs.declared.tree.UnaryOperator.TheVariants as unaries
@@ -8,13 +8,14 @@ use Rattle.tm_syntax.specs.declared.tree.BinaryOperator.TheVariants as binaries
 use Rattle.tm_syntax.specs.declared.tree.Expr.{Expr, Var, Const, List', Tuple', Map', Call', Row_of-Expr, end_of-Expr as no_expr}
 use Rattle.tm_syntax.specs.declared.tree.Expr.{more_of-Expr as expr, Row_of-Pair, end_of-Pair as no_pair}
 use Rattle.tm_syntax.specs.declared.tree.Expr.{Row_of-Argument, end_of-Argument as no_argument, more_of-Argument as argument}
-use Rattle.tm_syntax.specs.declared.tree.Expr.{Row_of-Keyword, end_of-Keyword as no_keyword, Row_of-Step}
+use Rattle.tm_syntax.specs.declared.tree.Expr.{Row_of-Keyword, end_of-Keyword as no_keyword, more_of-Keyword as keyword_and, Row_of-Step}
 use Rattle.tm_syntax.specs.declared.tree.Expr.{end_of-Step as no_step, more_of-Step as step, Row_of-Condition}
 use Rattle.tm_syntax.specs.declared.tree.Expr.{end_of-Condition as no_condition}
 use Rattle.tm_syntax.specs.declared.tree.Argument.{Argument}
+use Rattle.tm_syntax.specs.declared.tree.Keyword.{Keyword}
 use Rattle.tm_syntax.specs.declared.tree.Application.{Application}
 use Rattle.tm_syntax.specs.declared.tree.Application.TheVariants as applications
-use Rattle.tm_syntax.specs.declared.tree.Step.{Step, Attribute, Apply', Row_of-Comparison, end_of-Comparison as no_comparison}
+use Rattle.tm_syntax.specs.declared.tree.Step.{Step, Attribute, Apply', Call' as Called, Row_of-Comparison, end_of-Comparison as no_comparison}
 use Rattle.tm_syntax.specs.declared.tree.AssignmentTarget.{AssignmentTarget, Name as To, Unpack' as Items, Attribute as Member}
 use Rattle.tm_syntax.specs.declared.tree.AssignmentTarget.{Row_of-AssignmentTarget}
 use Rattle.tm_syntax.specs.declared.tree.AssignmentTarget.{end_of-AssignmentTarget as no_target, more_of-AssignmentTarget as target}
@@ -29,8 +30,8 @@ use Rattle.tm_syntax.specs.declared.instruction.Instruction.{Instruction}
 use Rattle.tm_syntax.specs.declared.instruction.Instruction.TheVariants as i
 use Rattle.tm_syntax.specs.declared.opened.Opened.{Opened}
 use Rattle.tm_syntax.specs.declared.opened.Opened.TheVariants.{Scope as a_scope, Escape as an_escape, Capture as a_capture}
-use Rattle.tm_syntax.specs.Forms.{unary, chained, conditional, with_condition, with_comparison, with_pair, plain, with_keyword}
-use Rattle.tm_syntax.specs.Forms.{item, slice, binary, compare, and_then, or_else}
+use Rattle.tm_syntax.specs.Forms.{unary, chained, conditional, with_condition, with_comparison, with_pair, plain, spread, keyword}
+use Rattle.tm_syntax.specs.Forms.{spread_keywords, item, slice, binary, compare, and_then, or_else}
 use Rattle.tm_syntax.specs.declared.jump.JumpKind.TheVariants.{IfFalse, IfFalseOrPop, IfTrueOrPop}
 use Rattle.tm_syntax.specs.Fragments.{Fragment, straight, ◌⨾◌, jump_out, fork, looped, break_loop, next_round, over, either, assembled}
 
@@ -57,24 +58,111 @@ binary_code binaries.Remainder = i.Rem ∷ []
 binary_code binaries.Power = i.Pow ∷ []
 
 -- so many values are replaced by what a name answers to them
-abbrev pub application_code : Application → List ℕ → ℕ → List Instruction
+abbrev pub application_code : Application → List ℕ → Option ℕ → List Instruction
 application_code applications.Method x n = i.CallMethod x n ∷ []
 application_code applications.Filter x n = i.ApplyFilter x n ∷ []
 application_code applications.Test x n = i.PerformTest x n ∷ []
 application_code applications.NegatedTest x n = i.PerformTest x n ∷ i.Not ∷ []
 
+-- ---------------------------------------------------------------- arguments
+-- A row of so many values becomes one, where there are any.
+abbrev pub rows_of : ℕ → ℕ
+rows_of zero = 0
+rows_of (suc n) = 1
+
+abbrev pub list_of_row : ℕ → List Instruction
+list_of_row zero = []
+list_of_row (suc n) = i.BuildList (Some (suc n)) ∷ []
+
+abbrev pub map_of_row : ℕ → List Instruction
+map_of_row zero = []
+map_of_row (suc n) = i.BuildKwargs (suc n) ∷ []
+
+-- how many arguments there are by their places
 abbrev pub count : {n : _} → Row_of-Argument n → ℕ
 count no_argument = 0
 count (argument a more) = count more + 1
 
-abbrev pub count_keywords : {n : _} → Row_of-Keyword n → ℕ
-count_keywords no_keyword = 0
-count_keywords (with_keyword x a more) = count_keywords more + 1
+abbrev pub is_spread : Argument → Bool
+is_spread (plain a) = false
+is_spread (spread a) = true
+
+abbrev pub has_spread : {n : _} → Row_of-Argument n → Bool
+has_spread no_argument = false
+has_spread (argument a more) = is_spread a || has_spread more
+
+-- Where values are spread, each row of plain arguments is a list: how many wait to be one behind an argument, and how many lists that
+-- argument brings.
+abbrev pub row_behind : ℕ → Argument → ℕ
+row_behind n (plain a) = n + 1
+row_behind n (spread a) = 0
+
+abbrev pub lists_at : ℕ → Argument → ℕ
+lists_at n (plain a) = 0
+lists_at n (spread a) = rows_of n + 1
+
+-- how many lists there are, with so many more values at the end
+abbrev pub count_lists : {n : _} → ℕ → Row_of-Argument n → ℕ → ℕ
+count_lists before no_argument more = rows_of (before + more)
+count_lists before (argument a rest) more = lists_at before a + count_lists (row_behind before a) rest more
+
+abbrev pub is_spread_keyword : Keyword → Bool
+is_spread_keyword (keyword x a) = false
+is_spread_keyword (spread_keywords a) = true
+
+abbrev pub has_spread_keyword : {n : _} → Row_of-Keyword n → Bool
+has_spread_keyword no_keyword = false
+has_spread_keyword (keyword_and k more) = is_spread_keyword k || has_spread_keyword more
+
+-- the same of arguments by their names, each row of which is a map
+abbrev pub keywords_behind : ℕ → Keyword → ℕ
+keywords_behind n (keyword x a) = n + 1
+keywords_behind n (spread_keywords a) = 0
+
+abbrev pub maps_at : ℕ → Keyword → ℕ
+maps_at n (keyword x a) = 0
+maps_at n (spread_keywords a) = rows_of n + 1
+
+abbrev pub count_maps : {n : _} → ℕ → Row_of-Keyword n → ℕ
+count_maps before no_keyword = rows_of before
+count_maps before (keyword_and k rest) = maps_at before k + count_maps (keywords_behind before k) rest
+
+-- maps are merged where one is spread
+abbrev pub merged_code : Bool → ℕ → List Instruction
+merged_code false n = []
+merged_code true n = i.MergeKwargs n ∷ []
+
+abbrev pub merged_count : Bool → ℕ → ℕ
+merged_count false n = n
+merged_count true n = 1
 
 -- arguments by their names are one argument together
 abbrev pub together : {n : _} → Row_of-Keyword n → ℕ
-together no_keyword = 0
-together (with_keyword x a more) = 1
+together ks = merged_count (has_spread_keyword ks) (count_maps 0 ks)
+
+-- a call's count is on top of the values where some are spread
+abbrev pub count_by : Bool → ℕ → Option ℕ
+count_by false n = Some n
+count_by true n = None
+
+-- how many values a call is passed, with so many before the arguments
+abbrev pub passed_count : {n m : _} → ℕ → Row_of-Argument n → Row_of-Keyword m → Option ℕ
+passed_count before given named = count_by (has_spread given) (count given + together named + before)
+
+-- maps of arguments by their names become one keyword map, where there are any
+abbrev pub merging : {n : _} → Row_of-Keyword n → Fragment → Fragment
+merging ks maps = maps ⨾ straight (merged_code (has_spread_keyword ks) (count_maps 0 ks))
+
+-- What a call is passed, with so many values before the arguments: these, and those by their names as one; or the lists of all.
+abbrev pub passing_by : {n m : _} → Bool → ℕ → Row_of-Argument n → Row_of-Keyword m → Fragment → Fragment → (Fragment → Fragment) →
+    Fragment
+passing_by false before given named by_place by_name lists = by_place ⨾ by_name
+passing_by true before given named by_place by_name lists = lists by_name ⨾ straight
+    (i.UnpackLists (count_lists before given (together named)) ∷ [])
+
+abbrev pub passing : {n m : _} → ℕ → Row_of-Argument n → Row_of-Keyword m → Fragment → Fragment → (Fragment → Fragment) → Fragment
+passing before given named by_place maps lists =
+    passing_by (has_spread given) before given named by_place (merging named maps) lists
 
 abbrev pub count_exprs : {n : _} → Row_of-Expr n → ℕ
 count_exprs no_expr = 0
@@ -95,8 +183,9 @@ abbrev mutual
   expr_code (List' _ es) = exprs_code es ⨾ straight (i.BuildList (Some (count_exprs es)) ∷ [])
   expr_code (Tuple' _ es) = exprs_code es ⨾ straight (i.BuildTuple (count_exprs es) ∷ [])
   expr_code (Map' _ ps) = pairs_code ps ⨾ straight (i.BuildMap (count_pairs ps) ∷ [])
-  expr_code (Call' f _ given _ named) = arguments_code given ⨾ named_code named ⨾ straight
-      (i.CallFunction f (count given + together named) ∷ [])
+  expr_code (Call' f _ given _ named) = passing 0 given named (arguments_code given) (keywords_code 0 named)
+      (λ by_name. lists_code 0 given (together named) by_name) ⨾ straight
+      (i.CallFunction f (passed_count 0 given named) ∷ [])
   expr_code (unary op a) = expr_code a ⨾ straight (unary_code op ∷ [])
   expr_code (chained a _ ss) = expr_code a ⨾ steps_code ss
   expr_code (conditional a _ cs) = conditions_code cs (expr_code a)
@@ -116,27 +205,40 @@ abbrev mutual
 
   pub argument_code : Argument → Fragment
   argument_code (plain a) = expr_code a
+  argument_code (spread a) = expr_code a
 
   pub arguments_code : {n : _} → Row_of-Argument n → Fragment
   arguments_code no_argument = straight []
   arguments_code (argument a more) = argument_code a ⨾ arguments_code more
 
-  pub keywords_code : {n : _} → Row_of-Keyword n → Fragment
-  keywords_code no_keyword = straight []
-  keywords_code (with_keyword x a more) = straight (i.LoadConst (text x false) ∷ []) ⨾ expr_code a ⨾ keywords_code more
+  -- an argument behind a row of so many, which a spread one ends
+  pub listed_code : ℕ → Argument → Fragment
+  listed_code before (plain a) = expr_code a
+  listed_code before (spread a) = straight (list_of_row before) ⨾ expr_code a
 
-  -- a keyword map of them, where there are any
-  pub named_code : {n : _} → Row_of-Keyword n → Fragment
-  named_code no_keyword = straight []
-  named_code (with_keyword x a more) =
-      straight (i.LoadConst (text x false) ∷ []) ⨾ expr_code a ⨾ keywords_code more ⨾ straight
-      (i.BuildKwargs (count_keywords more + 1) ∷ [])
+  -- behind a row of so many the lists of all, with so many arguments by their names in the last
+  pub lists_code : {n : _} → ℕ → Row_of-Argument n → ℕ → Fragment → Fragment
+  lists_code before no_argument more by_name = by_name ⨾ straight (list_of_row (before + more))
+  lists_code before (argument a rest) more by_name = listed_code before a ⨾ lists_code (row_behind before a) rest more by_name
+
+  -- a name and its value, behind a row of so many, which a spread one ends
+  pub keyword_code : ℕ → Keyword → Fragment
+  keyword_code before (keyword x a) = straight (i.LoadConst (text x false) ∷ []) ⨾ expr_code a
+  keyword_code before (spread_keywords a) = straight (map_of_row before) ⨾ expr_code a
+
+  pub keywords_code : {n : _} → ℕ → Row_of-Keyword n → Fragment
+  keywords_code before no_keyword = straight (map_of_row before)
+  keywords_code before (keyword_and k more) = keyword_code before k ⨾ keywords_code (keywords_behind before k) more
 
   pub step_code : Step → Fragment
   step_code (Attribute x) = straight (i.GetAttr x ∷ [])
   step_code (item a) = expr_code a ⨾ straight (i.GetItem ∷ [])
-  step_code (Apply' k x _ given _ named) = arguments_code given ⨾ named_code named ⨾ straight
-      (application_code k x (count given + together named + 1))
+  step_code (Apply' k x _ given _ named) = passing 1 given named (arguments_code given) (keywords_code 0 named)
+      (λ by_name. lists_code 1 given (together named) by_name) ⨾ straight
+      (application_code k x (passed_count 1 given named))
+  step_code (Called _ given _ named) = passing 1 given named (arguments_code given) (keywords_code 0 named)
+      (λ by_name. lists_code 1 given (together named) by_name) ⨾ straight
+      (i.CallObject (passed_count 1 given named) ∷ [])
   step_code (slice a b c) = expr_code a ⨾ expr_code b ⨾ expr_code c ⨾ straight (i.Slice ∷ [])
   step_code (binary op a) = expr_code a ⨾ straight (binary_code op)
   step_code (compare op a _ cs) = expr_code a ⨾ fork (links_code op cs) drop_right
@@ -152,6 +254,15 @@ abbrev mutual
   pub steps_code : {n : _} → Row_of-Step n → Fragment
   steps_code no_step = straight []
   steps_code (step s ss) = step_code s ⨾ steps_code ss
+
+-- arguments by their names as one, where there are any
+abbrev pub named_code : {n : _} → Row_of-Keyword n → Fragment
+named_code ks = merging ks (keywords_code 0 ks)
+
+-- what a call is passed, with so many values before the arguments
+abbrev pub passing_code : {n m : _} → ℕ → Row_of-Argument n → Row_of-Keyword m → Fragment
+passing_code before given named =
+    passing before given named (arguments_code given) (keywords_code 0 named) (λ by_name. lists_code before given (together named) by_name)
 
 -- comparisons in a row after the right side of the first
 abbrev pub row_code : {n : _} → BinaryOperator → Row_of-Comparison n → Fragment

@@ -5,9 +5,10 @@ use Rattle.sqlite_items.specs.formers.items.Items as items
 use Rattle.tm_syntax.specs.declared.tree.UnaryOperator.{UnaryOperator}
 use Rattle.tm_syntax.specs.declared.tree.BinaryOperator.{BinaryOperator}
 use Rattle.tm_syntax.specs.declared.tree.Expr.{Expr, Unary', Chain', Conditional', end_of-Expr, more_of-Expr, Row_of-Step}
-use Rattle.tm_syntax.specs.declared.tree.Expr.{Row_of-Condition, more_of-Condition, Row_of-Keyword, more_of-Keyword}
+use Rattle.tm_syntax.specs.declared.tree.Expr.{Row_of-Condition, more_of-Condition}
 use Rattle.tm_syntax.specs.declared.tree.Expr.{Row_of-Pair, more_of-Pair}
-use Rattle.tm_syntax.specs.declared.tree.Argument.{Argument, Plain'}
+use Rattle.tm_syntax.specs.declared.tree.Argument.{Argument, Plain', Spread' as Items'}
+use Rattle.tm_syntax.specs.declared.tree.Keyword.{Keyword, Named', Spread' as Pairs'}
 use Rattle.tm_syntax.specs.declared.tree.Step.{Step, Item', Slice', Binary', Compare', And', Or', Row_of-Comparison, more_of-Comparison}
 
 pattern abbrev pub unary : UnaryOperator → Expr → Expr
@@ -29,8 +30,14 @@ with_comparison op a more = more_of-Comparison op tt (more_of-Expr a end_of-Expr
 pattern abbrev pub plain : Expr → Argument
 plain a = Plain' tt (more_of-Expr a end_of-Expr)
 
-pattern abbrev pub with_keyword : {n : _} → List ℕ → Expr → Row_of-Keyword n → Row_of-Keyword (one_more n)
-with_keyword x a more = more_of-Keyword x tt (more_of-Expr a end_of-Expr) more
+pattern abbrev pub spread : Expr → Argument
+spread a = Items' tt (more_of-Expr a end_of-Expr)
+
+pattern abbrev pub keyword : List ℕ → Expr → Keyword
+keyword x a = Named' x tt (more_of-Expr a end_of-Expr)
+
+pattern abbrev pub spread_keywords : Expr → Keyword
+spread_keywords a = Pairs' tt (more_of-Expr a end_of-Expr)
 
 pattern abbrev pub with_pair : {n : _} → Expr → Expr → Row_of-Pair n → Row_of-Pair (one_more n)
 with_pair k v more = more_of-Pair tt (more_of-Expr k end_of-Expr) tt (more_of-Expr v end_of-Expr) more

@@ -56,6 +56,10 @@ pub enum Instruction {
     BuildMap(usize),
     /// Replaces so many names, each with its value, by a keyword map of them.
     BuildKwargs(usize),
+    /// Replaces so many maps by one keyword map of their pairs.
+    MergeKwargs(usize),
+    /// Replaces so many values by the items of all of them, and on top how many these are.
+    UnpackLists(usize),
     /// Replaces two values by whether they are equal.
     Eq,
     /// Replaces two values by whether they differ.
@@ -106,14 +110,17 @@ pub enum Instruction {
     JumpIfFalseOrPop(usize),
     /// Goes to a place where the topmost value is true, else pops it.
     JumpIfTrueOrPop(usize),
-    /// Replaces so many values by what the function of a name answers to them.
-    CallFunction(Name, usize),
+    /// Replaces so many values by what the function of a name answers to them. Here and below a
+    /// missing count is on top of the values, a number.
+    CallFunction(Name, Option<usize>),
     /// Replaces so many values by what the first one's method of a name answers to the others.
-    CallMethod(Name, usize),
+    CallMethod(Name, Option<usize>),
+    /// Replaces so many values by what the first one, a function, answers to the others.
+    CallObject(Option<usize>),
     /// Replaces so many values by what the filter of a name answers to them.
-    ApplyFilter(Name, usize),
+    ApplyFilter(Name, Option<usize>),
     /// Replaces so many values by whether what the test of a name answers to them is true.
-    PerformTest(Name, usize),
+    PerformTest(Name, Option<usize>),
     /// Runs the block of a name.
     CallBlock(Name),
     /// Pops a value, and gives it to a name of the innermost scope.

@@ -105,16 +105,18 @@ pub struct Pair {
 pub enum Argument {
     /// A value.
     Plain(Boxed<Expr>),
+    /// The items of a value, `*e`.
+    Spread(Boxed<Expr>),
 }
 
 /// An argument of a call, by its name.
 #[cycle(expr)]
 #[derive(Drop)]
-pub struct Keyword {
-    /// The name.
-    pub name: Name,
-    /// The value.
-    pub value: Boxed<Expr>,
+pub enum Keyword {
+    /// A value for a name.
+    Named(Name, Boxed<Expr>),
+    /// The values of a map by their keys, `**e`.
+    Spread(Boxed<Expr>),
 }
 
 /// A condition of a value.
@@ -147,6 +149,8 @@ pub enum Step {
     Item(Boxed<Expr>),
     /// What its method, a filter or a test of a name answers, with further arguments by their places and by their names.
     Apply(Application, Name, Items<Argument>, Items<Keyword>),
+    /// What it answers as a function, with arguments by their places and by their names.
+    Call(Items<Argument>, Items<Keyword>),
     /// Its slice from a start to a stop by a step, each the literal none where it is missing.
     Slice(Boxed<Expr>, Boxed<Expr>, Boxed<Expr>),
     /// The operator with this right side.
