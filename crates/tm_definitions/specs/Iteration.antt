@@ -1,10 +1,9 @@
 -- What `for` goes over, and what unpacks into several targets.
-use Rattle.std.specs.Prelude.{◌≡◌, ℕ, ◌==◌, ◌++◌, ◌∷◌, false, cond, List, [], length, map as each, Option, None, Some, Ok, Err}
+use Rattle.std.specs.Prelude.{◌≡◌, ℕ, ◌==◌, false, cond, List, [], length, map as each, Option, None, Some, Ok, Err}
 use Rattle.std.specs.Char.{encode_utf8}
 use Rattle.std.specs.Str.{chars}
 use Rattle.tm_definitions.specs.Members.{text_values}
 use Rattle.tm_definitions.specs.Names.{loop_names, macro_names}
-use Rattle.tm_definitions.specs.Ranges.{given}
 use Rattle.tm_values.specs.Defined.{refusal_of, unless}
 use Rattle.tm_values.specs.Answer.{Answer, refused, invalid, is_memory_alone}
 use Rattle.tm_values.specs.Records.{RecordData, namespace_at}
@@ -51,12 +50,6 @@ items_of r v = items_or kind_of.InvalidOperation r v
 -- what `for` goes over
 abbrev pub iterated : UndefinedBehavior → RecordData → Val → Answer (List Val)
 iterated b r v = unless (refusal_of b use_of.Iteration v) (items_of r v)
-
--- the items of all that stand behind `*` in a call, one after the other
-abbrev pub items_of_all : UndefinedBehavior → RecordData → List Val → Answer (List Val)
-items_of_all b r [] = Ok []
-items_of_all b r (v ∷ vs) =
-    given (unless (refusal_of b use_of.ItemSpread v) (items_of r v)) (λ us. given (items_of_all b r vs) (λ ws. Ok (us ++ ws)))
 
 -- exactly so many
 abbrev pub exactly : ℕ → Answer (List Val) → Answer (List Val)

@@ -15,3 +15,4 @@ pub mod Json
 pub mod Verdicts
 pub mod Emitted
 pub mod Concatenation
+pub mod Spread

@@ -1,11 +1,8 @@
--- What `dict` and `namespace` answer, a map and keywords, and what `**` gives to a call.
+-- What `dict` and `namespace` answer: a map and keywords.
 use Rattle.std.specs.Prelude.{◌≡◌, Bool, List, [], ◌∷◌, ◌++◌, Option, None, Some, Ok, slice_get, is_some}
 use Rattle.std.specs.List.{filter}
 use Rattle.tm_definitions.specs.Ranges.{given, at_most_arguments}
 use Rattle.tm_values.specs.Answer.{Answer, invalid}
-use Rattle.tm_values.specs.Defined.{refusal_of, unless}
-use Rattle.tm_values.specs.declared.undefined.UndefinedBehavior.{UndefinedBehavior}
-use Rattle.tm_values.specs.declared.undefined.UndefinedUse.TheVariants.{KeywordSpread}
 use Rattle.tm_values.specs.Map.{IsMap, put_all, put_each}
 use Rattle.tm_values.specs.Records.{RecordData, namespace_at}
 use Rattle.tm_values.specs.Val.{Val, undefined, none, map, keywords, exports, namespace, entries_of, text_in}
@@ -51,24 +48,6 @@ abbrev pub dict_of : RecordData → List Val → Answer (List (Val × Val))
 dict_of r vs =
     given (base_of r (slice_get (plain_of vs) 0)) (λ ps.
     at_most_arguments 1 (plain_of vs) (Ok (put_all (ps ++ keywords_of vs))))
-
--- the pairs of what stands behind `**` in a call: a map, a keyword map, a module or a namespace
-abbrev pub spread_pairs : RecordData → Val → Answer (List (Val × Val))
-spread_pairs r (map ps) = Ok (entries_of ps)
-spread_pairs r (keywords ps) = Ok (entries_of ps)
-spread_pairs r (exports ps s) = Ok (entries_of ps)
-spread_pairs r (namespace state i) = namespace_pairs (namespace_at r state i)
-spread_pairs r _ = invalid
-
--- the pairs of all of them, one after the other
-abbrev pub pairs_of_all : UndefinedBehavior → RecordData → List Val → Answer (List (Val × Val))
-pairs_of_all b r [] = Ok []
-pairs_of_all b r (v ∷ vs) =
-    given (unless (refusal_of b KeywordSpread v) (spread_pairs r v)) (λ ps. given (pairs_of_all b r vs) (λ qs. Ok (ps ++ qs)))
-
--- their keyword map: of equal keys the first spelling and the last value
-abbrev pub merged : UndefinedBehavior → RecordData → List Val → Answer (List (Val × Val))
-merged b r vs = given (pairs_of_all b r vs) (λ ps. Ok (put_all ps))
 
 -- whether the key is a text
 abbrev pub has_text_key : Val × Val → Bool

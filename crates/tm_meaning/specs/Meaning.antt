@@ -15,8 +15,7 @@ use Rattle.tm_definitions.specs.Truth.{truth_of}
 use Rattle.tm_definitions.specs.Comparison.{compared}
 use Rattle.tm_definitions.specs.Concatenation.{concatenated}
 use Rattle.tm_definitions.specs.Containment.{contained}
-use Rattle.tm_definitions.specs.Iteration.{items_of_all}
-use Rattle.tm_definitions.specs.Maps.{merged}
+use Rattle.tm_definitions.specs.Spread.{items_of_all, merged}
 use Rattle.tm_definitions.specs.Members.{attribute_of, item_of}
 use Rattle.tm_definitions.specs.Slices.{sliced}
 use Rattle.tm_definitions.specs.declared.comparison.ComparisonOperator.TheVariants as comparison

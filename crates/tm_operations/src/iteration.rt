@@ -49,7 +49,13 @@ pub fn unpack<R: Records>(
     exactly(alloc, items, count)
 }
 
-fn items<R: Records>(alloc: Global, value: &Value, records: &R) -> Result<Rc<Vec<Value>>, Error>
+/// The items that `for` goes over, and none of undefined. InvalidOperation for other values, and
+/// for a namespace whose record isn't there, or OutOfMemory.
+pub(crate) fn items<R: Records>(
+    alloc: Global,
+    value: &Value,
+    records: &R,
+) -> Result<Rc<Vec<Value>>, Error>
     ensures { IsAnswerRead result (λ items. items.value.items)
         (items_of (R.records records.now) value.now) }
 {

@@ -12,6 +12,7 @@ mod names;
 mod ranges;
 mod rows;
 mod slices;
+mod spread;
 
 pub use arithmetic::{
     add, add_to, divide, floor_divide, multiply, negate, power, remainder, subtract,
@@ -25,4 +26,5 @@ pub use members::{attribute, check_settable, is_callable, item};
 pub use ranges::{range, range_law};
 pub use rows::{dict_rows, namespace_rows, order_rows, range_faults, range_rows};
 pub use slices::slice;
+pub use spread::{merge_maps, spread_items};
 pub use tm_definitions::{ComparisonOperator, LoopAttribute};

@@ -77,8 +77,11 @@ fn base<'a, R: Records>(
     }
 }
 
-// Puts a second owner of each pair behind those that are there.
-fn share_pairs(pairs: &[(Value, Value)], out: &mut Vec<(Value, Value)>) -> Result<(), Error>
+/// Puts a second owner of each pair behind those that are there. Fails by OutOfMemory alone.
+pub(crate) fn share_pairs(
+    pairs: &[(Value, Value)],
+    out: &mut Vec<(Value, Value)>,
+) -> Result<(), Error>
     ensures items { OnOk result (out.new.items ≡ out.old.items ++ pairs.now) }
     ensures memory { IfErr result (λ e. e ≡ ErrorKind.OutOfMemory ∷ []) }
 {
@@ -113,9 +116,10 @@ fn too_many(alloc: Global) -> Error
     )
 }
 
+/// The refusal of what is no map.
 #[cold]
 #[inline(never)]
-fn not_a_map(alloc: Global) -> Error
+pub(crate) fn not_a_map(alloc: Global) -> Error
     ensures { result ≡ ErrorKind.InvalidOperation ∷ [] }
 {
     Error::new(

@@ -26,7 +26,7 @@ use Rattle.tm_syntax.specs.declared.tree.Assignment.{Assignment}
 use Rattle.tm_syntax.specs.Code.{pass_flags, count_targets, has_spread, has_spread_keyword}
 use Rattle.tm_syntax.specs.Forms.{unary, chained, conditional, with_condition, with_comparison, with_pair, plain, spread, keyword}
 use Rattle.tm_syntax.specs.Forms.{spread_keywords, item, slice, binary, compare, and_then, or_else}
-use Rattle.tm_definitions.specs.Maps.{merged}
+use Rattle.tm_definitions.specs.Spread.{merged}
 use Rattle.tm_definitions.specs.Members.{settable}
 use Rattle.tm_meaning.specs.World.{World, HostValue, loop_scope, next_turn, cleared, items_over, Res, bind, answered, tick, depth}
 use Rattle.tm_meaning.specs.World.{looked_up}

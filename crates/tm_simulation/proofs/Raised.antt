@@ -25,8 +25,9 @@ use Rattle.tm_definitions.specs.Comparison.{compared}
 use Rattle.tm_definitions.specs.Concatenation.{concatenated, where_fine as joined_where_fine}
 use Rattle.tm_definitions.specs.Containment.{contained, found_in, text_contains, namespace_contains}
 use Rattle.tm_definitions.specs.Emitted.{emission_verdict, escaped_verdict}
-use Rattle.tm_definitions.specs.Iteration.{iterated, unpacked, items_of, items_of_all, items_or, namespace_keys, exactly}
-use Rattle.tm_definitions.specs.Maps.{dict_of, namespace_of, base_of, namespace_pairs, plain_of, spread_pairs, pairs_of_all, merged}
+use Rattle.tm_definitions.specs.Iteration.{iterated, unpacked, items_of, items_or, namespace_keys, exactly}
+use Rattle.tm_definitions.specs.Maps.{dict_of, namespace_of, base_of, namespace_pairs, plain_of}
+use Rattle.tm_definitions.specs.Spread.{joined, spread_items, items_of_all, pairs_in, spread_pairs, merged}
 use Rattle.tm_definitions.specs.Members.{attribute_of, item_of, settable, settable_number, loop_member, loop_item}
 use Rattle.tm_definitions.specs.Members.{namespace_member as member_of_namespace}
 use Rattle.tm_definitions.specs.Printed.{entered}
@@ -333,12 +334,6 @@ items_of_raises r v = items_or_raises InvalidOperation refl r v
 pub iterated_raises : (b : UndefinedBehavior) (r : RecordData) (v : Val) → Raises (iterated b r v)
 iterated_raises b r v = unless_raises b use_of.Iteration v _ (items_of_raises r v)
 
-pub spread_items_raises : (b : UndefinedBehavior) (r : RecordData) (vs : List Val) → Raises (items_of_all b r vs)
-spread_items_raises b r [] = tt
-spread_items_raises b r (v ∷ vs) =
-    given_raises (unless (refusal_of b use_of.ItemSpread v) (items_of r v)) _ (unless_raises b use_of.ItemSpread v _ (items_of_raises r v))
-    (λ us. given_raises (items_of_all b r vs) _ (spread_items_raises b r vs) (λ ws. tt))
-
 exactly_raises : (n : ℕ) (answer : Answer (List Val)) → Raises answer → Raises (exactly n answer)
 exactly_raises n (Ok vs) h = by_test (λ b. cond b (Ok vs) (refused CannotUnpack)) _ tt refl
 exactly_raises n (Err chain) h = h
@@ -381,22 +376,25 @@ dict_raises r vs = given_raises (base_of r (slice_get (plain_of vs) 0)) _ (base_
 pub namespace_raises : (r : RecordData) (vs : List Val) → Raises (namespace_of r vs)
 namespace_raises r vs = given_raises (dict_of r vs) _ (dict_raises r vs) (λ ps. tt)
 
-spread_pairs_raises : (r : RecordData) (v : Val) → Raises (spread_pairs r v)
-spread_pairs_raises r (map ps) = tt
-spread_pairs_raises r (keywords ps) = tt
-spread_pairs_raises r (exports ps s) = tt
-spread_pairs_raises r (namespace state i) = by_option namespace_pairs (namespace_at r state i) refl (λ ps. tt)
-spread_pairs_raises r _ = refl
+-- ---------------------------------------------------------------- what is spread
+joined_raises : {A : Type 0} (f : Val → Answer (List A)) → ((v : Val) → Raises (f v)) → (vs : List Val) → Raises (joined f vs)
+joined_raises f h [] = tt
+joined_raises f h (v ∷ vs) = given_raises (f v) _ (h v) (λ xs. given_raises (joined f vs) _ (joined_raises f h vs) (λ ys. tt))
 
-all_pairs_raises : (b : UndefinedBehavior) (r : RecordData) (vs : List Val) → Raises (pairs_of_all b r vs)
-all_pairs_raises b r [] = tt
-all_pairs_raises b r (v ∷ vs) =
-    given_raises (unless (refusal_of b use_of.KeywordSpread v) (spread_pairs r v)) _
-    (unless_raises b use_of.KeywordSpread v _ (spread_pairs_raises r v))
-    (λ ps. given_raises (pairs_of_all b r vs) _ (all_pairs_raises b r vs) (λ qs. tt))
+pub spread_items_raises : (b : UndefinedBehavior) (r : RecordData) (vs : List Val) → Raises (items_of_all b r vs)
+spread_items_raises b r vs = joined_raises (spread_items b r) (λ v. unless_raises b use_of.ItemSpread v _ (items_of_raises r v)) vs
+
+pairs_in_raises : (r : RecordData) (v : Val) → Raises (pairs_in r v)
+pairs_in_raises r (map ps) = tt
+pairs_in_raises r (keywords ps) = tt
+pairs_in_raises r (exports ps s) = tt
+pairs_in_raises r (namespace state i) = by_option namespace_pairs (namespace_at r state i) refl (λ ps. tt)
+pairs_in_raises r _ = refl
 
 pub merged_raises : (b : UndefinedBehavior) (r : RecordData) (vs : List Val) → Raises (merged b r vs)
-merged_raises b r vs = given_raises (pairs_of_all b r vs) _ (all_pairs_raises b r vs) (λ ps. tt)
+merged_raises b r vs =
+    given_raises (joined (spread_pairs b r) vs) _
+    (joined_raises (spread_pairs b r) (λ v. unless_raises b use_of.KeywordSpread v _ (pairs_in_raises r v)) vs) (λ ps. tt)
 
 -- ---------------------------------------------------------------- names and escapes
 context_raises : (r : RecordData) (x : List ℕ) (v : Val) → Raises (context_member r x v)

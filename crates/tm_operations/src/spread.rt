@@ -1,0 +1,116 @@
+//! What `*` and `**` give to a call.
+ghost use Rattle.std.specs.Prelude.{◌≡◌, ◌++◌, Ok, IfErr, OnOk};
+ghost use Rattle.tm_definitions.specs.Iteration.{IsAnswerRead, items_of};
+ghost use Rattle.tm_definitions.specs.Spread.{items_of_all, merged, pairs_in, spread_items, spread_pairs};
+ghost use Rattle.tm_values.specs.Answer.{IsAnswer};
+ghost use Rattle.tm_operations.specs.Added.{Adds};
+
+use crate::iteration::items;
+use crate::maps::{not_a_map, share_pairs};
+use std::alloc::Global;
+use tm_values::{
+    Error, Node, Records, UndefinedBehavior, UndefinedUse, Value, ValueMap, check_defined,
+    find_namespace,
+};
+
+/// The items of values that stand behind `*` in a call, one after the other: those that `for` goes
+/// over, and none of undefined. InvalidOperation for values without items and for a namespace
+/// whose record isn't there, or OutOfMemory.
+pub fn spread_items<R: Records>(
+    alloc: Global,
+    values: &[Value],
+    records: &R,
+    behavior: UndefinedBehavior,
+) -> Result<Vec<Value>, Error>
+    ensures { IsAnswerRead result (λ all. all.items)
+        (items_of_all behavior (R.records records.now) values.now) }
+{
+    let mut all = Vec::new(alloc);
+    for value in values {
+        add_items(alloc, value, records, behavior, &mut all)?;
+    }
+    Ok(all)
+}
+
+// Adds the items of a value to those that are there.
+fn add_items<R: Records>(
+    alloc: Global,
+    value: &Value,
+    records: &R,
+    behavior: UndefinedBehavior,
+    all: &mut Vec<Value>,
+) -> Result<(), Error>
+    ensures { Adds result (spread_items behavior (R.records records.now) value.now)
+        all.old.items all.new.items }
+{
+    check_defined(value, behavior, UndefinedUse::ItemSpread)?;
+    let found = items(alloc, value, records)?;
+    share_values(found.as_slice(), all)
+}
+
+// Puts a second owner of each value behind those that are there.
+fn share_values(values: &[Value], all: &mut Vec<Value>) -> Result<(), Error>
+    ensures { Adds result (Ok values.now) all.old.items all.new.items }
+{
+    all.reserve(values.len())?;
+    for value in values {
+        all.push(value.share()?)?;
+    }
+    Ok(())
+}
+
+/// The map of what stands behind `**` in a call, and of keywords: the pairs of maps, keyword maps,
+/// modules and namespaces; of equal keys the last value counts. UndefinedError where a value is
+/// undefined and the behaviour refuses that; InvalidOperation for other values and for a namespace
+/// whose record isn't there, or OutOfMemory.
+pub fn merge_maps<R: Records>(
+    alloc: Global,
+    values: &[Value],
+    records: &R,
+    behavior: UndefinedBehavior,
+) -> Result<ValueMap, Error>
+    ensures { IsAnswer result (merged behavior (R.records records.now) values.now) }
+{
+    let mut pairs = Vec::new(alloc);
+    for value in values {
+        add_pairs(alloc, value, records, behavior, &mut pairs)?;
+    }
+    ValueMap::from_pairs(pairs)
+}
+
+// Adds the pairs of a value to those that are there.
+fn add_pairs<R: Records>(
+    alloc: Global,
+    value: &Value,
+    records: &R,
+    behavior: UndefinedBehavior,
+    all: &mut Vec<(Value, Value)>,
+) -> Result<(), Error>
+    ensures { Adds result (spread_pairs behavior (R.records records.now) value.now)
+        all.old.items all.new.items }
+{
+    check_defined(value, behavior, UndefinedUse::KeywordSpread)?;
+    let found = pairs(alloc, value, records)?;
+    share_pairs(found, all)
+}
+
+// The pairs of a map, a keyword map, a module or a namespace.
+fn pairs<'a, R: Records>(
+    alloc: Global,
+    value: &'a Value,
+    records: &'a R,
+) -> Result<&'a [(Value, Value)], Error>
+    ensures { IsAnswerRead result (λ found. found.now)
+        (pairs_in (R.records records.now) value.now) }
+{
+    match &value.node {
+        Node::Map(pairs, _) | Node::Keywords(pairs, _) | Node::Exports(pairs, _) => {
+            Ok(pairs.as_slice())
+        }
+        Node::Namespace(state, index) => match find_namespace(records, *state, *index) {
+            Some(map) => Ok(map.pairs()),
+            None => Err(not_a_map(alloc)),
+        },
+        _ => Err(not_a_map(alloc)),
+    }
+}
