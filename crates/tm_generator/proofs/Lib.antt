@@ -2,5 +2,6 @@ pub mod Steps
 pub mod Settled
 pub mod Assembled
 pub mod PutExpressions
+pub mod Spreading
 pub mod PutTargets
 pub mod PutStatements

@@ -1,18 +1,14 @@
 -- What is put for the forms of an expression, as the program holds them.
 use Rattle.std.proofs.Common.{◌≡◌, ℕ, ◌+◌, ◌<◌, List, [], ◌∷◌, ◌++◌, length, drop, refl, sym, ap, ◌∙◌, arith, drop-cons, reverse}
-use Rattle.std.proofs.Common.{◌==◌, eqb-true}
-use Rattle.std.specs.Prelude.{get_or, Some, false, true, min}
+use Rattle.std.specs.Prelude.{get_or, Option, Some}
 use Rattle.std.proofs.lemmas.List.{reverse-reverse}
-use borrow.Enum.Total.{values_d}
 use denote.Hole.Carrier.{hidden}
-use Rattle.tm_values.specs.Val.{Val, text}
 use Rattle.tm_syntax.specs.declared.tree.UnaryOperator.{UnaryOperator}
 use Rattle.tm_syntax.specs.declared.tree.BinaryOperator.{BinaryOperator}
 use Rattle.tm_syntax.specs.declared.tree.Expr.{Expr}
 use Rattle.tm_syntax.specs.declared.tree.Expr.TheVariants as e
 use Rattle.tm_syntax.specs.declared.tree.Pair.{Pair}
 use Rattle.tm_syntax.specs.declared.tree.Argument.{Argument}
-use Rattle.tm_syntax.specs.declared.tree.Argument.TheVariants as a
 use Rattle.tm_syntax.specs.declared.tree.Keyword.{Keyword}
 use Rattle.tm_syntax.specs.declared.tree.Condition.{Condition}
 use Rattle.tm_syntax.specs.declared.tree.Comparison.{Comparison}
@@ -30,11 +26,9 @@ use Rattle.tm_syntax.specs.declared.instruction.Instruction.{Instruction}
 use Rattle.tm_syntax.specs.declared.instruction.Instruction.TheVariants as i
 use Rattle.tm_syntax.specs.declared.jump.JumpKind.TheVariants.{IfFalseOrPop, IfTrueOrPop}
 use Rattle.tm_syntax.specs.Fragments.{Fragment, straight, ◌⨾◌, over, either}
-use Rattle.tm_syntax.specs.contracts.tree.Argument.{enum as the_enum}
-use Rattle.tm_syntax.proofs.Forms.{whole}
 use Rattle.tm_syntax.specs.declared.tree.Application.{Application}
-use Rattle.tm_syntax.specs.Code.{unary_code, binary_code, application_code, count, count_keywords, together, count_exprs, count_pairs}
-use Rattle.tm_syntax.specs.Code.{expr_code, exprs_code, pairs_code, argument_code, arguments_code, keywords_code, named_code}
+use Rattle.tm_syntax.specs.Code.{unary_code, binary_code, application_code, count_exprs, count_pairs, passed_count}
+use Rattle.tm_syntax.specs.Code.{expr_code, exprs_code, pairs_code, argument_code, arguments_code, passing_code}
 use Rattle.tm_syntax.specs.Code.{conditions_code, step_code, steps_code, row_code, links_code}
 use Rattle.tm_generator.specs.declared.builder.Out.{Out}
 use Rattle.tm_generator.specs.Building.{Builder, put, with_one, jumped, asked, kept, answered}
@@ -49,21 +43,6 @@ count-pairs : (xs : List Pair) → count_pairs (pairs xs) ≡ length xs
 unfolding hidden pairs shape-the_row-Pair-2
 count-pairs [] = refl
 count-pairs (x ∷ xs) = omega (arith, count-pairs xs)
-
-count-arguments : (xs : List Argument) → count (arguments xs) ≡ length xs
-unfolding hidden arguments shape-the_row-Argument-3
-count-arguments [] = refl
-count-arguments (x ∷ xs) = omega (arith, count-arguments xs)
-
-count-keywords : (xs : List Keyword) → count_keywords (keywords xs) ≡ length xs
-unfolding hidden keywords shape-the_row-Keyword-4
-count-keywords [] = refl
-count-keywords (x ∷ xs) = omega (arith, count-keywords xs)
-
-together-is : (xs : List Keyword) → together (keywords xs) ≡ min (length xs) 1
-unfolding hidden keywords shape-the_row-Keyword-4
-together-is [] = refl
-together-is (x ∷ xs) = omega (arith)
 
 -- ---------------------------------------------------------------- expressions
 pub put-list : (b : Builder) (xs : List Expr) →
@@ -82,13 +61,9 @@ unfolding hidden
 put-map b xs = ap {B = Builder} (λ n. with_one (i.BuildMap n) (put (pairs_code (pairs xs)) b)) (count-pairs xs)
 
 pub put-call : (b : Builder) (f : List ℕ) (xs : List Argument) (ks : List Keyword) → put (expr_code (e.Call f xs ks)) b ≡
-    with_one (i.CallFunction f (length xs + min (length ks) 1)) (put (named_code (keywords ks)) (put (arguments_code (arguments xs)) b))
+    with_one (i.CallFunction f (passed_count 0 (arguments xs) (keywords ks))) (put (passing_code 0 (arguments xs) (keywords ks)) b)
 unfolding hidden
-put-call b f xs ks =
-    ap {B = Builder} (λ n. with_one (i.CallFunction f (n + together (keywords ks)))
-    (put (named_code (keywords ks)) (put (arguments_code (arguments xs)) b))) (count-arguments xs)
-    ∙ ap {B = Builder} (λ n. with_one (i.CallFunction f (length xs + n))
-    (put (named_code (keywords ks)) (put (arguments_code (arguments xs)) b))) (together-is ks)
+put-call b f xs ks = refl
 
 pub put-unary : (b : Builder) (op : UnaryOperator) (x : Expr) →
     put (expr_code (e.Unary op x)) b ≡ with_one (unary_code op) (put (expr_code x) b)
@@ -102,14 +77,15 @@ put-chain b x ss = refl
 
 -- ---------------------------------------------------------------- steps
 pub put-apply : (b : Builder) (k : Application) (f : List ℕ) (xs : List Argument) (ks : List Keyword) →
-    put (step_code (s.Apply k f xs ks)) b ≡ put (straight (application_code k f (length xs + min (length ks) 1 + 1)))
-    (put (named_code (keywords ks)) (put (arguments_code (arguments xs)) b))
+    put (step_code (s.Apply k f xs ks)) b ≡ put (straight (application_code k f (passed_count 1 (arguments xs) (keywords ks))))
+    (put (passing_code 1 (arguments xs) (keywords ks)) b)
 unfolding hidden
-put-apply b k f xs ks =
-    ap {B = Builder} (λ n. put (straight (application_code k f (n + together (keywords ks) + 1)))
-    (put (named_code (keywords ks)) (put (arguments_code (arguments xs)) b))) (count-arguments xs)
-    ∙ ap {B = Builder} (λ n. put (straight (application_code k f (length xs + n + 1)))
-    (put (named_code (keywords ks)) (put (arguments_code (arguments xs)) b))) (together-is ks)
+put-apply b k f xs ks = refl
+
+pub put-call_object : (b : Builder) (xs : List Argument) (ks : List Keyword) → put (step_code (s.Call xs ks)) b ≡
+    with_one (i.CallObject (passed_count 1 (arguments xs) (keywords ks))) (put (passing_code 1 (arguments xs) (keywords ks)) b)
+unfolding hidden
+put-call_object b xs ks = refl
 
 pub put-item : (b : Builder) (x : Expr) → put (step_code (s.Item x)) b ≡ with_one i.GetItem (put (expr_code x) b)
 unfolding hidden hidden-the_row-Expr-0
@@ -138,30 +114,30 @@ pub put-or : (b : Builder) (x : Expr) → put (step_code (s.Or x)) b ≡ put (ov
 unfolding hidden hidden-the_row-Expr-0
 put-or b x = refl
 
-pub put-plain : (b : Builder) (x : Expr) → put (argument_code (a.Plain x)) b ≡ put (expr_code x) b
-unfolding hidden hidden-the_row-Expr-0
-put-plain b x = refl
-
 pub ruleset expressions = (put-list, put-tuple, put-map, put-item, put-and, put-or)
 
 -- ---------------------------------------------------------------- parts of a form, one after the other
-pub made-call : (b m1 m2 m3 : Builder) (f g : List ℕ) (n n1 n2 : ℕ) (xs : List Argument) (ks : List Keyword) →
-    m1 ≡ put (arguments_code (arguments xs)) b → m2 ≡ put (named_code (keywords ks)) m1 → n1 ≡ length xs → n2 ≡ length ks →
-    n ≡ n1 + min n2 1 → g ≡ f → m3 ≡ with_one (i.CallFunction g n) m2 → m3 ≡ put (expr_code (e.Call f xs ks)) b
-made-call b m1 m2 m3 f g n n1 n2 xs ks p q l1 l2 l h r =
-    r ∙ ap {B = Builder} (λ k. with_one (i.CallFunction k n) m2) h
-    ∙ ap {B = Builder} (λ k. with_one (i.CallFunction f k) m2) (l ∙ ap (λ k. k + min n2 1) l1 ∙ ap (λ k. length xs + min k 1) l2)
-    ∙ ap {B = Builder} (λ m. with_one (i.CallFunction f (length xs + min (length ks) 1)) m) (q
-    ∙ ap {B = Builder} (λ m. put (named_code (keywords ks)) m) p) ∙ sym (put-call b f xs ks)
+pub made-call : (b m1 m2 : Builder) (f g : List ℕ) (n : Option ℕ) (xs : List Argument) (ks : List Keyword) →
+    m1 ≡ put (passing_code 0 (arguments xs) (keywords ks)) b → n ≡ passed_count 0 (arguments xs) (keywords ks) → g ≡ f →
+    m2 ≡ with_one (i.CallFunction g n) m1 → m2 ≡ put (expr_code (e.Call f xs ks)) b
+made-call b m1 m2 f g n xs ks p l h r =
+    r ∙ ap {B = Builder} (λ k. with_one (i.CallFunction k n) m1) h ∙ ap {B = Builder} (λ k. with_one (i.CallFunction f k) m1) l
+    ∙ ap {B = Builder} (λ m. with_one (i.CallFunction f (passed_count 0 (arguments xs) (keywords ks))) m) p ∙ sym (put-call b f xs ks)
 
-pub made-apply : (b m1 m2 m3 : Builder) (k : Application) (f : List ℕ) (n n1 n2 : ℕ) (xs : List Argument) (ks : List Keyword) →
-    m1 ≡ put (arguments_code (arguments xs)) b → m2 ≡ put (named_code (keywords ks)) m1 → n1 ≡ length xs → n2 ≡ length ks →
-    n ≡ n1 + min n2 1 + 1 → m3 ≡ put (straight (application_code k f n)) m2 → m3 ≡ put (step_code (s.Apply k f xs ks)) b
-made-apply b m1 m2 m3 k f n n1 n2 xs ks p q l1 l2 l r =
-    r ∙ ap {B = Builder} (λ c. put (straight (application_code k f c)) m2)
-    (l ∙ ap (λ c. c + min n2 1 + 1) l1 ∙ ap (λ c. length xs + min c 1 + 1) l2)
-    ∙ ap {B = Builder} (λ m. put (straight (application_code k f (length xs + min (length ks) 1 + 1))) m) (q
-    ∙ ap {B = Builder} (λ m. put (named_code (keywords ks)) m) p) ∙ sym (put-apply b k f xs ks)
+pub made-apply : (b m1 m2 : Builder) (k : Application) (f : List ℕ) (n : Option ℕ) (xs : List Argument) (ks : List Keyword) →
+    m1 ≡ put (passing_code 1 (arguments xs) (keywords ks)) b → n ≡ passed_count 1 (arguments xs) (keywords ks) →
+    m2 ≡ put (straight (application_code k f n)) m1 → m2 ≡ put (step_code (s.Apply k f xs ks)) b
+made-apply b m1 m2 k f n xs ks p l r =
+    r ∙ ap {B = Builder} (λ c. put (straight (application_code k f c)) m1) l
+    ∙ ap {B = Builder} (λ m. put (straight (application_code k f (passed_count 1 (arguments xs) (keywords ks)))) m) p
+    ∙ sym (put-apply b k f xs ks)
+
+pub made-call_object : (b m1 m2 : Builder) (n : Option ℕ) (xs : List Argument) (ks : List Keyword) →
+    m1 ≡ put (passing_code 1 (arguments xs) (keywords ks)) b → n ≡ passed_count 1 (arguments xs) (keywords ks) →
+    m2 ≡ with_one (i.CallObject n) m1 → m2 ≡ put (step_code (s.Call xs ks)) b
+made-call_object b m1 m2 n xs ks p l r =
+    r ∙ ap {B = Builder} (λ c. with_one (i.CallObject c) m1) l
+    ∙ ap {B = Builder} (λ m. with_one (i.CallObject (passed_count 1 (arguments xs) (keywords ks))) m) p ∙ sym (put-call_object b xs ks)
 
 pub made-unary : (b m1 m2 : Builder) (o : Instruction) (op : UnaryOperator) (x : Expr) → m1 ≡ put (expr_code x) b → o ≡ unary_code op →
     m2 ≡ with_one o m1 → m2 ≡ put (expr_code (e.Unary op x)) b
@@ -186,21 +162,9 @@ pub made-compare : (b m1 m2 : Builder) (op : BinaryOperator) (x : Expr) (cs : Li
     m2 ≡ put (row_code op (comparisons cs)) m1 → m2 ≡ put (step_code (s.Compare op x cs)) b
 made-compare b m1 m2 op x cs p q = q ∙ ap {B = Builder} (λ m. put (row_code op (comparisons cs)) m) p ∙ sym (put-compare b op x cs)
 
-pub made-plain : (b m : Builder) (x : Argument) (h : _) (y : Expr) → y ≡ (values_d the_enum 0 h x).0 → m ≡ put (expr_code y) b →
-    m ≡ put (argument_code x) b
-made-plain b m x h y is p = p ∙ ap {B = Builder} (λ z. put (expr_code z) b) is
-    ∙ ap {B = Builder} (λ z. put (argument_code z) b) (sym (whole x h))
-
 -- one part after another
 pub put_two : (c d : Fragment) (b m1 m2 : Builder) → m1 ≡ put c b → m2 ≡ put d m1 → m2 ≡ put (c ⨾ d) b
 put_two c d b m1 m2 p q = q ∙ ap {B = Builder} (λ m. put d m) p
-
-pub made-keyword : (b m1 m2 : Builder) (x : Keyword) (f : List ℕ) (t : Val) → f ≡ x.name → t ≡ text f false →
-    m1 ≡ with_one (i.LoadConst t) b → m2 ≡ put (expr_code x.value) m1 →
-    m2 ≡ put (straight (i.LoadConst (text x.name false) ∷ []) ⨾ expr_code x.value) b
-made-keyword b m1 m2 x f t h is p q = q
-    ∙ ap {B = Builder} (λ m. put (expr_code x.value) m) (p
-    ∙ ap {B = Builder} (λ v. with_one (i.LoadConst v) b) (is ∙ ap (λ n. text n false) h))
 
 -- ---------------------------------------------------------------- conditions
 conditions-nil : (v : Fragment) → conditions_code (conditions []) v ≡ v
@@ -295,26 +259,6 @@ more-arguments = more argument_code (λ xs. arguments_code (arguments xs)) put-a
 pub no_more-arguments : (rest : List Argument) (m goal : Builder) → rest ≡ [] → put (arguments_code (arguments rest)) m ≡ goal → m ≡ goal
 no_more-arguments = no_more argument_code (λ xs. arguments_code (arguments xs)) put-arguments-nil
 
-put-keywords-nil : (b : Builder) → put (keywords_code (keywords [])) b ≡ b
-unfolding hidden keywords shape-the_row-Keyword-4
-put-keywords-nil b = refl
-
-put-keywords-cons : (b : Builder) (x : Keyword) (xs : List Keyword) →
-    put (keywords_code (keywords (x ∷ xs))) b
-    ≡ put (keywords_code (keywords xs)) (put (straight (i.LoadConst (text x.name false) ∷ []) ⨾ expr_code x.value) b)
-unfolding hidden keywords shape-the_row-Keyword-4
-put-keywords-cons b x xs = refl
-
-pub more-keywords : (all rest : List Keyword) (x : Keyword) (m m1 goal : Builder) → all ≡ x ∷ rest →
-    m1 ≡ put (straight (i.LoadConst (text x.name false) ∷ []) ⨾ expr_code x.value) m → put (keywords_code (keywords all)) m ≡ goal →
-    put (keywords_code (keywords rest)) m1 ≡ goal
-more-keywords = more (λ x. straight (i.LoadConst (text x.name false) ∷ []) ⨾ expr_code x.value)
-    (λ xs. keywords_code (keywords xs)) put-keywords-cons
-
-pub no_more-keywords : (rest : List Keyword) (m goal : Builder) → rest ≡ [] → put (keywords_code (keywords rest)) m ≡ goal → m ≡ goal
-no_more-keywords = no_more (λ x. straight (i.LoadConst (text x.name false) ∷ []) ⨾ expr_code x.value)
-    (λ xs. keywords_code (keywords xs)) put-keywords-nil
-
 put-steps-nil : (b : Builder) → put (steps_code (steps [])) b ≡ b
 unfolding hidden steps shape-the_row-Step-5
 put-steps-nil b = refl
@@ -330,29 +274,6 @@ more-steps = more step_code (λ xs. steps_code (steps xs)) put-steps-cons
 
 pub no_more-steps : (rest : List Step) (m goal : Builder) → rest ≡ [] → put (steps_code (steps rest)) m ≡ goal → m ≡ goal
 no_more-steps = no_more step_code (λ xs. steps_code (steps xs)) put-steps-nil
-
--- no keywords are no argument, and others become one
-put-named-nil : (b : Builder) → put (named_code (keywords [])) b ≡ b
-unfolding hidden keywords shape-the_row-Keyword-4
-put-named-nil b = refl
-
-put-named-cons : (b : Builder) (x : Keyword) (xs : List Keyword) →
-    put (named_code (keywords (x ∷ xs))) b
-    ≡ with_one (i.BuildKwargs (count_keywords (keywords xs) + 1)) (put (keywords_code (keywords (x ∷ xs))) b)
-unfolding hidden keywords shape-the_row-Keyword-4
-put-named-cons b x xs = refl
-
-pub no-named : (b : Builder) (xs : List Keyword) → (length xs == 0) ≡ true → b ≡ put (named_code (keywords xs)) b
-no-named b [] none = sym (put-named-nil b)
-no-named b (x ∷ xs) none = absurd (omega (arith, eqb-true (length (x ∷ xs)) 0 none))
-
-pub made-named : (b m1 m2 : Builder) (n : ℕ) (xs : List Keyword) → (length xs == 0) ≡ false → m1 ≡ put (keywords_code (keywords xs)) b →
-    n ≡ length xs → m2 ≡ with_one (i.BuildKwargs n) m1 → m2 ≡ put (named_code (keywords xs)) b
-made-named b m1 m2 n [] some p k q = absurd (cc some)
-made-named b m1 m2 n (x ∷ xs) some p k q =
-    let count : n ≡ count_keywords (keywords xs) + 1 = omega (arith, k, count-keywords xs) in
-    q ∙ ap {B = Builder} (λ j. with_one (i.BuildKwargs j) m1) count
-    ∙ ap {B = Builder} (λ m. with_one (i.BuildKwargs (count_keywords (keywords xs) + 1)) m) p ∙ sym (put-named-cons b x xs)
 
 -- ---------------------------------------------------------------- comparisons in a row
 links-nil : (op : BinaryOperator) → links_code op (comparisons []) ≡ straight (binary_code op)

@@ -1,11 +1,13 @@
 //! The code of expressions.
 #![tactic(auto, using(crate::proofs::PutExpressions::expressions))]
 
-ghost use Rattle.std.specs.Prelude.{◌≡◌, ◌++◌, ◌+◌, [], ◌∷◌, OnOk, IfOk, IfErr, min, reverse};
+ghost use Rattle.std.specs.Prelude.{◌≡◌, ◌++◌, ◌+◌, [], ◌∷◌, OnOk, IfOk, IfErr, reverse};
 ghost use Rattle.tm_generator.specs.Building.{put, asked, kept, answered};
 ghost use Rattle.tm_syntax.specs.Code.{unary_code, binary_code, application_code, expr_code};
 ghost use Rattle.tm_syntax.specs.Code.{exprs_code, pairs_code};
-ghost use Rattle.tm_syntax.specs.Code.{argument_code, arguments_code, keywords_code, named_code};
+ghost use Rattle.tm_syntax.specs.Code.{argument_code, arguments_code, listed_code, lists_code, count_lists};
+ghost use Rattle.tm_syntax.specs.Code.{keyword_code, keywords_code, count_maps, named_code, together};
+ghost use Rattle.tm_syntax.specs.Code.{passing_code, passed_count};
 ghost use Rattle.tm_syntax.specs.Code.{step_code, steps_code, row_code, links_code};
 ghost use Rattle.tm_syntax.specs.Fragments.{straight, over};
 ghost use Rattle.tm_syntax.specs.declared.tree.Argument.TheBlock.{hidden-the_row-Expr-1 as exprs};
@@ -17,12 +19,16 @@ ghost use Rattle.tm_syntax.specs.declared.tree.Argument.TheBlock.{hidden-the_row
 ghost use Rattle.tm_values.specs.declared.error.ErrorKind.TheVariants.{OutOfMemory};
 
 use crate::builder::{Builder, Out};
+use crate::passing::{
+    has_spread, has_spread_keyword, keywords_behind, lists_at, maps_at, push_list_of_row,
+    push_map_of_row, row_behind, rows_of, sum,
+};
 use sqlite_items::Items;
 use tm_syntax::{
     Application, Argument, BinaryOperator, Comparison, Condition, Expr, Instruction, JumpKind,
     Keyword, Name, Pair, Step, UnaryOperator,
 };
-use tm_values::{Error, ErrorKind, Value};
+use tm_values::{Error, Value};
 
 // A frame has room for the locals of all that is inlined, so deep trees take less stack where the
 // rarer functions are not.
@@ -73,7 +79,7 @@ fn push_application(
     code: &mut Builder,
     application: Application,
     name: &Name,
-    count: usize,
+    count: Option<usize>,
 ) -> Result<(), Error>
     ensures ok { OnOk result
         (code.new ≡ put (straight (application_code application name.now count)) code.old) }
@@ -89,30 +95,6 @@ fn push_application(
         }
     };
     code.emit(instruction)
-}
-
-/// How many arguments a call has whose keywords are one together; OutOfMemory.
-#[inline(never)]
-fn call_count(given: usize, named: usize) -> Result<usize, Error>
-    ensures ok { IfOk result (λ n. n ≡ given + min named 1) }
-    ensures err { IfErr result (λ e. e ≡ OutOfMemory ∷ []) }
-{
-    match given.checked_add(named.min(1)) {
-        Some(count) => Ok(count),
-        None => Err(Error::from(ErrorKind::OutOfMemory)),
-    }
-}
-
-/// How many values are passed behind a value, with it: these arguments and the value; OutOfMemory.
-#[inline(never)]
-fn passed_count(given: usize, named: usize) -> Result<usize, Error>
-    ensures ok { IfOk result (λ n. n ≡ given + min named 1 + 1) }
-    ensures err { IfErr result (λ e. e ≡ OutOfMemory ∷ []) }
-{
-    match call_count(given, named)?.checked_add(1) {
-        Some(count) => Ok(count),
-        None => Err(Error::from(ErrorKind::OutOfMemory)),
-    }
 }
 
 /// Adds the code of an expression; OutOfMemory.
@@ -137,9 +119,7 @@ pub(crate) fn push_expr(code: &mut Builder, expr: &Expr) -> Result<(), Error>
             code.emit(Instruction::BuildMap(entries.len()))
         }
         Expr::Call(name, given, named) => {
-            push_arguments(code, given.as_slice())?;
-            push_named(code, named.as_slice())?;
-            let count = call_count(given.len(), named.len())?;
+            let count = push_passed(code, 0, given.as_slice(), named.as_slice())?;
             code.emit(Instruction::CallFunction(name.share()?, count))
         }
         Expr::Unary(operator, operand) => {
@@ -194,7 +174,7 @@ fn push_argument(code: &mut Builder, argument: &Argument) -> Result<(), Error>
     ensures err { IfErr result (λ e. e ≡ OutOfMemory ∷ []) }
 {
     match argument {
-        Argument::Plain(expr) => push_expr(code, expr.get()),
+        Argument::Plain(expr) | Argument::Spread(expr) => push_expr(code, expr.get()),
     }
 }
 
@@ -211,32 +191,128 @@ fn push_arguments(code: &mut Builder, given: &[Argument]) -> Result<(), Error>
     Ok(())
 }
 
-/// Adds the code of keywords; OutOfMemory.
+/// Adds the code of an argument behind a row of so many, which a spread one ends; OutOfMemory.
 #[cycle(expressions)]
-fn push_keywords(code: &mut Builder, named: &[Keyword]) -> Result<(), Error>
-    ensures ok { OnOk result (code.new ≡ put (keywords_code (keywords named.now)) code.old) }
+fn push_listed(code: &mut Builder, row: usize, argument: &Argument) -> Result<(), Error>
+    ensures ok { OnOk result (code.new ≡ put (listed_code row argument.now) code.old) }
     ensures err { IfErr result (λ e. e ≡ OutOfMemory ∷ []) }
 {
-    for keyword in named {
-        let name = Value::text(code.alloc(), keyword.name.as_str())?;
-        code.emit(Instruction::LoadConst(name))?;
-        push_expr(code, keyword.value.get())?;
+    match argument {
+        Argument::Plain(expr) => push_expr(code, expr.get()),
+        Argument::Spread(expr) => {
+            push_list_of_row(code, row)?;
+            push_expr(code, expr.get())
+        }
     }
-    Ok(())
 }
 
-/// Adds the code of keywords as one argument, where there are any; OutOfMemory.
+/// Adds the code of the lists of all arguments behind a row of so many, and gives how many lists
+/// there are; OutOfMemory.
 #[cycle(expressions)]
 #[inline(never)]
-fn push_named(code: &mut Builder, named: &[Keyword]) -> Result<(), Error>
-    ensures ok { OnOk result (code.new ≡ put (named_code (keywords named.now)) code.old) }
+fn push_lists(
+    code: &mut Builder,
+    before: usize,
+    given: &[Argument],
+    named: &[Keyword],
+) -> Result<usize, Error>
+    ensures ok { OnOk result (code.new ≡ put (lists_code before (arguments given.now)
+        (together (keywords named.now)) (named_code (keywords named.now))) code.old) }
+    ensures count { IfOk result (λ lists. lists ≡
+        count_lists before (arguments given.now) (together (keywords named.now))) }
     ensures err { IfErr result (λ e. e ≡ OutOfMemory ∷ []) }
 {
-    if named.is_empty() {
-        return Ok(());
+    let mut row = before;
+    let mut lists = 0;
+    for argument in given {
+        push_listed(code, row, argument)?;
+        lists = sum(lists, lists_at(row, argument))?;
+        row = row_behind(row, argument)?;
     }
-    push_keywords(code, named)?;
-    code.emit(Instruction::BuildKwargs(named.len()))
+    let more = push_named(code, named)?;
+    let last = sum(row, more)?;
+    push_list_of_row(code, last)?;
+    sum(lists, rows_of(last))
+}
+
+/// Adds the code of a keyword behind a row of so many, which a spread one ends; OutOfMemory.
+#[cycle(expressions)]
+fn push_keyword(code: &mut Builder, row: usize, keyword: &Keyword) -> Result<(), Error>
+    ensures ok { OnOk result (code.new ≡ put (keyword_code row keyword.now) code.old) }
+    ensures err { IfErr result (λ e. e ≡ OutOfMemory ∷ []) }
+{
+    match keyword {
+        Keyword::Named(name, value) => {
+            let name = Value::text(code.alloc(), name.as_str())?;
+            code.emit(Instruction::LoadConst(name))?;
+            push_expr(code, value.get())
+        }
+        Keyword::Spread(value) => {
+            push_map_of_row(code, row)?;
+            push_expr(code, value.get())
+        }
+    }
+}
+
+/// Adds the code of the maps of all keywords, and gives how many maps there are; OutOfMemory.
+#[cycle(expressions)]
+fn push_keywords(code: &mut Builder, named: &[Keyword]) -> Result<usize, Error>
+    ensures ok { OnOk result (code.new ≡ put (keywords_code 0 (keywords named.now)) code.old) }
+    ensures count { IfOk result (λ maps. maps ≡ count_maps 0 (keywords named.now)) }
+    ensures err { IfErr result (λ e. e ≡ OutOfMemory ∷ []) }
+{
+    let mut row = 0;
+    let mut maps = 0;
+    for keyword in named {
+        push_keyword(code, row, keyword)?;
+        maps = sum(maps, maps_at(row, keyword))?;
+        row = keywords_behind(row, keyword)?;
+    }
+    push_map_of_row(code, row)?;
+    sum(maps, rows_of(row))
+}
+
+/// Adds the code of keywords as one argument, where there are any, and gives how many arguments
+/// they are; OutOfMemory.
+#[cycle(expressions)]
+#[inline(never)]
+fn push_named(code: &mut Builder, named: &[Keyword]) -> Result<usize, Error>
+    ensures ok { OnOk result (code.new ≡ put (named_code (keywords named.now)) code.old) }
+    ensures count { IfOk result (λ count. count ≡ together (keywords named.now)) }
+    ensures err { IfErr result (λ e. e ≡ OutOfMemory ∷ []) }
+{
+    let maps = push_keywords(code, named)?;
+    if !has_spread_keyword(named) {
+        return Ok(maps);
+    }
+    code.emit(Instruction::MergeKwargs(maps))?;
+    Ok(1)
+}
+
+/// Adds the code of what a call is passed, with so many values before the arguments. Gives how
+/// many values it is passed; none where their number is on top. OutOfMemory.
+#[cycle(expressions)]
+#[inline(never)]
+fn push_passed(
+    code: &mut Builder,
+    before: usize,
+    given: &[Argument],
+    named: &[Keyword],
+) -> Result<Option<usize>, Error>
+    ensures ok { OnOk result (code.new ≡
+        put (passing_code before (arguments given.now) (keywords named.now)) code.old) }
+    ensures count { IfOk result (λ count. count ≡
+        passed_count before (arguments given.now) (keywords named.now)) }
+    ensures err { IfErr result (λ e. e ≡ OutOfMemory ∷ []) }
+{
+    if has_spread(given) {
+        let lists = push_lists(code, before, given, named)?;
+        code.emit(Instruction::UnpackLists(lists))?;
+        return Ok(None);
+    }
+    push_arguments(code, given)?;
+    let more = push_named(code, named)?;
+    Ok(Some(sum(sum(given.len(), more)?, before)?))
 }
 
 /// Adds the tests of conditions, the last first, each with a jump out of what comes after it. Adds
@@ -296,10 +372,12 @@ fn push_step(code: &mut Builder, step: &Step) -> Result<(), Error>
     match step {
         Step::Attribute(name) => code.emit(Instruction::GetAttr(name.share()?)),
         Step::Apply(application, name, given, named) => {
-            push_arguments(code, given.as_slice())?;
-            push_named(code, named.as_slice())?;
-            let count = passed_count(given.len(), named.len())?;
+            let count = push_passed(code, 1, given.as_slice(), named.as_slice())?;
             push_application(code, *application, name, count)
+        }
+        Step::Call(given, named) => {
+            let count = push_passed(code, 1, given.as_slice(), named.as_slice())?;
+            code.emit(Instruction::CallObject(count))
         }
         Step::Item(key) => {
             push_expr(code, key.get())?;

@@ -5,6 +5,7 @@ mod builder;
 mod enclosing;
 mod expressions;
 mod loops;
+mod passing;
 mod statements;
 mod targets;
 

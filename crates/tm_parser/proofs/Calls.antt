@@ -18,30 +18,30 @@ use Rattle.tm_syntax.specs.declared.tree.Stmt.TheVariants as stmts
 use Rattle.tm_syntax.specs.Forms.{plain}
 use Rattle.tm_syntax.specs.contracts.tree.Argument.{enum as the_enum}
 use Rattle.tm_syntax.proofs.Forms.{whole}
-use Rattle.tm_parser.specs.Statements.{is_call, is_method, last_is_method, only_one, are_unnamed, loop_argument, call_or_emit}
+use Rattle.tm_parser.specs.Statements.{is_call, calls, last_calls, only_one, are_unnamed, loop_argument, call_or_emit}
 use Rattle.tm_parser.specs.Statements.{emit_statement}
 
-pub last-nil : (b : Bool) → last_is_method b (row_of_steps []) ≡ b
+pub last-nil : (b : Bool) → last_calls b (row_of_steps []) ≡ b
 unfolding hidden row_of_steps shape-the_row-Step-5
 last-nil b = refl
 
-pub last-cons : (b : Bool) (s : Step) (ss : List Step) → last_is_method b (row_of_steps (s ∷ ss)) ≡ last_is_method (is_method s)
+pub last-cons : (b : Bool) (s : Step) (ss : List Step) → last_calls b (row_of_steps (s ∷ ss)) ≡ last_calls (calls s)
     (row_of_steps ss)
 unfolding hidden row_of_steps shape-the_row-Step-5
 last-cons b s ss = refl
 
 -- one step more
-pub one_more : (b c : Bool) (ss : List Step) (k : ℕ) (s : Step) (r : Bool) → k < length ss → s ≡ get_or ss k s → c ≡ is_method s →
-    last_is_method b (row_of_steps (drop k ss)) ≡ r → last_is_method c (row_of_steps (drop (k + 1) ss)) ≡ r
+pub one_more : (b c : Bool) (ss : List Step) (k : ℕ) (s : Step) (r : Bool) → k < length ss → s ≡ get_or ss k s → c ≡ calls s →
+    last_calls b (row_of_steps (drop k ss)) ≡ r → last_calls c (row_of_steps (drop (k + 1) ss)) ≡ r
 one_more b c ss k s r lt is same h =
     let e : drop k ss ≡ s ∷ drop (k + 1) ss = grind (arith, drop-cons ss k s lt, is) in
-    ap (λ x. last_is_method x (row_of_steps (drop (k + 1) ss))) same ∙ sym (last-cons b s (drop (k + 1) ss)) ∙ ap
-    (λ xs. last_is_method b (row_of_steps xs)) (sym e) ∙ h
+    ap (λ x. last_calls x (row_of_steps (drop (k + 1) ss))) same ∙ sym (last-cons b s (drop (k + 1) ss)) ∙ ap
+    (λ xs. last_calls b (row_of_steps xs)) (sym e) ∙ h
 
-pub no_more : (b : Bool) (ss : List Step) (r : Bool) → ss ≡ [] → last_is_method b (row_of_steps ss) ≡ r → b ≡ r
-no_more b ss r e h = sym (last-nil b) ∙ ap (λ xs. last_is_method b (row_of_steps xs)) (sym e) ∙ h
+pub no_more : (b : Bool) (ss : List Step) (r : Bool) → ss ≡ [] → last_calls b (row_of_steps ss) ≡ r → b ≡ r
+no_more b ss r e h = sym (last-nil b) ∙ ap (λ xs. last_calls b (row_of_steps xs)) (sym e) ∙ h
 
-pub is_call_of_chain : (x : Expr) (ss : List Step) → is_call (exprs.Chain x ss) ≡ last_is_method false (row_of_steps ss)
+pub is_call_of_chain : (x : Expr) (ss : List Step) → is_call (exprs.Chain x ss) ≡ last_calls false (row_of_steps ss)
 unfolding hidden hidden-the_row-Expr-0
 is_call_of_chain x ss = refl
 
@@ -54,83 +54,54 @@ unfolding hidden row_of_keywords shape-the_row-Keyword-4
 named_argument true given k ks = refl
 named_argument false given k ks = refl
 
-either_way : {A : Type 0} (b : Bool) (a : A) → (if b then a else a) ≡ a
-either_way true a = refl
-either_way false a = refl
-
-not_one : (b : Bool) (given : List Argument) → ¬ (length given ≡ 1) → is_some (if b then only_one (row_of_arguments given) else None) ≡
-    false
-unfolding hidden row_of_arguments shape-the_row-Argument-3
-not_one b [] h = ap is_some (either_way b None)
-not_one b (plain x ∷ []) h = absurd (h refl)
-not_one b (plain x ∷ y ∷ xs) h = ap is_some (either_way b None)
-
-lone : (given : List Argument) → length given ≡ 1 → is_some (argument_of true given []) ≡ true
-unfolding hidden row_of_arguments row_of_keywords shape-the_row-Argument-3 shape-the_row-Keyword-4
-lone [] one = absurd (cc one)
-lone (plain x ∷ []) one = refl
-lone (plain x ∷ y ∷ xs) one = absurd (omega (arith, one))
-
 argument_is : (f : List ℕ) (given : List Argument) (named : List Keyword) →
     loop_argument (exprs.Call f given named) ≡ argument_of (pointwise nat_eq f (codes "loop")) given named
 unfolding loop_argument
 argument_is f given named = refl
 
--- the call of another name, with another number of arguments, or with some by their names
+-- what is passed, where no name is
+abbrev one_in : Bool → List Argument → Option Expr
+one_in same given = if same then only_one (row_of_arguments given) else None
+
+unnamed_argument : (same : Bool) (given : List Argument) → argument_of same given [] ≡ one_in same given
+unfolding hidden row_of_keywords shape-the_row-Keyword-4
+unnamed_argument true given = refl
+unnamed_argument false given = refl
+
+-- the call of another name, or with arguments by their names, or of `loop` with those by their places alone
 module _ (f : List ℕ) (given : List Argument) (named : List Keyword) where
   pub other_name : pointwise nat_eq f (codes "loop") ≡ false → is_some (loop_argument (exprs.Call f given named)) ≡ false
   other_name h = ap is_some (argument_is f given named) ∙ ap (λ same. is_some (argument_of same given named)) h
 
-  pub other_count : ¬ (length given ≡ 1) → is_some (loop_argument (exprs.Call f given named)) ≡ false
-  other_count h = ap is_some (argument_is f given named) ∙ not_one (pointwise nat_eq f (codes "loop") && are_unnamed
-      (row_of_keywords named)) given h
+  pub unnamed : pointwise nat_eq f (codes "loop") ≡ true → named ≡ [] →
+      loop_argument (exprs.Call f given named) ≡ only_one (row_of_arguments given)
+  unnamed h none = argument_is f given named ∙ ap (λ ks. argument_of (pointwise nat_eq f (codes "loop")) given ks) none
+      ∙ unnamed_argument (pointwise nat_eq f (codes "loop")) given ∙ ap (λ same. one_in same given) h
 
-  pub a_call : pointwise nat_eq f (codes "loop") ≡ true → length given ≡ 1 → named ≡ [] →
-      is_some (loop_argument (exprs.Call f given named)) ≡ true
-  a_call h one none =
-      ap is_some (argument_is f given named) ∙ ap (λ same. is_some (argument_of same given named)) h ∙ ap
-      (λ ks. is_some (argument_of true given ks)) none ∙ lone given one
+  pub one_unnamed : pointwise nat_eq f (codes "loop") ≡ true → named ≡ [] →
+      is_some (loop_argument (exprs.Call f given named)) ≡ is_some (only_one (row_of_arguments given))
+  one_unnamed h none = ap is_some (unnamed h none)
 
 pub with_names : (f : List ℕ) (given : List Argument) (named : List Keyword) → ¬ (named ≡ []) →
     is_some (loop_argument (exprs.Call f given named)) ≡ false
 with_names f given [] h = absurd (h refl)
 with_names f given (k ∷ ks) h = ap is_some (argument_is f given (k ∷ ks) ∙ named_argument _ given k ks)
 
-pub ruleset calls_of_loop = (other_name, other_count, with_names, a_call)
+pub ruleset calls_of_loop = (other_name, with_names, one_unnamed)
 
-one_of : (b : Bool) (x : Expr) → is_some (if b then only_one (row_of_arguments (plain x ∷ [])) else None) ≡ true →
-    (if b then only_one (row_of_arguments (plain x ∷ [])) else None) ≡ Some x
+-- which arguments are one value
+none_of_none : is_some (only_one (row_of_arguments [])) ≡ false
 unfolding hidden row_of_arguments shape-the_row-Argument-3
-one_of true x h = refl
-one_of false x h = absurd (cc h)
+none_of_none = refl
 
-last_of : (f : List ℕ) (left : List Argument) (named : List Keyword) (x : Expr) →
-    is_some (loop_argument (exprs.Call f (left ++ plain x ∷ []) named)) ≡ true →
-    loop_argument (exprs.Call f (left ++ plain x ∷ []) named) ≡ Some x
-last_of f [] named x some =
-    let same = argument_is f (plain x ∷ []) named in
-    same ∙ one_of (pointwise nat_eq f (codes "loop") && are_unnamed (row_of_keywords named)) x (sym (ap is_some same) ∙ some)
-last_of f (y ∷ ys) named x some =
-    let longer : ¬ (length ((y ∷ ys) ++ plain x ∷ []) ≡ 1) = λ one. omega (arith, length-append (y ∷ ys) (plain x ∷ []), one) in
-    absurd (let g = sym some ∙ other_count f ((y ∷ ys) ++ plain x ∷ []) named longer in cc)
+one_of_spread : (x : Expr) (more : List Argument) → only_one (row_of_arguments (spread x ∷ more)) ≡ None
+unfolding hidden row_of_arguments shape-the_row-Argument-3
+one_of_spread x more = refl
 
--- what the program takes out of the call of a loop
-pub called_with : (x : Expr) (f : List ℕ) (given left : List Argument) (named : List Keyword) (a : Argument) (h : _) →
-    is_some (loop_argument x) ≡ true →
-    x ≡ exprs.Call f given named → given ≡ left ++ a ∷ [] → stmts.EmitLoop ((values_d the_enum 0 h a).0) ≡ emit_statement x
-called_with x f given left named a h some e last =
-    let v = (values_d the_enum 0 h a).0 in
-    let is : x ≡ exprs.Call f (left ++ plain v ∷ []) named = e ∙ ap (λ g. exprs.Call f g named)
-    (last ∙ ap (λ b. left ++ b ∷ []) (whole a h)) in
-    let called : loop_argument x ≡ Some v = ap loop_argument is ∙ last_of f left named v
-    (sym (ap (λ y. is_some (loop_argument y)) is) ∙ some) in
-    sym (ap (λ y. call_or_emit y x) called)
+one_of_plain : (x : Expr) → only_one (row_of_arguments (plain x ∷ [])) ≡ Some x
+unfolding hidden row_of_arguments shape-the_row-Argument-3
+one_of_plain x = refl
 
-pub is_called : (x : Expr) (f : List ℕ) (given : List Argument) (named : List Keyword) → is_some (loop_argument x) ≡ true →
-    x ≡ exprs.Call f given named → ¬ (given ≡ [])
-is_called x f given named some e none = absurd (let g = sym some ∙ ap (λ y. is_some (loop_argument y)) e ∙ other_count f given named
-    (not_empty given none) in cc)
-  where
-    not_empty : (given : List Argument) → given ≡ [] → ¬ (length given ≡ 1)
-    not_empty [] none one = absurd (cc one)
-    not_empty (x ∷ xs) none one = absurd (cc none)
+one_of_more : (x : Expr) (y : Argument) (more : List Argument) → only_one (row_of_arguments (plain x ∷ y ∷ more)) ≡ None
+unfolding hidden row_of_arguments shape-the_row-Argument-3
+one_of_more x y more = refl

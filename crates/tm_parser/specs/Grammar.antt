@@ -21,6 +21,7 @@ use Rattle.tm_syntax.specs.declared.tree.Expr.TheVariants as exprs
 use Rattle.tm_syntax.specs.declared.tree.Argument.{Argument}
 use Rattle.tm_syntax.specs.declared.tree.Argument.TheVariants as arguments
 use Rattle.tm_syntax.specs.declared.tree.Keyword.{Keyword}
+use Rattle.tm_syntax.specs.declared.tree.Keyword.TheVariants as keywords
 use Rattle.tm_syntax.specs.declared.tree.Pair.{Pair}
 use Rattle.tm_syntax.specs.declared.tree.Condition.{Condition}
 use Rattle.tm_syntax.specs.declared.tree.Comparison.{Comparison}
@@ -89,6 +90,7 @@ or_level = 7
 abbrev pub link_of : Sign → Option (ℕ × Link)
 link_of sign.Dot = Some (postfix_level, links.Member)
 link_of sign.OpenSquare = Some (postfix_level, links.Item)
+link_of sign.OpenRound = Some (postfix_level, links.Call)
 link_of sign.Bar = Some (postfix_level, links.Filter)
 link_of sign.Is = Some (postfix_level, links.Test)
 link_of sign.DoubleStar = Some (power_level, links.Operator binaries.Power)
@@ -173,7 +175,13 @@ passed xs ks = record { by_place = xs; by_name = ks }
 unfoldable pub keyword : Inside → Passed → List ℕ → Rule Passed
 keyword i given name = do
   x ← i.expr
-  pure (passed given.by_place (given.by_name ++ record { name = name; value = x } ∷ []))
+  pure (passed given.by_place (given.by_name ++ keywords.Named name x ∷ []))
+
+-- a map of arguments by their names, behind its `**`
+unfoldable pub spread_map : Inside → Passed → Rule Passed
+spread_map i given = do
+  x ← i.expr
+  pure (passed given.by_place (given.by_name ++ keywords.Spread x ∷ []))
 
 abbrev pub are_none : {A : Type 0} → List A → Bool
 are_none [] = true
@@ -185,9 +193,19 @@ argument i given = provided (are_none given.by_name) (do
   x ← i.expr
   pure (passed (given.by_place ++ arguments.Plain x ∷ []) given.by_name))
 
+-- a list of such arguments, behind its `*`
+unfoldable pub spread_list : Inside → Passed → Rule Passed
+spread_list i given = provided (are_none given.by_name) (do
+  x ← i.expr
+  pure (passed (given.by_place ++ arguments.Spread x ∷ []) given.by_name))
+
 -- one argument behind these
 unfoldable pub one_passed : Inside → Passed → Rule Passed
-one_passed i given = branch keyword_start (keyword i given) (argument i given)
+one_passed i given =
+    branch keyword_start (keyword i given) (
+    branch (first (is sign.DoubleStar)) (λ _. spread_map i given) (
+    branch (first (is sign.Star)) (λ _. spread_list i given)
+    (argument i given)))
 
 unfoldable pub more_passed : Inside → Passed → Rule Passed
 more_passed i given = grow (comma sign.CloseRound) (λ _ xs. one_passed i xs) given
@@ -219,13 +237,18 @@ tuple i x = do
   xs ← items sign.CloseRound i.expr (x ∷ [])
   pure (exprs.Tuple xs)
 
+-- a name in brackets is called as one without them
+abbrev pub closed : Inside → Expr → Rule Expr
+closed i (Var name) = named i name
+closed i x = pure x
+
 -- the empty tuple, an expression, or a tuple
 unfoldable pub bracketed : Inside → Rule Expr
 bracketed i = do
   room ← i.room
   branch (first (is sign.CloseRound)) (λ _. pure (exprs.Tuple [])) (do
     x ← i.expr
-    branch (first (is sign.CloseRound)) (λ _. pure x) (tuple i x))
+    branch (first (is sign.CloseRound)) (λ _. closed i x) (tuple i x))
 
 unfoldable pub list_literal : Inside → Rule Expr
 list_literal i = do
@@ -325,6 +348,13 @@ given i = branch (first (is sign.OpenRound))
       all_passed i)
     (pure (passed [] []))
 
+-- the call of a value, behind its opening bracket
+unfoldable pub call_step : Inside → Rule Step
+call_step i = do
+  room ← i.room
+  xs ← all_passed i
+  pure (steps.Call xs.by_place xs.by_name)
+
 -- a filter, and its arguments behind the value
 unfoldable pub filter_step : Inside → Rule Step
 filter_step i = do
@@ -423,6 +453,7 @@ disjunction right = do
 abbrev pub step : Inside → Rule Expr → ℕ → Link → Rule Step
 step i right level links.Member = named_step i
 step i right level links.Item = subscript i
+step i right level links.Call = call_step i
 step i right level links.Filter = filter_step i
 step i right level links.Test = test_step i
 step i right level (links.Operator op) = operation right op

@@ -9,11 +9,12 @@ use Rattle.tm_syntax.specs.declared.token.Sign.TheVariants as sign
 use Rattle.tm_syntax.specs.declared.token.Token.{Token}
 use Rattle.tm_syntax.specs.declared.token.Token.TheVariants as tokens
 use Rattle.tm_syntax.specs.declared.tree.Expr.{Expr, Call', Row_of-Argument, end_of-Argument as no_argument}
-use Rattle.tm_syntax.specs.declared.tree.Expr.{more_of-Argument as argument, Row_of-Keyword, end_of-Keyword as no_keyword, Row_of-Step}
+use Rattle.tm_syntax.specs.declared.tree.Expr.{more_of-Argument as argument, Row_of-Keyword, end_of-Keyword as no_keyword}
+use Rattle.tm_syntax.specs.declared.tree.Expr.{more_of-Keyword as keyword_and, Row_of-Step}
 use Rattle.tm_syntax.specs.declared.tree.Expr.{end_of-Step as no_step, more_of-Step as more_steps}
 use Rattle.tm_syntax.specs.declared.tree.Application.TheVariants as applications
-use Rattle.tm_syntax.specs.declared.tree.Step.{Step, Apply'}
-use Rattle.tm_syntax.specs.Forms.{plain, with_keyword, chained as chained_steps}
+use Rattle.tm_syntax.specs.declared.tree.Step.{Step, Apply', Call' as Called}
+use Rattle.tm_syntax.specs.Forms.{plain, spread, chained as chained_steps}
 use Rattle.tm_syntax.specs.declared.tree.Expr.TheVariants as exprs
 use Rattle.tm_syntax.specs.declared.tree.AssignmentTarget.{AssignmentTarget}
 use Rattle.tm_syntax.specs.declared.tree.Assignment.{Assignment}
@@ -85,10 +86,11 @@ abbrev pub only_one : {n : _} → Row_of-Argument n → Option Expr
 only_one no_argument = None
 only_one (argument (plain x) no_argument) = Some x
 only_one (argument (plain x) (argument a given)) = None
+only_one (argument (spread x) given) = None
 
 abbrev pub are_unnamed : {n : _} → Row_of-Keyword n → Bool
 are_unnamed no_keyword = true
-are_unnamed (with_keyword name x named) = false
+are_unnamed (keyword_and k named) = false
 
 -- what the innermost loop is called with: the one argument of a call of `loop`, which has no name
 unfoldable pub loop_argument : Expr → Option Expr
@@ -278,19 +280,21 @@ autoescape_tag i t looping = do
   last ← lone tags.Endautoescape
   pure (stmts.AutoEscape x body)
 
-abbrev pub is_method : Step → Bool
-is_method (Apply' applications.Method name _ given _ named) = true
-is_method _ = false
+-- the call of a method or of a value
+abbrev pub calls : Step → Bool
+calls (Apply' applications.Method name _ given _ named) = true
+calls (Called _ given _ named) = true
+calls _ = false
 
--- whether the last of these steps is the call of a method, or this where there is none
-abbrev pub last_is_method : {n : _} → Bool → Row_of-Step n → Bool
-last_is_method b no_step = b
-last_is_method b (more_steps s ss) = last_is_method (is_method s) ss
+-- whether the last of these steps is a call, or this where there is none
+abbrev pub last_calls : {n : _} → Bool → Row_of-Step n → Bool
+last_calls b no_step = b
+last_calls b (more_steps s ss) = last_calls (calls s) ss
 
--- the call of a name or of a method
+-- the call of a name, a method or a value
 abbrev pub is_call : Expr → Bool
 is_call (Call' f _ given _ named) = true
-is_call (chained_steps x _ ss) = last_is_method false ss
+is_call (chained_steps x _ ss) = last_calls false ss
 is_call _ = false
 
 unfoldable pub do_tag : Inside → Rule Stmt

@@ -1,7 +1,7 @@
-//! Filters and tests behind a value: their names, and what they are passed.
+//! Calls, filters and tests behind a value: their names, and what they are passed.
 ghost use Rattle.std.specs.Prelude.{◌≡◌, ◌++◌, ◌∷◌, [], codes, MatchResult};
 ghost use Rattle.tm_parser.specs.Parses.{Parses};
-ghost use Rattle.tm_parser.specs.Grammar.{inside, dotted, filter_step, given, more_parts, one_part};
+ghost use Rattle.tm_parser.specs.Grammar.{inside, call_step, dotted, filter_step, given, more_parts, one_part};
 ghost use Rattle.tm_parser.specs.Grammar.{passed_to_test, test_name, test_step, tested};
 ghost use Rattle.tm_values.specs.declared.error.ErrorKind.TheVariants.{OutOfMemory};
 
@@ -14,6 +14,18 @@ use tm_values::{Error, SharedText};
 
 // Each method reads one rule, with `depth` nestings to go. SyntaxError where no tokens spell it.
 impl Cursor<'_> {
+    /// The call of a value behind its opening bracket.
+    #[cycle(expressions)]
+    #[tactic(auto, unfolding(crate::specs::Grammar::call_step))]
+    #[inline(never)]
+    pub fn call_step(&mut self, alloc: Global, depth: u8) -> Result<Step, Error>
+        ensures { Parses result self.new ((call_step (inside depth)).reads self.old) }
+    {
+        self.room(depth)?;
+        let given = self.all_passed(alloc, depth)?;
+        Ok(Step::Call(given.by_place, given.by_name))
+    }
+
     /// A filter, and its arguments behind the value.
     #[cycle(expressions)]
     #[tactic(auto, unfolding(crate::specs::Grammar::filter_step))]

@@ -235,6 +235,7 @@ impl Cursor<'_> {
         match link {
             Link::Member => self.named_step(alloc, depth),
             Link::Item => self.subscript(alloc, depth),
+            Link::Call => self.call_step(alloc, depth),
             Link::Filter => self.filter_step(alloc, depth),
             Link::Test => self.test_step(alloc, depth),
             Link::Operator(operator) => self.operation(alloc, depth, level, operator),

@@ -1,9 +1,9 @@
 //! What stands between operators: literals, names, calls, and what stands in brackets.
 ghost use Rattle.std.specs.Prelude.{[]};
 ghost use Rattle.tm_parser.specs.Parses.{Parses};
-ghost use Rattle.tm_parser.specs.Grammar.{inside, all_passed, argument, bracketed, called, items, keyword};
-ghost use Rattle.tm_parser.specs.Grammar.{list_literal, map_literal, more_items, more_passed};
-ghost use Rattle.tm_parser.specs.Grammar.{named, one_passed, pair, primary, tuple};
+ghost use Rattle.tm_parser.specs.Grammar.{inside, all_passed, argument, bracketed, called, closed, items};
+ghost use Rattle.tm_parser.specs.Grammar.{keyword, list_literal, map_literal, more_items, more_passed};
+ghost use Rattle.tm_parser.specs.Grammar.{named, one_passed, pair, primary, spread_list, spread_map, tuple};
 ghost use Rattle.tm_grammar.specs.Combinators.{one_more};
 ghost use Rattle.tm_syntax.specs.declared.token.Sign.TheVariants as sign;
 
@@ -87,9 +87,22 @@ impl Cursor<'_> {
         }
         let first = self.inner_expr(alloc, depth)?;
         if self.take(Sign::CloseRound) {
-            return Ok(first);
+            return self.closed(alloc, depth, first);
         }
         self.tuple(alloc, depth, first)
+    }
+
+    /// An expression behind the end of its brackets: a name is called as one without them.
+    #[cycle(expressions)]
+    #[inline(never)]
+    fn closed(&mut self, alloc: Global, depth: u8, value: Boxed<Expr>) -> Result<Boxed<Expr>, Error>
+        ensures { Parses result self.new ((closed (inside depth) value).reads self.old) }
+    {
+        if let Expr::Var(name) = value.get() {
+            let name = name.share()?;
+            return self.named(alloc, depth, name);
+        }
+        Ok(value)
     }
 
     /// A tuple behind its first item, and the end of its brackets.
@@ -287,6 +300,12 @@ impl Cursor<'_> {
         if let Some(name) = self.take_keyword()? {
             return self.keyword(alloc, depth, given, name);
         }
+        if self.take(Sign::DoubleStar) {
+            return self.spread_map(alloc, depth, given);
+        }
+        if self.take(Sign::Star) {
+            return self.spread_list(alloc, depth, given);
+        }
         self.argument(alloc, depth, given)
     }
 
@@ -304,7 +323,34 @@ impl Cursor<'_> {
     {
         let mut given = given;
         let value = self.inner_expr(alloc, depth)?;
-        given.by_name.push(Keyword { name, value })?;
+        given.by_name.push(Keyword::Named(name, value))?;
+        Ok(given)
+    }
+
+    /// A map of arguments by their names, behind its `**`.
+    #[cycle(expressions)]
+    #[tactic(auto, unfolding(crate::specs::Grammar::spread_map))]
+    fn spread_map(&mut self, alloc: Global, depth: u8, given: Passed) -> Result<Passed, Error>
+        ensures { Parses result self.new ((spread_map (inside depth) given).reads self.old) }
+    {
+        let mut given = given;
+        let value = self.inner_expr(alloc, depth)?;
+        given.by_name.push(Keyword::Spread(value))?;
+        Ok(given)
+    }
+
+    /// A list of arguments by their places, behind its `*`; it stands behind none by its name.
+    #[cycle(expressions)]
+    #[tactic(auto, unfolding(crate::specs::Grammar::spread_list), using(crate::proofs::Nesting::names))]
+    fn spread_list(&mut self, alloc: Global, depth: u8, given: Passed) -> Result<Passed, Error>
+        ensures { Parses result self.new ((spread_list (inside depth) given).reads self.old) }
+    {
+        if !given.by_name.is_empty() {
+            return Err(refusal());
+        }
+        let mut given = given;
+        let value = self.inner_expr(alloc, depth)?;
+        given.by_place.push(Argument::Spread(value))?;
         Ok(given)
     }
 

@@ -10,6 +10,7 @@ ghost use Rattle.tm_grammar.specs.Combinators.{one_more, provided};
 ghost use Rattle.tm_syntax.specs.declared.tree.Stmt.TheVariants.{Break, Continue};
 ghost use Rattle.tm_values.specs.declared.error.ErrorKind.TheVariants.{OutOfMemory};
 ghost use Rattle.tm_syntax.specs.declared.tree.Argument.TheBlock.{hidden-the_row-Step-5 as row_of_steps};
+ghost use Rattle.tm_syntax.specs.declared.tree.Argument.TheBlock.{hidden-the_row-Argument-3 as row_of_arguments};
 
 use crate::cursor::{Cursor, refusal};
 use crate::tables::Start;
@@ -477,19 +478,26 @@ fn is_call_of_loop(expr: &Expr) -> bool
 {
     match expr {
         Expr::Call(name, given, named) => {
-            name.is("loop") && given.len() == 1 && named.is_empty()
+            name.is("loop") && named.is_empty() && is_one_value(given.as_slice())
         }
         _ => false,
     }
 }
 
-/// Whether an expression is the call of a name or of a method.
+/// Whether these arguments are one value.
+fn is_one_value(given: &[Argument]) -> bool
+    ensures { result ≡ is_some (spec.only_one (row_of_arguments given.now)) }
+{
+    matches!(given, [Argument::Plain(_)])
+}
+
+/// Whether an expression is the call of a name, of a method or of a value.
 fn is_call(expr: &Expr) -> bool
     ensures { result ≡ spec.is_call expr.now }
 {
     match expr {
         Expr::Call(_, _, _) => true,
-        Expr::Chain(_, steps) => ends_in_method(steps.as_slice()),
+        Expr::Chain(_, steps) => ends_in_call(steps.as_slice()),
         Expr::Var(_)
         | Expr::Const(_)
         | Expr::List(_)
@@ -500,23 +508,23 @@ fn is_call(expr: &Expr) -> bool
     }
 }
 
-/// Whether the last of steps is the call of a method; false where there is none.
-fn ends_in_method(steps: &[Step]) -> bool
-    ensures { result ≡ spec.last_is_method false (row_of_steps steps.now) }
+/// Whether the last of steps is a call; false where there is none.
+fn ends_in_call(steps: &[Step]) -> bool
+    ensures { result ≡ spec.last_calls false (row_of_steps steps.now) }
 {
     let mut last = false;
     for step in steps {
-        last = is_method(step);
+        last = calls(step);
     }
     last
 }
 
-/// Whether a step is the call of a method.
-fn is_method(step: &Step) -> bool
-    ensures { result ≡ spec.is_method step.now }
+/// Whether a step is the call of a method or of a value.
+fn calls(step: &Step) -> bool
+    ensures { result ≡ spec.calls step.now }
 {
     match step {
-        Step::Apply(Application::Method, _, _, _) => true,
+        Step::Apply(Application::Method, _, _, _) | Step::Call(_, _) => true,
         _ => false,
     }
 }

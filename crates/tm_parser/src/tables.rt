@@ -13,6 +13,8 @@ pub enum Link {
     Member,
     /// By what stands in square brackets.
     Item,
+    /// By the arguments of its call.
+    Call,
     /// By a filter.
     Filter,
     /// By a test.
@@ -79,6 +81,7 @@ pub fn link_of(sign: Sign) -> Option<(u8, Link)>
     Some(match sign {
         Sign::Dot => (POSTFIX_LEVEL, Link::Member),
         Sign::OpenSquare => (POSTFIX_LEVEL, Link::Item),
+        Sign::OpenRound => (POSTFIX_LEVEL, Link::Call),
         Sign::Bar => (POSTFIX_LEVEL, Link::Filter),
         Sign::Is => (POSTFIX_LEVEL, Link::Test),
         Sign::DoubleStar => (POWER_LEVEL, Link::Operator(BinaryOperator::Power)),
@@ -110,7 +113,6 @@ pub fn link_of(sign: Sign) -> Option<(u8, Link)>
         Sign::VariableStart
         | Sign::VariableEnd
         | Sign::BlockEnd
-        | Sign::OpenRound
         | Sign::CloseRound
         | Sign::CloseSquare
         | Sign::OpenCurly

@@ -4,7 +4,7 @@ ghost use Rattle.std.specs.Prelude.{IfSome, MatchOption, MatchResult};
 ghost use Rattle.tm_values.specs.Val.{Val, boolean};
 ghost use Rattle.tm_values.specs.Answer.{OrStays};
 ghost use Rattle.tm_parts.specs.Operate.{Has, Operates, TakesMember};
-ghost use Rattle.tm_meaning.specs.Machine.{taken};
+ghost use Rattle.tm_meaning.specs.Machine.{onto, taken};
 
 use crate::operators::binary_at_once;
 use std::alloc::Global;
@@ -85,6 +85,17 @@ impl Stack {
         while left > 0 {
             left -= 1;
             self.push(values[left].share()?)?;
+        }
+        Ok(())
+    }
+
+    /// Puts values on top, the last of them topmost. Fails by OutOfMemory alone.
+    pub fn append(&mut self, values: Vec<Value>) -> Result<(), Error>
+        ensures ok { OnOk result (self.new ≡ onto values.items self.old) }
+        ensures kind { IfErr result (λ e. e ≡ ErrorKind.OutOfMemory ∷ []) }
+    {
+        for value in values {
+            self.push(value)?;
         }
         Ok(())
     }

@@ -5,7 +5,7 @@ ghost use Rattle.tm_values.specs.Answer.{IsAnswer, OkOrOutOfMemory};
 ghost use Rattle.tm_syntax.specs.Named.{put_each};
 ghost use Rattle.tm_meaning.specs.World.{records_of};
 ghost use Rattle.tm_values.specs.Val.{loop};
-ghost use Rattle.tm_meaning.specs.Calls.{call_found, call_innermost, call_loop, call_named, call_value, call_method};
+ghost use Rattle.tm_meaning.specs.Calls.{call_callee, call_found, call_innermost, call_loop, call_named, call_value, call_method};
 ghost use Rattle.tm_meaning.specs.Calls.{loop_method, method_in, is_macro_attribute, replied};
 ghost use Rattle.tm_state.specs.Answers.{Becomes, Calls, Comes, IsBecause, Recurs};
 
@@ -62,6 +62,25 @@ impl StateData<'_> {
         }
         let value = self.call_value(alloc, host, &found, args)?;
         Ok(CallResult::Value(value))
+    }
+
+    /// What the first of these values gives, called with the others; what a function keeps is kept, also where
+    /// it answers a fault. InvalidOperation for no value and for one that can't be called, and what the function
+    /// refuses.
+    pub fn call_callee<H: Host>(
+        &mut self,
+        alloc: Global,
+        host: &H,
+        values: &[Value],
+    ) -> Result<Value, Error>
+        ensures called { Comes result (call_callee (H.meaning host.now) values.now self.old) self.new }
+        ensures rest { self.new ≡ record self.old
+            { temps = self.new.temps; namespaces = self.new.namespaces } }
+    {
+        match values.split_first() {
+            Some((callee, args)) => self.call_value(alloc, host, callee, args),
+            None => Err(Error::from(ErrorKind::InvalidOperation)),
+        }
     }
 
     /// The innermost loop, which is called with a value. UnknownFunction outside of loops, and what a loop refuses.

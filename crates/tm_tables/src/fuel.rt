@@ -57,6 +57,8 @@ fn charge(instruction: &Instruction) -> u64
         | Instruction::BuildTuple(_)
         | Instruction::BuildMap(_)
         | Instruction::BuildKwargs(_)
+        | Instruction::MergeKwargs(_)
+        | Instruction::UnpackLists(_)
         | Instruction::Eq
         | Instruction::Ne
         | Instruction::Lt
@@ -82,6 +84,7 @@ fn charge(instruction: &Instruction) -> u64
         | Instruction::JumpIfTrueOrPop(_)
         | Instruction::CallFunction(_, _)
         | Instruction::CallMethod(_, _)
+        | Instruction::CallObject(_)
         | Instruction::ApplyFilter(_, _)
         | Instruction::PerformTest(_, _)
         | Instruction::CallBlock(_)

@@ -14,9 +14,9 @@ use Rattle.tm_syntax.specs.declared.tree.BinaryOperator.TheVariants as binaries
 use Rattle.tm_syntax.specs.declared.tree.UnaryOperator.TheVariants as unaries
 use Rattle.tm_meaning.specs.World.{choose, World, Loop, HostValue, Res, Good, Bad, answered, emitted, looked_up, escape_for, items_over}
 use Rattle.tm_meaning.specs.World.{unpacked_items, set_member, open_loop, top_mark, top_loop, push, plain_scope}
-use Rattle.tm_meaning.specs.Calls.{Asked, has, refused, runs, recurs, call_named, applied, call_innermost, enter_block}
-use Rattle.tm_meaning.specs.Meaning.{none_waits, truth, applied_unary, operated, attribute, item_at, slice_of}
-use Rattle.tm_meaning.specs.Instructions.{apply_of, replaces_one, replaces_two, list_on, on_count, count_in, on_truth, iterate_with}
+use Rattle.tm_meaning.specs.Calls.{Asked, has, refused, runs, recurs, call_named, call_callee, applied, call_innermost, enter_block}
+use Rattle.tm_meaning.specs.Meaning.{none_waits, truth, applied_unary, operated, attribute, item_at, slice_of, merged_values, items_of_lists}
+use Rattle.tm_meaning.specs.Instructions.{apply_of, replaces_one, replaces_two, take_counted, on_count, count_in, on_truth, iterate_with}
 use Rattle.tm_meaning.specs.Instructions.{end_capture_with}
 use Rattle.tm_meaning.specs.Instructions.{pop_auto_escape_with, is_no_loop, on_loop, pop_loop_with, returned, returns, with_text}
 use Rattle.tm_meaning.specs.Machine.{Activation, Capture, Return, Config, Program, End, Failed, Stuck, Next, More, Over, Nest, Back, after}
@@ -106,8 +106,12 @@ written_adds : (n : ℕ) (c d : Config) (f : Base) (t : List ℕ) → d.run.loop
 written_adds n c d f t same = choose_all (Adds n c) (ends_adds n c) (audible f d) _ _ (omega (arith, ap pending same))
     (omega (arith, ap pending same))
 
-listed : (n k : ℕ) (us : List Val) (c : Config) → Adds n c (list_on k us c)
-listed n k us c = on_taken_all (Adds n c) (ends_adds n c) (taken k [] us) c.world _ (λ vs rest. none_more n c)
+counted_adds : (k : ℕ) (n : Option ℕ) (us : List Val) (c : Config) (f : List Val → List Val → Next) →
+    ((vs rest : List Val) → Adds k c (f vs rest)) → Adds k c (take_counted n us c.world f)
+counted_adds k (Some n) us c f h = on_taken_all (Adds k c) (ends_adds k c) (taken n [] us) c.world f h
+counted_adds k None us c f h =
+    on_top_all (Adds k c) (ends_adds k c) us c.world _ (λ v rest. on_count_all (Adds k c) (ends_adds k c) (count_in v) c.world _ (λ n.
+    on_taken_all (Adds k c) (ends_adds k c) (taken n [] rest) c.world f h))
 
 on_truth_adds : (host : HostValue) (c : Config) (first other : Val → List Val → World → Next) →
     ((v : Val) (vs : List Val) (w : World) → Adds 1 c (first v vs w)) → ((v : Val) (vs : List Val) (w : World) → Adds 1 c (other v vs w)) →
@@ -163,9 +167,8 @@ escape_adds : (n : ℕ) (c : Config) (es : List AutoEscape) → Adds n c (pop_au
 escape_adds n c [] = tt
 escape_adds n c (e ∷ es) = none_more n c
 
-apply_adds : (p : Program) (k : Application) (x : List ℕ) (n : ℕ) (c : Config) → Adds 1 c (apply_of p k x n c)
-apply_adds p k x n c = on_taken_all (Adds 1 c) (ends_adds 1 c) (taken n [] c.run.operands) c.world _
-    (λ vs rest. asked_adds p c rest (applied p.host k x vs c.world))
+apply_adds : (p : Program) (k : Application) (x : List ℕ) (n : Option ℕ) (c : Config) → Adds 1 c (apply_of p k x n c)
+apply_adds p k x n c = counted_adds 1 n c.run.operands c _ (λ vs rest. asked_adds p c rest (applied p.host k x vs c.world))
 
 -- an instruction leaves at most as many loops more open that were called as it is charged
 adds : (p : Program) (f : Base) (x : Instruction) (c : Config) → Adds (charge_of x) c (effect p f x c)
@@ -184,14 +187,15 @@ adds p f i.Slice c =
     (λ stop us. on_top_all (Adds 1 c) (ends_adds 1 c) us c.world _ (λ start ts.
     on_top_all (Adds 1 c) (ends_adds 1 c) ts c.world _
     (λ v rest. after_all (Adds 1 c) (ends_adds 1 c) (slice_of p.host v start stop by c.world) _ (λ x w. none_more 1 c)))))
-adds p f (i.BuildList None) c =
-    on_top_all (Adds 1 c) (ends_adds 1 c) c.run.operands c.world _
-    (λ v us. on_count_all (Adds 1 c) (ends_adds 1 c) (count_in v) c.world _ (λ n. listed 1 n us c))
-adds p f (i.BuildList (Some n)) c = listed 1 n c.run.operands c
-adds p f (i.BuildTuple n) c = listed 1 n c.run.operands c
+adds p f (i.BuildList n) c = counted_adds 1 n c.run.operands c _ (λ vs rest. none_more 1 c)
+adds p f (i.BuildTuple n) c = counted_adds 1 (Some n) c.run.operands c _ (λ vs rest. none_more 1 c)
 adds p f (i.BuildMap n) c = on_taken_all (Adds 1 c) (ends_adds 1 c) (taken (n + n) [] c.run.operands) c.world _ (λ vs rest. none_more 1 c)
 adds p f (i.BuildKwargs n) c = on_taken_all (Adds 1 c) (ends_adds 1 c) (taken (n + n) [] c.run.operands) c.world _
     (λ vs rest. none_more 1 c)
+adds p f (i.MergeKwargs n) c = on_taken_all (Adds 1 c) (ends_adds 1 c) (taken n [] c.run.operands) c.world _
+    (λ vs rest. after_all (Adds 1 c) (ends_adds 1 c) (merged_values p.host vs c.world) _ (λ v w. none_more 1 c))
+adds p f (i.UnpackLists n) c = on_taken_all (Adds 1 c) (ends_adds 1 c) (taken n [] c.run.operands) c.world _
+    (λ vs rest. after_all (Adds 1 c) (ends_adds 1 c) (items_of_lists p.host vs c.world) _ (λ us w. none_more 1 c))
 adds p f (i.CompareAndPreserve op) c =
     on_top_all (Adds 1 c) (ends_adds 1 c) c.run.operands c.world _ (λ b vs. on_top_all (Adds 1 c) (ends_adds 1 c) vs c.world _ (λ a rest.
     after_all (Adds 1 c) (ends_adds 1 c) (operated p.host op a b c.world) _ (λ x w. none_more 1 c)))
@@ -205,8 +209,9 @@ adds p f (i.Jump n) c = none_more 1 c
 adds p f (i.JumpIfFalse n) c = on_truth_adds p.host c _ _ (λ v vs w. none_more 1 c) (λ v vs w. none_more 1 c)
 adds p f (i.JumpIfFalseOrPop n) c = on_truth_adds p.host c _ _ (λ v vs w. none_more 1 c) (λ v vs w. none_more 1 c)
 adds p f (i.JumpIfTrueOrPop n) c = on_truth_adds p.host c _ _ (λ v vs w. none_more 1 c) (λ v vs w. none_more 1 c)
-adds p f (i.CallFunction x n) c = on_taken_all (Adds 1 c) (ends_adds 1 c) (taken n [] c.run.operands) c.world _
+adds p f (i.CallFunction x n) c = counted_adds 1 n c.run.operands c _
     (λ vs rest. asked_adds p c rest (call_named p.host x vs c.world))
+adds p f (i.CallObject n) c = counted_adds 1 n c.run.operands c _ (λ vs rest. asked_adds p c rest (call_callee p.host vs c.world))
 adds p f (i.CallMethod x n) c = apply_adds p applications.Method x n c
 adds p f (i.ApplyFilter x n) c = apply_adds p applications.Filter x n c
 adds p f (i.PerformTest x n) c = apply_adds p applications.Test x n c

@@ -7,9 +7,10 @@ use Rattle.tm_syntax.specs.declared.instruction.Instruction.{Instruction}
 use Rattle.tm_meaning.specs.World.{World, HostValue, depth}
 use Rattle.tm_meaning.specs.Calls.{whole, of_block}
 use Rattle.tm_meaning.specs.Machine.{Return, Activation, Capture, Config, End, Finished, Failed, Stuck, Next, More, Over, Nest, Program}
-use Rattle.tm_meaning.specs.Machine.{base_of, start, recursion, place_of_loop}
+use Rattle.tm_meaning.specs.Machine.{base_of, start, recursion, place_of_loop, take_n, stuck}
+use Rattle.tm_values.specs.Val.{Val}
 use Rattle.tm_state.specs.declared.calls.Recursion.{Recursion}
-use Rattle.tm_meaning.specs.Instructions.{jump_if_true_or_pop_of, jump_if_false_or_pop_of}
+use Rattle.tm_meaning.specs.Instructions.{jump_if_true_or_pop_of, jump_if_false_or_pop_of, take_counted}
 use Rattle.tm_meaning.specs.Steps.{Reaches, final}
 use Rattle.tm_meaning.specs.declared.base.Base.{Base}
 use Rattle.tm_meaning.specs.declared.stream.StreamId.{StreamId}
@@ -230,3 +231,10 @@ CanGoOn run = run.place < 2 ^ 64 - 1
 abbrev pub jump_or_pop_of : HostValue → Bool → ℕ → Config → Next
 jump_or_pop_of host true = jump_if_true_or_pop_of host
 jump_or_pop_of host false = jump_if_false_or_pop_of host
+
+-- An instruction that takes so many values, or as many as the number on top counts, takes so many of these; or it is stuck.
+abbrev pub TakesCounted : Option ℕ → List Val → ℕ → List Val → Type 0
+TakesCounted count old n new = (w : World) (f : List Val → List Val → Next) → take_counted count old w f ≡ take_n n new w f
+
+abbrev pub IsUncounted : Option ℕ → List Val → Type 0
+IsUncounted count old = (w : World) (f : List Val → List Val → Next) → take_counted count old w f ≡ stuck w

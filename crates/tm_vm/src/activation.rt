@@ -5,10 +5,11 @@ ghost use Rattle.tm_values.specs.Val.{Val, boolean};
 ghost use Rattle.tm_parts.specs.Operate.{Operates, TakesMember};
 ghost use Rattle.tm_meaning.specs.Meaning.{none_waits};
 ghost use Rattle.tm_meaning.specs.Steps.{is_empty};
-ghost use Rattle.tm_meaning.specs.Machine.{run_from, taken};
+ghost use Rattle.tm_meaning.specs.Machine.{onto, run_from, taken};
 ghost use Rattle.tm_definitions.specs.Truth.{truth_of};
-ghost use Rattle.tm_vm.specs.Answers.{CanGoOn, called, resumed};
+ghost use Rattle.tm_vm.specs.Answers.{CanGoOn, IsUncounted, TakesCounted, called, resumed};
 
+use crate::operands::counted;
 use std::alloc::Global;
 use std::marker::Model;
 use std::mem;
@@ -327,6 +328,31 @@ impl Activation {
         ensures rest { self.new ≡ record self.old { operands = self.new.operands } }
     {
         self.operands.take(count)
+    }
+
+    /// How many operands an instruction takes: so many, or as many as the number on top counts, which is taken.
+    /// None where no number is there, or it counts more than there are.
+    #[tactic(auto, using(crate::proofs::Counted::no_count))]
+    pub(crate) fn take_count(&mut self, count: Option<usize>) -> Option<usize>
+        ensures counted { MatchOption result (IsUncounted count self.old.operands)
+            (λ n. TakesCounted count self.old.operands n self.new.operands) }
+        ensures rest { self.new ≡ record self.old { operands = self.new.operands } }
+    {
+        if let Some(count) = count {
+            return Some(count);
+        }
+        let counter = self.operands.pop()?;
+        counted(&counter, self.operands.len())
+    }
+
+    /// Puts operands on top, the last of them topmost. Fails by OutOfMemory alone.
+    pub(crate) fn append(&mut self, values: Vec<Value>) -> Result<(), Error>
+        ensures ok { OnOk result
+            (self.new ≡ record self.old { operands = onto values.items self.old.operands }) }
+        ensures kind { IfErr result (λ e. e ≡ ErrorKind.OutOfMemory ∷ []) }
+        ensures rest { self.new ≡ record self.old { operands = self.new.operands } }
+    {
+        self.operands.append(values)
     }
 
     /// Takes so many topmost pairs of operands, the lowest first, where there are so many. Fails by OutOfMemory alone.

@@ -1,7 +1,8 @@
 //! The calls.
-ghost use Rattle.std.specs.Prelude.{◌≡◌, ◌∷◌, drop};
+ghost use Rattle.std.specs.Prelude.{◌≡◌, ◌∷◌, Some, drop};
 ghost use Rattle.tm_meaning.specs.Machine.{goes};
-ghost use Rattle.tm_meaning.specs.Instructions.{call_function_of, apply_of, call_block_of, fast_recurse_of};
+ghost use Rattle.tm_meaning.specs.Instructions.{call_function_of, call_object_of, apply_of, call_block_of};
+ghost use Rattle.tm_meaning.specs.Instructions.{fast_recurse_of};
 ghost use Rattle.tm_vm.specs.Answers.{program, recurses, CanGoOn, Silently, Opens, Needs};
 
 use crate::flow::{Flow, NestedRun};
@@ -16,8 +17,29 @@ use tm_values::{Error, ErrorKind, Value};
 
 impl Machine<'_> {
     /// Replaces so many values by what the function of a name answers to them, or by the text of the loop that it calls.
-    #[tactic(auto, using(crate::proofs::Performed::still))]
     pub(crate) fn do_call_function<H: Host>(
+        &mut self,
+        alloc: Global,
+        host: &H,
+        code: &Code,
+        name: &Name,
+        count: Option<usize>,
+    ) -> Result<Flow, Halt>
+        requires in_place { CanGoOn self.old.run }
+        requires its_code { code.now ≡ H.code host.now self.old.run.stream }
+        ensures { Opens (call_function_of
+            (program (H.meaning host.now) (H.code host.now)) name.now count self.old)
+            self.old self.new result }
+    {
+        match self.run.take_count(count) {
+            Some(count) => self.call_function(alloc, host, code, name, count),
+            None => Err(Halt::Stuck),
+        }
+    }
+
+    /// The same of so many values.
+    #[tactic(auto, using(crate::proofs::Performed::still))]
+    fn call_function<H: Host>(
         &mut self,
         alloc: Global,
         host: &H,
@@ -28,7 +50,7 @@ impl Machine<'_> {
         requires in_place { CanGoOn self.old.run }
         requires its_code { code.now ≡ H.code host.now self.old.run.stream }
         ensures { Opens (call_function_of
-            (program (H.meaning host.now) (H.code host.now)) name.now count self.old)
+            (program (H.meaning host.now) (H.code host.now)) name.now (Some count) self.old)
             self.old self.new result }
     {
         let Some(args) = self.run.operands.args(count) else {
@@ -104,11 +126,31 @@ impl Machine<'_> {
         host: &H,
         application: Application,
         name: &Name,
-        count: usize,
+        count: Option<usize>,
     ) -> Result<Flow, Halt>
         requires { CanGoOn self.old.run }
         ensures { Silently (apply_of
             (program (H.meaning host.now) (H.code host.now)) application name.now count self.old)
+            self.old self.new result }
+    {
+        match self.run.take_count(count) {
+            Some(count) => self.apply(alloc, host, application, name, count),
+            None => Err(Halt::Stuck),
+        }
+    }
+
+    /// The same of so many values.
+    fn apply<H: Host>(
+        &mut self,
+        alloc: Global,
+        host: &H,
+        application: Application,
+        name: &Name,
+        count: usize,
+    ) -> Result<Flow, Halt>
+        requires { CanGoOn self.old.run }
+        ensures { Silently (apply_of (program (H.meaning host.now) (H.code host.now))
+            application name.now (Some count) self.old)
             self.old self.new result }
     {
         let Some(values) = self.run.operands.args(count) else {
@@ -120,8 +162,45 @@ impl Machine<'_> {
         self.replace(count, value)
     }
 
+    /// Replaces so many values by what the first one, a function, answers to the others.
+    pub(crate) fn do_call_object<H: Host>(
+        &mut self,
+        alloc: Global,
+        host: &H,
+        count: Option<usize>,
+    ) -> Result<Flow, Halt>
+        requires { CanGoOn self.old.run }
+        ensures { Silently (call_object_of
+            (program (H.meaning host.now) (H.code host.now)) count self.old)
+            self.old self.new result }
+    {
+        match self.run.take_count(count) {
+            Some(count) => self.call_object(alloc, host, count),
+            None => Err(Halt::Stuck),
+        }
+    }
+
+    /// The same of so many values.
+    fn call_object<H: Host>(
+        &mut self,
+        alloc: Global,
+        host: &H,
+        count: usize,
+    ) -> Result<Flow, Halt>
+        requires { CanGoOn self.old.run }
+        ensures { Silently (call_object_of
+            (program (H.meaning host.now) (H.code host.now)) (Some count) self.old)
+            self.old self.new result }
+    {
+        let Some(values) = self.run.operands.args(count) else {
+            return Err(Halt::Stuck);
+        };
+        let value = self.state.call_callee(alloc, host, values)?;
+        self.replace(count, value)
+    }
+
     /// Replaces so many values by one.
-    fn replace(&mut self, count: usize, value: Value) -> Result<Flow, Halt>
+    pub(crate) fn replace(&mut self, count: usize, value: Value) -> Result<Flow, Halt>
         requires { CanGoOn self.old.run }
         ensures { Silently (goes (value ∷ drop count self.old.run.operands) self.old.world self.old)
             self.old self.new result }

@@ -3,14 +3,15 @@ ghost use Rattle.std.specs.Prelude.{◌≡◌, ◌<◌, ◌∷◌, ℕ, pos, Som
 ghost use Rattle.tm_meaning.specs.Machine.{goes};
 ghost use Rattle.tm_meaning.specs.Instructions.{lookup_of, load_const_of, get_attr_of, unary_of, binary_of};
 ghost use Rattle.tm_meaning.specs.Instructions.{compare_and_preserve_of, swap_of, dup_top_of, discard_top_of};
-ghost use Rattle.tm_meaning.specs.Instructions.{get_item_of, slice_instruction_of, build_list_of, list_on, count_in};
-ghost use Rattle.tm_meaning.specs.Instructions.{build_map_of, build_kwargs_of};
+ghost use Rattle.tm_meaning.specs.Instructions.{get_item_of, slice_instruction_of, build_list_of, count_in};
+ghost use Rattle.tm_meaning.specs.Instructions.{build_map_of, build_kwargs_of, merge_kwargs_of};
+ghost use Rattle.tm_meaning.specs.Instructions.{unpack_lists_of};
 ghost use Rattle.tm_vm.specs.Answers.{CanGoOn, Silently};
 
 use crate::flow::Flow;
 use crate::machine::Machine;
 use std::alloc::Global;
-use tm_operations::{attribute, item, slice};
+use tm_operations::{attribute, item, merge_maps, slice, spread_items};
 use tm_parts::{Halt, binary, paired, unary};
 use tm_syntax::{BinaryOperator, Name, UnaryOperator};
 use tm_tables::Host;
@@ -211,7 +212,6 @@ impl Machine<'_> {
     }
 
     /// Replaces so many values by the list of them, or as many as the number on top of them counts.
-    #[tactic(auto, using(crate::proofs::Counted::no_count))]
     pub(crate) fn do_build_list(
         &mut self,
         alloc: Global,
@@ -220,13 +220,7 @@ impl Machine<'_> {
         requires { CanGoOn self.old.run }
         ensures { Silently (build_list_of count self.old) self.old self.new result }
     {
-        if let Some(count) = count {
-            return self.build_list(alloc, count);
-        }
-        let Some(counter) = self.run.pop() else {
-            return Err(Halt::Stuck);
-        };
-        match counted(&counter, self.run.operands.len()) {
+        match self.run.take_count(count) {
             Some(count) => self.build_list(alloc, count),
             None => Err(Halt::Stuck),
         }
@@ -235,8 +229,7 @@ impl Machine<'_> {
     /// Replaces so many values by the list of them.
     fn build_list(&mut self, alloc: Global, count: usize) -> Result<Flow, Halt>
         requires { CanGoOn self.old.run }
-        ensures { Silently (list_on count self.old.run.operands self.old)
-            self.old self.new result }
+        ensures { Silently (build_list_of (Some count) self.old) self.old self.new result }
     {
         let Some(values) = self.run.take(count)? else {
             return Err(Halt::Stuck);
@@ -267,10 +260,54 @@ impl Machine<'_> {
         let pairs = ValueMap::from_pairs(paired(alloc, values)?)?;
         self.push_next(Value::keywords(alloc, pairs)?)
     }
+
+    /// Replaces so many maps by the keyword map of their pairs. InvalidOperation or UndefinedError for what is
+    /// no map.
+    #[inline(never)]
+    pub(crate) fn do_merge_kwargs<H: Host>(
+        &mut self,
+        alloc: Global,
+        host: &H,
+        count: usize,
+    ) -> Result<Flow, Halt>
+        requires { CanGoOn self.old.run }
+        ensures { Silently (merge_kwargs_of (H.meaning host.now) count self.old)
+            self.old self.new result }
+    {
+        let Some(maps) = self.run.operands.args(count) else {
+            return Err(Halt::Stuck);
+        };
+        let pairs = merge_maps(alloc, maps, &self.state, host.undefined_behavior())?;
+        let keywords = Value::keywords(alloc, pairs)?;
+        self.replace(count, keywords)
+    }
+
+    /// Replaces so many values by the items of all of them, and on top how many these are. InvalidOperation for
+    /// what has no items.
+    #[inline(never)]
+    pub(crate) fn do_unpack_lists<H: Host>(
+        &mut self,
+        alloc: Global,
+        host: &H,
+        count: usize,
+    ) -> Result<Flow, Halt>
+        requires { CanGoOn self.old.run }
+        ensures { Silently (unpack_lists_of (H.meaning host.now) count self.old)
+            self.old self.new result }
+    {
+        let Some(lists) = self.run.operands.args(count) else {
+            return Err(Halt::Stuck);
+        };
+        let items = spread_items(alloc, lists, &self.state, host.undefined_behavior())?;
+        let number = Value::number(items.len() as i128);
+        self.run.drop_operands(count);
+        self.run.append(items)?;
+        self.push_next(number)
+    }
 }
 
 /// How many a number counts, where there are at most so many.
-fn counted(value: &Value, most: usize) -> Option<usize>
+pub(crate) fn counted(value: &Value, most: usize) -> Option<usize>
     ensures some { IfSome result (λ n. count_in value.now ≡ Some n) }
     ensures none { IfNone result ((n : ℕ) → count_in value.now ≡ Some n → most < n) }
 {

@@ -51,6 +51,8 @@ impl Machine<'_> {
             Instruction::BuildTuple(count) => self.do_build_list(alloc, Some(*count)),
             Instruction::BuildMap(count) => self.do_build_map(alloc, *count),
             Instruction::BuildKwargs(count) => self.do_build_kwargs(alloc, *count),
+            Instruction::MergeKwargs(count) => self.do_merge_kwargs(alloc, host, *count),
+            Instruction::UnpackLists(count) => self.do_unpack_lists(alloc, host, *count),
             Instruction::Eq => self.do_binary(alloc, host, BinaryOperator::Equal),
             Instruction::Ne => self.do_binary(alloc, host, BinaryOperator::NotEqual),
             Instruction::Lt => self.do_binary(alloc, host, BinaryOperator::Less),
@@ -84,6 +86,7 @@ impl Machine<'_> {
             Instruction::CallMethod(name, count) => {
                 self.do_apply(alloc, host, Application::Method, name, *count)
             }
+            Instruction::CallObject(count) => self.do_call_object(alloc, host, *count),
             Instruction::ApplyFilter(name, count) => {
                 self.do_apply(alloc, host, Application::Filter, name, *count)
             }

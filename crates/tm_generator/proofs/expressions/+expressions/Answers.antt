@@ -5,27 +5,12 @@ use Rattle.tm_syntax.specs.declared.tree.Comparison.{Comparison}
 use Rattle.tm_syntax.specs.declared.tree.Argument.TheBlock.{hidden-the_row-Comparison-7 as comparisons}
 use Rattle.tm_syntax.specs.Code.{expr_code, row_code}
 use Rattle.tm_generator.specs.Building.{put}
-use Rattle.tm_generator.proofs.PutExpressions.{made-call, made-apply, made-unary, made-chain, made-slice, made-binary, made-compare}
-use Rattle.tm_generator.proofs.PutExpressions.{made-plain}
-use Rattle.tm_generator.proofs.PutExpressions.{put_two, made-keyword, made-conditional, no-named, made-named, next, more-links}
+use Rattle.tm_generator.proofs.PutExpressions.{made-call, made-apply, made-call_object, made-unary, made-chain, made-slice, made-binary, made-compare}
+use Rattle.tm_generator.proofs.PutExpressions.{put_two, made-conditional, next, more-links}
 use Rattle.tm_generator.proofs.PutExpressions.{no_more-links}
 use Rattle.tm_generator.proofs.PutExpressions.{more-exprs, no_more-exprs, more-pairs, no_more-pairs, more-arguments, no_more-arguments}
-use Rattle.tm_generator.proofs.PutExpressions.{more-keywords, no_more-keywords, more-steps, no_more-steps}
+use Rattle.tm_generator.proofs.PutExpressions.{more-steps, no_more-steps}
 use Rattle.tm_generator.proofs.expressions.+expressions.Goals as goal
-
-pub push_argument-returns-clause-ok : goal.push_argument-returns-clause-ok
-push_argument-returns-clause-ok t c =
-    on_ok_weaker c.push_expr.result
-    (made-plain c.args.code.now c.push_expr.new.code c.args.argument.now _ c.get.result.now c.get.ensures) c.push_expr.ensures.ok
-
-pub push_expr-returns-in_ok-share-in-Call-clause-ok : goal.push_expr-returns-in_ok-share-in-Call-clause-ok
-push_expr-returns-in_ok-share-in-Call-clause-ok t c =
-    rw c.in-Call.is (on_ok_weaker c.emit-in-Call.result
-    (made-call c.args.code.now c.push_arguments.new.code c.push_named.new.code c.emit-in-Call.new.self c.in-Call.name _ _ _ _
-    c.in-Call.given c.in-Call.named
-    (rw (← c.as_slice-in-Call.ensures) c.in_ok-push_arguments-in-Call.ensures.ok)
-    (rw (← c.as_slice-in-Call-2.ensures) c.in_ok-push_named-in-Call.ensures.ok) c.len-in-Call.ensures c.len-in-Call-2.ensures
-    c.in_ok-count-in-Call.ensures.ok c.in_ok-share-in-Call.ensures) c.emit-in-Call.ensures.ok)
 
 pub push_expr-returns-in_ok-push_expr-in-Unary-clause-ok : goal.push_expr-returns-in_ok-push_expr-in-Unary-clause-ok
 push_expr-returns-in_ok-push_expr-in-Unary-clause-ok t c =
@@ -48,24 +33,6 @@ push_expr-returns-in_ok-push_expr-in-Conditional-clause-ok t c =
     (rw (← c.as_slice-conditions.ensures) c.in_ok-push_tests-in-Conditional.ensures.outers)
     (rw (← c.get-in-Conditional.ensures) c.in_ok-push_expr-in-Conditional.ensures.ok))
     (rw (← c.as_slice-conditions.ensures) c.push_otherwise.ensures.ok))
-
-pub push_named-returns-then-is_empty-clause-ok : goal.push_named-returns-then-is_empty-clause-ok
-push_named-returns-then-is_empty-clause-ok t c = no-named c.args.code.now c.args.named.now (sym c.is_empty.ensures ∙ c.if-is_empty.true)
-
-pub push_named-returns-clause-ok : goal.push_named-returns-clause-ok
-push_named-returns-clause-ok t c =
-    on_ok_weaker c.emit.result (made-named c.args.code.now c.push_keywords.new.code c.emit.new.self _ c.args.named.now
-    (sym c.is_empty.ensures ∙ c.if-is_empty.false) c.in_ok-push_keywords.ensures.ok refl) c.emit.ensures.ok
-
-pub push_step-returns-in_ok-count-in-Apply-clause-ok : goal.push_step-returns-in_ok-count-in-Apply-clause-ok
-push_step-returns-in_ok-count-in-Apply-clause-ok t c =
-    rw c.in-Apply.is (on_ok_weaker c.push_application.result
-    (made-apply c.args.code.now c.push_arguments.new.code c.push_named.new.code c.push_application.new.code c.in-Apply.application
-    c.in-Apply.name _ _ _
-    c.in-Apply.given c.in-Apply.named
-    (rw (← c.as_slice.ensures) c.in_ok-push_arguments-in-Apply.ensures.ok)
-    (rw (← c.as_slice-in-Apply.ensures) c.in_ok-push_named-in-Apply.ensures.ok) c.len.ensures c.len-in-Apply.ensures
-    c.in_ok-count-in-Apply.ensures.ok) c.push_application.ensures.ok)
 
 pub push_step-returns-in_ok-push_expr-in-Slice-3-clause-ok : goal.push_step-returns-in_ok-push_expr-in-Slice-3-clause-ok
 push_step-returns-in_ok-push_expr-in-Slice-3-clause-ok t c =
@@ -149,14 +116,3 @@ push_pairs-loop-entry-preserved t c =
 pub push_pairs-returns-clause-ok : goal.push_pairs-returns-clause-ok
 push_pairs-returns-clause-ok t c = no_more-pairs _ _ _
     (drop_all c.loop-entry.entry-index c.args.entries.now c.loop-entry-test.false) c.loop-entry.invariant
-
-pub push_keywords-loop-keyword-preserved : goal.push_keywords-loop-keyword-preserved
-push_keywords-loop-keyword-preserved t c =
-    more-keywords _ _ c.keyword-item.result _ _ _
-    (next c.args.named.now c.loop-keyword.keyword-index c.keyword-item.result c.loop-keyword-test.true c.keyword-item.is)
-    (made-keyword c.loop-keyword.code c.emit.new.self c.push_expr.new.code c.keyword-item.result _ _ c.as_str.ensures c.in_ok-name.ensures
-    c.in_ok-emit.ensures.ok (rw (← c.get.ensures) c.in_ok-push_expr.ensures.ok)) c.loop-keyword.invariant
-
-pub push_keywords-returns-clause-ok : goal.push_keywords-returns-clause-ok
-push_keywords-returns-clause-ok t c = no_more-keywords _ _ _
-    (drop_all c.loop-keyword.keyword-index c.args.named.now c.loop-keyword-test.false) c.loop-keyword.invariant

@@ -1,6 +1,7 @@
-use Rattle.std.proofs.Common.{◌≡◌, ◌++◌, ◌≤◌, length, drop, reverse}
+use Rattle.std.proofs.Common.{◌≡◌, ◌+◌, ◌++◌, ◌≤◌, length, drop, reverse}
 use Rattle.tm_generator.specs.Building.{put, asked, kept, answered}
 use Rattle.tm_syntax.specs.Code.{exprs_code, pairs_code, arguments_code, keywords_code, steps_code, links_code}
+use Rattle.tm_syntax.specs.Code.{lists_code, named_code, together, count_lists, count_maps}
 use Rattle.tm_syntax.specs.declared.tree.Argument.TheBlock.{hidden-the_row-Expr-1 as exprs}
 use Rattle.tm_syntax.specs.declared.tree.Argument.TheBlock.{hidden-the_row-Pair-2 as pairs}
 use Rattle.tm_syntax.specs.declared.tree.Argument.TheBlock.{hidden-the_row-Argument-3 as arguments}
@@ -21,8 +22,17 @@ invariant-push_arguments-loop-argument l = put (arguments_code (arguments (drop 
     ≡ put (arguments_code (arguments l.given)) l.fn.code
 
 abbrev pub invariant-push_keywords-loop-keyword : goal.invariant-push_keywords-loop-keyword
-invariant-push_keywords-loop-keyword l = put (keywords_code (keywords (drop l.keyword-index l.named))) l.code
-    ≡ put (keywords_code (keywords l.named)) l.fn.code
+invariant-push_keywords-loop-keyword l =
+    (put (keywords_code l.row (keywords (drop l.keyword-index l.named))) l.code ≡ put (keywords_code 0 (keywords l.named)) l.fn.code)
+    × (l.maps + count_maps l.row (keywords (drop l.keyword-index l.named)) ≡ count_maps 0 (keywords l.named))
+
+abbrev pub invariant-push_lists-loop-argument : goal.invariant-push_lists-loop-argument
+invariant-push_lists-loop-argument l =
+    let m = together (keywords l.named) in
+    let by_name = named_code (keywords l.named) in
+    (put (lists_code l.row (arguments (drop l.argument-index l.given)) m by_name) l.code
+    ≡ put (lists_code l.fn.before (arguments l.given) m by_name) l.fn.code)
+    × (l.lists + count_lists l.row (arguments (drop l.argument-index l.given)) m ≡ count_lists l.fn.before (arguments l.given) m)
 
 abbrev pub invariant-push_steps-loop-step : goal.invariant-push_steps-loop-step
 invariant-push_steps-loop-step l = put (steps_code (steps (drop l.step-index l.after))) l.code ≡ put (steps_code (steps l.after)) l.fn.code

@@ -6,5 +6,5 @@ use Rattle.tm_parser.proofs.statements.is_call.Goals as goal
 
 pub returns-in-Chain : goal.returns-in-Chain
 returns-in-Chain c =
-    rw c.in-Chain.is (c.ends_in_method.ensures ∙ ap (λ ss. spec.last_is_method false (row_of_steps ss)) c.as_slice.ensures ∙ sym
+    rw c.in-Chain.is (c.ends_in_call.ensures ∙ ap (λ ss. spec.last_calls false (row_of_steps ss)) c.as_slice.ensures ∙ sym
     (is_call_of_chain _ _))

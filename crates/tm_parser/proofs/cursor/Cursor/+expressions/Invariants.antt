@@ -20,6 +20,12 @@ decreases-keyword l = nesting_room * l.depth + 1
 abbrev pub decreases-argument : goal.decreases-argument
 decreases-argument l = nesting_room * l.depth + 1
 
+abbrev pub decreases-spread_map : goal.decreases-spread_map
+decreases-spread_map l = nesting_room * l.depth + 1
+
+abbrev pub decreases-spread_list : goal.decreases-spread_list
+decreases-spread_list l = nesting_room * l.depth + 1
+
 abbrev pub decreases-one_passed : goal.decreases-one_passed
 decreases-one_passed l = nesting_room * l.depth + 2
 
@@ -89,57 +95,63 @@ decreases-test_step l = nesting_room * l.depth + 8
 abbrev pub decreases-subscript : goal.decreases-subscript
 decreases-subscript l = nesting_room * l.depth + 5
 
-abbrev pub decreases-bracketed : goal.decreases-bracketed
-decreases-bracketed l = nesting_room * l.depth + 6
+abbrev pub decreases-call_step : goal.decreases-call_step
+decreases-call_step l = nesting_room * l.depth + 5
 
 abbrev pub decreases-named : goal.decreases-named
 decreases-named l = nesting_room * l.depth + 6
 
+abbrev pub decreases-closed : goal.decreases-closed
+decreases-closed l = nesting_room * l.depth + 7
+
+abbrev pub decreases-bracketed : goal.decreases-bracketed
+decreases-bracketed l = nesting_room * l.depth + 8
+
 abbrev pub decreases-primary : goal.decreases-primary
-decreases-primary l = nesting_room * l.depth + 7
+decreases-primary l = nesting_room * l.depth + 9
 
 -- and so has each level
 abbrev level_room : ℕ
-level_room = 8
+level_room = 10
 
 abbrev pub decreases-climb : goal.decreases-climb
 decreases-climb l = nesting_room * l.depth + level_room * l.end + 8
 
 abbrev pub decreases-operand_start : goal.decreases-operand_start
-decreases-operand_start l = nesting_room * l.depth + 8
+decreases-operand_start l = nesting_room * l.depth + 10
 
 abbrev pub decreases-operand : goal.decreases-operand
-decreases-operand l = nesting_room * l.depth + level_room * l.level + 9
+decreases-operand l = nesting_room * l.depth + level_room * l.level + 11
 
 abbrev pub decreases-operation : goal.decreases-operation
-decreases-operation l = nesting_room * l.depth + level_room * l.level + 10
+decreases-operation l = nesting_room * l.depth + level_room * l.level + 12
 
 abbrev pub decreases-one_comparison : goal.decreases-one_comparison
-decreases-one_comparison l = nesting_room * l.depth + level_room * l.level + 10
+decreases-one_comparison l = nesting_room * l.depth + level_room * l.level + 12
 
 abbrev pub decreases-comparisons : goal.decreases-comparisons
-decreases-comparisons l = nesting_room * l.depth + level_room * l.level + 11
+decreases-comparisons l = nesting_room * l.depth + level_room * l.level + 13
 
 abbrev pub decreases-comparison : goal.decreases-comparison
-decreases-comparison l = nesting_room * l.depth + level_room * l.level + 12
+decreases-comparison l = nesting_room * l.depth + level_room * l.level + 14
 
 abbrev pub decreases-conjunction : goal.decreases-conjunction
-decreases-conjunction l = nesting_room * l.depth + level_room * l.level + 10
+decreases-conjunction l = nesting_room * l.depth + level_room * l.level + 12
 
 abbrev pub decreases-disjunction : goal.decreases-disjunction
-decreases-disjunction l = nesting_room * l.depth + level_room * l.level + 10
+decreases-disjunction l = nesting_room * l.depth + level_room * l.level + 12
 
 abbrev pub decreases-step : goal.decreases-step
-decreases-step l = nesting_room * l.depth + level_room * l.level + 13
+decreases-step l = nesting_room * l.depth + level_room * l.level + 15
 
 abbrev pub decreases-one_step : goal.decreases-one_step
-decreases-one_step l = nesting_room * l.depth + level_room * l.level + 14
+decreases-one_step l = nesting_room * l.depth + level_room * l.level + 16
 
 abbrev pub decreases-steps : goal.decreases-steps
-decreases-steps l = nesting_room * l.depth + level_room * l.level + 15
+decreases-steps l = nesting_room * l.depth + level_room * l.level + 17
 
 abbrev pub decreases-whole : goal.decreases-whole
-decreases-whole l = nesting_room * l.depth + 80
+decreases-whole l = nesting_room * l.depth + 100
 
 abbrev pub decreases-else_part : goal.decreases-else_part
 decreases-else_part l = nesting_room * l.depth + 1

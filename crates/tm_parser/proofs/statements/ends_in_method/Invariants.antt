@@ -1,7 +1,0 @@
-use Rattle.std.proofs.Common.{◌≡◌, drop, false}
-use Rattle.tm_syntax.specs.declared.tree.Argument.TheBlock.{hidden-the_row-Step-5 as row_of_steps}
-use Rattle.tm_parser.specs.Statements.{last_is_method}
-use Rattle.tm_parser.proofs.statements.ends_in_method.Given as goal
-
-abbrev pub invariant-loop-step : goal.invariant-loop-step
-invariant-loop-step l = last_is_method l.last (row_of_steps (drop l.step-index l.steps)) ≡ last_is_method false (row_of_steps l.steps)
