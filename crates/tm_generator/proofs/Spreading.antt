@@ -1,6 +1,6 @@
 -- Rows of arguments, and what is put for them, as the program holds them.
 use Rattle.std.proofs.Common.{◌≡◌, ℕ, zero, suc, ◌+◌, List, [], ◌∷◌, Bool, Option, Some, None, length, refl, sym, ap, ◌∙◌, subst, arith}
-use Rattle.std.specs.Prelude.{true, false, ◌||◌}
+use Rattle.std.specs.Prelude.{true, false, ◌||◌, Result, Ok, Err, OnOk, IfOk}
 use denote.Hole.Carrier.{hidden}
 use Rattle.tm_values.specs.Val.{text}
 use Rattle.tm_syntax.specs.declared.tree.Expr.{Expr}
@@ -20,11 +20,11 @@ use Rattle.tm_syntax.specs.Code.{keyword_code, keywords_code, named_code, passin
 use Rattle.tm_generator.specs.Building.{Builder, put, with_one}
 
 -- ---------------------------------------------------------------- rows
-no_row : (n : ℕ) → n ≡ 0 → 0 ≡ rows_of n
+pub no_row : (n : ℕ) → n ≡ 0 → 0 ≡ rows_of n
 no_row zero e = refl
 no_row (suc n) e = absurd (omega (arith, e))
 
-a_row : (n : ℕ) → ¬ (n ≡ 0) → 1 ≡ rows_of n
+pub a_row : (n : ℕ) → ¬ (n ≡ 0) → 1 ≡ rows_of n
 a_row zero h = absurd (h refl)
 a_row (suc n) h = refl
 
@@ -287,3 +287,12 @@ one_by_one-count n k t s r xs ks h e f g j =
 pub as_group-count : (n : ℕ) (xs : List Argument) (ks : List Keyword) → has_spread (arguments xs) ≡ true →
     None ≡ passed_count n (arguments xs) (keywords ks)
 as_group-count n xs ks h = sym (ap (λ b. count_by b (count (arguments xs) + together (keywords ks) + n)) h)
+
+-- ---------------------------------------------------------------- answers
+pub on_ok_always : {T E P : Type 0} (r : Result T E) → P → OnOk r P
+on_ok_always (Ok x) p = p
+on_ok_always (Err e) p = tt
+
+pub if_ok_weaker : {T E : Type 0} (r : Result T E) {P Q : T → Type 0} → ((x : T) → P x → Q x) → IfOk r P → IfOk r Q
+if_ok_weaker (Ok x) f h = f x h
+if_ok_weaker (Err e) f h = tt

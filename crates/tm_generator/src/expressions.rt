@@ -174,7 +174,8 @@ fn push_argument(code: &mut Builder, argument: &Argument) -> Result<(), Error>
     ensures err { IfErr result (λ e. e ≡ OutOfMemory ∷ []) }
 {
     match argument {
-        Argument::Plain(expr) | Argument::Spread(expr) => push_expr(code, expr.get()),
+        Argument::Plain(expr) => push_expr(code, expr.get()),
+        Argument::Spread(expr) => push_expr(code, expr.get()),
     }
 }
 

@@ -1,4 +1,4 @@
-use Rattle.std.proofs.Common.{◌≡◌, ◌+◌, ◌++◌, ◌≤◌, length, drop, reverse}
+use Rattle.std.proofs.Common.{◌≡◌, ◌+◌, ◌*◌, ◌++◌, ◌≤◌, length, drop, reverse}
 use Rattle.tm_generator.specs.Building.{put, asked, kept, answered}
 use Rattle.tm_syntax.specs.Code.{exprs_code, pairs_code, arguments_code, keywords_code, steps_code, links_code}
 use Rattle.tm_syntax.specs.Code.{lists_code, named_code, together, count_lists, count_maps}
@@ -8,6 +8,8 @@ use Rattle.tm_syntax.specs.declared.tree.Argument.TheBlock.{hidden-the_row-Argum
 use Rattle.tm_syntax.specs.declared.tree.Argument.TheBlock.{hidden-the_row-Keyword-4 as keywords}
 use Rattle.tm_syntax.specs.declared.tree.Argument.TheBlock.{hidden-the_row-Step-5 as steps}
 use Rattle.tm_syntax.specs.declared.tree.Argument.TheBlock.{hidden-the_row-Comparison-7 as comparisons}
+use Rattle.tm_syntax.specs.declared.tree.Step.TheVariants.{Call}
+use Rattle.tm_syntax.proofs.tree.Step.TheLaws.{the_size}
 use Rattle.tm_generator.proofs.expressions.+expressions.Given as goal
 
 abbrev pub invariant-push_exprs-loop-item : goal.invariant-push_exprs-loop-item
@@ -54,3 +56,58 @@ decreases-push_tests-loop-left l = l.left
 abbrev pub invariant-push_otherwise-loop-condition : goal.invariant-push_otherwise-loop-condition
 invariant-push_otherwise-loop-condition l =
     answered (reverse l.outers) (drop l.condition-index l.conditions) l.code ≡ answered (reverse l.fn.outers) l.conditions l.fn.code
+
+-- ---------------------------------------------------------------- measures: a list is as deep as the deepest of it
+abbrev pub decreases-push_expr : goal.decreases-push_expr
+decreases-push_expr l = 8 * goal.size-push_expr l + 5
+
+abbrev pub decreases-push_exprs : goal.decreases-push_exprs
+decreases-push_exprs l = 8 * goal.size-push_exprs l + 6
+
+abbrev pub decreases-push_pairs : goal.decreases-push_pairs
+decreases-push_pairs l = 8 * goal.size-push_pairs l + 6
+
+abbrev pub decreases-push_argument : goal.decreases-push_argument
+decreases-push_argument l = 8 * goal.size-push_argument l + 5
+
+abbrev pub decreases-push_arguments : goal.decreases-push_arguments
+decreases-push_arguments l = 8 * goal.size-push_arguments l + 6
+
+abbrev pub decreases-push_listed : goal.decreases-push_listed
+decreases-push_listed l = 8 * goal.size-push_listed l + 5
+
+abbrev pub decreases-push_keyword : goal.decreases-push_keyword
+decreases-push_keyword l = 8 * goal.size-push_keyword l + 5
+
+abbrev pub decreases-push_keywords : goal.decreases-push_keywords
+decreases-push_keywords l = 8 * goal.size-push_keywords l + 6
+
+abbrev pub decreases-push_named : goal.decreases-push_named
+decreases-push_named l = 8 * goal.size-push_named l + 7
+
+abbrev pub decreases-push_step : goal.decreases-push_step
+decreases-push_step l = 8 * goal.size-push_step l + 5
+
+abbrev pub decreases-push_steps : goal.decreases-push_steps
+decreases-push_steps l = 8 * goal.size-push_steps l + 6
+
+abbrev pub decreases-push_tests : goal.decreases-push_tests
+decreases-push_tests l = 8 * goal.size-push_tests l + 6
+
+abbrev pub decreases-push_otherwise : goal.decreases-push_otherwise
+decreases-push_otherwise l = 8 * goal.size-push_otherwise l + 6
+
+abbrev pub decreases-push_over : goal.decreases-push_over
+decreases-push_over l = 8 * goal.size-push_over l + 6
+
+abbrev pub decreases-push_comparisons : goal.decreases-push_comparisons
+decreases-push_comparisons l = 8 * goal.size-push_comparisons l + 7
+
+abbrev pub decreases-push_links : goal.decreases-push_links
+decreases-push_links l = 8 * goal.size-push_links l + 6
+
+abbrev pub decreases-push_lists : goal.decreases-push_lists
+decreases-push_lists l = 8 * the_size (Call l.given.now l.named.now)
+
+abbrev pub decreases-push_passed : goal.decreases-push_passed
+decreases-push_passed l = 8 * the_size (Call l.given.now l.named.now) + 1
