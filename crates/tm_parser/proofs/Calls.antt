@@ -3,22 +3,20 @@ use Rattle.std.proofs.Common.{◌≡◌, ℕ, ◌+◌, ◌<◌, List, [], ◌∷
 use Rattle.std.proofs.Common.{drop-cons, length-append}
 use Rattle.std.specs.Prelude.{get_or, Option, Some, None, is_some, if◌then◌else◌, ◌&&◌, nat_eq, codes}
 use Rattle.std.specs.Cmp.Lexicographic.{pointwise}
-use borrow.Enum.Total.{values_d}
 use denote.Hole.Carrier.{hidden}
 use Rattle.tm_syntax.specs.declared.tree.Argument.TheBlock.{shape-the_row-Argument-3, shape-the_row-Keyword-4, shape-the_row-Step-5}
 use Rattle.tm_syntax.specs.declared.tree.Argument.TheBlock.{hidden-the_row-Expr-0, hidden-the_row-Argument-3 as row_of_arguments}
 use Rattle.tm_syntax.specs.declared.tree.Argument.TheBlock.{hidden-the_row-Keyword-4 as row_of_keywords}
 use Rattle.tm_syntax.specs.declared.tree.Argument.TheBlock.{hidden-the_row-Step-5 as row_of_steps}
 use Rattle.tm_syntax.specs.declared.tree.Argument.{Argument}
+use Rattle.tm_syntax.specs.declared.tree.Argument.TheVariants as arguments
 use Rattle.tm_syntax.specs.declared.tree.Keyword.{Keyword}
 use Rattle.tm_syntax.specs.declared.tree.Step.{Step}
 use Rattle.tm_syntax.specs.declared.tree.Expr.{Expr}
 use Rattle.tm_syntax.specs.declared.tree.Expr.TheVariants as exprs
 use Rattle.tm_syntax.specs.declared.tree.Stmt.TheVariants as stmts
-use Rattle.tm_syntax.specs.Forms.{plain}
-use Rattle.tm_syntax.specs.contracts.tree.Argument.{enum as the_enum}
-use Rattle.tm_syntax.proofs.Forms.{whole}
-use Rattle.tm_parser.specs.Statements.{is_call, calls, last_calls, only_one, are_unnamed, loop_argument, call_or_emit}
+use Rattle.tm_syntax.specs.Forms.{plain, spread}
+use Rattle.tm_parser.specs.Statements.{is_call, is_plain, calls, last_calls, only_one, are_unnamed, loop_argument, call_or_emit}
 use Rattle.tm_parser.specs.Statements.{emit_statement}
 
 pub last-nil : (b : Bool) → last_calls b (row_of_steps []) ≡ b
@@ -105,3 +103,72 @@ one_of_plain x = refl
 one_of_more : (x : Expr) (y : Argument) (more : List Argument) → only_one (row_of_arguments (plain x ∷ y ∷ more)) ≡ None
 unfolding hidden row_of_arguments shape-the_row-Argument-3
 one_of_more x y more = refl
+
+pub not_one : (given : List Argument) → ¬ (length given ≡ 1) → false ≡ is_some (only_one (row_of_arguments given))
+not_one [] h = sym none_of_none
+not_one (spread x ∷ more) h = sym (ap is_some (one_of_spread x more))
+not_one (plain x ∷ []) h = absurd (h refl)
+not_one (plain x ∷ y ∷ more) h = sym (ap is_some (one_of_more x y more))
+
+pub one : (given : List Argument) (a : Argument) (plainly : Bool) → length given ≡ 1 → a ≡ get_or given 0 a → plainly ≡ is_plain a →
+    plainly ≡ is_some (only_one (row_of_arguments given))
+one [] a plainly long is same = absurd (omega (arith, long))
+one (x ∷ y ∷ more) a plainly long is same = absurd (omega (arith, long))
+one (plain x ∷ []) a plainly long is same = same ∙ ap is_plain is ∙ sym (ap is_some (one_of_plain x))
+one (spread x ∷ []) a plainly long is same = same ∙ ap is_plain is ∙ sym (ap is_some (one_of_spread x []))
+
+-- ---------------------------------------------------------------- what the program takes out of the call of a loop
+if_some : (b : Bool) (o : Option Expr) → is_some (if b then o else None) ≡ true → (if b then o else None) ≡ o
+if_some true o h = refl
+if_some false o h = absurd (cc h)
+
+module _ (x : Expr) (f : List ℕ) (given : List Argument) (named : List Keyword) (some : is_some (loop_argument x) ≡ true)
+    (is : x ≡ exprs.Call f given named) where
+  its_argument : loop_argument x ≡ only_one (row_of_arguments given)
+  its_argument =
+      let e = ap loop_argument is ∙ argument_is f given named in
+      e ∙ if_some (pointwise nat_eq f (codes "loop") && are_unnamed (row_of_keywords named)) (only_one (row_of_arguments given))
+      (sym (ap is_some e) ∙ some)
+
+  has_one : is_some (only_one (row_of_arguments given)) ≡ true
+  has_one = sym (ap is_some its_argument) ∙ some
+
+  pub is_called : ¬ (given ≡ [])
+  is_called none = absurd (let e : false ≡ true = sym none_of_none ∙ ap (λ g. is_some (only_one (row_of_arguments g))) (sym none) ∙ has_one in
+      cc e)
+
+  -- before the last there is none
+  last_alone : (left : List Argument) (a : Argument) → given ≡ left ++ a ∷ [] → given ≡ a ∷ []
+  last_alone [] a e = e
+  last_alone (y ∷ ys) a e =
+      let more : ¬ (length given ≡ 1) = λ long. omega (arith, ap length e, length-append (y ∷ ys) (a ∷ []), long) in
+      absurd (let e : false ≡ true = not_one given more ∙ has_one in cc e)
+
+  pub not_spread : (left : List Argument) (a : Argument) (y : Expr) → given ≡ left ++ a ∷ [] → ¬ (a ≡ spread y)
+  not_spread left a y last e =
+      let alone : given ≡ spread y ∷ [] = last_alone left a last ∙ ap (λ b. b ∷ []) e in
+      absurd (let f : false ≡ true = sym (ap is_some (one_of_spread y [])) ∙ ap (λ g. is_some (only_one (row_of_arguments g))) (sym alone)
+      ∙ has_one in cc f)
+
+  pub called_with : (left : List Argument) (a : Argument) (y : Expr) → given ≡ left ++ a ∷ [] → a ≡ plain y →
+      stmts.EmitLoop y ≡ emit_statement x
+  called_with left a y last e =
+      let alone : given ≡ plain y ∷ [] = last_alone left a last ∙ ap (λ b. b ∷ []) e in
+      let found : loop_argument x ≡ Some y = its_argument ∙ ap (λ g. only_one (row_of_arguments g)) alone ∙ one_of_plain y in
+      sym (ap (λ o. call_or_emit o x) found)
+
+pub plain-is : (x : Expr) → is_plain (arguments.Plain x) ≡ true
+unfolding hidden hidden-the_row-Expr-0
+plain-is x = refl
+
+pub spread-is : (x : Expr) → is_plain (arguments.Spread x) ≡ false
+unfolding hidden hidden-the_row-Expr-0
+spread-is x = refl
+
+pub plain-form : (x : Expr) → arguments.Plain x ≡ plain x
+unfolding hidden hidden-the_row-Expr-0
+plain-form x = refl
+
+pub spread-form : (x : Expr) → arguments.Spread x ≡ spread x
+unfolding hidden hidden-the_row-Expr-0
+spread-form x = refl

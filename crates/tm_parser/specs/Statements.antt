@@ -14,6 +14,7 @@ use Rattle.tm_syntax.specs.declared.tree.Expr.{more_of-Keyword as keyword_and, R
 use Rattle.tm_syntax.specs.declared.tree.Expr.{end_of-Step as no_step, more_of-Step as more_steps}
 use Rattle.tm_syntax.specs.declared.tree.Application.TheVariants as applications
 use Rattle.tm_syntax.specs.declared.tree.Step.{Step, Apply', Call' as Called}
+use Rattle.tm_syntax.specs.declared.tree.Argument.{Argument}
 use Rattle.tm_syntax.specs.Forms.{plain, spread, chained as chained_steps}
 use Rattle.tm_syntax.specs.declared.tree.Expr.TheVariants as exprs
 use Rattle.tm_syntax.specs.declared.tree.AssignmentTarget.{AssignmentTarget}
@@ -80,6 +81,10 @@ lone t = do
 -- the same name once more, or none
 abbrev pub same_name : List ℕ → Rule (Unit {0})
 same_name name = branch (first a_name) (λ other. provided (pointwise nat_eq other name) (pure tt)) (pure tt)
+
+abbrev pub is_plain : Argument → Bool
+is_plain (plain x) = true
+is_plain (spread x) = false
 
 -- the value of the one argument by its place, where there is exactly one
 abbrev pub only_one : {n : _} → Row_of-Argument n → Option Expr

@@ -465,10 +465,13 @@ fn emit_statement(value: Boxed<Expr>) -> Stmt
     let Expr::Call(_, mut given, _) = value.into_inner() else {
         unreachable!()
     };
-    let Some(Argument::Plain(argument)) = given.pop() else {
+    let Some(argument) = given.pop() else {
         unreachable!()
     };
-    Stmt::EmitLoop(argument)
+    let Argument::Plain(value) = argument else {
+        unreachable!()
+    };
+    Stmt::EmitLoop(value)
 }
 
 /// Whether an expression is the call of `loop` with one argument, by its place.
@@ -478,7 +481,13 @@ fn is_call_of_loop(expr: &Expr) -> bool
 {
     match expr {
         Expr::Call(name, given, named) => {
-            name.is("loop") && named.is_empty() && is_one_value(given.as_slice())
+            if !name.is("loop") {
+                return false;
+            }
+            if !named.is_empty() {
+                return false;
+            }
+            is_one_value(given.as_slice())
         }
         _ => false,
     }
@@ -488,7 +497,20 @@ fn is_call_of_loop(expr: &Expr) -> bool
 fn is_one_value(given: &[Argument]) -> bool
     ensures { result ≡ is_some (spec.only_one (row_of_arguments given.now)) }
 {
-    matches!(given, [Argument::Plain(_)])
+    if given.len() != 1 {
+        return false;
+    }
+    is_plain(&given[0])
+}
+
+/// Whether an argument is a value.
+fn is_plain(argument: &Argument) -> bool
+    ensures { result ≡ spec.is_plain argument.now }
+{
+    match argument {
+        Argument::Plain(_) => true,
+        Argument::Spread(_) => false,
+    }
 }
 
 /// Whether an expression is the call of a name, of a method or of a value.
