@@ -1,5 +1,6 @@
 -- Pages with filters and tests.
-use Rattle.std.specs.Prelude.{ℕ, ◌-◌, ◌%◌, List, [], ◌∷◌, true, false, codes, drop, take, pos, nat_lt, nat_eq, ◌&&◌, map as each, if◌then◌else◌}
+use Rattle.std.specs.Prelude.{ℕ, ◌-◌, ◌%◌, List, [], ◌∷◌, true, false, codes, drop, take, pos, nat_lt, nat_eq, ◌&&◌, map as each}
+use Rattle.std.specs.Prelude.{if◌then◌else◌}
 use Rattle.tm_values.specs.Val.{Val, undefined, boolean, number, text}
 use Rattle.tm_values.specs.Order.{bytes_in}
 use Rattle.tm_values.specs.declared.undefined.UndefinedBehavior.{UndefinedBehavior}
@@ -143,6 +144,12 @@ filter_block =
 -- {% filter upper|substr(1) %}ab{% endfilter %}
 abbrev pub two_filters : Page
 two_filters = filter_page (one (filter_text (to_capitals ∷ rest_of_text ∷ []) (codes "ab")))
+
+-- {% filter upper|second("b") %}a{% endfilter %}
+abbrev pub last_counts : Page
+last_counts =
+    filter_page (one (filter_text (to_capitals ∷ Apply' applications.Filter (codes "second") (tt ∷ []) (argument
+    (plain (literal (codes "b"))) no_argument) [] no_keyword ∷ []) (codes "a")))
 
 abbrev pub in_html : Stmt → Page
 in_html s = filter_page (one (AutoEscape' (literal (codes "html")) (tt ∷ []) (statement s no_statement)))

@@ -5,8 +5,9 @@ use Rattle.tm_syntax.specs.declared.tree.Expr.{Expr, List', end_of-Expr as no_ex
 use Rattle.tm_syntax.specs.declared.tree.Step.{Attribute}
 use Rattle.tm_syntax.specs.declared.tree.AssignmentTarget.{Name as To}
 use Rattle.tm_syntax.specs.declared.tree.CaptureUse.TheVariants as uses
-use Rattle.tm_syntax.specs.declared.tree.Stmt.{Stmt, EmitExpr, For', Break, Continue, Set, CaptureBlock', With', end_of-Stmt as no_statement}
-use Rattle.tm_syntax.specs.declared.tree.Stmt.{more_of-Stmt as statement, Held-Stmt-If-2 as Otherwise, None' as no_else}
+use Rattle.tm_syntax.specs.declared.tree.Stmt.{Stmt, EmitExpr, For', Break, Continue, Set, CaptureBlock', With'}
+use Rattle.tm_syntax.specs.declared.tree.Stmt.{end_of-Stmt as no_statement, more_of-Stmt as statement, Held-Stmt-If-2 as Otherwise}
+use Rattle.tm_syntax.specs.declared.tree.Stmt.{None' as no_else}
 use Rattle.tm_syntax.specs.Forms.{binary}
 use Rattle.tm_meaning.specs.Tree.{body_of}
 use Rattle.tm_meaning.specs.Rows.{page, nothing, raw, named, one, a, else_one, and_one, literal_number, x, Page}

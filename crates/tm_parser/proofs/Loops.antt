@@ -173,7 +173,8 @@ pub ruleset iterations = (iterated_goes_on, iterated_comes_nearer, iterated_refu
 
 -- the same of filters
 module _ (i : Inside) where
-  pub filter_goes_on : (xs ys : List Step) (ts behind rest : List Token) (all : Read Token (List Step)) → (more_filters i xs).reads ts ≡ all →
+  pub filter_goes_on : (xs ys : List Step) (ts behind rest : List Token) (all : Read Token (List Step)) →
+      (more_filters i xs).reads ts ≡ all →
       (first (is sign.Bar)).sees ts ≡ got tt behind → (one_more i.filter xs).reads behind ≡ got ys rest →
       (more_filters i ys).reads rest ≡ all
   unfolding more_filters

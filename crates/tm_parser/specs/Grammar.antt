@@ -521,7 +521,7 @@ abbrev pub known : {A : Type 0} → Option A → Rule A
 known None = nothing
 known (Some x) = pure x
 
--- Each sign that goes on with a target: a filter behind one is none of its own.
+-- Each sign that goes on with a target. A bar ends one: the filters of a set block stand behind its target.
 abbrev pub target_link : Sign → Option Link
 target_link sign.Dot = Some links.Member
 target_link sign.OpenSquare = Some links.Item

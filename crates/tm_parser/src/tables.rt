@@ -175,7 +175,7 @@ pub fn negated_link_of(sign: Sign) -> Option<(u8, Link)>
     })
 }
 
-/// How a sign goes on with a target.
+/// How a sign goes on with a target, which a bar ends.
 pub fn target_link(sign: Sign) -> Option<Link>
     ensures { result ≡ grammar.target_link sign }
 {
