@@ -1,8 +1,11 @@
 -- What a test's object answers.
-use Rattle.std.specs.Prelude.{Option, Ok, Err}
+use Rattle.std.specs.Prelude.{ℕ, List, [], ◌∷◌, Option, Some, None, true, false, map, Ok, Err}
+use Rattle.std.specs.Char.{to_ascii_uppercase}
 use Rattle.tm_values.specs.Answer.{Answer}
-use Rattle.tm_values.specs.Val.{Val}
+use Rattle.tm_values.specs.Val.{Val, none, text, text_in, undefined}
+use Rattle.tm_values.specs.declared.undefined.UndefinedBehavior.TheVariants.{Lenient}
 use Rattle.tm_definitions.specs.Members.{or_undefined}
+use Rattle.tm_definitions.specs.Slices.{sliced}
 use Rattle.tm_meaning.specs.declared.reply.Reply.{Reply}
 use Rattle.tm_meaning.specs.declared.reply.Reply.TheVariants.{Value as gives, Fault as faults}
 
@@ -10,3 +13,31 @@ use Rattle.tm_meaning.specs.declared.reply.Reply.TheVariants.{Value as gives, Fa
 abbrev pub reply_of_found : Answer (Option Val) → Reply
 reply_of_found (Ok found) = gives (or_undefined found)
 reply_of_found (Err chain) = faults chain
+
+-- the value of an operation, or its fault
+abbrev pub reply_of : Answer Val → Reply
+reply_of (Ok v) = gives v
+reply_of (Err chain) = faults chain
+
+-- what is made of a value's text; undefined where there is none
+abbrev pub of_text : (List ℕ → Val) → Option (List ℕ) → Val
+of_text f None = undefined false
+of_text f (Some t) = f t
+
+-- in capitals of ASCII, which isn't safe
+abbrev pub in_capitals : List ℕ → Val
+in_capitals t = text (map to_ascii_uppercase t) false
+
+abbrev pub as_safe : List ℕ → Val
+as_safe t = text t true
+
+-- of the text of the first of arguments
+abbrev pub of_first : (List ℕ → Val) → List Val → Val
+of_first f [] = undefined false
+of_first f (v ∷ vs) = of_text f (text_in v)
+
+-- the part of the first of arguments from the second on, up to the third where there is one
+abbrev pub part_of : List Val → Reply
+part_of (v ∷ from ∷ []) = reply_of (sliced Lenient v from none none)
+part_of (v ∷ from ∷ to ∷ []) = reply_of (sliced Lenient v from to none)
+part_of _ = gives (undefined false)

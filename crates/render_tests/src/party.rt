@@ -6,8 +6,12 @@ ghost use Rattle.tm_definitions.specs.Members.{or_undefined};
 ghost use Rattle.tm_meaning.specs.World.{find_name};
 ghost use Rattle.tm_meaning.specs.declared.reply.Reply.TheVariants.{Value as gives, Fault as faults};
 ghost use Rattle.tm_tables.specs.Stated.{IsStated, just, keeping};
-ghost use Rattle.render_tests.specs.Found.{reply_of_found};
+ghost use Rattle.render_tests.specs.Found.{as_safe, in_capitals, of_first, of_text, part_of, reply_of, reply_of_found};
 ghost use Rattle.render_tests.specs.declared.party.Party.TheVariants.{Second, Last, Keeper, Reader, Title, Seen, Faulty};
+ghost use Rattle.render_tests.specs.declared.party.Party.TheVariants.{Upper, Safe, Substr};
+ghost use Rattle.tm_values.specs.Val.{none, text_in};
+ghost use Rattle.tm_values.specs.declared.undefined.UndefinedBehavior.TheVariants.{Lenient};
+ghost use Rattle.tm_definitions.specs.Slices.{sliced};
 
 use std::alloc::Global;
 use template_machine::*;
@@ -29,6 +33,12 @@ pub(crate) enum Party {
     Seen,
     /// Answers a fault.
     Faulty(ErrorKind),
+    /// Answers its first argument's text in capitals of ASCII.
+    Upper,
+    /// Answers its first argument's text as a safe one.
+    Safe,
+    /// Answers the part of its first argument from its second on, up to its third where there is one.
+    Substr,
 }
 
 impl Callable for Party {
@@ -41,6 +51,9 @@ impl Callable for Party {
       | Title ↦ λ args view. just (gives (text view.name false))
       | Seen ↦ λ args view. just (reply_of_found (find_name view (codes "g")))
       | Faulty kind ↦ λ args view. just (faults (kind ∷ []))
+      | Upper ↦ λ args view. just (gives (of_first in_capitals args))
+      | Safe ↦ λ args view. just (gives (of_first as_safe args))
+      | Substr ↦ λ args view. just (part_of args)
     ] };
 
     fn call(&self, alloc: Global, args: &[Value], view: &View<'_>) -> CallableAnswer {
@@ -63,6 +76,9 @@ impl Callable for Party {
                 Err(error) => CallableAnswer::fault(alloc, error),
             },
             Party::Faulty(kind) => CallableAnswer::fault(alloc, Error::from(*kind)),
+            Party::Upper => upper(alloc, args),
+            Party::Safe => safe(alloc, args),
+            Party::Substr => substr(alloc, args),
         }
     }
 }
@@ -78,6 +94,83 @@ fn shared(alloc: Global, found: Option<&Value>) -> CallableAnswer
         },
         None => CallableAnswer::value(alloc, Value::undefined()),
     }
+}
+
+/// Answers what an operation gave.
+fn answered(alloc: Global, given: Result<Value, Error>) -> CallableAnswer
+    ensures { result ≡ just (reply_of given) }
+{
+    match given {
+        Ok(value) => CallableAnswer::value(alloc, value),
+        Err(error) => CallableAnswer::fault(alloc, error),
+    }
+}
+
+/// Answers the text of the first argument in capitals of ASCII; undefined where there is none.
+fn upper(alloc: Global, args: &[Value]) -> CallableAnswer
+    ensures { IsStated result (just (gives (of_first in_capitals args.now))) }
+{
+    match args {
+        [value, ..] => capitals(alloc, value),
+        _ => CallableAnswer::value(alloc, Value::undefined()),
+    }
+}
+
+/// Answers a text in capitals of ASCII; undefined of another value.
+fn capitals(alloc: Global, value: &Value) -> CallableAnswer
+    ensures { IsStated result (just (gives (of_text in_capitals (text_in value.now)))) }
+{
+    let Some(text) = value.as_str() else {
+        return CallableAnswer::value(alloc, Value::undefined());
+    };
+    match text.to_ascii_uppercase(alloc) {
+        Ok(capitals) => answered(alloc, Value::text(alloc, capitals.as_str())),
+        Err(error) => CallableAnswer::fault(alloc, Error::from(error)),
+    }
+}
+
+/// Answers the text of the first argument as a safe one; undefined where there is none.
+fn safe(alloc: Global, args: &[Value]) -> CallableAnswer
+    ensures { IsStated result (just (gives (of_first as_safe args.now))) }
+{
+    match args {
+        [value, ..] => marked(alloc, value),
+        _ => CallableAnswer::value(alloc, Value::undefined()),
+    }
+}
+
+/// Answers a text as a safe one; undefined of another value.
+fn marked(alloc: Global, value: &Value) -> CallableAnswer
+    ensures { IsStated result (just (gives (of_text as_safe (text_in value.now)))) }
+{
+    match value.as_str() {
+        Some(text) => answered(alloc, Value::safe_text(alloc, text)),
+        None => CallableAnswer::value(alloc, Value::undefined()),
+    }
+}
+
+/// Answers the part of the first argument from the second on, up to the third where there is one;
+/// undefined where these aren't the arguments.
+fn substr(alloc: Global, args: &[Value]) -> CallableAnswer
+    ensures { IsStated result (just (part_of args.now)) }
+{
+    match args {
+        [value, from] => part(alloc, value, from, &Value::none()),
+        [value, from, to] => part(alloc, value, from, to),
+        _ => CallableAnswer::value(alloc, Value::undefined()),
+    }
+}
+
+/// Answers the part of a value from one place up to another.
+fn part(alloc: Global, value: &Value, from: &Value, to: &Value) -> CallableAnswer
+    ensures { IsStated result (just (reply_of (sliced Lenient value.now from.now to.now none))) }
+{
+    let step = Value::none();
+    let lenient = UndefinedBehavior::Lenient;
+    answered(
+        alloc,
+        operations::slice(alloc, value, from, to, &step, lenient),
+    )
 }
 
 /// An environment of such functions.
@@ -110,6 +203,9 @@ static FILTERS: &[(&str, Party)] = &[
     ("gone", Party::Second),
     ("keep", Party::Keeper),
     ("missing", Party::Faulty(ErrorKind::MissingArgument)),
+    ("upper", Party::Upper),
+    ("safe", Party::Safe),
+    ("substr", Party::Substr),
 ];
 
 static TESTS: &[(&str, Party)] = &[

@@ -100,6 +100,32 @@ pub(crate) const FILTERS: &str = r#"Filters and tests of the caller.
 - {{ 1 is not not }} =>  => SyntaxError
 - {{ 1 is in in [1] }} => true => 6"#;
 
+/// Filters of what bodies write.
+pub(crate) const FILTER_BLOCKS: &str = r#"Filters of what bodies write.
+- {% filter upper %}a{{ 1 }}b{% endfilter %} => A1B => 7
+- {% filter upper|substr(1) %}ab{% endfilter %} => B => 6
+- {% filter substr(1, 3) | upper %}ab{{ w }}{% endfilter %} => BW => 9
+- {% filter my . second([1, 2]) %}a{% endfilter %}! => [1, 2]! => 8
+- {% filter keep %}a{% endfilter %}{{ read() }} => 21 => 6 => keeps k
+- {% filter upper %}{% filter substr(1) %}ab{% endfilter %}c{% endfilter %} => BC => 9
+- {% filter upper %}{% block b %}q{% endblock %}{% endfilter %} => Q => 5
+- {% set x | upper | substr(1) %}ab{% endset %}{{ x }} => B => 8
+- {% set a, b | second([1, 2]) %}{% endset %}{{ b }}{{ a }} => 21 => 12
+- {% set a, | second([1]) %}{% endset %}{{ a }} => 1 => 8
+- {% set ns = namespace() %}{% set ns.x|upper %}a{% endset %}{{ ns.x }} => A => 10
+- {% for x in [1,2] %}{% filter upper %}{% break %}{% endfilter %}{% endfor %}! => ! => 8
+- {% for x in [1,2] %}{% filter nope %}{{ x }}{% continue %}{% endfilter %}{% endfor %}! => ! => 17
+- {% for x in [1] %}{% set y | nope %}a{% break %}{% endset %}{% endfor %}[{{ y }}] => [] => 11
+- a{% filter upper %}b{{ nope() }}{% endfilter %} => a => UnknownFunction
+- a{% filter nope %}b{% endfilter %} => a => UnknownFilter
+- a{% filter missing %}b{% endfilter %} => a => MissingArgument
+- a{% set a, b | upper %}b{% endset %} => a => CannotUnpack
+- {% filter %}a{% endfilter %} =>  => SyntaxError
+- {% filter upper | %}a{% endfilter %} =>  => SyntaxError
+- {% endfilter %} =>  => SyntaxError
+- {% set x | %}a{% endset %} =>  => SyntaxError
+- {% set a.b | upper = 1 %} =>  => SyntaxError"#;
+
 /// Operators, conditions and literals.
 pub(crate) const EXPRESSIONS: &str = r#"Operators, conditions and literals.
 - {{ 2 ** 3 ** 2 }} => 64 => 6

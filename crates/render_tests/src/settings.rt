@@ -149,10 +149,11 @@ fn expect_table<'source>(
     Ok(())
 }
 
-static TABLES: [&str; 21] = [
+static TABLES: [&str; 22] = [
     rows::TEXTS,
     rows::CALLS,
     rows::FILTERS,
+    rows::FILTER_BLOCKS,
     rows::EXPRESSIONS,
     rows::SCOPES,
     loops::LOOPS,
@@ -252,6 +253,8 @@ const SETTINGS: &str =
 - @name p.html
 - {{ '<' }}{{ '<' ~ '>' }} => &lt;&lt;&gt; => ok
 - {% set x %}<b>{% endset %}{{ x }} => <b> => ok
+- {% filter upper %}<b>{% endfilter %} => &lt;B&gt; => 4
+- {% filter safe %}<b>{{ "<i>" }}{% endfilter %} => <b>&lt;i&gt; => 6
 - {% autoescape false %}{% set x %}<b>{% endset %}{% endautoescape %}{{ x }} => &lt;b&gt; => ok
 - @name p.html.j2
 - {{ '<' }} => &lt; => ok

@@ -21,7 +21,7 @@ pub use tm_operations as operations;
 pub use tm_output::{Target, TargetFailed};
 pub use tm_parts::{Counted, Limited, NullWriter, Output, Sink, WriteWrapper};
 pub use tm_printing as printing;
-pub use tm_syntax::{Assignment, AssignmentTarget, Code};
+pub use tm_syntax::{Assignment, AssignmentTarget, CaptureUse, Code};
 pub use tm_tables::{
     Answering, Callable, CallableAnswer, Called, FuelTracker, Objects, Parties, Plain, View,
 };

@@ -8,7 +8,7 @@ ghost use Rattle.tm_syntax.specs.Code.{exprs_code, pairs_code};
 ghost use Rattle.tm_syntax.specs.Code.{argument_code, arguments_code, listed_code, lists_code, count_lists};
 ghost use Rattle.tm_syntax.specs.Code.{keyword_code, keywords_code, count_maps, named_code, together};
 ghost use Rattle.tm_syntax.specs.Code.{passing_code, passed_count};
-ghost use Rattle.tm_syntax.specs.Code.{step_code, steps_code, row_code, links_code};
+ghost use Rattle.tm_syntax.specs.Code.{filters_code, step_code, steps_code, row_code, links_code};
 ghost use Rattle.tm_syntax.specs.Fragments.{straight, over};
 ghost use Rattle.tm_syntax.specs.declared.tree.Argument.TheBlock.{hidden-the_row-Expr-1 as exprs};
 ghost use Rattle.tm_syntax.specs.declared.tree.Argument.TheBlock.{hidden-the_row-Pair-2 as pairs};
@@ -461,6 +461,17 @@ fn push_steps(code: &mut Builder, after: &[Step]) -> Result<(), Error>
 {
     for step in after {
         push_step(code, step)?;
+    }
+    Ok(())
+}
+
+/// Adds the code of filters of the topmost value, from the left; OutOfMemory.
+pub(crate) fn push_filters(code: &mut Builder, filters: &[Step]) -> Result<(), Error>
+    ensures ok { OnOk result (code.new ≡ put (filters_code filters.now) code.old) }
+    ensures err { IfErr result (λ e. e ≡ OutOfMemory ∷ []) }
+{
+    for filter in filters {
+        push_step(code, filter)?;
     }
     Ok(())
 }

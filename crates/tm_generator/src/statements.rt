@@ -8,21 +8,21 @@ ghost use Rattle.tm_syntax.specs.Fragments.{◌⨾◌, over};
 ghost use Rattle.tm_syntax.specs.Named.{put as put_named, put_each};
 ghost use Rattle.tm_syntax.specs.declared.jump.JumpKind.TheVariants.{IfFalse};
 ghost use Rattle.tm_syntax.specs.declared.tree.Stmt.TheBlock.{hidden-the_row-Stmt-0 as statements};
-ghost use Rattle.tm_syntax.specs.declared.tree.Stmt.TheVariants.{AutoEscape, Block, Break};
-ghost use Rattle.tm_syntax.specs.declared.tree.Stmt.TheVariants.{Continue, Do, For, If, SetBlock, With};
+ghost use Rattle.tm_syntax.specs.declared.tree.Stmt.TheVariants.{AutoEscape, Block, Break, CaptureBlock};
+ghost use Rattle.tm_syntax.specs.declared.tree.Stmt.TheVariants.{Continue, Do, For, If, With};
 ghost use Rattle.tm_values.specs.declared.error.ErrorKind.TheVariants.{OutOfMemory};
 
 use crate::builder::Builder;
 use crate::enclosing::Enclosing;
-use crate::expressions::push_expr;
+use crate::expressions::{push_expr, push_filters};
 use crate::loops::push_iterable;
-use crate::targets::{push_assignments, push_set, push_target};
+use crate::targets::{push_assignments, push_set, push_target, push_use};
 use sqlite_items::Items;
 use std::alloc::Global;
 use std::mem;
 use tm_syntax::{
-    Assignment, AssignmentTarget, CaptureMode, Code, Expr, ForLoop, Instruction, JumpKind,
-    LoopFlags, Name, NameMap, Opened, Stmt,
+    Assignment, CaptureMode, CaptureUse, Code, Expr, ForLoop, Instruction, JumpKind, LoopFlags,
+    Name, NameMap, Opened, Step, Stmt,
 };
 use tm_values::Error;
 
@@ -67,7 +67,9 @@ fn push_statement(
         Stmt::Continue => push_continue(stream),
         Stmt::Block(name, body) => push_call_of_block(stream, blocks, name, body.as_slice()),
         Stmt::Set(target, value) => push_set(&mut stream.code, target, value.get()),
-        Stmt::SetBlock(target, body) => push_set_block(stream, blocks, target, body.as_slice()),
+        Stmt::CaptureBlock(becomes, filters, body) => {
+            push_capture(stream, blocks, becomes, filters.as_slice(), body.as_slice())
+        }
         Stmt::With(given, body) => push_with(stream, blocks, given.as_slice(), body.as_slice()),
         Stmt::Do(call) => push_do(stream, call.get()),
         Stmt::AutoEscape(value, body) => push_escaped(stream, blocks, value.get(), body.as_slice()),
@@ -126,26 +128,28 @@ fn push_call_of_block(
     stream.code.emit(Instruction::CallBlock(name.share()?))
 }
 
-/// Adds the code of a set block, like that of a statement; OutOfMemory.
+/// Adds the code of a set block or a filter block, like that of a statement; OutOfMemory.
 #[cycle(statements)]
 #[inline(never)]
-fn push_set_block(
+fn push_capture(
     stream: &mut StreamBuilder,
     blocks: &mut NameMap<Code>,
-    target: &AssignmentTarget,
+    becomes: &CaptureUse,
+    filters: &[Step],
     body: &[Stmt],
 ) -> Result<(), Error>
-    ensures code { OnOk result (stream.new ≡ put_in
-        (statement_code stream.old.enclosing (SetBlock target.now body.now)) stream.old) }
-    ensures blocks { OnOk result
-        (blocks.new ≡ put_each (compiled_blocks (blocks_of (SetBlock target.now body.now))) blocks.old) }
+    ensures code { OnOk result (stream.new ≡ put_in (statement_code stream.old.enclosing
+        (CaptureBlock becomes.now filters.now body.now)) stream.old) }
+    ensures blocks { OnOk result (blocks.new ≡ put_each
+        (compiled_blocks (blocks_of (CaptureBlock becomes.now filters.now body.now))) blocks.old) }
     ensures err { IfErr result (λ e. e ≡ OutOfMemory ∷ []) }
 {
     let capture = Instruction::BeginCapture(CaptureMode::Capture);
     stream.code.emit(capture)?;
     push_within(stream, blocks, Opened::Capture, body)?;
     stream.code.emit(Instruction::EndCapture)?;
-    push_target(&mut stream.code, target)
+    push_filters(&mut stream.code, filters)?;
+    push_use(&mut stream.code, becomes)
 }
 
 /// Adds the code of a `with`, like that of a statement; OutOfMemory.

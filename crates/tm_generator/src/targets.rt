@@ -2,12 +2,13 @@
 ghost use Rattle.std.specs.Prelude.{◌≡◌, [], ◌∷◌, OnOk, IfErr};
 ghost use Rattle.tm_generator.specs.Building.{put};
 ghost use Rattle.tm_syntax.specs.Code.{target_code, targets_code, set_code, assignments_code};
+ghost use Rattle.tm_syntax.specs.Code.{use_code};
 ghost use Rattle.tm_syntax.specs.declared.tree.AssignmentTarget.TheBlock.{hidden-the_row-AssignmentTarget-0 as targets};
 ghost use Rattle.tm_values.specs.declared.error.ErrorKind.TheVariants.{OutOfMemory};
 
 use crate::builder::Builder;
 use crate::expressions::push_expr;
-use tm_syntax::{Assignment, AssignmentTarget, Expr, Instruction};
+use tm_syntax::{Assignment, AssignmentTarget, CaptureUse, Expr, Instruction};
 use tm_values::Error;
 
 /// Adds the code that gives the topmost value to a target; OutOfMemory.
@@ -63,4 +64,15 @@ pub(crate) fn push_assignments(code: &mut Builder, given: &[Assignment]) -> Resu
         push_set(code, &assignment.target, assignment.value.get())?;
     }
     Ok(())
+}
+
+/// Adds the code of what becomes of the text of a capture; OutOfMemory.
+pub(crate) fn push_use(code: &mut Builder, becomes: &CaptureUse) -> Result<(), Error>
+    ensures ok { OnOk result (code.new ≡ put (use_code becomes.now) code.old) }
+    ensures err { IfErr result (λ e. e ≡ OutOfMemory ∷ []) }
+{
+    match becomes {
+        CaptureUse::Emit => code.emit(Instruction::Emit),
+        CaptureUse::Assign(target) => push_target(code, target),
+    }
 }

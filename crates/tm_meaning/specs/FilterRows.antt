@@ -1,5 +1,6 @@
 -- Pages with filters and tests.
-use Rattle.std.specs.Prelude.{ℕ, ◌-◌, ◌%◌, List, [], ◌∷◌, false, codes, pos, nat_lt, nat_eq, ◌&&◌, map as each, if◌then◌else◌}
+use Rattle.std.specs.Prelude.{ℕ, ◌-◌, ◌%◌, List, [], ◌∷◌, true, false, codes, drop, take, pos, nat_lt, nat_eq, ◌&&◌, map as each}
+use Rattle.std.specs.Prelude.{if◌then◌else◌}
 use Rattle.tm_values.specs.Val.{Val, undefined, boolean, number, text}
 use Rattle.tm_values.specs.Order.{bytes_in}
 use Rattle.tm_values.specs.declared.undefined.UndefinedBehavior.{UndefinedBehavior}
@@ -8,14 +9,18 @@ use Rattle.tm_syntax.specs.declared.tree.Application.TheVariants as applications
 use Rattle.tm_syntax.specs.declared.tree.Expr.{Expr, end_of-Argument as no_argument, more_of-Argument as argument}
 use Rattle.tm_syntax.specs.declared.tree.Expr.{end_of-Keyword as no_keyword, end_of-Step as no_step, more_of-Step as step}
 use Rattle.tm_syntax.specs.declared.tree.UnaryOperator.TheVariants as unaries
-use Rattle.tm_syntax.specs.declared.tree.Step.{Apply'}
-use Rattle.tm_syntax.specs.declared.tree.Stmt.{EmitExpr}
+use Rattle.tm_syntax.specs.declared.tree.Step.{Step, Apply'}
+use Rattle.tm_syntax.specs.declared.tree.CaptureUse.TheVariants as uses
+use Rattle.tm_syntax.specs.declared.tree.Stmt.{Stmt, EmitExpr, Break, CaptureBlock', AutoEscape', end_of-Stmt as no_statement}
+use Rattle.tm_syntax.specs.declared.tree.Stmt.{more_of-Stmt as statement, None' as no_else}
 use Rattle.tm_syntax.specs.Forms.{chained, plain, unary}
 use Rattle.tm_meaning.specs.World.{Object}
 use Rattle.tm_meaning.specs.CallRows.{answers}
 use Rattle.tm_meaning.specs.declared.reply.Reply.{Reply}
 use Rattle.tm_meaning.specs.declared.reply.Reply.TheVariants.{Value as gives}
-use Rattle.tm_meaning.specs.Rows.{Page, page, one, nothing, literal, literal_number, and_one}
+use Rattle.tm_meaning.specs.Tree.{Body}
+use Rattle.tm_meaning.specs.Rows.{Page, page, one, two, nothing, literal, literal_number, and_one, raw, to_x, x}
+use Rattle.tm_meaning.specs.LoopRows.{for_x, numbers}
 
 -- ---------------------------------------------------------------- objects
 abbrev pub first_of : List Val → Val
@@ -38,6 +43,17 @@ abbrev pub second : Object
 second (v ∷ x ∷ vs) view = answers (gives x)
 second vs view = answers (gives nothing)
 
+-- the part of the first from the place of the second argument on, up to that of the third where there is one
+abbrev pub substr : Object
+substr (v ∷ from ∷ []) view = answers (gives (text (drop (whole_of from) (bytes_in v)) false))
+substr (v ∷ from ∷ to ∷ vs) view =
+    answers (gives (text (take (whole_of to - whole_of from) (drop (whole_of from) (bytes_in v))) false))
+substr vs view = answers (gives nothing)
+
+-- the first argument as a safe text
+abbrev pub safe : Object
+safe vs view = answers (gives (text (bytes_in (first_of vs)) true))
+
 -- whether the first is odd
 abbrev pub odd : Object
 odd vs view = answers (gives (boolean (nat_eq (whole_of (first_of vs) % 2) 1)))
@@ -52,11 +68,14 @@ abbrev pub unsure : Object
 unsure vs view = answers (gives (undefined false))
 
 -- ---------------------------------------------------------------- pages
-abbrev pub filtering : Expr → Page
-filtering e = record (page (one (EmitExpr e)) nothing) {
-  filters = (codes "second", second) ∷ (codes "upper", upper) ∷ [];
+abbrev pub filter_page : Body → Page
+filter_page body = record (page body nothing) {
+  filters = (codes "safe", safe) ∷ (codes "second", second) ∷ (codes "substr", substr) ∷ (codes "upper", upper) ∷ [];
   tests = (codes "divisible", divisible) ∷ (codes "odd", odd) ∷ (codes "u", unsure) ∷ [];
 }
+
+abbrev pub filtering : Expr → Page
+filtering e = filter_page (one (EmitExpr e))
 
 abbrev pub under : UndefinedBehavior → Page → Page
 under behavior p = record p { undefined = behavior }
@@ -101,3 +120,64 @@ is_unsure = filtering (passed_alone applications.Test (literal_number 1) (codes 
 -- a name that nothing of its kind has
 abbrev pub unknown : Application → List ℕ → Page
 unknown k x = filtering (passed_alone k (literal_number 1) x)
+
+-- ---------------------------------------------------------------- filters of captures
+abbrev pub to_capitals : Step
+to_capitals = Apply' applications.Filter (codes "upper") [] no_argument [] no_keyword
+
+abbrev pub to_safe : Step
+to_safe = Apply' applications.Filter (codes "safe") [] no_argument [] no_keyword
+
+-- from the second character on
+abbrev pub rest_of_text : Step
+rest_of_text = Apply' applications.Filter (codes "substr") (tt ∷ []) (argument (plain (literal_number 1)) no_argument) [] no_keyword
+
+abbrev pub filter_text : List Step → List ℕ → Stmt
+filter_text filters t = CaptureBlock' uses.Emit filters (tt ∷ []) (statement (raw t) no_statement)
+
+-- {% filter upper %}a{{ "1" }}b{% endfilter %}
+abbrev pub filter_block : Page
+filter_block =
+    filter_page (one (CaptureBlock' uses.Emit (to_capitals ∷ []) (tt ∷ tt ∷ tt ∷ []) (statement (raw (codes "a"))
+    (statement (EmitExpr (literal (codes "1"))) (statement (raw (codes "b")) no_statement)))))
+
+-- {% filter upper|substr(1) %}ab{% endfilter %}
+abbrev pub two_filters : Page
+two_filters = filter_page (one (filter_text (to_capitals ∷ rest_of_text ∷ []) (codes "ab")))
+
+-- {% filter upper|second("b") %}a{% endfilter %}
+abbrev pub last_counts : Page
+last_counts =
+    filter_page (one (filter_text (to_capitals ∷ Apply' applications.Filter (codes "second") (tt ∷ []) (argument
+    (plain (literal (codes "b"))) no_argument) [] no_keyword ∷ []) (codes "a")))
+
+abbrev pub in_html : Stmt → Page
+in_html s = filter_page (one (AutoEscape' (literal (codes "html")) (tt ∷ []) (statement s no_statement)))
+
+-- {% autoescape "html" %}{% filter upper %}<b>{% endfilter %}{% endautoescape %}
+abbrev pub capitals_in_html : Page
+capitals_in_html = in_html (filter_text (to_capitals ∷ []) (codes "<b>"))
+
+-- {% autoescape "html" %}{% filter safe %}<b>{{ "<i>" }}{% endfilter %}{% endautoescape %}
+abbrev pub safe_in_html : Page
+safe_in_html =
+    in_html (CaptureBlock' uses.Emit (to_safe ∷ []) (tt ∷ tt ∷ []) (statement (raw (codes "<b>"))
+    (statement (EmitExpr (literal (codes "<i>"))) no_statement)))
+
+-- {% set x | upper | substr(1) %}ab{% endset %}{{ x }}
+abbrev pub set_filtered : Page
+set_filtered =
+    filter_page (two (CaptureBlock' to_x (to_capitals ∷ rest_of_text ∷ []) (tt ∷ []) (statement (raw (codes "ab")) no_statement))
+    (EmitExpr x))
+
+-- {% for x in [1,2] %}{% filter upper %}{% break %}{% endfilter %}{% endfor %}!
+abbrev pub break_in_filter : Page
+break_in_filter =
+    filter_page (two (for_x (numbers 1 2) (CaptureBlock' uses.Emit (to_capitals ∷ []) (tt ∷ []) (statement Break no_statement)) no_else)
+    (raw (codes "!")))
+
+-- a{% filter upper %}b{{ 1|nope }}{% endfilter %}
+abbrev pub fault_in_filter : Page
+fault_in_filter =
+    filter_page (two (raw (codes "a")) (CaptureBlock' uses.Emit (to_capitals ∷ []) (tt ∷ tt ∷ []) (statement (raw (codes "b"))
+    (statement (EmitExpr (passed_alone applications.Filter (literal_number 1) (codes "nope"))) no_statement))))

@@ -4,8 +4,10 @@ use Rattle.tm_syntax.specs.declared.tree.BinaryOperator.TheVariants as binaries
 use Rattle.tm_syntax.specs.declared.tree.Expr.{Expr, List', end_of-Expr as no_expr, more_of-Expr as expr}
 use Rattle.tm_syntax.specs.declared.tree.Step.{Attribute}
 use Rattle.tm_syntax.specs.declared.tree.AssignmentTarget.{Name as To}
-use Rattle.tm_syntax.specs.declared.tree.Stmt.{Stmt, EmitExpr, For', Break, Continue, Set, SetBlock', With', end_of-Stmt as no_statement}
-use Rattle.tm_syntax.specs.declared.tree.Stmt.{more_of-Stmt as statement, Held-Stmt-If-2 as Otherwise, None' as no_else}
+use Rattle.tm_syntax.specs.declared.tree.CaptureUse.TheVariants as uses
+use Rattle.tm_syntax.specs.declared.tree.Stmt.{Stmt, EmitExpr, For', Break, Continue, Set, CaptureBlock', With'}
+use Rattle.tm_syntax.specs.declared.tree.Stmt.{end_of-Stmt as no_statement, more_of-Stmt as statement, Held-Stmt-If-2 as Otherwise}
+use Rattle.tm_syntax.specs.declared.tree.Stmt.{None' as no_else}
 use Rattle.tm_syntax.specs.Forms.{binary}
 use Rattle.tm_meaning.specs.Tree.{body_of}
 use Rattle.tm_meaning.specs.Rows.{page, nothing, raw, named, one, a, else_one, and_one, literal_number, x, Page}
@@ -35,7 +37,7 @@ broken_round = page (one (for_x (alone_in_list (literal_number 1)) Break (else_o
 abbrev pub break_in_capture : Page
 break_in_capture =
     page (body_of
-    (statement (for_x (alone_in_list (literal_number 1)) (SetBlock' (To (codes "y")) (tt ∷ tt ∷ [])
+    (statement (for_x (alone_in_list (literal_number 1)) (CaptureBlock' (uses.Assign (To (codes "y"))) [] (tt ∷ tt ∷ [])
     (statement (raw (codes "a")) (statement Break no_statement))) no_else)
     (statement (raw (codes "[")) (statement (EmitExpr (named (codes "y"))) (statement (raw (codes "]")) no_statement))))) nothing
 

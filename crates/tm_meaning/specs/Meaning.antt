@@ -37,7 +37,9 @@ use Rattle.tm_syntax.specs.declared.tree.AssignmentTarget.{AssignmentTarget, Nam
 use Rattle.tm_syntax.specs.declared.tree.AssignmentTarget.{Row_of-AssignmentTarget}
 use Rattle.tm_syntax.specs.declared.tree.AssignmentTarget.{end_of-AssignmentTarget as no_target, more_of-AssignmentTarget as target}
 use Rattle.tm_syntax.specs.declared.tree.Assignment.{Assignment}
-use Rattle.tm_syntax.specs.declared.tree.Stmt.{Stmt, EmitRaw, EmitExpr, EmitLoop, If', For', Break, Continue, Block', Set, SetBlock'}
+use Rattle.tm_syntax.specs.declared.tree.CaptureUse.{CaptureUse}
+use Rattle.tm_syntax.specs.declared.tree.CaptureUse.TheVariants as uses
+use Rattle.tm_syntax.specs.declared.tree.Stmt.{Stmt, EmitRaw, EmitExpr, EmitLoop, If', For', Break, Continue, Block', Set, CaptureBlock'}
 use Rattle.tm_syntax.specs.declared.tree.Stmt.{With', Do, AutoEscape', Row_of-Stmt, end_of-Stmt as no_statement}
 use Rattle.tm_syntax.specs.declared.tree.Stmt.{more_of-Stmt as statement, Held-Stmt-If-2 as Otherwise, None' as no_else}
 use Rattle.tm_syntax.specs.declared.tree.Stmt.{Some' as otherwise}
@@ -380,6 +382,11 @@ abbrev mutual
   eval_steps u run no_step v w = Good v w
   eval_steps u run (step s ss) v w = bind (eval_step u run s v w) (λ x world1. eval_steps u run ss x world1)
 
+-- what filters make of a value, from the left
+abbrev pub filtered : Under → Run → List Step → Val → World → Res Val
+filtered u run [] v w = Good v w
+filtered u run (f ∷ more) v w = bind (eval_step u run f v w) (λ x world1. filtered u run more x world1)
+
 -- ---------------------------------------------------------------- targets
 abbrev mutual
   pub assign : Under → Run → AssignmentTarget → Val → World → Res (Unit {0})
@@ -425,6 +432,11 @@ captured o run out f = captured_by o.ending o (record run { parent = o.parent })
 abbrev pub emit : Under → Run → List ℕ → Val → World → Outcome
 emit u run out v w =
     use_it (tick w) run out (λ _ world1. use_it (emitted u.host v world1) run out (λ t world2. so_far run (say run t out) world2))
+
+-- what becomes of the text of a capture
+abbrev pub use_text : Under → Run → CaptureUse → Val → List ℕ → World → Outcome
+use_text u run uses.Emit v out w = emit u run out v w
+use_text u run (uses.Assign t) v out w = use_it (assign u run t v w) run out (λ _ world1. so_far run out world1)
 
 -- behind the first part of an `if` that has a second
 abbrev pub behind_first : Otherwise → Run → Outcome → Outcome
@@ -509,10 +521,10 @@ abbrev mutual
   exec u at Continue run out w = ended next run out w
   exec u at (Block' b _ body) run out w = use_it (tick w) run out (λ _ world1. block_tag u run b out world1)
   exec u at (Set t e) run out w = use_it (set_to u run t e w) run out (λ _ world1. so_far run out world1)
-  exec u at (SetBlock' t _ body) run out w =
+  exec u at (CaptureBlock' becomes filters _ body) run out w =
       captured (exec_all u at body (capturing true run) [] w) run out (λ run1 x world1.
       use_it (tick world1) run1 out (λ _ world2.
-      use_it (assign u run1 t (captured_text x world2) world2) run1 out (λ _ world3. so_far run1 out world3)))
+      use_it (filtered u run1 filters (captured_text x world2) world2) run1 out (λ v world3. use_text u run1 becomes v out world3)))
   exec u at (With' given _ body) run out w =
       use_it (push u.host (plain_scope (undefined false)) w) run out (λ _ world1.
       use_it (set_each u run given world1) run out (λ _ world2. closing pop (exec_all u at body run out world2)))

@@ -17,7 +17,9 @@ use Rattle.tm_syntax.specs.declared.tree.AssignmentTarget.{AssignmentTarget, Nam
 use Rattle.tm_syntax.specs.declared.tree.AssignmentTarget.{end_of-AssignmentTarget as no_target}
 use Rattle.tm_syntax.specs.declared.tree.AssignmentTarget.{more_of-AssignmentTarget as target}
 use Rattle.tm_syntax.specs.declared.tree.Assignment.{Assignment}
-use Rattle.tm_syntax.specs.declared.tree.Stmt.{Stmt, EmitRaw, EmitExpr, If', Block', Set, SetBlock', With', AutoEscape'}
+use Rattle.tm_syntax.specs.declared.tree.CaptureUse.{CaptureUse}
+use Rattle.tm_syntax.specs.declared.tree.CaptureUse.TheVariants as uses
+use Rattle.tm_syntax.specs.declared.tree.Stmt.{Stmt, EmitRaw, EmitExpr, If', Block', Set, CaptureBlock', With', AutoEscape'}
 use Rattle.tm_syntax.specs.declared.tree.Stmt.{end_of-Stmt as no_statement, more_of-Stmt as statement, Held-Stmt-If-2 as Otherwise}
 use Rattle.tm_syntax.specs.declared.tree.Stmt.{None' as no_else, Some' as otherwise}
 use Rattle.tm_syntax.specs.Forms.{unary, chained, conditional, with_condition, with_comparison, binary, compare, and_then, or_else}
@@ -339,15 +341,18 @@ abbrev pub set_attribute : Page
 set_attribute = page (one (Set (Member a (codes "b")) (literal_number 1))) nothing
 
 -- ---------------------------------------------------------------- captures and escapes
+abbrev pub to_x : CaptureUse
+to_x = uses.Assign (To (codes "x"))
+
 abbrev pub set_text : List ℕ → Stmt
-set_text t = SetBlock' (To (codes "x")) (tt ∷ []) (statement (raw t) no_statement)
+set_text t = CaptureBlock' to_x [] (tt ∷ []) (statement (raw t) no_statement)
 
 abbrev pub x : Expr
 x = named (codes "x")
 
 -- {% set x %}a{{ 1 }}{% endset %}{{ x }}
 abbrev pub set_block : Page
-set_block = page (two (SetBlock' (To (codes "x")) (tt ∷ tt ∷ []) (statement (raw (codes "a"))
+set_block = page (two (CaptureBlock' to_x [] (tt ∷ tt ∷ []) (statement (raw (codes "a"))
     (statement (EmitExpr (literal_number 1)) no_statement))) (EmitExpr x)) nothing
 
 -- {% autoescape e %}{% set x %}<{% endset %}{% endautoescape %}{% autoescape "html" %}{{ x }}{% endautoescape %}
@@ -364,9 +369,9 @@ escaped_by e =
 
 -- b{% set x %}a{{ nope() }}{% endset %}
 abbrev pub fault_in_capture : Page
-fault_in_capture = page (two (raw (codes "b")) (SetBlock' (To (codes "x")) (tt ∷ tt ∷ [])
+fault_in_capture = page (two (raw (codes "b")) (CaptureBlock' to_x [] (tt ∷ tt ∷ [])
     (statement (raw (codes "a")) (statement (EmitExpr (Call' (codes "nope") [] no_argument [] no_keyword)) no_statement)))) nothing
 
 -- {% set a, b %}1{% endset %}
 abbrev pub set_block_of_two : Page
-set_block_of_two = page (one (SetBlock' to_a_and_b (tt ∷ []) (statement (raw (codes "1")) no_statement))) nothing
+set_block_of_two = page (one (CaptureBlock' (uses.Assign to_a_and_b) [] (tt ∷ []) (statement (raw (codes "1")) no_statement))) nothing

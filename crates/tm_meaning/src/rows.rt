@@ -23,11 +23,12 @@ ghost use Rattle.tm_meaning.specs.CallRows.{called_behind_its_end, range_of_thre
 ghost use Rattle.tm_meaning.specs.CallRows.{summed, do_call, last_function, faulty, calling, keep_and_read};
 ghost use Rattle.tm_meaning.specs.CallRows.{unknown_behind};
 ghost use Rattle.tm_meaning.specs.FilterRows.{in_capitals, one_after_the_other, not_odd, divided, not_divided};
-ghost use Rattle.tm_meaning.specs.FilterRows.{is_unsure, under, unknown};
 ghost use Rattle.tm_meaning.specs.Rows.{x};
 ghost use Rattle.tm_meaning.specs.SpreadRows.{sum_of_lists, sum_of_both, sum_of_items, spread_to_filter};
 ghost use Rattle.tm_meaning.specs.SpreadRows.{dict_of_maps, dict_between, dict_of_pairs, range_of_both};
 ghost use Rattle.tm_meaning.specs.SpreadRows.{namespace_of_one, called_item, called_number, called_text};
+ghost use Rattle.tm_meaning.specs.FilterRows.{is_unsure, under, unknown, filter_block, two_filters, last_counts, set_filtered};
+ghost use Rattle.tm_meaning.specs.FilterRows.{capitals_in_html, safe_in_html, break_in_filter, fault_in_filter};
 ghost use Rattle.tm_syntax.specs.declared.tree.Application.TheVariants.{Filter, Test, NegatedTest};
 ghost use Rattle.tm_values.specs.declared.undefined.UndefinedBehavior.TheVariants.{SemiStrict, Strict};
 ghost use Rattle.tm_values.specs.declared.error.ErrorKind.TheVariants.{UnknownFilter, UnknownTest};
@@ -265,6 +266,22 @@ pub fn callee_rows()
     ensures item { Charges called_item (decimal 3) 8 }
     ensures number { Says called_number 1000 [] 996 (InvalidOperation ∷ []) }
     ensures text { Says called_text 1000 [] 998 (InvalidOperation ∷ []) }
+{}
+
+/// `{% filter upper %}a{{ "1" }}b{% endfilter %}`, `{% filter upper|substr(1) %}ab{% endfilter %}`,
+/// `{% filter upper|second("b") %}a{% endfilter %}`, how the texts of filter blocks are escaped,
+/// `{% set x | upper | substr(1) %}ab{% endset %}{{ x }}`, and a filter block that is left by
+/// `break`, by the end of fuel and by a fault.
+pub fn filter_block_rows()
+    ensures one_filter { Charges filter_block (codes "A1B") 7 }
+    ensures two_filters { Charges two_filters (codes "B") 6 }
+    ensures in_order { Charges last_counts (codes "b") 6 }
+    ensures not_safe { Charges capitals_in_html (codes "&lt;B&gt;") 5 }
+    ensures safe { Charges safe_in_html (codes "<b>&lt;i&gt;") 7 }
+    ensures set_block { Charges set_filtered (codes "B") 8 }
+    ensures broken { Charges break_in_filter (codes "!") 8 }
+    ensures fuel_ends_inside { Says two_filters 5 [] 0 (OutOfFuel ∷ []) }
+    ensures fault_inside { Fails fault_in_filter (codes "a") (UnknownFilter ∷ []) }
 {}
 
 /// Loops that are called: `{{ loop(x) }}` in place, over `[[]]`, a number, in a loop that can't be

@@ -5,6 +5,7 @@ use Rattle.tm_syntax.specs.declared.token.Token.{Token}
 use Rattle.tm_syntax.specs.declared.token.Sign.{Sign}
 use Rattle.tm_syntax.specs.declared.token.Sign.TheVariants as sign
 use Rattle.tm_syntax.specs.declared.tree.Expr.{Expr}
+use Rattle.tm_syntax.specs.declared.tree.Step.{Step}
 use Rattle.tm_syntax.specs.declared.tree.AssignmentTarget.{AssignmentTarget}
 use Rattle.tm_grammar.specs.Meanings.{Read, got}
 use Rattle.tm_grammar.specs.Rule.{Rule, Look}
@@ -14,7 +15,7 @@ use Rattle.tm_values.specs.Answer.{Refused}
 use Rattle.tm_parser.specs.declared.primaries.Passed.{Passed}
 use Rattle.tm_parser.specs.Grammar.{is, more_parts, one_part}
 use Rattle.tm_parser.specs.Grammar.{Inside, more_items, comma, one_passed, more_passed, single, more_targets, target_comma, whole}
-use Rattle.tm_parser.specs.Statements.{iterated_comma, more_iterated}
+use Rattle.tm_parser.specs.Statements.{iterated_comma, more_filters, more_iterated}
 
 -- Another reason for the same refusal.
 pub because : {P Q : Type 0} (chain : List ErrorKind) → (P → Q) → Refused chain P → Refused chain Q
@@ -169,6 +170,33 @@ module _ (i : Inside) where
   iterated_ends xs ts rest all = ends iterated_comma (λ _. whole i) xs ts all rest
 
 pub ruleset iterations = (iterated_goes_on, iterated_comes_nearer, iterated_refuses, iterated_ends)
+
+-- the same of filters
+module _ (i : Inside) where
+  pub filter_goes_on : (xs ys : List Step) (ts behind rest : List Token) (all : Read Token (List Step)) →
+      (more_filters i xs).reads ts ≡ all →
+      (first (is sign.Bar)).sees ts ≡ got tt behind → (one_more i.filter xs).reads behind ≡ got ys rest →
+      (more_filters i ys).reads rest ≡ all
+  unfolding more_filters
+  filter_goes_on xs ys ts behind rest all = goes_on (first (is sign.Bar)) (λ _. i.filter) xs ts all tt behind ys rest
+
+  pub filter_comes_nearer : (xs ys : List Step) (ts behind rest : List Token) → (first (is sign.Bar)).sees ts ≡ got tt behind →
+      (one_more i.filter xs).reads behind ≡ got ys rest → length rest < length ts
+  filter_comes_nearer xs ys ts behind rest = comes_nearer (first (is sign.Bar)) (λ _. i.filter) xs ts tt behind ys rest
+
+  pub filter_refuses : (xs : List Step) (ts behind : List Token) (all : Read Token (List Step)) (chain : List ErrorKind) →
+      (more_filters i xs).reads ts ≡ all →
+      (first (is sign.Bar)).sees ts ≡ got tt behind → Refused chain ((one_more i.filter xs).reads behind ≡ None) →
+      Refused chain (all ≡ None)
+  unfolding more_filters
+  filter_refuses xs ts behind all chain = refuses (first (is sign.Bar)) (λ _. i.filter) xs ts all tt behind chain
+
+  pub filter_ends : (xs : List Step) (ts rest : List Token) (all : Read Token (List Step)) → (more_filters i xs).reads ts ≡ all →
+      ((first (is sign.Bar)).sees ts ≡ None) × (rest ≡ ts) → all ≡ got xs rest
+  unfolding more_filters
+  filter_ends xs ts rest all = ends (first (is sign.Bar)) (λ _. i.filter) xs ts all rest
+
+pub ruleset bars = (filter_goes_on, filter_comes_nearer, filter_refuses, filter_ends)
 
 -- the same of the names of a dotted name
 pub part_goes_on : (x y : List ℕ) (ts behind rest : List Token) (all : Read Token (List ℕ)) → (more_parts x).reads ts ≡ all →

@@ -12,7 +12,7 @@ use Rattle.tm_syntax.specs.declared.tree.Step.{Step}
 use Rattle.tm_syntax.specs.declared.tree.Step.TheVariants as steps
 use Rattle.tm_syntax.specs.declared.tree.AssignmentTarget.TheVariants as target_forms
 use Rattle.tm_grammar.specs.Meanings.{got}
-use Rattle.tm_parser.specs.Grammar.{inside, expr, operand, chained, compared, conditional, target}
+use Rattle.tm_parser.specs.Grammar.{inside, expr, operand, filter_step, chained, compared, conditional, target}
 use Rattle.tm_parser.specs.Grammar.{target_of, lone_target, last_target, attribute_name, split_last, are_none}
 use Rattle.tm_parser.specs.Statements.{inner, body, rest, else_or_end, loop_head}
 
@@ -46,6 +46,18 @@ pub inner_operand : (depth level : ℕ) (ts : List Token) → ¬ (depth ≡ 0) �
 unfolding inside
 inner_operand zero level ts h = absurd (h refl)
 inner_operand (suc depth) level ts h = ap (λ k. (operand (inside k) level).reads ts) (sym (suc-sub-one depth))
+
+pub no_filter : (depth : ℕ) (ts : List Token) → depth ≡ 0 → (inside depth).filter.reads ts ≡ None
+unfolding inside
+no_filter depth ts h = ap (λ k. (inside k).filter.reads ts) h
+
+pub inner_filter : (depth : ℕ) (ts : List Token) → ¬ (depth ≡ 0) →
+    (inside depth).filter.reads ts ≡ (filter_step (inside (depth - 1))).reads ts
+unfolding inside
+inner_filter zero ts h = absurd (h refl)
+inner_filter (suc depth) ts h = ap (λ k. (filter_step (inside k)).reads ts) (sym (suc-sub-one depth))
+
+pub ruleset filters = (no_filter, inner_filter)
 
 pub ruleset expressions = (no_room, some_room, no_expr, inner_expr, no_operand, inner_operand)
 

@@ -146,6 +146,7 @@ pub record Inside : Type 1 where
   pub expr : Rule Expr
   -- an operand of a level
   pub operand : ℕ → Rule Expr
+  pub filter : Rule Step
   pub target : Rule AssignmentTarget
 
 -- a comma with another item behind it, in a list that ends with this sign
@@ -551,11 +552,26 @@ abbrev pub known : {A : Type 0} → Option A → Rule A
 known None = nothing
 known (Some x) = pure x
 
+-- Each sign that goes on with a target. A bar ends one: the filters of a set block stand behind its target.
+abbrev pub target_link : Sign → Option Link
+target_link sign.Dot = Some links.Member
+target_link sign.OpenSquare = Some links.Item
+target_link sign.Is = Some links.Test
+target_link _ = None
+
+abbrev pub a_target_link : Token → Option Link
+a_target_link (tokens.Sign s) = target_link s
+a_target_link _ = None
+
+-- as many steps of a target as there are
+abbrev pub target_steps_from : Inside → List Step → Rule (List Step)
+target_steps_from i xs = many_from (first a_target_link) (step i (operand i postfix_level) postfix_level) xs
+
 -- a name or an attribute
 unfoldable pub member : Inside → Rule AssignmentTarget
 member i = do
   x ← operand i postfix_level
-  ss ← steps_from i (operand i postfix_level) postfix_level []
+  ss ← target_steps_from i []
   known (target_of x ss)
 
 -- a target with no comma outside brackets
@@ -573,6 +589,7 @@ ends_target (tokens.Sign sign.Assign) = Some tt
 ends_target (tokens.Sign sign.In) = Some tt
 ends_target (tokens.Sign sign.CloseRound) = Some tt
 ends_target (tokens.Sign sign.BlockEnd) = Some tt
+ends_target (tokens.Sign sign.Bar) = Some tt
 ends_target _ = None
 
 -- a comma with another target behind it
@@ -601,5 +618,11 @@ target i = do
 
 -- what may stand inside n nestings more
 unfoldable pub inside : ℕ → Inside
-inside zero = record { room = nothing; expr = nothing; operand = λ level. nothing; target = nothing }
-inside (suc n) = record { room = pure tt; expr = expr (inside n); operand = operand (inside n); target = target (inside n) }
+inside zero = record { room = nothing; expr = nothing; operand = λ level. nothing; filter = nothing; target = nothing }
+inside (suc n) = record {
+  room = pure tt;
+  expr = expr (inside n);
+  operand = operand (inside n);
+  filter = filter_step (inside n);
+  target = target (inside n);
+}

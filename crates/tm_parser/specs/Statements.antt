@@ -19,12 +19,13 @@ use Rattle.tm_syntax.specs.Forms.{plain, spread, chained as chained_steps}
 use Rattle.tm_syntax.specs.declared.tree.Expr.TheVariants as exprs
 use Rattle.tm_syntax.specs.declared.tree.AssignmentTarget.{AssignmentTarget}
 use Rattle.tm_syntax.specs.declared.tree.Assignment.{Assignment}
+use Rattle.tm_syntax.specs.declared.tree.CaptureUse.TheVariants as uses
 use Rattle.tm_syntax.specs.declared.tree.Stmt.{Stmt}
 use Rattle.tm_syntax.specs.declared.tree.Stmt.TheVariants as stmts
 use Rattle.tm_parser.specs.declared.tables.Start.{Start}
 use Rattle.tm_parser.specs.declared.tables.Start.TheVariants as starts
 use Rattle.tm_parser.specs.declared.targets.LoopHead.{LoopHead}
-use Rattle.tm_grammar.specs.Combinators.{provided, first, nothing, pure, ◌>>=◌, branch, token, not_before, many_from}
+use Rattle.tm_grammar.specs.Combinators.{provided, first, nothing, pure, ◌>>=◌, branch, token, not_before, one_more, many_from}
 use Rattle.tm_grammar.specs.Rule.{Look}
 use Rattle.tm_parser.specs.Looks.{ahead}
 use Rattle.tm_parser.specs.Grammar.{Rule, is, a_name, is_comma, Inside, inside, items, whole, expr, target}
@@ -57,6 +58,7 @@ start_of tags.Break = Some starts.Break
 start_of tags.Continue = Some starts.Continue
 start_of tags.Block = Some starts.Block
 start_of tags.Set = Some starts.Set
+start_of tags.Filter = Some starts.Filter
 start_of tags.With = Some starts.With
 start_of tags.Do = Some starts.Do
 start_of tags.Autoescape = Some starts.AutoEscape
@@ -250,18 +252,32 @@ set_value i to = do
   x ← bare i
   pure (stmts.Set to x)
 
+-- filters behind these, each behind a bar
+unfoldable pub more_filters : Inside → List Step → Rule (List Step)
+more_filters i xs = many_from (first (is sign.Bar)) (λ _. i.filter) xs
+
 -- what stands behind the target of a `set` without `=`
-unfoldable pub set_block : Inner → Bool → AssignmentTarget → Rule Stmt
-set_block t looping to = do
+unfoldable pub set_block : Inside → Inner → Bool → AssignmentTarget → Rule Stmt
+set_block i t looping to = do
+  filters ← more_filters i []
   close ← block_end
   body ← t.body looping
   last ← lone tags.Endset
-  pure (stmts.SetBlock to body)
+  pure (stmts.CaptureBlock (uses.Assign to) filters body)
 
 unfoldable pub set_tag : Inside → Inner → Bool → Rule Stmt
 set_tag i t looping = do
   to ← target i
-  branch (first (is sign.Assign)) (λ _. set_value i to) (set_block t looping to)
+  branch (first (is sign.Assign)) (λ _. set_value i to) (set_block i t looping to)
+
+unfoldable pub filter_tag : Inside → Inner → Bool → Rule Stmt
+filter_tag i t looping = do
+  one ← one_more i.filter []
+  filters ← more_filters i one
+  close ← block_end
+  body ← t.body looping
+  last ← lone tags.Endfilter
+  pure (stmts.CaptureBlock uses.Emit filters body)
 
 unfoldable pub assignment : Inside → Rule Assignment
 assignment i = do
@@ -319,6 +335,7 @@ statement i t looping starts.Break = jump looping stmts.Break
 statement i t looping starts.Continue = jump looping stmts.Continue
 statement i t looping starts.Block = block_tag t
 statement i t looping starts.Set = set_tag i t looping
+statement i t looping starts.Filter = filter_tag i t looping
 statement i t looping starts.With = with_tag i t looping
 statement i t looping starts.Do = do_tag i
 statement i t looping starts.AutoEscape = autoescape_tag i t looping

@@ -4,7 +4,7 @@ use Rattle.std.specs.Str.{bytes_eq}
 use Rattle.std.specs.Borrow.{Bor}
 use Rattle.std.specs.List.{IsDistinct}
 use Rattle.tm_syntax.specs.declared.token.Token.{Token}
-use Rattle.tm_syntax.specs.declared.tree.Stmt.{Stmt, EmitRaw, EmitExpr, EmitLoop, If', For', Break, Continue, Block', Set, SetBlock'}
+use Rattle.tm_syntax.specs.declared.tree.Stmt.{Stmt, EmitRaw, EmitExpr, EmitLoop, If', For', Break, Continue, Block', Set, CaptureBlock'}
 use Rattle.tm_syntax.specs.declared.tree.Stmt.{With', Do, AutoEscape', Row_of-Stmt, end_of-Stmt as no_statement}
 use Rattle.tm_syntax.specs.declared.tree.Stmt.{more_of-Stmt as statement, Held-Stmt-If-2 as Otherwise, None' as no_else}
 use Rattle.tm_syntax.specs.declared.tree.Stmt.{Some' as otherwise}
@@ -25,7 +25,7 @@ abbrev mutual
   names_of Continue = []
   names_of (Block' name _ body) = name ∷ names_in body
   names_of (Set to x) = []
-  names_of (SetBlock' to _ body) = names_in body
+  names_of (CaptureBlock' becomes filters _ body) = names_in body
   names_of (With' given _ body) = names_in body
   names_of (Do x) = []
   names_of (AutoEscape' x _ body) = names_in body

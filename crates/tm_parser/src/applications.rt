@@ -3,9 +3,11 @@ ghost use Rattle.std.specs.Prelude.{◌≡◌, ◌++◌, ◌∷◌, [], codes, M
 ghost use Rattle.tm_parser.specs.Parses.{Parses};
 ghost use Rattle.tm_parser.specs.Grammar.{inside, call_step, dotted, filter_step, given, more_parts, one_part};
 ghost use Rattle.tm_parser.specs.Grammar.{passed_to_test, test_name, test_step, tested};
+ghost use Rattle.tm_parser.specs.Statements.{more_filters};
+ghost use Rattle.tm_grammar.specs.Combinators.{one_more};
 ghost use Rattle.tm_values.specs.declared.error.ErrorKind.TheVariants.{OutOfMemory};
 
-use crate::cursor::Cursor;
+use crate::cursor::{Cursor, refusal};
 use crate::primaries::Passed;
 use sqlite_items::Items;
 use std::alloc::Global;
@@ -24,6 +26,49 @@ impl Cursor<'_> {
         self.room(depth)?;
         let given = self.all_passed(alloc, depth)?;
         Ok(Step::Call(given.by_place, given.by_name))
+    }
+
+    /// More filters behind others, each behind a bar and inside one nesting more.
+    #[tactic(auto, using(crate::proofs::Loops::bars))]
+    pub fn more_filters(
+        &mut self,
+        alloc: Global,
+        depth: u8,
+        first: Items<Step>,
+    ) -> Result<Items<Step>, Error>
+        ensures { Parses result self.new ((more_filters (inside depth) first).reads self.old) }
+    {
+        let mut filters = first;
+        while self.take(Sign::Bar) {
+            filters = self.one_filter(alloc, depth, filters)?;
+        }
+        Ok(filters)
+    }
+
+    /// A filter inside one nesting more, at the end of others.
+    pub fn one_filter(
+        &mut self,
+        alloc: Global,
+        depth: u8,
+        filters: Items<Step>,
+    ) -> Result<Items<Step>, Error>
+        ensures { Parses result self.new
+            ((one_more (inside depth).filter filters).reads self.old) }
+    {
+        let mut filters = filters;
+        filters.push(self.inner_filter(alloc, depth)?)?;
+        Ok(filters)
+    }
+
+    /// A filter inside one nesting more.
+    #[tactic(auto, using(crate::proofs::Nesting::filters))]
+    fn inner_filter(&mut self, alloc: Global, depth: u8) -> Result<Step, Error>
+        ensures { Parses result self.new ((inside depth).filter.reads self.old) }
+    {
+        if depth == 0 {
+            return Err(refusal());
+        }
+        self.filter_step(alloc, depth - 1)
     }
 
     /// A filter, and its arguments behind the value.

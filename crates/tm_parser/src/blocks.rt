@@ -58,7 +58,7 @@ fn add_names_of<'t>(names: &mut Vec<&'t str>, statement: &'t Stmt) -> Result<(),
             names.push(name.as_str())?;
             add_names(names, body.as_slice())
         }
-        Stmt::SetBlock(_, body) => add_names(names, body.as_slice()),
+        Stmt::CaptureBlock(_, _, body) => add_names(names, body.as_slice()),
         Stmt::With(_, body) => add_names(names, body.as_slice()),
         Stmt::AutoEscape(_, body) => add_names(names, body.as_slice()),
     }

@@ -2,7 +2,7 @@
 ghost use Rattle.std.specs.Prelude.{◌≡◌, ◌∷◌, [], ◌↔◌, IsTrue, MatchResult, is_some};
 ghost use Rattle.tm_parser.specs.Parses.{Parses, TakesFirst, TakesSign};
 ghost use Rattle.tm_parser.specs.Grammar.{is, a_name, a_constant, comma, ends_part, ends_target, is_comma, keyword_start, link};
-ghost use Rattle.tm_parser.specs.Grammar.{a_test_word, bare, is_kept, target_comma};
+ghost use Rattle.tm_parser.specs.Grammar.{a_target_link, a_test_word, bare, is_kept, target_comma};
 ghost use Rattle.tm_parser.specs.Levels.{GoesOnAt, prefix_up_to};
 ghost use Rattle.tm_parser.specs.Looks.{starts};
 ghost use Rattle.tm_parser.specs.Statements.{a_start, ends_iterated, is_tag, is_word, iterated_comma, lone, same_name};
@@ -12,7 +12,7 @@ ghost use Rattle.tm_syntax.specs.declared.token.Sign.TheVariants as sign;
 
 use crate::tables::{
     Link, POSTFIX_LEVEL, Start, constant_of, link_of, negated_link_of, prefix_of, start_of,
-    test_word,
+    target_link, test_word,
 };
 use sqlite_items::Boxed;
 use std::alloc::Global;
@@ -160,7 +160,9 @@ impl<'t> Cursor<'t> {
     {
         match self.rest {
             [
-                Token::Sign(Sign::Assign | Sign::In | Sign::CloseRound | Sign::BlockEnd),
+                Token::Sign(
+                    Sign::Assign | Sign::In | Sign::CloseRound | Sign::BlockEnd | Sign::Bar,
+                ),
                 ..
             ] => true,
             _ => false,
@@ -335,6 +337,22 @@ impl<'t> Cursor<'t> {
                 self.rest = rest;
                 Some(link)
             }
+            _ => None,
+        }
+    }
+
+    /// Takes what goes on with a target.
+    pub fn take_target_link(&mut self) -> Option<Link>
+        ensures { TakesFirst result self.old self.new (first_sees a_target_link self.old) }
+    {
+        match self.rest {
+            [Token::Sign(sign), rest @ ..] => match target_link(*sign) {
+                Some(link) => {
+                    self.rest = rest;
+                    Some(link)
+                }
+                None => None,
+            },
             _ => None,
         }
     }

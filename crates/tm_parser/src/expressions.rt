@@ -209,7 +209,7 @@ impl Cursor<'_> {
 
     /// The step of a link, at the end of others.
     #[cycle(expressions)]
-    fn one_step(
+    pub fn one_step(
         &mut self,
         alloc: Global,
         depth: u8,

@@ -4,8 +4,8 @@ ghost use Rattle.tm_parser.specs.Parses.{Parses};
 ghost use Rattle.tm_parser.specs.Grammar.{inside};
 ghost use Rattle.tm_parser.specs.Statements as spec;
 ghost use Rattle.tm_parser.specs.Statements.{autoescape_tag, block_end, block_tag, body, do_tag, elif_tag, else_or_end, else_tag};
-ghost use Rattle.tm_parser.specs.Statements.{emission, for_tag, if_tag, inner, jump, rest, set_block, set_tag, set_value, statement};
-ghost use Rattle.tm_parser.specs.Statements.{with_tag};
+ghost use Rattle.tm_parser.specs.Statements.{emission, filter_tag, for_tag, if_tag, inner, jump, rest, set_block, set_tag};
+ghost use Rattle.tm_parser.specs.Statements.{set_value, statement, with_tag};
 ghost use Rattle.tm_grammar.specs.Combinators.{one_more, provided};
 ghost use Rattle.tm_syntax.specs.declared.tree.Stmt.TheVariants.{Break, Continue};
 ghost use Rattle.tm_values.specs.declared.error.ErrorKind.TheVariants.{OutOfMemory};
@@ -17,7 +17,9 @@ use crate::tables::Start;
 use crate::targets::LoopHead;
 use sqlite_items::{Boxed, Items};
 use std::alloc::Global;
-use tm_syntax::{Application, Argument, AssignmentTarget, Expr, ForLoop, Sign, Step, Stmt, Tag};
+use tm_syntax::{
+    Application, Argument, AssignmentTarget, CaptureUse, Expr, ForLoop, Sign, Step, Stmt, Tag,
+};
 use tm_values::Error;
 
 // Each method reads one rule, with `depth` nestings to go, and where `looping` with a loop around
@@ -163,6 +165,7 @@ impl Cursor<'_> {
             Start::Continue => self.continue_tag(looping),
             Start::Block => self.block_tag(alloc, depth),
             Start::Set => self.set_tag(alloc, depth, looping),
+            Start::Filter => self.filter_tag(alloc, depth, looping),
             Start::With => self.with_tag(alloc, depth, looping),
             Start::Do => self.do_tag(alloc, depth),
             Start::AutoEscape => self.autoescape_tag(alloc, depth, looping),
@@ -368,7 +371,7 @@ impl Cursor<'_> {
         Ok(Stmt::Set(target, value))
     }
 
-    /// The body of a `set` without `=`, up to its end tag.
+    /// The filters and the body of a `set` without `=`, up to its end tag.
     #[cycle(statements)]
     #[tactic(auto, unfolding(crate::specs::Statements::set_block))]
     fn set_block(
@@ -378,12 +381,29 @@ impl Cursor<'_> {
         looping: bool,
         target: AssignmentTarget,
     ) -> Result<Stmt, Error>
-        ensures { Parses result self.new ((set_block (inner depth) looping target).reads self.old) }
+        ensures { Parses result self.new
+            ((set_block (inside depth) (inner depth) looping target).reads self.old) }
     {
+        let filters = self.more_filters(alloc, depth, Items::new(alloc))?;
         self.expect(Sign::BlockEnd)?;
         let body = self.inner_body(alloc, depth, looping)?;
         self.expect_lone(Tag::Endset)?;
-        Ok(Stmt::SetBlock(target, body))
+        Ok(Stmt::CaptureBlock(CaptureUse::Assign(target), filters, body))
+    }
+
+    /// The filters of a `filter` and its body, up to its end tag.
+    #[cycle(statements)]
+    #[tactic(auto, unfolding(crate::specs::Statements::filter_tag))]
+    fn filter_tag(&mut self, alloc: Global, depth: u8, looping: bool) -> Result<Stmt, Error>
+        ensures { Parses result self.new
+            ((filter_tag (inside depth) (inner depth) looping).reads self.old) }
+    {
+        let first = self.one_filter(alloc, depth, Items::new(alloc))?;
+        let filters = self.more_filters(alloc, depth, first)?;
+        self.expect(Sign::BlockEnd)?;
+        let body = self.inner_body(alloc, depth, looping)?;
+        self.expect_lone(Tag::Endfilter)?;
+        Ok(Stmt::CaptureBlock(CaptureUse::Emit, filters, body))
     }
 
     /// The assignments of a `with` and its body, up to its end tag.

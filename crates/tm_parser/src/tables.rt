@@ -48,6 +48,8 @@ pub enum Start {
     Block,
     /// The start of a `set`.
     Set,
+    /// The start of a `filter`.
+    Filter,
     /// The start of a `with`.
     With,
     /// The start of a `do`.
@@ -173,6 +175,18 @@ pub fn negated_link_of(sign: Sign) -> Option<(u8, Link)>
         | Sign::False
         | Sign::None => return None,
     })
+}
+
+/// How a sign goes on with a target, which a bar ends.
+pub fn target_link(sign: Sign) -> Option<Link>
+    ensures { result ≡ grammar.target_link sign }
+{
+    match sign {
+        Sign::Dot => Some(Link::Member),
+        Sign::OpenSquare => Some(Link::Item),
+        Sign::Is => Some(Link::Test),
+        _ => None,
+    }
 }
 
 /// The operator before an operand, and the level of the operand.
@@ -325,6 +339,7 @@ pub fn start_of(tag: Tag) -> Option<Start>
         Tag::Continue => Start::Continue,
         Tag::Block => Start::Block,
         Tag::Set => Start::Set,
+        Tag::Filter => Start::Filter,
         Tag::With => Start::With,
         Tag::Do => Start::Do,
         Tag::Autoescape => Start::AutoEscape,
@@ -334,6 +349,7 @@ pub fn start_of(tag: Tag) -> Option<Start>
         | Tag::Endfor
         | Tag::Endblock
         | Tag::Endset
+        | Tag::Endfilter
         | Tag::Endwith
         | Tag::Endautoescape => return None,
     })

@@ -3,7 +3,8 @@ ghost use Rattle.std.specs.Prelude.{◌≡◌, [], MatchResult, None, Some};
 ghost use Rattle.tm_parser.specs.Parses.{Parses};
 ghost use Rattle.tm_values.specs.Answer.{Refused};
 ghost use Rattle.tm_parser.specs.Grammar as grammar;
-ghost use Rattle.tm_parser.specs.Grammar.{inside, expr, items, member, more_items, more_targets, several, single, target, whole};
+ghost use Rattle.tm_parser.specs.Grammar.{inside, expr, items, member, more_items, more_targets, several, single, target};
+ghost use Rattle.tm_parser.specs.Grammar.{target_steps_from, whole};
 ghost use Rattle.tm_parser.specs.Statements.{assignment, bare, bare_tuple, loop_condition, inner, iterated, iterated_tuple, loop_head};
 ghost use Rattle.tm_parser.specs.Statements.{more_iterated};
 ghost use Rattle.tm_grammar.specs.Combinators.{one_more};
@@ -127,8 +128,19 @@ impl Cursor<'_> {
         ensures { Parses result self.new ((member (inside depth)).reads self.old) }
     {
         let value = self.operand(alloc, depth, POSTFIX_LEVEL)?;
-        let steps = self.steps(alloc, depth, POSTFIX_LEVEL)?;
+        let steps = self.target_steps(alloc, depth)?;
         target_of(alloc, value, steps)
+    }
+
+    /// As many steps of a target as there are.
+    fn target_steps(&mut self, alloc: Global, depth: u8) -> Result<Items<Step>, Error>
+        ensures { Parses result self.new ((target_steps_from (inside depth) []).reads self.old) }
+    {
+        let mut steps = Items::new(alloc);
+        while let Some(link) = self.take_target_link() {
+            steps = self.one_step(alloc, depth, POSTFIX_LEVEL, link, steps)?;
+        }
+        Ok(steps)
     }
 
     /// What a loop goes over, the condition of an item, whether it can be called, and the end of

@@ -49,6 +49,7 @@ tag_words =
     ∷ (codes "for", tag.For) ∷ (codes "endfor", tag.Endfor) ∷ (codes "break", tag.Break) ∷ (codes "continue", tag.Continue)
     ∷ (codes "block", tag.Block) ∷ (codes "endblock", tag.Endblock) ∷ (codes "set", tag.Set)
     ∷ (codes "endset", tag.Endset) ∷ (codes "with", tag.With) ∷ (codes "endwith", tag.Endwith) ∷ (codes "do", tag.Do)
+    ∷ (codes "filter", tag.Filter) ∷ (codes "endfilter", tag.Endfilter)
     ∷ (codes "autoescape", tag.Autoescape) ∷ (codes "endautoescape", tag.Endautoescape) ∷ []
 
 abbrev pub tag_of : List ℕ → Option Tag

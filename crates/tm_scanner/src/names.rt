@@ -155,6 +155,10 @@ pub(crate) fn tag_of(name: &str) -> Option<Tag>
         Some(Tag::Endwith)
     } else if is(name, "do") {
         Some(Tag::Do)
+    } else if is(name, "filter") {
+        Some(Tag::Filter)
+    } else if is(name, "endfilter") {
+        Some(Tag::Endfilter)
     } else if is(name, "autoescape") {
         Some(Tag::Autoescape)
     } else if is(name, "endautoescape") {

@@ -37,7 +37,7 @@ use Rattle.tm_meaning.specs.Meaning.{in_place_of, behind, truth, applied_unary, 
 use Rattle.tm_meaning.specs.Meaning.{eval_argument, eval_arguments, eval_keywords, eval_lists, one_counted, selected, loop_items}
 use Rattle.tm_meaning.specs.Meaning.{listed, mapped, merged_by, merged_values, items_of_lists, named_by, passed_by}
 use Rattle.tm_meaning.specs.Meaning.{under_condition, eval_conditions, eval_step, eval_links, eval_steps, assign, assign_all, set_to}
-use Rattle.tm_meaning.specs.Meaning.{set_each, capturing, turned}
+use Rattle.tm_meaning.specs.Meaning.{filtered, set_each, capturing, turned}
 use Rattle.tm_meaning.specs.declared.wrapping.Wrapping.{Wrapping}
 use Rattle.tm_simulation.specs.Chains.{Arises, wrapped as wraps}
 use Rattle.tm_simulation.proofs.Raised.{truth_raises, unary_raises, binary_raises, attribute_raises, item_raises, settable_raises}
@@ -399,6 +399,11 @@ module _ (u : Under) (nest_ends : (k : Callee) (heard : Bool) (out : List ℕ) (
 
   pub set_gives : (run : Run) (t : AssignmentTarget) (e : Expr) (w : World) → Gives u.host w (set_to u run t e w)
   set_gives run t e w = gives_bind u.host w (eval u run e w) _ (eval_gives run e w) (λ v world1. assign_gives run t v world1)
+
+  pub filtered_gives : (run : Run) (filters : List Step) (v : Val) (w : World) → Gives u.host w (filtered u run filters v w)
+  filtered_gives run [] v w = kept_same w
+  filtered_gives run (f ∷ more) v w = gives_bind u.host w (eval_step u run f v w) _ (step_gives run f v w)
+      (λ x world1. filtered_gives run more x world1)
 
   pub set_each_gives : (run : Run) (given : List Assignment) (w : World) → Gives u.host w (set_each u run given w)
   set_each_gives run [] w = kept_same w

@@ -2,22 +2,25 @@
 use Rattle.std.proofs.Common.{ℕ, ◌+◌, List, [], Option, Some, None, Bool, true, false, nat_lt, refl}
 use Rattle.tm_values.specs.Val.{Val, undefined}
 use Rattle.tm_values.specs.declared.error.ErrorKind.TheVariants.{InvalidOperation}
-use Rattle.tm_syntax.specs.declared.tree.Stmt.{Stmt, EmitRaw, EmitExpr, EmitLoop, If', For', Break, Continue, Block', Set, SetBlock', With'}
-use Rattle.tm_syntax.specs.declared.tree.Stmt.{Do, AutoEscape', Row_of-Stmt, end_of-Stmt as no_statement, more_of-Stmt as statement}
+use Rattle.tm_syntax.specs.declared.tree.CaptureUse.{CaptureUse}
+use Rattle.tm_syntax.specs.declared.tree.CaptureUse.TheVariants as uses
+use Rattle.tm_syntax.specs.declared.tree.Stmt.{Stmt, EmitRaw, EmitExpr, EmitLoop, If', For', Break, Continue, Block', Set, CaptureBlock'}
+use Rattle.tm_syntax.specs.declared.tree.Stmt.{With', Do, AutoEscape', Row_of-Stmt, end_of-Stmt as no_statement, more_of-Stmt as statement}
 use Rattle.tm_syntax.specs.declared.tree.Stmt.{Held-Stmt-If-2 as Otherwise, None' as no_else, Some' as otherwise}
 use Rattle.tm_syntax.specs.Loops.{passes, within_loop, past, pasts, FoundLoop}
 use Rattle.tm_meaning.specs.World.{World, answered, tick, pop, depth, emitted, escape_for, with_escape, captured_text}
 use Rattle.tm_meaning.specs.World.{plain_scope}
 use Rattle.tm_meaning.specs.Calls.{Callee}
 use Rattle.tm_meaning.specs.Meaning.{again_in, turn_of, Run, Outcome, Under, use_it, say, block_tag, truth, eval, loop_items, assign}
-use Rattle.tm_meaning.specs.Meaning.{set_to, set_each, capturing, loop_over, has_none, exec_behind_loop, emit, behind_first, exec, exec_all}
-use Rattle.tm_meaning.specs.Meaning.{exec_else}
+use Rattle.tm_meaning.specs.Meaning.{set_to, set_each, capturing, loop_over, has_none, exec_behind_loop, emit, filtered, use_text}
+use Rattle.tm_meaning.specs.Meaning.{behind_first, exec, exec_all, exec_else}
 use Rattle.tm_simulation.proofs.Advances.{kept_same, within, advances_within, kept_popped, advances_escaped, kept_unescaped}
 use Rattle.tm_simulation.proofs.Gives.{OutcomeKeeps, RunEnds, tick_gives, ends_here, ends_refused, ends_then, ends_use}
 use Rattle.tm_simulation.proofs.Gives.{ends_do, ends_leave, ends_next, choose_ends, ends_kept, ends_within, closing_ends, captured_ends}
 use Rattle.tm_simulation.proofs.Gives.{loop_ends}
 use Rattle.tm_simulation.proofs.Asks.{emitted_gives, escape_gives, block_asks, innermost_asks}
-use Rattle.tm_simulation.proofs.Evaluates.{place_ends, loop_items_give, assign_gives, set_each_gives, set_gives, eval_gives, truth_gives}
+use Rattle.tm_simulation.proofs.Evaluates.{place_ends, loop_items_give, assign_gives, filtered_gives, set_each_gives, set_gives}
+use Rattle.tm_simulation.proofs.Evaluates.{eval_gives, truth_gives}
 
 -- ---------------------------------------------------------------- statements
 module _ (u : Under) (nest_ends : (k : Callee) (heard : Bool) (out : List ℕ) (w : World) → RunEnds u.host w (u.nests k heard out w))
@@ -39,6 +42,13 @@ module _ (u : Under) (nest_ends : (k : Callee) (heard : Bool) (out : List ℕ) (
   tag_ends : (run : Run) (b : List ℕ) (out : List ℕ) (w : World) → OutcomeKeeps u.host w (block_tag u run b out w)
   tag_ends run b out w = choose_ends u.host w _ _ _ (place_ends u nest_ends again_ends w run out _ (block_asks u.host b w))
       (ends_here u.host w w run out (kept_same w))
+
+  use_ends : (run : Run) (becomes : CaptureUse) (v : Val) (out : List ℕ) (w : World) →
+      OutcomeKeeps u.host w (use_text u run becomes v out w)
+  use_ends run uses.Emit v out w = emit_ends run out v w
+  use_ends run (uses.Assign t) v out w =
+      ends_use u.host w (assign u run t v w) run out _ (assign_gives u nest_ends again_ends run t v w)
+      (λ _ world1. ends_here u.host world1 world1 run out (kept_same world1))
 
   mutual
     pub exec_ends : (at : ℕ) (s : Stmt) (run : Run) (out : List ℕ) (w : World) → OutcomeKeeps u.host w (exec u at s run out w)
@@ -79,13 +89,13 @@ module _ (u : Under) (nest_ends : (k : Callee) (heard : Bool) (out : List ℕ) (
         (λ run1 out1 world2. behind_loop_ends (pasts (within_loop c at) body) other (has_none vs) run1 out1 world2))
     exec_ends at Break run out w = ends_leave u.host w run out
     exec_ends at Continue run out w = ends_next u.host w run out
-    exec_ends at (SetBlock' t _ body) run out w =
+    exec_ends at (CaptureBlock' becomes filters _ body) run out w =
         captured_ends u.host w run out (exec_all u at body (capturing true run) [] w) _ (execs_end at body (capturing true run) [] w)
         (λ run1 x world1.
         ends_use u.host world1 (tick world1) run1 out _ (tick_gives u.host world1) (λ _ world2.
-        ends_use u.host world2 (assign u run1 t (captured_text x world2) world2) run1 out _
-        (assign_gives u nest_ends again_ends run1 t (captured_text x world2) world2)
-        (λ _ world3. ends_here u.host world3 world3 run1 out (kept_same world3))))
+        ends_use u.host world2 (filtered u run1 filters (captured_text x world2) world2) run1 out _
+        (filtered_gives u nest_ends again_ends run1 filters (captured_text x world2) world2)
+        (λ v world3. use_ends run1 becomes v out world3)))
     exec_ends at (AutoEscape' e _ body) run out w =
         ends_use u.host w (eval u run e w) run out _ (eval_gives u nest_ends again_ends run e w) (λ v world1.
         ends_use u.host world1 (answered (escape_for run.first v) world1) run out _

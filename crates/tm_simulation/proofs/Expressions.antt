@@ -549,7 +549,7 @@ module _ (setting : Setting) where
         (onto_both ms (v ∷ ns) stack) g))))))
 
     -- A step's code replaces the value on top.
-    step_runs : (x : Step) (run : Run) (s : Spot) (l : Labels) (pc : ℕ) (v : Val) (stack : List Val) (w : World) → Here setting run s w →
+    pub step_runs : (x : Step) (run : Run) (s : Spot) (l : Labels) (pc : ℕ) (v : Val) (stack : List Val) (w : World) → Here setting run s w →
         In s l pc (step_code x) →
         Follows context (told s) (eval_step u run x v w) (λ y world1. Go context s (beyond pc (step_code x)) (y ∷ stack) world1) →
         Go context s pc (v ∷ stack) w

@@ -3,7 +3,7 @@ use Rattle.std.proofs.Common.{◌≡◌, ℕ, ◌+◌, List, [], ◌∷◌, leng
 use Rattle.std.proofs.Common.{true, false, refl, sym, ap, ◌∙◌, subst, arith}
 use Rattle.std.specs.Prelude.{slice_get, nat_lt}
 use Rattle.tm_values.specs.Val.{Val, undefined, boolean}
-use Rattle.tm_syntax.specs.declared.tree.Stmt.{Stmt, EmitRaw, EmitExpr, EmitLoop, If', For', Break, Continue, Block', Set, SetBlock'}
+use Rattle.tm_syntax.specs.declared.tree.Stmt.{Stmt, EmitRaw, EmitExpr, EmitLoop, If', For', Break, Continue, Block', Set, CaptureBlock'}
 use Rattle.tm_syntax.specs.declared.tree.Stmt.{With', Do, AutoEscape', Row_of-Stmt, end_of-Stmt as no_statement}
 use Rattle.tm_syntax.specs.declared.tree.Stmt.{more_of-Stmt as statement, Held-Stmt-If-2 as Otherwise, None' as no_else}
 use Rattle.tm_syntax.specs.declared.tree.Stmt.{Some' as otherwise}
@@ -25,7 +25,7 @@ use Rattle.tm_meaning.specs.Meaning.{Run}
 use Rattle.tm_meaning.specs.Meaning.{Under, so_far, say, use_it, truth}
 use Rattle.tm_meaning.specs.Meaning.{eval}
 use Rattle.tm_meaning.specs.Meaning.{loop_items}
-use Rattle.tm_meaning.specs.Meaning.{assign, set_to, set_each, capturing}
+use Rattle.tm_meaning.specs.Meaning.{filtered, set_to, set_each, capturing}
 use Rattle.tm_meaning.specs.Meaning.{rounds, loop_over, has_none, exec_behind_loop, behind_first, exec, exec_all}
 use Rattle.tm_meaning.specs.Meaning.{exec_else}
 use Rattle.tm_meaning.specs.Machine.{after, goes}
@@ -44,7 +44,7 @@ use Rattle.tm_simulation.proofs.Asks.{escape_gives}
 use Rattle.tm_simulation.proofs.Asks.{innermost_asks}
 use Rattle.tm_simulation.proofs.Evaluates.{eval_gives}
 use Rattle.tm_simulation.proofs.Evaluates.{loop_items_give}
-use Rattle.tm_simulation.proofs.Evaluates.{assign_gives, set_gives, set_each_gives}
+use Rattle.tm_simulation.proofs.Evaluates.{filtered_gives, set_gives, set_each_gives}
 use Rattle.tm_simulation.proofs.Executes.{exec_ends, execs_end}
 use Rattle.tm_simulation.proofs.Follow.{LeadsToEnd, leave_then, next_then}
 use Rattle.tm_simulation.proofs.Follow.{opened_then, told_by, Spot, told, cfg}
@@ -56,8 +56,8 @@ use Rattle.tm_meaning.specs.declared.stream.TemplateId.{TemplateId}
 use Rattle.tm_simulation.proofs.Levels.{Deep, Setting, as_at, deep_escaped, deep_kept, deep_later, deep_within, here, meaning, nest_ends}
 use Rattle.tm_simulation.proofs.Levels.{placed_then, stands_later}
 use Rattle.tm_simulation.proofs.Expressions.{In, expr_runs}
-use Rattle.tm_simulation.proofs.Targets.{Around, StmtsRun, around_capture, around_escape, around_kept, around_scope, emit_then}
-use Rattle.tm_simulation.proofs.Targets.{ended_then, popped_then, set_runs, sets_run, stands_captured, tag_then, target_runs, tested_then}
+use Rattle.tm_simulation.proofs.Targets.{Around, StmtsRun, around_capture, around_escape, around_kept, around_scope, emit_then, filters_run}
+use Rattle.tm_simulation.proofs.Targets.{ended_then, popped_then, set_runs, sets_run, stands_captured, tag_then, tested_then, used_then}
 use Rattle.tm_simulation.proofs.Rounds.{did_not_is, end_at, iterable_runs, left_loop_then, looped, round_code, round_labels, rounds_run}
 use Rattle.tm_simulation.proofs.Rounds.{turn_ends, turn_of}
 
@@ -173,7 +173,7 @@ module _ (setting : Setting) where
         (execs_end u (nest_ends setting) again_kept loops body (as_at run s) s.out world2) h2 (λ q out1 world3 k3 g.
         popped_then setting (later s q out1) _ stack world3 (omega (arith, kept_frames k3, kept_frames k2, d.0.scopes))
         (kept_top (kept_then k2 k3)) is.1.1.1.0 g))))))))
-    stmt_runs os loops (SetBlock' t _ body) run s l pc stack w L N fits d j is nth h =
+    stmt_runs os loops (CaptureBlock' becomes filters _ body) run s l pc stack w L N fits d j is nth h =
         let inner : Spot = record s { bed = captured_in s.bed s.out; out = [] } in
         let o = exec_all u loops body (capturing true (as_at run s)) [] w in
         let nth1 = after_one pc (context.program.code s.run.stream) _ is.0.0 ∙ nth in
@@ -186,13 +186,15 @@ module _ (setting : Setting) where
         at context i.EndCapture (later inner q x) _ stack world1 is.1.1.0.0 (after_then context (told s) (tick world1) _
         (use_then context s.bed world1 (tick world1) (record run { parent = q }) s.out _ _ L N _ (tick_gives _ world1) h1 (λ _ world2 k2 h2.
         ended_then setting s q x _ stack world2 (omega (arith, fits.1))
-        (target_runs setting t (record run { parent = q }) (later s q s.out) l _ (captured_text x world2) stack world2
-        (here setting run (later s q s.out) world2 (deep_later setting run s world2 q s.out
-        (deep_kept setting run s k2 (deep_kept setting run s k1 d)))) is.1.1.1
-        (use_then context s.bed world2 (assign u (record run { parent = q }) t (captured_text x world2) world2)
-        (record run { parent = q }) s.out _ _ L N _ (assign_gives u (nest_ends setting) again_kept (record run { parent = q }) t
-        (captured_text x world2) world2) h2 (λ _ world3 k3 h3.
-        so_far_then context s.bed (record run { parent = q }) s.out world3 _ L N h3))))))))))
+        (let behind = later s q s.out in
+        let run1 = record run { parent = q } in
+        let deep2 = deep_later setting run s world2 q s.out (deep_kept setting run s k2 (deep_kept setting run s k1 d)) in
+        filters_run setting filters run1 behind l _ (captured_text x world2) stack world2 (here setting run behind world2 deep2)
+        is.1.1.1.0
+        (use_then context s.bed world2 (filtered u run1 filters (captured_text x world2) world2) run1 s.out _ _ L N _
+        (filtered_gives u (nest_ends setting) again_kept run1 filters (captured_text x world2) world2) h2 (λ v world3 k3 h3.
+        used_then setting becomes run behind l _ v stack world3 L N (stands_later context.base run s fits q s.out)
+        (deep_kept setting run behind k3 deep2) is.1.1.1.1 h3))))))))))
     stmt_runs os loops (AutoEscape' e _ body) run s l pc stack w L N fits d j is nth h =
         let nth1 = (none_begin loops (expr_code e ⨾ straight (i.PushAutoEscape ∷ [])) (expr_loopless e, (refl, tt))
         (context.program.code s.run.stream) l pc (is.0, is.1.0) nth).number in

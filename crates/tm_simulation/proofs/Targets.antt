@@ -9,11 +9,14 @@ use Rattle.tm_syntax.specs.declared.tree.AssignmentTarget.{AssignmentTarget, Nam
 use Rattle.tm_syntax.specs.declared.tree.AssignmentTarget.{Row_of-AssignmentTarget}
 use Rattle.tm_syntax.specs.declared.tree.AssignmentTarget.{end_of-AssignmentTarget as no_target, more_of-AssignmentTarget as target}
 use Rattle.tm_syntax.specs.declared.tree.Assignment.{Assignment}
+use Rattle.tm_syntax.specs.declared.tree.CaptureUse.{CaptureUse}
+use Rattle.tm_syntax.specs.declared.tree.CaptureUse.TheVariants as uses
+use Rattle.tm_syntax.specs.declared.tree.Step.{Step}
 use Rattle.tm_syntax.specs.declared.tree.Stmt.{Row_of-Stmt}
 use Rattle.tm_syntax.specs.declared.instruction.Instruction.TheVariants as i
 use Rattle.tm_syntax.specs.Code.{count_targets, close_all}
 use Rattle.tm_syntax.specs.Fragments.{Labels, beyond_all, beyond}
-use Rattle.tm_syntax.specs.Code.{target_code, targets_code, set_code, assignments_code}
+use Rattle.tm_syntax.specs.Code.{target_code, targets_code, set_code, assignments_code, filters_code, use_code}
 use Rattle.tm_syntax.specs.Code.{statements_code}
 use Rattle.tm_syntax.specs.declared.opened.Opened.{Opened}
 use Rattle.tm_syntax.specs.declared.opened.Opened.TheVariants.{Scope as a_scope, Escape as an_escape, Capture as a_capture}
@@ -24,7 +27,7 @@ use Rattle.tm_meaning.specs.Calls.{enter_block}
 use Rattle.tm_meaning.specs.Meaning.{Run, Outcome}
 use Rattle.tm_meaning.specs.Meaning.{Under, so_far, say, use_it, in_place_of, block_tag, truth}
 use Rattle.tm_meaning.specs.Meaning.{audible as heard_here}
-use Rattle.tm_meaning.specs.Meaning.{none_waits, eval}
+use Rattle.tm_meaning.specs.Meaning.{none_waits, eval, eval_step, filtered, use_text}
 use Rattle.tm_meaning.specs.Meaning.{assign, assign_all, set_to, set_each, capturing}
 use Rattle.tm_meaning.specs.Meaning.{emit, exec_all}
 use Rattle.tm_meaning.specs.Machine.{goes, asked_in_place}
@@ -37,7 +40,7 @@ use Rattle.tm_simulation.proofs.Advances.{within}
 use Rattle.tm_simulation.proofs.Advances.{kept_unescaped}
 use Rattle.tm_simulation.proofs.Gives.{tick_gives}
 use Rattle.tm_simulation.proofs.Asks.{unpacked_gives, emitted_gives, block_asks}
-use Rattle.tm_simulation.proofs.Evaluates.{eval_gives}
+use Rattle.tm_simulation.proofs.Evaluates.{eval_gives, step_gives}
 use Rattle.tm_simulation.proofs.Evaluates.{assign_gives, set_gives, truth_gives}
 use Rattle.tm_simulation.proofs.Follow.{LeadsToEnd, follows_map_kept}
 use Rattle.tm_simulation.proofs.Follow.{captures_of, told_by, Spot, told, cfg}
@@ -47,8 +50,8 @@ use Rattle.tm_simulation.proofs.Follow.{Go, silent, at, after_then, choose_ends}
 use Rattle.tm_simulation.proofs.Forms.{Stands, fits_captured, audible_is, writes_then}
 use Rattle.tm_meaning.specs.declared.stream.TemplateId.{TemplateId}
 use Rattle.tm_simulation.proofs.Operands.{bind_long, items_long}
-use Rattle.tm_simulation.proofs.Levels.{Deep, Here, Setting, as_at, deep_kept, here_kept, meaning, nest_ends, placed_then}
-use Rattle.tm_simulation.proofs.Expressions.{In, expr_runs}
+use Rattle.tm_simulation.proofs.Levels.{Deep, Here, Setting, as_at, deep_kept, here, here_kept, meaning, nest_ends, placed_then}
+use Rattle.tm_simulation.proofs.Expressions.{In, expr_runs, step_runs}
 
 abbrev escaping : Spot → AutoEscape → Spot
 escaping s e = record s { run = record s.run { escapes = e ∷ s.run.escapes } }
@@ -120,6 +123,17 @@ module _ (setting : Setting) where
       (set_gives u (nest_ends setting) again_kept run a.target a.value w) h
       (λ _ world1 k h1. sets_run more run s l _ stack world1 (here_kept setting run s k d) is.1 h1))
 
+  -- The code of filters replaces the value on top.
+  pub filters_run : (filters : List Step) (run : Run) (s : Spot) (l : Labels) (pc : ℕ) (v : Val) (stack : List Val) (w : World) →
+      Here setting run s w → In setting s l pc (filters_code filters) →
+      Follows context (told s) (filtered u run filters v w) (λ y world1. Go context s (beyond pc (filters_code filters)) (y ∷ stack)
+      world1) → Go context s pc (v ∷ stack) w
+  filters_run [] run s l pc v stack w d is h = h
+  filters_run (f ∷ more) run s l pc v stack w d is h =
+      step_runs setting f run s l pc v stack w d is.0
+      (bind_then context (told s) w (eval_step u run f v w) _ _ _ (step_gives u (nest_ends setting) again_kept run f v w) h
+      (λ y world1 k h1. filters_run more run s l _ y stack world1 (here_kept setting run s k d) is.1 h1))
+
   -- A scope of the run's own, which is no loop's, is left, which is free.
   pub popped_then : (s : Spot) (pc : ℕ) (stack : List Val) (w : World) → context.base.scopes < length w.scopes.frames →
       top_mark w.scopes.frames ≡ None → slice_get (context.program.code s.run.stream) pc ≡ Some i.PopFrame →
@@ -159,6 +173,19 @@ module _ (setting : Setting) where
       (emitted_gives context.program.host v world1) h1 (λ t world2 k2 h2.
       writes_then context (as_at run s) t s (pc + 1) stack world2 refl fits.2
       (g (say (as_at run s) t s.out) world2 (so_far_then context s.bed (as_at run s) (say (as_at run s) t s.out) world2 D L N h2)))))))
+
+  -- what becomes of the text of a capture
+  pub used_then : (becomes : CaptureUse) (run : Run) (s : Spot) (l : Labels) (pc : ℕ) (v : Val) (stack : List Val) (w : World)
+      (L N : Then) → Stands context.base run s → Deep setting run s w → In setting s l pc (use_code becomes) →
+      Ends context s.bed (use_text u (as_at run s) becomes v s.out w) (λ q out1 world1. Go context (later s q out1)
+      (beyond pc (use_code becomes)) stack world1) L N → Go context s pc (v ∷ stack) w
+  used_then uses.Emit run s l pc v stack w L N fits d is h =
+      emit_then run s pc v stack w _ L N fits is.0 h (λ out1 world1 g. g)
+  used_then (uses.Assign t) run s l pc v stack w L N fits d is h =
+      target_runs t (as_at run s) s l pc v stack w (here setting run s w d) is
+      (use_then context s.bed w (assign u (as_at run s) t v w) (as_at run s) s.out _ _ L N _
+      (assign_gives u (nest_ends setting) again_kept (as_at run s) t v w) h (λ _ world1 k h1.
+      so_far_then context s.bed (as_at run s) s.out world1 _ L N h1))
 
   -- a block's tag: where it is heard the block is run in place, and else nothing is
   pub tag_then : (run : Run) (s : Spot) (pc : ℕ) (b : List ℕ) (stack : List Val) (w : World) (D L N : Then) → Stands context.base run s →

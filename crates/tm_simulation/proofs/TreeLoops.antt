@@ -23,7 +23,9 @@ use Rattle.tm_syntax.specs.declared.tree.AssignmentTarget.{AssignmentTarget, Nam
 use Rattle.tm_syntax.specs.declared.tree.AssignmentTarget.{Row_of-AssignmentTarget}
 use Rattle.tm_syntax.specs.declared.tree.AssignmentTarget.{end_of-AssignmentTarget as no_target, more_of-AssignmentTarget as target}
 use Rattle.tm_syntax.specs.declared.tree.Assignment.{Assignment}
-use Rattle.tm_syntax.specs.declared.tree.Stmt.{Stmt, EmitRaw, EmitExpr, EmitLoop, If', For', Break, Continue, Block', Set, SetBlock'}
+use Rattle.tm_syntax.specs.declared.tree.CaptureUse.{CaptureUse}
+use Rattle.tm_syntax.specs.declared.tree.CaptureUse.TheVariants as uses
+use Rattle.tm_syntax.specs.declared.tree.Stmt.{Stmt, EmitRaw, EmitExpr, EmitLoop, If', For', Break, Continue, Block', Set, CaptureBlock'}
 use Rattle.tm_syntax.specs.declared.tree.Stmt.{With', Do, AutoEscape', Row_of-Stmt, end_of-Stmt as no_statement}
 use Rattle.tm_syntax.specs.declared.tree.Stmt.{more_of-Stmt as statement, Held-Stmt-If-2 as Otherwise, None' as no_else}
 use Rattle.tm_syntax.specs.declared.tree.Stmt.{Some' as otherwise}
@@ -41,7 +43,7 @@ use Rattle.tm_syntax.specs.Code.{expr_code, conditions_code, exprs_code, pairs_c
 use Rattle.tm_syntax.specs.Code.{arguments_code, listed_code, lists_code, keyword_code, keywords_code, step_code, links_code}
 use Rattle.tm_syntax.specs.Code.{steps_code, target_code}
 use Rattle.tm_syntax.specs.Code.{targets_code, set_code, assignments_code, iterable_code, pass_round, statement_code, statements_code}
-use Rattle.tm_syntax.specs.Code.{branches_code, after_loop_code}
+use Rattle.tm_syntax.specs.Code.{branches_code, after_loop_code, filters_code, use_code}
 use Rattle.tm_syntax.proofs.Standing.{HasAt, At}
 use Rattle.tm_simulation.proofs.Begins.{Begins, IsLoop, NoneBegins, Loopless, both_begin, loop_begins, none_begin, after_none}
 use Rattle.tm_simulation.proofs.Begins.{before_none, over_begins, either_begins}
@@ -173,6 +175,14 @@ pub assignments_loopless : (given : List Assignment) → Loopless (assignments_c
 assignments_loopless [] = tt
 assignments_loopless (a ∷ more) = ((expr_loopless a.value, target_loopless a.target), assignments_loopless more)
 
+filters_loopless : (filters : List Step) → Loopless (filters_code filters)
+filters_loopless [] = tt
+filters_loopless (f ∷ more) = (step_loopless f, filters_loopless more)
+
+use_loopless : (u : CaptureUse) → Loopless (use_code u)
+use_loopless uses.Emit = (refl, tt)
+use_loopless (uses.Assign t) = target_loopless t
+
 -- ---------------------------------------------------------------- statements begin their loops
 closed_loopless : (os : List Opened) → NoneBegins (close_all os)
 closed_loopless [] = tt
@@ -239,9 +249,9 @@ mutual
   statement_begins os at Continue = none_begin at (statement_code os Continue) (closed_loopless os, tt)
   statement_begins os at (Block' x _ body) = none_begin at (straight (i.CallBlock x ∷ [])) (refl, tt)
   statement_begins os at (Set t e) = none_begin at (set_code t e) (expr_loopless e, target_loopless t)
-  statement_begins os at (SetBlock' t _ body) =
-      after_none (straight _) (refl, tt) (before_none (straight (i.EndCapture ∷ []) ⨾ target_code t) ((refl, tt), target_loopless t)
-      (statements_begin (a_capture ∷ os) at body))
+  statement_begins os at (CaptureBlock' u filters _ body) =
+      after_none (straight _) (refl, tt) (before_none (straight (i.EndCapture ∷ []) ⨾ filters_code filters ⨾ use_code u)
+      ((refl, tt), (filters_loopless filters, use_loopless u)) (statements_begin (a_capture ∷ os) at body))
   statement_begins os at (With' given _ body) =
       after_none (straight _) (refl, tt) (after_none (assignments_code given) (assignments_loopless given)
       (before_none (straight (i.PopFrame ∷ [])) (refl, tt) (statements_begin (a_scope ∷ os) at body)))

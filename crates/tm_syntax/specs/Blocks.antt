@@ -2,7 +2,7 @@
 use Rattle.std.specs.Prelude.{ℕ, List, [], ◌∷◌, ◌++◌, map as each}
 use mathlib.Core.Former.{Count}
 use Rattle.tm_syntax.specs.declared.tree.Stmt.{EmitRaw, EmitExpr, EmitLoop, Break, Continue, Set, Do}
-use Rattle.tm_syntax.specs.declared.tree.Stmt.{Stmt, If', For', Block', SetBlock', With', AutoEscape', Row_of-Stmt}
+use Rattle.tm_syntax.specs.declared.tree.Stmt.{Stmt, If', For', Block', CaptureBlock', With', AutoEscape', Row_of-Stmt}
 use Rattle.tm_syntax.specs.declared.tree.Stmt.{end_of-Stmt as no_statement, more_of-Stmt as statement, Held-Stmt-If-2 as Otherwise}
 use Rattle.tm_syntax.specs.declared.tree.Stmt.{None' as no_else, Some' as otherwise}
 use Rattle.tm_syntax.specs.declared.instruction.Instruction.{Instruction}
@@ -25,7 +25,7 @@ abbrev mutual
   blocks_of (If' c _ body other) = blocks_in body ++ blocks_else other
   blocks_of (For' t e c r _ body other) = blocks_in body ++ blocks_else other
   blocks_of (Block' x _ body) = blocks_in body ++ (x, body_of body) ∷ []
-  blocks_of (SetBlock' t _ body) = blocks_in body
+  blocks_of (CaptureBlock' u filters _ body) = blocks_in body
   blocks_of (With' given _ body) = blocks_in body
   blocks_of (AutoEscape' e _ body) = blocks_in body
   blocks_of (EmitRaw t) = []

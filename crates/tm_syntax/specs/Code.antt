@@ -20,7 +20,9 @@ use Rattle.tm_syntax.specs.declared.tree.AssignmentTarget.{AssignmentTarget, Nam
 use Rattle.tm_syntax.specs.declared.tree.AssignmentTarget.{Row_of-AssignmentTarget}
 use Rattle.tm_syntax.specs.declared.tree.AssignmentTarget.{end_of-AssignmentTarget as no_target, more_of-AssignmentTarget as target}
 use Rattle.tm_syntax.specs.declared.tree.Assignment.{Assignment}
-use Rattle.tm_syntax.specs.declared.tree.Stmt.{Stmt, EmitRaw, EmitExpr, EmitLoop, If', For', Break, Continue, Block', Set, SetBlock'}
+use Rattle.tm_syntax.specs.declared.tree.CaptureUse.{CaptureUse}
+use Rattle.tm_syntax.specs.declared.tree.CaptureUse.TheVariants as uses
+use Rattle.tm_syntax.specs.declared.tree.Stmt.{Stmt, EmitRaw, EmitExpr, EmitLoop, If', For', Break, Continue, Block', Set, CaptureBlock'}
 use Rattle.tm_syntax.specs.declared.tree.Stmt.{With', Do, AutoEscape', Row_of-Stmt, end_of-Stmt as no_statement}
 use Rattle.tm_syntax.specs.declared.tree.Stmt.{more_of-Stmt as statement, Held-Stmt-If-2 as Otherwise, None' as no_else}
 use Rattle.tm_syntax.specs.declared.tree.Stmt.{Some' as otherwise}
@@ -290,6 +292,16 @@ abbrev pub assignments_code : List Assignment → Fragment
 assignments_code [] = straight []
 assignments_code (a ∷ more) = set_code a.target a.value ⨾ assignments_code more
 
+-- filters of the value on top, from the left
+abbrev pub filters_code : List Step → Fragment
+filters_code [] = straight []
+filters_code (f ∷ more) = step_code f ⨾ filters_code more
+
+-- what becomes of the text of a capture, which is on top
+abbrev pub use_code : CaptureUse → Fragment
+use_code uses.Emit = straight (i.Emit ∷ [])
+use_code (uses.Assign t) = target_code t
+
 -- ---------------------------------------------------------------- statements
 abbrev pub close : Opened → List Instruction
 close a_scope = i.PopFrame ∷ []
@@ -335,8 +347,8 @@ abbrev mutual
   statement_code os Continue = straight (close_all os) ⨾ next_round
   statement_code os (Block' x _ body) = straight (i.CallBlock x ∷ [])
   statement_code os (Set t e) = set_code t e
-  statement_code os (SetBlock' t _ body) = straight (i.BeginCapture Capture ∷ []) ⨾ statements_code (a_capture ∷ os) body ⨾ straight
-      (i.EndCapture ∷ []) ⨾ target_code t
+  statement_code os (CaptureBlock' u filters _ body) = straight (i.BeginCapture Capture ∷ []) ⨾ statements_code (a_capture ∷ os) body
+      ⨾ straight (i.EndCapture ∷ []) ⨾ filters_code filters ⨾ use_code u
   statement_code os (With' given _ body) = straight (i.PushWith ∷ []) ⨾ assignments_code given ⨾ statements_code
       (a_scope ∷ os) body ⨾ straight (i.PopFrame ∷ [])
   statement_code os (Do e) = expr_code e ⨾ straight (i.DiscardTop ∷ [])

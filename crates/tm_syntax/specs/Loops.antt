@@ -8,7 +8,7 @@ pub use Rattle.tm_syntax.specs.declared.instruction.LoopPlace.{LoopPlace}
 use Rattle.tm_syntax.specs.declared.tree.Expr.{Expr}
 use Rattle.tm_syntax.specs.declared.tree.AssignmentTarget.{AssignmentTarget}
 use Rattle.tm_syntax.specs.declared.tree.Stmt.{EmitRaw, EmitExpr, EmitLoop, Break, Continue, Block', Set, Do}
-use Rattle.tm_syntax.specs.declared.tree.Stmt.{Stmt, If', For', SetBlock', With', AutoEscape', Row_of-Stmt, end_of-Stmt as no_statement}
+use Rattle.tm_syntax.specs.declared.tree.Stmt.{Stmt, If', For', CaptureBlock', With', AutoEscape', Row_of-Stmt, end_of-Stmt as no_statement}
 use Rattle.tm_syntax.specs.declared.tree.Stmt.{more_of-Stmt as statement, Held-Stmt-If-2 as Otherwise, None' as no_else}
 use Rattle.tm_syntax.specs.declared.tree.Stmt.{Some' as otherwise}
 use Rattle.tm_syntax.specs.Blocks.{Body, body_of}
@@ -27,7 +27,7 @@ abbrev mutual
   pub past : ℕ → Stmt → ℕ
   past at (If' c _ body other) = past_else (pasts at body) other
   past at (For' t e c r _ body other) = past_else (pasts (within_loop c at) body) other
-  past at (SetBlock' t _ body) = pasts at body
+  past at (CaptureBlock' u filters _ body) = pasts at body
   past at (With' given _ body) = pasts at body
   past at (AutoEscape' e _ body) = pasts at body
   past at (EmitRaw t) = at
@@ -66,7 +66,7 @@ abbrev mutual
   loops_of at (For' t e c r _ body other) =
       with_pass c (record { recursive = r; target = t; body = body_of body; at = within_loop c at })
       (loops_in (within_loop c at) body ++ loops_else (pasts (within_loop c at) body) other)
-  loops_of at (SetBlock' t _ body) = loops_in at body
+  loops_of at (CaptureBlock' u filters _ body) = loops_in at body
   loops_of at (With' given _ body) = loops_in at body
   loops_of at (AutoEscape' e _ body) = loops_in at body
   loops_of at (EmitRaw t) = []

@@ -20,6 +20,6 @@ pub use opened::Opened;
 pub use raw_text::RawText;
 pub use token::{Sign, Tag, Token};
 pub use tree::{
-    Application, Argument, Assignment, AssignmentTarget, BinaryOperator, Comparison, Condition,
-    Expr, ForLoop, Keyword, Pair, Step, Stmt, Tree, UnaryOperator,
+    Application, Argument, Assignment, AssignmentTarget, BinaryOperator, CaptureUse, Comparison,
+    Condition, Expr, ForLoop, Keyword, Pair, Step, Stmt, Tree, UnaryOperator,
 };

@@ -111,6 +111,10 @@ pub enum Tag {
     Set,
     /// `{% endset`
     Endset,
+    /// `{% filter`
+    Filter,
+    /// `{% endfilter`
+    Endfilter,
     /// `{% with`
     With,
     /// `{% endwith`

@@ -183,6 +183,15 @@ pub struct Assignment {
     pub value: Boxed<Expr>,
 }
 
+/// What becomes of the text of a capture.
+#[derive(Drop)]
+pub enum CaptureUse {
+    /// It is emitted.
+    Emit,
+    /// It is given to a target.
+    Assign(AssignmentTarget),
+}
+
 /// A statement.
 #[cycle(stmt)]
 #[derive(Drop)]
@@ -205,8 +214,8 @@ pub enum Stmt {
     Block(Name, Items<Stmt>),
     /// A value for a target.
     Set(AssignmentTarget, Boxed<Expr>),
-    /// A target, and the body whose text it gets.
-    SetBlock(AssignmentTarget, Items<Stmt>),
+    /// A capture: what becomes of its text, the filters that this goes through from the left, and the body that writes it.
+    CaptureBlock(CaptureUse, Items<Step>, Items<Stmt>),
     /// Values for targets in a scope of their own, and what runs there.
     With(Items<Assignment>, Items<Stmt>),
     /// A call whose value is dropped.

@@ -19,16 +19,29 @@ fn repeated(piece: &str, count: usize) -> (usize, &str) {
     }
 }
 
+/// Words with a `|` for each `¦`.
+fn with_bars(alloc: Global, words: &str) -> Result<String, Error> {
+    let mut text = String::new(alloc);
+    let mut bar = "";
+    for part in words.split('¦') {
+        text.push_str(bar)?;
+        text.push_str(part)?;
+        bar = "|";
+    }
+    Ok(text)
+}
+
 /// The pieces between `|` behind one another, with a blank between them.
 pub(crate) fn joined(alloc: Global, pieces: &str, count: usize) -> Result<String, Error> {
     let mut text = String::new(alloc);
     for piece in pieces.split('|') {
         let (times, words) = repeated(piece, count);
+        let words = with_bars(alloc, words)?;
         for _ in 0..times {
             if !text.is_empty() {
                 text.push_str(" ")?;
             }
-            text.push_str(words)?;
+            text.push_str(words.as_str())?;
         }
     }
     Ok(text)

@@ -9,7 +9,7 @@ use tm_compiler::{SyntaxConfig, Tree, parse};
 use tm_values::{Error, ErrorKind};
 
 /// What a source is compiled to.
-static EXPRESSIONS_AND_STATEMENTS: [&str; 95] = [
+static EXPRESSIONS_AND_STATEMENTS: [&str; 102] = [
     "{# c #} =>",
     "{{ \"}}\" }}\n => #}} emit",
     "{{ a == none }} => $a #none == emit",
@@ -34,6 +34,11 @@ static EXPRESSIONS_AND_STATEMENTS: [&str; 95] = [
     "{% set a, b %}{% endset %} => capture captured unpack:2 store:a store:b",
     "{% set (a) %}{% endset %} => capture captured store:a",
     "{% set a.b %}x{% endset %} => capture raw:x captured $a set:b",
+    "{% filter f %}a{% endfilter %} => capture raw:a captured filter:f1 emit",
+    "{% filter f | g . h(1, k=a) %}{% endfilter %} => capture captured filter:f1 #1 #k $a named:1 filter:g.h3 emit",
+    "{% set x | f | g(1) %}a{% endset %} => capture raw:a captured filter:f1 #1 filter:g2 store:x",
+    "{% set a, | f %}{% endset %} => capture captured filter:f1 unpack:1 store:a",
+    "{% set a.b|f.g %}{% endset %} => capture captured filter:f.g1 $a set:b",
     "{% autoescape false %}x{% endautoescape %} => #false escape raw:x escaped",
     "{% for x in y %}{% endfor %} => $y loop iterate:5 store:x jump:2 looped",
     "{% for a, b in c %}{{ a }}{% else %}e{% endfor %} => $c loop iterate:9 unpack:2 store:a store:b $a emit jump:2 empty looped if-false:13 raw:e",
@@ -104,11 +109,13 @@ static EXPRESSIONS_AND_STATEMENTS: [&str; 95] = [
     "{%for a in b %}{%block x %}{%endblock %}{%else %}{%block y %}{%endblock %}{%endfor %} => $b loop iterate:6 store:a block:x jump:2 empty looped if-false:10 block:y | x | y",
     "{%for a in b %}{%block x %}{%for a in b %}{%break %}{%endfor %}{%endblock %}{%endfor %} => $b loop iterate:6 store:a block:x jump:2 looped | x $b loop iterate:6 store:a jump:6 jump:2 looped",
     "{%for a in b %}{%set c %}{%break %}{%endset %}{%endfor %} => $b loop iterate:11 store:a capture captured drop jump:11 captured store:c jump:2 looped",
+    "{%for a in b %}{%filter c %}{%break %}{%endfilter %}{%endfor %} => $b loop iterate:12 store:a capture captured drop jump:12 captured filter:c1 emit jump:2 looped",
+    "{%filter a %}{%block x %}{%endblock %}{%endfilter %} => capture block:x captured filter:a1 emit | x",
     "{%for a in b %}{%autoescape a %}{%continue %}{%endautoescape %}{%endfor %} => $b loop iterate:10 store:a $a escape escaped jump:2 escaped jump:2 looped",
 ];
 
 /// Where one token ends and the next one begins, what is blank, and what a mark trims.
-static TOKENS: [&str; 35] = [
+static TOKENS: [&str; 36] = [
     " =>",
     "\r\n =>",
     "a\n\n => raw:a\n",
@@ -123,6 +130,7 @@ static TOKENS: [&str; 35] = [
     "{{ 170141183460469231731687303715884105727 }} => #170141183460469231731687303715884105727 emit",
     "{% set set=with==do %}{% do do() %} => $with $do == store:set call:do0 drop",
     "{% set autoescape%}{%endset%}{% autoescape endset %}{% endautoescape %} => capture captured store:autoescape $endset escape escaped",
+    "{%filter filter%}{% set endfilter|set%}{%endset%}{% endfilter%} => capture capture captured filter:set1 store:endfilter captured filter:filter1 emit",
     "{% for for in break %}{%continue%}{% break%}{% endfor %} => $break loop iterate:7 store:for jump:2 jump:7 jump:2 looped",
     "{{ 007 }} => #7 emit",
     "{{ 7.a }} => #7 .a emit",
@@ -180,7 +188,7 @@ fn sources_have_their_code(rt: HostRuntime) -> Result<(), Fail> {
 }
 
 /// What spells no template.
-static REFUSED: [&str; 134] = [
+static REFUSED: [&str; 153] = [
     "a{#",
     "{{ \"a }}",
     "{{ 1.5 }}",
@@ -197,6 +205,25 @@ static REFUSED: [&str; 134] = [
     "{% set x %}{% endset x %}",
     "{% set 1 %}{% endset %}",
     "{% set %}{% endset %}",
+    "{% filter %}a{% endfilter %}",
+    "{% filter upper ¦ %}a{% endfilter %}",
+    "{% filter ¦ upper %}a{% endfilter %}",
+    "{% endfilter %}",
+    "{% filter f %}",
+    "{% filter f %}{% endset %}",
+    "{% filter f %}{% endfilter f %}",
+    "{% filter 1 %}{% endfilter %}",
+    "{% filter in %}{% endfilter %}",
+    "{% filter f. %}{% endfilter %}",
+    "{% filter f(a %}{% endfilter %}",
+    "{% filter f[1] %}{% endfilter %}",
+    "{% filter f if a %}{% endfilter %}",
+    "{% set x ¦ %}a{% endset %}",
+    "{% set x ¦ f %}",
+    "{% set ¦ f %}{% endset %}",
+    "{% set a.b ¦ upper = 1 %}",
+    "{% set a ¦ f(1).b = 2 %}",
+    "{% for x in y %}{% filter f %}{% block b %}{% break %}{% endblock %}{% endfilter %}{% endfor %}",
     "{% autoescape %}x{% endautoescape %}",
     "{% autoescape 1, 2 %}{% endautoescape %}",
     "{% autoescape true %}",
@@ -318,7 +345,7 @@ static REFUSED: [&str; 134] = [
 ];
 
 /// What may nest 150 deep, by its pieces.
-static NESTINGS: [&str; 22] = [
+static NESTINGS: [&str; 26] = [
     "{{|0*(|a|0*)|}}",
     "{{|0*f (|a|0*)|}}",
     "{{|0*f ( a =|a|0*)|}}",
@@ -336,6 +363,10 @@ static NESTINGS: [&str; 22] = [
     "1*{%with %}|{%set ( a ) , b = ( c ) , d %}|1*{%endwith %}",
     "2*{%with %}|{%with ( a ) = ( b ) %} {%endwith %}|2*{%endwith %}",
     "2*{%set a %}|{%autoescape ( b ) %} {%endautoescape %}|2*{%endset %}",
+    "0*{%filter f %}|{{ a }}|0*{%endfilter %}",
+    "2*{%filter f %}|{%filter f ( a ) %} {%endfilter %}|2*{%endfilter %}",
+    "0*{%set a ¦ f %}|{{ a }}|0*{%endset %}",
+    "2*{%with %}|{%set ( a ) ¦ f ¦ f ( b ) %} {%endset %}|2*{%endwith %}",
     "0*{%for a in b %}|{%break %}|0*{%endfor %}",
     "2*{%for a in b %}|{%for ( a ) in ( b ) , c if ( d ) %} {%endfor %}|2*{%endfor %}",
     "2*{%with %}|{%for a in b %} {%else %} {%endfor %}|2*{%endwith %}",
@@ -344,12 +375,13 @@ static NESTINGS: [&str; 22] = [
 ];
 
 /// A long row nests no deeper than a short one.
-static LONG: [&str; 8] = [
+static LONG: [&str; 9] = [
     "{{ a|0*and b . c|}}",
     "{{ a|0*+ b|}}",
     "{{ a|0*if c|}}",
     "{{ a|0*< b|}}",
     "{%set a|0*, b|= c , d %}",
+    "{%set a|0*¦ f|%} {%endset %}",
     "{%for a in b|0*, c|if d %} {%endfor %}",
     "{{ f ( a|0*, b = c|) }}",
     "{%with a = b|0*, c = d|%} {%endwith %}",

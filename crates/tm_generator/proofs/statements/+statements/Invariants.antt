@@ -4,7 +4,7 @@ use Rattle.tm_syntax.specs.Code.{statements_code}
 use Rattle.tm_syntax.specs.Named.{put_each}
 use Rattle.tm_syntax.specs.declared.tree.Stmt.TheBlock.{hidden-the_row-Stmt-0 as statements}
 use Rattle.tm_generator.specs.Building.{put_in}
-use Rattle.tm_syntax.specs.declared.tree.Stmt.TheVariants.{AutoEscape, Block, For, If, SetBlock, With}
+use Rattle.tm_syntax.specs.declared.tree.Stmt.TheVariants.{AutoEscape, Block, CaptureBlock, For, If, With}
 use Rattle.tm_syntax.proofs.tree.Stmt.TheLaws.{the_size}
 use Rattle.tm_generator.proofs.statements.+statements.Given as goal
 
@@ -27,8 +27,8 @@ decreases-push_statement l = 5 * goal.size-push_statement l + 2
 abbrev pub decreases-push_call_of_block : goal.decreases-push_call_of_block
 decreases-push_call_of_block l = 5 * the_size (Block l.name.now l.body.now) + 1
 
-abbrev pub decreases-push_set_block : goal.decreases-push_set_block
-decreases-push_set_block l = 5 * the_size (SetBlock l.target.now l.body.now)
+abbrev pub decreases-push_capture : goal.decreases-push_capture
+decreases-push_capture l = 5 * the_size (CaptureBlock l.becomes.now l.filters.now l.body.now)
 
 abbrev pub decreases-push_with : goal.decreases-push_with
 decreases-push_with l = 5 * the_size (With l.given.now l.body.now)

@@ -37,6 +37,9 @@ decreases-with_tag l = nesting_room * l.depth + 1
 abbrev pub decreases-set_block : goal.decreases-set_block
 decreases-set_block l = nesting_room * l.depth + 1
 
+abbrev pub decreases-filter_tag : goal.decreases-filter_tag
+decreases-filter_tag l = nesting_room * l.depth + 1
+
 abbrev pub decreases-autoescape_tag : goal.decreases-autoescape_tag
 decreases-autoescape_tag l = nesting_room * l.depth + 1
 
