@@ -15,6 +15,7 @@ use Rattle.tm_syntax.specs.declared.tree.Expr.{end_of-Step as no_step, more_of-S
 use Rattle.tm_syntax.specs.declared.tree.Expr.{end_of-Condition as no_condition}
 use Rattle.tm_syntax.specs.declared.tree.Argument.{Argument}
 use Rattle.tm_syntax.specs.declared.tree.Application.{Application}
+use Rattle.tm_syntax.specs.CacheNumbers.{no_cache}
 use Rattle.tm_syntax.specs.declared.tree.Application.TheVariants as applications
 use Rattle.tm_syntax.specs.declared.tree.Step.{Step, Attribute, Apply', Row_of-Comparison, end_of-Comparison as no_comparison}
 use Rattle.tm_syntax.specs.declared.instruction.Instruction.{Instruction}
@@ -130,11 +131,11 @@ module _ (setting : Setting) where
   passed_then applications.Method f m run s pc vs stack w long d is h =
       passes applications.Method (i.CallMethod f m) f m (λ c. refl) run s pc vs stack w _ long d is.0 h (λ y world1 g. g)
   passed_then applications.Filter f m run s pc vs stack w long d is h =
-      passes applications.Filter (i.ApplyFilter f m) f m (λ c. refl) run s pc vs stack w _ long d is.0 h (λ y world1 g. g)
+      passes applications.Filter (i.ApplyFilter f m no_cache) f m (λ c. refl) run s pc vs stack w _ long d is.0 h (λ y world1 g. g)
   passed_then applications.Test f m run s pc vs stack w long d is h =
-      passes applications.Test (i.PerformTest f m) f m (λ c. refl) run s pc vs stack w _ long d is.0 h (λ y world1 g. g)
+      passes applications.Test (i.PerformTest f m no_cache) f m (λ c. refl) run s pc vs stack w _ long d is.0 h (λ y world1 g. g)
   passed_then applications.NegatedTest f m run s pc vs stack w long d is h =
-      passes applications.NegatedTest (i.PerformTest f m) f m (λ c. refl) run s pc vs stack w _ long d is.0 h
+      passes applications.NegatedTest (i.PerformTest f m no_cache) f m (λ c. refl) run s pc vs stack w _ long d is.0 h
       (λ y world1 g. unary_then unaries.Not s (pc + 1) y stack world1 is.1.0 g)
 
   -- values become one
