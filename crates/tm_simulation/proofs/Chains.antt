@@ -4,9 +4,10 @@ use Rattle.std.proofs.Common.{inl, inr, ap, ◌≡◌, ℕ, zero, suc, List, [],
 use Rattle.std.specs.List.{All}
 use Rattle.std.proofs.lemmas.List.Elements.{All-head, All-tail, All-cons, All-nil}
 use Rattle.std.specs.Prelude.{slice_get}
+use Rattle.tm_values.specs.Val.{Val}
 use Rattle.tm_values.specs.declared.error.ErrorKind.{ErrorKind}
 use Rattle.tm_meaning.specs.Tree.{Trees}
-use Rattle.tm_meaning.specs.World.{World, HostValue, Function, Object, callers, Named, find}
+use Rattle.tm_meaning.specs.World.{World, HostValue, Function, Object, callers, View, Named, find}
 use Rattle.tm_syntax.specs.Named.{name_cmp}
 use Rattle.std.specs.BTreeMap.{is_at}
 use Rattle.std.specs.Prelude.{cond, Option}
