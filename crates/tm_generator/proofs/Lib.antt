@@ -4,3 +4,4 @@ pub mod Assembled
 pub mod PutExpressions
 pub mod PutTargets
 pub mod PutStatements
+pub mod NumberedBehind
