@@ -70,6 +70,7 @@ impl Caches {
 
     /// Lets a cache hold a name; OutOfMemory.
     #[inline(never)]
+    #[tactic(auto, using(crate::proofs::Used::one_empty, crate::proofs::Used::held_there))]
     fn hold(&mut self, cache: usize, name: &Name) -> Result<(), Error>
         ensures ok { OnOk result (self.new ≡ holding cache name.now self.old) }
         ensures kind { IfErr result (λ e. e ≡ ErrorKind.OutOfMemory ∷ []) }
