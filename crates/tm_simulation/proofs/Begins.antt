@@ -15,7 +15,8 @@ use Rattle.tm_syntax.specs.declared.jump.JumpKind.{JumpKind}
 use Rattle.tm_syntax.specs.declared.jump.JumpKind.TheVariants.{IfFalse, IfFalseOrPop, IfTrueOrPop}
 use Rattle.tm_syntax.specs.Code.{target_code, statements_code}
 use Rattle.tm_syntax.proofs.Standing.{HasAt, At, beyond_is}
-use Rattle.tm_simulation.proofs.Numbered.{is_uncached, AllUncached, both_uncached}
+use Rattle.tm_simulation.specs.Uncached.{is_uncached, AllUncached}
+use Rattle.tm_simulation.proofs.Numbered.{both_uncached}
 
 -- ---------------------------------------------------------------- numbers
 one_more_out : (o : Option LoopFlags) (g : Option LoopFlags) (n : ℕ) → one_more_loop o (one_more_loop g n) ≡ one_more_loop g

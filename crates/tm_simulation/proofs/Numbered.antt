@@ -9,18 +9,9 @@ use Rattle.tm_syntax.specs.declared.instruction.Instruction.TheVariants as i
 use Rattle.tm_syntax.specs.CacheNumbers.{no_cache, cache_count, place_from, number_by, number_in, joined_by, joined, numbered_from, numbered}
 use Rattle.tm_syntax.specs.Loops.{begins, with_place, loop_places, one_more_loop, loops_before}
 use Rattle.tm_syntax.specs.Named.{same_name}
+use Rattle.tm_simulation.specs.Uncached.{is_uncached, AllUncached}
 
 -- ---------------------------------------------------------------- code before it
--- whether no name of an instruction has a cache
-abbrev pub is_uncached : Instruction → Bool
-is_uncached (i.ApplyFilter x n cache) = nat_eq cache no_cache
-is_uncached (i.PerformTest x n cache) = nat_eq cache no_cache
-is_uncached x = true
-
-abbrev pub AllUncached : List Instruction → Type 0
-AllUncached [] = Unit {0}
-AllUncached (x ∷ is) = (is_uncached x ≡ true) × AllUncached is
-
 pub both_uncached : (a b : List Instruction) → AllUncached a → AllUncached b → AllUncached (a ++ b)
 both_uncached [] b h k = k
 both_uncached (x ∷ a) b h k = (h.0, both_uncached a b h.1 k)

@@ -24,6 +24,8 @@ use Rattle.tm_meaning.proofs.Ends.{one_end}
 use Rattle.tm_simulation.specs.Reached.{RunsTo, Renders, text_in, end_by, final_in, final_of, HasLevels}
 use Rattle.tm_syntax.proofs.Standing.{At, beyond_is, stands_whole}
 use Rattle.tm_syntax.specs.Loops.{loops_in, loop_places}
+use Rattle.tm_syntax.specs.CacheNumbers.{numbered}
+use Rattle.tm_simulation.specs.Uncached.{AllUncached, HasNoCaches, with_numbers}
 use Rattle.tm_simulation.proofs.Cached.{starts_empty, reaches_too}
 use Rattle.tm_simulation.proofs.Numbered.{IsNumbered, numbered_is}
 use Rattle.tm_simulation.proofs.Begins.{Both, Match, match_at}
@@ -265,21 +267,31 @@ unnumbered_comes trees p n k heard (c ∷ ks) told w compiled enough =
     (level_runs p trees compiled n k heard (inside c.heard told ks) c.text w enough)
 
 -- ---------------------------------------------------------------- with cache numbers
+pub numbers_change_nothing : (p : Program) (k : Callee) (heard : Bool) (captures : List OpenCapture) (told : List ℕ) (w : World)
+    (end : Final) → HasNoCaches p → RunsTo p k heard captures told w end → RunsTo (with_numbers p) k heard captures told w end
+numbers_change_nothing p k heard captures told w end none run =
+    let empty = starts_empty k captures w in
+    reaches_too p.host p.code (λ s. numbered (p.code s)) (λ s. numbered_is (p.code s) (none s)) (base_of heard captures w) told
+    (start k captures w) end empty.0 empty.1 run
+
 -- the same streams before they have them
 abbrev unnumbered : Trees → Program → Program
 unnumbered trees p = record { host = p.host; code = λ s. unnumbered_code (trees s).row }
 
+uncached : (trees : Trees) (s : StreamId) → AllUncached (unnumbered_code (trees s).row)
+uncached trees s =
+    let c = statements_code [] (trees s).row in
+    (statements_begin [] 0 (trees s).row (assembled c) (whole_labels c) 0 (stands_whole c) refl).uncached
+
 numbered_streams : (trees : Trees) (p : Program) → IsCompiled trees p → (s : StreamId) →
     IsNumbered (unnumbered_code (trees s).row) (p.code s)
 numbered_streams trees p compiled s =
-    let c = statements_code [] (trees s).row in
-    subst (λ code. IsNumbered (assembled c) code) (sym (compiled s))
-    (numbered_is (assembled c)
-    (statements_begin [] 0 (trees s).row (assembled c) (whole_labels c) 0 (stands_whole c) refl).uncached)
+    let code = unnumbered_code (trees s).row in
+    subst (λ c. IsNumbered code c) (sym (compiled s)) (numbered_is code (uncached trees s))
 
-with_numbers : (trees : Trees) (p : Program) (k : Callee) (heard : Bool) (captures : List OpenCapture) (told : List ℕ) (w : World)
+once_numbered : (trees : Trees) (p : Program) (k : Callee) (heard : Bool) (captures : List OpenCapture) (told : List ℕ) (w : World)
     (end : Final) → IsCompiled trees p → RunsTo (unnumbered trees p) k heard captures told w end → RunsTo p k heard captures told w end
-with_numbers trees p k heard captures told w end compiled run =
+once_numbered trees p k heard captures told w end compiled run =
     let empty = starts_empty k captures w in
     reaches_too p.host (λ s. unnumbered_code (trees s).row) p.code (numbered_streams trees p compiled) (base_of heard captures w) told
     (start k captures w) end empty.0 empty.1 run
@@ -288,7 +300,7 @@ pub nested_comes_to_meaning : (trees : Trees) (p : Program) (n : ℕ) (k : Calle
     (told : List ℕ) (w : World) → IsCompiled trees p → HasLevels p.host (suc n) w →
     RunsTo p k heard captures told w (final_in captures told (nests_of p.host trees (suc n) k heard (text_in captures told) w))
 nested_comes_to_meaning trees p n k heard captures told w compiled enough =
-    with_numbers trees p k heard captures told w _ compiled
+    once_numbered trees p k heard captures told w _ compiled
     (unnumbered_comes trees (unnumbered trees p) n k heard captures told w (λ s. refl) enough)
 
 -- Fragment comes to one end, whatever the levels.
@@ -305,7 +317,7 @@ same_with_levels host trees n m k heard out w enough also =
 pub comes_to_meaning : (trees : Trees) (p : Program) (w : World) → IsCompiled trees p → Renders p w (final_of (rendered p.host trees w))
 comes_to_meaning trees p w compiled =
     let o = rendered p.host trees w in
-    with_numbers trees p (whole w.stream) true [] [] w _ compiled
+    once_numbered trees p (whole w.stream) true [] [] w _ compiled
     (subst (λ e. Renders (unnumbered trees p) w e) (unheard_end o.ending o.text o.world)
     (render_runs (unnumbered trees p) trees (λ s. refl) air w))
 
