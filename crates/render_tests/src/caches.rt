@@ -65,8 +65,7 @@ fn is_answered(text: &str, times: usize) -> bool {
 fn all_answer(alloc: Global, environment: &mut Rows<'_>) -> Result<bool, Error> {
     add_filters(alloc, environment)?;
     let source = source(alloc)?;
-    let text =
-        environment.render_str(&mut StateIds::new(), source.as_str(), Value::undefined())?;
+    let text = environment.render_str(&mut StateIds::new(), source.as_str(), Value::undefined())?;
     Ok(is_answered(text.as_str(), 24))
 }
 
