@@ -5,3 +5,4 @@ pub mod PutExpressions
 pub mod Spreading
 pub mod PutTargets
 pub mod PutStatements
+pub mod NumberedBehind

@@ -10,7 +10,7 @@ use Rattle.tm_syntax.specs.declared.tree.Stmt.TheBlock.{hidden-the_row-Stmt-0 as
 use Rattle.tm_syntax.specs.declared.instruction.Instruction.{Instruction}
 use Rattle.tm_syntax.specs.declared.opened.Opened.{Opened}
 use Rattle.tm_syntax.specs.Blocks.{Body, body_of, blocks_of, blocks_in, compiled, compiled_blocks}
-use Rattle.tm_syntax.specs.Code.{statement_code, statements_code, stream_code}
+use Rattle.tm_syntax.specs.Code.{statement_code, statements_code, stream_code, unnumbered_code}
 use Rattle.tm_syntax.specs.Named.{Named, put, put_each}
 use Rattle.tm_generator.specs.Building.{Builder, StreamBuilder, put_in, finished}
 use Rattle.tm_generator.proofs.Assembled.{made_whole}
@@ -40,7 +40,7 @@ no_more-statements os rest m goal none g = sym (put-statements-nil os m)
 
 -- a stream that was made from nothing
 pub made-stream : (b : Builder) (m m1 : StreamBuilder) (ss : List Stmt) → m.code ≡ b → b.code ≡ [] → b.outs ≡ [] → b.exits ≡ [] →
-    m.enclosing ≡ [] → m1 ≡ put_in (statements_code m.enclosing (statements ss)) m → finished m1.code ≡ stream_code (statements ss)
+    m.enclosing ≡ [] → m1 ≡ put_in (statements_code m.enclosing (statements ss)) m → finished m1.code ≡ unnumbered_code (statements ss)
 made-stream b m m1 ss at x y z o p =
     ap (λ (s : StreamBuilder). finished s.code) (p ∙ ap {B = StreamBuilder} (λ os. put_in (statements_code os (statements ss)) m) o)
     ∙ made_whole (statements_code [] (statements ss)) m.code (ap (λ (k : Builder). k.code) at ∙ x) (ap (λ (k : Builder). k.outs) at

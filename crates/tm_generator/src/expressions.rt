@@ -26,7 +26,7 @@ use crate::passing::{
 use sqlite_items::Items;
 use tm_syntax::{
     Application, Argument, BinaryOperator, Comparison, Condition, Expr, Instruction, JumpKind,
-    Keyword, Name, Pair, Step, UnaryOperator,
+    Keyword, NO_CACHE, Name, Pair, Step, UnaryOperator,
 };
 use tm_values::{Error, Value};
 
@@ -87,10 +87,10 @@ fn push_application(
 {
     let instruction = match application {
         Application::Method => Instruction::CallMethod(name.share()?, count),
-        Application::Filter => Instruction::ApplyFilter(name.share()?, count),
-        Application::Test => Instruction::PerformTest(name.share()?, count),
+        Application::Filter => Instruction::ApplyFilter(name.share()?, count, NO_CACHE),
+        Application::Test => Instruction::PerformTest(name.share()?, count, NO_CACHE),
         Application::NegatedTest => {
-            code.emit(Instruction::PerformTest(name.share()?, count))?;
+            code.emit(Instruction::PerformTest(name.share()?, count, NO_CACHE))?;
             Instruction::Not
         }
     };

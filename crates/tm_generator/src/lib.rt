@@ -2,6 +2,7 @@
 #![tactic(auto, using(tm_syntax::proofs::Forms::boxes))]
 
 mod builder;
+mod caches;
 mod enclosing;
 mod expressions;
 mod loops;

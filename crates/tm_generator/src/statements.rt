@@ -13,6 +13,7 @@ ghost use Rattle.tm_syntax.specs.declared.tree.Stmt.TheVariants.{Continue, Do, F
 ghost use Rattle.tm_values.specs.declared.error.ErrorKind.TheVariants.{OutOfMemory};
 
 use crate::builder::Builder;
+use crate::caches::number_caches;
 use crate::enclosing::Enclosing;
 use crate::expressions::{push_expr, push_filters};
 use crate::loops::push_iterable;
@@ -387,5 +388,7 @@ pub fn stream(alloc: Global, blocks: &mut NameMap<Code>, body: &[Stmt]) -> Resul
     };
     push_statements(&mut stream, blocks, body)?;
     let StreamBuilder { code, enclosing: _ } = stream;
-    Ok(Code::new(alloc, code.finish())?)
+    let mut instructions = code.finish();
+    number_caches(alloc, &mut instructions)?;
+    Ok(Code::new(alloc, instructions)?)
 }

@@ -1,8 +1,11 @@
 -- Pages with filters and tests.
-use Rattle.std.specs.Prelude.{ℕ, ◌-◌, ◌%◌, List, [], ◌∷◌, true, false, codes, drop, take, pos, nat_lt, nat_eq, ◌&&◌, map as each}
+use Rattle.std.specs.Prelude.{◌≡◌, ℕ, ◌-◌, ◌%◌, List, [], ◌∷◌, ◌++◌, None, Some, true, false, codes, drop, take, pos, nat_lt, nat_eq, ◌&&◌, map as each}
 use Rattle.std.specs.Prelude.{if◌then◌else◌}
 use Rattle.tm_values.specs.Val.{Val, undefined, boolean, number, text}
 use Rattle.tm_values.specs.Order.{bytes_in}
+use Rattle.tm_values.specs.declared.error.ErrorKind.{ErrorKind}
+use Rattle.tm_syntax.specs.declared.instruction.Instruction.{Instruction}
+use Rattle.tm_syntax.specs.declared.instruction.Instruction.TheVariants as i
 use Rattle.tm_values.specs.declared.undefined.UndefinedBehavior.{UndefinedBehavior}
 use Rattle.tm_syntax.specs.declared.tree.Application.{Application}
 use Rattle.tm_syntax.specs.declared.tree.Application.TheVariants as applications
@@ -19,7 +22,10 @@ use Rattle.tm_meaning.specs.CallRows.{answers}
 use Rattle.tm_meaning.specs.declared.reply.Reply.{Reply}
 use Rattle.tm_meaning.specs.declared.reply.Reply.TheVariants.{Value as gives}
 use Rattle.tm_meaning.specs.Tree.{Body}
-use Rattle.tm_meaning.specs.Rows.{Page, page, one, two, nothing, literal, literal_number, and_one, raw, to_x, x}
+use Rattle.tm_meaning.specs.Calls.{whole}
+use Rattle.tm_meaning.specs.Machine.{Program, base_of, start}
+use Rattle.tm_meaning.specs.Steps.{run_for, step as step_of}
+use Rattle.tm_meaning.specs.Rows.{Page, page, one, two, nothing, literal, literal_number, and_one, raw, to_x, x, Said, said_by, host_of, world_of}
 use Rattle.tm_meaning.specs.LoopRows.{for_x, numbers}
 
 -- ---------------------------------------------------------------- objects
@@ -181,3 +187,29 @@ abbrev pub fault_in_filter : Page
 fault_in_filter =
     filter_page (two (raw (codes "a")) (CaptureBlock' uses.Emit (to_capitals ∷ []) (tt ∷ tt ∷ []) (statement (raw (codes "b"))
     (statement (EmitExpr (passed_alone applications.Filter (literal_number 1) (codes "nope"))) no_statement))))
+
+-- ---------------------------------------------------------------- cache numbers
+-- Where a run of this code ends, under the filters and tests of a page.
+abbrev pub ran_alone : List Instruction → Said
+ran_alone code =
+    let p : Program = record { host = host_of in_capitals; code = λ s. code } in
+    let w = world_of in_capitals None in
+    let f = base_of true [] w in
+    said_by (run_for 20 p f [] (step_of p f (start (whole w.stream) [] w)))
+
+abbrev pub filter_by : List ℕ × ℕ → Instruction
+filter_by named = i.ApplyFilter named.0 (Some 1) named.1
+
+-- "a" passed to filters by these names and cache numbers, one after the other
+abbrev pub filtered_by : List (List ℕ × ℕ) → Said
+filtered_by uses = ran_alone (i.LoadConst (text (codes "a") false) ∷ (each filter_by uses ++ i.Emit ∷ []))
+
+abbrev pub test_by : List ℕ × ℕ → Instruction
+test_by named = i.PerformTest named.0 (Some 1) named.1
+
+-- 1 passed to tests, and each answer to the next
+abbrev pub tested_by : List (List ℕ × ℕ) → Said
+tested_by uses = ran_alone (i.LoadConst (number (pos 1)) ∷ (each test_by uses ++ i.Emit ∷ []))
+
+abbrev pub EndsIn : Said → List ℕ → List ErrorKind → Type 0
+EndsIn s t chain = (s.text ≡ t) × (s.chain ≡ chain)

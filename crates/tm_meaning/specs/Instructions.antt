@@ -1,6 +1,6 @@
 -- What each instruction does once it is paid for.
-use Rattle.std.specs.Prelude.{ℕ, ◌+◌, pos, List, [], ◌∷◌, ◌++◌, length, nat_lt, nat_eq, Option, Some, None, Bool, true, false, ◌&&◌}
-use Rattle.std.specs.Prelude.{slice_get}
+use Rattle.std.specs.Prelude.{ℕ, zero, suc, ◌+◌, pos, List, [], ◌∷◌, ◌++◌, length, nat_lt, nat_eq, Option, Some, None, Bool, true, false}
+use Rattle.std.specs.Prelude.{◌&&◌, slice_get, if◌then◌else◌}
 use Rattle.tm_values.specs.Val.{Val, undefined, boolean, number}
 use Rattle.tm_values.specs.declared.escape.AutoEscape.{AutoEscape}
 use Rattle.tm_syntax.specs.declared.instruction.CaptureMode.{CaptureMode}
@@ -13,11 +13,14 @@ use Rattle.tm_meaning.specs.World.{choose, TemplateId, World, HostValue, Loop, t
 use Rattle.tm_meaning.specs.World.{items_over, Res, Good, answered, looked_up, emitted, escape_for, with_escape, store, unpacked_items}
 use Rattle.tm_meaning.specs.World.{set_member, push, pop, plain_scope, captured_text}
 use Rattle.tm_syntax.specs.Loops.{loops_before}
+use Rattle.tm_syntax.specs.CacheNumbers.{no_cache, cache_count}
+use Rattle.tm_syntax.specs.Named.{same_name}
 use Rattle.tm_syntax.specs.declared.tree.Application.{Application}
+use Rattle.tm_syntax.specs.declared.tree.Application.TheVariants as applications
 use Rattle.tm_meaning.specs.Calls.{enter_block, call_named, call_callee, applied, call_innermost}
 use Rattle.tm_meaning.specs.Meaning.{none_waits, truth, applied_unary, operated, attribute, item_at, slice_of, list_of_values, map_of_pairs}
 use Rattle.tm_meaning.specs.Meaning.{keyword_map, merged_values, items_of_lists}
-use Rattle.tm_meaning.specs.Machine.{Capture, Return, Activation, Config, Base, Next, More, after, on_top, take_n, onto, on, goes, pushed}
+use Rattle.tm_meaning.specs.Machine.{Capture, Caches, Return, Activation, Config, Base, Next, More, after, on_top, take_n, onto, on, goes, pushed}
 use Rattle.tm_meaning.specs.Machine.{Program, jumps, stuck, with_world, audible, writes, new_capture, captured_value, asked, asked_in_place}
 
 -- ---------------------------------------------------------------- output
@@ -264,6 +267,45 @@ apply_of p k x n c = take_counted n c.run.operands c.world (λ vs rest. asked p 
 -- the first of the values is called with the others
 abbrev pub call_object_of : Program → Option ℕ → Config → Next
 call_object_of p n c = take_counted n c.run.operands c.world (λ vs rest. asked p c rest (call_callee p.host vs c.world))
+
+-- whether a cache that holds this may hold a name: it is empty, or has the name
+abbrev pub may_hold : Option (Option (List ℕ)) → List ℕ → Bool
+may_hold None x = true
+may_hold (Some None) x = true
+may_hold (Some (Some y)) x = same_name x y
+
+-- the cache of a number holds a name
+abbrev pub holding : ℕ → List ℕ → Caches → Caches
+holding zero x [] = Some x ∷ []
+holding zero x (held ∷ more) = Some x ∷ more
+holding (suc n) x [] = None ∷ holding n x []
+holding (suc n) x (held ∷ more) = held ∷ holding n x more
+
+-- The caches behind a use of a name by its number; none where that is no number of a cache, or its cache holds another name.
+abbrev pub used : ℕ → List ℕ → Caches → Option Caches
+used cache x held =
+    if nat_eq cache no_cache then Some held
+    else if nat_lt cache cache_count && may_hold (slice_get held cache) x then Some (holding cache x held)
+    else None
+
+abbrev pub on_used : Option Caches → World → (Caches → Next) → Next
+on_used None w f = stuck w
+on_used (Some held) w f = f held
+
+abbrev pub with_filters : Caches → Config → Config
+with_filters held c = record c { run = record c.run { filters = held } }
+
+abbrev pub with_tests : Caches → Config → Config
+with_tests held c = record c { run = record c.run { tests = held } }
+
+-- and to a filter or a test of a cache number
+abbrev pub apply_filter_of : Program → List ℕ → Option ℕ → ℕ → Config → Next
+apply_filter_of p x n cache c =
+    on_used (used cache x c.run.filters) c.world (λ held. apply_of p applications.Filter x n (with_filters held c))
+
+abbrev pub perform_test_of : Program → List ℕ → Option ℕ → ℕ → Config → Next
+perform_test_of p x n cache c =
+    on_used (used cache x c.run.tests) c.world (λ held. apply_of p applications.Test x n (with_tests held c))
 
 abbrev pub call_block_of : Program → Base → List ℕ → Config → Next
 call_block_of p f b c =

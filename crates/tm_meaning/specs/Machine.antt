@@ -27,9 +27,13 @@ pub record Return : Type 0 where
   pub parent : Option TemplateId
   pub value : Bool
 
+-- The names that caches hold, each at the cache's number; behind them all caches are empty.
+abbrev pub Caches : Type 0
+Caches = List (Option (List ℕ))
+
 -- What is a run's own: its stream and the place in it, its operands, the topmost first, the escapes that its open `autoescape`s replaced,
 -- for each loop that it has open where that goes on if it was called, the captures that stood when this run or the innermost called loop
--- began, the parent that waits.
+-- began, the parent that waits, the caches for filters and those for tests.
 pub record Activation : Type 0 where
   pub stream : StreamId
   pub place : ℕ
@@ -38,6 +42,8 @@ pub record Activation : Type 0 where
   pub loops : List (Option Return)
   pub floor : ℕ
   pub parent : Option TemplateId
+  pub filters : Caches
+  pub tests : Caches
 
 -- Where the machine stands: the run, the open captures of all runs, innermost first, and the world.
 pub record Config : Type 0 where
@@ -140,7 +146,17 @@ writes f t c = choose (audible f c) (λ _. More (put_out c.captures t) (record c
 
 -- ---------------------------------------------------------------- runs
 abbrev pub run_from : StreamId → ℕ → Activation
-run_from s floor = record { stream = s; place = 0; operands = []; escapes = []; loops = []; floor = floor; parent = None }
+run_from s floor = record {
+  stream = s;
+  place = 0;
+  operands = [];
+  escapes = [];
+  loops = [];
+  floor = floor;
+  parent = None;
+  filters = [];
+  tests = [];
+}
 
 -- a run of a callee from its first place, over captures and in a world
 abbrev pub start : Callee → List Capture → World → Config

@@ -15,6 +15,7 @@ use Rattle.tm_meaning.specs.Instructions.{compare_and_preserve_of, swap_of, dup_
 use Rattle.tm_meaning.specs.Instructions.{build_list_of, build_map_of, build_kwargs_of, jump_of, jump_if_false_of, jump_if_false_or_pop_of}
 use Rattle.tm_meaning.specs.Instructions.{merge_kwargs_of, unpack_lists_of, call_object_of}
 use Rattle.tm_meaning.specs.Instructions.{jump_if_true_or_pop_of, call_function_of, apply_of, fast_recurse_of, call_block_of}
+use Rattle.tm_meaning.specs.Instructions.{apply_filter_of, perform_test_of}
 use Rattle.tm_meaning.specs.Instructions.{store_local_of, unpack_list_of, set_attr_of, push_with_of, pop_frame_of, push_loop_of, iterate_of}
 use Rattle.tm_meaning.specs.Instructions.{push_did_not_iterate_of, pop_loop_frame_of, begin_capture_of, end_capture_of, push_auto_escape_of}
 use Rattle.tm_meaning.specs.Instructions.{pop_auto_escape_of}
@@ -70,8 +71,8 @@ charge_of (i.JumpIfTrueOrPop _) = 1
 charge_of (i.CallFunction _ _) = 1
 charge_of (i.CallMethod _ _) = 1
 charge_of (i.CallObject _) = 1
-charge_of (i.ApplyFilter _ _) = 1
-charge_of (i.PerformTest _ _) = 1
+charge_of (i.ApplyFilter _ _ _) = 1
+charge_of (i.PerformTest _ _ _) = 1
 charge_of (i.CallBlock _) = 1
 charge_of (i.StoreLocal _) = 1
 charge_of (i.UnpackList _) = 1
@@ -126,8 +127,8 @@ effect p f (i.JumpIfTrueOrPop n) c = jump_if_true_or_pop_of p.host n c
 effect p f (i.CallFunction x n) c = call_function_of p x n c
 effect p f (i.CallMethod x n) c = apply_of p applications.Method x n c
 effect p f (i.CallObject n) c = call_object_of p n c
-effect p f (i.ApplyFilter x n) c = apply_of p applications.Filter x n c
-effect p f (i.PerformTest x n) c = apply_of p applications.Test x n c
+effect p f (i.ApplyFilter x n cache) c = apply_filter_of p x n cache c
+effect p f (i.PerformTest x n cache) c = perform_test_of p x n cache c
 effect p f i.FastRecurse c = fast_recurse_of p f c
 effect p f (i.CallBlock b) c = call_block_of p f b c
 effect p f (i.StoreLocal x) c = store_local_of x c

@@ -27,11 +27,12 @@ ghost use Rattle.tm_meaning.specs.Rows.{x};
 ghost use Rattle.tm_meaning.specs.SpreadRows.{sum_of_lists, sum_of_both, sum_of_items, spread_to_filter};
 ghost use Rattle.tm_meaning.specs.SpreadRows.{dict_of_maps, dict_between, dict_of_pairs, range_of_both};
 ghost use Rattle.tm_meaning.specs.SpreadRows.{namespace_of_one, called_item, called_number, called_text};
-ghost use Rattle.tm_meaning.specs.FilterRows.{is_unsure, under, unknown, filter_block, two_filters, last_counts, set_filtered};
+ghost use Rattle.tm_meaning.specs.FilterRows.{is_unsure, under, unknown, filtered_by, tested_by, EndsIn};
+ghost use Rattle.tm_meaning.specs.FilterRows.{filter_block, two_filters, last_counts, set_filtered};
 ghost use Rattle.tm_meaning.specs.FilterRows.{capitals_in_html, safe_in_html, break_in_filter, fault_in_filter};
 ghost use Rattle.tm_syntax.specs.declared.tree.Application.TheVariants.{Filter, Test, NegatedTest};
 ghost use Rattle.tm_values.specs.declared.undefined.UndefinedBehavior.TheVariants.{SemiStrict, Strict};
-ghost use Rattle.tm_values.specs.declared.error.ErrorKind.TheVariants.{UnknownFilter, UnknownTest};
+ghost use Rattle.tm_values.specs.declared.error.ErrorKind.TheVariants.{BadStream, UnknownFilter, UnknownTest};
 
 /// `Hello {{ name }}!` with the name World takes 4 charges, so 5 units of fuel; with fewer it ends where the fuel does.
 pub fn hello_rows()
@@ -282,6 +283,21 @@ pub fn filter_block_rows()
     ensures broken { Charges break_in_filter (codes "!") 8 }
     ensures fuel_ends_inside { Says two_filters 5 [] 0 (OutOfFuel ∷ []) }
     ensures fault_inside { Fails fault_in_filter (codes "a") (UnknownFilter ∷ []) }
+{}
+
+/// Filters and tests by cache numbers: one name with one number, with two, and without; two names with one
+/// number; numbers that are none. No compiler writes such code, but for the first.
+pub fn cache_rows()
+    ensures again { EndsIn (filtered_by ((codes "upper", 3) ∷ (codes "upper", 3) ∷ [])) (codes "A") [] }
+    ensures two { EndsIn (filtered_by ((codes "upper", 3) ∷ (codes "upper", 0) ∷ [])) (codes "A") [] }
+    ensures free { EndsIn (filtered_by ((codes "upper", 255) ∷ (codes "second", 255) ∷ [])) [] [] }
+    ensures last { EndsIn (filtered_by ((codes "upper", 49) ∷ [])) (codes "A") [] }
+    ensures other { EndsIn (filtered_by ((codes "upper", 3) ∷ (codes "second", 3) ∷ [])) [] (BadStream ∷ []) }
+    ensures past { EndsIn (filtered_by ((codes "upper", 50) ∷ [])) [] (BadStream ∷ []) }
+    ensures below { EndsIn (filtered_by ((codes "upper", 254) ∷ [])) [] (BadStream ∷ []) }
+    ensures test { EndsIn (tested_by ((codes "odd", 0) ∷ (codes "odd", 0) ∷ [])) (codes "false") [] }
+    ensures other_test { EndsIn (tested_by ((codes "odd", 0) ∷ (codes "u", 0) ∷ [])) [] (BadStream ∷ []) }
+    ensures past_tests { EndsIn (tested_by ((codes "odd", 50) ∷ [])) [] (BadStream ∷ []) }
 {}
 
 /// Loops that are called: `{{ loop(x) }}` in place, over `[[]]`, a number, in a loop that can't be

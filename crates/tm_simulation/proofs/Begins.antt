@@ -1,5 +1,5 @@
 -- The loops that code begins: their numbers, and that each of a tree stands in its code.
-use Rattle.std.proofs.Common.{◌≡◌, ℕ, zero, suc, ◌+◌, ◌⊎◌, List, [], ◌∷◌, ◌++◌, length, Option, Some, None, true, refl, sym, ap, subst}
+use Rattle.std.proofs.Common.{◌≡◌, ℕ, zero, suc, ◌+◌, ◌⊎◌, List, [], ◌∷◌, ◌++◌, length, Option, Some, None, Bool, true, false, refl, sym, ap, subst}
 use Rattle.std.proofs.Common.{◌∙◌, arith}
 use Rattle.std.specs.Prelude.{slice_get}
 use Rattle.std.proofs.lemmas.List.{append-nil}
@@ -15,6 +15,8 @@ use Rattle.tm_syntax.specs.declared.jump.JumpKind.{JumpKind}
 use Rattle.tm_syntax.specs.declared.jump.JumpKind.TheVariants.{IfFalse, IfFalseOrPop, IfTrueOrPop}
 use Rattle.tm_syntax.specs.Code.{target_code, statements_code}
 use Rattle.tm_syntax.proofs.Standing.{HasAt, At, beyond_is}
+use Rattle.tm_simulation.specs.Uncached.{is_uncached, AllUncached}
+use Rattle.tm_simulation.proofs.Numbered.{both_uncached}
 
 -- ---------------------------------------------------------------- numbers
 one_more_out : (o : Option LoopFlags) (g : Option LoopFlags) (n : ℕ) → one_more_loop o (one_more_loop g n) ≡ one_more_loop g
@@ -96,10 +98,11 @@ match_at all (l ∷ ls) (p ∷ ps) zero h = h.0
 match_at all (l ∷ ls) (p ∷ ps) (suc n) h = match_at all ls ps n h.1
 
 -- ---------------------------------------------------------------- what code begins
--- Wherever this code stands after so many loops it begins these, and so many stand before what follows it.
+-- Wherever this code stands after so many loops it begins these, and so many stand before what follows it. No name in it has a cache.
 pub record Begun (all : List Instruction) (l : Labels) (pc : ℕ) (c : Fragment) (ls : List FoundLoop) (to : ℕ) : Type 0 where
   pub number : loops_before (beyond pc c) all ≡ to
   pub found : Match all ls (loop_places pc (assemble l pc c))
+  pub uncached : AllUncached (assemble l pc c)
 
 abbrev pub Begins : ℕ → Fragment → List FoundLoop → ℕ → Type 0
 Begins at c ls to = (all : List Instruction) (l : Labels) (pc : ℕ) → At all l pc c → loops_before pc all ≡ at → Begun all l pc c ls to
@@ -114,12 +117,13 @@ both_begin {c = c} {d = d} {ls = ls} {ks = ks} f g all l pc is e =
       number = b.number;
       found = subst (λ ps. Match all (ls ++ ks) ps) (sym (places_then l pc c (assemble l (beyond pc c) d)))
           (match_both all ls ks _ _ a.found b.found);
+      uncached = both_uncached (assemble l pc c) (assemble l (beyond pc c) d) a.uncached b.uncached;
     }
 
 pub bounded_begins : {at to : ℕ} {c : Fragment} {ls : List FoundLoop} → Begins at c ls to → Begins at (bounded c) ls to
 bounded_begins {c = c} f all l pc is e =
     let a = f all (outward (beyond pc c) l) pc is e in
-    record { number = a.number; found = a.found }
+    record { number = a.number; found = a.found; uncached = a.uncached }
 
 pub fork_begins : {at m to : ℕ} {c d : Fragment} {ls ks : List FoundLoop} → Begins at c ls m → Begins m d ks to →
     Begins at (fork c d) (ls ++ ks) to
@@ -132,13 +136,15 @@ fork_begins {c = c} {d = d} {ls = ls} {ks = ks} f g all l pc is e =
       found = subst (λ ps. Match all (ls ++ ks) ps)
           (sym (places_then (outward second l) pc c (i.Jump (beyond second d) ∷ assemble l second d)))
           (match_both all ls ks _ _ a.found b.found);
+      uncached = both_uncached (assemble (outward second l) pc c) (i.Jump (beyond second d) ∷ assemble l second d) a.uncached
+          (refl, b.uncached);
     }
 
 pub aside_begins : {at to : ℕ} {c : Fragment} {ls : List FoundLoop} → Begins at c ls to → Begins at (aside c) ls to
 aside_begins {c = c} f all l pc is e =
     let end = beyond (pc + 1) c in
     let a = f all (ending_at end) (pc + 1) is.1 (after_one pc all (i.Jump end) is.0 ∙ e) in
-    record { number = a.number; found = a.found }
+    record { number = a.number; found = a.found; uncached = (refl, a.uncached) }
 
 -- A loop of code is this one of the tree.
 abbrev pub IsLoop : FoundLoop → ℕ → LoopFlags → Fragment → Fragment → Type 0
@@ -160,12 +166,31 @@ loop_begins {f = f} {g = g} {c = c} {d = d} {ls = ls} {ks = ks} one r s all l pc
         subst (λ ps. Match all (ls ++ ks) ps) (sym (places_then k (pc + 1 + 1) c (i.Jump (pc + 1) ∷ assemble l end d)))
             (match_both all ls ks _ _ a.found b.found),
       );
+      uncached = (
+        refl,
+        (refl, both_uncached (assemble k (pc + 1 + 1) c) (i.Jump (pc + 1) ∷ assemble l end d) a.uncached (refl, b.uncached)),
+      );
     }
 
 -- ---------------------------------------------------------------- code that begins none
+-- whether an instruction begins no loop, and no name of its has a cache
+abbrev pub is_simple : Instruction → Bool
+is_simple (i.PushLoop _) = false
+is_simple x = is_uncached x
+
+simple_begins : (x : Instruction) → is_simple x ≡ true → begins x ≡ None
+simple_begins (i.PushLoop _) e = absurd (cc e)
+simple_begins _ e = refl
+
+simple_uncached : (x : Instruction) → is_simple x ≡ true → is_uncached x ≡ true
+simple_uncached (i.PushLoop _) e = refl
+simple_uncached (i.ApplyFilter x n cache) e = e
+simple_uncached (i.PerformTest x n cache) e = e
+simple_uncached _ e = refl
+
 abbrev pub NoneBegins : List Instruction → Type 0
 NoneBegins [] = Unit {0}
-NoneBegins (x ∷ is) = (begins x ≡ None) × NoneBegins is
+NoneBegins (x ∷ is) = (is_simple x ≡ true) × NoneBegins is
 
 abbrev pub Loopless : Fragment → Type 0
 Loopless (straight is) = NoneBegins is
@@ -185,13 +210,17 @@ one_begins all pc at x none is e = after_one pc all x is ∙ ap (λ o. one_more_
 none_number : (all : List Instruction) (pc at : ℕ) (is : List Instruction) → NoneBegins is → HasAt all pc is → loops_before pc all ≡ at →
     loops_before (beyond_all pc is) all ≡ at
 none_number all pc at [] n h e = e
-none_number all pc at (x ∷ is) n h e = none_number all (pc + 1) at is n.1 h.1 (one_begins all pc at x n.0 h.0 e)
+none_number all pc at (x ∷ is) n h e = none_number all (pc + 1) at is n.1 h.1 (one_begins all pc at x (simple_begins x n.0) h.0 e)
 
 none_places : (pc : ℕ) (is : List Instruction) → NoneBegins is → loop_places pc is ≡ []
 none_places pc [] n = refl
-none_places pc (x ∷ is) n = ap (λ o. with_place o pc (loop_places (pc + 1) is)) n.0 ∙ none_places (pc + 1) is n.1
+none_places pc (x ∷ is) n = ap (λ o. with_place o pc (loop_places (pc + 1) is)) (simple_begins x n.0) ∙ none_places (pc + 1) is n.1
 
-jump_none : (j : JumpKind) (to : ℕ) → begins (jump j to) ≡ None
+none_cached : (is : List Instruction) → NoneBegins is → AllUncached is
+none_cached [] n = tt
+none_cached (x ∷ is) n = (simple_uncached x n.0, none_cached is n.1)
+
+jump_none : (j : JumpKind) (to : ℕ) → is_simple (jump j to) ≡ true
 jump_none IfFalse to = refl
 jump_none IfFalseOrPop to = refl
 jump_none IfTrueOrPop to = refl
@@ -200,13 +229,15 @@ straight_begins : (at : ℕ) (is : List Instruction) → NoneBegins is → Begin
 straight_begins at is n all l pc h e = record {
   number = none_number all pc at is n h e;
   found = subst (λ ps. Match all [] ps) (sym (none_places pc is n)) tt;
+  uncached = none_cached is n;
 }
 
 jump_begins : (at : ℕ) (j : JumpKind) → Begins at (jump_out j) [] at
 jump_begins at j all l pc h e =
     record {
-      number = one_begins all pc at (jump j l.out) (jump_none j l.out) h e;
+      number = one_begins all pc at (jump j l.out) (simple_begins (jump j l.out) (jump_none j l.out)) h e;
       found = subst (λ ps. Match all [] ps) (sym (none_places pc (jump j l.out ∷ []) (jump_none j l.out, tt))) tt;
+      uncached = none_cached (jump j l.out ∷ []) (jump_none j l.out, tt);
     }
 
 pub none_begin : (at : ℕ) (c : Fragment) → Loopless c → Begins at c [] at
@@ -216,8 +247,8 @@ none_begin at (jump_out j) n = jump_begins at j
 none_begin at (bounded c) n = bounded_begins (none_begin at c n)
 none_begin at (fork c d) n = fork_begins (none_begin at c n.0) (none_begin at d n.1)
 none_begin at (looped g c d) n = absurd n
-none_begin at break_loop n = λ all l pc h e. record { number = one_begins all pc at (i.Jump l.after) refl h e; found = tt }
-none_begin at next_round n = λ all l pc h e. record { number = one_begins all pc at (i.Jump l.again) refl h e; found = tt }
+none_begin at break_loop n = λ all l pc h e. record { number = one_begins all pc at (i.Jump l.after) refl h e; found = tt; uncached = (refl, tt) }
+none_begin at next_round n = λ all l pc h e. record { number = one_begins all pc at (i.Jump l.again) refl h e; found = tt; uncached = (refl, tt) }
 none_begin at (aside c) n = aside_begins (none_begin at c n)
 
 -- a jump over code

@@ -15,6 +15,7 @@ use Rattle.tm_syntax.specs.declared.tree.Expr.{end_of-Step as no_step, more_of-S
 use Rattle.tm_syntax.specs.declared.tree.Expr.{end_of-Condition as no_condition}
 use Rattle.tm_syntax.specs.declared.tree.Argument.{Argument}
 use Rattle.tm_syntax.specs.declared.tree.Application.{Application}
+use Rattle.tm_syntax.specs.CacheNumbers.{no_cache}
 use Rattle.tm_syntax.specs.declared.tree.Application.TheVariants as applications
 use Rattle.tm_syntax.specs.declared.tree.Step.{Step, Attribute, Apply', Call' as Called, Row_of-Comparison, end_of-Comparison as no_comparison}
 use Rattle.tm_syntax.specs.declared.instruction.Instruction.{Instruction}
@@ -153,11 +154,11 @@ module _ (setting : Setting) where
   passed_then applications.Method f b m run s pc vs stack w long d is h =
       passes applications.Method (i.CallMethod f (count_by b m)) f b m (λ c. refl) run s pc vs stack w _ long d is.0 h (λ y world1 g. g)
   passed_then applications.Filter f b m run s pc vs stack w long d is h =
-      passes applications.Filter (i.ApplyFilter f (count_by b m)) f b m (λ c. refl) run s pc vs stack w _ long d is.0 h (λ y world1 g. g)
+      passes applications.Filter (i.ApplyFilter f (count_by b m) no_cache) f b m (λ c. refl) run s pc vs stack w _ long d is.0 h (λ y world1 g. g)
   passed_then applications.Test f b m run s pc vs stack w long d is h =
-      passes applications.Test (i.PerformTest f (count_by b m)) f b m (λ c. refl) run s pc vs stack w _ long d is.0 h (λ y world1 g. g)
+      passes applications.Test (i.PerformTest f (count_by b m) no_cache) f b m (λ c. refl) run s pc vs stack w _ long d is.0 h (λ y world1 g. g)
   passed_then applications.NegatedTest f b m run s pc vs stack w long d is h =
-      passes applications.NegatedTest (i.PerformTest f (count_by b m)) f b m (λ c. refl) run s pc vs stack w _ long d is.0 h
+      passes applications.NegatedTest (i.PerformTest f (count_by b m) no_cache) f b m (λ c. refl) run s pc vs stack w _ long d is.0 h
       (λ y world1 g. unary_then unaries.Not s (pc + 1) y stack world1 is.1.0 g)
 
   -- an instruction that makes a call

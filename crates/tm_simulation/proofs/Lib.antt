@@ -17,5 +17,7 @@ mod Rounds
 mod Statements
 mod Recursion
 pub mod Simulation
+mod Numbered
+mod Cached
 mod Begins
 mod TreeLoops

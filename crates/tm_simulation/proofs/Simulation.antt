@@ -5,7 +5,7 @@ use Rattle.std.specs.Prelude.{slice_get, nat_eq}
 use Rattle.std.proofs.lemmas.Option.{slice_get_past}
 use Rattle.tm_syntax.specs.declared.instruction.Instruction.TheVariants as i
 use Rattle.tm_syntax.specs.Fragments.{Fragment, beyond, whole_labels, assembled}
-use Rattle.tm_syntax.specs.Code.{statements_code}
+use Rattle.tm_syntax.specs.Code.{statements_code, unnumbered_code}
 use Rattle.tm_meaning.specs.World.{HostValue, World}
 use Rattle.tm_meaning.specs.World.{Res, Good, Bad, tick}
 use Rattle.tm_meaning.specs.World.{captured_text}
@@ -17,13 +17,17 @@ use Rattle.tm_meaning.specs.Meaning.{capturing}
 use Rattle.tm_meaning.specs.Meaning.{done_by, exec_all}
 use Rattle.tm_meaning.specs.Meaning.{new_run, at_end, nests_of, rendered}
 use Rattle.tm_meaning.specs.Machine.{new_capture, recursion, Capture as OpenCapture, Finished}
-use Rattle.tm_meaning.specs.Machine.{Stuck, Over, Program, base_of, run_from}
+use Rattle.tm_meaning.specs.Machine.{Stuck, Over, Program, base_of, run_from, start}
 use Rattle.tm_meaning.specs.Steps.{act, finish, Final, final, over as is_over}
 use Rattle.tm_meaning.specs.Compiled.{IsCompiled, code_of}
 use Rattle.tm_meaning.proofs.Ends.{one_end}
 use Rattle.tm_simulation.specs.Reached.{RunsTo, Renders, text_in, end_by, final_in, final_of, HasLevels}
 use Rattle.tm_syntax.proofs.Standing.{At, beyond_is, stands_whole}
 use Rattle.tm_syntax.specs.Loops.{loops_in, loop_places}
+use Rattle.tm_syntax.specs.CacheNumbers.{numbered}
+use Rattle.tm_simulation.specs.Uncached.{AllUncached, HasNoCaches, with_numbers}
+use Rattle.tm_simulation.proofs.Cached.{starts_empty, reaches_too}
+use Rattle.tm_simulation.proofs.Numbered.{IsNumbered, numbered_is}
 use Rattle.tm_simulation.proofs.Begins.{Both, Match, match_at}
 use Rattle.tm_simulation.proofs.TreeLoops.{statements_begin}
 use Rattle.tm_simulation.proofs.Advances.{Kept, kept_frames, kept_then}
@@ -56,7 +60,11 @@ stands_start : (id : StreamId) (b : Bed) (out : List ℕ) (heard : Bool) (w : Wo
     Stands (base_of heard (captures_of b out) w) (new_run heard w) (spot_of id b out)
 stands_start id b out heard w = (refl, omega arith, fits_start b out heard w)
 
-module _ (p : Program) (trees : Trees) (compiled : IsCompiled trees p) where
+-- Each stream of the program is the code of its tree before it has its cache numbers.
+abbrev IsUnnumbered : Trees → Program → Type 0
+IsUnnumbered trees p = (s : StreamId) → p.code s ≡ unnumbered_code (trees s).row
+
+module _ (p : Program) (trees : Trees) (compiled : IsUnnumbered trees p) where
   abbrev in_program : Base → Final → RunContext
   in_program f end = record { program = p; base = f; final = end }
 
@@ -246,17 +254,54 @@ captured_end leave h told ks out w = refl
 captured_end next h told ks out w = refl
 captured_end (fault chain) h told ks out w = refl
 
-pub nested_comes_to_meaning : (trees : Trees) (p : Program) (n : ℕ) (k : Callee) (heard : Bool) (captures : List OpenCapture)
-    (told : List ℕ) (w : World) → IsCompiled trees p → HasLevels p.host (suc n) w →
+unnumbered_comes : (trees : Trees) (p : Program) (n : ℕ) (k : Callee) (heard : Bool) (captures : List OpenCapture)
+    (told : List ℕ) (w : World) → IsUnnumbered trees p → HasLevels p.host (suc n) w →
     RunsTo p k heard captures told w (final_in captures told (nests_of p.host trees (suc n) k heard (text_in captures told) w))
-nested_comes_to_meaning trees p n k heard [] told w compiled enough =
+unnumbered_comes trees p n k heard [] told w compiled enough =
     let o = nests_of p.host trees (suc n) k heard told w in
     subst (λ e. RunsTo p k heard [] told w e) (unheard_end o.ending o.text o.world)
     (level_runs p trees compiled n k heard air told w enough)
-nested_comes_to_meaning trees p n k heard (c ∷ ks) told w compiled enough =
+unnumbered_comes trees p n k heard (c ∷ ks) told w compiled enough =
     let o = nests_of p.host trees (suc n) k heard c.text w in
     subst (λ e. RunsTo p k heard (c ∷ ks) told w e) (captured_end o.ending c.heard told ks o.text o.world)
     (level_runs p trees compiled n k heard (inside c.heard told ks) c.text w enough)
+
+-- ---------------------------------------------------------------- with cache numbers
+pub numbers_change_nothing : (p : Program) (k : Callee) (heard : Bool) (captures : List OpenCapture) (told : List ℕ) (w : World)
+    (end : Final) → HasNoCaches p → RunsTo p k heard captures told w end → RunsTo (with_numbers p) k heard captures told w end
+numbers_change_nothing p k heard captures told w end none run =
+    let empty = starts_empty k captures w in
+    reaches_too p.host p.code (λ s. numbered (p.code s)) (λ s. numbered_is (p.code s) (none s)) (base_of heard captures w) told
+    (start k captures w) end empty.0 empty.1 run
+
+-- the same streams before they have them
+abbrev unnumbered : Trees → Program → Program
+unnumbered trees p = record { host = p.host; code = λ s. unnumbered_code (trees s).row }
+
+uncached : (trees : Trees) (s : StreamId) → AllUncached (unnumbered_code (trees s).row)
+uncached trees s =
+    let c = statements_code [] (trees s).row in
+    (statements_begin [] 0 (trees s).row (assembled c) (whole_labels c) 0 (stands_whole c) refl).uncached
+
+numbered_streams : (trees : Trees) (p : Program) → IsCompiled trees p → (s : StreamId) →
+    IsNumbered (unnumbered_code (trees s).row) (p.code s)
+numbered_streams trees p compiled s =
+    let code = unnumbered_code (trees s).row in
+    subst (λ c. IsNumbered code c) (sym (compiled s)) (numbered_is code (uncached trees s))
+
+once_numbered : (trees : Trees) (p : Program) (k : Callee) (heard : Bool) (captures : List OpenCapture) (told : List ℕ) (w : World)
+    (end : Final) → IsCompiled trees p → RunsTo (unnumbered trees p) k heard captures told w end → RunsTo p k heard captures told w end
+once_numbered trees p k heard captures told w end compiled run =
+    let empty = starts_empty k captures w in
+    reaches_too p.host (λ s. unnumbered_code (trees s).row) p.code (numbered_streams trees p compiled) (base_of heard captures w) told
+    (start k captures w) end empty.0 empty.1 run
+
+pub nested_comes_to_meaning : (trees : Trees) (p : Program) (n : ℕ) (k : Callee) (heard : Bool) (captures : List OpenCapture)
+    (told : List ℕ) (w : World) → IsCompiled trees p → HasLevels p.host (suc n) w →
+    RunsTo p k heard captures told w (final_in captures told (nests_of p.host trees (suc n) k heard (text_in captures told) w))
+nested_comes_to_meaning trees p n k heard captures told w compiled enough =
+    once_numbered trees p k heard captures told w _ compiled
+    (unnumbered_comes trees (unnumbered trees p) n k heard captures told w (λ s. refl) enough)
 
 -- Fragment comes to one end, whatever the levels.
 pub same_with_levels : (host : HostValue) (trees : Trees) (n m : ℕ) (k : Callee) (heard : Bool) (out : List ℕ) (w : World) →
@@ -272,7 +317,9 @@ same_with_levels host trees n m k heard out w enough also =
 pub comes_to_meaning : (trees : Trees) (p : Program) (w : World) → IsCompiled trees p → Renders p w (final_of (rendered p.host trees w))
 comes_to_meaning trees p w compiled =
     let o = rendered p.host trees w in
-    subst (λ e. Renders p w e) (unheard_end o.ending o.text o.world) (render_runs p trees compiled air w)
+    once_numbered trees p (whole w.stream) true [] [] w _ compiled
+    (subst (λ e. Renders (unnumbered trees p) w e) (unheard_end o.ending o.text o.world)
+    (render_runs (unnumbered trees p) trees (λ s. refl) air w))
 
 not_stuck_by : (e : Ending) (w left : World) → end_by e [] w ≡ Stuck left → ⊥
 not_stuck_by done w left e = cc

@@ -12,12 +12,13 @@ ghost use Rattle.tm_meaning.specs.Calls.{Callee};
 ghost use Rattle.tm_meaning.specs.Tree.{Body, Trees};
 ghost use Rattle.tm_meaning.specs.Meaning.{Run, block_tag, chain_of, nests_of, rendered, under};
 ghost use Rattle.tm_meaning.specs.Machine.{Program, Capture, Stuck};
-ghost use Rattle.tm_meaning.specs.Steps.{final};
+ghost use Rattle.tm_meaning.specs.Steps.{Final, final};
 ghost use Rattle.tm_meaning.specs.Compiled.{IsCompiled};
 ghost use Rattle.tm_simulation.specs.Kept.{Stays, Grows, PutsBack};
 ghost use Rattle.tm_simulation.specs.Chains.{Arises, IfAny, HasRaised, StatesOnly};
 ghost use Rattle.tm_simulation.specs.Chains.{StatesNoMemory, ends_in_memory, MayWrap, is_foreign, HasNoForeign};
 ghost use Rattle.tm_simulation.specs.Reached.{RunsTo, Renders, HasLevels};
+ghost use Rattle.tm_simulation.specs.Uncached.{HasNoCaches, with_numbers};
 ghost use Rattle.tm_simulation.specs.Reached.{text_in, final_in, final_of};
 
 /// The code of trees, from any world, comes to what the trees mean: its text, its world, and its end.
@@ -35,6 +36,14 @@ pub fn nested_code_comes_to_its_meaning()
         IsCompiled trees p → HasLevels p.host (suc n) w →
         let meant = nests_of p.host trees (suc n) k heard (text_in captures told) w in
         RunsTo p k heard captures told w (final_in captures told meant) }
+{}
+
+/// A run comes to the same end, with the same text, once the names of its streams have their cache numbers.
+pub fn cache_numbers_change_no_run()
+    ensures { (p : Program) (k : Callee) (heard : Bool) (captures : List Capture) (told : List ℕ)
+        (w : World) (end : Final) → HasNoCaches p →
+        RunsTo p k heard captures told w end →
+        RunsTo (with_numbers p) k heard captures told w end }
 {}
 
 /// What a run means is the same with any levels that are enough.

@@ -35,6 +35,7 @@ use Rattle.tm_syntax.specs.declared.opened.Opened.TheVariants.{Scope as a_scope,
 use Rattle.tm_syntax.specs.Forms.{unary, chained, conditional, with_condition, with_comparison, with_pair, plain, spread, keyword}
 use Rattle.tm_syntax.specs.Forms.{spread_keywords, item, slice, binary, compare, and_then, or_else}
 use Rattle.tm_syntax.specs.declared.jump.JumpKind.TheVariants.{IfFalse, IfFalseOrPop, IfTrueOrPop}
+use Rattle.tm_syntax.specs.CacheNumbers.{no_cache, numbered}
 use Rattle.tm_syntax.specs.Fragments.{Fragment, straight, ◌⨾◌, jump_out, fork, looped, break_loop, next_round, over, either, assembled}
 
 abbrev pub unary_code : UnaryOperator → Instruction
@@ -59,12 +60,12 @@ binary_code binaries.FloorDivide = i.IntDiv ∷ []
 binary_code binaries.Remainder = i.Rem ∷ []
 binary_code binaries.Power = i.Pow ∷ []
 
--- so many values are replaced by what a name answers to them
+-- so many values are replaced by what a name answers to them; filters and tests have no cache numbers yet
 abbrev pub application_code : Application → List ℕ → Option ℕ → List Instruction
 application_code applications.Method x n = i.CallMethod x n ∷ []
-application_code applications.Filter x n = i.ApplyFilter x n ∷ []
-application_code applications.Test x n = i.PerformTest x n ∷ []
-application_code applications.NegatedTest x n = i.PerformTest x n ∷ i.Not ∷ []
+application_code applications.Filter x n = i.ApplyFilter x n no_cache ∷ []
+application_code applications.Test x n = i.PerformTest x n no_cache ∷ []
+application_code applications.NegatedTest x n = i.PerformTest x n no_cache ∷ i.Not ∷ []
 
 -- ---------------------------------------------------------------- arguments
 -- A row of so many values becomes one, where there are any.
@@ -369,6 +370,10 @@ abbrev mutual
   after_loop_code os no_else = straight (i.PopLoopFrame ∷ [])
   after_loop_code os (otherwise _ body) = straight (i.PushDidNotIterate ∷ i.PopLoopFrame ∷ []) ⨾ over IfFalse (statements_code os body)
 
+-- statements on their own, before names have cache numbers
+abbrev pub unnumbered_code : {n : _} → Row_of-Stmt n → List Instruction
+unnumbered_code ss = assembled (statements_code [] ss)
+
 -- statements on their own
 abbrev pub stream_code : {n : _} → Row_of-Stmt n → List Instruction
-stream_code ss = assembled (statements_code [] ss)
+stream_code ss = numbered (unnumbered_code ss)

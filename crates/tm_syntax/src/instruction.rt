@@ -4,6 +4,12 @@ use crate::raw_text::RawText;
 use crate::tree::BinaryOperator;
 use tm_values::Value;
 
+/// How many caches a run has for filters, and how many for tests, by numbers from 0.
+pub const CACHES: u8 = 50;
+
+/// The number of what has no cache.
+pub const NO_CACHE: u8 = 255;
+
 /// What becomes of a capture's text.
 #[derive(Clone, Copy, PartialEq, Eq)]
 pub enum CaptureMode {
@@ -117,10 +123,12 @@ pub enum Instruction {
     CallMethod(Name, Option<usize>),
     /// Replaces so many values by what the first one, a function, answers to the others.
     CallObject(Option<usize>),
-    /// Replaces so many values by what the filter of a name answers to them.
-    ApplyFilter(Name, Option<usize>),
-    /// Replaces so many values by whether what the test of a name answers to them is true.
-    PerformTest(Name, Option<usize>),
+    /// Replaces so many values by what the filter of a name answers to them. Its cache number is below
+    /// `CACHES`, or `NO_CACHE`.
+    ApplyFilter(Name, Option<usize>, u8),
+    /// Replaces so many values by whether what the test of a name answers to them is true. Its cache number
+    /// is as a filter's.
+    PerformTest(Name, Option<usize>, u8),
     /// Runs the block of a name.
     CallBlock(Name),
     /// Pops a value, and gives it to a name of the innermost scope.

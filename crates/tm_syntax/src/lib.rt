@@ -12,7 +12,7 @@ mod token;
 mod tree;
 
 pub use code::Code;
-pub use instruction::{CaptureMode, Instruction, LoopFlags, LoopPlace};
+pub use instruction::{CACHES, CaptureMode, Instruction, LoopFlags, LoopPlace, NO_CACHE};
 pub use jump::JumpKind;
 pub use name::Name;
 pub use name_map::NameMap;

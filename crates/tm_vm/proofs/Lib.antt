@@ -1,5 +1,6 @@
 pub mod Shift
 pub mod Loop
+pub mod Used
 pub mod Performed
 pub mod Emitted
 pub mod Weight

@@ -17,9 +17,9 @@ use Rattle.tm_meaning.specs.World.{unpacked_items, set_member, open_loop, top_ma
 use Rattle.tm_meaning.specs.Calls.{Asked, has, refused, runs, recurs, call_named, call_callee, applied, call_innermost, enter_block}
 use Rattle.tm_meaning.specs.Meaning.{none_waits, truth, applied_unary, operated, attribute, item_at, slice_of, merged_values, items_of_lists}
 use Rattle.tm_meaning.specs.Instructions.{apply_of, replaces_one, replaces_two, take_counted, on_count, count_in, on_truth, iterate_with}
-use Rattle.tm_meaning.specs.Instructions.{end_capture_with}
+use Rattle.tm_meaning.specs.Instructions.{end_capture_with, on_used, used, with_filters, with_tests}
 use Rattle.tm_meaning.specs.Instructions.{pop_auto_escape_with, is_no_loop, on_loop, pop_loop_with, returned, returns, with_text}
-use Rattle.tm_meaning.specs.Machine.{Activation, Capture, Return, Config, Program, End, Failed, Stuck, Next, More, Over, Nest, Back, after}
+use Rattle.tm_meaning.specs.Machine.{Activation, Caches, Capture, Return, Config, Program, End, Failed, Stuck, Next, More, Over, Nest, Back, after}
 use Rattle.tm_meaning.specs.Machine.{on_top, on_taken, taken, on, with_world, writes, audible, new_capture, recursion, place_of_loop, asked}
 use Rattle.tm_meaning.specs.Machine.{asked_in_place}
 use Rattle.tm_meaning.specs.Steps.{charge_of, effect}
@@ -170,6 +170,11 @@ escape_adds n c (e ∷ es) = none_more n c
 apply_adds : (p : Program) (k : Application) (x : List ℕ) (n : Option ℕ) (c : Config) → Adds 1 c (apply_of p k x n c)
 apply_adds p k x n c = counted_adds 1 n c.run.operands c _ (λ vs rest. asked_adds p c rest (applied p.host k x vs c.world))
 
+used_adds : (c : Config) (o : Option Caches) (next : Caches → Next) → ((held : Caches) → Adds 1 c (next held)) →
+    Adds 1 c (on_used o c.world next)
+used_adds c None next k = tt
+used_adds c (Some held) next k = k held
+
 -- an instruction leaves at most as many loops more open that were called as it is charged
 adds : (p : Program) (f : Base) (x : Instruction) (c : Config) → Adds (charge_of x) c (effect p f x c)
 adds p f (i.EmitRaw t) c = written_adds 1 c (on c.run.operands c) f t refl
@@ -213,8 +218,10 @@ adds p f (i.CallFunction x n) c = counted_adds 1 n c.run.operands c _
     (λ vs rest. asked_adds p c rest (call_named p.host x vs c.world))
 adds p f (i.CallObject n) c = counted_adds 1 n c.run.operands c _ (λ vs rest. asked_adds p c rest (call_callee p.host vs c.world))
 adds p f (i.CallMethod x n) c = apply_adds p applications.Method x n c
-adds p f (i.ApplyFilter x n) c = apply_adds p applications.Filter x n c
-adds p f (i.PerformTest x n) c = apply_adds p applications.Test x n c
+adds p f (i.ApplyFilter x n cache) c = used_adds c (used cache x c.run.filters) _
+    (λ held. apply_adds p applications.Filter x n (with_filters held c))
+adds p f (i.PerformTest x n cache) c = used_adds c (used cache x c.run.tests) _
+    (λ held. apply_adds p applications.Test x n (with_tests held c))
 adds p f i.FastRecurse c = on_top_all (Adds 1 c) (ends_adds 1 c) c.run.operands c.world _
     (λ v vs. asked_in_place_adds p f c vs (call_innermost p.host v c.world))
 adds p f (i.CallBlock b) c =

@@ -6,7 +6,8 @@ use Rattle.tm_meaning.specs.Memory.{is_want_of_memory}
 use Rattle.tm_syntax.specs.declared.instruction.Instruction.{Instruction}
 use Rattle.tm_meaning.specs.World.{World, HostValue, depth}
 use Rattle.tm_meaning.specs.Calls.{whole, of_block}
-use Rattle.tm_meaning.specs.Machine.{Return, Activation, Capture, Config, End, Finished, Failed, Stuck, Next, More, Over, Nest, Program}
+use Rattle.tm_values.specs.declared.error.ErrorKind.TheVariants.{OutOfMemory}
+use Rattle.tm_meaning.specs.Machine.{Caches, Return, Activation, Capture, Config, End, Finished, Failed, Stuck, Next, More, Over, Nest, Program}
 use Rattle.tm_meaning.specs.Machine.{base_of, start, recursion, place_of_loop, take_n, stuck}
 use Rattle.tm_values.specs.Val.{Val}
 use Rattle.tm_state.specs.declared.calls.Recursion.{Recursion}
@@ -222,6 +223,13 @@ resumed back r = record r { place = back.place; operands = back.operands; escape
 -- a loop is called over the operands and captures that there are
 abbrev pub recurses : Program → Recursion → Bool → Config → Next
 recurses p r value c = recursion p c value c.run.operands c.captures r.number (place_of_loop p c r.number) r.items.value.items c.world
+
+-- These are the caches behind a use of a name by its number, but for want of memory; or it can't be used by that.
+abbrev pub IsUsed : Option Caches → Caches → Result (Unit {0}) Halt → Type 0
+IsUsed used new (Ok _) = used ≡ Some new
+IsUsed used new (Err halt.Writer) = ⊥
+IsUsed used new (Err halt.Stuck) = used ≡ None
+IsUsed used new (Err (halt.Fault chain)) = chain ≡ OutOfMemory ∷ []
 
 -- a place from which a run can go on
 abbrev pub CanGoOn : Activation → Type 0

@@ -5,18 +5,20 @@ ghost use Rattle.tm_values.specs.Val.{Val, boolean};
 ghost use Rattle.tm_parts.specs.Operate.{Operates, TakesMember};
 ghost use Rattle.tm_meaning.specs.Meaning.{none_waits};
 ghost use Rattle.tm_meaning.specs.Steps.{is_empty};
+ghost use Rattle.tm_meaning.specs.Instructions.{used};
 ghost use Rattle.tm_meaning.specs.Machine.{onto, run_from, taken};
 ghost use Rattle.tm_definitions.specs.Truth.{truth_of};
-ghost use Rattle.tm_vm.specs.Answers.{CanGoOn, IsUncounted, TakesCounted, called, resumed};
+ghost use Rattle.tm_vm.specs.Answers.{CanGoOn, IsUncounted, IsUsed, TakesCounted, called, resumed};
 
+use crate::caches::Caches;
 use crate::operands::counted;
 use std::alloc::Global;
 use std::marker::Model;
 use std::mem;
 use tm_meaning::StreamId;
 use tm_operations::truth;
-use tm_parts::Stack;
-use tm_syntax::BinaryOperator;
+use tm_parts::{Halt, Stack};
+use tm_syntax::{BinaryOperator, Name};
 use tm_values::{AutoEscape, Error, ErrorKind, UndefinedBehavior, Value};
 
 /// Where a loop goes on that was called: the run as it was at the call, and whether the text is a value.
@@ -60,8 +62,8 @@ impl Return {
 }
 
 /// What is a run's own: its stream and the place in it, its operands, the escapes that its open `autoescape`s
-/// replaced, for each loop that it has open where that goes on if it was called, and how many captures stood
-/// when it or the innermost called loop began.
+/// replaced, for each loop that it has open where that goes on if it was called, how many captures stood
+/// when it or the innermost called loop began, and its caches.
 #[derive(Drop)]
 pub(crate) struct Activation {
     pub(crate) stream: StreamId,
@@ -70,6 +72,8 @@ pub(crate) struct Activation {
     escapes: Vec<AutoEscape>,
     loops: Vec<Option<Return>>,
     floor: usize,
+    filters: Caches,
+    tests: Caches,
 }
 
 impl Model for Activation {
@@ -90,6 +94,8 @@ impl Model for Activation {
       loops = reverse run.loops.items;
       floor = run.floor;
       parent = None;
+      filters = run.filters;
+      tests = run.tests;
     } };
 }
 
@@ -105,7 +111,27 @@ impl Activation {
             escapes: Vec::new(alloc),
             loops: Vec::new(alloc),
             floor,
+            filters: Caches::new(alloc),
+            tests: Caches::new(alloc),
         }
+    }
+
+    /// Uses a filter by its cache number. Stuck where it can't be used by that; OutOfMemory.
+    #[inline(always)]
+    pub(crate) fn use_filter(&mut self, cache: u8, name: &Name) -> Result<(), Halt>
+        ensures used { IsUsed (used cache name.now self.old.filters) self.new.filters result }
+        ensures rest { self.new ≡ record self.old { filters = self.new.filters } }
+    {
+        self.filters.use_name(cache, name)
+    }
+
+    /// Uses a test by its cache number. Stuck where it can't be used by that; OutOfMemory.
+    #[inline(always)]
+    pub(crate) fn use_test(&mut self, cache: u8, name: &Name) -> Result<(), Halt>
+        ensures used { IsUsed (used cache name.now self.old.tests) self.new.tests result }
+        ensures rest { self.new ≡ record self.old { tests = self.new.tests } }
+    {
+        self.tests.use_name(cache, name)
     }
 
     /// Whether no parent waits. None can yet.

@@ -1,8 +1,9 @@
 //! The calls.
 ghost use Rattle.std.specs.Prelude.{◌≡◌, ◌∷◌, Some, drop};
 ghost use Rattle.tm_meaning.specs.Machine.{goes};
-ghost use Rattle.tm_meaning.specs.Instructions.{call_function_of, call_object_of, apply_of, call_block_of};
-ghost use Rattle.tm_meaning.specs.Instructions.{fast_recurse_of};
+ghost use Rattle.tm_meaning.specs.Instructions.{call_function_of, call_object_of, apply_of};
+ghost use Rattle.tm_meaning.specs.Instructions.{apply_filter_of, perform_test_of};
+ghost use Rattle.tm_meaning.specs.Instructions.{call_block_of, fast_recurse_of};
 ghost use Rattle.tm_vm.specs.Answers.{program, recurses, CanGoOn, Silently, Opens, Needs};
 
 use crate::flow::{Flow, NestedRun};
@@ -197,6 +198,46 @@ impl Machine<'_> {
         };
         let value = self.state.call_callee(alloc, host, values)?;
         self.replace(count, value)
+    }
+
+    /// Replaces so many values by what the filter of a name answers to them. Stuck where it can't be used by its
+    /// cache number.
+    #[tactic(auto, using(crate::proofs::Used::filter_used))]
+    pub(crate) fn do_apply_filter<H: Host>(
+        &mut self,
+        alloc: Global,
+        host: &H,
+        name: &Name,
+        count: Option<usize>,
+        cache: u8,
+    ) -> Result<Flow, Halt>
+        requires { CanGoOn self.old.run }
+        ensures { Silently (apply_filter_of
+            (program (H.meaning host.now) (H.code host.now)) name.now count cache self.old)
+            self.old self.new result }
+    {
+        self.run.use_filter(cache, name)?;
+        self.do_apply(alloc, host, Application::Filter, name, count)
+    }
+
+    /// Replaces so many values by whether what the test of a name answers to them is true. Stuck where it can't be
+    /// used by its cache number.
+    #[tactic(auto, using(crate::proofs::Used::test_used))]
+    pub(crate) fn do_perform_test<H: Host>(
+        &mut self,
+        alloc: Global,
+        host: &H,
+        name: &Name,
+        count: Option<usize>,
+        cache: u8,
+    ) -> Result<Flow, Halt>
+        requires { CanGoOn self.old.run }
+        ensures { Silently (perform_test_of
+            (program (H.meaning host.now) (H.code host.now)) name.now count cache self.old)
+            self.old self.new result }
+    {
+        self.run.use_test(cache, name)?;
+        self.do_apply(alloc, host, Application::Test, name, count)
     }
 
     /// Replaces so many values by one.

@@ -3,6 +3,7 @@
 
 mod activation;
 mod at_once;
+mod caches;
 mod calls;
 mod captures;
 mod flow;

@@ -87,11 +87,11 @@ impl Machine<'_> {
                 self.do_apply(alloc, host, Application::Method, name, *count)
             }
             Instruction::CallObject(count) => self.do_call_object(alloc, host, *count),
-            Instruction::ApplyFilter(name, count) => {
-                self.do_apply(alloc, host, Application::Filter, name, *count)
+            Instruction::ApplyFilter(name, count, cache) => {
+                self.do_apply_filter(alloc, host, name, *count, *cache)
             }
-            Instruction::PerformTest(name, count) => {
-                self.do_apply(alloc, host, Application::Test, name, *count)
+            Instruction::PerformTest(name, count, cache) => {
+                self.do_perform_test(alloc, host, name, *count, *cache)
             }
             Instruction::FastRecurse => self.do_fast_recurse(alloc, host, base, code),
             Instruction::CallBlock(name) => self.do_call_block(alloc, host, base, name),

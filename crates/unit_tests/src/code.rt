@@ -54,8 +54,8 @@ fn word(instruction: &Instruction) -> &'static str {
         Instruction::JumpIfTrueOrPop(_) => "or:",
         Instruction::CallFunction(_, _) => "call:",
         Instruction::CallMethod(_, _) => "method:",
-        Instruction::ApplyFilter(_, _) => "filter:",
-        Instruction::PerformTest(_, _) => "test:",
+        Instruction::ApplyFilter(_, _, _) => "filter:",
+        Instruction::PerformTest(_, _, _) => "test:",
         Instruction::CallBlock(_) => "block:",
         Instruction::StoreLocal(_) => "store:",
         Instruction::UnpackList(_) => "unpack:",
@@ -122,8 +122,8 @@ fn detail(instruction: &Instruction) -> &str {
         | Instruction::GetAttr(name)
         | Instruction::CallFunction(name, _)
         | Instruction::CallMethod(name, _)
-        | Instruction::ApplyFilter(name, _)
-        | Instruction::PerformTest(name, _)
+        | Instruction::ApplyFilter(name, _, _)
+        | Instruction::PerformTest(name, _, _)
         | Instruction::CallBlock(name)
         | Instruction::StoreLocal(name)
         | Instruction::SetAttr(name) => name.as_str(),
@@ -146,9 +146,20 @@ fn count(instruction: &Instruction) -> &'static str {
     match instruction {
         Instruction::CallFunction(_, number)
         | Instruction::CallMethod(_, number)
-        | Instruction::ApplyFilter(_, number)
-        | Instruction::PerformTest(_, number) => numeral(*number),
+        | Instruction::ApplyFilter(_, number, _)
+        | Instruction::PerformTest(_, number, _) => numeral(*number),
         _ => "",
+    }
+}
+
+// Writes the cache number of an instruction behind `@`.
+fn write_cache(alloc: Global, out: &mut String, instruction: &Instruction) -> Result<(), Error> {
+    match instruction {
+        Instruction::ApplyFilter(_, _, cache) | Instruction::PerformTest(_, _, cache) => {
+            out.push_str("@")?;
+            write_constant(alloc, out, &Value::number(*cache as i128))
+        }
+        _ => Ok(()),
     }
 }
 
@@ -165,7 +176,7 @@ fn write_instruction(
     }
     out.push_str(detail(instruction))?;
     out.push_str(count(instruction))?;
-    Ok(())
+    write_cache(alloc, out, instruction)
 }
 
 fn write_code(alloc: Global, out: &mut String, code: &[Instruction]) -> Result<(), Error> {

@@ -9,7 +9,7 @@ use tm_compiler::{SyntaxConfig, Tree, parse};
 use tm_values::{Error, ErrorKind};
 
 /// What a source is compiled to.
-static EXPRESSIONS_AND_STATEMENTS: [&str; 102] = [
+static EXPRESSIONS_AND_STATEMENTS: [&str; 105] = [
     "{# c #} =>",
     "{{ \"}}\" }}\n => #}} emit",
     "{{ a == none }} => $a #none == emit",
@@ -20,6 +20,9 @@ static EXPRESSIONS_AND_STATEMENTS: [&str; 102] = [
     "{{ f(a, b=1) }} => $a #b #1 named:1 call:f2 emit",
     "{{ a.m() }} => $a method:m1 emit",
     "{{ a.b.m(1, k=c)[0] }} => $a .b #1 #k $c named:1 method:m3 #0 item emit",
+    "{{ a|f(b)|g|f is f }} => $a $b filter:f2@0 filter:g1@1 filter:f1@0 test:f1@0 emit",
+    "{{ a is not f is g is f }} => $a test:f1@0 not test:g1@1 test:f1@0 emit",
+    "{{ a|f|g }}{% block x %}{{ a|g }}{% endblock %} => $a filter:f1@0 filter:g1@1 emit block:x | x $a filter:g1@0 emit",
     "{% do a.m(1) %} => $a #1 method:m2 drop",
     "{{ f(b=1,) }} => #b #1 named:1 call:f1 emit",
     "{{ f(b=1, c=2) }} => #b #1 #c #2 named:2 call:f1 emit",

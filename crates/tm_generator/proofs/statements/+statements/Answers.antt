@@ -1,6 +1,7 @@
 use Rattle.std.proofs.Common.{◌∙◌, ap, refl}
 use Rattle.std.proofs.lemmas.List.{drop_all}
 use Rattle.std.proofs.lemmas.Result.{on_ok_weaker}
+use Rattle.tm_syntax.specs.CacheNumbers.{numbered}
 use Rattle.tm_generator.proofs.PutExpressions.{next}
 use Rattle.tm_generator.proofs.PutStatements.{more-statements, no_more-statements, made-stream, else-blocks, for-else-blocks, block-blocks}
 use Rattle.tm_generator.proofs.PutStatements.{more-blocks, no_more-blocks}
@@ -46,6 +47,6 @@ push_statements-returns-clause-blocks t c = no_more-blocks _ _ _
 
 pub stream-returns-clause-code : goal.stream-returns-clause-code
 stream-returns-clause-code t c =
-    c.in_ok-new.ensures ∙ c.finish.ensures
+    c.in_ok-new.ensures ∙ c.in_ok-number_caches.ensures.ok ∙ ap numbered (c.finish-instructions.ensures
     ∙ made-stream c.new.result _ c.push_statements.new.stream c.args.body.now refl (ap (λ b. b.code) c.new.ensures)
-    (ap (λ b. b.outs) c.new.ensures) (ap (λ b. b.exits) c.new.ensures) c.new-2.ensures c.in_ok-push_statements.ensures.code
+    (ap (λ b. b.outs) c.new.ensures) (ap (λ b. b.exits) c.new.ensures) c.new-2.ensures c.in_ok-push_statements.ensures.code)

@@ -1,0 +1,77 @@
+//! Filters of more names than a run has caches for.
+use crate::party::{Party, Rows};
+use std::alloc::Global;
+use std::test::Fail;
+use template_machine::*;
+
+static FIRST: &str = "abcdef";
+
+/// The second letters of filters that answer their last argument, and of those that answer their second one.
+static ENDS: [(&str, Party); 2] = [("ghijk", Party::Last), ("lmnop", Party::Second)];
+
+/// Adds a filter for each pair of letters.
+fn add_filters(alloc: Global, environment: &mut Rows<'_>) -> Result<(), Error> {
+    for first in FIRST.chars() {
+        for &(seconds, party) in &ENDS {
+            for second in seconds.chars() {
+                let mut name = String::new(alloc);
+                name.push(first)?;
+                name.push(second)?;
+                environment.add_filter(name.as_str(), party)?;
+            }
+        }
+    }
+    Ok(())
+}
+
+/// Writes a use of each filter.
+fn write_uses(out: &mut String) -> Result<(), Error> {
+    for first in FIRST.chars() {
+        for &(seconds, _) in &ENDS {
+            for second in seconds.chars() {
+                out.push_str("{{ 0|")?;
+                out.push(first)?;
+                out.push(second)?;
+                out.push_str("(1, 2) }}")?;
+            }
+        }
+    }
+    Ok(())
+}
+
+/// A loop of two rounds, in which each filter is used twice.
+fn source(alloc: Global) -> Result<String, Error> {
+    let mut text = String::new(alloc);
+    text.push_str("{% for x in [1, 2] %}")?;
+    write_uses(&mut text)?;
+    write_uses(&mut text)?;
+    text.push_str("{% endfor %}")?;
+    Ok(text)
+}
+
+/// Whether a text is what each first letter's filters answer, so often.
+fn is_answered(text: &str, times: usize) -> bool {
+    let mut rest = text;
+    for _ in 0..times {
+        match rest.strip_prefix("2222211111") {
+            Some(behind) => rest = behind,
+            None => return false,
+        }
+    }
+    rest.is_empty()
+}
+
+/// Whether all filters answer as themselves.
+fn all_answer(alloc: Global, environment: &mut Rows<'_>) -> Result<bool, Error> {
+    add_filters(alloc, environment)?;
+    let source = source(alloc)?;
+    let text = environment.render_str(&mut StateIds::new(), source.as_str(), Value::undefined())?;
+    Ok(is_answered(text.as_str(), 24))
+}
+
+#[test]
+fn many_filters_answer(rt: HostRuntime) -> Result<(), Fail> {
+    let mut environment = Rows::new(rt.alloc())?;
+    assert!(rt; all_answer(rt.alloc(), &mut environment)?);
+    Ok(())
+}

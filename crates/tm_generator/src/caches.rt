@@ -1,0 +1,91 @@
+//! Cache numbers of names in code.
+ghost use Rattle.std.specs.Prelude.{◌≡◌, ◌≤◌, ◌<◌, [], ◌∷◌, OnOk, OnSome, IfOk, IfErr, IfSome, length};
+ghost use Rattle.tm_generator.specs.Caches.{HasRoom, IsNumberedOne};
+ghost use Rattle.tm_syntax.specs.CacheNumbers.{cache_count, joined, number_in, numbered, place_from};
+ghost use Rattle.tm_values.specs.declared.error.ErrorKind.TheVariants.{OutOfMemory};
+
+use sqlite_items::Items;
+use std::alloc::Global;
+use tm_syntax::{CACHES, Instruction, NO_CACHE, Name};
+use tm_values::Error;
+
+/// The names that have cache numbers, each at its number.
+#[derive(Drop)]
+pub(crate) struct CacheNames {
+    filters: Items<Name>,
+    tests: Items<Name>,
+}
+
+/// Where a name stands first.
+fn place_of(names: &[Name], name: &Name) -> Option<usize>
+    ensures place { result ≡ place_from 0 name.now names.now }
+    ensures within { IfSome result (λ place. place < length names.now) }
+{
+    for (place, known) in names.iter().enumerate() {
+        if *name == *known {
+            return Some(place);
+        }
+    }
+    None
+}
+
+/// The number of a name, which joins those that have one where there is a number left; OutOfMemory.
+fn number_of(names: &mut Items<Name>, name: &Name) -> Result<u8, Error>
+    requires { length names.old ≤ cache_count }
+    ensures number { IfOk result (λ number. number ≡ number_in name.now names.old) }
+    ensures names { OnOk result (names.new ≡ joined name.now names.old) }
+    ensures room { OnOk result (length names.new ≤ cache_count) }
+    ensures err { IfErr result (λ e. e ≡ OutOfMemory ∷ []) }
+{
+    if let Some(place) = place_of(names.as_slice(), name) {
+        return Ok(place as u8);
+    }
+    let count = names.len();
+    if count >= CACHES as usize {
+        return Ok(NO_CACHE);
+    }
+    names.push(name.share()?)?;
+    Ok(count as u8)
+}
+
+impl CacheNames {
+    /// What stands in an instruction's place with its number, where it has one; OutOfMemory.
+    fn number(&mut self, instruction: &Instruction) -> Result<Option<Instruction>, Error>
+        requires { HasRoom self.old }
+        ensures ok { IfOk result (λ made. IsNumberedOne self.old self.new instruction.now made) }
+        ensures room { OnOk result (HasRoom self.new) }
+        ensures err { IfErr result (λ e. e ≡ OutOfMemory ∷ []) }
+    {
+        let made = match instruction {
+            Instruction::ApplyFilter(name, count, _) => {
+                let number = number_of(&mut self.filters, name)?;
+                Instruction::ApplyFilter(name.share()?, *count, number)
+            }
+            Instruction::PerformTest(name, count, _) => {
+                let number = number_of(&mut self.tests, name)?;
+                Instruction::PerformTest(name.share()?, *count, number)
+            }
+            _ => return Ok(None),
+        };
+        Ok(Some(made))
+    }
+}
+
+/// Gives the names of filters and of tests in a stream's code their cache numbers; OutOfMemory.
+pub(crate) fn number_caches(alloc: Global, code: &mut Items<Instruction>) -> Result<(), Error>
+    ensures ok { OnOk result (code.new ≡ numbered code.old) }
+    ensures err { IfErr result (λ e. e ≡ OutOfMemory ∷ []) }
+{
+    let mut names = CacheNames {
+        filters: Items::new(alloc),
+        tests: Items::new(alloc),
+    };
+    let mut place = 0;
+    while place < code.len() {
+        if let Some(instruction) = names.number(&code.as_slice()[place])? {
+            code.set(place, instruction);
+        }
+        place += 1;
+    }
+    Ok(())
+}

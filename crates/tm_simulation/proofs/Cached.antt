@@ -1,0 +1,474 @@
+-- Code with its cache numbers does what the code before it does: runs are the same but for the caches.
+use Rattle.std.proofs.Common.{◌≡◌, ℕ, zero, suc, ◌⊎◌, inl, inr, List, [], ◌∷◌, length, Option, Some, None, Bool, true, false}
+use Rattle.std.proofs.Common.{refl, sym, ap, ◌∙◌, subst, arith, ◌+◌}
+use Rattle.std.proofs.lemmas.Bool.Decides.{nat_tests}
+use Rattle.std.proofs.lemmas.Slice.Eq.{bytes_eq-Decides}
+use Rattle.std.specs.Prelude.{slice_get, nat_lt, nat_eq, ◌&&◌}
+use Rattle.tm_values.specs.Val.{Val, undefined}
+use Rattle.tm_values.specs.declared.escape.AutoEscape.{AutoEscape}
+use Rattle.tm_syntax.specs.CacheNumbers.{no_cache}
+use Rattle.tm_syntax.specs.Loops.{loop_places, loops_before}
+use Rattle.tm_syntax.specs.declared.instruction.Instruction.{Instruction}
+use Rattle.tm_syntax.specs.declared.instruction.Instruction.TheVariants as i
+use Rattle.tm_syntax.specs.declared.instruction.LoopPlace.{LoopPlace}
+use Rattle.tm_syntax.specs.declared.tree.Application.{Application}
+use Rattle.tm_syntax.specs.declared.tree.Application.TheVariants as applications
+use Rattle.tm_syntax.specs.declared.tree.BinaryOperator.TheVariants as binaries
+use Rattle.tm_syntax.specs.declared.tree.UnaryOperator.TheVariants as unaries
+use Rattle.tm_meaning.specs.World.{choose, World, Loop, HostValue, Res, Good, Bad, answered, emitted, looked_up, escape_for}
+use Rattle.tm_meaning.specs.World.{items_over, unpacked_items, set_member, open_loop, top_mark, top_loop, push, plain_scope}
+use Rattle.tm_meaning.specs.Calls.{Callee, whole, Asked, has, refused, runs, recurs, call_named, applied, call_innermost, enter_block, undone}
+use Rattle.tm_meaning.specs.Meaning.{none_waits, truth, applied_unary, operated, attribute, item_at, slice_of}
+use Rattle.tm_meaning.specs.Instructions.{apply_of, replaces_one, replaces_two, list_on, on_count, count_in, on_truth, iterate_with}
+use Rattle.tm_meaning.specs.Instructions.{end_capture_with, pop_auto_escape_with, is_no_loop, on_loop, pop_loop_with, returned, returns}
+use Rattle.tm_meaning.specs.Instructions.{with_text, may_hold, holding, used, on_used, looping}
+use Rattle.tm_meaning.specs.Machine.{Activation, Caches, Capture, Return, Config, Program, End, Finished, Failed, Stuck, Next, More, Over}
+use Rattle.tm_meaning.specs.Machine.{Nest, Back, after, on_top, on_taken, taken, on, with_world, writes, audible, new_capture, recursion}
+use Rattle.tm_meaning.specs.Machine.{place_of_loop, asked, asked_in_place, start, back_with, back_to, goes}
+use Rattle.tm_meaning.specs.Steps.{pay, effect, finish, closed, act, step, Final, Leads, Reaches, over, more, nest}
+use Rattle.tm_meaning.specs.declared.base.Base.{Base}
+use Rattle.tm_meaning.specs.declared.stream.StreamId.{StreamId}
+use Rattle.tm_simulation.proofs.Numbered.{Given, Numbers, IsNumbered, as_long, same_places, same_before, NumbersAt, numbers_at}
+
+-- ---------------------------------------------------------------- the same but for the caches
+abbrev pub with_caches : Caches → Caches → Activation → Activation
+with_caches fs ts r = record r { filters = fs; tests = ts }
+
+abbrev pub cached : Caches → Caches → Config → Config
+cached fs ts c = record c { run = with_caches fs ts c.run }
+
+-- A step goes on in a stream, and this one with these caches; or both do the same. A run of its own begins with empty caches.
+abbrev pub Alike : StreamId → Caches → Caches → Next → Next → Type 0
+Alike s fs ts (More t c) n = (c.run.stream ≡ s) × (n ≡ More t (cached fs ts c))
+Alike s fs ts (Over e) n = n ≡ Over e
+Alike s fs ts (Nest f c back) n = (back.run.stream ≡ s) × (c.run.filters ≡ []) × (c.run.tests ≡ [])
+    × (n ≡ Nest f c (record back { run = with_caches fs ts back.run }))
+
+pub starts_empty : (k : Callee) (ks : List Capture) (w : World) → ((start k ks w).run.filters ≡ []) × ((start k ks w).run.tests ≡ [])
+starts_empty (whole s) ks w = (refl, refl)
+
+-- Caches aren't for this instruction.
+abbrev pub NoCache : Instruction → Type 0
+NoCache (i.ApplyFilter x n cache) = ⊥
+NoCache (i.PerformTest x n cache) = ⊥
+NoCache x = Unit {0}
+
+module _ (s : StreamId) (fs ts : Caches) where
+  abbrev Same : Next → Next → Type 0
+  Same m n = Alike s fs ts m n
+
+  after_same : {A : Type 0} (m : Res A) (f g : A → World → Next) → ((a : A) (w : World) → Same (f a w) (g a w)) →
+      Same (after m f) (after m g)
+  after_same (Good a w) f g h = h a w
+  after_same (Bad chain w) f g h = refl
+
+  on_top_same : (vs : List Val) (w : World) (f g : Val → List Val → Next) → ((v : Val) (rest : List Val) → Same (f v rest) (g v rest)) →
+      Same (on_top vs w f) (on_top vs w g)
+  on_top_same [] w f g h = refl
+  on_top_same (v ∷ vs) w f g h = h v vs
+
+  on_taken_same : (r : Option (List Val × List Val)) (w : World) (f g : List Val → List Val → Next) →
+      ((vs rest : List Val) → Same (f vs rest) (g vs rest)) → Same (on_taken r w f) (on_taken r w g)
+  on_taken_same None w f g h = refl
+  on_taken_same (Some r) w f g h = h r.0 r.1
+
+  on_count_same : (n : Option ℕ) (w : World) (f g : ℕ → Next) → ((n : ℕ) → Same (f n) (g n)) → Same (on_count n w f) (on_count n w g)
+  on_count_same None w f g h = refl
+  on_count_same (Some n) w f g h = h n
+
+  choose_same : (b : Bool) (m n m1 n1 : Next) → Same m m1 → Same n n1 →
+      Same (choose b (λ _. m) (λ _. n)) (choose b (λ _. m1) (λ _. n1))
+  choose_same true m n m1 n1 h k = h
+  choose_same false m n m1 n1 h k = k
+
+  on_loop_same : (rs : List (Option Return)) (l : Option Loop) (w : World) (f g : Loop → Next) → ((l : Loop) → Same (f l) (g l)) →
+      Same (on_loop rs l w f) (on_loop rs l w g)
+  on_loop_same [] l w f g h = refl
+  on_loop_same (r ∷ rs) None w f g h = refl
+  on_loop_same (r ∷ rs) (Some l) w f g h = h l
+
+  -- ---------------------------------------------------------------- the parts of instructions
+  -- of a configuration in the stream
+  module _ (c : Config) (here : c.run.stream ≡ s) where
+    abbrev d : Config
+    d = cached fs ts c
+
+    one_same : (g : Val → World → Res Val) → Same (replaces_one g c) (replaces_one g d)
+    one_same g = on_top_same c.run.operands c.world _ _ (λ v vs. after_same (g v c.world) _ _ (λ x w. (here, refl)))
+
+    two_same : (g : Val → Val → World → Res Val) → Same (replaces_two g c) (replaces_two g d)
+    two_same g = on_top_same c.run.operands c.world _ _ (λ b vs. on_top_same vs c.world _ _ (λ a rest.
+        after_same (g a b c.world) _ _ (λ x w. (here, refl))))
+
+    list_same : (n : ℕ) (us : List Val) → Same (list_on n us c) (list_on n us d)
+    list_same n us = on_taken_same (taken n [] us) c.world _ _ (λ vs rest. (here, refl))
+
+    writes_same : (f : Base) (t : List ℕ) (vs : List Val) (w : World) →
+        Same (writes f t (on vs (with_world w c))) (writes f t (on vs (with_world w d)))
+    writes_same f t vs w = choose_same (audible f c) _ _ _ _ (here, refl) (here, refl)
+
+    jumps_same : (host : HostValue) (f f1 g g1 : Val → List Val → World → Next) →
+        ((v : Val) (vs : List Val) (w : World) → Same (f v vs w) (f1 v vs w)) →
+        ((v : Val) (vs : List Val) (w : World) → Same (g v vs w) (g1 v vs w)) →
+        Same (on_truth host c (λ b v vs w. choose b (λ _. f v vs w) (λ _. g v vs w)))
+        (on_truth host d (λ b v vs w. choose b (λ _. f1 v vs w) (λ _. g1 v vs w)))
+    jumps_same host f f1 g g1 h k =
+        on_top_same c.run.operands c.world _ _ (λ v vs. after_same (truth host v c.world) _ _ (λ b w.
+        choose_same b (f v vs w) (g v vs w) (f1 v vs w) (g1 v vs w) (h v vs w) (k v vs w)))
+
+    iterate_same : (v : Option Val) (n : ℕ) → Same (iterate_with v n c) (iterate_with v n d)
+    iterate_same None n = (here, refl)
+    iterate_same (Some v) n = (here, refl)
+
+    text_same : (r : Return) (rs : List (Option Return)) (ks : List Capture) →
+        Same (with_text r.parent ks (returned r rs c)) (with_text r.parent ks (returned r rs d))
+    text_same r rs [] = refl
+    text_same r rs (k ∷ ks) = (here, refl)
+
+    returns_same : (r : Return) (rs : List (Option Return)) (value : Bool) →
+        Same (returns r value (returned r rs c)) (returns r value (returned r rs d))
+    returns_same r rs false = (here, refl)
+    returns_same r rs true = text_same r rs c.captures
+
+    pop_loop_same : (rs : List (Option Return)) → Same (pop_loop_with rs c) (pop_loop_with rs d)
+    pop_loop_same [] = refl
+    pop_loop_same (None ∷ rs) = (here, refl)
+    pop_loop_same (Some r ∷ rs) = returns_same r rs r.value
+
+    end_capture_same : (ks : List Capture) → Same (end_capture_with ks c) (end_capture_with ks d)
+    end_capture_same [] = refl
+    end_capture_same (k ∷ ks) = (here, refl)
+
+    pop_escape_same : (es : List AutoEscape) → Same (pop_auto_escape_with es c) (pop_auto_escape_with es d)
+    pop_escape_same [] = refl
+    pop_escape_same (e ∷ es) = (here, refl)
+
+    -- ---------------------------------------------------------------- calls
+    -- of programs whose loops stand at the same places
+    module _ (host : HostValue) (plain coded : StreamId → List Instruction)
+        (places : loop_places 0 (coded c.run.stream) ≡ loop_places 0 (plain c.run.stream))
+        (before : loops_before c.run.place (coded c.run.stream) ≡ loops_before c.run.place (plain c.run.stream)) where
+      abbrev p : Program
+      p = record { host = host; code = plain }
+
+      abbrev q : Program
+      q = record { host = host; code = coded }
+
+      recursion_same : (value : Bool) (vs : List Val) (ks : List Capture) (n : ℕ) (l : Option LoopPlace) (items : List Val) (w : World) →
+          Same (recursion p c value vs ks n l items w) (recursion q d value vs ks n l items w)
+      recursion_same value vs ks n None items w = refl
+      recursion_same value vs ks n (Some l) items w =
+          choose_same l.flags.recursive _ _ _ _ (after_same (open_loop host items l.flags n w) _ _ (λ _ world1. (here, refl))) refl
+
+      place_same : (n : ℕ) → place_of_loop q d n ≡ place_of_loop p c n
+      place_same n = ap (λ ls. slice_get ls n) places
+
+      asked_same : (vs : List Val) (a : Asked) → Same (asked p c vs a) (asked q d vs a)
+      asked_same vs (has v w) = (here, refl)
+      asked_same vs (refused chain w) = refl
+      asked_same vs (runs k w) =
+          let empty = starts_empty k.callee (new_capture true ∷ c.captures) w in
+          (here, empty.0, empty.1, refl)
+      asked_same vs (recurs n items w) =
+          let ks = new_capture true ∷ c.captures in
+          subst (λ l. Same (asked p c vs (recurs n items w)) (recursion q d true vs ks n l items w)) (sym (place_same n))
+          (recursion_same true vs ks n (place_of_loop p c n) items w)
+
+      placed_same : (f : Base) (vs : List Val) (a : Asked) → Same (asked_in_place p f c vs a) (asked_in_place q f d vs a)
+      placed_same f vs (has v w) = (here, refl)
+      placed_same f vs (refused chain w) = refl
+      placed_same f vs (runs k w) =
+          let empty = starts_empty k.callee c.captures w in
+          (here, empty.0, empty.1, refl)
+      placed_same f vs (recurs n items w) =
+          subst (λ l. Same (asked_in_place p f c vs (recurs n items w)) (recursion q d false vs c.captures n l items w))
+          (sym (place_same n)) (recursion_same false vs c.captures n (place_of_loop p c n) items w)
+
+      pub apply_same : (k : Application) (x : List ℕ) (n : ℕ) → Same (apply_of p k x n c) (apply_of q k x n d)
+      apply_same k x n = on_taken_same (taken n [] c.run.operands) c.world _ _ (λ vs rest. asked_same rest (applied host k x vs c.world))
+
+      -- ---------------------------------------------------------------- instructions
+      pub effect_same : (f : Base) (x : Instruction) → NoCache x → Same (effect p f x c) (effect q f x d)
+      effect_same f (i.ApplyFilter x n cache) none = absurd none
+      effect_same f (i.PerformTest x n cache) none = absurd none
+      effect_same f (i.EmitRaw t) none = writes_same f t c.run.operands c.world
+      effect_same f i.Emit none = on_top_same c.run.operands c.world _ _ (λ v vs. after_same (emitted host v c.world) _ _
+          (λ t w. writes_same f t vs w))
+      effect_same f (i.Lookup x) none = after_same (looked_up host x c.world) _ _ (λ v w. (here, refl))
+      effect_same f (i.LoadConst v) none = (here, refl)
+      effect_same f (i.GetAttr x) none = one_same (λ v w. attribute host v x w)
+      effect_same f i.GetItem none = two_same (item_at host)
+      effect_same f i.Slice none =
+          on_top_same c.run.operands c.world _ _ (λ by vs. on_top_same vs c.world _ _ (λ stop us. on_top_same us c.world _ _ (λ start ts.
+          on_top_same ts c.world _ _ (λ v rest. after_same (slice_of host v start stop by c.world) _ _ (λ x w. (here, refl))))))
+      effect_same f (i.BuildList None) none =
+          on_top_same c.run.operands c.world _ _ (λ v us. on_count_same (count_in v) c.world _ _ (λ n. list_same n us))
+      effect_same f (i.BuildList (Some n)) none = list_same n c.run.operands
+      effect_same f (i.BuildTuple n) none = list_same n c.run.operands
+      effect_same f (i.BuildMap n) none = on_taken_same (taken (n + n) [] c.run.operands) c.world _ _ (λ vs rest. (here, refl))
+      effect_same f (i.BuildKwargs n) none = on_taken_same (taken (n + n) [] c.run.operands) c.world _ _ (λ vs rest. (here, refl))
+      effect_same f i.Eq none = two_same (operated host binaries.Equal)
+      effect_same f i.Ne none = two_same (operated host binaries.NotEqual)
+      effect_same f i.Lt none = two_same (operated host binaries.Less)
+      effect_same f i.Lte none = two_same (operated host binaries.LessOrEqual)
+      effect_same f i.Gt none = two_same (operated host binaries.Greater)
+      effect_same f i.Gte none = two_same (operated host binaries.GreaterOrEqual)
+      effect_same f i.In none = two_same (operated host binaries.In)
+      effect_same f (i.CompareAndPreserve op) none =
+          on_top_same c.run.operands c.world _ _ (λ b vs. on_top_same vs c.world _ _ (λ a rest.
+          after_same (operated host op a b c.world) _ _ (λ x w. (here, refl))))
+      effect_same f i.Add none = two_same (operated host binaries.Add)
+      effect_same f i.Sub none = two_same (operated host binaries.Subtract)
+      effect_same f i.StringConcat none = two_same (operated host binaries.Concatenate)
+      effect_same f i.Mul none = two_same (operated host binaries.Multiply)
+      effect_same f i.Div none = two_same (operated host binaries.Divide)
+      effect_same f i.IntDiv none = two_same (operated host binaries.FloorDivide)
+      effect_same f i.Rem none = two_same (operated host binaries.Remainder)
+      effect_same f i.Pow none = two_same (operated host binaries.Power)
+      effect_same f i.Neg none = one_same (applied_unary host unaries.Negate)
+      effect_same f i.Not none = one_same (applied_unary host unaries.Not)
+      effect_same f i.Swap none = on_top_same c.run.operands c.world _ _ (λ b vs. on_top_same vs c.world _ _ (λ a rest. (here, refl)))
+      effect_same f i.DupTop none = on_top_same c.run.operands c.world _ _ (λ v vs. (here, refl))
+      effect_same f i.DiscardTop none = on_top_same c.run.operands c.world _ _ (λ v vs. (here, refl))
+      effect_same f (i.Jump n) none = (here, refl)
+      effect_same f (i.JumpIfFalse n) none = jumps_same host _ _ _ _ (λ v vs w. (here, refl)) (λ v vs w. (here, refl))
+      effect_same f (i.JumpIfFalseOrPop n) none = jumps_same host _ _ _ _ (λ v vs w. (here, refl)) (λ v vs w. (here, refl))
+      effect_same f (i.JumpIfTrueOrPop n) none = jumps_same host _ _ _ _ (λ v vs w. (here, refl)) (λ v vs w. (here, refl))
+      effect_same f (i.CallFunction x n) none = on_taken_same (taken n [] c.run.operands) c.world _ _
+          (λ vs rest. asked_same rest (call_named host x vs c.world))
+      effect_same f (i.CallMethod x n) none = apply_same applications.Method x n
+      effect_same f i.FastRecurse none = on_top_same c.run.operands c.world _ _
+          (λ v vs. placed_same f vs (call_innermost host v c.world))
+      effect_same f (i.CallBlock b) none = choose_same (none_waits c.run.parent && audible f c) _ _ _ _
+          (placed_same f c.run.operands (enter_block host b c.world)) (here, refl)
+      effect_same f (i.StoreLocal x) none = on_top_same c.run.operands c.world _ _ (λ v vs. (here, refl))
+      effect_same f (i.UnpackList n) none = on_top_same c.run.operands c.world _ _
+          (λ v vs. after_same (unpacked_items n v c.world) _ _ (λ xs w. (here, refl)))
+      effect_same f (i.SetAttr x) none =
+          on_top_same c.run.operands c.world _ _ (λ o vs. on_top_same vs c.world _ _ (λ v rest.
+          after_same (set_member x v o c.world) _ _ (λ _ w. (here, refl))))
+      effect_same f i.PushWith none = after_same (push host (plain_scope (undefined false)) c.world) _ _ (λ _ w. (here, refl))
+      effect_same f i.PopFrame none =
+          choose_same (nat_lt f.scopes (length c.world.scopes.frames) && is_no_loop (top_mark c.world.scopes.frames)) _ _ _ _ (here, refl)
+          refl
+      effect_same f (i.PushLoop flags) none =
+          subst (λ n. Same (effect p f (i.PushLoop flags) c)
+          (on_top c.run.operands c.world (λ v vs. after (items_over host v c.world) (λ items w.
+          after (open_loop host items flags n w) (λ _ world1. goes vs world1 (looping (None ∷ c.run.loops) d)))))) (sym before)
+          (on_top_same c.run.operands c.world _ _ (λ v vs. after_same (items_over host v c.world) _ _ (λ items w.
+          after_same (open_loop host items flags (loops_before c.run.place (plain c.run.stream)) w) _ _ (λ _ world1. (here, refl)))))
+      effect_same f (i.Iterate n) none = on_loop_same c.run.loops (top_loop c.world) c.world _ _
+          (λ l. iterate_same (slice_get l.items l.turns) n)
+      effect_same f i.PushDidNotIterate none = on_loop_same c.run.loops (top_loop c.world) c.world _ _ (λ l. (here, refl))
+      effect_same f i.PopLoopFrame none =
+          choose_same (nat_lt f.scopes (length c.world.scopes.frames)) _ _ _ _
+          (on_loop_same c.run.loops (top_loop c.world) c.world _ _ (λ l. pop_loop_same c.run.loops)) refl
+      effect_same f (i.BeginCapture mode) none = (here, refl)
+      effect_same f i.EndCapture none = choose_same (nat_lt c.run.floor (length c.captures)) _ _ _ _ (end_capture_same c.captures) refl
+      effect_same f i.PushAutoEscape none = on_top_same c.run.operands c.world _ _
+          (λ v vs. after_same (answered (escape_for f.first v) c.world) _ _ (λ e w. (here, refl)))
+      effect_same f i.PopAutoEscape none = pop_escape_same c.run.escapes
+
+  -- ---------------------------------------------------------------- ends of runs
+  back_with_same : (value : Bool) (r : Activation) (ks : List Capture) (w : World) → r.stream ≡ s →
+      Same (back_with value r ks w) (back_with value (with_caches fs ts r) ks w)
+  back_with_same false r ks w here = (here, refl)
+  back_with_same true r [] w here = refl
+  back_with_same true r (k ∷ ks) w here = (here, refl)
+
+  pub back_same : (back : Back) (e : End) → back.run.stream ≡ s →
+      Same (back_to back e) (back_to (record back { run = with_caches fs ts back.run }) e)
+  back_same back (Finished ks w) here = back_with_same back.value back.run ks (undone back.call.undo w) here
+  back_same back (Failed chain w) here = refl
+  back_same back (Stuck w) here = refl
+
+-- ---------------------------------------------------------------- what caches hold
+-- Caches hold the names of their numbers alone.
+abbrev HoldOnly : List (List ℕ) → Caches → Type 0
+HoldOnly names held = (k : ℕ) (x : List ℕ) → slice_get held k ≡ Some (Some x) → slice_get names k ≡ Some x
+
+none_held : (names : List (List ℕ)) → HoldOnly names []
+none_held names k x e = absurd (cc e)
+
+-- What a cache holds once a name was put in one: the name, or one that was held before.
+abbrev IsHeld : ℕ → List ℕ → Caches → ℕ → List ℕ → Type 0
+IsHeld k x held j y = ((j ≡ k) × (y ≡ x)) ⊎ (slice_get held j ≡ Some (Some y))
+
+one_on : (k : ℕ) (x : List ℕ) (hs : Caches) (h : Option (List ℕ)) (j : ℕ) (y : List ℕ) → IsHeld k x hs j y → IsHeld (suc k) x (h ∷ hs) (suc j) y
+one_on k x hs h j y (inl is) = inl (ap (λ n. suc n) is.0, is.1)
+one_on k x hs h j y (inr there) = inr there
+
+one_more : (k : ℕ) (x : List ℕ) (j : ℕ) (y : List ℕ) → IsHeld k x [] j y → IsHeld (suc k) x [] (suc j) y
+one_more k x j y (inl is) = inl (ap (λ n. suc n) is.0, is.1)
+one_more k x j y (inr there) = absurd (cc there)
+
+held_by : (k : ℕ) (x : List ℕ) (held : Caches) (j : ℕ) (y : List ℕ) → slice_get (holding k x held) j ≡ Some (Some y) →
+    IsHeld k x held j y
+held_by zero x [] zero y e = inl (refl, cc e)
+held_by zero x [] (suc j) y e = absurd (cc e)
+held_by zero x (h ∷ hs) zero y e = inl (refl, cc e)
+held_by zero x (h ∷ hs) (suc j) y e = inr e
+held_by (suc k) x [] zero y e = absurd (cc e)
+held_by (suc k) x [] (suc j) y e = one_more k x j y (held_by k x [] j y e)
+held_by (suc k) x (h ∷ hs) zero y e = inr e
+held_by (suc k) x (h ∷ hs) (suc j) y e = one_on k x hs h j y (held_by k x hs j y e)
+
+module _ (names : List (List ℕ)) (x : List ℕ) (k : ℕ) (held : Caches) (only : HoldOnly names held) where
+  may_by : slice_get names k ≡ Some x → (o : Option (Option (List ℕ))) → slice_get held k ≡ o → may_hold o x ≡ true
+  may_by there None e = refl
+  may_by there (Some None) e = refl
+  may_by there (Some (Some y)) e =
+      let same : x ≡ y = let at = only k y e in cc in
+      (bytes_eq-Decides x y).1 same
+
+  named_by : slice_get names k ≡ Some x → (j : ℕ) (y : List ℕ) → IsHeld k x held j y → slice_get names j ≡ Some y
+  named_by there j y (inl is) = ap (slice_get names) is.0 ∙ there ∙ ap (λ z. Some z) (sym is.1)
+  named_by there j y (inr before) = only j y before
+
+  still_only : slice_get names k ≡ Some x → HoldOnly names (holding k x held)
+  still_only there j y e = named_by there j y (held_by k x held j y e)
+
+  -- Caches can be used by names with their numbers.
+  use_given : Given names x k → (next : Caches) × (used k x held ≡ Some next) × HoldOnly names next
+  use_given (inl none) = (held, ap (λ n. used n x held) none, only)
+  use_given (inr there) =
+      let apart : nat_eq k no_cache ≡ false = grind (arith, nat_tests, there.0) in
+      let may = may_by there.1 (slice_get held k) refl in
+      (holding k x held, rw (apart, there.0, may) refl, still_only there.1)
+
+-- ---------------------------------------------------------------- steps
+-- of code before it has its numbers, and with them
+module _ (host : HostValue) (plain coded : StreamId → List Instruction) (each : (s : StreamId) → IsNumbered (plain s) (coded s)) where
+  abbrev before : Program
+  before = record { host = host; code = plain }
+
+  abbrev behind : Program
+  behind = record { host = host; code = coded }
+
+  abbrev Hold : StreamId → Caches → Caches → Type 0
+  Hold s fs ts = HoldOnly (each s).0 fs × HoldOnly (each s).1 ts
+
+  -- both go on alike, with caches that hold the names of their numbers
+  pub record GoOn (s : StreamId) (m n : Next) : Type 0 where
+    pub filters : Caches
+    pub tests : Caches
+    pub hold : Hold s filters tests
+    pub alike : Alike s filters tests m n
+
+  module _ (f : Base) (fs ts : Caches) (c : Config) (hold : Hold c.run.stream fs ts) where
+    abbrev s : StreamId
+    s = c.run.stream
+
+    abbrev numbers : IsNumbered (plain s) (coded s)
+    numbers = each s
+
+    places : loop_places 0 (coded s) ≡ loop_places 0 (plain s)
+    places = same_places numbers.0 numbers.1 0 (plain s) (coded s) numbers.2
+
+    number : loops_before c.run.place (coded s) ≡ loops_before c.run.place (plain s)
+    number = same_before numbers.0 numbers.1 c.run.place (plain s) (coded s) numbers.2
+
+    -- an instruction that is paid for first
+    abbrev step_before : Instruction → Next
+    step_before x = after (pay x c.world) (λ _ w. effect before f x (with_world w c))
+
+    abbrev step_behind : Instruction → Next
+    step_behind x = after (pay x c.world) (λ _ w. effect behind f x (with_world w (cached fs ts c)))
+
+    other_goes : (x y : Instruction) → NoCache x → y ≡ x → GoOn s (step_before x) (step_behind y)
+    other_goes x y none is = record {
+      filters = fs;
+      tests = ts;
+      hold = hold;
+      alike =
+          subst (λ z. Alike s fs ts (step_before x) (step_behind z)) (sym is)
+          (after_same s fs ts (pay x c.world) (λ _ w. effect before f x (with_world w c))
+          (λ _ w. effect behind f x (with_world w (cached fs ts c)))
+          (λ _ w. effect_same s fs ts (with_world w c) refl host plain coded places number f x none));
+    }
+
+    filter_goes : (x : List ℕ) (n k : ℕ) → Given numbers.0 x k → GoOn s (step_before (i.ApplyFilter x n no_cache))
+        (step_behind (i.ApplyFilter x n k))
+    filter_goes x n k there =
+        let given = use_given numbers.0 x k fs hold.0 there in
+        record {
+          filters = given.0;
+          tests = ts;
+          hold = (given.2, hold.1);
+          alike =
+              after_same s given.0 ts (pay (i.ApplyFilter x n k) c.world)
+              (λ _ w. effect before f (i.ApplyFilter x n no_cache) (with_world w c))
+              (λ _ w. effect behind f (i.ApplyFilter x n k) (with_world w (cached fs ts c)))
+              (λ _ w. subst (λ o. Alike s given.0 ts (effect before f (i.ApplyFilter x n no_cache) (with_world w c))
+              (on_used o w (λ held. apply_of behind applications.Filter x n (cached held ts (with_world w c))))) (sym given.1)
+              (apply_same s given.0 ts (with_world w c) refl host plain coded places number applications.Filter x n));
+        }
+
+    test_goes : (x : List ℕ) (n k : ℕ) → Given numbers.1 x k → GoOn s (step_before (i.PerformTest x n no_cache))
+        (step_behind (i.PerformTest x n k))
+    test_goes x n k there =
+        let given = use_given numbers.1 x k ts hold.1 there in
+        record {
+          filters = fs;
+          tests = given.0;
+          hold = (hold.0, given.2);
+          alike =
+              after_same s fs given.0 (pay (i.PerformTest x n k) c.world)
+              (λ _ w. effect before f (i.PerformTest x n no_cache) (with_world w c))
+              (λ _ w. effect behind f (i.PerformTest x n k) (with_world w (cached fs ts c)))
+              (λ _ w. subst (λ o. Alike s fs given.0 (effect before f (i.PerformTest x n no_cache) (with_world w c))
+              (on_used o w (λ held. apply_of behind applications.Test x n (cached fs held (with_world w c))))) (sym given.1)
+              (apply_same s fs given.0 (with_world w c) refl host plain coded places number applications.Test x n));
+        }
+
+    instruction_goes : (x y : Instruction) → Numbers numbers.0 numbers.1 x y → GoOn s (step_before x) (step_behind y)
+    instruction_goes (i.ApplyFilter x n m) y is =
+        subst (λ z. GoOn s (step_before (i.ApplyFilter x n m)) (step_behind z)) (sym is.2)
+        (subst (λ k. GoOn s (step_before (i.ApplyFilter x n k)) (step_behind (i.ApplyFilter x n is.0))) (sym is.1) (filter_goes x n is.0 is.3))
+    instruction_goes (i.PerformTest x n m) y is =
+        subst (λ z. GoOn s (step_before (i.PerformTest x n m)) (step_behind z)) (sym is.2)
+        (subst (λ k. GoOn s (step_before (i.PerformTest x n k)) (step_behind (i.PerformTest x n is.0))) (sym is.1) (test_goes x n is.0 is.3))
+    instruction_goes x y is = other_goes x y tt is
+
+    act_goes : (x y : Option Instruction) → NumbersAt numbers.0 numbers.1 x y → GoOn s (act before f x c) (act behind f y (cached fs ts c))
+    act_goes None None is =
+        let size = as_long numbers.0 numbers.1 (plain s) (coded s) numbers.2 in
+        record {
+          filters = fs;
+          tests = ts;
+          hold = hold;
+          alike = subst (λ n. Alike s fs ts (finish (length (plain s)) f c) (finish n f (cached fs ts c))) (sym size)
+              (choose_same s fs ts (nat_eq c.run.place (length (plain s)) && closed f c) _ _ _ _ refl refl);
+        }
+    act_goes (Some x) (Some y) is = instruction_goes x y is
+    act_goes None (Some y) is = absurd is
+    act_goes (Some x) None is = absurd is
+
+    step_goes : GoOn s (step before f c) (step behind f (cached fs ts c))
+    step_goes = act_goes _ _ (numbers_at numbers.0 numbers.1 c.run.place (plain s) (coded s) numbers.2)
+
+  -- ---------------------------------------------------------------- runs
+  pub leads_too : {f : Base} {t : List ℕ} {n : Next} {o : Final} (s : StreamId) (fs ts : Caches) (m : Next) → Hold s fs ts →
+      Alike s fs ts n m → Leads before f t n o → Leads behind f t m o
+  leads_too s fs ts m hold alike (over is end) = over (subst (λ n. Alike s fs ts n m) is alike) end
+  leads_too {f = f} s fs ts m hold alike (more {c = c} is rest) =
+      let on = subst (λ n. Alike s fs ts n m) is alike in
+      let go = step_goes f fs ts c (subst (λ r. Hold r fs ts) (sym on.0) hold) in
+      more on.1 (leads_too c.run.stream go.filters go.tests _ go.hold go.alike rest)
+  leads_too {t = t} s fs ts m hold alike (nest {g = g} {c = c} {back = back} {e = e} is inner rest) =
+      let on = subst (λ n. Alike s fs ts n m) is alike in
+      let go = step_goes g [] [] c (none_held (each c.run.stream).0, none_held (each c.run.stream).1) in
+      let ran = leads_too c.run.stream go.filters go.tests _ go.hold go.alike inner in
+      nest on.3
+      (subst (λ k. Leads behind g t (step behind g (cached c.run.filters k c)) e) (sym on.2)
+      (subst (λ k. Leads behind g t (step behind g (cached k [] c)) e) (sym on.1) ran))
+      (leads_too s fs ts _ hold (back_same s fs ts back e.end on.0) rest)
+
+  -- A run that begins with empty caches comes to the same end.
+  pub reaches_too : (f : Base) (t : List ℕ) (c : Config) (o : Final) → c.run.filters ≡ [] → c.run.tests ≡ [] → Reaches before f t c o →
+      Reaches behind f t c o
+  reaches_too f t c o no_filters no_tests run =
+      let go = step_goes f [] [] c (none_held (each c.run.stream).0, none_held (each c.run.stream).1) in
+      subst (λ k. Leads behind f t (step behind f (cached c.run.filters k c)) o) (sym no_tests)
+      (subst (λ k. Leads behind f t (step behind f (cached k [] c)) o) (sym no_filters)
+      (leads_too c.run.stream go.filters go.tests _ go.hold go.alike run))

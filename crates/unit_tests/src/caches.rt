@@ -1,0 +1,56 @@
+//! Cache numbers of a stream that has more names than there are caches.
+use crate::{sources, syntax};
+use std::alloc::Global;
+use std::test::Fail;
+use tm_printing::to_text;
+use tm_syntax::CACHES;
+use tm_values::{Error, NoRecords, Value};
+
+static NAMES: &str = "abcdefghijklmnopqrstuvwxyzABCDEFGHIJKLMNOPQRSTUVWXYZ";
+
+/// Writes the words of a filter of a name with a cache number.
+fn write_filter(alloc: Global, out: &mut String, name: char, cache: i128) -> Result<(), Error> {
+    out.push_str(" filter:")?;
+    out.push(name)?;
+    out.push_str("1@")?;
+    let number = to_text(alloc, &Value::number(cache), &NoRecords)?;
+    out.push_str(number.as_str())?;
+    Ok(())
+}
+
+/// Writes a source that passes a value to filters of all names, and again to the last one and to the first.
+fn write_source(out: &mut String) -> Result<(), Error> {
+    out.push_str("{{ x")?;
+    for name in NAMES.chars() {
+        out.push_str("|")?;
+        out.push(name)?;
+    }
+    out.push_str("|Z|a }}")?;
+    Ok(())
+}
+
+/// Writes its code: the first names have the numbers of caches, and the others 255.
+fn write_code(alloc: Global, out: &mut String) -> Result<(), Error> {
+    out.push_str(" => $x")?;
+    let mut number = 0;
+    for name in NAMES.chars() {
+        let cache = if number < CACHES { number as i128 } else { 255 };
+        write_filter(alloc, out, name, cache)?;
+        number = number.saturating_add(1);
+    }
+    write_filter(alloc, out, 'Z', 255)?;
+    write_filter(alloc, out, 'a', 0)?;
+    out.push_str(" emit")?;
+    Ok(())
+}
+
+#[test]
+fn the_first_names_have_caches(rt: HostRuntime) -> Result<(), Fail> {
+    let alloc = rt.alloc();
+    let syntax = syntax::usual(alloc)?;
+    let mut row = String::new(alloc);
+    write_source(&mut row)?;
+    write_code(alloc, &mut row)?;
+    assert!(rt; sources::has_code(alloc, &*syntax, row.as_str())?);
+    Ok(())
+}
