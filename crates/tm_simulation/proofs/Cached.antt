@@ -17,9 +17,10 @@ use Rattle.tm_syntax.specs.declared.tree.BinaryOperator.TheVariants as binaries
 use Rattle.tm_syntax.specs.declared.tree.UnaryOperator.TheVariants as unaries
 use Rattle.tm_meaning.specs.World.{choose, World, Loop, HostValue, Res, Good, Bad, answered, emitted, looked_up, escape_for}
 use Rattle.tm_meaning.specs.World.{items_over, unpacked_items, set_member, open_loop, top_mark, top_loop, push, plain_scope}
-use Rattle.tm_meaning.specs.Calls.{Callee, whole, Asked, has, refused, runs, recurs, call_named, applied, call_innermost, enter_block, undone}
-use Rattle.tm_meaning.specs.Meaning.{none_waits, truth, applied_unary, operated, attribute, item_at, slice_of}
-use Rattle.tm_meaning.specs.Instructions.{apply_of, replaces_one, replaces_two, list_on, on_count, count_in, on_truth, iterate_with}
+use Rattle.tm_meaning.specs.Calls.{Callee, whole, Asked, has, refused, runs, recurs, call_named, call_callee, applied, call_innermost, enter_block}
+use Rattle.tm_meaning.specs.Calls.{undone}
+use Rattle.tm_meaning.specs.Meaning.{none_waits, truth, applied_unary, operated, attribute, item_at, slice_of, merged_values, items_of_lists}
+use Rattle.tm_meaning.specs.Instructions.{apply_of, replaces_one, replaces_two, take_counted, on_count, count_in, on_truth, iterate_with}
 use Rattle.tm_meaning.specs.Instructions.{end_capture_with, pop_auto_escape_with, is_no_loop, on_loop, pop_loop_with, returned, returns}
 use Rattle.tm_meaning.specs.Instructions.{with_text, may_hold, holding, used, on_used, looping}
 use Rattle.tm_meaning.specs.Machine.{Activation, Caches, Capture, Return, Config, Program, End, Finished, Failed, Stuck, Next, More, Over}
@@ -76,6 +77,12 @@ module _ (s : StreamId) (fs ts : Caches) where
   on_count_same None w f g h = refl
   on_count_same (Some n) w f g h = h n
 
+  counted_same : (n : Option ℕ) (us : List Val) (w : World) (f g : List Val → List Val → Next) →
+      ((vs rest : List Val) → Same (f vs rest) (g vs rest)) → Same (take_counted n us w f) (take_counted n us w g)
+  counted_same (Some n) us w f g h = on_taken_same (taken n [] us) w f g h
+  counted_same None us w f g h =
+      on_top_same us w _ _ (λ v rest. on_count_same (count_in v) w _ _ (λ n. on_taken_same (taken n [] rest) w f g h))
+
   choose_same : (b : Bool) (m n m1 n1 : Next) → Same m m1 → Same n n1 →
       Same (choose b (λ _. m) (λ _. n)) (choose b (λ _. m1) (λ _. n1))
   choose_same true m n m1 n1 h k = h
@@ -99,9 +106,6 @@ module _ (s : StreamId) (fs ts : Caches) where
     two_same : (g : Val → Val → World → Res Val) → Same (replaces_two g c) (replaces_two g d)
     two_same g = on_top_same c.run.operands c.world _ _ (λ b vs. on_top_same vs c.world _ _ (λ a rest.
         after_same (g a b c.world) _ _ (λ x w. (here, refl))))
-
-    list_same : (n : ℕ) (us : List Val) → Same (list_on n us c) (list_on n us d)
-    list_same n us = on_taken_same (taken n [] us) c.world _ _ (λ vs rest. (here, refl))
 
     writes_same : (f : Base) (t : List ℕ) (vs : List Val) (w : World) →
         Same (writes f t (on vs (with_world w c))) (writes f t (on vs (with_world w d)))
@@ -184,8 +188,8 @@ module _ (s : StreamId) (fs ts : Caches) where
           subst (λ l. Same (asked_in_place p f c vs (recurs n items w)) (recursion q d false vs c.captures n l items w))
           (sym (place_same n)) (recursion_same false vs c.captures n (place_of_loop p c n) items w)
 
-      pub apply_same : (k : Application) (x : List ℕ) (n : ℕ) → Same (apply_of p k x n c) (apply_of q k x n d)
-      apply_same k x n = on_taken_same (taken n [] c.run.operands) c.world _ _ (λ vs rest. asked_same rest (applied host k x vs c.world))
+      pub apply_same : (k : Application) (x : List ℕ) (n : Option ℕ) → Same (apply_of p k x n c) (apply_of q k x n d)
+      apply_same k x n = counted_same n c.run.operands c.world _ _ (λ vs rest. asked_same rest (applied host k x vs c.world))
 
       -- ---------------------------------------------------------------- instructions
       pub effect_same : (f : Base) (x : Instruction) → NoCache x → Same (effect p f x c) (effect q f x d)
@@ -201,12 +205,14 @@ module _ (s : StreamId) (fs ts : Caches) where
       effect_same f i.Slice none =
           on_top_same c.run.operands c.world _ _ (λ by vs. on_top_same vs c.world _ _ (λ stop us. on_top_same us c.world _ _ (λ start ts.
           on_top_same ts c.world _ _ (λ v rest. after_same (slice_of host v start stop by c.world) _ _ (λ x w. (here, refl))))))
-      effect_same f (i.BuildList None) none =
-          on_top_same c.run.operands c.world _ _ (λ v us. on_count_same (count_in v) c.world _ _ (λ n. list_same n us))
-      effect_same f (i.BuildList (Some n)) none = list_same n c.run.operands
-      effect_same f (i.BuildTuple n) none = list_same n c.run.operands
+      effect_same f (i.BuildList n) none = counted_same n c.run.operands c.world _ _ (λ vs rest. (here, refl))
+      effect_same f (i.BuildTuple n) none = counted_same (Some n) c.run.operands c.world _ _ (λ vs rest. (here, refl))
       effect_same f (i.BuildMap n) none = on_taken_same (taken (n + n) [] c.run.operands) c.world _ _ (λ vs rest. (here, refl))
       effect_same f (i.BuildKwargs n) none = on_taken_same (taken (n + n) [] c.run.operands) c.world _ _ (λ vs rest. (here, refl))
+      effect_same f (i.MergeKwargs n) none = on_taken_same (taken n [] c.run.operands) c.world _ _
+          (λ vs rest. after_same (merged_values host vs c.world) _ _ (λ v w. (here, refl)))
+      effect_same f (i.UnpackLists n) none = on_taken_same (taken n [] c.run.operands) c.world _ _
+          (λ vs rest. after_same (items_of_lists host vs c.world) _ _ (λ us w. (here, refl)))
       effect_same f i.Eq none = two_same (operated host binaries.Equal)
       effect_same f i.Ne none = two_same (operated host binaries.NotEqual)
       effect_same f i.Lt none = two_same (operated host binaries.Less)
@@ -234,8 +240,10 @@ module _ (s : StreamId) (fs ts : Caches) where
       effect_same f (i.JumpIfFalse n) none = jumps_same host _ _ _ _ (λ v vs w. (here, refl)) (λ v vs w. (here, refl))
       effect_same f (i.JumpIfFalseOrPop n) none = jumps_same host _ _ _ _ (λ v vs w. (here, refl)) (λ v vs w. (here, refl))
       effect_same f (i.JumpIfTrueOrPop n) none = jumps_same host _ _ _ _ (λ v vs w. (here, refl)) (λ v vs w. (here, refl))
-      effect_same f (i.CallFunction x n) none = on_taken_same (taken n [] c.run.operands) c.world _ _
+      effect_same f (i.CallFunction x n) none = counted_same n c.run.operands c.world _ _
           (λ vs rest. asked_same rest (call_named host x vs c.world))
+      effect_same f (i.CallObject n) none = counted_same n c.run.operands c.world _ _
+          (λ vs rest. asked_same rest (call_callee host vs c.world))
       effect_same f (i.CallMethod x n) none = apply_same applications.Method x n
       effect_same f i.FastRecurse none = on_top_same c.run.operands c.world _ _
           (λ v vs. placed_same f vs (call_innermost host v c.world))
@@ -387,7 +395,7 @@ module _ (host : HostValue) (plain coded : StreamId → List Instruction) (each 
           (λ _ w. effect_same s fs ts (with_world w c) refl host plain coded places number f x none));
     }
 
-    filter_goes : (x : List ℕ) (n k : ℕ) → Given numbers.0 x k → GoOn s (step_before (i.ApplyFilter x n no_cache))
+    filter_goes : (x : List ℕ) (n : Option ℕ) (k : ℕ) → Given numbers.0 x k → GoOn s (step_before (i.ApplyFilter x n no_cache))
         (step_behind (i.ApplyFilter x n k))
     filter_goes x n k there =
         let given = use_given numbers.0 x k fs hold.0 there in
@@ -404,7 +412,7 @@ module _ (host : HostValue) (plain coded : StreamId → List Instruction) (each 
               (apply_same s given.0 ts (with_world w c) refl host plain coded places number applications.Filter x n));
         }
 
-    test_goes : (x : List ℕ) (n k : ℕ) → Given numbers.1 x k → GoOn s (step_before (i.PerformTest x n no_cache))
+    test_goes : (x : List ℕ) (n : Option ℕ) (k : ℕ) → Given numbers.1 x k → GoOn s (step_before (i.PerformTest x n no_cache))
         (step_behind (i.PerformTest x n k))
     test_goes x n k there =
         let given = use_given numbers.1 x k ts hold.1 there in
