@@ -5,7 +5,7 @@ use Rattle.std.proofs.lemmas.Option.{slice_get_read}
 use Rattle.std.specs.Prelude.{slice_get, slice_set}
 use Rattle.tm_syntax.specs.CacheNumbers.{numbered_from}
 use Rattle.tm_syntax.specs.declared.instruction.Instruction.{Instruction}
-use Rattle.tm_generator.specs.Caches.{made_or, IsNumberedOne}
+use Rattle.tm_generator.specs.Caches.{IsNumberedOne}
 use Rattle.tm_generator.specs.declared.caches.CacheNames.{CacheNames}
 
 -- code of which all from a place on gets its numbers yet

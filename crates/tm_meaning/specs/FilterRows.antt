@@ -197,6 +197,19 @@ ran_alone code =
     let f = base_of true [] w in
     said_by (run_for 20 p f [] (step_of p f (start (whole w.stream) [] w)))
 
+-- a name and its cache number
+abbrev pub upper_by : ℕ → List ℕ × ℕ
+upper_by n = (codes "upper", n)
+
+abbrev pub second_by : ℕ → List ℕ × ℕ
+second_by n = (codes "second", n)
+
+abbrev pub odd_by : ℕ → List ℕ × ℕ
+odd_by n = (codes "odd", n)
+
+abbrev pub unsure_by : ℕ → List ℕ × ℕ
+unsure_by n = (codes "u", n)
+
 abbrev pub filter_by : List ℕ × ℕ → Instruction
 filter_by named = i.ApplyFilter named.0 (Some 1) named.1
 

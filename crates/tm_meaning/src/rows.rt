@@ -27,7 +27,8 @@ ghost use Rattle.tm_meaning.specs.Rows.{x};
 ghost use Rattle.tm_meaning.specs.SpreadRows.{sum_of_lists, sum_of_both, sum_of_items, spread_to_filter};
 ghost use Rattle.tm_meaning.specs.SpreadRows.{dict_of_maps, dict_between, dict_of_pairs, range_of_both};
 ghost use Rattle.tm_meaning.specs.SpreadRows.{namespace_of_one, called_item, called_number, called_text};
-ghost use Rattle.tm_meaning.specs.FilterRows.{is_unsure, under, unknown, filtered_by, tested_by, EndsIn};
+ghost use Rattle.tm_meaning.specs.FilterRows.{is_unsure, under, unknown, filtered_by, tested_by};
+ghost use Rattle.tm_meaning.specs.FilterRows.{upper_by, second_by, odd_by, unsure_by, EndsIn};
 ghost use Rattle.tm_meaning.specs.FilterRows.{filter_block, two_filters, last_counts, set_filtered};
 ghost use Rattle.tm_meaning.specs.FilterRows.{capitals_in_html, safe_in_html, break_in_filter, fault_in_filter};
 ghost use Rattle.tm_syntax.specs.declared.tree.Application.TheVariants.{Filter, Test, NegatedTest};
@@ -288,16 +289,16 @@ pub fn filter_block_rows()
 /// Filters and tests by cache numbers: one name with one number, with two, and without; two names with one
 /// number; numbers that are none. No compiler writes such code, but for the first.
 pub fn cache_rows()
-    ensures again { EndsIn (filtered_by ((codes "upper", 3) ∷ (codes "upper", 3) ∷ [])) (codes "A") [] }
-    ensures two { EndsIn (filtered_by ((codes "upper", 3) ∷ (codes "upper", 0) ∷ [])) (codes "A") [] }
-    ensures free { EndsIn (filtered_by ((codes "upper", 255) ∷ (codes "second", 255) ∷ [])) [] [] }
-    ensures last { EndsIn (filtered_by ((codes "upper", 49) ∷ [])) (codes "A") [] }
-    ensures other { EndsIn (filtered_by ((codes "upper", 3) ∷ (codes "second", 3) ∷ [])) [] (BadStream ∷ []) }
-    ensures past { EndsIn (filtered_by ((codes "upper", 50) ∷ [])) [] (BadStream ∷ []) }
-    ensures below { EndsIn (filtered_by ((codes "upper", 254) ∷ [])) [] (BadStream ∷ []) }
-    ensures test { EndsIn (tested_by ((codes "odd", 0) ∷ (codes "odd", 0) ∷ [])) (codes "false") [] }
-    ensures other_test { EndsIn (tested_by ((codes "odd", 0) ∷ (codes "u", 0) ∷ [])) [] (BadStream ∷ []) }
-    ensures past_tests { EndsIn (tested_by ((codes "odd", 50) ∷ [])) [] (BadStream ∷ []) }
+    ensures again { EndsIn (filtered_by (upper_by 3 ∷ upper_by 3 ∷ [])) (codes "A") [] }
+    ensures two { EndsIn (filtered_by (upper_by 3 ∷ upper_by 0 ∷ [])) (codes "A") [] }
+    ensures free { EndsIn (filtered_by (upper_by 255 ∷ second_by 255 ∷ [])) [] [] }
+    ensures last { EndsIn (filtered_by (upper_by 49 ∷ [])) (codes "A") [] }
+    ensures other { EndsIn (filtered_by (upper_by 3 ∷ second_by 3 ∷ [])) [] (BadStream ∷ []) }
+    ensures past { EndsIn (filtered_by (upper_by 50 ∷ [])) [] (BadStream ∷ []) }
+    ensures below { EndsIn (filtered_by (upper_by 254 ∷ [])) [] (BadStream ∷ []) }
+    ensures test { EndsIn (tested_by (odd_by 0 ∷ odd_by 0 ∷ [])) (codes "false") [] }
+    ensures other_test { EndsIn (tested_by (odd_by 0 ∷ unsure_by 0 ∷ [])) [] (BadStream ∷ []) }
+    ensures past_tests { EndsIn (tested_by (odd_by 50 ∷ [])) [] (BadStream ∷ []) }
 {}
 
 /// Loops that are called: `{{ loop(x) }}` in place, over `[[]]`, a number, in a loop that can't be

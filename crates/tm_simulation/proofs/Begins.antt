@@ -1,6 +1,6 @@
 -- The loops that code begins: their numbers, and that each of a tree stands in its code.
-use Rattle.std.proofs.Common.{◌≡◌, ℕ, zero, suc, ◌+◌, ◌⊎◌, List, [], ◌∷◌, ◌++◌, length, Option, Some, None, Bool, true, false, refl, sym, ap, subst}
-use Rattle.std.proofs.Common.{◌∙◌, arith}
+use Rattle.std.proofs.Common.{◌≡◌, ℕ, zero, suc, ◌+◌, ◌⊎◌, List, [], ◌∷◌, ◌++◌, length, Option, Some, None, Bool, true, false, refl}
+use Rattle.std.proofs.Common.{sym, ap, subst, ◌∙◌, arith}
 use Rattle.std.specs.Prelude.{slice_get}
 use Rattle.std.proofs.lemmas.List.{append-nil}
 use Rattle.tm_syntax.specs.declared.instruction.Instruction.{Instruction}
@@ -247,8 +247,10 @@ none_begin at (jump_out j) n = jump_begins at j
 none_begin at (bounded c) n = bounded_begins (none_begin at c n)
 none_begin at (fork c d) n = fork_begins (none_begin at c n.0) (none_begin at d n.1)
 none_begin at (looped g c d) n = absurd n
-none_begin at break_loop n = λ all l pc h e. record { number = one_begins all pc at (i.Jump l.after) refl h e; found = tt; uncached = (refl, tt) }
-none_begin at next_round n = λ all l pc h e. record { number = one_begins all pc at (i.Jump l.again) refl h e; found = tt; uncached = (refl, tt) }
+none_begin at break_loop n = λ all l pc h e.
+    record { number = one_begins all pc at (i.Jump l.after) refl h e; found = tt; uncached = (refl, tt) }
+none_begin at next_round n = λ all l pc h e.
+    record { number = one_begins all pc at (i.Jump l.again) refl h e; found = tt; uncached = (refl, tt) }
 none_begin at (aside c) n = aside_begins (none_begin at c n)
 
 -- a jump over code

@@ -17,8 +17,8 @@ use Rattle.tm_syntax.specs.declared.tree.BinaryOperator.TheVariants as binaries
 use Rattle.tm_syntax.specs.declared.tree.UnaryOperator.TheVariants as unaries
 use Rattle.tm_meaning.specs.World.{choose, World, Loop, HostValue, Res, Good, Bad, answered, emitted, looked_up, escape_for}
 use Rattle.tm_meaning.specs.World.{items_over, unpacked_items, set_member, open_loop, top_mark, top_loop, push, plain_scope}
-use Rattle.tm_meaning.specs.Calls.{Callee, whole, Asked, has, refused, runs, recurs, call_named, call_callee, applied, call_innermost, enter_block}
-use Rattle.tm_meaning.specs.Calls.{undone}
+use Rattle.tm_meaning.specs.Calls.{Callee, whole, Asked, has, refused, runs, recurs, call_named, call_callee, applied}
+use Rattle.tm_meaning.specs.Calls.{call_innermost, enter_block, undone}
 use Rattle.tm_meaning.specs.Meaning.{none_waits, truth, applied_unary, operated, attribute, item_at, slice_of, merged_values, items_of_lists}
 use Rattle.tm_meaning.specs.Instructions.{apply_of, replaces_one, replaces_two, take_counted, on_count, count_in, on_truth, iterate_with}
 use Rattle.tm_meaning.specs.Instructions.{end_capture_with, pop_auto_escape_with, is_no_loop, on_loop, pop_loop_with, returned, returns}
@@ -302,7 +302,8 @@ none_held names k x e = absurd (cc e)
 abbrev IsHeld : ℕ → List ℕ → Caches → ℕ → List ℕ → Type 0
 IsHeld k x held j y = ((j ≡ k) × (y ≡ x)) ⊎ (slice_get held j ≡ Some (Some y))
 
-one_on : (k : ℕ) (x : List ℕ) (hs : Caches) (h : Option (List ℕ)) (j : ℕ) (y : List ℕ) → IsHeld k x hs j y → IsHeld (suc k) x (h ∷ hs) (suc j) y
+one_on : (k : ℕ) (x : List ℕ) (hs : Caches) (h : Option (List ℕ)) (j : ℕ) (y : List ℕ) → IsHeld k x hs j y →
+    IsHeld (suc k) x (h ∷ hs) (suc j) y
 one_on k x hs h j y (inl is) = inl (ap (λ n. suc n) is.0, is.1)
 one_on k x hs h j y (inr there) = inr there
 
@@ -432,10 +433,12 @@ module _ (host : HostValue) (plain coded : StreamId → List Instruction) (each 
     instruction_goes : (x y : Instruction) → Numbers numbers.0 numbers.1 x y → GoOn s (step_before x) (step_behind y)
     instruction_goes (i.ApplyFilter x n m) y is =
         subst (λ z. GoOn s (step_before (i.ApplyFilter x n m)) (step_behind z)) (sym is.2)
-        (subst (λ k. GoOn s (step_before (i.ApplyFilter x n k)) (step_behind (i.ApplyFilter x n is.0))) (sym is.1) (filter_goes x n is.0 is.3))
+        (subst (λ k. GoOn s (step_before (i.ApplyFilter x n k)) (step_behind (i.ApplyFilter x n is.0))) (sym is.1)
+        (filter_goes x n is.0 is.3))
     instruction_goes (i.PerformTest x n m) y is =
         subst (λ z. GoOn s (step_before (i.PerformTest x n m)) (step_behind z)) (sym is.2)
-        (subst (λ k. GoOn s (step_before (i.PerformTest x n k)) (step_behind (i.PerformTest x n is.0))) (sym is.1) (test_goes x n is.0 is.3))
+        (subst (λ k. GoOn s (step_before (i.PerformTest x n k)) (step_behind (i.PerformTest x n is.0))) (sym is.1)
+        (test_goes x n is.0 is.3))
     instruction_goes x y is = other_goes x y tt is
 
     act_goes : (x y : Option Instruction) → NumbersAt numbers.0 numbers.1 x y → GoOn s (act before f x c) (act behind f y (cached fs ts c))

@@ -233,9 +233,9 @@ module _ (p : Program) (trees : Trees) (compiled : IsUnnumbered trees p) where
       Entered p k heard b out w (nests_of p.host trees (suc n) k heard out w)
   level_runs n (whole id) heard b out w deep = stream_runs n id heard b out w deep (nests_run n)
 
-  -- A render's run comes to what its trees mean, heard by the writer or by captures.
-  pub render_runs : (b : Bed) (w : World) → Entered p (whole w.stream) true b [] w (rendered p.host trees w)
-  render_runs b w =
+  -- A render's run comes to what its trees mean.
+  unnumbered_render : (b : Bed) (w : World) → Entered p (whole w.stream) true b [] w (rendered p.host trees w)
+  unnumbered_render b w =
       let e : suc p.host.limit ≡ p.host.limit + 1 = omega arith in
       subst (λ n. Entered p (whole w.stream) true b [] w (nests_of p.host trees n (whole w.stream) true [] w)) e
       (level_runs p.host.limit (whole w.stream) true b [] w (omega arith))
@@ -314,12 +314,17 @@ same_with_levels host trees n m k heard out w enough also =
     (nested_comes_to_meaning trees p m k heard [] out w compiled also)
 
 -- ---------------------------------------------------------------- renders
+-- A render's run comes to what its trees mean, heard by the writer or by captures.
+pub render_runs : (p : Program) (trees : Trees) → IsCompiled trees p → (b : Bed) (w : World) →
+    Entered p (whole w.stream) true b [] w (rendered p.host trees w)
+render_runs p trees compiled b w =
+    once_numbered trees p (whole w.stream) true (captures_of b []) (told_by b []) w _ compiled
+    (unnumbered_render (unnumbered trees p) trees (λ s. refl) b w)
+
 pub comes_to_meaning : (trees : Trees) (p : Program) (w : World) → IsCompiled trees p → Renders p w (final_of (rendered p.host trees w))
 comes_to_meaning trees p w compiled =
     let o = rendered p.host trees w in
-    once_numbered trees p (whole w.stream) true [] [] w _ compiled
-    (subst (λ e. Renders (unnumbered trees p) w e) (unheard_end o.ending o.text o.world)
-    (render_runs (unnumbered trees p) trees (λ s. refl) air w))
+    subst (λ e. Renders p w e) (unheard_end o.ending o.text o.world) (render_runs p trees compiled air w)
 
 not_stuck_by : (e : Ending) (w left : World) → end_by e [] w ≡ Stuck left → ⊥
 not_stuck_by done w left e = cc

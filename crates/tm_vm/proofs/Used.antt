@@ -1,18 +1,16 @@
 -- Filters and tests that are used by their cache numbers.
-use Rattle.std.proofs.Common.{◌≡◌, ℕ, zero, suc, ◌+◌, ◌≤◌, ◌<◌, ◌⊎◌, inl, inr, List, [], ◌∷◌, ◌++◌, length, Option, None, Some, Result, Ok, Err}
-use Rattle.std.proofs.Common.{false, refl, sym, ap, ◌∙◌, subst, arith, slice_get, slice_set}
+use Rattle.std.proofs.Common.{◌≡◌, ℕ, zero, suc, ◌+◌, ◌≤◌, ◌<◌, List, [], ◌∷◌, ◌++◌, length, None, Some}
+use Rattle.std.proofs.Common.{Result, false, refl, sym, ap, ◌∙◌, subst, arith, slice_get, slice_set}
 use Rattle.std.proofs.Common.{nat_eq, nat_lt, true}
 use Rattle.std.proofs.lemmas.Bool.Decides.{nat_tests}
 use Rattle.std.proofs.lemmas.Slice.Eq.{bytes_eq-Decides}
 use Rattle.tm_syntax.specs.CacheNumbers.{cache_count, no_cache}
 use Rattle.tm_syntax.specs.Named.{same_name}
 use Rattle.tm_meaning.specs.Instructions.{apply_of, apply_filter_of, perform_test_of, on_used, used, holding, with_filters, with_tests}
-use Rattle.tm_meaning.specs.Machine.{Caches, Config, Next, Program}
-use Rattle.tm_meaning.specs.Memory.{is_want_of_memory}
+use Rattle.tm_meaning.specs.Machine.{Caches, Config, Program}
 use Rattle.tm_parts.specs.declared.halt.Halt.{Halt}
-use Rattle.tm_parts.specs.declared.halt.Halt.TheVariants as halt
 use Rattle.tm_syntax.specs.declared.tree.Application.TheVariants as applications
-use Rattle.tm_vm.specs.Answers.{IsUsed, Silently}
+use Rattle.tm_vm.specs.Answers.{Silently}
 use Rattle.tm_vm.specs.declared.flow.Flow.{Flow}
 
 -- ---------------------------------------------------------------- caches
@@ -50,7 +48,8 @@ pub filter_used : (p : Program) (x : List ℕ) (n k : ℕ) (old mid new : Config
     Silently (apply_of p applications.Filter x n mid) mid new result → Silently (apply_filter_of p x n k old) old new result
 filter_used p x n k old mid new result there is s =
     let held = mid.run.filters in
-    subst (λ o. Silently (on_used o old.world (λ held. apply_of p applications.Filter x n (with_filters held old))) old new result) (sym there)
+    subst (λ o. Silently (on_used o old.world (λ held. apply_of p applications.Filter x n (with_filters held old))) old new result)
+    (sym there)
     (let t = subst (λ c. Silently (apply_of p applications.Filter x n c) c new result) is s in
     record { did = t.did; kept = t.kept; same_scopes = t.same_scopes; same_stream = t.same_stream })
 

@@ -19,7 +19,8 @@ use Rattle.tm_meaning.specs.Meaning.{none_waits, truth, applied_unary, operated,
 use Rattle.tm_meaning.specs.Instructions.{apply_of, replaces_one, replaces_two, take_counted, on_count, count_in, on_truth, iterate_with}
 use Rattle.tm_meaning.specs.Instructions.{end_capture_with, on_used, used, with_filters, with_tests}
 use Rattle.tm_meaning.specs.Instructions.{pop_auto_escape_with, is_no_loop, on_loop, pop_loop_with, returned, returns, with_text}
-use Rattle.tm_meaning.specs.Machine.{Activation, Caches, Capture, Return, Config, Program, End, Failed, Stuck, Next, More, Over, Nest, Back, after}
+use Rattle.tm_meaning.specs.Machine.{Caches}
+use Rattle.tm_meaning.specs.Machine.{Activation, Capture, Return, Config, Program, End, Failed, Stuck, Next, More, Over, Nest, Back, after}
 use Rattle.tm_meaning.specs.Machine.{on_top, on_taken, taken, on, with_world, writes, audible, new_capture, recursion, place_of_loop, asked}
 use Rattle.tm_meaning.specs.Machine.{asked_in_place}
 use Rattle.tm_meaning.specs.Steps.{charge_of, effect}

@@ -1,5 +1,4 @@
-use Rattle.std.proofs.Common.{◌∙◌, ◌<◌, ◌≤◌, arith, get_or, length, None, Some, Option, ap, subst, sym}
-use Rattle.tm_syntax.specs.declared.instruction.Instruction.{Instruction}
+use Rattle.std.proofs.Common.{◌∙◌, ◌<◌, ◌≤◌, arith, get_or, length, None, Some, ap, subst, sym}
 use Rattle.tm_generator.specs.Caches.{IsNumberedOne}
 use Rattle.tm_generator.proofs.NumberedBehind.{all_numbered, goes_on}
 use Rattle.tm_generator.proofs.caches.number_caches.Goals as goal
