@@ -4,6 +4,8 @@
 #[cfg(test)]
 mod bounds;
 #[cfg(test)]
+mod callbacks;
+#[cfg(test)]
 mod limited;
 #[cfg(test)]
 mod loops;

@@ -9,6 +9,7 @@ ghost use Rattle.tm_tables.specs.Stated.{IsStated, just, keeping};
 ghost use Rattle.render_tests.specs.Found.{reply_of_found};
 ghost use Rattle.render_tests.specs.declared.party.Party.TheVariants.{Second, Last, Keeper, Reader, Title, Seen, Faulty};
 
+use crate::callbacks::{Method, Style};
 use std::alloc::Global;
 use template_machine::*;
 
@@ -80,14 +81,17 @@ fn shared(alloc: Global, found: Option<&Value>) -> CallableAnswer
     }
 }
 
-/// An environment of such functions.
-pub(crate) type Rows<'source> = EnvironmentOf<'source, Objects<Party>>;
+/// The objects of the rows.
+pub(crate) type Parts = Objects<Party, Method, Style>;
+
+/// An environment of such objects.
+pub(crate) type Rows<'source> = EnvironmentOf<'source, Parts>;
 
 /// A template of such an environment.
-pub(crate) type Page<'env, 'source> = TemplateOf<'env, 'source, Objects<Party>>;
+pub(crate) type Page<'env, 'source> = TemplateOf<'env, 'source, Parts>;
 
 /// The state that its render leaves.
-pub(crate) type Left<'env> = StateOf<'env, Objects<Party>>;
+pub(crate) type Left<'env> = StateOf<'env, Parts>;
 
 // The first one gets the number behind those of the language.
 static FUNCTIONS: &[(&str, Party)] = &[

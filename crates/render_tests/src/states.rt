@@ -45,6 +45,16 @@ fn applies(alloc: Global, state: &mut Left<'_>) -> Result<bool, Error> {
     Ok(filtered.as_whole() == Some(0) && !holds && unknown)
 }
 
+/// Whether a state writes values as templates do, here under strict undefined values.
+fn formats(state: &Left<'_>) -> Result<bool, Error> {
+    let text = state.format(&Value::number(42))?;
+    let is_refused = match state.format(&Value::undefined()) {
+        Ok(_) => false,
+        Err(error) => error.kind() == ErrorKind::UndefinedError,
+    };
+    Ok(text.as_str() == "42" && is_refused)
+}
+
 /// Whether the state of a render keeps what it is given, also apart from the text, and filters.
 fn keeps_the_last(alloc: Global, template: &Page<'_, '_>) -> Result<bool, Error> {
     let mut ids = StateIds::new();
@@ -54,8 +64,8 @@ fn keeps_the_last(alloc: Global, template: &Page<'_, '_>) -> Result<bool, Error>
     }
     let (output, mut state) = captured.into_parts();
     let before = replaced(&mut state, 2)?;
-    let applies = applies(alloc, &mut state)?;
-    Ok(output.is_empty() && before == Some(3) && kept(&state) == Some(2) && applies)
+    let is_able = applies(alloc, &mut state)? && formats(&state)?;
+    Ok(output.is_empty() && before == Some(3) && kept(&state) == Some(2) && is_able)
 }
 
 /// Whether a template that was given no name has the usual one, and renders its source.
@@ -81,6 +91,7 @@ fn is_well(alloc: Global, environment: &mut Rows<'_>) -> Result<bool, Error> {
     environment.add_function("title", Party::Title)?;
     environment.add_filter("second", Party::Second)?;
     environment.add_test("second", Party::Second)?;
+    environment.set_undefined_behavior(UndefinedBehavior::Strict);
     Ok(renders_at_once(environment)? && renders_otherwise(alloc, environment)?)
 }
 

@@ -56,7 +56,7 @@ empty_environment objects = record {
 abbrev pub expected_environment : {O : Type 0} → O → EnvironmentValue O
 expected_environment objects = record (empty_environment objects) { escaping = escapes.ByName; globals = language_globals }
 
-abbrev pub new_environment : {C : Type 0} → EnvironmentValue (Table C)
+abbrev pub new_environment : {C M F : Type 0} → EnvironmentValue (Table C M F)
 new_environment = expected_environment language_functions
 
 -- the template that a source is in an environment, under a name
@@ -76,7 +76,7 @@ abbrev pub with_global : {O : Type 0} → List ℕ → Val → EnvironmentValue 
 with_global x value e = record e { globals = put x value e.globals }
 
 -- the object under the next number, and the function of that number as the global of a name
-abbrev pub with_function : {C : Type 0} → List ℕ → C → EnvironmentValue (Table C) → EnvironmentValue (Table C)
+abbrev pub with_function : {C M F : Type 0} → List ℕ → C → EnvironmentValue (Table C M F) → EnvironmentValue (Table C M F)
 with_function x object e =
     record e { objects = with_object object e.objects; globals = put x (function (next_number e.objects)) e.globals }
 
@@ -101,8 +101,8 @@ host_of stated t = record {
   filters = (stated t.environment.objects).filters;
   tests = (stated t.environment.objects).tests;
   join = λ x parent. Ok x;
-  formatter = None;
-  unknown_method = None;
+  formatter = (stated t.environment.objects).formatter;
+  unknown_method = (stated t.environment.objects).unknown_method;
   undefined = t.environment.undefined;
   limit = t.environment.limit;
 }

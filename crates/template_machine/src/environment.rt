@@ -3,6 +3,7 @@ ghost use Rattle.std.specs.Prelude.{◌≡◌, ◌≢◌, ◌<◌, [], ◌∷◌
 ghost use Rattle.std.specs.Prelude.{MatchResult, length, slice_get};
 ghost use Rattle.tm_syntax.specs.Named.{find, pairs_of, put, without};
 ghost use Rattle.tm_tables.specs.Stated.{no_functions, with_filter, without_filter, with_test, without_test};
+ghost use Rattle.tm_tables.specs.Stated.{with_fallback, with_formatter};
 ghost use Rattle.tm_templates.specs.Templates.{Compiled, IsRefused};
 ghost use Rattle.tm_values.specs.Answer.{IsLent, OkOrOutOfMemory};
 ghost use Rattle.tm_values.specs.Val.{function};
@@ -19,7 +20,7 @@ use std::alloc::Global;
 use std::marker::Model;
 use tm_compiler::SyntaxConfig;
 use tm_syntax::{Name, NameMap};
-use tm_tables::{Callable, Objects, Parties, language_globals};
+use tm_tables::{BoxedObjects, Objects, Parties, language_globals};
 use tm_templates::{CompiledTemplate, EscapeSetting, Source, TemplateConfig, Templates};
 use tm_values::{Error, ErrorKind, UndefinedBehavior, Value};
 
@@ -57,8 +58,8 @@ impl<O: Drop> Drop for EnvironmentOf<'_, O> {
     }
 }
 
-/// The environment of a program: its functions are boxed.
-pub type Environment<'source> = EnvironmentOf<'source, Objects<Box<dyn Callable>>>;
+/// The environment of a program: its objects are boxed.
+pub type Environment<'source> = EnvironmentOf<'source, BoxedObjects>;
 
 impl<'source, O: Drop> Model for EnvironmentOf<'source, O> {
     ghost use Rattle.std.specs.Coded.{codes as coding};
@@ -313,11 +314,11 @@ impl<'source, O: Parties> EnvironmentOf<'source, O> {
     }
 }
 
-impl<'source, C: Drop> EnvironmentOf<'source, Objects<C>> {
+impl<'source, C: Drop, M: Drop, F: Drop> EnvironmentOf<'source, Objects<C, M, F>> {
     /// An environment with what a template may expect: what it emits is escaped as its name asks
     /// (`default_auto_escape_callback`), and the functions of the language are the globals of their names; else
     /// the same as `empty`. Fails by OutOfMemory alone.
-    pub fn new(alloc: Global) -> Result<EnvironmentOf<'source, Objects<C>>, Error>
+    pub fn new(alloc: Global) -> Result<EnvironmentOf<'source, Objects<C, M, F>>, Error>
         ensures { OkOrOutOfMemory result (λ e. e ≡ new_environment) }
     {
         let globals = language_globals(alloc)?;
@@ -331,7 +332,7 @@ impl<'source, C: Drop> EnvironmentOf<'source, Objects<C>> {
 
     /// No templates, the default delimiters, nothing escaped, no functions, lenient undefined values, no fuel
     /// set, and scopes at most 500 deep.
-    pub fn empty(alloc: Global) -> EnvironmentOf<'source, Objects<C>>
+    pub fn empty(alloc: Global) -> EnvironmentOf<'source, Objects<C, M, F>>
         ensures { result ≡ empty_environment no_functions }
     {
         EnvironmentOf::with(
@@ -346,9 +347,9 @@ impl<'source, C: Drop> EnvironmentOf<'source, Objects<C>> {
     fn with(
         alloc: Global,
         default_auto_escape: EscapeSetting,
-        objects: Objects<C>,
+        objects: Objects<C, M, F>,
         globals: NameMap<Value>,
-    ) -> EnvironmentOf<'source, Objects<C>>
+    ) -> EnvironmentOf<'source, Objects<C, M, F>>
         ensures { result ≡ record (empty_environment objects) {
           escaping = default_auto_escape;
           globals = globals;
@@ -425,5 +426,21 @@ impl<'source, C: Drop> EnvironmentOf<'source, Objects<C>> {
         ensures { self.new ≡ with_objects (without_test name.now self.old.objects) self.old }
     {
         self.objects.remove_test(name);
+    }
+
+    /// Lets an object answer where a value has no method of a name, in place of what did; where none does, that is
+    /// UnknownMethod.
+    pub fn set_unknown_method_callback(&mut self, object: M)
+        ensures { self.new ≡ with_objects (with_fallback object self.old.objects) self.old }
+    {
+        self.objects.set_fallback(object);
+    }
+
+    /// Lets a formatter say what emitted values are written as, in place of what did; where none does, the escape
+    /// says it (`escape_formatter`).
+    pub fn set_formatter(&mut self, formatter: F)
+        ensures { self.new ≡ with_objects (with_formatter formatter self.old.objects) self.old }
+    {
+        self.objects.set_formatter(formatter);
     }
 }

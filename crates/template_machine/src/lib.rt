@@ -2,12 +2,14 @@
 #![tactic(auto)]
 
 mod environment;
+mod formatting;
 mod ids;
 mod rendering;
 mod state;
 mod template;
 
 pub use environment::{Environment, EnvironmentOf};
+pub use formatting::escape_formatter;
 pub use ids::StateIds;
 pub use state::{Captured, CapturedOf, State, StateOf};
 pub use template::{Template, TemplateOf};
@@ -23,7 +25,8 @@ pub use tm_parts::{Counted, Limited, NullWriter, Output, Sink, WriteWrapper};
 pub use tm_printing as printing;
 pub use tm_syntax::{Assignment, AssignmentTarget, Code};
 pub use tm_tables::{
-    Answering, Callable, CallableAnswer, Called, FuelTracker, Objects, Parties, Plain, View,
+    Answering, BoxedObjects, Callable, CallableAnswer, Called, Formatter, FuelTracker,
+    MethodFallback, Objects, Parties, Plain, View,
 };
 pub use tm_templates::{
     CompiledTemplate, EscapeSetting, Source, TemplateConfig, default_auto_escape_callback,

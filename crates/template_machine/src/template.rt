@@ -13,7 +13,7 @@ use tm_meaning::{StreamId, TemplateId};
 use tm_parts::{Captures, Halt, NullWriter, Sink};
 use tm_state::StateData;
 use tm_syntax::{CaptureMode, Name};
-use tm_tables::{Callable, Objects, Parties};
+use tm_tables::{BoxedObjects, Parties};
 use tm_templates::CompiledTemplate;
 use tm_values::{Error, ErrorKind, Value};
 use tm_vm::Machine;
@@ -44,7 +44,7 @@ impl<O: Drop> Drop for TemplateOf<'_, '_, O> {
 }
 
 /// A template of a program's environment.
-pub type Template<'env, 'source> = TemplateOf<'env, 'source, Objects<Box<dyn Callable>>>;
+pub type Template<'env, 'source> = TemplateOf<'env, 'source, BoxedObjects>;
 
 impl<'env, 'source, O: Drop> Model for TemplateOf<'env, 'source, O> {
     ghost use Rattle.std.specs.Coded.{codes};

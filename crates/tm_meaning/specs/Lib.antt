@@ -10,6 +10,7 @@ pub mod Rows
 pub mod LoopRows
 pub mod CallRows
 pub mod FilterRows
+pub mod ObjectRows
 pub mod OperatorRows
 pub mod GuardRows
 pub mod LookUp

@@ -3,6 +3,8 @@
 
 mod callable;
 mod context;
+mod fallback;
+mod formatter;
 mod fuel;
 mod host;
 mod language;
@@ -14,10 +16,12 @@ mod view;
 
 pub use callable::{Callable, CallableAnswer, Called};
 pub use context::{Context, Found, Frame};
+pub use fallback::MethodFallback;
+pub use formatter::Formatter;
 pub use fuel::{Exhausted, FuelTracker};
 pub use host::Host;
 pub use language::language_globals;
 pub use loops::{LoopState, following_at, position_at, previous_at};
-pub use objects::{Objects, Parties};
+pub use objects::{BoxedObjects, Objects, Parties};
 pub use plain::{Answering, Plain};
 pub use view::View;
