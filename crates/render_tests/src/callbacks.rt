@@ -1,6 +1,6 @@
-//! The method objects and the formatters of the rows.
+//! The method objects, the formatters and the escape rules of the rows.
 ghost use Rattle.std.specs.Prelude.{[], ◌∷◌};
-ghost use Rattle.render_tests.specs.Asked.{named, keeps, faulty, marked, no_zero, swapped};
+ghost use Rattle.render_tests.specs.Asked.{named, keeps, faulty, marked, no_zero, swapped, escape_of_t};
 ghost use Rattle.render_tests.specs.declared.callbacks.Method.TheVariants.{Named, Keeper, Lost};
 ghost use Rattle.render_tests.specs.declared.callbacks.Style.TheVariants.{Marked, NoZero, Swapped};
 
@@ -75,6 +75,33 @@ impl Formatter for Style {
             }
         }
     }
+}
+
+/// An escape rule of the rows: this escape for the template `t` alone.
+#[derive(Clone, Copy)]
+pub(crate) struct OfT {
+    escape: AutoEscape,
+}
+
+impl EscapeRule for OfT {
+    ghost escapes = { λ rule name. escape_of_t rule.escape name };
+
+    fn escape(&self, name: &str) -> AutoEscape {
+        if name == "t" {
+            self.escape
+        } else {
+            AutoEscape::None
+        }
+    }
+}
+
+/// The escape rule of a word.
+pub(crate) fn rule_of(word: &str) -> OfT {
+    let escape = match word {
+        "html" => AutoEscape::Html,
+        _ => AutoEscape::Custom("own"),
+    };
+    OfT { escape }
 }
 
 /// The method object of a word.

@@ -9,7 +9,7 @@ ghost use Rattle.tm_tables.specs.Stated.{IsStated, just, keeping};
 ghost use Rattle.render_tests.specs.Found.{reply_of_found};
 ghost use Rattle.render_tests.specs.declared.party.Party.TheVariants.{Second, Last, Keeper, Reader, Title, Seen, Faulty};
 
-use crate::callbacks::{Method, Style};
+use crate::callbacks::{Method, OfT, Style};
 use std::alloc::Global;
 use template_machine::*;
 
@@ -82,7 +82,7 @@ fn shared(alloc: Global, found: Option<&Value>) -> CallableAnswer
 }
 
 /// The objects of the rows.
-pub(crate) type Parts = Objects<Party, Method, Style>;
+pub(crate) type Parts = Objects<Party, Method, Style, EscapeSetting<OfT>>;
 
 /// An environment of such objects.
 pub(crate) type Rows<'source> = EnvironmentOf<'source, Parts>;

@@ -1,6 +1,6 @@
 //! Tables of rows, with settings between them.
 
-use crate::callbacks::{method_of, style_of};
+use crate::callbacks::{method_of, rule_of, style_of};
 use crate::party::{Party, Rows, add_objects};
 use crate::renders::{Given, Setup, are, expect_row, row_of, usual};
 use crate::{bounds, loops, rows, values};
@@ -75,6 +75,7 @@ fn set(environment: &mut Rows<'_>, word: &str, rest: &str) -> bool {
         "remove" => environment.remove_global(rest),
         "methods" => environment.set_unknown_method_callback(method_of(rest)),
         "formatter" => environment.set_formatter(style_of(rest)),
+        "rule" => environment.set_auto_escape_callback(rule_of(rest)),
         "set" => return is_set(environment, rest),
         _ => return false,
     }
@@ -202,6 +203,7 @@ fn long_sources_render(rt: HostRuntime) -> Result<(), Fail> {
 /// Asks an environment without functions, and gives it a method object and formatters.
 fn expect_empty(alloc: Global, environment: &mut Rows<'_>) -> Result<(), Fail> {
     expect_table(alloc, environment, EMPTY)?;
+    expect_table(alloc, environment, RULES)?;
     expect_table(alloc, environment, METHODS)?;
     expect_table(alloc, environment, FORMATTERS)
 }
@@ -216,6 +218,22 @@ const EMPTY: &str = "An environment without functions, as it is at first.
 - @set none 500 lenient drops
 - @globals
 - {{ range(1) }} =>  => UnknownFunction";
+
+/// Escape rules.
+const RULES: &str = r#"Escape rules.
+- @template kept {{ 1 }}
+- @rule custom
+- {{ 1 }} => 1 => ok
+- &kept => 1 => ok
+- @name t
+- a{{ 1 }} => a => InvalidOperation
+- a{% autoescape false %}{{ 1 }}{% endautoescape %} => a1 => ok
+- @rule html
+- {{ "<" }} => &lt; => ok
+- @name t.html
+- {{ "<" }} => < => ok
+- @template t {{ "<" }}
+- &t => &lt; => ok"#;
 
 /// Methods without and with a method object.
 const METHODS: &str = r#"Methods without and with a method object.

@@ -1,9 +1,10 @@
-//! What states keep, the other ways to render, and functions in boxes.
+//! What states keep, the other ways to render, and objects in boxes.
 ghost use Rattle.std.specs.Prelude.{true};
 ghost use Rattle.tm_values.specs.Val.{boolean};
 ghost use Rattle.tm_meaning.specs.declared.reply.Reply.TheVariants.{Value as gives};
 ghost use Rattle.tm_tables.specs.Stated.{just};
 
+use crate::callbacks::{Method, Style, rule_of};
 use crate::party::{Left, Page, Party, Rows};
 use std::alloc::Global;
 use std::test::Fail;
@@ -114,16 +115,20 @@ impl Answering for Yes {
     }
 }
 
-/// Whether a function in a box is called.
-fn is_called(alloc: Global, environment: &mut Environment<'_>) -> Result<bool, Error> {
+/// Whether objects in boxes are asked.
+fn are_asked(alloc: Global, environment: &mut Environment<'_>) -> Result<bool, Error> {
     environment.add_function("yes", Box::new(alloc, Plain::new(Yes))?)?;
-    let text = environment.render_str(&mut StateIds::new(), "{{ yes() }}", Value::undefined())?;
-    Ok(text.as_str() == "true")
+    environment.set_unknown_method_callback(Box::new(alloc, Method::Named)?);
+    environment.set_formatter(Box::new(alloc, Style::Swapped)?);
+    environment.set_auto_escape_callback(Box::new(alloc, rule_of("html"))?);
+    let source = "{{ yes() }}{{ yes.m() }}{{ none }}{{ '<' }}";
+    let text = environment.render_named_str(&mut StateIds::new(), "t", source, Value::undefined())?;
+    Ok(text.as_str() == "truem&lt;")
 }
 
 #[test]
-fn boxes_are_called(rt: HostRuntime) -> Result<(), Fail> {
+fn boxes_are_asked(rt: HostRuntime) -> Result<(), Fail> {
     let mut environment = Environment::new(rt.alloc())?;
-    assert!(rt; is_called(rt.alloc(), &mut environment)?);
+    assert!(rt; are_asked(rt.alloc(), &mut environment)?);
     Ok(())
 }

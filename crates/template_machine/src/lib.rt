@@ -8,7 +8,7 @@ mod rendering;
 mod state;
 mod template;
 
-pub use environment::{Environment, EnvironmentOf};
+pub use environment::{BoxedObjects, Environment, EnvironmentOf};
 pub use formatting::escape_formatter;
 pub use ids::StateIds;
 pub use state::{Captured, CapturedOf, State, StateOf};
@@ -23,9 +23,9 @@ pub use tm_operations as operations;
 pub use tm_output::{Target, TargetFailed};
 pub use tm_parts::{Counted, Limited, NullWriter, Output, Sink, WriteWrapper};
 pub use tm_printing as printing;
-pub use tm_syntax::{Assignment, AssignmentTarget, Code};
+pub use tm_syntax::{Assignment, AssignmentTarget, CaptureMode, Code};
 pub use tm_tables::{
-    Answering, BoxedObjects, Callable, CallableAnswer, Called, Formatter, FuelTracker,
+    Answering, Callable, CallableAnswer, Called, EscapeRule, Formatter, FuelTracker,
     MethodFallback, Objects, Parties, Plain, View,
 };
 pub use tm_templates::{

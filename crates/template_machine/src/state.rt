@@ -12,11 +12,12 @@ ghost use Rattle.tm_state.specs.State.{exported};
 ghost use Rattle.template_machine.specs.Environment.{host_of};
 ghost use Rattle.template_machine.specs.Renders.{with_temp, with_world};
 
+use crate::environment::BoxedObjects;
 use crate::rendering::Rendering;
 use std::marker::Model;
 use tm_state::StateData;
 use tm_syntax::Name;
-use tm_tables::{BoxedObjects, Host, Parties};
+use tm_tables::{Host, Parties};
 use tm_values::{AutoEscape, Error, ErrorKind, Value};
 
 /// The state of a render. A contract sees the template that was rendered, and a world of the definitions.

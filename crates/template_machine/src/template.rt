@@ -4,7 +4,7 @@ ghost use Rattle.tm_meaning.specs.World.{root_of};
 ghost use Rattle.template_machine.specs.TemplateRef.{entry_id, held_id, held_template, IsHeldOf};
 ghost use Rattle.template_machine.specs.Renders.{first, greatest, meaning, meaning_from, IsFresh, Ran, Rendered, RenderedText};
 
-use crate::environment::EnvironmentOf;
+use crate::environment::{BoxedObjects, EnvironmentOf};
 use crate::ids::StateIds;
 use crate::rendering::Rendering;
 use crate::state::{CapturedOf, StateOf};
@@ -13,7 +13,7 @@ use tm_meaning::{StreamId, TemplateId};
 use tm_parts::{Captures, Halt, NullWriter, Sink};
 use tm_state::StateData;
 use tm_syntax::{CaptureMode, Name};
-use tm_tables::{BoxedObjects, Parties};
+use tm_tables::Parties;
 use tm_templates::CompiledTemplate;
 use tm_values::{Error, ErrorKind, Value};
 use tm_vm::Machine;

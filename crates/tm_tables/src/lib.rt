@@ -3,6 +3,7 @@
 
 mod callable;
 mod context;
+mod escape_rule;
 mod fallback;
 mod formatter;
 mod fuel;
@@ -16,12 +17,13 @@ mod view;
 
 pub use callable::{Callable, CallableAnswer, Called};
 pub use context::{Context, Found, Frame};
+pub use escape_rule::EscapeRule;
 pub use fallback::MethodFallback;
 pub use formatter::Formatter;
 pub use fuel::{Exhausted, FuelTracker};
 pub use host::Host;
 pub use language::language_globals;
 pub use loops::{LoopState, following_at, position_at, previous_at};
-pub use objects::{BoxedObjects, Objects, Parties};
+pub use objects::{Objects, Parties};
 pub use plain::{Answering, Plain};
 pub use view::View;

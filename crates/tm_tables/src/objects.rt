@@ -6,10 +6,11 @@ ghost use Rattle.tm_values.specs.Answer.{IsLent};
 ghost use Rattle.tm_tables.specs.Stated.{IsCalled, IsNamedAnswer, no_functions, no_objects, language_functions, with_object};
 ghost use Rattle.tm_tables.specs.Stated.{next_number, callables, named_objects, StatedObjects};
 ghost use Rattle.tm_tables.specs.Stated.{with_filter, without_filter, with_test, without_test, with_fallback};
-ghost use Rattle.tm_tables.specs.Stated.{IsFormatterAnswer, with_formatter};
+ghost use Rattle.tm_tables.specs.Stated.{IsFormatterAnswer, with_escaping, with_formatter};
 ghost use Rattle.tm_meaning.specs.Calls.{method_object};
 
 use crate::callable::{Callable, CallableAnswer, Called};
+use crate::escape_rule::EscapeRule;
 use crate::fallback::MethodFallback;
 use crate::formatter::Formatter;
 use crate::language::{LANGUAGE, language_function};
@@ -17,7 +18,7 @@ use crate::view::View;
 use std::alloc::Global;
 use std::marker::Model;
 use tm_syntax::{Name, NameMap};
-use tm_values::{Error, ErrorKind, Value};
+use tm_values::{AutoEscape, Error, ErrorKind, Value};
 
 /// All objects of an environment, as one.
 pub trait Parties: Drop {
@@ -75,30 +76,33 @@ pub trait Parties: Drop {
     /// What the formatter answers for a value; none where there is no formatter.
     fn format(&self, alloc: Global, value: &Value, view: &View<'_>) -> Option<Result<String, Error>>
         ensures { IsFormatterAnswer result (stated self.now).formatter value.now view.now };
+
+    /// The escape of a template of this name.
+    fn escape(&self, name: &str) -> AutoEscape
+        ensures { result ≡ (stated self.now).escapes name.now };
 }
 
 /// Functions by number, from 0: those of the language, where they are there, and then objects of the caller;
-/// the caller's filters and tests by name; and its method object and its formatter, where it gave one.
+/// the caller's filters and tests by name; its method object and its formatter, where it gave one; and what
+/// chooses escapes.
 #[derive(Drop)]
-pub struct Objects<C: Drop, M: Drop, F: Drop> {
+pub struct Objects<C: Drop, M: Drop, F: Drop, R: Drop> {
     language: bool,
     functions: Vec<C>,
     filters: NameMap<C>,
     tests: NameMap<C>,
     fallback: Option<M>,
     formatter: Option<F>,
+    escaping: R,
 }
 
-/// The objects of a program: each is boxed.
-pub type BoxedObjects = Objects<Box<dyn Callable>, Box<dyn MethodFallback>, Box<dyn Formatter>>;
-
-impl<C: Drop, M: Drop, F: Drop> Model for Objects<C, M, F> {
+impl<C: Drop, M: Drop, F: Drop, R: Drop> Model for Objects<C, M, F, R> {
     ghost use Rattle.std.specs.Coded.{codes};
     ghost use Rattle.tm_tables.specs.Stated.{Table};
 
-    ghost Value = { Table C M F };
+    ghost Value = { Table C M F R };
 
-    ghost coded = { Prim.hlevel (codes, C.code, M.code, F.code) };
+    ghost coded = { Prim.hlevel (codes, C.code, M.code, F.code, R.code) };
 
     ghost view = { λ o. record {
       language = o.language;
@@ -107,27 +111,28 @@ impl<C: Drop, M: Drop, F: Drop> Model for Objects<C, M, F> {
       tests = o.tests;
       fallback = o.fallback;
       formatter = o.formatter;
+      escaping = o.escaping;
     } };
 }
 
-impl<C: Drop, M: Drop, F: Drop> Objects<C, M, F> {
-    /// No objects.
-    pub fn new(alloc: Global) -> Objects<C, M, F>
-        ensures { result ≡ no_functions }
+impl<C: Drop, M: Drop, F: Drop, R: Drop> Objects<C, M, F, R> {
+    /// No objects but what chooses escapes.
+    pub fn new(alloc: Global, escaping: R) -> Objects<C, M, F, R>
+        ensures { result ≡ no_functions escaping }
     {
-        Objects::with(alloc, false)
+        Objects::with(alloc, false, escaping)
     }
 
-    /// The functions of the language, by the numbers of their table.
-    pub fn of_language(alloc: Global) -> Objects<C, M, F>
-        ensures { result ≡ language_functions }
+    /// The functions of the language, by the numbers of their table, and what chooses escapes.
+    pub fn of_language(alloc: Global, escaping: R) -> Objects<C, M, F, R>
+        ensures { result ≡ language_functions escaping }
     {
-        Objects::with(alloc, true)
+        Objects::with(alloc, true, escaping)
     }
 
     /// No objects of the caller, and the functions of the language where they are asked for.
-    fn with(alloc: Global, language: bool) -> Objects<C, M, F>
-        ensures { result ≡ no_objects language }
+    fn with(alloc: Global, language: bool, escaping: R) -> Objects<C, M, F, R>
+        ensures { result ≡ no_objects language escaping }
     {
         Objects {
             language,
@@ -136,6 +141,7 @@ impl<C: Drop, M: Drop, F: Drop> Objects<C, M, F> {
             tests: NameMap::new(alloc),
             fallback: None,
             formatter: None,
+            escaping,
         }
     }
 
@@ -216,6 +222,13 @@ impl<C: Drop, M: Drop, F: Drop> Objects<C, M, F> {
         self.formatter = Some(formatter);
     }
 
+    /// Lets this choose escapes, in place of what did.
+    pub fn set_escaping(&mut self, escaping: R)
+        ensures { self.new ≡ with_escaping escaping self.old }
+    {
+        self.escaping = escaping;
+    }
+
     /// The object of a place among the caller's, from 0, where there is one.
     fn object(&self, number: usize) -> Option<&C>
         ensures { IsLent result (slice_get self.now.objects number) }
@@ -224,7 +237,7 @@ impl<C: Drop, M: Drop, F: Drop> Objects<C, M, F> {
     }
 }
 
-impl<C: Callable, M: Drop, F: Drop> Objects<C, M, F> {
+impl<C: Callable, M: Drop, F: Drop, R: Drop> Objects<C, M, F, R> {
     /// What the object of a place among the caller's answers; none where there is none.
     fn answer(&self, alloc: Global, place: usize, args: &[Value], view: &View<'_>) -> Option<Called>
         ensures { MatchOption (slice_get (callables C.answers self.now.objects) place)
@@ -256,10 +269,10 @@ fn named_answer<C: Callable>(
     }
 }
 
-impl<C: Callable, M: MethodFallback, F: Formatter> Parties for Objects<C, M, F> {
+impl<C: Callable, M: MethodFallback, F: Formatter, R: EscapeRule> Parties for Objects<C, M, F, R> {
     ghost use Rattle.tm_tables.specs.Stated.{stated_of};
 
-    ghost stated = { stated_of C.answers M.answers F.formats };
+    ghost stated = { stated_of C.answers M.answers F.formats R.escapes };
 
     #[tactic(auto, using(crate::proofs::Numbers::behind, crate::proofs::Numbers::before))]
     fn call_function(
@@ -327,5 +340,9 @@ impl<C: Callable, M: MethodFallback, F: Formatter> Parties for Objects<C, M, F> 
             Some(formatter) => Some(formatter.format(alloc, value, view)),
             None => None,
         }
+    }
+
+    fn escape(&self, name: &str) -> AutoEscape {
+        self.escaping.escape(name)
     }
 }
