@@ -13,11 +13,13 @@ use Rattle.tm_delimiters.specs.Syntax.{Syntax, default_syntax}
 use Rattle.tm_syntax.specs.declared.tree.Tree.{Tree}
 use Rattle.tm_syntax.specs.Named.{Named, find, put}
 use Rattle.tm_compiler.specs.Spells.{Spells, SpellsNone}
-use Rattle.tm_meaning.specs.World.{Object, World}
+use Rattle.tm_meaning.specs.World.{Object, Fallback, Format, World}
 use Rattle.tm_meaning.specs.Meaning.{Ending, done, leave, next, fault, Outcome, chain_in, chain_of}
 use Rattle.tm_output.specs.Counts.{Tally, AppendsBeginning}
 use Rattle.tm_templates.specs.Defaults.{escape_by_name, escape_of}
-use Rattle.tm_tables.specs.Stated.{Table, StatedObjects, language_functions, stated_of, language_alone}
+use Rattle.tm_templates.specs.declared.defaults.EscapeSetting.{EscapeSetting}
+use Rattle.tm_templates.specs.declared.defaults.EscapeSetting.TheVariants as setting
+use Rattle.tm_tables.specs.Stated.{Table, StatedObjects, language_functions, stated_of}
 use Rattle.tm_templates.specs.Templates.{Compiled, IsRefused}
 use Rattle.tm_meaning.specs.declared.stream.TemplateId.{TemplateId}
 use Rattle.tm_meaning.specs.declared.stream.TemplateId.TheVariants.{Entry}
@@ -27,7 +29,7 @@ use Rattle.template_machine.specs.Renders.{CapturedValue, StateValue, answer_by,
 use Rattle.template_machine.specs.Renders.{by_memory}
 use Rattle.mj_words.specs.CommandLine.{Text, ArgumentsValue}
 use Rattle.mj_run.specs.Program.{Input, context_of, limit_of, template_in, meaning_of, IsMeant, IsRendered, IsBegun, IsFault, no_memory}
-use Rattle.mj_run.specs.Program.{write_failed, flush_failed, no_tree, meant}
+use Rattle.mj_run.specs.Program.{own_objects, write_failed, flush_failed, no_tree, meant}
 
 found_there : (name : Text) (t : Compiled) → find name (put name t []) ≡ Some t
 found_there name t = ap (λ o. cond (is_eq o) (Some t) None) (tied_itself nat_list_cmp_total name)
@@ -52,9 +54,13 @@ means_same fs gs o p name templates fuel limit t id context same =
     ap (λ (hs : StatedObjects). meaning (λ x. x) (template_over hs name templates fuel limit t) id context) same
 
 -- without objects there are the functions of the language
-pub none_of : {C : Type 0} (answers : C → Object) (objects : Table C) → objects ≡ language_functions →
-    stated_of answers objects ≡ language_alone
-none_of answers objects none = ap (stated_of answers) none
+abbrev first_objects : {C M F R : Type 0} → Table C M F (EscapeSetting R)
+first_objects = language_functions setting.ByName
+
+pub none_of : {C M F R : Type 0} (answers : C → Object) (falls : M → Fallback) (formats : F → Format) (rules : R → List ℕ → AutoEscape)
+    (objects : Table C M F (EscapeSetting R)) → objects ≡ first_objects →
+    stated_of answers falls formats (escape_of rules) objects ≡ own_objects
+none_of answers falls formats rules objects none = ap (stated_of answers falls formats (escape_of rules)) none
 
 compiled_is : (t : Compiled) (name source : Text) (escape : AutoEscape) → t.name ≡ name → t.source ≡ source → t.escape ≡ escape →
     t ≡ record { name = name; source = source; escape = escape; tree = t.tree }
@@ -63,72 +69,78 @@ compiled_is t name source escape named from escaped =
     ∙ ap (λ (x : Text). let u : Compiled = record t { name = name; source = x } in u) from
     ∙ ap (λ (x : AutoEscape). let u : Compiled = record { name = name; source = source; escape = x; tree = t.tree } in u) escaped
 
-module _ {C : Type 0} where
-  abbrev empty : EnvironmentValue (Table C)
+module _ {C M F R : Type 0} where
+  abbrev Parts : Type 0
+  Parts = Table C M F (EscapeSetting R)
+
+  abbrev empty : EnvironmentValue Parts
   empty = new_environment
 
-  abbrev settled : ArgumentsValue → EnvironmentValue (Table C)
+  abbrev settled : ArgumentsValue → EnvironmentValue Parts
   settled a = record empty { fuel = a.fuel; limit = limit_of a.limit }
 
   -- what an environment is behind its settings
-  pub started : (a : ArgumentsValue) (limit : ℕ) (first fuelled set : EnvironmentValue (Table C)) → first ≡ empty →
+  pub started : (a : ArgumentsValue) (limit : ℕ) (first fuelled set : EnvironmentValue Parts) → first ≡ empty →
       fuelled ≡ record first { fuel = a.fuel } →
       set ≡ record fuelled { limit = min limit greatest_limit } → min limit greatest_limit ≡ limit_of a.limit → set ≡ settled a
   started a limit first fuelled set start fuel limited same =
-      limited ∙ (ap (λ (e : EnvironmentValue (Table C)). record e { limit = min limit greatest_limit }) (fuel
-      ∙ ap (λ (e : EnvironmentValue (Table C)). record e { fuel = a.fuel }) start)
+      limited ∙ (ap (λ (e : EnvironmentValue Parts). record e { limit = min limit greatest_limit }) (fuel
+      ∙ ap (λ (e : EnvironmentValue Parts). record e { fuel = a.fuel }) start)
       ∙ ap (λ n. record empty { fuel = a.fuel; limit = n }) same)
 
   -- another template of the environment in which one was put alone
-  abbrev put_there_as : ArgumentsValue → Compiled → Compiled → TemplateValue (Table C)
-  put_there_as a t u = template_over language_functions a.file (put a.file t []) a.fuel (limit_of a.limit) u
+  abbrev put_there_as : ArgumentsValue → Compiled → Compiled → TemplateValue Parts
+  put_there_as a t u = template_over first_objects a.file (put a.file t []) a.fuel (limit_of a.limit) u
 
   -- a template that was put alone
-  abbrev put_alone : ArgumentsValue → Compiled → TemplateValue (Table C)
+  abbrev put_alone : ArgumentsValue → Compiled → TemplateValue Parts
   put_alone a t = put_there_as a t t
 
   -- The template that is found means what the words and a tree of the source mean.
-  pub is_meant : (fs : StatedObjects) (i : Input) (set added : EnvironmentValue (Table C)) (t : Compiled) (found : TemplateValue (Table C))
-      (context : Val) →
-      (found.environment.objects ≡ language_functions → fs ≡ language_alone) → set ≡ settled i.asked →
-      IsTemplateOf set i.asked.file i.source t → added ≡ record set { templates = put i.asked.file t set.templates } →
+  pub is_meant : (fs gs : StatedObjects) (i : Input) (set added : EnvironmentValue Parts) (t : Compiled)
+      (found : TemplateValue Parts) (context : Val) →
+      (found.environment.objects ≡ first_objects → fs ≡ own_objects) → (set.objects ≡ first_objects → gs ≡ own_objects) →
+      set ≡ settled i.asked → IsTemplateOf (λ _. gs) set i.asked.file i.source t →
+      added ≡ record set { templates = put i.asked.file t set.templates } →
       IsEntryOf added i.asked.file found → context ≡ context_of i.members i.asked.texts →
       IsMeant (λ _. fs) found context i
-  is_meant fs i set added t found context none start is put_there (same, id, there) given =
+  is_meant fs gs i set added t found context none none_set start is put_there (same, id, there) given =
       let a = i.asked in
       let source = i.source in
       let whole : added ≡ record (settled a) { templates = put a.file t [] } =
-      put_there ∙ ap (λ (e : EnvironmentValue (Table C)). record e { templates = put a.file t e.templates }) start in
+      put_there ∙ ap (λ (e : EnvironmentValue Parts). record e { templates = put a.file t e.templates }) start in
       let template : t ≡ found.template = found_is_put a.file t found.template
-      (subst (λ (e : EnvironmentValue (Table C)). find a.file e.templates ≡ Some found.template) whole there) in
+      (subst (λ (e : EnvironmentValue Parts). find a.file e.templates ≡ Some found.template) whole there) in
       let alone : found ≡ put_alone a t =
-      ap (λ (e : EnvironmentValue (Table C)). let v : TemplateValue
-      (Table C) = record { environment = e; id = found.id; template = found.template } in v) (same ∙ whole)
+      ap (λ (e : EnvironmentValue Parts). let v : TemplateValue
+      Parts = record { environment = e; id = found.id; template = found.template } in v) (same ∙ whole)
       ∙ ap (λ (x : TemplateId). let v : TemplateValue
-      (Table C) = record { environment = record (settled a) { templates = put a.file t [] }; id = x; template = found.template } in v)
+      Parts = record { environment = record (settled a) { templates = put a.file t [] }; id = x; template = found.template } in v)
       id
       ∙ ap (λ (u : Compiled). put_there_as a t u) (sym template) in
-      let objects : found.environment.objects ≡ language_functions = ap (λ (e : EnvironmentValue (Table C)). e.objects) (same ∙ whole) in
+      let objects : found.environment.objects ≡ first_objects =
+      ap (λ (e : EnvironmentValue Parts). e.objects) (same ∙ whole) in
       let escaped : t.escape ≡ escape_by_name a.file = is.escape_is
-      ∙ ap (λ (e : EnvironmentValue (Table C)). escape_of e.escaping a.file) start in
+      ∙ ap (λ (hs : StatedObjects). hs.escapes a.file)
+      (none_set (ap (λ (e : EnvironmentValue Parts). e.objects) start)) in
       let named : t ≡ record { name = a.file; source = source; escape = escape_by_name a.file; tree = t.tree } =
       compiled_is t a.file source (escape_by_name a.file) is.name_is is.source_is escaped in (
         t.tree,
-        subst (λ (e : EnvironmentValue (Table C)). Spells e.syntax source t.tree) start is.spelled,
-        ap (λ (v : TemplateValue (Table C)). meaning (λ _. fs) v 0 context) alone
+        subst (λ (e : EnvironmentValue Parts). Spells e.syntax source t.tree) start is.spelled,
+        ap (λ (v : TemplateValue Parts). meaning (λ _. fs) v 0 context) alone
             ∙ (ap (λ v. meaning (λ _. fs) (put_alone a t) 0 v) given
-            ∙ (means_same {O = Table C} {P = StatedObjects} fs language_alone language_functions language_alone a.file
+            ∙ (means_same {O = Parts} {P = StatedObjects} fs own_objects first_objects own_objects a.file
             (put a.file t []) a.fuel (limit_of a.limit) t 0 (context_of i.members a.texts) (none objects)
             ∙ ap (λ (u : Compiled). meaning (λ fs. fs) (template_in a u) 0 (context_of i.members a.texts)) named)),
       )
 
   -- The template is found: it was put.
-  pub is_found : {X : Type 0} (name : Text) (set added : EnvironmentValue (Table C)) (t : Compiled) → set.templates ≡ [] →
+  pub is_found : {X : Type 0} (name : Text) (set added : EnvironmentValue Parts) (t : Compiled) → set.templates ≡ [] →
       added ≡ record set { templates = put name t set.templates } →
       find name added.templates ≡ None → X
   is_found name set added t start put_there none =
       let there : find name added.templates ≡ Some t =
-      ap (λ (e : EnvironmentValue (Table C)). find name e.templates) put_there ∙ ap (λ es. find name (put name t es)) start
+      ap (λ (e : EnvironmentValue Parts). find name e.templates) put_there ∙ ap (λ es. find name (put name t es)) start
       ∙ found_there name t in
       absurd (cc)
 

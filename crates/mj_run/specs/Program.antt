@@ -45,10 +45,14 @@ abbrev pub limit_of : Option ℕ → ℕ
 limit_of None = greatest_limit
 limit_of (Some n) = min n greatest_limit
 
+-- what a program states of objects: the functions of the language, and escapes by name
+abbrev pub own_objects : StatedObjects
+own_objects = language_alone escape_by_name
+
 -- the one template of a new environment, which has the functions of the language, with the fuel and the limit of the words
 abbrev pub template_in : ArgumentsValue → Compiled → TemplateValue StatedObjects
 template_in a t = record {
-  environment = record (expected_environment language_alone)
+  environment = record (expected_environment own_objects)
       { templates = put a.file t []; fuel = a.fuel; limit = limit_of a.limit };
   id = Entry a.file;
   template = t;

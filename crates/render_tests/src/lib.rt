@@ -6,6 +6,8 @@ mod bounds;
 #[cfg(test)]
 mod caches;
 #[cfg(test)]
+mod callbacks;
+#[cfg(test)]
 mod limited;
 #[cfg(test)]
 mod loops;

@@ -13,6 +13,7 @@ ghost use Rattle.tm_values.specs.Val.{none, text_in};
 ghost use Rattle.tm_values.specs.declared.undefined.UndefinedBehavior.TheVariants.{Lenient};
 ghost use Rattle.tm_definitions.specs.Slices.{sliced};
 
+use crate::callbacks::{Method, OfT, Style};
 use std::alloc::Global;
 use template_machine::*;
 
@@ -173,14 +174,17 @@ fn part(alloc: Global, value: &Value, from: &Value, to: &Value) -> CallableAnswe
     )
 }
 
-/// An environment of such functions.
-pub(crate) type Rows<'source> = EnvironmentOf<'source, Objects<Party>>;
+/// The objects of the rows.
+pub(crate) type Parts = Objects<Party, Method, Style, EscapeSetting<OfT>>;
+
+/// An environment of such objects.
+pub(crate) type Rows<'source> = EnvironmentOf<'source, Parts>;
 
 /// A template of such an environment.
-pub(crate) type Page<'env, 'source> = TemplateOf<'env, 'source, Objects<Party>>;
+pub(crate) type Page<'env, 'source> = TemplateOf<'env, 'source, Parts>;
 
 /// The state that its render leaves.
-pub(crate) type Left<'env> = StateOf<'env, Objects<Party>>;
+pub(crate) type Left<'env> = StateOf<'env, Parts>;
 
 // The first one gets the number behind those of the language.
 static FUNCTIONS: &[(&str, Party)] = &[

@@ -1,5 +1,6 @@
 //! Tables of rows, with settings between them.
 
+use crate::callbacks::{method_of, rule_of, style_of};
 use crate::party::{Party, Rows, add_objects};
 use crate::renders::{Given, Setup, are, expect_row, row_of, usual};
 use crate::{bounds, loops, rows, values};
@@ -72,6 +73,9 @@ fn set(environment: &mut Rows<'_>, word: &str, rest: &str) -> bool {
         "limit" => environment.set_recursion_limit(rest.parse().unwrap_or(0)),
         "undefined" => environment.set_undefined_behavior(behavior(rest)),
         "remove" => environment.remove_global(rest),
+        "methods" => environment.set_unknown_method_callback(method_of(rest)),
+        "formatter" => environment.set_formatter(style_of(rest)),
+        "rule" => environment.set_auto_escape_callback(rule_of(rest)),
         "set" => return is_set(environment, rest),
         _ => return false,
     }
@@ -197,9 +201,12 @@ fn long_sources_render(rt: HostRuntime) -> Result<(), Fail> {
     bounds::expect_long(rt.alloc(), &environment)
 }
 
-/// Asks an environment without functions.
+/// Asks an environment without functions, and gives it a method object and formatters.
 fn expect_empty(alloc: Global, environment: &mut Rows<'_>) -> Result<(), Fail> {
-    expect_table(alloc, environment, EMPTY)
+    expect_table(alloc, environment, EMPTY)?;
+    expect_table(alloc, environment, RULES)?;
+    expect_table(alloc, environment, METHODS)?;
+    expect_table(alloc, environment, FORMATTERS)
 }
 
 #[test]
@@ -212,6 +219,54 @@ const EMPTY: &str = "An environment without functions, as it is at first.
 - @set none 500 lenient drops
 - @globals
 - {{ range(1) }} =>  => UnknownFunction";
+
+/// Escape rules.
+const RULES: &str = r#"Escape rules.
+- @template kept {{ 1 }}
+- @rule custom
+- {{ 1 }} => 1 => ok
+- &kept => 1 => ok
+- @name t
+- a{{ 1 }} => a => InvalidOperation
+- a{% autoescape false %}{{ 1 }}{% endautoescape %} => a1 => ok
+- @rule html
+- {{ "<" }} => &lt; => ok
+- @name t.html
+- {{ "<" }} => < => ok
+- @template t {{ "<" }}
+- &t => &lt; => ok"#;
+
+/// Methods without and with a method object.
+const METHODS: &str = r#"Methods without and with a method object.
+- @second sum
+- {{ sum.x() }} =>  => UnknownMethod
+- @undefined strict
+- {{ x.y() }} =>  => UnknownMethod
+- @methods named
+- {{ sum.x() }} => x => ok
+- {{ x.y(1) }} => y => ok
+- {{ {"f": sum}.f(1, 2) }} => 2 => ok
+- {{ {"f": sum}.g(1, 2) }} => g => ok
+- {{ {"f": 1}.f() }} =>  => InvalidOperation
+- {% for a in [1] %}{{ loop.index() }}{{ loop.cycle(3) }}{% endfor %} => index3 => ok
+- @methods keep
+- {{ sum.x() }} => 2 => ok => keeps k
+- @methods missing
+- a{{ sum.x() }} => a => MissingArgument"#;
+
+/// Formatters, under strict undefined values.
+const FORMATTERS: &str = r#"Formatters, under strict undefined values.
+- @formatter no-zero
+- a{{ 0 }}b => a => MissingArgument
+- a{{ 1 }}b{{ [2] }} => a1b[2] => ok
+- a{% set t %}{{ 0 }}{% endset %} => a => MissingArgument
+- @formatter swapped
+- {{ none }} =>  => ok
+- {{ 1 }} => 1 => ok
+- @formatter marked
+- {{ x }} =>  => UndefinedError
+- {{ 1 if false }} => F => ok
+- {{ "<" ~ 1 }}{% set t %}{{ 1 }}{% endset %}{{ t }} => FF => ok"#;
 
 /// Settings, globals, names that are known, templates by name, and escapes by names.
 const SETTINGS: &str =

@@ -1,9 +1,10 @@
-//! What states keep, the other ways to render, and functions in boxes.
+//! What states keep, the other ways to render, and objects in boxes.
 ghost use Rattle.std.specs.Prelude.{true};
 ghost use Rattle.tm_values.specs.Val.{boolean};
 ghost use Rattle.tm_meaning.specs.declared.reply.Reply.TheVariants.{Value as gives};
 ghost use Rattle.tm_tables.specs.Stated.{just};
 
+use crate::callbacks::{Method, Style, rule_of};
 use crate::party::{Left, Page, Party, Rows};
 use std::alloc::Global;
 use std::test::Fail;
@@ -45,6 +46,16 @@ fn applies(alloc: Global, state: &mut Left<'_>) -> Result<bool, Error> {
     Ok(filtered.as_whole() == Some(0) && !holds && unknown)
 }
 
+/// Whether a state writes values as templates do, here under strict undefined values.
+fn formats(state: &Left<'_>) -> Result<bool, Error> {
+    let text = state.format(&Value::number(42))?;
+    let is_refused = match state.format(&Value::undefined()) {
+        Ok(_) => false,
+        Err(error) => error.kind() == ErrorKind::UndefinedError,
+    };
+    Ok(text.as_str() == "42" && is_refused)
+}
+
 /// Whether the state of a render keeps what it is given, also apart from the text, and filters.
 fn keeps_the_last(alloc: Global, template: &Page<'_, '_>) -> Result<bool, Error> {
     let mut ids = StateIds::new();
@@ -54,8 +65,8 @@ fn keeps_the_last(alloc: Global, template: &Page<'_, '_>) -> Result<bool, Error>
     }
     let (output, mut state) = captured.into_parts();
     let before = replaced(&mut state, 2)?;
-    let applies = applies(alloc, &mut state)?;
-    Ok(output.is_empty() && before == Some(3) && kept(&state) == Some(2) && applies)
+    let is_able = applies(alloc, &mut state)? && formats(&state)?;
+    Ok(output.is_empty() && before == Some(3) && kept(&state) == Some(2) && is_able)
 }
 
 /// Whether a template that was given no name has the usual one, and renders its source.
@@ -81,6 +92,7 @@ fn is_well(alloc: Global, environment: &mut Rows<'_>) -> Result<bool, Error> {
     environment.add_function("title", Party::Title)?;
     environment.add_filter("second", Party::Second)?;
     environment.add_test("second", Party::Second)?;
+    environment.set_undefined_behavior(UndefinedBehavior::Strict);
     Ok(renders_at_once(environment)? && renders_otherwise(alloc, environment)?)
 }
 
@@ -103,16 +115,20 @@ impl Answering for Yes {
     }
 }
 
-/// Whether a function in a box is called.
-fn is_called(alloc: Global, environment: &mut Environment<'_>) -> Result<bool, Error> {
+/// Whether objects in boxes are asked.
+fn are_asked(alloc: Global, environment: &mut Environment<'_>) -> Result<bool, Error> {
     environment.add_function("yes", Box::new(alloc, Plain::new(Yes))?)?;
-    let text = environment.render_str(&mut StateIds::new(), "{{ yes() }}", Value::undefined())?;
-    Ok(text.as_str() == "true")
+    environment.set_unknown_method_callback(Box::new(alloc, Method::Named)?);
+    environment.set_formatter(Box::new(alloc, Style::Swapped)?);
+    environment.set_auto_escape_callback(Box::new(alloc, rule_of("html"))?);
+    let source = "{{ yes() }}{{ yes.m() }}{{ none }}{{ '<' }}";
+    let text = environment.render_named_str(&mut StateIds::new(), "t", source, Value::undefined())?;
+    Ok(text.as_str() == "truem&lt;")
 }
 
 #[test]
-fn boxes_are_called(rt: HostRuntime) -> Result<(), Fail> {
+fn boxes_are_asked(rt: HostRuntime) -> Result<(), Fail> {
     let mut environment = Environment::new(rt.alloc())?;
-    assert!(rt; is_called(rt.alloc(), &mut environment)?);
+    assert!(rt; are_asked(rt.alloc(), &mut environment)?);
     Ok(())
 }

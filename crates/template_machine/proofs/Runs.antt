@@ -44,7 +44,7 @@ module _ {O : Type 0} (stated : O → StatedObjects) (t r : TemplateValue O) (sa
 pub source_done : {O : Type 0} (stated : O → StatedObjects) (e : EnvironmentValue O) (t : TemplateValue O)
     (name source : List ℕ) (old new : ℕ) (context : Val)
     (result : Result (String Global) (List ErrorKind)) →
-    IsMadeIn e name source t → RenderedText (meaning stated t old context) result → new ≡ old + 1 →
+    IsMadeIn stated e name source t → RenderedText (meaning stated t old context) result → new ≡ old + 1 →
     RenderedSource stated e name source old new context result
 source_done stated e t name source old new context result made text counted =
     source_rendered t.template made.2
@@ -54,8 +54,8 @@ source_done stated e t name source old new context result made text counted =
     result) made.1 text)) counted
 
 -- one that spells a template, where the counter is full
-pub source_full : {O : Type 0} (e : EnvironmentValue O) (t : TemplateValue O) (name source : List ℕ)
+pub source_full : {O : Type 0} (stated : O → StatedObjects) (e : EnvironmentValue O) (t : TemplateValue O) (name source : List ℕ)
     (result : Result (String Global) (List ErrorKind)) →
-    IsMadeIn e name source t → result ≡ Err (InvalidOperation ∷ []) → IsUnnumbered e name source result
-source_full e t name source result made is =
-    subst (IsUnnumbered e name source) (sym is) (inr (t.template, made.2, refl))
+    IsMadeIn stated e name source t → result ≡ Err (InvalidOperation ∷ []) → IsUnnumbered stated e name source result
+source_full stated e t name source result made is =
+    subst (IsUnnumbered stated e name source) (sym is) (inr (t.template, made.2, refl))

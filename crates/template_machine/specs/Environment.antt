@@ -18,12 +18,11 @@ use Rattle.tm_templates.specs.Templates.{Compiled, IsTemplate, tree_of}
 use Rattle.tm_templates.specs.declared.defaults.EscapeSetting.{EscapeSetting}
 use Rattle.tm_templates.specs.declared.defaults.EscapeSetting.TheVariants as escapes
 
--- The templates by name, the delimiters and the escape of later ones, the caller's objects, the globals, what is done with undefined
+-- The templates by name, the delimiters of later ones, the caller's objects, the globals, what is done with undefined
 -- values, the fuel that is set, and how deep scopes may lie.
 pub record EnvironmentValue (O : Type 0) : Type 0 where
   pub templates : Named Compiled
   pub syntax : Syntax
-  pub escaping : EscapeSetting
   pub objects : O
   pub globals : Bindings
   pub undefined : UndefinedBehavior
@@ -44,7 +43,6 @@ abbrev pub empty_environment : {O : Type 0} → O → EnvironmentValue O
 empty_environment objects = record {
   templates = [];
   syntax = default_syntax;
-  escaping = escapes.Never;
   objects = objects;
   globals = [];
   undefined = Lenient;
@@ -52,31 +50,32 @@ empty_environment objects = record {
   limit = greatest_limit;
 }
 
--- an environment with what a template may expect: the names of the language's functions, and it is escaped as its name asks
+-- an environment with the names of the language's functions
 abbrev pub expected_environment : {O : Type 0} → O → EnvironmentValue O
-expected_environment objects = record (empty_environment objects) { escaping = escapes.ByName; globals = language_globals }
+expected_environment objects = record (empty_environment objects) { globals = language_globals }
 
-abbrev pub new_environment : {C : Type 0} → EnvironmentValue (Table C)
-new_environment = expected_environment language_functions
+-- and with what a template may expect: it is escaped as its name asks
+abbrev pub new_environment : {C M F R : Type 0} → EnvironmentValue (Table C M F (EscapeSetting R))
+new_environment = expected_environment (language_functions escapes.ByName)
 
 -- the template that a source is in an environment, under a name
-abbrev pub IsTemplateOf : {O : Type 0} → EnvironmentValue O → List ℕ → List ℕ → Compiled → Type 0
-IsTemplateOf e name source t = IsTemplate e.syntax e.escaping name source t
+abbrev pub IsTemplateOf : {O : Type 0} → (O → StatedObjects) → EnvironmentValue O → List ℕ → List ℕ → Compiled → Type 0
+IsTemplateOf stated e name source t = IsTemplate e.syntax ((stated e.objects).escapes name) name source t
 
 -- The template is what the environment has at a name.
 abbrev pub IsEntryOf : {O : Type 0} → EnvironmentValue O → List ℕ → TemplateValue O → Type 0
 IsEntryOf e name t = (t.environment ≡ e) × (t.id ≡ Entry name) × (find name e.templates ≡ Some t.template)
 
 -- The template is what a source is in the environment, under a name, and none of its entries.
-abbrev pub IsMadeIn : {O : Type 0} → EnvironmentValue O → List ℕ → List ℕ → TemplateValue O → Type 0
-IsMadeIn e name source t = (t.environment ≡ e) × (t.id ≡ Own) × IsTemplateOf e name source t.template
+abbrev pub IsMadeIn : {O : Type 0} → (O → StatedObjects) → EnvironmentValue O → List ℕ → List ℕ → TemplateValue O → Type 0
+IsMadeIn stated e name source t = (t.environment ≡ e) × (t.id ≡ Own) × IsTemplateOf stated e name source t.template
 
 -- the value as the global of a name
 abbrev pub with_global : {O : Type 0} → List ℕ → Val → EnvironmentValue O → EnvironmentValue O
 with_global x value e = record e { globals = put x value e.globals }
 
 -- the object under the next number, and the function of that number as the global of a name
-abbrev pub with_function : {C : Type 0} → List ℕ → C → EnvironmentValue (Table C) → EnvironmentValue (Table C)
+abbrev pub with_function : {C M F R : Type 0} → List ℕ → C → EnvironmentValue (Table C M F R) → EnvironmentValue (Table C M F R)
 with_function x object e =
     record e { objects = with_object object e.objects; globals = put x (function (next_number e.objects)) e.globals }
 
@@ -101,8 +100,8 @@ host_of stated t = record {
   filters = (stated t.environment.objects).filters;
   tests = (stated t.environment.objects).tests;
   join = λ x parent. Ok x;
-  formatter = None;
-  unknown_method = None;
+  formatter = (stated t.environment.objects).formatter;
+  unknown_method = (stated t.environment.objects).unknown_method;
   undefined = t.environment.undefined;
   limit = t.environment.limit;
 }

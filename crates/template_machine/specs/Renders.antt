@@ -103,16 +103,17 @@ pub data RenderedSource {O : Type 0} (stated : O → StatedObjects) (e : Environ
     (result : Result (String Global) (List ErrorKind)) : Type 0 where
   source_refused : (chain : List ErrorKind) → result ≡ Err chain → IsRefused e.syntax source chain → new ≡ old →
       RenderedSource stated e name source old new context result
-  source_rendered : (t : Compiled) → IsTemplateOf e name source t →
+  source_rendered : (t : Compiled) → IsTemplateOf stated e name source t →
       RenderedText (meaning stated (record { environment = e; id = Own; template = t }) old context) result → new ≡ old + 1 →
       RenderedSource stated e name source old new context result
 
 -- What is answered to a source where the counter is full, whose template has this name: why it was refused, or InvalidOperation, since no
 -- state can be numbered.
-abbrev pub IsUnnumbered : {O : Type 0} → EnvironmentValue O → List ℕ → List ℕ → Result (String Global) (List ErrorKind) → Type 0
-IsUnnumbered e name source (Ok text) = ⊥
-IsUnnumbered e name source (Err chain) =
-    IsRefused e.syntax source chain ⊎ ((t : Compiled) × IsTemplateOf e name source t × (chain ≡ InvalidOperation ∷ []))
+abbrev pub IsUnnumbered :
+    {O : Type 0} → (O → StatedObjects) → EnvironmentValue O → List ℕ → List ℕ → Result (String Global) (List ErrorKind) → Type 0
+IsUnnumbered stated e name source (Ok text) = ⊥
+IsUnnumbered stated e name source (Err chain) =
+    IsRefused e.syntax source chain ⊎ ((t : Compiled) × IsTemplateOf stated e name source t × (chain ≡ InvalidOperation ∷ []))
 
 -- ---------------------------------------------------------------- runs
 -- No capture is open, or one without text.

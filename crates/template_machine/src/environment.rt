@@ -3,6 +3,7 @@ ghost use Rattle.std.specs.Prelude.{◌≡◌, ◌≢◌, ◌<◌, [], ◌∷◌
 ghost use Rattle.std.specs.Prelude.{MatchResult, length, slice_get};
 ghost use Rattle.tm_syntax.specs.Named.{find, pairs_of, put, without};
 ghost use Rattle.tm_tables.specs.Stated.{no_functions, with_filter, without_filter, with_test, without_test};
+ghost use Rattle.tm_tables.specs.Stated.{with_escaping, with_fallback, with_formatter};
 ghost use Rattle.tm_templates.specs.Templates.{Compiled, IsRefused};
 ghost use Rattle.tm_values.specs.Answer.{IsLent, OkOrOutOfMemory};
 ghost use Rattle.tm_values.specs.Val.{function};
@@ -19,8 +20,10 @@ use std::alloc::Global;
 use std::marker::Model;
 use tm_compiler::SyntaxConfig;
 use tm_syntax::{Name, NameMap};
-use tm_tables::{Callable, Objects, Parties, language_globals};
-use tm_templates::{CompiledTemplate, EscapeSetting, Source, TemplateConfig, Templates};
+use tm_tables::{
+    Callable, EscapeRule, Formatter, MethodFallback, Objects, Parties, language_globals,
+};
+use tm_templates::{CompiledTemplate, EscapeSetting, Source, Templates};
 use tm_values::{Error, ErrorKind, UndefinedBehavior, Value};
 
 /// How deep scopes may lie at most.
@@ -33,7 +36,7 @@ const UNNAMED: &str = "<string>";
 pub struct EnvironmentOf<'source, O: Drop> {
     alloc: Global,
     templates: Templates<'source>,
-    config: TemplateConfig,
+    syntax: SyntaxConfig,
     objects: O,
     globals: NameMap<Value>,
     undefined: UndefinedBehavior,
@@ -47,7 +50,7 @@ impl<O: Drop> Drop for EnvironmentOf<'_, O> {
         let EnvironmentOf {
             alloc: _alloc,
             templates: _templates,
-            config: _config,
+            syntax: _syntax,
             objects: _objects,
             globals: _globals,
             undefined: _undefined,
@@ -57,8 +60,16 @@ impl<O: Drop> Drop for EnvironmentOf<'_, O> {
     }
 }
 
-/// The environment of a program: its functions are boxed.
-pub type Environment<'source> = EnvironmentOf<'source, Objects<Box<dyn Callable>>>;
+/// The objects of a program: each is boxed.
+pub type BoxedObjects = Objects<
+    Box<dyn Callable>,
+    Box<dyn MethodFallback>,
+    Box<dyn Formatter>,
+    EscapeSetting<Box<dyn EscapeRule>>,
+>;
+
+/// The environment of a program: its objects are boxed.
+pub type Environment<'source> = EnvironmentOf<'source, BoxedObjects>;
 
 impl<'source, O: Drop> Model for EnvironmentOf<'source, O> {
     ghost use Rattle.std.specs.Coded.{codes as coding};
@@ -72,8 +83,7 @@ impl<'source, O: Drop> Model for EnvironmentOf<'source, O> {
 
     ghost view = { λ e. record {
       templates = e.templates;
-      syntax = e.config.syntax_config;
-      escaping = e.config.default_auto_escape;
+      syntax = e.syntax;
       objects = e.objects;
       globals = e.globals;
       undefined = e.undefined;
@@ -83,42 +93,6 @@ impl<'source, O: Drop> Model for EnvironmentOf<'source, O> {
 }
 
 impl<'source, O: Drop> EnvironmentOf<'source, O> {
-    /// Compiles a source and puts it at a name, in place of the template that is there. SyntaxError where the
-    /// source spells no template, OutOfMemory where there is no memory; then the environment stays as it was.
-    pub fn add_template(&mut self, name: &str, source: &'source str) -> Result<(), Error>
-        ensures ok { OnOk result ((t : Compiled) × IsTemplateOf self.old name.now source.entry.now t
-            × (self.new ≡ record self.old { templates = put name.now t self.old.templates })) }
-        ensures refused { IfErr result (IsRefused self.old.syntax source.entry.now) }
-        ensures err { OnErr result (self.new ≡ self.old) }
-    {
-        self.put_template(name, Source::Lent(source))
-    }
-
-    /// Compiles a source of its own and puts it at a name, as `add_template` does.
-    pub fn add_template_owned(&mut self, name: &str, source: String) -> Result<(), Error>
-        ensures ok { OnOk result ((t : Compiled)
-            × IsTemplateOf self.old name.now (string_bytes source) t
-            × (self.new ≡ record self.old { templates = put name.now t self.old.templates })) }
-        ensures refused { IfErr result (IsRefused self.old.syntax (string_bytes source)) }
-        ensures err { OnErr result (self.new ≡ self.old) }
-    {
-        let source = Source::owned(source)?;
-        self.put_template(name, source)
-    }
-
-    /// Compiles a source and puts it at a name.
-    fn put_template(&mut self, name: &str, source: Source<'source>) -> Result<(), Error>
-        ensures ok { OnOk result ((t : Compiled)
-            × IsTemplateOf self.old name.now (source_bytes source.entry) t
-            × (self.new ≡ record self.old { templates = put name.now t self.old.templates })) }
-        ensures refused { IfErr result (IsRefused self.old.syntax (source_bytes source.entry)) }
-        ensures err { OnErr result (self.new ≡ self.old) }
-    {
-        let compiled = CompiledTemplate::new(self.alloc, name, source, &self.config)?;
-        let name = Name::new(self.alloc, name)?;
-        self.templates.insert(name, compiled)
-    }
-
     /// The template of a name; TemplateNotFound where there is none.
     pub fn get_template(&self, name: &str) -> Result<TemplateOf<'_, 'source, O>, Error>
         ensures { MatchResult result (IsEntryOf self.now name.now)
@@ -129,34 +103,6 @@ impl<'source, O: Drop> EnvironmentOf<'source, O> {
             Some((name, compiled)) => Ok(TemplateOf::new(self, TemplateRef::Lent(name, compiled))),
             None => Err(Error::from(ErrorKind::TemplateNotFound)),
         }
-    }
-
-    /// The template of a source, which the environment doesn't keep, under the name `<string>`. SyntaxError
-    /// where the source spells no template, OutOfMemory where there is no memory.
-    pub fn template_from_str(
-        &self,
-        source: &'source str,
-    ) -> Result<TemplateOf<'_, 'source, O>, Error>
-        ensures compiled { IfOk result (IsMadeIn self.now (codes "<string>") source.entry.now) }
-        ensures refused { IfErr result (IsRefused self.now.syntax source.entry.now) }
-    {
-        self.template_from_named_str(UNNAMED, source)
-    }
-
-    /// The template of a source, which the environment doesn't keep, under a name. SyntaxError where the
-    /// source spells no template, OutOfMemory where there is no memory.
-    pub fn template_from_named_str(
-        &self,
-        name: &str,
-        source: &'source str,
-    ) -> Result<TemplateOf<'_, 'source, O>, Error>
-        ensures compiled { IfOk result (IsMadeIn self.now name.now source.entry.now) }
-        ensures refused { IfErr result (IsRefused self.now.syntax source.entry.now) }
-    {
-        let source = Source::Lent(source);
-        let template = CompiledTemplate::new(self.alloc, name, source, &self.config)?;
-        let owned = Box::new(self.alloc, template)?;
-        Ok(TemplateOf::new(self, TemplateRef::Owned(owned)))
     }
 
     /// Sets the fuel of each later render; none is the greatest u64.
@@ -205,14 +151,14 @@ impl<'source, O: Drop> EnvironmentOf<'source, O> {
     pub fn set_syntax(&mut self, syntax: SyntaxConfig)
         ensures { self.new ≡ record self.old { syntax = syntax } }
     {
-        self.config.syntax_config = syntax;
+        self.syntax = syntax;
     }
 
     /// The delimiters of templates that are compiled from now on.
     pub fn syntax(&self) -> &SyntaxConfig
         ensures { result.now ≡ self.now.syntax }
     {
-        &self.config.syntax_config
+        &self.syntax
     }
 
     /// Makes a value a global: its name stands for it, in place of what stood there, a function too. Where
@@ -275,6 +221,83 @@ impl<'source, O: Drop> EnvironmentOf<'source, O> {
 }
 
 impl<'source, O: Parties> EnvironmentOf<'source, O> {
+    /// Compiles a source and puts it at a name, in place of the template that is there. SyntaxError where the
+    /// source spells no template, OutOfMemory where there is no memory; then the environment stays as it was.
+    pub fn add_template(&mut self, name: &str, source: &'source str) -> Result<(), Error>
+        ensures ok { OnOk result ((t : Compiled) × IsTemplateOf O.stated self.old name.now source.entry.now t
+            × (self.new ≡ record self.old { templates = put name.now t self.old.templates })) }
+        ensures refused { IfErr result (IsRefused self.old.syntax source.entry.now) }
+        ensures err { OnErr result (self.new ≡ self.old) }
+    {
+        self.put_template(name, Source::Lent(source))
+    }
+
+    /// Compiles a source of its own and puts it at a name, as `add_template` does.
+    pub fn add_template_owned(&mut self, name: &str, source: String) -> Result<(), Error>
+        ensures ok { OnOk result ((t : Compiled)
+            × IsTemplateOf O.stated self.old name.now (string_bytes source) t
+            × (self.new ≡ record self.old { templates = put name.now t self.old.templates })) }
+        ensures refused { IfErr result (IsRefused self.old.syntax (string_bytes source)) }
+        ensures err { OnErr result (self.new ≡ self.old) }
+    {
+        let source = Source::owned(source)?;
+        self.put_template(name, source)
+    }
+
+    /// Compiles a source under a name, with the escape that is chosen for it.
+    fn compile(
+        &self,
+        name: &str,
+        source: Source<'source>,
+    ) -> Result<CompiledTemplate<'source>, Error>
+        ensures compiled { IfOk result
+            (IsTemplateOf O.stated self.now name.now (source_bytes source.entry)) }
+        ensures refused { IfErr result (IsRefused self.now.syntax (source_bytes source.entry)) }
+    {
+        let escape = self.objects.escape(name);
+        CompiledTemplate::with_escape(self.alloc, name, source, &self.syntax, escape)
+    }
+
+    /// Compiles a source and puts it at a name.
+    fn put_template(&mut self, name: &str, source: Source<'source>) -> Result<(), Error>
+        ensures ok { OnOk result ((t : Compiled)
+            × IsTemplateOf O.stated self.old name.now (source_bytes source.entry) t
+            × (self.new ≡ record self.old { templates = put name.now t self.old.templates })) }
+        ensures refused { IfErr result (IsRefused self.old.syntax (source_bytes source.entry)) }
+        ensures err { OnErr result (self.new ≡ self.old) }
+    {
+        let compiled = self.compile(name, source)?;
+        let name = Name::new(self.alloc, name)?;
+        self.templates.insert(name, compiled)
+    }
+
+    /// The template of a source, which the environment doesn't keep, under the name `<string>`. SyntaxError
+    /// where the source spells no template, OutOfMemory where there is no memory.
+    pub fn template_from_str(
+        &self,
+        source: &'source str,
+    ) -> Result<TemplateOf<'_, 'source, O>, Error>
+        ensures compiled { IfOk result (IsMadeIn O.stated self.now (codes "<string>") source.entry.now) }
+        ensures refused { IfErr result (IsRefused self.now.syntax source.entry.now) }
+    {
+        self.template_from_named_str(UNNAMED, source)
+    }
+
+    /// The template of a source, which the environment doesn't keep, under a name. SyntaxError where the
+    /// source spells no template, OutOfMemory where there is no memory.
+    pub fn template_from_named_str(
+        &self,
+        name: &str,
+        source: &'source str,
+    ) -> Result<TemplateOf<'_, 'source, O>, Error>
+        ensures compiled { IfOk result (IsMadeIn O.stated self.now name.now source.entry.now) }
+        ensures refused { IfErr result (IsRefused self.now.syntax source.entry.now) }
+    {
+        let template = self.compile(name, Source::Lent(source))?;
+        let owned = Box::new(self.alloc, template)?;
+        Ok(TemplateOf::new(self, TemplateRef::Owned(owned)))
+    }
+
     /// Renders a source, which the environment doesn't keep, under the name `<string>`, as `render_named_str` does.
     pub fn render_str(
         &self,
@@ -283,7 +306,7 @@ impl<'source, O: Parties> EnvironmentOf<'source, O> {
         context: Value,
     ) -> Result<String, Error>
         ensures full { ids.old ≡ greatest →
-            IsUnnumbered self.now (codes "<string>") source.entry.now result
+            IsUnnumbered O.stated self.now (codes "<string>") source.entry.now result
             × (ids.new ≡ ids.old) }
         ensures rendered { ids.old < greatest →
             RenderedSource O.stated self.now (codes "<string>") source.entry.now
@@ -303,7 +326,7 @@ impl<'source, O: Parties> EnvironmentOf<'source, O> {
         context: Value,
     ) -> Result<String, Error>
         ensures full { ids.old ≡ greatest →
-            IsUnnumbered self.now name.now source.entry.now result × (ids.new ≡ ids.old) }
+            IsUnnumbered O.stated self.now name.now source.entry.now result × (ids.new ≡ ids.old) }
         ensures rendered { ids.old < greatest →
             RenderedSource O.stated self.now name.now source.entry.now
             ids.old ids.new context result }
@@ -313,54 +336,50 @@ impl<'source, O: Parties> EnvironmentOf<'source, O> {
     }
 }
 
-impl<'source, C: Drop> EnvironmentOf<'source, Objects<C>> {
+impl<'source, C: Drop, M: Drop, F: Drop, R: Drop> EnvironmentOf<
+    'source,
+    Objects<C, M, F, EscapeSetting<R>>,
+> {
     /// An environment with what a template may expect: what it emits is escaped as its name asks
     /// (`default_auto_escape_callback`), and the functions of the language are the globals of their names; else
     /// the same as `empty`. Fails by OutOfMemory alone.
-    pub fn new(alloc: Global) -> Result<EnvironmentOf<'source, Objects<C>>, Error>
+    pub fn new(
+        alloc: Global,
+    ) -> Result<EnvironmentOf<'source, Objects<C, M, F, EscapeSetting<R>>>, Error>
         ensures { OkOrOutOfMemory result (λ e. e ≡ new_environment) }
     {
         let globals = language_globals(alloc)?;
         Ok(EnvironmentOf::with(
             alloc,
-            EscapeSetting::ByName,
-            Objects::of_language(alloc),
+            Objects::of_language(alloc, EscapeSetting::ByName),
             globals,
         ))
     }
 
     /// No templates, the default delimiters, nothing escaped, no functions, lenient undefined values, no fuel
     /// set, and scopes at most 500 deep.
-    pub fn empty(alloc: Global) -> EnvironmentOf<'source, Objects<C>>
-        ensures { result ≡ empty_environment no_functions }
+    pub fn empty(alloc: Global) -> EnvironmentOf<'source, Objects<C, M, F, EscapeSetting<R>>>
+        ensures { result ≡ empty_environment (no_functions EscapeSetting.Never) }
     {
         EnvironmentOf::with(
             alloc,
-            EscapeSetting::Never,
-            Objects::new(alloc),
+            Objects::new(alloc, EscapeSetting::Never),
             NameMap::new(alloc),
         )
     }
 
-    /// The same, with the escapes that this setting chooses, and with these functions and globals.
+    /// The same, with these objects and globals.
     fn with(
         alloc: Global,
-        default_auto_escape: EscapeSetting,
-        objects: Objects<C>,
+        objects: Objects<C, M, F, EscapeSetting<R>>,
         globals: NameMap<Value>,
-    ) -> EnvironmentOf<'source, Objects<C>>
-        ensures { result ≡ record (empty_environment objects) {
-          escaping = default_auto_escape;
-          globals = globals;
-        } }
+    ) -> EnvironmentOf<'source, Objects<C, M, F, EscapeSetting<R>>>
+        ensures { result ≡ record (empty_environment objects) { globals = globals } }
     {
         EnvironmentOf {
             alloc,
             templates: Templates::new(alloc),
-            config: TemplateConfig {
-                syntax_config: SyntaxConfig::default(),
-                default_auto_escape,
-            },
+            syntax: SyntaxConfig::default(),
             objects,
             globals,
             undefined: UndefinedBehavior::Lenient,
@@ -425,5 +444,30 @@ impl<'source, C: Drop> EnvironmentOf<'source, Objects<C>> {
         ensures { self.new ≡ with_objects (without_test name.now self.old.objects) self.old }
     {
         self.objects.remove_test(name);
+    }
+
+    /// Lets an object answer where a value has no method of a name, in place of what did; where none does, that is
+    /// UnknownMethod.
+    pub fn set_unknown_method_callback(&mut self, object: M)
+        ensures { self.new ≡ with_objects (with_fallback object self.old.objects) self.old }
+    {
+        self.objects.set_fallback(object);
+    }
+
+    /// Lets a formatter say what emitted values are written as, in place of what did; where none does, the escape
+    /// says it (`escape_formatter`).
+    pub fn set_formatter(&mut self, formatter: F)
+        ensures { self.new ≡ with_objects (with_formatter formatter self.old.objects) self.old }
+    {
+        self.objects.set_formatter(formatter);
+    }
+
+    /// Lets a rule choose, by their names, how templates are escaped that are compiled from now on; those that are there
+    /// stay as they are.
+    pub fn set_auto_escape_callback(&mut self, rule: R)
+        ensures { self.new ≡ with_objects
+            (with_escaping (EscapeSetting.Own rule) self.old.objects) self.old }
+    {
+        self.objects.set_escaping(EscapeSetting::Own(rule));
     }
 }

@@ -2,12 +2,14 @@
 #![tactic(auto)]
 
 mod environment;
+mod formatting;
 mod ids;
 mod rendering;
 mod state;
 mod template;
 
-pub use environment::{Environment, EnvironmentOf};
+pub use environment::{BoxedObjects, Environment, EnvironmentOf};
+pub use formatting::escape_formatter;
 pub use ids::StateIds;
 pub use state::{Captured, CapturedOf, State, StateOf};
 pub use template::{Template, TemplateOf};
@@ -21,9 +23,10 @@ pub use tm_operations as operations;
 pub use tm_output::{Target, TargetFailed};
 pub use tm_parts::{Counted, Limited, NullWriter, Output, Sink, WriteWrapper};
 pub use tm_printing as printing;
-pub use tm_syntax::{Assignment, AssignmentTarget, CaptureUse, Code};
+pub use tm_syntax::{Assignment, AssignmentTarget, CaptureMode, CaptureUse, Code};
 pub use tm_tables::{
-    Answering, Callable, CallableAnswer, Called, FuelTracker, Objects, Parties, Plain, View,
+    Answering, Callable, CallableAnswer, Called, EscapeRule, Formatter, FuelTracker,
+    MethodFallback, Objects, Parties, Plain, View,
 };
 pub use tm_templates::{
     CompiledTemplate, EscapeSetting, Source, TemplateConfig, default_auto_escape_callback,

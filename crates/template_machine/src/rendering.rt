@@ -10,7 +10,7 @@ use tm_meaning::{StreamId, TemplateId};
 use tm_syntax::{Code, Name, NameMap};
 use tm_tables::{CallableAnswer, Called, Host, Parties, View};
 use tm_templates::CompiledTemplate;
-use tm_values::{UndefinedBehavior, Value};
+use tm_values::{Error, UndefinedBehavior, Value};
 
 /// The environment and the template that is rendered: the machine's one party.
 #[derive(Drop)]
@@ -78,7 +78,6 @@ impl<'env, O: Drop> Rendering<'env, O> {
 }
 
 impl<O: Parties> Host for Rendering<'_, O> {
-    ghost use Rattle.std.specs.Prelude.{refl};
     ghost use Rattle.template_machine.specs.Environment.{host_of, code};
 
     ghost meaning = { host_of O.stated };
@@ -145,5 +144,30 @@ impl<O: Parties> Host for Rendering<'_, O> {
             .perform_test(alloc, name, args, view)
     }
 
-    ghost unformatted = { λ host. refl };
+    fn call_unknown_method(
+        &self,
+        alloc: Global,
+        value: &Value,
+        name: &str,
+        args: &[Value],
+        view: &View<'_>,
+    ) -> Option<CallableAnswer> {
+        self.environment
+            .objects()
+            .call_unknown_method(alloc, value, name, args, view)
+    }
+
+    #[inline(always)]
+    fn has_formatter(&self) -> bool {
+        self.environment.objects().has_formatter()
+    }
+
+    fn format(
+        &self,
+        alloc: Global,
+        value: &Value,
+        view: &View<'_>,
+    ) -> Option<Result<String, Error>> {
+        self.environment.objects().format(alloc, value, view)
+    }
 }

@@ -4,19 +4,20 @@ ghost use Rattle.std.specs.List.Sorted.{IsStrictlySortedBy};
 ghost use Rattle.std.specs.Prelude.{◌≡◌, ◌+◌, [], ◌∷◌, Some, IfErr, IfOk, IfSome, OnErr, OnOk, string_bytes};
 ghost use Rattle.tm_syntax.specs.Named.{find, name_cmp, texts_of};
 ghost use Rattle.tm_values.specs.Answer.{IsAnswer, IsLent, OkOrOutOfMemory};
-ghost use Rattle.tm_meaning.specs.World.{find_name, fuel_levels, name_of, records_of, view_of};
+ghost use Rattle.tm_meaning.specs.World.{emitted, find_name, fuel_levels, name_of, records_of, view_of};
 ghost use Rattle.tm_tables.specs.Known.{AreFound, NamingFails};
 ghost use Rattle.tm_meaning.specs.Calls.{apply_filter, perform_test};
-ghost use Rattle.tm_state.specs.Answers.{Comes, Tests};
+ghost use Rattle.tm_state.specs.Answers.{Comes, IsEmitted, Tests};
 ghost use Rattle.tm_state.specs.State.{exported};
 ghost use Rattle.template_machine.specs.Environment.{host_of};
 ghost use Rattle.template_machine.specs.Renders.{with_temp, with_world};
 
+use crate::environment::BoxedObjects;
 use crate::rendering::Rendering;
 use std::marker::Model;
 use tm_state::StateData;
 use tm_syntax::Name;
-use tm_tables::{Callable, Host, Objects, Parties};
+use tm_tables::{Host, Parties};
 use tm_values::{AutoEscape, Error, ErrorKind, Value};
 
 /// The state of a render. A contract sees the template that was rendered, and a world of the definitions.
@@ -36,7 +37,7 @@ impl<O: Drop> Drop for StateOf<'_, O> {
 }
 
 /// The state of a program's render.
-pub type State<'env> = StateOf<'env, Objects<Box<dyn Callable>>>;
+pub type State<'env> = StateOf<'env, BoxedObjects>;
 
 impl<'env, O: Drop> Model for StateOf<'env, O> {
     ghost use Rattle.std.specs.Coded.{codes};
@@ -146,6 +147,17 @@ impl<'env, O: Parties> StateOf<'env, O> {
     {
         let alloc = self.rendering.allocator();
         self.kept.perform_test(alloc, &self.rendering, name, args)
+    }
+
+    /// What a value is emitted as. UndefinedError where it is undefined and the behaviour refuses that, else what the
+    /// formatter answers, where there is one, and else what the escape refuses; OutOfMemory.
+    pub fn format(&self, value: &Value) -> Result<String, Error>
+        ensures { IsEmitted result
+            (emitted (host_of O.stated self.now.template) value.now self.now.world)
+            self.now.world }
+    {
+        let alloc = self.rendering.allocator();
+        self.kept.format(alloc, &self.rendering, value)
     }
 
     /// The names that a look-up finds, of the scopes and of the globals, each once, in their order.

@@ -4,7 +4,7 @@ ghost use Rattle.tm_meaning.specs.World.{root_of};
 ghost use Rattle.template_machine.specs.TemplateRef.{entry_id, held_id, held_template, IsHeldOf};
 ghost use Rattle.template_machine.specs.Renders.{first, greatest, meaning, meaning_from, IsFresh, Ran, Rendered, RenderedText};
 
-use crate::environment::EnvironmentOf;
+use crate::environment::{BoxedObjects, EnvironmentOf};
 use crate::ids::StateIds;
 use crate::rendering::Rendering;
 use crate::state::{CapturedOf, StateOf};
@@ -13,7 +13,7 @@ use tm_meaning::{StreamId, TemplateId};
 use tm_parts::{Captures, Halt, NullWriter, Sink};
 use tm_state::StateData;
 use tm_syntax::{CaptureMode, Name};
-use tm_tables::{Callable, Objects, Parties};
+use tm_tables::Parties;
 use tm_templates::CompiledTemplate;
 use tm_values::{Error, ErrorKind, Value};
 use tm_vm::Machine;
@@ -44,7 +44,7 @@ impl<O: Drop> Drop for TemplateOf<'_, '_, O> {
 }
 
 /// A template of a program's environment.
-pub type Template<'env, 'source> = TemplateOf<'env, 'source, Objects<Box<dyn Callable>>>;
+pub type Template<'env, 'source> = TemplateOf<'env, 'source, BoxedObjects>;
 
 impl<'env, 'source, O: Drop> Model for TemplateOf<'env, 'source, O> {
     ghost use Rattle.std.specs.Coded.{codes};

@@ -20,7 +20,7 @@ use Rattle.tm_meaning.specs.declared.wrapping.Wrapping.{Wrapping}
 use Rattle.tm_meaning.specs.Memory.{kind_of_wrapping}
 use Rattle.tm_meaning.specs.declared.function.GlobalFunction.TheVariants as own
 use Rattle.tm_meaning.specs.World.{TemplateId, own, entry, StreamId, block_of, Named, find, put_each, same_name, Card, Layers, Loop, World}
-use Rattle.tm_meaning.specs.World.{HostValue, View, Scope, Object, Function, callers, languages, Res, Good, Bad, bind, bad, answered}
+use Rattle.tm_meaning.specs.World.{HostValue, View, Scope, Object, Fallback, Function, callers, languages, Res, Good, Bad, bind, bad, answered}
 use Rattle.tm_meaning.specs.World.{items_over, innermost, records_of, make_namespace, need, check, card_at, view_of, lookup}
 use Rattle.tm_meaning.specs.World.{context_member, place_of, plain_scope, push}
 use Rattle.tm_meaning.specs.declared.reply.Reply.{Reply}
@@ -163,13 +163,23 @@ told_changed n args w l = has (boolean (is_changed l.kept args)) (record w { loo
 abbrev pub told_turn : List Val → World → Loop → Asked
 told_turn args w l = has (cycled (place_of l.turns) args) w
 
--- A loop has two methods: whether what it is called with changed, and the argument whose turn it is.
-abbrev pub loop_method : List ℕ → ℕ → ℕ → List Val → World → Asked
-loop_method x state n args w =
+-- the caller's object for a value's method of a name, where there is one
+abbrev pub method_object : Option Fallback → Val → List ℕ → Option Object
+method_object None v x = None
+method_object (Some f) v x = Some (f v x)
+
+-- A value has no method of a name: the caller's object answers, where there is one.
+abbrev pub unknown_method : HostValue → List ℕ → Val → List Val → World → Asked
+unknown_method host x v args w =
+    ask (need (method_object host.unknown_method v x) UnknownMethod w) (λ f world1. call_object host f args world1)
+
+-- A loop has two methods of its own: whether what it is called with changed, and the argument whose turn it is.
+abbrev pub loop_method : HostValue → List ℕ → ℕ → ℕ → List Val → World → Asked
+loop_method host x state n args w =
     if same_name x (codes "changed") then
     of_loop (record_at w state n) w (told_changed n args w)
     else if same_name x (codes "cycle") then of_loop (record_at w state n) w (told_turn args w)
-    else refused (UnknownMethod ∷ []) w
+    else unknown_method host x (loop state n) args w
 
 abbrev pub is_macro_attribute : List ℕ → Bool
 is_macro_attribute x = same_name x (codes "name") || same_name x (codes "arguments") || same_name x (codes "caller")
@@ -179,11 +189,15 @@ abbrev pub method_in : RecordData → List ℕ → Val → Answer (Option Val)
 method_in r x (macro m) = Ok (if is_macro_attribute x then Some (macro_member m x) else None)
 method_in r x v = context_member r x v
 
+-- what was found as a value's method is called
+abbrev pub call_in : HostValue → List ℕ → Val → List Val → Option Val → World → Asked
+call_in host x v args None w = unknown_method host x v args w
+call_in host x v args (Some f) w = call_value host f args w
+
 abbrev pub call_method : HostValue → List ℕ → Val → List Val → World → Asked
-call_method host x (loop state n) args w = loop_method x state n args w
+call_method host x (loop state n) args w = loop_method host x state n args w
 call_method host x v args w =
-    ask (answered (method_in (records_of w) x v) w)
-    (λ found world1. ask (need found UnknownMethod world1) (λ f world2. call_value host f args world2))
+    ask (answered (method_in (records_of w) x v) w) (λ found world1. call_in host x v args found world1)
 
 -- the first of the values is called by its method
 abbrev pub call_first : HostValue → List ℕ → List Val → World → Asked

@@ -11,6 +11,7 @@ pub mod LoopRows
 pub mod CallRows
 pub mod FilterRows
 pub mod SpreadRows
+pub mod ObjectRows
 pub mod OperatorRows
 pub mod GuardRows
 pub mod LookUp

@@ -1,6 +1,5 @@
 -- Worked renders, through the meaning, and through the code and the machine.
 use Rattle.std.specs.Prelude.{◌≡◌, ℕ, ◌-◌, List, [], ◌∷◌, Option, Some, None, Bool, true, false, codes, pos, Ok}
-use Rattle.tm_values.specs.Answer.{Answer}
 use Rattle.tm_values.specs.Val.{Val, undefined, boolean, number, text, map, pairs_of}
 use Rattle.tm_values.specs.declared.error.ErrorKind.{ErrorKind}
 use Rattle.tm_values.specs.declared.error.ErrorKind.TheVariants as kind
@@ -24,7 +23,7 @@ use Rattle.tm_syntax.specs.declared.tree.Stmt.{end_of-Stmt as no_statement, more
 use Rattle.tm_syntax.specs.declared.tree.Stmt.{None' as no_else, Some' as otherwise}
 use Rattle.tm_syntax.specs.Forms.{unary, chained, conditional, with_condition, with_comparison, binary, compare, and_then, or_else}
 use Rattle.tm_meaning.specs.Compiled.{code_of}
-use Rattle.tm_meaning.specs.World.{Bindings, find_name, view_of, own, World, HostValue, Function, Named, Object, View, fuel_levels}
+use Rattle.tm_meaning.specs.World.{Bindings, find_name, view_of, own, World, HostValue, Function, Named, Object, Fallback, Format, fuel_levels}
 use Rattle.tm_meaning.specs.Calls.{whole}
 use Rattle.tm_meaning.specs.Tree.{Body, body_of, TemplateTree, Trees, template_of, trees_of}
 use Rattle.tm_meaning.specs.Meaning.{rendered, first_world, chain_of}
@@ -39,7 +38,8 @@ pub record Page : Type 0 where
   pub functions : List Function
   pub filters : Named Object
   pub tests : Named Object
-  pub formatter : Option (Val → View → Answer (List ℕ))
+  pub formatter : Option Format
+  pub unknown_method : Option Fallback
   pub undefined : UndefinedBehavior
   pub limit : ℕ
 
@@ -52,6 +52,7 @@ page body context = record {
   filters = [];
   tests = [];
   formatter = None;
+  unknown_method = None;
   undefined = Lenient;
   limit = 500;
 }
@@ -69,7 +70,7 @@ host_of p = record {
   tests = p.tests;
   join = λ x parent. Ok x;
   formatter = p.formatter;
-  unknown_method = None;
+  unknown_method = p.unknown_method;
   undefined = p.undefined;
   limit = p.limit;
 }

@@ -132,6 +132,14 @@ pub record Stated : Type 0 where
 abbrev pub Object : Type 0
 Object = List Val → View → Stated
 
+-- An object of the caller that is asked where a value has no method of a name: what it is for that value and name.
+abbrev pub Fallback : Type 0
+Fallback = Val → List ℕ → Object
+
+-- A formatter of the caller: the text that a value is written as, by what it sees.
+abbrev pub Format : Type 0
+Format = Val → View → Answer (List ℕ)
+
 -- A function that the environment has: an object of the caller, or one of the language.
 pub data Function : Type 0 where
   callers : Object → Function
@@ -146,8 +154,8 @@ pub record HostValue : Type 0 where
   pub filters : Named Object
   pub tests : Named Object
   pub join : List ℕ → List ℕ → Answer (List ℕ)
-  pub formatter : Option (Val → View → Answer (List ℕ))
-  pub unknown_method : Option (Val → List ℕ → List Val → View → Stated)
+  pub formatter : Option Format
+  pub unknown_method : Option Fallback
   pub undefined : UndefinedBehavior
   pub limit : ℕ
 
@@ -430,7 +438,8 @@ abbrev pub where_fine : {A : Type 0} → Verdict → A → Answer A
 where_fine (Ok u) a = Ok a
 where_fine (Err chain) a = Err chain
 
-abbrev pub formatted : Option (Val → View → Answer (List ℕ)) → Val → View → Answer (List ℕ)
+-- what a value is written as: what the caller's formatter gives, or else by the escape that is seen
+abbrev pub formatted : Option Format → Val → View → Answer (List ℕ)
 formatted None v view =
     where_fine (emission_verdict view.escape view.records v) (emitted_text view.escape view.records v)
 formatted (Some f) v view = f v view

@@ -7,7 +7,7 @@ ghost use Rattle.tm_values.specs.declared.error.ErrorKind.TheVariants.{UnknownFu
 ghost use Rattle.tm_values.specs.declared.error.ErrorKind.TheVariants.{OutOfMemory};
 ghost use Rattle.tm_meaning.specs.Rows.{Says, Charges, Shows, Fails, Leaves, Lacks, Restores, empty, text_alone, two_names};
 ghost use Rattle.tm_meaning.specs.Rows.{one_name, nothing, with_value, hello, either_text, of_three, empty_condition};
-ghost use Rattle.tm_meaning.specs.Rows.{shown, a_and_b_c, a_or_x, not_equal, a_b, literal_number, three_in_a_row};
+ghost use Rattle.tm_meaning.specs.Rows.{shown, a, a_and_b_c, a_or_x, not_equal, a_b, literal_number, three_in_a_row};
 ghost use Rattle.tm_meaning.specs.Rows.{false_before_fault, no_value, one_condition, two_conditions, in_block};
 ghost use Rattle.tm_meaning.specs.Rows.{block_not_reached, fault_in_block, with_two, empty_with, set_two, set_two_of_one};
 ghost use Rattle.tm_meaning.specs.Rows.{set_attribute, literal, set_block, set_under, escaped_by, fault_in_capture};
@@ -31,6 +31,8 @@ ghost use Rattle.tm_meaning.specs.FilterRows.{is_unsure, under, unknown, filtere
 ghost use Rattle.tm_meaning.specs.FilterRows.{upper_by, second_by, odd_by, unsure_by, EndsIn};
 ghost use Rattle.tm_meaning.specs.FilterRows.{filter_block, two_filters, last_counts, set_filtered};
 ghost use Rattle.tm_meaning.specs.FilterRows.{capitals_in_html, safe_in_html, break_in_filter, fault_in_filter};
+ghost use Rattle.tm_meaning.specs.ObjectRows.{by_name, emitted_none, keeps_and_faults, method_of_function, no_zero};
+ghost use Rattle.tm_meaning.specs.ObjectRows.{none_as_undefined, with_formatter, with_methods, zero_between};
 ghost use Rattle.tm_syntax.specs.declared.tree.Application.TheVariants.{Filter, Test, NegatedTest};
 ghost use Rattle.tm_values.specs.declared.undefined.UndefinedBehavior.TheVariants.{SemiStrict, Strict};
 ghost use Rattle.tm_values.specs.declared.error.ErrorKind.TheVariants.{BadStream, UnknownFilter, UnknownTest};
@@ -299,6 +301,33 @@ pub fn cache_rows()
     ensures test { EndsIn (tested_by (odd_by 0 ∷ odd_by 0 ∷ [])) (codes "false") [] }
     ensures other_test { EndsIn (tested_by (odd_by 0 ∷ unsure_by 0 ∷ [])) [] (BadStream ∷ []) }
     ensures past_tests { EndsIn (tested_by (odd_by 50 ∷ [])) [] (BadStream ∷ []) }
+{}
+
+/// `{{ sum.x() }}` of a function, `{{ nope.m() }}` of an undefined name under Strict, and `loop.index()`, without and with a method object
+/// that answers the method's name; a map's own method; and an object that keeps a value and answers a fault.
+pub fn method_object_rows()
+    ensures without { Fails method_of_function [] (UnknownMethod ∷ []) }
+    ensures function { Charges (with_methods by_name method_of_function) (codes "x") 3 }
+    ensures undefined_without { Fails (under Strict method_of_undefined) [] (UnknownMethod ∷ []) }
+    ensures undefined { Shows (with_methods by_name (under Strict method_of_undefined)) (codes "m") }
+    ensures of_loop { Shows (with_methods by_name no_method_of_loops) (codes "indexindex") }
+    ensures own_of_loop { Charges (with_methods by_name by_turns) (codes "xyx") 29 }
+    ensures own { Shows (with_methods by_name (method_of_map (function 0))) (codes "a") }
+    ensures fault { Fails (with_methods keeps_and_faults method_of_function) [] (MissingArgument ∷ []) }
+    ensures kept { Leaves (with_methods keeps_and_faults method_of_function)
+        ((codes "k", number (pos 1)) ∷ []) }
+{}
+
+/// `a{{ 0 }}b` with a formatter that answers a fault for 0; `{{ none }}` without a formatter and with one that writes none as an undefined
+/// value; and under Strict an undefined name and `{{ 1 if false }}`.
+pub fn formatter_rows()
+    ensures fault { Fails (with_formatter no_zero zero_between) (codes "a") (MissingArgument ∷ []) }
+    ensures without { Charges emitted_none (codes "none") 2 }
+    ensures none { Charges (with_formatter none_as_undefined emitted_none) [] 2 }
+    ensures not_asked { Fails (with_formatter no_zero (under Strict (shown a nothing))) []
+        (UndefinedError ∷ []) }
+    ensures asked { Shows (with_formatter no_zero (under Strict (shown (one_condition false no_value) nothing)))
+        (codes "F") }
 {}
 
 /// Loops that are called: `{{ loop(x) }}` in place, over `[[]]`, a number, in a loop that can't be

@@ -7,6 +7,7 @@ ghost use Rattle.tm_output.specs.Counts.{failure_count, saturating_increment, Ap
 use crate::target::TargetFailed;
 use std::io::{self, Write};
 use std::marker::Model;
+use tm_values::Error;
 
 /// A writer that tells its bytes, and how many of its calls failed or took nothing.
 pub trait Sink {
@@ -113,6 +114,16 @@ impl Sink for NullWriter {
         ensures all { result ≡ Ok (length bytes.now) }
     {
         Ok(bytes.len())
+    }
+}
+
+impl NullWriter {
+    /// Takes all of a text.
+    pub fn write_str(&mut self, text: &str) -> Result<(), Error>
+        ensures { result ≡ Ok tt }
+    {
+        let _taken = text;
+        Ok(())
     }
 }
 

@@ -1,8 +1,17 @@
 -- A writer with the captures above it.
-use Rattle.std.specs.Prelude.{List}
+use Rattle.std.specs.Prelude.{List, [], ◌∷◌, false}
+use Rattle.tm_values.specs.Val.{Val, undefined, text}
+use Rattle.tm_values.specs.declared.escape.AutoEscape.{AutoEscape}
+use Rattle.tm_meaning.specs.World.{choose, is_safe}
 use Rattle.tm_meaning.specs.Machine.{Capture}
 
 -- A writer, and the captures open above it, innermost first.
 pub record Outgoing (W : Type 0) : Type 0 where
   pub writer : W
   pub captures : List Capture
+
+-- What the innermost capture's end gives: its text, which is safe where there is an escape; undefined where it took none, and where none is
+-- open.
+abbrev pub ended_value : AutoEscape → List Capture → Val
+ended_value escape [] = undefined false
+ended_value escape (k ∷ ks) = choose k.heard (λ _. text k.text (is_safe escape)) (λ _. undefined false)

@@ -10,6 +10,6 @@ mod stack;
 pub use escapes::escape_for;
 pub use halt::Halt;
 pub use operators::{binary, paired, unary};
-pub use output::{Captures, Output, WriteWrapper};
+pub use output::{Captures, Output, WriteWrapper, captured_value};
 pub use stack::Stack;
 pub use tm_output::{Counted, Limited, NullWriter, Sink, write_text};

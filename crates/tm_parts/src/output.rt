@@ -1,6 +1,6 @@
 //! Output: captures that take a text before the writer does.
 ghost use Rattle.std.specs.Prelude.{◌≡◌, ◌≢◌, ◌⊎◌, ◌↔◌, ℕ, Bool, IsTrue, [], ◌∷◌, length, take, None, Err, IsOk, IsSome, OnOk, OnErr, IfErr};
-ghost use Rattle.std.specs.Prelude.{MatchOption, string_bytes};
+ghost use Rattle.std.specs.Prelude.{MatchOption, not, string_bytes};
 ghost use Rattle.std.specs.Io.KnownBytes.{Appends};
 ghost use Rattle.tm_values.specs.declared.error.ErrorKind.TheVariants.{WriteFailure, OutOfMemory};
 ghost use Rattle.tm_meaning.specs.Instructions.{is_heard};
@@ -8,6 +8,10 @@ ghost use Rattle.tm_meaning.specs.Machine.{first_heard, new_capture, put_in, put
 ghost use Rattle.tm_output.specs.Counts.{saturating_increment, AppendsBeginning};
 ghost use Rattle.tm_definitions.specs.Emitted.{emitted_text};
 ghost use Rattle.tm_parts.specs.Halts.{failures_after, EmitHalts, PutHalts};
+ghost use Rattle.tm_parts.specs.Outgoing.{ended_value};
+ghost use Rattle.tm_meaning.specs.World.{is_safe, without_first};
+ghost use Rattle.tm_values.specs.Answer.{OkOrOutOfMemory};
+ghost use Rattle.tm_values.specs.Val.{text};
 
 use crate::halt::Halt;
 use std::alloc::Global;
@@ -58,6 +62,11 @@ impl Captures {
         Captures {
             open: Vec::new(alloc),
         }
+    }
+
+    /// The allocator of the texts.
+    fn allocator(&self) -> Global {
+        *self.open.allocator()
     }
 
     /// How many captures are open.
@@ -165,7 +174,7 @@ impl Captures {
         ensures part { OnErr result ((n : ℕ) × (self.new ≡ put_in self.old
             (take n (emitted_text escape (R.records records.now) value.now)))) }
     {
-        let alloc = *self.open.allocator();
+        let alloc = self.allocator();
         let Some(mut innermost) = self.open.pop() else {
             return match emit(alloc, value, escape, records, writer) {
                 Ok(()) => Ok(()),
@@ -180,6 +189,18 @@ impl Captures {
             Ok(()) => Ok(()),
             Err(_) => Err(Halt::Fault(Error::from(ErrorKind::OutOfMemory))),
         }
+    }
+}
+
+/// A captured text as a value, safe where there is an escape. Fails by OutOfMemory alone.
+pub fn captured_value(alloc: Global, content: &str, escape: AutoEscape) -> Result<Value, Error>
+    ensures { OkOrOutOfMemory result (λ v. v ≡ text content.now (is_safe escape)) }
+{
+    match escape {
+        AutoEscape::None => Value::text(alloc, content),
+        AutoEscape::Html | AutoEscape::Json | AutoEscape::Custom(_) => Value::safe_text(
+            alloc, content,
+        ),
     }
 }
 
@@ -228,6 +249,43 @@ impl<W: Sink> Output<W> {
         ensures empty { text.now ≡ [] → IsOk result }
     {
         Ok(self.captures.write_str(&mut self.writer, text)?)
+    }
+
+    /// Opens a capture, which takes what is written from here on. Where there is no memory, OutOfMemory, and all stays
+    /// as it was.
+    pub fn begin_capture(&mut self, mode: CaptureMode) -> Result<(), Error>
+        ensures ok { OnOk result (self.new ≡ record self.old
+            { captures = new_capture (is_heard mode) ∷ self.old.captures }) }
+        ensures kind { IfErr result (λ e. e ≡ OutOfMemory ∷ []) }
+        ensures err { OnErr result (self.new ≡ self.old) }
+    {
+        let alloc = self.captures.allocator();
+        self.captures.begin(alloc, mode)
+    }
+
+    /// Closes the innermost capture and gives its text, safe where there is an escape; undefined where its text was
+    /// dropped, and where none is open. OutOfMemory where there is no memory for the value; then the text is lost.
+    pub fn end_capture(&mut self, escape: AutoEscape) -> Result<Value, Error>
+        ensures value { OkOrOutOfMemory result
+            (λ v. v ≡ ended_value escape self.old.captures) }
+        ensures closed { self.new ≡ record self.old
+            { captures = without_first self.old.captures } }
+    {
+        let alloc = self.captures.allocator();
+        let Some((mode, text)) = self.captures.end() else {
+            return Ok(Value::undefined());
+        };
+        match mode {
+            CaptureMode::Capture => captured_value(alloc, text.as_str(), escape),
+            CaptureMode::Discard => Ok(Value::undefined()),
+        }
+    }
+
+    /// Whether the innermost capture drops what is written.
+    pub fn is_discarding(&self) -> bool
+        ensures { result ≡ not (first_heard self.now.captures) }
+    {
+        !self.captures.is_heard()
     }
 
     /// The writer.

@@ -2,7 +2,7 @@
 ghost use Rattle.std.specs.Prelude.{◌≡◌, MatchOption, string_bytes};
 ghost use Rattle.tm_values.specs.Records.{RecordData};
 ghost use Rattle.tm_values.specs.Val.{number};
-ghost use Rattle.tm_printing.specs.Emits.{Emits};
+ghost use Rattle.tm_printing.specs.Emits.{Emits, emission_answer};
 ghost use Rattle.tm_output.specs.Targets.{Takes};
 ghost use Rattle.tm_values.specs.Answer.{IsAnswer};
 ghost use Rattle.tm_printing.specs.Left.{Writes};
@@ -116,6 +116,24 @@ pub fn to_text<R: Records>(alloc: Global, value: &Value, records: &R) -> Result<
     check_print(alloc, value, records)?;
     let mut text = String::new(alloc);
     match print(alloc, value, records, &mut text) {
+        Ok(()) => Ok(text),
+        Err(_) => Err(Error::from(ErrorKind::OutOfMemory)),
+    }
+}
+
+/// What the value is emitted as under the escape, in a text of its own: an error of `check_emission`, or OutOfMemory.
+pub fn emission_text<R: Records>(
+    alloc: Global,
+    value: &Value,
+    escape: AutoEscape,
+    records: &R,
+) -> Result<String, Error>
+    ensures { IsAnswer (map_ok string_bytes result)
+        (emission_answer escape (R.records records.now) value.now) }
+{
+    check_emission(alloc, value, escape, records)?;
+    let mut text = String::new(alloc);
+    match emit(alloc, value, escape, records, &mut text) {
         Ok(()) => Ok(text),
         Err(_) => Err(Error::from(ErrorKind::OutOfMemory)),
     }

@@ -15,7 +15,7 @@ mod walk;
 pub use check::{check_json, check_print};
 pub use compact::write_json;
 pub use concatenation::{concatenate, concatenate_to};
-pub use emission::{check_emission, emit, emit_at_once, to_text};
+pub use emission::{check_emission, emission_text, emit, emit_at_once, to_text};
 pub use printing::{print, write_html};
 pub use rest::{Rest, Step, Unwritten};
 pub use rows::written_rows;

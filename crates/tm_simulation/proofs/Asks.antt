@@ -19,13 +19,15 @@ use Rattle.tm_meaning.specs.declared.reply.Reply.{Reply}
 use Rattle.tm_meaning.specs.declared.reply.Reply.TheVariants.{Value as gives, Fault as faults}
 use Rattle.tm_meaning.specs.Calls.{whole, of_block, undone, Asked, has, refused, runs, recurs, ask, same_stream, wrapped_as}
 use Rattle.tm_meaning.specs.Calls.{call_loop, call_innermost, one_argument, call_found, enter_block, call_named, call_value, call_method}
-use Rattle.tm_meaning.specs.Calls.{call_callee, call_object, call_first, apply_filter, perform_test, as_truth, applied}
+use Rattle.tm_meaning.specs.Calls.{method_object, unknown_method, call_callee, call_in, call_object, call_first, apply_filter, perform_test}
+use Rattle.tm_meaning.specs.Calls.{as_truth, applied}
 use Rattle.tm_meaning.specs.Calls.{loop_method, method_in, of_loop, record_at, call_by, given_by, replied, required_alone}
 use Rattle.tm_meaning.specs.declared.function.GlobalFunction.{GlobalFunction}
 use Rattle.tm_meaning.specs.declared.function.GlobalFunction.TheVariants as own
 use Rattle.tm_meaning.specs.declared.stream.StreamId.{StreamId}
 use Rattle.tm_syntax.specs.Named.{put_each}
 use Rattle.tm_simulation.specs.Chains.{is_raised, Arises, wrapped as wraps, by_object, IsObject, is_function, is_filter, is_test}
+use Rattle.tm_simulation.specs.Chains.{is_method}
 use Rattle.tm_simulation.proofs.Raised.{unpacked_raises, escape_raises, emitted_arises, iterated_raises, range_raises, dict_raises}
 use Rattle.tm_simulation.proofs.Raised.{namespace_raises, name_raises, method_raises}
 use Rattle.tm_simulation.proofs.Advances.{Advances, Kept, advances_then, lasts_by_namespaces, lasts_by_temps, advances_same}
@@ -154,19 +156,27 @@ of_loop_asks : (host : HostValue) (w : World) (found : Option Loop) (f : Loop �
 of_loop_asks host w None f k = asks_refused host w InvalidOperation refl
 of_loop_asks host w (Some l) f k = k l
 
-loop_asks : (host : HostValue) (x : List ℕ) (state n : ℕ) (args : List Val) (w : World) → Asks host w (loop_method x state n args w)
+unknown_asks : (host : HostValue) (x : List ℕ) (v : Val) (args : List Val) (w : World) → Asks host w (unknown_method host x v args w)
+unknown_asks host x v args w =
+    ask_need host w (method_object host.unknown_method v x) UnknownMethod (λ f world1. call_object host f args world1) refl
+    (λ f e. object_asks host f args w (is_method v x e))
+
+loop_asks : (host : HostValue) (x : List ℕ) (state n : ℕ) (args : List Val) (w : World) → Asks host w (loop_method host x state n args w)
 loop_asks host x state n args w =
     if_asks host w (same_name x (codes "changed")) _ _ (of_loop_asks host w (record_at w state n) _ (λ l. keeping_kept n args w))
     (if_asks host w (same_name x (codes "cycle")) _ _ (of_loop_asks host w (record_at w state n) _ (λ l. kept_same w))
-    (asks_refused host w UnknownMethod refl))
+    (unknown_asks host x (loop state n) args w))
+
+in_asks : (host : HostValue) (x : List ℕ) (v : Val) (args : List Val) (found : Option Val) (w : World) →
+    Asks host w (call_in host x v args found w)
+in_asks host x v args None w = unknown_asks host x v args w
+in_asks host x v args (Some f) w = value_asks host f args w
 
 found_asks : (host : HostValue) (x : List ℕ) (v : Val) (args : List Val) (w : World) →
-    Asks host w (ask (answered (method_in (records_of w) x v) w) (λ found world1.
-    ask (need found UnknownMethod world1) (λ f world2. call_value host f args world2)))
+    Asks host w (ask (answered (method_in (records_of w) x v) w) (λ found world1. call_in host x v args found world1))
 found_asks host x v args w =
     ask_then host w (answered (method_in (records_of w) x v) w) _ (operation_gives host _ w (method_raises (records_of w) x v))
-    (λ found world1.
-    ask_need host world1 found UnknownMethod (λ f world2. call_value host f args world2) refl (λ f e. value_asks host f args world1))
+    (λ found world1. in_asks host x v args found world1)
 
 method_asks : (host : HostValue) (x : List ℕ) (v : Val) (args : List Val) (w : World) → Asks host w (call_method host x v args w)
 method_asks host x (loop state n) args w = loop_asks host x state n args w

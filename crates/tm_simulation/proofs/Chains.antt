@@ -7,14 +7,15 @@ use Rattle.std.specs.Prelude.{slice_get}
 use Rattle.tm_values.specs.Val.{Val}
 use Rattle.tm_values.specs.declared.error.ErrorKind.{ErrorKind}
 use Rattle.tm_meaning.specs.Tree.{Trees}
-use Rattle.tm_meaning.specs.World.{World, HostValue, Function, Object, callers, View, Named, find}
+use Rattle.tm_meaning.specs.World.{World, HostValue, Function, Object, Fallback, callers, View, Named, find}
+use Rattle.tm_meaning.specs.Calls.{method_object}
 use Rattle.tm_syntax.specs.Named.{name_cmp}
 use Rattle.std.specs.BTreeMap.{is_at}
-use Rattle.std.specs.Prelude.{cond, Option}
+use Rattle.std.specs.Prelude.{cond, Option, None}
 use Rattle.tm_meaning.specs.Meaning.{rendered, chain_of}
 use Rattle.tm_simulation.specs.Chains.{wrapped, is_raised, Arises, raised, by_object, AnswersOnly, by_formatter, RepliesOnly, IfAny}
-use Rattle.tm_simulation.specs.Chains.{IsObject, is_function, is_filter, is_test, ObjectStates, NamedStates}
-use Rattle.tm_simulation.specs.Chains.{HasRaised, FunctionStates, FormatterStates, StatesOnly, ends_in_memory, StatesNoMemory, MayWrap}
+use Rattle.tm_simulation.specs.Chains.{IsObject, is_function, is_filter, is_test, is_method, ObjectStates, NamedStates}
+use Rattle.tm_simulation.specs.Chains.{HasRaised, FunctionStates, FallbackStates, FormatterStates, StatesOnly, ends_in_memory, StatesNoMemory, MayWrap}
 use Rattle.tm_simulation.specs.Chains.{is_foreign}
 use Rattle.tm_simulation.specs.Chains.{HasNoForeign}
 use Rattle.tm_simulation.proofs.Keeps.{render_arises}
@@ -44,11 +45,18 @@ named_states Has (p ∷ ps) h x f e =
     named_by Has (is_at (name_cmp x) p.0) p.1 f (find x ps) e (All-head (NamedStates Has) p ps h)
     (named_states Has ps (All-tail (NamedStates Has) p ps h) x f)
 
+-- what the method object states
+method_states : (Has : List ErrorKind → Type 0) (found : Option Fallback) → FallbackStates Has found → (v : Val) (x : List ℕ) (f : Object) →
+    method_object found v x ≡ Some f → ObjectStates Has f
+method_states Has None h v x f e = absurd (cc e)
+method_states Has (Some g) h v x f e = let same : g v x ≡ f = cc e in subst (ObjectStates Has) same (h v x)
+
 module _ (Has : List ErrorKind → Type 0) (host : HostValue) (has : HasRaised Has) (states : StatesOnly Has host) where
   object_states : (f : Object) → IsObject host f → ObjectStates Has f
   object_states f (is_function n e) = states_at Has host.functions states.functions n f e
   object_states f (is_filter x e) = named_states Has host.filters states.filters x f e
   object_states f (is_test x e) = named_states Has host.tests states.tests x f e
+  object_states f (is_method v x e) = method_states Has host.unknown_method states.unknown_method v x f e
 
   -- What arises has the property.
   arisen_has : {chain : List ErrorKind} → Arises host chain → Has chain

@@ -43,7 +43,7 @@ use Rattle.tm_definitions.specs.declared.comparison.ComparisonOperator.{Comparis
 use Rattle.tm_definitions.specs.declared.comparison.ComparisonOperator.TheVariants as comparison
 use Rattle.tm_definitions.specs.declared.form.Form.{Form}
 use Rattle.tm_definitions.specs.declared.form.Form.TheVariants.{Printed, Json}
-use Rattle.tm_meaning.specs.World.{Scope, HostValue, View, find_name, in_frames, in_scope, or_on, or_on_answer, context_member}
+use Rattle.tm_meaning.specs.World.{Scope, HostValue, View, Format, find_name, in_frames, in_scope, or_on, or_on_answer, context_member}
 use Rattle.tm_meaning.specs.World.{namespace_member}
 use Rattle.tm_meaning.specs.World.{escape_for, escape_named, formatted, where_fine, same_name}
 use Rattle.tm_meaning.specs.Calls.{method_in}
@@ -194,12 +194,12 @@ raised_arise host (Err []) h = absurd h
 raised_arise host (Err (k ∷ [])) h = raised h
 raised_arise host (Err (k ∷ c ∷ cs)) h = absurd h
 
-stated_by : (host : HostValue) (f : Val → View → Answer (List ℕ)) (v : Val) (view : View) (answer : Answer (List ℕ)) →
+stated_by : (host : HostValue) (f : Format) (v : Val) (view : View) (answer : Answer (List ℕ)) →
     host.formatter ≡ Some f → f v view ≡ answer → AnswersOnly (Arises host) answer
 stated_by host f v view (Ok t) e s = tt
 stated_by host f v view (Err chain) e s = by_formatter f v view e s
 
-formatted_by : (host : HostValue) (formatter : Option (Val → View → Answer (List ℕ))) → host.formatter ≡ formatter →
+formatted_by : (host : HostValue) (formatter : Option Format) → host.formatter ≡ formatter →
     (v : Val) (view : View) → AnswersOnly (Arises host) (formatted formatter v view)
 formatted_by host None e v view = raised_arise host _ (fine_raises _ _ (emission_raises view.escape view.records v))
 formatted_by host (Some f) e v view = stated_by host f v view (f v view) e refl

@@ -7,7 +7,8 @@ use Rattle.tm_values.specs.Val.{Val}
 use Rattle.tm_values.specs.declared.error.ErrorKind.{ErrorKind}
 use Rattle.tm_values.specs.declared.error.ErrorKind.TheVariants as kinds
 use Rattle.tm_meaning.specs.Memory.{is_wrapping}
-use Rattle.tm_meaning.specs.World.{HostValue, View, Object, Function, callers, languages, find}
+use Rattle.tm_meaning.specs.World.{HostValue, View, Object, Fallback, Format, Function, callers, languages, find}
+use Rattle.tm_meaning.specs.Calls.{method_object}
 use Rattle.tm_meaning.specs.declared.reply.Reply.{Reply}
 use Rattle.tm_meaning.specs.declared.reply.Reply.TheVariants.{Value as gives, Fault as faults}
 
@@ -27,11 +28,13 @@ is_raised kinds.BadSerialization = true
 is_raised kinds.OutOfFuel = true
 is_raised _ = false
 
--- An object of the caller that the environment has: a function of a number, or a filter or a test of a name.
+-- An object of the caller that the environment has: a function of a number, a filter or a test of a name, or the method object for a value's
+-- method of a name.
 pub data IsObject (host : HostValue) (f : Object) : Type 0 where
   is_function : (n : ℕ) → slice_get host.functions n ≡ Some (callers f) → IsObject host f
   is_filter : (x : List ℕ) → find x host.filters ≡ Some f → IsObject host f
   is_test : (x : List ℕ) → find x host.tests ≡ Some f → IsObject host f
+  is_method : (v : Val) (x : List ℕ) → method_object host.unknown_method v x ≡ Some f → IsObject host f
 
 -- A chain arises in a render: it raises a kind, a kind wraps a chain that arises, or an object of the caller states it.
 pub data Arises (host : HostValue) : List ErrorKind → Type 0 where
@@ -39,7 +42,7 @@ pub data Arises (host : HostValue) : List ErrorKind → Type 0 where
   wrapped : {kind : ErrorKind} {chain : List ErrorKind} → is_wrapping kind ≡ true → Arises host chain → Arises host (kind ∷ chain)
   by_object : {chain : List ErrorKind} (f : Object) (args : List Val) (view : View) →
       IsObject host f → (f args view).reply ≡ faults chain → Arises host chain
-  by_formatter : {chain : List ErrorKind} (f : Val → View → Answer (List ℕ)) (v : Val) (view : View) →
+  by_formatter : {chain : List ErrorKind} (f : Format) (v : Val) (view : View) →
       host.formatter ≡ Some f → f v view ≡ Err chain → Arises host chain
 
 -- a property of a chain, where there is one
@@ -70,7 +73,11 @@ abbrev pub FunctionStates : (List ErrorKind → Type 0) → Function → Type 0
 FunctionStates Has (callers f) = ObjectStates Has f
 FunctionStates Has (languages g) = Unit {0}
 
-abbrev pub FormatterStates : (List ErrorKind → Type 0) → Option (Val → View → Answer (List ℕ)) → Type 0
+abbrev pub FallbackStates : (List ErrorKind → Type 0) → Option Fallback → Type 0
+FallbackStates Has None = Unit {0}
+FallbackStates Has (Some f) = (v : Val) (x : List ℕ) → ObjectStates Has (f v x)
+
+abbrev pub FormatterStates : (List ErrorKind → Type 0) → Option Format → Type 0
 FormatterStates Has None = Unit {0}
 FormatterStates Has (Some f) = (v : Val) (view : View) → AnswersOnly Has (f v view)
 
@@ -78,11 +85,12 @@ FormatterStates Has (Some f) = (v : Val) (view : View) → AnswersOnly Has (f v 
 abbrev pub NamedStates : (List ErrorKind → Type 0) → List ℕ × Object → Type 0
 NamedStates Has named = ObjectStates Has named.1
 
--- The functions, the filters, the tests and the formatter of the caller state only faults that have the property.
+-- The functions, the filters, the tests, the method object and the formatter of the caller state only faults that have the property.
 pub record StatesOnly (Has : List ErrorKind → Type 0) (host : HostValue) : Type 0 where
   pub functions : All (FunctionStates Has) host.functions
   pub filters : All (NamedStates Has) host.filters
   pub tests : All (NamedStates Has) host.tests
+  pub unknown_method : FallbackStates Has host.unknown_method
   pub formatter : FormatterStates Has host.formatter
 
 -- ---------------------------------------------------------------- out of memory

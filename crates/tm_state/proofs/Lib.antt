@@ -2,3 +2,4 @@ pub mod Blocks
 pub mod Members
 pub mod Turns
 mod Answered
+pub mod Formatted

@@ -1,5 +1,6 @@
 -- What a state's calls answer, beside what the definitions say.
-use Rattle.std.specs.Prelude.{◌≡◌, ◌≤◌, ℕ, List, ◌∷◌, Option, Some, Bool, Result, Ok, Err, false}
+use Rattle.std.specs.Prelude.{◌≡◌, ◌≤◌, ℕ, List, ◌∷◌, Option, Some, Bool, Result, Ok, Err, String, string_bytes, false}
+use Rattle.std.specs.declared.alloc.Global.{Global}
 use Rattle.tm_values.specs.Val.{boolean}
 use Rattle.tm_meaning.specs.Memory.{is_want_of_memory}
 use Rattle.tm_values.specs.declared.error.ErrorKind.{ErrorKind}
@@ -25,6 +26,11 @@ pub record KeepsIdAndFuel (old new : World) : Type 0 where
 abbrev pub CanBeEmitted : Result (Unit {0}) (List ErrorKind) → Res (List ℕ) → List ℕ → World → Type 0
 CanBeEmitted (Ok _) emitted text w = emitted ≡ Good text w
 CanBeEmitted (Err chain) emitted text w = is_want_of_memory chain ≡ false → emitted ≡ Bad chain w
+
+-- A value is emitted as this text, or it can't be.
+abbrev pub IsEmitted : Result (String Global) (List ErrorKind) → Res (List ℕ) → World → Type 0
+IsEmitted (Ok text) emitted w = emitted ≡ Good (string_bytes text) w
+IsEmitted (Err chain) emitted w = is_want_of_memory chain ≡ false → emitted ≡ Bad chain w
 
 -- What a call of these arguments comes to: what was answered, with its values kept; or what a function of the language gives; or the call
 -- is refused.

@@ -6,8 +6,9 @@ ghost use Rattle.tm_syntax.specs.Named.{put_each};
 ghost use Rattle.tm_meaning.specs.World.{records_of};
 ghost use Rattle.tm_values.specs.Val.{loop};
 ghost use Rattle.tm_meaning.specs.Calls.{call_callee, call_found, call_innermost, call_loop, call_named, call_value, call_method};
-ghost use Rattle.tm_meaning.specs.Calls.{loop_method, method_in, is_macro_attribute, replied};
-ghost use Rattle.tm_state.specs.Answers.{Becomes, Calls, Comes, IsBecause, Recurs};
+ghost use Rattle.tm_meaning.specs.Calls.{loop_method, method_in, method_object, unknown_method, is_macro_attribute, replied};
+ghost use Rattle.tm_state.specs.Answers.{Answers, Becomes, Calls, Comes, IsBecause, Recurs, object_called};
+ghost use Rattle.tm_values.specs.declared.error.ErrorKind.TheVariants.{UnknownMethod};
 
 use crate::state::StateData;
 use std::alloc::Global;
@@ -150,9 +151,9 @@ impl StateData<'_> {
     }
 
     /// What a value's method of a name gives for these arguments: a loop's `changed` and `cycle`, else what a
-    /// map, keyword map, module or namespace has at the name, called. UnknownMethod where there is none,
-    /// InvalidOperation where it can't be called or the record of a loop or a namespace isn't there, and what
-    /// the function refuses.
+    /// map, keyword map, module or namespace has at the name, called, and else what the method object answers.
+    /// UnknownMethod where there is none, InvalidOperation where what is there can't be called or the record of a
+    /// loop or a namespace isn't there, and what the function or the object refuses.
     pub(crate) fn call_method<H: Host>(
         &mut self,
         alloc: Global,
@@ -167,30 +168,74 @@ impl StateData<'_> {
             { temps = self.new.temps; namespaces = self.new.namespaces; loops = self.new.loops } }
     {
         if let Node::Loop(state, number) = &receiver.node {
-            return self.call_loop_method(alloc, *state, *number, name, args);
+            return self.call_loop_method(alloc, host, receiver, *state, *number, name, args);
         }
         match self.method(alloc, receiver, name)? {
             Some(found) => self.call_value(alloc, host, &found, args),
+            None => self.call_unknown_method(alloc, host, receiver, name, args),
+        }
+    }
+
+    /// What the method object answers of a value's method of a name; what it keeps is kept, also where it answers
+    /// a fault. UnknownMethod where there is no such object, and the object's fault.
+    #[tactic(auto, using(crate::proofs::Answered::taken))]
+    fn call_unknown_method<H: Host>(
+        &mut self,
+        alloc: Global,
+        host: &H,
+        receiver: &Value,
+        name: &str,
+        args: &[Value],
+    ) -> Result<Value, Error>
+        ensures called { Comes result (unknown_method (H.meaning host.now)
+            name.now receiver.now args.now self.old) self.new }
+        ensures rest { self.new ≡ record self.old { temps = self.new.temps } }
+    {
+        let answer = self.method_answer(alloc, host, receiver, name, args)?;
+        self.take_answer(answer)
+    }
+
+    /// What the method object answers.
+    #[tactic(auto, using(crate::proofs::Answered::named))]
+    fn method_answer<H: Host>(
+        &self,
+        alloc: Global,
+        host: &H,
+        receiver: &Value,
+        name: &str,
+        args: &[Value],
+    ) -> Result<CallableAnswer, Error>
+        ensures { Answers result (object_called (H.meaning host.now)
+            (method_object (H.meaning host.now).unknown_method receiver.now name.now)
+            UnknownMethod args.now self.now) self.now }
+    {
+        let view = self.view(host);
+        match host.call_unknown_method(alloc, receiver, name, args, &view) {
+            Some(answer) => Ok(answer),
             None => Err(Error::from(ErrorKind::UnknownMethod)),
         }
     }
 
     /// What a loop's method of a name gives for these arguments.
-    fn call_loop_method(
+    fn call_loop_method<H: Host>(
         &mut self,
         alloc: Global,
+        host: &H,
+        receiver: &Value,
         state: u64,
         number: usize,
         name: &str,
         args: &[Value],
     ) -> Result<Value, Error>
-        ensures called { Comes result
-            (loop_method name.now state number args.now self.old) self.new }
-        ensures rest { self.new ≡ record self.old { loops = self.new.loops } }
+        requires { receiver.now ≡ loop state number }
+        ensures called { Comes result (loop_method (H.meaning host.now)
+            name.now state number args.now self.old) self.new }
+        ensures rest { self.new ≡ record self.old
+            { temps = self.new.temps; loops = self.new.loops } }
     {
         let changed = name == "changed";
         if !changed && name != "cycle" {
-            return Err(Error::from(ErrorKind::UnknownMethod));
+            return self.call_unknown_method(alloc, host, receiver, name, args);
         }
         if self.id() != state {
             return Err(Error::from(ErrorKind::InvalidOperation));

@@ -3,6 +3,7 @@
 
 mod applied;
 mod calls;
+mod formatting;
 mod fuel;
 mod records;
 mod saved;

@@ -1,8 +1,13 @@
 -- What callables answer.
-use Rattle.std.specs.Prelude.{◌≡◌, ◌+◌, ℕ, Bool, true, false, List, [], ◌∷◌, ◌++◌, length, map as each, Option, None, Some}
+use Rattle.std.specs.Prelude.{◌≡◌, ◌+◌, ℕ, Bool, true, false, List, [], ◌∷◌, ◌++◌, length, map as each, Option, None, Some, option_map}
+use Rattle.std.specs.Prelude.{Result, Ok, Err, String, string_bytes}
+use Rattle.std.specs.declared.alloc.Global.{Global}
 use Rattle.tm_meaning.specs.Memory.{is_want_of_memory}
+use Rattle.tm_values.specs.Answer.{Answer}
 use Rattle.tm_values.specs.Val.{Val}
-use Rattle.tm_meaning.specs.World.{View, Function, Object, callers, languages, Stated}
+use Rattle.tm_values.specs.declared.error.ErrorKind.{ErrorKind}
+use Rattle.tm_values.specs.declared.escape.AutoEscape.{AutoEscape}
+use Rattle.tm_meaning.specs.World.{View, Function, Object, Fallback, Format, callers, languages, Stated}
 use Rattle.tm_syntax.specs.Named.{Named, put, without}
 use Rattle.tm_meaning.specs.declared.reply.Reply.{Reply}
 use Rattle.tm_meaning.specs.declared.reply.Reply.TheVariants.{Value as gives, Fault as faults}
@@ -18,6 +23,11 @@ is_for_memory (faults chain) = is_want_of_memory chain
 -- The answer is the stated one, unless it is want of memory.
 abbrev pub IsStated : Stated → Stated → Type 0
 IsStated answer stated = is_for_memory answer.reply ≡ false → answer ≡ stated
+
+-- A formatter's answer is the stated one, unless it is want of memory.
+abbrev pub IsFormatted : Result (String Global) (List ErrorKind) → Answer (List ℕ) → Type 0
+IsFormatted (Ok text) stated = stated ≡ Ok (string_bytes text)
+IsFormatted (Err chain) stated = is_want_of_memory chain ≡ false → stated ≡ Err chain
 
 -- what was called is this function: an object of the caller answered as it states
 abbrev pub IsCalled : Called → Function → List Val → View → Type 0
@@ -35,21 +45,28 @@ abbrev pub keeping : List ℕ → Val → Stated → Stated
 keeping x v stated = record stated { temps = stated.temps ++ (x, v) ∷ [] }
 
 -- The functions by number: those of the language first, where they are there, and then the objects of the caller. The filters and the
--- tests by name.
-pub record Table (C : Type 0) : Type 0 where
+-- tests by name; the method object and the formatter, where there is one; and what chooses escapes.
+pub record Table (C M F R : Type 0) : Type 0 where
   pub language : Bool
   pub objects : List C
   pub filters : Named C
   pub tests : Named C
+  pub fallback : Option M
+  pub formatter : Option F
+  pub escaping : R
 
-abbrev pub no_functions : {C : Type 0} → Table C
-no_functions = record { language = false; objects = []; filters = []; tests = [] }
+abbrev pub no_objects : {C M F R : Type 0} → Bool → R → Table C M F R
+no_objects language escaping =
+    record { language = language; objects = []; filters = []; tests = []; fallback = None; formatter = None; escaping = escaping }
 
-abbrev pub language_functions : {C : Type 0} → Table C
-language_functions = record { language = true; objects = []; filters = []; tests = [] }
+abbrev pub no_functions : {C M F R : Type 0} → R → Table C M F R
+no_functions escaping = no_objects false escaping
+
+abbrev pub language_functions : {C M F R : Type 0} → R → Table C M F R
+language_functions escaping = no_objects true escaping
 
 -- an object more, behind all others
-abbrev pub with_object : {C : Type 0} → C → Table C → Table C
+abbrev pub with_object : {C M F R : Type 0} → C → Table C M F R → Table C M F R
 with_object object t = record t { objects = t.objects ++ object ∷ [] }
 
 abbrev pub language_count : Bool → ℕ
@@ -57,20 +74,31 @@ language_count false = 0
 language_count true = length language
 
 -- an object as the filter or the test of a name, in place of what was; and none of that name
-abbrev pub with_filter : {C : Type 0} → List ℕ → C → Table C → Table C
+abbrev pub with_filter : {C M F R : Type 0} → List ℕ → C → Table C M F R → Table C M F R
 with_filter x object t = record t { filters = put x object t.filters }
 
-abbrev pub without_filter : {C : Type 0} → List ℕ → Table C → Table C
+abbrev pub without_filter : {C M F R : Type 0} → List ℕ → Table C M F R → Table C M F R
 without_filter x t = record t { filters = without x t.filters }
 
-abbrev pub with_test : {C : Type 0} → List ℕ → C → Table C → Table C
+abbrev pub with_test : {C M F R : Type 0} → List ℕ → C → Table C M F R → Table C M F R
 with_test x object t = record t { tests = put x object t.tests }
 
-abbrev pub without_test : {C : Type 0} → List ℕ → Table C → Table C
+abbrev pub without_test : {C M F R : Type 0} → List ℕ → Table C M F R → Table C M F R
 without_test x t = record t { tests = without x t.tests }
 
+-- this method object, or this formatter, in place of what was
+abbrev pub with_fallback : {C M F R : Type 0} → M → Table C M F R → Table C M F R
+with_fallback fallback t = record t { fallback = Some fallback }
+
+abbrev pub with_formatter : {C M F R : Type 0} → F → Table C M F R → Table C M F R
+with_formatter formatter t = record t { formatter = Some formatter }
+
+-- what chooses escapes from here on
+abbrev pub with_escaping : {C M F R : Type 0} → R → Table C M F R → Table C M F R
+with_escaping escaping t = record t { escaping = escaping }
+
 -- the number of an object that is added now
-abbrev pub next_number : {C : Type 0} → Table C → ℕ
+abbrev pub next_number : {C M F R : Type 0} → Table C M F R → ℕ
 next_number t = language_count t.language + length t.objects
 
 -- what callables are to the machine, by what they answer
@@ -81,7 +109,7 @@ abbrev pub behind_language : Bool → List Function → List Function
 behind_language false fs = fs
 behind_language true fs = each (λ f. languages f.1) language ++ fs
 
-abbrev pub functions_of : {C : Type 0} → (C → Object) → Table C → List Function
+abbrev pub functions_of : {C M F R : Type 0} → (C → Object) → Table C M F R → List Function
 functions_of answers t = behind_language t.language (callables answers t.objects)
 
 -- what callables by name are
@@ -93,19 +121,38 @@ pub record StatedObjects : Type 0 where
   pub functions : List Function
   pub filters : Named Object
   pub tests : Named Object
+  pub unknown_method : Option Fallback
+  pub formatter : Option Format
+  pub escapes : List ℕ → AutoEscape
 
-abbrev pub stated_of : {C : Type 0} → (C → Object) → Table C → StatedObjects
-stated_of answers t = record {
+abbrev pub stated_of :
+    {C M F R : Type 0} → (C → Object) → (M → Fallback) → (F → Format) → (R → List ℕ → AutoEscape) → Table C M F R → StatedObjects
+stated_of answers falls formats rules t = record {
   functions = functions_of answers t;
   filters = named_objects answers t.filters;
   tests = named_objects answers t.tests;
+  unknown_method = option_map falls t.fallback;
+  formatter = option_map formats t.formatter;
+  escapes = rules t.escaping;
 }
 
--- the functions of the language, and no object of the caller
-abbrev pub language_alone : StatedObjects
-language_alone = record { functions = behind_language true []; filters = []; tests = [] }
+-- the functions of the language, these escapes, and no object of the caller
+abbrev pub language_alone : (List ℕ → AutoEscape) → StatedObjects
+language_alone escapes = record {
+  functions = behind_language true [];
+  filters = [];
+  tests = [];
+  unknown_method = None;
+  formatter = None;
+  escapes = escapes;
+}
 
--- An object of a name answered as it states; none did where there is none of that name.
+-- An object answered as it states; none did where there is none.
 abbrev pub IsNamedAnswer : Option Stated → Option Object → List Val → View → Type 0
 IsNamedAnswer None found args view = found ≡ None
 IsNamedAnswer (Some answer) found args view = (f : Object) × (found ≡ Some f) × IsStated answer (f args view)
+
+-- The formatter answered as it states; none did where there is none.
+abbrev pub IsFormatterAnswer : Option (Result (String Global) (List ErrorKind)) → Option Format → Val → View → Type 0
+IsFormatterAnswer None found v view = found ≡ None
+IsFormatterAnswer (Some answer) found v view = (f : Format) × (found ≡ Some f) × IsFormatted answer (f v view)

@@ -1,18 +1,18 @@
 //! What the machine asks of the environment and the objects of the caller.
-ghost use Rattle.std.specs.Prelude.{◌≡◌, List, Some, None, MatchOption, IsSomeAnd, slice_get};
+ghost use Rattle.std.specs.Prelude.{◌≡◌, List, Some, None, MatchOption, IsSomeAnd, is_some, slice_get};
 ghost use Rattle.tm_syntax.specs.declared.instruction.Instruction.{Instruction};
 ghost use Rattle.tm_meaning.specs.World.{HostValue as Meaning, template_at, card_at};
 ghost use Rattle.tm_meaning.specs.declared.stream.StreamId.{StreamId as Stream};
-ghost use Rattle.tm_meaning.specs.Calls.{is_required};
+ghost use Rattle.tm_meaning.specs.Calls.{is_required, method_object};
 ghost use Rattle.tm_syntax.specs.Named.{find};
-ghost use Rattle.tm_tables.specs.Stated.{IsCalled, IsNamedAnswer};
+ghost use Rattle.tm_tables.specs.Stated.{IsCalled, IsFormatterAnswer, IsNamedAnswer};
 
 use crate::callable::{CallableAnswer, Called};
 use crate::view::View;
 use std::alloc::Global;
 use tm_meaning::{StreamId, TemplateId};
 use tm_syntax::{Code, NameMap};
-use tm_values::{UndefinedBehavior, Value};
+use tm_values::{Error, UndefinedBehavior, Value};
 
 /// What a render runs under: the environment, the rendered template and all objects of the caller, as one.
 /// Its meaning is the host record of the definitions.
@@ -78,5 +78,23 @@ pub trait Host {
         ensures { IsNamedAnswer result (find name.now (meaning self.now).tests)
             args.now view.now };
 
-    ghost unformatted: { (host : Self) → (meaning host).formatter ≡ None };
+    /// What the method object answers of a value's method of a name; none where there is no such object.
+    fn call_unknown_method(
+        &self,
+        alloc: Global,
+        value: &Value,
+        name: &str,
+        args: &[Value],
+        view: &View<'_>,
+    ) -> Option<CallableAnswer>
+        ensures { IsNamedAnswer result
+            (method_object (meaning self.now).unknown_method value.now name.now) args.now view.now };
+
+    /// Whether there is a formatter.
+    fn has_formatter(&self) -> bool
+        ensures { result ≡ is_some (meaning self.now).formatter };
+
+    /// What the formatter answers for a value; none where there is no formatter.
+    fn format(&self, alloc: Global, value: &Value, view: &View<'_>) -> Option<Result<String, Error>>
+        ensures { IsFormatterAnswer result (meaning self.now).formatter value.now view.now };
 }

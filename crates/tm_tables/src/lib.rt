@@ -3,6 +3,9 @@
 
 mod callable;
 mod context;
+mod escape_rule;
+mod fallback;
+mod formatter;
 mod fuel;
 mod host;
 mod language;
@@ -14,6 +17,9 @@ mod view;
 
 pub use callable::{Callable, CallableAnswer, Called};
 pub use context::{Context, Found, Frame};
+pub use escape_rule::EscapeRule;
+pub use fallback::MethodFallback;
+pub use formatter::Formatter;
 pub use fuel::{Exhausted, FuelTracker};
 pub use host::Host;
 pub use language::language_globals;

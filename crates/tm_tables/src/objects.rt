@@ -1,19 +1,24 @@
-//! The functions, filters and tests that templates call.
+//! The functions, filters and tests that templates call, and what stands in for methods and for the formatter.
 ghost use Rattle.std.specs.Prelude.{◌≡◌, ◌<◌, ◌≤◌, ◌^◌, [], ◌∷◌, List, None, OnOk, OnErr, IfErr, IfNone, IfSome};
-ghost use Rattle.std.specs.Prelude.{IsSomeAnd, MatchOption, Some, length, map, slice_get};
+ghost use Rattle.std.specs.Prelude.{IsSomeAnd, MatchOption, Some, is_some, length, map, slice_get};
 ghost use Rattle.tm_syntax.specs.Named.{find};
 ghost use Rattle.tm_values.specs.Answer.{IsLent};
-ghost use Rattle.tm_tables.specs.Stated.{IsCalled, IsNamedAnswer, no_functions, language_functions, with_object};
+ghost use Rattle.tm_tables.specs.Stated.{IsCalled, IsNamedAnswer, no_functions, no_objects, language_functions, with_object};
 ghost use Rattle.tm_tables.specs.Stated.{next_number, callables, named_objects, StatedObjects};
-ghost use Rattle.tm_tables.specs.Stated.{with_filter, without_filter, with_test, without_test};
+ghost use Rattle.tm_tables.specs.Stated.{with_filter, without_filter, with_test, without_test, with_fallback};
+ghost use Rattle.tm_tables.specs.Stated.{IsFormatterAnswer, with_escaping, with_formatter};
+ghost use Rattle.tm_meaning.specs.Calls.{method_object};
 
 use crate::callable::{Callable, CallableAnswer, Called};
+use crate::escape_rule::EscapeRule;
+use crate::fallback::MethodFallback;
+use crate::formatter::Formatter;
 use crate::language::{LANGUAGE, language_function};
 use crate::view::View;
 use std::alloc::Global;
 use std::marker::Model;
 use tm_syntax::{Name, NameMap};
-use tm_values::{Error, ErrorKind, Value};
+use tm_values::{AutoEscape, Error, ErrorKind, Value};
 
 /// All objects of an environment, as one.
 pub trait Parties: Drop {
@@ -51,56 +56,92 @@ pub trait Parties: Drop {
     ) -> Option<CallableAnswer>
         ensures { IsNamedAnswer result (find name.now (stated self.now).tests)
             args.now view.now };
+
+    /// What the method object answers of a value's method of a name; none where there is no such object.
+    fn call_unknown_method(
+        &self,
+        alloc: Global,
+        value: &Value,
+        name: &str,
+        args: &[Value],
+        view: &View<'_>,
+    ) -> Option<CallableAnswer>
+        ensures { IsNamedAnswer result
+            (method_object (stated self.now).unknown_method value.now name.now) args.now view.now };
+
+    /// Whether there is a formatter.
+    fn has_formatter(&self) -> bool
+        ensures { result ≡ is_some (stated self.now).formatter };
+
+    /// What the formatter answers for a value; none where there is no formatter.
+    fn format(&self, alloc: Global, value: &Value, view: &View<'_>) -> Option<Result<String, Error>>
+        ensures { IsFormatterAnswer result (stated self.now).formatter value.now view.now };
+
+    /// The escape of a template of this name.
+    fn escape(&self, name: &str) -> AutoEscape
+        ensures { result ≡ (stated self.now).escapes name.now };
 }
 
 /// Functions by number, from 0: those of the language, where they are there, and then objects of the caller;
-/// and the caller's filters and tests by name.
+/// the caller's filters and tests by name; its method object and its formatter, where it gave one; and what
+/// chooses escapes.
 #[derive(Drop)]
-pub struct Objects<C: Drop> {
+pub struct Objects<C: Drop, M: Drop, F: Drop, R: Drop> {
     language: bool,
     functions: Vec<C>,
     filters: NameMap<C>,
     tests: NameMap<C>,
+    fallback: Option<M>,
+    formatter: Option<F>,
+    escaping: R,
 }
 
-impl<C: Drop> Model for Objects<C> {
+impl<C: Drop, M: Drop, F: Drop, R: Drop> Model for Objects<C, M, F, R> {
     ghost use Rattle.std.specs.Coded.{codes};
     ghost use Rattle.tm_tables.specs.Stated.{Table};
 
-    ghost Value = { Table C };
+    ghost Value = { Table C M F R };
 
-    ghost coded = { Prim.hlevel (codes, C.code) };
+    ghost coded = { Prim.hlevel (codes, C.code, M.code, F.code, R.code) };
 
     ghost view = { λ o. record {
       language = o.language;
       objects = o.functions.items;
       filters = o.filters;
       tests = o.tests;
+      fallback = o.fallback;
+      formatter = o.formatter;
+      escaping = o.escaping;
     } };
 }
 
-impl<C: Drop> Objects<C> {
-    /// No functions.
-    pub fn new(alloc: Global) -> Objects<C>
-        ensures { result ≡ no_functions }
+impl<C: Drop, M: Drop, F: Drop, R: Drop> Objects<C, M, F, R> {
+    /// No objects but what chooses escapes.
+    pub fn new(alloc: Global, escaping: R) -> Objects<C, M, F, R>
+        ensures { result ≡ no_functions escaping }
     {
-        Objects {
-            language: false,
-            functions: Vec::new(alloc),
-            filters: NameMap::new(alloc),
-            tests: NameMap::new(alloc),
-        }
+        Objects::with(alloc, false, escaping)
     }
 
-    /// The functions of the language, by the numbers of their table.
-    pub fn of_language(alloc: Global) -> Objects<C>
-        ensures { result ≡ language_functions }
+    /// The functions of the language, by the numbers of their table, and what chooses escapes.
+    pub fn of_language(alloc: Global, escaping: R) -> Objects<C, M, F, R>
+        ensures { result ≡ language_functions escaping }
+    {
+        Objects::with(alloc, true, escaping)
+    }
+
+    /// No objects of the caller, and the functions of the language where they are asked for.
+    fn with(alloc: Global, language: bool, escaping: R) -> Objects<C, M, F, R>
+        ensures { result ≡ no_objects language escaping }
     {
         Objects {
-            language: true,
+            language,
             functions: Vec::new(alloc),
             filters: NameMap::new(alloc),
             tests: NameMap::new(alloc),
+            fallback: None,
+            formatter: None,
+            escaping,
         }
     }
 
@@ -167,6 +208,27 @@ impl<C: Drop> Objects<C> {
         let _removed = self.tests.remove(name);
     }
 
+    /// Makes an object the one that is asked for unknown methods, in place of what was.
+    pub fn set_fallback(&mut self, fallback: M)
+        ensures { self.new ≡ with_fallback fallback self.old }
+    {
+        self.fallback = Some(fallback);
+    }
+
+    /// Makes an object the formatter, in place of what was.
+    pub fn set_formatter(&mut self, formatter: F)
+        ensures { self.new ≡ with_formatter formatter self.old }
+    {
+        self.formatter = Some(formatter);
+    }
+
+    /// Lets this choose escapes, in place of what did.
+    pub fn set_escaping(&mut self, escaping: R)
+        ensures { self.new ≡ with_escaping escaping self.old }
+    {
+        self.escaping = escaping;
+    }
+
     /// The object of a place among the caller's, from 0, where there is one.
     fn object(&self, number: usize) -> Option<&C>
         ensures { IsLent result (slice_get self.now.objects number) }
@@ -175,7 +237,7 @@ impl<C: Drop> Objects<C> {
     }
 }
 
-impl<C: Callable> Objects<C> {
+impl<C: Callable, M: Drop, F: Drop, R: Drop> Objects<C, M, F, R> {
     /// What the object of a place among the caller's answers; none where there is none.
     fn answer(&self, alloc: Global, place: usize, args: &[Value], view: &View<'_>) -> Option<Called>
         ensures { MatchOption (slice_get (callables C.answers self.now.objects) place)
@@ -207,10 +269,10 @@ fn named_answer<C: Callable>(
     }
 }
 
-impl<C: Callable> Parties for Objects<C> {
+impl<C: Callable, M: MethodFallback, F: Formatter, R: EscapeRule> Parties for Objects<C, M, F, R> {
     ghost use Rattle.tm_tables.specs.Stated.{stated_of};
 
-    ghost stated = { stated_of C.answers };
+    ghost stated = { stated_of C.answers M.answers F.formats R.escapes };
 
     #[tactic(auto, using(crate::proofs::Numbers::behind, crate::proofs::Numbers::before))]
     fn call_function(
@@ -247,5 +309,40 @@ impl<C: Callable> Parties for Objects<C> {
         view: &View<'_>,
     ) -> Option<CallableAnswer> {
         named_answer(&self.tests, alloc, name, args, view)
+    }
+
+    fn call_unknown_method(
+        &self,
+        alloc: Global,
+        value: &Value,
+        name: &str,
+        args: &[Value],
+        view: &View<'_>,
+    ) -> Option<CallableAnswer> {
+        match &self.fallback {
+            Some(fallback) => Some(fallback.call(alloc, value, name, args, view)),
+            None => None,
+        }
+    }
+
+    #[inline(always)]
+    fn has_formatter(&self) -> bool {
+        self.formatter.is_some()
+    }
+
+    fn format(
+        &self,
+        alloc: Global,
+        value: &Value,
+        view: &View<'_>,
+    ) -> Option<Result<String, Error>> {
+        match &self.formatter {
+            Some(formatter) => Some(formatter.format(alloc, value, view)),
+            None => None,
+        }
+    }
+
+    fn escape(&self, name: &str) -> AutoEscape {
+        self.escaping.escape(name)
     }
 }

@@ -42,6 +42,7 @@ abbrev pub escape_by_name : List ℕ → AutoEscape
 escape_by_name name = if is_markup (stem_of name) then escapes.Html else if is_data (stem_of name) then escapes.Json else escapes.None
 
 -- the escape of a template of this name
-abbrev pub escape_of : EscapeSetting → List ℕ → AutoEscape
-escape_of setting.ByName name = escape_by_name name
-escape_of setting.Never name = escapes.None
+abbrev pub escape_of : {R : Type 0} → (R → List ℕ → AutoEscape) → EscapeSetting R → List ℕ → AutoEscape
+escape_of rules setting.ByName name = escape_by_name name
+escape_of rules setting.Never name = escapes.None
+escape_of rules (setting.Own rule) name = rules rule name

@@ -11,8 +11,6 @@ use Rattle.tm_delimiters.specs.Syntax.{Syntax}
 use Rattle.tm_values.specs.Answer.{Refused}
 use Rattle.tm_compiler.specs.Spells.{Spells, SpellsNone}
 use Rattle.tm_meaning.specs.Tree.{TemplateTree}
-use Rattle.tm_templates.specs.Defaults.{escape_of}
-use Rattle.tm_templates.specs.declared.defaults.EscapeSetting.{EscapeSetting}
 
 -- A template: its name, its source, how it is escaped, and the tree that the source spells.
 pub record Compiled : Type 0 where
@@ -40,11 +38,11 @@ pub record AreStreams (tree : Tree) (root : List Instruction) (blocks : Named (L
   pub blocks_are : blocks ≡ block_codes tree
   pub nothing_is : nothing ≡ []
 
--- the template that a source is under a name: its tree is the one that the source spells, its escape the one that is set for the name
-pub record IsTemplate (syntax : Syntax) (setting : EscapeSetting) (name source : List ℕ) (t : Compiled) : Type 0 where
+-- the template that a source is under a name and with an escape: its tree is the one that the source spells
+pub record IsTemplate (syntax : Syntax) (escape : AutoEscape) (name source : List ℕ) (t : Compiled) : Type 0 where
   pub name_is : t.name ≡ name
   pub source_is : t.source ≡ source
-  pub escape_is : t.escape ≡ escape_of setting name
+  pub escape_is : t.escape ≡ escape
   pub spelled : Spells syntax source t.tree
 
 -- why a source was refused: it spells no tree, or there was no memory

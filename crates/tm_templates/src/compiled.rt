@@ -8,6 +8,7 @@ ghost use Rattle.tm_values.specs.Answer.{IsLent};
 ghost use Rattle.tm_values.specs.declared.error.ErrorKind.TheVariants.{OutOfMemory};
 ghost use Rattle.tm_meaning.specs.Tree.{part_of};
 ghost use Rattle.tm_templates.specs.Templates.{IsTemplate, IsRefused, body, block_codes, tree_of};
+ghost use Rattle.tm_templates.specs.Defaults.{escape_of};
 ghost use Rattle.tm_templates.specs.Sources.{source_bytes};
 
 use crate::defaults::EscapeSetting;
@@ -15,20 +16,21 @@ use std::alloc::Global;
 use std::marker::Model;
 use std::rc::RcStr;
 use tm_compiler::{Code, Name, NameMap, Streams, SyntaxConfig, Tree, generate, parse};
+use tm_tables::EscapeRule;
 use tm_values::{AutoEscape, Error};
 
 /// How templates are compiled.
 #[derive(Drop)]
-pub struct TemplateConfig {
+pub struct TemplateConfig<R: Drop> {
     /// The delimiters.
     pub syntax_config: SyntaxConfig,
     /// How the escape of a template is chosen.
-    pub default_auto_escape: EscapeSetting,
+    pub default_auto_escape: EscapeSetting<R>,
 }
 
-impl Default for TemplateConfig {
+impl<R: Drop> Default for TemplateConfig<R> {
     /// The default delimiters, and escapes by name.
-    fn default() -> TemplateConfig
+    fn default() -> TemplateConfig<R>
         ensures syntax { result.syntax_config ≡ default_syntax }
         ensures escape { result.default_auto_escape ≡ EscapeSetting.ByName }
     {
@@ -121,23 +123,40 @@ impl<'source> Model for CompiledTemplate<'source> {
 }
 
 impl<'source> CompiledTemplate<'source> {
-    /// Compiles a source under a name. SyntaxError where the source spells no template, OutOfMemory where there is no memory.
-    pub fn new(
+    /// Compiles a source under a name, with the escape that is chosen for it. SyntaxError where the source spells no
+    /// template, OutOfMemory where there is no memory.
+    pub fn new<R: EscapeRule>(
         alloc: Global,
         name: &str,
         source: Source<'source>,
-        config: &TemplateConfig,
+        config: &TemplateConfig<R>,
     ) -> Result<CompiledTemplate<'source>, Error>
-        ensures compiled { IfOk result
-            (IsTemplate config.now.syntax_config config.now.default_auto_escape
+        ensures compiled { IfOk result (IsTemplate config.now.syntax_config
+            (escape_of R.escapes config.now.default_auto_escape name.now)
             name.now (source_bytes source.entry)) }
         ensures refused { IfErr result
             (IsRefused config.now.syntax_config (source_bytes source.entry)) }
     {
-        let text = source.shared(alloc)?;
-        let tree = parse(alloc, &text, &config.syntax_config)?;
-        let streams = generate(alloc, &tree)?;
         let escape = config.default_auto_escape.escape(name);
+        CompiledTemplate::with_escape(alloc, name, source, &config.syntax_config, escape)
+    }
+
+    /// Compiles a source under a name and with an escape. SyntaxError where the source spells no template, OutOfMemory
+    /// where there is no memory.
+    pub fn with_escape(
+        alloc: Global,
+        name: &str,
+        source: Source<'source>,
+        syntax: &SyntaxConfig,
+        escape: AutoEscape,
+    ) -> Result<CompiledTemplate<'source>, Error>
+        ensures compiled { IfOk result
+            (IsTemplate syntax.now escape name.now (source_bytes source.entry)) }
+        ensures refused { IfErr result (IsRefused syntax.now (source_bytes source.entry)) }
+    {
+        let text = source.shared(alloc)?;
+        let tree = parse(alloc, &text, syntax)?;
+        let streams = generate(alloc, &tree)?;
         let name = Name::new(alloc, name)?;
         Ok(CompiledTemplate {
             name,

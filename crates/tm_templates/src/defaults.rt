@@ -3,25 +3,30 @@ ghost use Rattle.std.specs.Prelude.{◌≡◌};
 ghost use Rattle.tm_delimiters.specs.Views.{place_of};
 ghost use Rattle.tm_templates.specs.Defaults as spec;
 
+use tm_tables::EscapeRule;
 use tm_values::AutoEscape;
 
 /// How the escape of a template is chosen, where the template itself doesn't say it.
-#[derive(Clone, Copy, PartialEq, Eq)]
-pub enum EscapeSetting {
+#[derive(Drop)]
+pub enum EscapeSetting<R: Drop> {
     /// By its name, as `default_auto_escape_callback` does.
     ByName,
     /// Nothing is escaped.
     Never,
+    /// By a rule of the caller's.
+    Own(R),
 }
 
-impl EscapeSetting {
-    /// The escape of a template of this name.
-    pub fn escape(self, name: &str) -> AutoEscape
-        ensures { result ≡ spec.escape_of self name.now }
-    {
+impl<R: EscapeRule> EscapeRule for EscapeSetting<R> {
+    ghost use Rattle.tm_templates.specs.Defaults.{escape_of};
+
+    ghost escapes = { escape_of R.escapes };
+
+    fn escape(&self, name: &str) -> AutoEscape {
         match self {
             EscapeSetting::ByName => default_auto_escape_callback(name),
             EscapeSetting::Never => AutoEscape::None,
+            EscapeSetting::Own(rule) => rule.escape(name),
         }
     }
 }

@@ -1,12 +1,13 @@
 -- What is emitted at once.
-use Rattle.std.proofs.Common.{◌≡◌, ℕ, List, [], ◌∷◌, ◌+◌, Option, None, Result, Ok, Err, Bool, true, drop, refl, sym, ◌∙◌, ap, subst, arith}
+use Rattle.std.proofs.Common.{◌≡◌, ℕ, List, [], ◌∷◌, ◌+◌, Option, None, Some, is_some, Result}
+use Rattle.std.proofs.Common.{Ok, Err, Bool, true, false, drop, refl, sym, ◌∙◌, ap, subst, arith}
 use Rattle.std.specs.Prelude.{MatchResult}
 use Rattle.std.specs.Io.KnownBytes.{Appends}
 use Rattle.tm_values.specs.Val.{Val}
 use Rattle.tm_values.specs.Defined.{refusal_of}
 use Rattle.tm_values.specs.declared.undefined.UndefinedUse.TheVariants.{Emission}
 use Rattle.tm_definitions.specs.Emitted.{emission_verdict, emitted_text}
-use Rattle.tm_meaning.specs.World.{World, HostValue, Good, emitted, records_of, choose}
+use Rattle.tm_meaning.specs.World.{World, HostValue, Format, Good, emitted, records_of, choose}
 use Rattle.tm_meaning.specs.Instructions.{emit_of}
 use Rattle.tm_meaning.specs.Machine.{Capture, Config, Next, More, after, audible, on, on_top, put_in, put_out, with_world, writes}
 use Rattle.tm_meaning.specs.declared.base.Base.{Base}
@@ -17,6 +18,11 @@ use Rattle.tm_state.specs.Answers.{KeepsIdAndFuel}
 use Rattle.tm_vm.specs.Answers.{SameScopes, output}
 use Rattle.tm_vm.specs.AtOnce.{Attempted, paid, written_of}
 use Rattle.tm_vm.proofs.Performed.{chosen}
+
+-- where there is no formatter
+pub no_formatter : (found : Option Format) → is_some found ≡ false → found ≡ None
+no_formatter None e = refl
+no_formatter (Some f) e = absurd (cc e)
 
 -- no formatter is asked, and nothing refuses
 emitted_known : (host : HostValue) (v : Val) (w : World) → host.formatter ≡ None → refusal_of host.undefined Emission v ≡ None →

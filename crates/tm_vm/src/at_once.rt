@@ -214,7 +214,8 @@ impl Machine<'_> {
         }
     }
 
-    /// Pops a number or a text and writes what it is emitted as, where no capture is open and it is heard.
+    /// Pops a number or a text and writes what it is emitted as, where there is no formatter, no capture is open and
+    /// it is heard.
     #[inline(always)]
     fn emit_at_once<H: Host, W: Sink>(&mut self, host: &H, base: &Base, writer: &mut W) -> Attempt
         requires in_place { CanGoOn self.old.run }
@@ -223,7 +224,9 @@ impl Machine<'_> {
             (W.written writer.old) (W.written writer.new)
             (W.failures writer.old) (W.failures writer.new) }
     {
-        let _host = host;
+        if host.has_formatter() {
+            return Attempt::Left;
+        }
         if !self.captures.is_empty() {
             return Attempt::Left;
         }

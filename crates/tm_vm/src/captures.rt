@@ -9,9 +9,9 @@ use crate::flow::Flow;
 use crate::machine::Machine;
 use std::alloc::Global;
 use tm_meaning::Base;
-use tm_parts::{Halt, escape_for};
+use tm_parts::{Halt, captured_value, escape_for};
 use tm_syntax::CaptureMode;
-use tm_values::{AutoEscape, Error, Value};
+use tm_values::{Error, Value};
 
 impl Machine<'_> {
     /// A captured text as a value, safe where the state escapes. Fails by OutOfMemory alone.
@@ -19,10 +19,7 @@ impl Machine<'_> {
         ensures ok { IfOk result (λ value. value ≡ captured_text text.now self.now.world) }
         ensures kind { IfErr result (λ e. is_want_of_memory e ≡ true) }
     {
-        match self.state.escape() {
-            AutoEscape::None => Value::text(alloc, text),
-            _ => Value::safe_text(alloc, text),
-        }
+        captured_value(alloc, text, self.state.escape())
     }
 
     /// Begins a capture, which takes what is written from here on.

@@ -82,11 +82,36 @@ impl Machine<'_> {
             (W.written writer.old) (W.written writer.new)
             (W.failures writer.old) (W.failures writer.new) result }
     {
+        if host.has_formatter() {
+            return self.emit_formatted(alloc, host, base, writer);
+        }
         let Some(value) = self.run.pop() else {
             return Err(Halt::Stuck);
         };
         self.state.check_value(alloc, host, &value)?;
         self.run.advance();
         self.write_value(base, &value, writer)
+    }
+
+    /// Pops a value and writes the text of its own that it is emitted as; its error where it can't be.
+    #[inline(never)]
+    fn emit_formatted<H: Host, W: Sink>(
+        &mut self,
+        alloc: Global,
+        host: &H,
+        base: &Base,
+        writer: &mut W,
+    ) -> Result<Flow, Halt>
+        requires { CanGoOn self.old.run }
+        ensures { Writes (emit_of (H.meaning host.now) base.now self.old) self.old self.new
+            (W.written writer.old) (W.written writer.new)
+            (W.failures writer.old) (W.failures writer.new) result }
+    {
+        let Some(value) = self.run.pop() else {
+            return Err(Halt::Stuck);
+        };
+        let formatted = self.state.format(alloc, host, &value)?;
+        self.run.advance();
+        self.write_text(base, formatted.as_str(), writer)
     }
 }

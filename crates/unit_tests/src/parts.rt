@@ -1,11 +1,13 @@
 //! What stands by itself of a render: fuel, and the parts around a writer.
+use std::alloc::Global;
 use std::io::{self, Write};
 use std::test::Fail;
 use tm_compiler::Instruction;
-use tm_output::Counted;
+use tm_output::{Counted, NullWriter};
 use tm_parts::{Output, Sink, WriteWrapper};
+use tm_syntax::CaptureMode;
 use tm_tables::FuelTracker;
-use tm_values::{Error, ErrorKind};
+use tm_values::{AutoEscape, Error, ErrorKind, Value};
 
 /// So much fuel, how often a charge is taken from it, whether the last one is refused, and then
 /// what is consumed and what remains.
@@ -91,5 +93,31 @@ fn an_output_over_a_vector(rt: HostRuntime) -> Result<(), Fail> {
     output.write_str("Hello ")?;
     output.write_str("Ada!")?;
     assert!(rt; output.writer().inner().as_slice() == b"Hello Ada!".as_slice());
+    Ok(())
+}
+
+/// Whether a capture gives its text, one that drops it gives undefined, and so does an end where none is open.
+fn captures(alloc: Global, output: &mut Output<Counted<Vec<u8>>>) -> Result<bool, Error> {
+    output.begin_capture(CaptureMode::Capture)?;
+    output.write_str("<b>")?;
+    let is_heard = !output.is_discarding();
+    let text = output.end_capture(AutoEscape::Html)?;
+    output.begin_capture(CaptureMode::Discard)?;
+    output.write_str("lost")?;
+    let is_lost = output.is_discarding();
+    let lost = output.end_capture(AutoEscape::None)?;
+    let none = output.end_capture(AutoEscape::None)?;
+    let is_text = text == Value::safe_text(alloc, "<b>")?;
+    let undefined = Value::undefined();
+    Ok(is_heard && is_text && is_lost && lost == undefined && none == undefined)
+}
+
+#[test]
+fn an_output_captures(rt: HostRuntime) -> Result<(), Fail> {
+    let mut output = Output::new(rt.alloc(), Counted::new(Vec::<u8>::new(rt.alloc())));
+    assert!(rt; captures(rt.alloc(), &mut output)?);
+    assert!(rt; output.writer().inner().is_empty());
+    let mut nowhere = NullWriter;
+    nowhere.write_str("lost")?;
     Ok(())
 }

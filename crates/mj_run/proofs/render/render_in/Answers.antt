@@ -12,8 +12,8 @@ returns g c = λ members given.
     let a = asked_of c.args.arguments.now in
     let put = c.in_ok-add_template_owned.ensures.ok in
     let start = started a c.limit.result _ _ _ c.requires.new c.set_fuel.ensures c.set_recursion_limit.ensures c.limit.ensures in
-    let means = is_meant _ input _ _ put.0 c.in_ok-template.template c.args.context
-    (λ e. none_of _ _ e) start put.1 put.2 c.in_ok-template.ensures given in
+    let means = is_meant _ _ input _ _ put.0 c.in_ok-template.template c.args.context
+    (λ e. none_of _ _ _ _ _ e) (λ e. none_of _ _ _ _ _ e) start put.1 put.2 c.in_ok-template.ensures given in
     c.render_template.ensures input means
 
 -- the source was refused

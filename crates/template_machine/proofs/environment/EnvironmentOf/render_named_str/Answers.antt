@@ -11,7 +11,7 @@ returns-in_err-template g c =
     let r = c.from_residual.result in
     record {
       full = λ h. (
-        passed r (IsUnnumbered c.args.self.now c.args.name.now c.args.source.now) why c.from_residual.ensures.1 (inl refused),
+        passed r (IsUnnumbered g.O.Parties.stated c.args.self.now c.args.name.now c.args.source.now) why c.from_residual.ensures.1 (inl refused),
         refl,
       );
       rendered = λ h. source_refused why (passed r (λ x. x ≡ Err why) why c.from_residual.ensures.1 refl) refused refl;
@@ -21,7 +21,7 @@ pub returns : goal.returns
 returns g c = record {
   full = λ h.
       let left = c.render.ensures.full h in (
-        source_full c.args.self.now c.in_ok-template.template c.args.name.now c.args.source.now c.render.result
+        source_full g.O.Parties.stated c.args.self.now c.in_ok-template.template c.args.name.now c.args.source.now c.render.result
             c.in_ok-template.ensures.compiled left.0,
         left.1,
       );

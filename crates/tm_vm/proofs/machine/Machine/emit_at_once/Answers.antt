@@ -3,7 +3,7 @@ use Rattle.tm_values.specs.declared.escape.AutoEscape.{AutoEscape}
 use Rattle.tm_definitions.specs.Emitted.{emission_verdict, emitted_text}
 use Rattle.tm_meaning.specs.World.{records_of}
 use Rattle.tm_meaning.specs.Machine.{Activation, Config, audible}
-use Rattle.tm_vm.proofs.Emitted.{emitted_at_once}
+use Rattle.tm_vm.proofs.Emitted.{emitted_at_once, no_formatter}
 use Rattle.tm_vm.proofs.machine.Machine.emit_at_once.Goals as goal
 
 pub returns : goal.returns
@@ -21,4 +21,4 @@ returns g c =
     }) c.drop_top.ensures in
     rw (sym c.self.view_is, c.written.ensures) (emitted_at_once _ _ _ _ host c.args.base.now _ _ c.in-Some.value.now c.in-Some.ensures.0
     c.in-Some-emit_at_once.answer (c.if-not-is_empty.ensures.0 refl) heard c.in-Some.ensures.1
-    (g.met.H.Host.unformatted c.args.host.now) (e.0 host.undefined) fine moved taken)
+    (no_formatter host.formatter (sym c.if-has_formatter.ensures)) (e.0 host.undefined) fine moved taken)

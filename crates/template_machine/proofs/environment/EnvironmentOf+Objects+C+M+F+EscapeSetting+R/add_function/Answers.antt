@@ -1,5 +1,5 @@
 use Rattle.std.proofs.Common.{rules}
-use Rattle.template_machine.proofs.environment.EnvironmentOf+Objects+C.add_function.Goals as goal
+use Rattle.template_machine.proofs.environment.EnvironmentOf+Objects+C+M+F+EscapeSetting+R.add_function.Goals as goal
 
 pub returns-in_err-name-clause-ok : goal.returns-in_err-name-clause-ok
 returns-in_err-name-clause-ok g c = search rules fits 100
@@ -35,7 +35,7 @@ pub returns-then-is_err-clause-kind : goal.returns-then-is_err-clause-kind
 returns-then-is_err-clause-kind g c = search rules fits 100
 
 pub returns-clause-ok : goal.returns-clause-ok
-returns-clause-ok g c = search rules fits 100
+returns-clause-ok g c = search rules fits 300
 
 pub returns-clause-kind : goal.returns-clause-kind
 returns-clause-kind g c = search rules fits 100

@@ -1,0 +1,41 @@
+-- What the tests' method objects, formatters and escape rules state.
+use Rattle.std.specs.Prelude.{ℕ, List, [], ◌∷◌, Ok, Err, None, false, codes, pos, if◌then◌else◌}
+use Rattle.std.specs.Ordering.{is_eq}
+use Rattle.tm_values.specs.Order.{val_cmp}
+use Rattle.tm_values.specs.Val.{Val, undefined, none, number, text}
+use Rattle.tm_values.specs.declared.error.ErrorKind.{ErrorKind}
+use Rattle.tm_values.specs.declared.error.ErrorKind.TheVariants.{MissingArgument}
+use Rattle.tm_values.specs.declared.escape.AutoEscape.{AutoEscape}
+use Rattle.tm_values.specs.declared.escape.AutoEscape.TheVariants as escapes
+use Rattle.tm_syntax.specs.Named.{same_name}
+use Rattle.tm_meaning.specs.World.{Fallback, Format, formatted}
+use Rattle.tm_meaning.specs.declared.reply.Reply.TheVariants.{Value as gives, Fault as faults}
+use Rattle.tm_tables.specs.Stated.{just, keeping}
+
+-- the method's name
+abbrev pub named : Fallback
+named v x args view = just (gives (text x false))
+
+-- keeps 1 at k, and answers 2
+abbrev pub keeps : Fallback
+keeps v x args view = keeping (codes "k") (number (pos 1)) (just (gives (number (pos 2))))
+
+-- a fault of this kind
+abbrev pub faulty : ErrorKind → Fallback
+faulty kind v x args view = just (faults (kind ∷ []))
+
+-- F for each value
+abbrev pub marked : Format
+marked v view = Ok (codes "F")
+
+-- a fault for 0
+abbrev pub no_zero : Format
+no_zero v view = if is_eq (val_cmp v (number (pos 0))) then Err (MissingArgument ∷ []) else formatted None v view
+
+-- none as an undefined value
+abbrev pub swapped : Format
+swapped v view = if is_eq (val_cmp v none) then formatted None (undefined false) view else formatted None v view
+
+-- this escape for the template t alone
+abbrev pub escape_of_t : AutoEscape → List ℕ → AutoEscape
+escape_of_t escape name = if same_name name (codes "t") then escape else escapes.None

@@ -1,0 +1,123 @@
+//! The method objects, the formatters and the escape rules of the rows.
+ghost use Rattle.std.specs.Prelude.{[], ◌∷◌};
+ghost use Rattle.render_tests.specs.Asked.{named, keeps, faulty, marked, no_zero, swapped, escape_of_t};
+ghost use Rattle.render_tests.specs.declared.callbacks.Method.TheVariants.{Named, Keeper, Lost};
+ghost use Rattle.render_tests.specs.declared.callbacks.Style.TheVariants.{Marked, NoZero, Swapped};
+
+use std::alloc::Global;
+use template_machine::*;
+
+/// A method object of the rows.
+#[derive(Clone, Copy)]
+pub(crate) enum Method {
+    /// Answers the method's name.
+    Named,
+    /// Keeps 1 at `k`, and answers 2.
+    Keeper,
+    /// Answers a fault.
+    Lost(ErrorKind),
+}
+
+impl MethodFallback for Method {
+    ghost answers = { elim [ Named ↦ named | Keeper ↦ keeps | Lost kind ↦ faulty kind ] };
+
+    fn call(
+        &self,
+        alloc: Global,
+        _value: &Value,
+        name: &str,
+        _args: &[Value],
+        _view: &View<'_>,
+    ) -> CallableAnswer {
+        match self {
+            Method::Named => match Value::text(alloc, name) {
+                Ok(name) => CallableAnswer::value(alloc, name),
+                Err(error) => CallableAnswer::fault(alloc, error),
+            },
+            Method::Keeper => CallableAnswer::value(alloc, Value::number(2)).keep(
+                alloc,
+                "k",
+                Value::number(1),
+            ),
+            Method::Lost(kind) => CallableAnswer::fault(alloc, Error::from(*kind)),
+        }
+    }
+}
+
+/// A formatter of the rows.
+#[derive(Clone, Copy)]
+pub(crate) enum Style {
+    /// Writes F for each value.
+    Marked,
+    /// Answers a fault for 0.
+    NoZero,
+    /// Writes none as an undefined value.
+    Swapped,
+}
+
+impl Formatter for Style {
+    ghost formats = { elim [ Marked ↦ marked | NoZero ↦ no_zero | Swapped ↦ swapped ] };
+
+    fn format(&self, alloc: Global, value: &Value, view: &View<'_>) -> Result<String, Error> {
+        match self {
+            Style::Marked => Ok(String::from_str(alloc, "F")?),
+            Style::NoZero => {
+                if *value == Value::number(0) {
+                    return Err(Error::from(ErrorKind::MissingArgument));
+                }
+                escape_formatter(alloc, value, view)
+            }
+            Style::Swapped => {
+                if *value == Value::none() {
+                    return escape_formatter(alloc, &Value::undefined(), view);
+                }
+                escape_formatter(alloc, value, view)
+            }
+        }
+    }
+}
+
+/// An escape rule of the rows: this escape for the template `t` alone.
+#[derive(Clone, Copy)]
+pub(crate) struct OfT {
+    escape: AutoEscape,
+}
+
+impl EscapeRule for OfT {
+    ghost escapes = { λ rule name. escape_of_t rule.escape name };
+
+    fn escape(&self, name: &str) -> AutoEscape {
+        if name == "t" {
+            self.escape
+        } else {
+            AutoEscape::None
+        }
+    }
+}
+
+/// The escape rule of a word.
+pub(crate) fn rule_of(word: &str) -> OfT {
+    let escape = match word {
+        "html" => AutoEscape::Html,
+        _ => AutoEscape::Custom("own"),
+    };
+    OfT { escape }
+}
+
+/// The method object of a word.
+pub(crate) fn method_of(word: &str) -> Method {
+    match word {
+        "keep" => Method::Keeper,
+        "missing" => Method::Lost(ErrorKind::MissingArgument),
+        _ => Method::Named,
+    }
+}
+
+/// The formatter of a word.
+pub(crate) fn style_of(word: &str) -> Style {
+    match word {
+        "no-zero" => Style::NoZero,
+        "swapped" => Style::Swapped,
+        _ => Style::Marked,
+    }
+}

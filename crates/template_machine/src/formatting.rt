@@ -1,0 +1,18 @@
+//! What values are written as where nothing else is said.
+ghost use Rattle.std.specs.Prelude.{None};
+ghost use Rattle.tm_meaning.specs.World.{formatted};
+ghost use Rattle.tm_tables.specs.Stated.{IsFormatted};
+
+use std::alloc::Global;
+use tm_printing::emission_text;
+use tm_tables::View;
+use tm_values::{Error, Value};
+
+/// What a value is emitted as where no formatter is set, under the escape that is seen. InvalidOperation or
+/// BadSerialization where that refuses it; OutOfMemory.
+#[tactic(auto, using(tm_state::proofs::Formatted::by_escape))]
+pub fn escape_formatter(alloc: Global, value: &Value, view: &View<'_>) -> Result<String, Error>
+    ensures { IsFormatted result (formatted None value.now view.now) }
+{
+    emission_text(alloc, value, view.auto_escape(), view)
+}

@@ -1,5 +1,0 @@
-use Rattle.std.proofs.Common.{rules}
-use Rattle.tm_vm.proofs.machine.Machine.captured.Goals as goal
-
-pub returns-in_default : goal.returns-in_default
-returns-in_default c = search rules fits 100
