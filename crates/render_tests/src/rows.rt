@@ -126,6 +126,35 @@ pub(crate) const FILTER_BLOCKS: &str = r#"Filters of what bodies write.
 - {% set x | %}a{% endset %} =>  => SyntaxError
 - {% set a.b | upper = 1 %} =>  => SyntaxError"#;
 
+/// Spread arguments, and calls of values.
+pub(crate) const PASSING: &str = r#"Spread arguments, and calls of values.
+- {{ f("a", *[1, 2]) }} => 2 => 8
+- {{ f(*[]) }} =>  => 4
+- {{ f(*[1], 2, *[3, 4], k=5) }} => {"k": 5} => 14
+- {{ f(*"ab") }} => b => 4
+- {{ f(*nope) }} =>  => 4
+- {{ range(*[1], 3) }} => [1, 2] => 7
+- {{ dict(**{"a": 1}, **{"a": 2}, b=3) }} => {"a": 2, "b": 3} => 12
+- {{ dict(a=1, **{"b": 2}, c=3) }} => {"a": 1, "b": 2, "c": 3} => 12
+- {{ dict(**namespace(z=1)) }} => {"z": 1} => 7
+- {{ "a"|second(*["b"]) }} => b => 7
+- {{ 1 is second(*[1]) }} => true => 7
+- {{ {"f": f}.f(*[1, 2]) }} => 2 => 10
+- {{ f(*5) }} =>  => InvalidOperation
+- {{ dict(**nope) }} =>  => InvalidOperation
+- {{ dict(**1) }} =>  => InvalidOperation
+- {{ range(*[1], **{}) }} =>  => InvalidOperation
+- {{ [f][0](1, 2) }} => 2 => 8
+- {{ (f)(1, 2) }} => 2 => 4
+- {{ {"f": f}.f(1, 2) }} => 2 => 7
+- {{ f(f)(1) }} => 1 => 5
+- {% for x in [[]] recursive %}a{{ [loop][0](x) }}{% endfor %} => a => 15
+- {{ f(1)(2) }} =>  => InvalidOperation
+- {{ "x"() }} =>  => InvalidOperation
+- {{ f(a=1, 2) }} =>  => SyntaxError
+- {{ f(**{}, *[1]) }} =>  => SyntaxError
+- {{ f(**{}, 1) }} =>  => SyntaxError"#;
+
 /// Operators, conditions and literals.
 pub(crate) const EXPRESSIONS: &str = r#"Operators, conditions and literals.
 - {{ 2 ** 3 ** 2 }} => 64 => 6

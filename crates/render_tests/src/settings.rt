@@ -153,11 +153,12 @@ fn expect_table<'source>(
     Ok(())
 }
 
-static TABLES: [&str; 22] = [
+static TABLES: [&str; 23] = [
     rows::TEXTS,
     rows::CALLS,
     rows::FILTERS,
     rows::FILTER_BLOCKS,
+    rows::PASSING,
     rows::EXPRESSIONS,
     rows::SCOPES,
     loops::LOOPS,

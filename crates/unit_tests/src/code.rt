@@ -42,6 +42,8 @@ fn word(instruction: &Instruction) -> &'static str {
         Instruction::BuildTuple(_) => "tuple:",
         Instruction::BuildMap(_) => "map:",
         Instruction::BuildKwargs(_) => "named:",
+        Instruction::MergeKwargs(_) => "merge:",
+        Instruction::UnpackLists(_) => "lists:",
         Instruction::Neg => "-",
         Instruction::Not => "not",
         Instruction::CompareAndPreserve(_) => "keep:",
@@ -54,6 +56,7 @@ fn word(instruction: &Instruction) -> &'static str {
         Instruction::JumpIfTrueOrPop(_) => "or:",
         Instruction::CallFunction(_, _) => "call:",
         Instruction::CallMethod(_, _) => "method:",
+        Instruction::CallObject(_) => "value:",
         Instruction::ApplyFilter(_, _, _) => "filter:",
         Instruction::PerformTest(_, _, _) => "test:",
         Instruction::CallBlock(_) => "block:",
@@ -132,6 +135,8 @@ fn detail(instruction: &Instruction) -> &str {
         | Instruction::BuildTuple(number)
         | Instruction::BuildMap(number)
         | Instruction::BuildKwargs(number)
+        | Instruction::MergeKwargs(number)
+        | Instruction::UnpackLists(number)
         | Instruction::UnpackList(number)
         | Instruction::Iterate(number)
         | Instruction::Jump(number)
@@ -142,12 +147,17 @@ fn detail(instruction: &Instruction) -> &str {
     }
 }
 
+// The count of a call's values, or `*` where it is on top of them.
 fn count(instruction: &Instruction) -> &'static str {
     match instruction {
         Instruction::CallFunction(_, number)
         | Instruction::CallMethod(_, number)
+        | Instruction::CallObject(number)
         | Instruction::ApplyFilter(_, number, _)
-        | Instruction::PerformTest(_, number, _) => numeral(*number),
+        | Instruction::PerformTest(_, number, _) => match number {
+            Some(number) => numeral(*number),
+            None => "*",
+        },
         _ => "",
     }
 }

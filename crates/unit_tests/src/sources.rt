@@ -9,7 +9,7 @@ use tm_compiler::{SyntaxConfig, Tree, parse};
 use tm_values::{Error, ErrorKind};
 
 /// What a source is compiled to.
-static EXPRESSIONS_AND_STATEMENTS: [&str; 105] = [
+static EXPRESSIONS_AND_STATEMENTS: [&str; 116] = [
     "{# c #} =>",
     "{{ \"}}\" }}\n => #}} emit",
     "{{ a == none }} => $a #none == emit",
@@ -19,6 +19,17 @@ static EXPRESSIONS_AND_STATEMENTS: [&str; 105] = [
     "{{ f() == true }} => call:f0 #true == emit",
     "{{ f(a, b=1) }} => $a #b #1 named:1 call:f2 emit",
     "{{ a.m() }} => $a method:m1 emit",
+    "{{ f(*a) }} => $a lists:1 call:f* emit",
+    "{{ f(1, *a, b, c=2,) }} => #1 list:1 $a $b #c #2 named:1 list:2 lists:3 call:f* emit",
+    "{{ f(**a, b=1, **c) }} => $a #b #1 named:1 $c merge:3 call:f1 emit",
+    "{{ f(*a, *b, **c) }} => $a $b $c merge:1 list:1 lists:3 call:f* emit",
+    "{{ a.m(*b).n(**c) }} => $a list:1 $b lists:2 method:m* $c merge:1 method:n2 emit",
+    "{{ a|f(*b) is g(*c, **d) }} => $a list:1 $b lists:2 filter:f*@0 list:1 $c $d merge:1 list:1 lists:3 test:g*@0 emit",
+    "{{ [f][0](1, 2) }} => $f list:1 #0 item #1 #2 value:3 emit",
+    "{{ (f)(1)(2) }} => #1 call:f1 #2 value:2 emit",
+    "{{ (a.b)(1) }} => $a .b #1 value:2 emit",
+    "{{ \"x\"(*a) }} => #x list:1 $a lists:2 value:* emit",
+    "{% do f(1)() %} => #1 call:f1 value:1 drop",
     "{{ a.b.m(1, k=c)[0] }} => $a .b #1 #k $c named:1 method:m3 #0 item emit",
     "{{ a|f(b)|g|f is f }} => $a $b filter:f2@0 filter:g1@1 filter:f1@0 test:f1@0 emit",
     "{{ a is not f is g is f }} => $a test:f1@0 not test:g1@1 test:f1@0 emit",
@@ -191,7 +202,7 @@ fn sources_have_their_code(rt: HostRuntime) -> Result<(), Fail> {
 }
 
 /// What spells no template.
-static REFUSED: [&str; 153] = [
+static REFUSED: [&str; 160] = [
     "a{#",
     "{{ \"a }}",
     "{{ 1.5 }}",
@@ -245,6 +256,13 @@ static REFUSED: [&str; 153] = [
     "{% for x in y recursive recursive %}{% endfor %}",
     "{% for x in y recursive if x %}{% endfor %}",
     "{{ f(b=1, a) }}",
+    "{{ f(**{}, *[1]) }}",
+    "{{ f(**{}, 1) }}",
+    "{{ f(a=1, *b) }}",
+    "{{ f(*) }}",
+    "{{ f(**) }}",
+    "{{ *a }}",
+    "{% do \"a\"¦upper %}",
     "{{ f(b=) }}",
     "{{ f(1=2) }}",
     "{{ f(b=1 c=2) }}",
