@@ -1,5 +1,5 @@
 -- Filters and tests that are used by their cache numbers.
-use Rattle.std.proofs.Common.{◌≡◌, ℕ, zero, suc, ◌+◌, ◌≤◌, ◌<◌, List, [], ◌∷◌, ◌++◌, length, None, Some}
+use Rattle.std.proofs.Common.{◌≡◌, ℕ, zero, suc, ◌+◌, ◌≤◌, ◌<◌, List, [], ◌∷◌, ◌++◌, length, Option, None, Some}
 use Rattle.std.proofs.Common.{Result, false, refl, sym, ap, ◌∙◌, subst, arith, slice_get, slice_set}
 use Rattle.std.proofs.Common.{nat_eq, nat_lt, true}
 use Rattle.std.proofs.lemmas.Bool.Decides.{nat_tests}
@@ -43,7 +43,7 @@ held_there zero x (h ∷ hs) within = refl
 held_there (suc k) x (h ∷ hs) within = ap (λ l. h ∷ l) (held_there k x hs (omega (arith, within)))
 
 -- ---------------------------------------------------------------- calls
-pub filter_used : (p : Program) (x : List ℕ) (n k : ℕ) (old mid new : Config) (result : Result Flow Halt) →
+pub filter_used : (p : Program) (x : List ℕ) (n : Option ℕ) (k : ℕ) (old mid new : Config) (result : Result Flow Halt) →
     used k x old.run.filters ≡ Some mid.run.filters → mid ≡ with_filters mid.run.filters old →
     Silently (apply_of p applications.Filter x n mid) mid new result → Silently (apply_filter_of p x n k old) old new result
 filter_used p x n k old mid new result there is s =
@@ -53,7 +53,7 @@ filter_used p x n k old mid new result there is s =
     (let t = subst (λ c. Silently (apply_of p applications.Filter x n c) c new result) is s in
     record { did = t.did; kept = t.kept; same_scopes = t.same_scopes; same_stream = t.same_stream })
 
-pub test_used : (p : Program) (x : List ℕ) (n k : ℕ) (old mid new : Config) (result : Result Flow Halt) →
+pub test_used : (p : Program) (x : List ℕ) (n : Option ℕ) (k : ℕ) (old mid new : Config) (result : Result Flow Halt) →
     used k x old.run.tests ≡ Some mid.run.tests → mid ≡ with_tests mid.run.tests old →
     Silently (apply_of p applications.Test x n mid) mid new result → Silently (perform_test_of p x n k old) old new result
 test_used p x n k old mid new result there is s =
