@@ -69,36 +69,36 @@ compiled_is t name source escape named from escaped =
     ∙ ap (λ (x : Text). let u : Compiled = record t { name = name; source = x } in u) from
     ∙ ap (λ (x : AutoEscape). let u : Compiled = record { name = name; source = source; escape = x; tree = t.tree } in u) escaped
 
-module _ {C M F R : Type 0} where
-  abbrev Parts : Type 0
-  Parts = Table C M F (EscapeSetting R)
+abbrev Parts : Type 0 → Type 0 → Type 0 → Type 0 → Type 0
+Parts C M F R = Table C M F (EscapeSetting R)
 
-  abbrev empty : EnvironmentValue Parts
+module _ {C M F R : Type 0} where
+  abbrev empty : EnvironmentValue (Parts C M F R)
   empty = new_environment
 
-  abbrev settled : ArgumentsValue → EnvironmentValue Parts
+  abbrev settled : ArgumentsValue → EnvironmentValue (Parts C M F R)
   settled a = record empty { fuel = a.fuel; limit = limit_of a.limit }
 
   -- what an environment is behind its settings
-  pub started : (a : ArgumentsValue) (limit : ℕ) (first fuelled set : EnvironmentValue Parts) → first ≡ empty →
+  pub started : (a : ArgumentsValue) (limit : ℕ) (first fuelled set : EnvironmentValue (Parts C M F R)) → first ≡ empty →
       fuelled ≡ record first { fuel = a.fuel } →
       set ≡ record fuelled { limit = min limit greatest_limit } → min limit greatest_limit ≡ limit_of a.limit → set ≡ settled a
   started a limit first fuelled set start fuel limited same =
-      limited ∙ (ap (λ (e : EnvironmentValue Parts). record e { limit = min limit greatest_limit }) (fuel
-      ∙ ap (λ (e : EnvironmentValue Parts). record e { fuel = a.fuel }) start)
+      limited ∙ (ap (λ (e : EnvironmentValue (Parts C M F R)). record e { limit = min limit greatest_limit }) (fuel
+      ∙ ap (λ (e : EnvironmentValue (Parts C M F R)). record e { fuel = a.fuel }) start)
       ∙ ap (λ n. record empty { fuel = a.fuel; limit = n }) same)
 
   -- another template of the environment in which one was put alone
-  abbrev put_there_as : ArgumentsValue → Compiled → Compiled → TemplateValue Parts
+  abbrev put_there_as : ArgumentsValue → Compiled → Compiled → TemplateValue (Parts C M F R)
   put_there_as a t u = template_over first_objects a.file (put a.file t []) a.fuel (limit_of a.limit) u
 
   -- a template that was put alone
-  abbrev put_alone : ArgumentsValue → Compiled → TemplateValue Parts
+  abbrev put_alone : ArgumentsValue → Compiled → TemplateValue (Parts C M F R)
   put_alone a t = put_there_as a t t
 
   -- The template that is found means what the words and a tree of the source mean.
-  pub is_meant : (fs gs : StatedObjects) (i : Input) (set added : EnvironmentValue Parts) (t : Compiled)
-      (found : TemplateValue Parts) (context : Val) →
+  is_meant : (fs gs : StatedObjects) (i : Input) (set added : EnvironmentValue (Parts C M F R)) (t : Compiled)
+      (found : TemplateValue (Parts C M F R)) (context : Val) →
       (found.environment.objects ≡ first_objects → fs ≡ own_objects) → (set.objects ≡ first_objects → gs ≡ own_objects) →
       set ≡ settled i.asked → IsTemplateOf (λ _. gs) set i.asked.file i.source t →
       added ≡ record set { templates = put i.asked.file t set.templates } →
@@ -108,39 +108,52 @@ module _ {C M F R : Type 0} where
       let a = i.asked in
       let source = i.source in
       let whole : added ≡ record (settled a) { templates = put a.file t [] } =
-      put_there ∙ ap (λ (e : EnvironmentValue Parts). record e { templates = put a.file t e.templates }) start in
+      put_there ∙ ap (λ (e : EnvironmentValue (Parts C M F R)). record e { templates = put a.file t e.templates }) start in
       let template : t ≡ found.template = found_is_put a.file t found.template
-      (subst (λ (e : EnvironmentValue Parts). find a.file e.templates ≡ Some found.template) whole there) in
+      (subst (λ (e : EnvironmentValue (Parts C M F R)). find a.file e.templates ≡ Some found.template) whole there) in
       let alone : found ≡ put_alone a t =
-      ap (λ (e : EnvironmentValue Parts). let v : TemplateValue
-      Parts = record { environment = e; id = found.id; template = found.template } in v) (same ∙ whole)
+      ap (λ (e : EnvironmentValue (Parts C M F R)). let v : TemplateValue
+      (Parts C M F R) = record { environment = e; id = found.id; template = found.template } in v) (same ∙ whole)
       ∙ ap (λ (x : TemplateId). let v : TemplateValue
-      Parts = record { environment = record (settled a) { templates = put a.file t [] }; id = x; template = found.template } in v)
+      (Parts C M F R) = record { environment = record (settled a) { templates = put a.file t [] }; id = x; template = found.template } in v)
       id
       ∙ ap (λ (u : Compiled). put_there_as a t u) (sym template) in
       let objects : found.environment.objects ≡ first_objects =
-      ap (λ (e : EnvironmentValue Parts). e.objects) (same ∙ whole) in
+      ap (λ (e : EnvironmentValue (Parts C M F R)). e.objects) (same ∙ whole) in
       let escaped : t.escape ≡ escape_by_name a.file = is.escape_is
       ∙ ap (λ (hs : StatedObjects). hs.escapes a.file)
-      (none_set (ap (λ (e : EnvironmentValue Parts). e.objects) start)) in
+      (none_set (ap (λ (e : EnvironmentValue (Parts C M F R)). e.objects) start)) in
       let named : t ≡ record { name = a.file; source = source; escape = escape_by_name a.file; tree = t.tree } =
       compiled_is t a.file source (escape_by_name a.file) is.name_is is.source_is escaped in (
         t.tree,
-        subst (λ (e : EnvironmentValue Parts). Spells e.syntax source t.tree) start is.spelled,
-        ap (λ (v : TemplateValue Parts). meaning (λ _. fs) v 0 context) alone
+        subst (λ (e : EnvironmentValue (Parts C M F R)). Spells e.syntax source t.tree) start is.spelled,
+        ap (λ (v : TemplateValue (Parts C M F R)). meaning (λ _. fs) v 0 context) alone
             ∙ (ap (λ v. meaning (λ _. fs) (put_alone a t) 0 v) given
-            ∙ (means_same {O = Parts} {P = StatedObjects} fs own_objects first_objects own_objects a.file
+            ∙ (means_same {O = Parts C M F R} {P = StatedObjects} fs own_objects first_objects own_objects a.file
             (put a.file t []) a.fuel (limit_of a.limit) t 0 (context_of i.members a.texts) (none objects)
             ∙ ap (λ (u : Compiled). meaning (λ fs. fs) (template_in a u) 0 (context_of i.members a.texts)) named)),
       )
 
+  -- The same of what the objects of the environment state.
+  pub is_meant_by : (answers : C → Object) (falls : M → Fallback) (formats : F → Format) (rules : R → List ℕ → AutoEscape)
+      (i : Input) (set added : EnvironmentValue (Parts C M F R)) (t : Compiled) (found : TemplateValue (Parts C M F R)) (context : Val) →
+      set ≡ settled i.asked → IsTemplateOf (stated_of answers falls formats (escape_of rules)) set i.asked.file i.source t →
+      added ≡ record set { templates = put i.asked.file t set.templates } →
+      IsEntryOf added i.asked.file found → context ≡ context_of i.members i.asked.texts →
+      IsMeant (stated_of answers falls formats (escape_of rules)) found context i
+  is_meant_by answers falls formats rules i set added t found context start is put_there entry given =
+      let stated = stated_of answers falls formats (escape_of rules) in
+      is_meant (stated found.environment.objects) (stated set.objects) i set added t found context
+      (λ e. none_of answers falls formats rules found.environment.objects e) (λ e. none_of answers falls formats rules set.objects e)
+      start is put_there entry given
+
   -- The template is found: it was put.
-  pub is_found : {X : Type 0} (name : Text) (set added : EnvironmentValue Parts) (t : Compiled) → set.templates ≡ [] →
+  pub is_found : {X : Type 0} (name : Text) (set added : EnvironmentValue (Parts C M F R)) (t : Compiled) → set.templates ≡ [] →
       added ≡ record set { templates = put name t set.templates } →
       find name added.templates ≡ None → X
   is_found name set added t start put_there none =
       let there : find name added.templates ≡ Some t =
-      ap (λ (e : EnvironmentValue Parts). find name e.templates) put_there ∙ ap (λ es. find name (put name t es)) start
+      ap (λ (e : EnvironmentValue (Parts C M F R)). find name e.templates) put_there ∙ ap (λ es. find name (put name t es)) start
       ∙ found_there name t in
       absurd (cc)
 

@@ -3,7 +3,11 @@ use Rattle.std.proofs.Common.{ap}
 use Rattle.template_machine.specs.Environment.{EnvironmentValue}
 use Rattle.mj_words.specs.CommandLine.{asked_of}
 use Rattle.mj_run.specs.Program.{input_of}
-use Rattle.mj_run.proofs.Rendered.{started, none_of, is_meant, is_found, is_refused, passed}
+use Rattle.mj_run.proofs.Rendered.{started, is_meant_by, is_found, is_refused, passed}
+use Rattle.tm_tables.specs.contracts.callable.BoxDynCallableCallable.TheImpl as callables
+use Rattle.tm_tables.specs.contracts.fallback.BoxDynMethodFallbackMethodFallback.TheImpl as fallbacks
+use Rattle.tm_tables.specs.contracts.formatter.BoxDynFormatterFormatter.TheImpl as formatters
+use Rattle.tm_tables.specs.contracts.escape_rule.BoxDynEscapeRuleEscapeRule.TheImpl as rules
 use Rattle.mj_run.proofs.render.render_in.Goals as goal
 
 pub returns : goal.returns
@@ -12,9 +16,10 @@ returns g c = λ members given.
     let a = asked_of c.args.arguments.now in
     let put = c.in_ok-add_template_owned.ensures.ok in
     let start = started a c.limit.result _ _ _ c.requires.new c.set_fuel.ensures c.set_recursion_limit.ensures c.limit.ensures in
-    let means = is_meant _ _ input _ _ put.0 c.in_ok-template.template c.args.context
-    (λ e. none_of _ _ _ _ _ e) (λ e. none_of _ _ _ _ _ e) start put.1 put.2 c.in_ok-template.ensures given in
-    c.render_template.ensures input means
+    c.render_template.ensures input (is_meant_by
+    (callables.ghosts (g.dyn-1.0, g.dyn-1.1)).answers (fallbacks.ghosts (g.dyn-2.0, g.dyn-2.1)).answers
+    (formatters.ghosts (g.dyn-3.0, g.dyn-3.1)).formats (rules.ghosts (g.dyn-4.0, g.dyn-4.1)).escapes
+    input _ _ put.0 c.in_ok-template.template c.args.context start put.1 put.2 c.in_ok-template.ensures given)
 
 -- the source was refused
 pub returns-in_err-add_template_owned : goal.returns-in_err-add_template_owned
