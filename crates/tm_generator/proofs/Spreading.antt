@@ -165,9 +165,9 @@ pub more-list_count : (all rest : List Argument) (x : Argument) (n n1 m l l1 goa
     n1 ≡ row_behind n x → l + count_lists n (arguments all) m ≡ goal → l1 + count_lists n1 (arguments rest) m ≡ goal
 more-list_count all rest x n n1 m l l1 goal left p e g =
     let same : count_lists n1 (arguments rest) m ≡ count_lists (row_behind n x) (arguments rest) m =
-        ap (λ j. count_lists j (arguments rest) m) e in
+    ap (λ j. count_lists j (arguments rest) m) e in
     let whole : count_lists n (arguments all) m ≡ lists_at n x + count_lists (row_behind n x) (arguments rest) m =
-        ap (λ xs. count_lists n (arguments xs) m) left ∙ count_lists-cons n m x rest in
+    ap (λ xs. count_lists n (arguments xs) m) left ∙ count_lists-cons n m x rest in
     omega (arith, p, same, whole, g)
 
 pub last-lists : (rest : List Argument) (n m more last : ℕ) (c : Fragment) (b b1 b2 goal : Builder) → rest ≡ [] →
@@ -216,9 +216,9 @@ pub more-map_count : (all rest : List Keyword) (x : Keyword) (n n1 l l1 goal : �
     n1 ≡ keywords_behind n x → l + count_maps n (keywords all) ≡ goal → l1 + count_maps n1 (keywords rest) ≡ goal
 more-map_count all rest x n n1 l l1 goal left p e g =
     let same : count_maps n1 (keywords rest) ≡ count_maps (keywords_behind n x) (keywords rest) =
-        ap (λ j. count_maps j (keywords rest)) e in
+    ap (λ j. count_maps j (keywords rest)) e in
     let whole : count_maps n (keywords all) ≡ maps_at n x + count_maps (keywords_behind n x) (keywords rest) =
-        ap (λ xs. count_maps n (keywords xs)) left ∙ count_maps-cons n x rest in
+    ap (λ xs. count_maps n (keywords xs)) left ∙ count_maps-cons n x rest in
     omega (arith, p, same, whole, g)
 
 pub last-keywords : (rest : List Keyword) (n : ℕ) (b b1 goal : Builder) → rest ≡ [] → put (keywords_code n (keywords rest)) b ≡ goal →

@@ -311,7 +311,7 @@ module _ (setting : Setting) where
       (λ ks world2 k2 m2 h2.
       let all = before ++ (vs ++ ks) in
       let long : length all ≡ count given + together named + length before =
-          omega (arith, length-append before (vs ++ ks), length-append vs ks, m, m2) in
+      omega (arith, length-append before (vs ++ ks), length-append vs ks, m, m2) in
       subst (λ us. Go context s (beyond (beyond pc by_place) by_name) us world2)
       (onto_both before (vs ++ ks) stack ∙ onto_both vs ks (onto before stack)) (go all world2 (kept_then k k2) long h2)))))
   passing_runs true before given named run by_place by_name lists places names rows pg pl pp ng nl np rg rl rp s l pc stack w g K d is h go =
@@ -392,8 +392,8 @@ module _ (setting : Setting) where
         let names_give : Given context.program.host names = named_by_gives context.program.host named maps maps_give in
         let names_long : Long (together named) names = named_long context.program.host named maps maps_long in
         let names_push : Pushes run (merging named (keywords_code 0 named)) names =
-            named_runs named run (keywords_code 0 named) maps maps_give maps_long
-            (λ s1 l1 pc1 stack1 world1 d1 is1 h1. keywords_run 0 [] named run s1 l1 pc1 stack1 world1 refl d1 is1 h1) in
+        named_runs named run (keywords_code 0 named) maps maps_give maps_long
+        (λ s1 l1 pc1 stack1 world1 d1 is1 h1. keywords_run 0 [] named run s1 l1 pc1 stack1 world1 refl d1 is1 h1) in
         let places : World → Res (List Val) = λ world1. eval_arguments u run given world1 in
         passing_runs (has_spread given) [] given named run (arguments_code given) (merging named (keywords_code 0 named))
         (λ by_name. lists_code 0 given (together named) by_name) places names
@@ -566,8 +566,8 @@ module _ (setting : Setting) where
         let names_give : Given context.program.host names = named_by_gives context.program.host named maps maps_give in
         let names_long : Long (together named) names = named_long context.program.host named maps maps_long in
         let names_push : Pushes run (merging named (keywords_code 0 named)) names =
-            named_runs named run (keywords_code 0 named) maps maps_give maps_long
-            (λ s1 l1 pc1 stack1 world1 d1 is1 h1. keywords_run 0 [] named run s1 l1 pc1 stack1 world1 refl d1 is1 h1) in
+        named_runs named run (keywords_code 0 named) maps maps_give maps_long
+        (λ s1 l1 pc1 stack1 world1 d1 is1 h1. keywords_run 0 [] named run s1 l1 pc1 stack1 world1 refl d1 is1 h1) in
         let places : World → Res (List Val) = λ world1. eval_arguments u run given world1 in
         passing_runs (has_spread given) (v ∷ []) given named run (arguments_code given) (merging named (keywords_code 0 named))
         (λ by_name. lists_code 1 given (together named) by_name) places names
@@ -591,8 +591,8 @@ module _ (setting : Setting) where
         let names_give : Given context.program.host names = named_by_gives context.program.host named maps maps_give in
         let names_long : Long (together named) names = named_long context.program.host named maps maps_long in
         let names_push : Pushes run (merging named (keywords_code 0 named)) names =
-            named_runs named run (keywords_code 0 named) maps maps_give maps_long
-            (λ s1 l1 pc1 stack1 world1 d1 is1 h1. keywords_run 0 [] named run s1 l1 pc1 stack1 world1 refl d1 is1 h1) in
+        named_runs named run (keywords_code 0 named) maps maps_give maps_long
+        (λ s1 l1 pc1 stack1 world1 d1 is1 h1. keywords_run 0 [] named run s1 l1 pc1 stack1 world1 refl d1 is1 h1) in
         let places : World → Res (List Val) = λ world1. eval_arguments u run given world1 in
         passing_runs (has_spread given) (v ∷ []) given named run (arguments_code given) (merging named (keywords_code 0 named))
         (λ by_name. lists_code 1 given (together named) by_name) places names

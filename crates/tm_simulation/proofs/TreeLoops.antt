@@ -90,9 +90,11 @@ mutual
   expr_loopless (Tuple' _ es) = (exprs_loopless es, (refl, tt))
   expr_loopless (Map' _ ps) = (pairs_loopless ps, (refl, tt))
   expr_loopless (Call' f _ given _ named) =
-      let by_name : Loopless (merging named (keywords_code 0 named)) = (keywords_loopless 0 named, merged_loopless (has_spread_keyword named) _) in
-      (passing_loopless (has_spread given) 0 given named _ _ _ (arguments_loopless given) by_name
-      (lists_loopless 0 given _ _ by_name), (refl, tt))
+      let by_name : Loopless (merging named (keywords_code 0 named)) = (keywords_loopless 0 named, merged_loopless (has_spread_keyword named) _) in (
+        passing_loopless (has_spread given) 0 given named _ _ _ (arguments_loopless given) by_name
+            (lists_loopless 0 given _ _ by_name),
+        (refl, tt),
+      )
   expr_loopless (unary op a) = (expr_loopless a, unary_loopless op)
   expr_loopless (chained a _ ss) = (expr_loopless a, steps_loopless ss)
   expr_loopless (conditional a _ cs) = conditions_loopless cs (expr_code a) (expr_loopless a)
@@ -139,13 +141,17 @@ mutual
   step_loopless (Attribute x) = (refl, tt)
   step_loopless (item a) = (expr_loopless a, (refl, tt))
   step_loopless (Apply' k x _ given _ named) =
-      let by_name : Loopless (merging named (keywords_code 0 named)) = (keywords_loopless 0 named, merged_loopless (has_spread_keyword named) _) in
-      (passing_loopless (has_spread given) 1 given named _ _ _ (arguments_loopless given) by_name
-      (lists_loopless 1 given _ _ by_name), application_loopless k x (passed_count 1 given named))
+      let by_name : Loopless (merging named (keywords_code 0 named)) = (keywords_loopless 0 named, merged_loopless (has_spread_keyword named) _) in (
+        passing_loopless (has_spread given) 1 given named _ _ _ (arguments_loopless given) by_name
+            (lists_loopless 1 given _ _ by_name),
+        application_loopless k x (passed_count 1 given named),
+      )
   step_loopless (Called _ given _ named) =
-      let by_name : Loopless (merging named (keywords_code 0 named)) = (keywords_loopless 0 named, merged_loopless (has_spread_keyword named) _) in
-      (passing_loopless (has_spread given) 1 given named _ _ _ (arguments_loopless given) by_name
-      (lists_loopless 1 given _ _ by_name), (refl, tt))
+      let by_name : Loopless (merging named (keywords_code 0 named)) = (keywords_loopless 0 named, merged_loopless (has_spread_keyword named) _) in (
+        passing_loopless (has_spread given) 1 given named _ _ _ (arguments_loopless given) by_name
+            (lists_loopless 1 given _ _ by_name),
+        (refl, tt),
+      )
   step_loopless (slice a b c) = (expr_loopless a, (expr_loopless b, (expr_loopless c, (refl, tt))))
   step_loopless (binary op a) = (expr_loopless a, binary_loopless op)
   step_loopless (compare op a _ cs) = (expr_loopless a, (links_loopless op cs, (refl, (refl, tt))))

@@ -182,12 +182,7 @@ impl Machine<'_> {
     }
 
     /// The same of so many values.
-    fn call_object<H: Host>(
-        &mut self,
-        alloc: Global,
-        host: &H,
-        count: usize,
-    ) -> Result<Flow, Halt>
+    fn call_object<H: Host>(&mut self, alloc: Global, host: &H, count: usize) -> Result<Flow, Halt>
         requires { CanGoOn self.old.run }
         ensures { Silently (call_object_of
             (program (H.meaning host.now) (H.code host.now)) (Some count) self.old)

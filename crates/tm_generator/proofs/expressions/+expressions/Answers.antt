@@ -158,11 +158,12 @@ push_keyword-returns-in_ok-push_map_of_row-in-Spread-clause-ok t c =
 
 pub push_keywords-loop-keyword-preserved : goal.push_keywords-loop-keyword-preserved
 push_keywords-loop-keyword-preserved t c =
-    let first = next c.args.named.now c.loop-keyword.keyword-index c.keyword-item.result c.loop-keyword-test.true c.keyword-item.is in
-    (more-keywords _ _ c.keyword-item.result _ _ _ _ _ first c.in_ok-push_keyword.ensures.ok c.in_ok-row.ensures.ok
-    c.loop-keyword.invariant.0,
-    more-map_count _ _ c.keyword-item.result c.loop-keyword.row c.in_ok-row.row c.loop-keyword.maps c.in_ok-maps.maps _ first
-    (c.in_ok-maps.ensures.ok ∙ ap (λ n. c.loop-keyword.maps + n) c.maps_at.ensures) c.in_ok-row.ensures.ok c.loop-keyword.invariant.1)
+    let first = next c.args.named.now c.loop-keyword.keyword-index c.keyword-item.result c.loop-keyword-test.true c.keyword-item.is in (
+      more-keywords _ _ c.keyword-item.result _ _ _ _ _ first c.in_ok-push_keyword.ensures.ok c.in_ok-row.ensures.ok
+          c.loop-keyword.invariant.0,
+      more-map_count _ _ c.keyword-item.result c.loop-keyword.row c.in_ok-row.row c.loop-keyword.maps c.in_ok-maps.maps _ first
+          (c.in_ok-maps.ensures.ok ∙ ap (λ n. c.loop-keyword.maps + n) c.maps_at.ensures) c.in_ok-row.ensures.ok c.loop-keyword.invariant.1,
+    )
 
 pub push_keywords-returns-clause-ok : goal.push_keywords-returns-clause-ok
 push_keywords-returns-clause-ok t c =
@@ -179,12 +180,13 @@ push_keywords-returns-clause-count t c =
 
 pub push_lists-loop-argument-preserved : goal.push_lists-loop-argument-preserved
 push_lists-loop-argument-preserved t c =
-    let first = next c.args.given.now c.loop-argument.argument-index c.argument-item.result c.loop-argument-test.true c.argument-item.is in
-    (more-lists _ _ c.argument-item.result _ _ _ _ _ _ _ first c.in_ok-push_listed.ensures.ok c.in_ok-row.ensures.ok
-    c.loop-argument.invariant.0,
-    more-list_count _ _ c.argument-item.result c.loop-argument.row c.in_ok-row.row _ c.loop-argument.lists c.in_ok-lists.lists _ first
-    (c.in_ok-lists.ensures.ok ∙ ap (λ n. c.loop-argument.lists + n) c.lists_at.ensures) c.in_ok-row.ensures.ok
-    c.loop-argument.invariant.1)
+    let first = next c.args.given.now c.loop-argument.argument-index c.argument-item.result c.loop-argument-test.true c.argument-item.is in (
+      more-lists _ _ c.argument-item.result _ _ _ _ _ _ _ first c.in_ok-push_listed.ensures.ok c.in_ok-row.ensures.ok
+          c.loop-argument.invariant.0,
+      more-list_count _ _ c.argument-item.result c.loop-argument.row c.in_ok-row.row _ c.loop-argument.lists c.in_ok-lists.lists _ first
+          (c.in_ok-lists.ensures.ok ∙ ap (λ n. c.loop-argument.lists + n) c.lists_at.ensures) c.in_ok-row.ensures.ok
+          c.loop-argument.invariant.1,
+    )
 
 pub push_lists-returns-clause-ok : goal.push_lists-returns-clause-ok
 push_lists-returns-clause-ok t c =
