@@ -2,7 +2,7 @@ use Rattle.std.proofs.Common.{rules}
 use Rattle.template_machine.proofs.environment.EnvironmentOf.add_template_owned.Goals as goal
 
 pub returns-clause-ok : goal.returns-clause-ok
-returns-clause-ok g c = search rules fits 100
+returns-clause-ok g c = search rules fits 300
 
 pub returns-clause-refused : goal.returns-clause-refused
 returns-clause-refused g c = search rules fits 100
