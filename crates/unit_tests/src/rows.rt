@@ -22,11 +22,11 @@ fn repeated(piece: &str, count: usize) -> (usize, &str) {
 /// Words with a `|` for each `¦`.
 fn with_bars(alloc: Global, words: &str) -> Result<String, Error> {
     let mut text = String::new(alloc);
-    let mut bar = "";
-    for part in words.split('¦') {
-        text.push_str(bar)?;
+    for (place, part) in words.split('¦').enumerate() {
+        if place > 0 {
+            text.push_str("|")?;
+        }
         text.push_str(part)?;
-        bar = "|";
     }
     Ok(text)
 }
