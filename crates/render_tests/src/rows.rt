@@ -148,7 +148,7 @@ pub(crate) const PASSING: &str = r#"Spread arguments, and calls of values.
 - {{ (f)(1, 2) }} => 2 => 4
 - {{ {"f": f}.f(1, 2) }} => 2 => 7
 - {{ f(f)(1) }} => 1 => 5
-- {% for x in [[]] recursive %}a{{ [loop][0](x) }}{% endfor %} => a => 15
+- {% for x in [[]] recursive %}a{{ [loop][0](x) }}{% endfor %} => a => InvalidOperation
 - {{ f(1)(2) }} =>  => InvalidOperation
 - {{ "x"() }} =>  => InvalidOperation
 - {{ f(a=1, 2) }} =>  => SyntaxError
