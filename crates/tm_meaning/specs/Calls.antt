@@ -21,10 +21,12 @@ use Rattle.tm_meaning.specs.Memory.{kind_of_wrapping}
 use Rattle.tm_meaning.specs.declared.function.GlobalFunction.TheVariants as own
 use Rattle.tm_meaning.specs.World.{TemplateId, own, entry, StreamId, block_of, Named, find, put_each, same_name, Card, Layers, Loop, World}
 use Rattle.tm_meaning.specs.World.{HostValue, View, Scope, Object, Fallback, Function, callers, languages, Res, Good, Bad, bind, bad, answered}
-use Rattle.tm_meaning.specs.World.{items_over, innermost, records_of, make_namespace, need, check, card_at, view_of, lookup}
+use Rattle.tm_meaning.specs.World.{depth, items_over, innermost, records_of, make_namespace, need, check, card_at, view_of, lookup}
 use Rattle.tm_meaning.specs.World.{context_member, place_of, plain_scope, push}
 use Rattle.tm_meaning.specs.declared.reply.Reply.{Reply}
-use Rattle.tm_meaning.specs.declared.reply.Reply.TheVariants.{Value as gives, Fault as faults}
+use Rattle.tm_meaning.specs.declared.reply.Reply.TheVariants.{Value as gives, Fault as faults, Further as asks_for}
+use Rattle.tm_meaning.specs.declared.reply.Call.{Call}
+use Rattle.tm_meaning.specs.declared.reply.Call.TheVariants as further
 
 -- What is run: a whole stream.
 pub data Callee : Type 0 where
@@ -35,7 +37,7 @@ pub data Undo : Type 0 where
   of_block : World → Undo
 
 -- A run, what is put back behind it, and the kind that is put before its fault, if one is.
-pub record Call : Type 0 where
+pub record NestedCall : Type 0 where
   pub callee : Callee
   pub undo : Undo
   pub wrap : Option Wrapping
@@ -45,7 +47,7 @@ pub record Call : Type 0 where
 pub data Asked : Type 0 where
   has : Val → World → Asked
   refused : List ErrorKind → World → Asked
-  runs : Call → World → Asked
+  runs : NestedCall → World → Asked
   recurs : ℕ → List Val → World → Asked
 
 abbrev pub ask : {A : Type 0} → Res A → (A → World → Asked) → Asked
@@ -96,10 +98,37 @@ abbrev pub own_blocks : TemplateId → Named Card → Named Layers
 own_blocks t bs = each (alone t) bs
 
 -- ---------------------------------------------------------------- functions
--- values to keep are kept first, also where the rest is a fault
-abbrev pub replied : Reply → World → Asked
-replied (gives v) w = has v w
-replied (faults chain) w = refused chain w
+-- What makes the further calls that objects ask for.
+abbrev pub MakesFurther : Type 0
+MakesFurther = Call → World → Asked
+
+-- what a reply comes to
+abbrev pub replied : MakesFurther → Reply → World → Asked
+replied make (gives v) w = has v w
+replied make (faults chain) w = refused chain w
+replied make (asks_for c) w = make c w
+
+-- An object of the caller is called: values to keep are kept first, also where its reply is a fault or a further call.
+abbrev pub object_call : MakesFurther → HostValue → Object → List Val → World → Asked
+object_call make host f args w =
+    let stated = f args (view_of host w) in
+    replied make stated.reply (record w { temps = put_each stated.temps w.temps })
+
+-- the object of a name, where there is one, is called
+abbrev pub found_call : MakesFurther → HostValue → Option Object → ErrorKind → List Val → World → Asked
+found_call make host found kind args w = ask (need found kind w) (λ f world1. object_call make host f args world1)
+
+abbrev pub further_call : MakesFurther → HostValue → Call → World → Asked
+further_call make host (further.Filter x args) w = found_call make host (find x host.filters) UnknownFilter args w
+
+-- Each further call is one deeper, so only so many are made, one asked for by the other.
+abbrev pub further_calls : ℕ → HostValue → MakesFurther
+further_calls zero host c w = refused (InvalidOperation ∷ []) w
+further_calls (suc left) host c w = further_call (further_calls left host) host c w
+
+-- so many more depths lie within the limit
+abbrev pub depths_left : HostValue → World → ℕ
+depths_left host w = host.limit - depth w.scopes
 
 -- what a function of the language gives
 abbrev pub given_by : GlobalFunction → List Val → World → Res Val
@@ -107,11 +136,9 @@ given_by own.Range args w = answered (range_of args) w
 given_by own.Dict args w = bind (answered (dict_of (records_of w) args) w) (λ ps world1. Good (map (pairs_of ps)) world1)
 given_by own.Namespace args w = bind (answered (namespace_of (records_of w) args) w) (λ ps world1. make_namespace ps world1)
 
--- an object of the caller is called
+-- an object of the caller is called by code
 abbrev pub call_object : HostValue → Object → List Val → World → Asked
-call_object host f args w =
-    let stated = f args (view_of host w) in
-    replied stated.reply (record w { temps = put_each stated.temps w.temps })
+call_object host f args w = object_call (further_calls (depths_left host w) host) host f args w
 
 abbrev pub call_by : HostValue → Function → List Val → World → Asked
 call_by host (callers f) args w = call_object host f args w

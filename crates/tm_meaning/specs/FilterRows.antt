@@ -1,9 +1,10 @@
 -- Pages with filters and tests.
 use Rattle.std.specs.Prelude.{◌≡◌, ℕ, ◌-◌, ◌%◌, List, [], ◌∷◌, ◌++◌, None, Some, true, false, codes, drop, take, pos, nat_lt, nat_eq, ◌&&◌, map as each}
 use Rattle.std.specs.Prelude.{if◌then◌else◌}
-use Rattle.tm_values.specs.Val.{Val, undefined, boolean, number, text}
+use Rattle.tm_values.specs.Val.{Val, undefined, boolean, number, text, function}
 use Rattle.tm_values.specs.Order.{bytes_in}
 use Rattle.tm_values.specs.declared.error.ErrorKind.{ErrorKind}
+use Rattle.tm_values.specs.declared.error.ErrorKind.TheVariants.{MissingArgument}
 use Rattle.tm_syntax.specs.declared.instruction.Instruction.{Instruction}
 use Rattle.tm_syntax.specs.declared.instruction.Instruction.TheVariants as i
 use Rattle.tm_values.specs.declared.undefined.UndefinedBehavior.{UndefinedBehavior}
@@ -14,13 +15,15 @@ use Rattle.tm_syntax.specs.declared.tree.Expr.{end_of-Keyword as no_keyword, end
 use Rattle.tm_syntax.specs.declared.tree.UnaryOperator.TheVariants as unaries
 use Rattle.tm_syntax.specs.declared.tree.Step.{Step, Apply'}
 use Rattle.tm_syntax.specs.declared.tree.CaptureUse.TheVariants as uses
-use Rattle.tm_syntax.specs.declared.tree.Stmt.{Stmt, EmitExpr, Break, CaptureBlock', AutoEscape', end_of-Stmt as no_statement}
+use Rattle.tm_syntax.specs.declared.tree.Stmt.{Stmt, EmitExpr, Break, CaptureBlock', With', AutoEscape', end_of-Stmt as no_statement}
 use Rattle.tm_syntax.specs.declared.tree.Stmt.{more_of-Stmt as statement, None' as no_else}
 use Rattle.tm_syntax.specs.Forms.{chained, plain, unary}
-use Rattle.tm_meaning.specs.World.{Object}
-use Rattle.tm_meaning.specs.CallRows.{answers}
+use Rattle.tm_definitions.specs.Members.{or_undefined}
+use Rattle.tm_meaning.specs.World.{Object, callers, find}
+use Rattle.tm_meaning.specs.CallRows.{answers, call_none}
 use Rattle.tm_meaning.specs.declared.reply.Reply.{Reply}
-use Rattle.tm_meaning.specs.declared.reply.Reply.TheVariants.{Value as gives}
+use Rattle.tm_meaning.specs.declared.reply.Reply.TheVariants.{Value as gives, Fault as faults, Further as asks_for}
+use Rattle.tm_meaning.specs.declared.reply.Call.TheVariants as further
 use Rattle.tm_meaning.specs.Tree.{Body}
 use Rattle.tm_meaning.specs.Calls.{whole}
 use Rattle.tm_meaning.specs.Machine.{Program, base_of, start}
@@ -187,6 +190,68 @@ abbrev pub fault_in_filter : Page
 fault_in_filter =
     filter_page (two (raw (codes "a")) (CaptureBlock' uses.Emit (to_capitals ∷ []) (tt ∷ tt ∷ []) (statement (raw (codes "b"))
     (statement (EmitExpr (passed_alone applications.Filter (literal_number 1) (codes "nope"))) no_statement))))
+
+-- ---------------------------------------------------------------- further calls
+-- the filter `upper` with this text
+abbrev pub capitals_of : List ℕ → Reply
+capitals_of t = asks_for (further.Filter (codes "upper") (text t false ∷ []))
+
+-- asks for `upper` with a
+abbrev pub capital_a : Object
+capital_a vs view = answers (capitals_of (codes "a"))
+
+-- asks for `upper` with its text doubled
+abbrev pub twice : Object
+twice vs view = answers (capitals_of (bytes_in (first_of vs) ++ bytes_in (first_of vs)))
+
+-- asks for itself with the same arguments
+abbrev pub again : Object
+again vs view = answers (asks_for (further.Filter (codes "again") vs))
+
+-- keeps 1 at k, and answers a fault
+abbrev pub kept : Object
+kept vs view = record { temps = (codes "k", number (pos 1)) ∷ []; reply = faults (MissingArgument ∷ []) }
+
+-- keeps 1 at k, and asks for the filter of a name
+abbrev pub keeps_and_asks : List ℕ → Object
+keeps_and_asks x vs view = record {
+  temps = (codes "k", number (pos 1)) ∷ [];
+  reply = asks_for (further.Filter x vs);
+}
+
+-- what is kept at k
+abbrev pub kept_at_k : Object
+kept_at_k vs view = answers (gives (or_undefined (find (codes "k") view.temps)))
+
+-- a page over these filters, and a function that asks for a further call
+abbrev pub further_page : Body → Page
+further_page body = record (filter_page body) {
+  functions = callers capital_a ∷ [];
+  globals = (codes "f", function 0) ∷ [];
+  filters = (codes "again", again) ∷ (codes "kept", kept) ∷ (codes "read", kept_at_k) ∷ (codes "twice", twice)
+    ∷ (codes "unknown", keeps_and_asks (codes "nope")) ∷ (codes "upper", upper) ∷ (codes "with_k", keeps_and_asks (codes "read")) ∷ [];
+  tests = (codes "upper", capital_a) ∷ [];
+}
+
+abbrev pub with_limit : ℕ → Page → Page
+with_limit n p = record p { limit = n }
+
+-- {{ f() }}
+abbrev pub further_of_function : Page
+further_of_function = further_page (one (EmitExpr (call_none (codes "f"))))
+
+-- {{ "a"|x }}
+abbrev pub further_of : List ℕ → Page
+further_of x = further_page (one (EmitExpr (passed_alone applications.Filter (literal (codes "a")) x)))
+
+-- {{ "" is upper }}
+abbrev pub further_of_test : Page
+further_of_test = further_page (one (EmitExpr (passed_alone applications.Test (literal []) (codes "upper"))))
+
+-- {% with %}{{ f() }}{% endwith %}
+abbrev pub further_within : Page
+further_within =
+    further_page (one (With' [] (tt ∷ []) (statement (EmitExpr (call_none (codes "f"))) no_statement)))
 
 -- ---------------------------------------------------------------- cache numbers
 -- Where a run of this code ends, under the filters and tests of a page.

@@ -8,7 +8,7 @@ use Rattle.tm_values.specs.declared.escape.AutoEscape.{AutoEscape}
 use Rattle.tm_syntax.specs.declared.instruction.Instruction.{Instruction}
 pub use Rattle.tm_meaning.specs.declared.base.Base.{Base}
 use Rattle.tm_meaning.specs.World.{choose, TemplateId, StreamId, World, HostValue, Res, Good, Bad, open_loop, captured_text}
-use Rattle.tm_meaning.specs.Calls.{Callee, whole, Call, Asked, has, refused, runs, recurs, undone, wrapped}
+use Rattle.tm_meaning.specs.Calls.{Callee, whole, NestedCall, Asked, has, refused, runs, recurs, undone, wrapped}
 use Rattle.tm_syntax.specs.declared.instruction.LoopPlace.{LoopPlace}
 use Rattle.tm_syntax.specs.Loops.{loop_places}
 use Rattle.tm_meaning.specs.Meaning.{none_waits}
@@ -60,7 +60,7 @@ pub data End : Type 0 where
 -- Where to go on behind a nested run: the run that waits, its place moved on, the call, and whether the text is a value.
 pub record Back : Type 0 where
   pub run : Activation
-  pub call : Call
+  pub call : NestedCall
   pub value : Bool
 
 -- A step writes a text and goes on, or ends the run, or first needs a run of its own.
@@ -177,12 +177,12 @@ abbrev pub waiting : List Val → Config → Activation
 waiting vs c = record c.run { place = c.run.place + 1; operands = vs }
 
 -- a nested run whose text is heard where the call is
-abbrev pub nested_in_place : Base → List Val → Config → Call → World → Next
+abbrev pub nested_in_place : Base → List Val → Config → NestedCall → World → Next
 nested_in_place f vs c k w =
     Nest (base_of (audible f c) c.captures w) (start k.callee c.captures w) (record { run = waiting vs c; call = k; value = false })
 
 -- a nested run whose text waits in a capture
-abbrev pub nested_as_value : List Val → Config → Call → World → Next
+abbrev pub nested_as_value : List Val → Config → NestedCall → World → Next
 nested_as_value vs c k w =
     let ks = new_capture true ∷ c.captures in
     Nest (base_of true ks w) (start k.callee ks w) (record { run = waiting vs c; call = k; value = true })

@@ -29,6 +29,8 @@ ghost use Rattle.tm_meaning.specs.SpreadRows.{dict_of_maps, dict_between, dict_o
 ghost use Rattle.tm_meaning.specs.SpreadRows.{namespace_of_one, called_item, called_number, called_text};
 ghost use Rattle.tm_meaning.specs.FilterRows.{is_unsure, under, unknown, filtered_by, tested_by};
 ghost use Rattle.tm_meaning.specs.FilterRows.{upper_by, second_by, odd_by, unsure_by, EndsIn};
+ghost use Rattle.tm_meaning.specs.FilterRows.{further_of, further_of_function, further_of_test};
+ghost use Rattle.tm_meaning.specs.FilterRows.{further_within, with_limit};
 ghost use Rattle.tm_meaning.specs.FilterRows.{filter_block, two_filters, last_counts, set_filtered};
 ghost use Rattle.tm_meaning.specs.FilterRows.{capitals_in_html, safe_in_html, break_in_filter, fault_in_filter};
 ghost use Rattle.tm_meaning.specs.ObjectRows.{by_name, emitted_none, keeps_and_faults, method_of_function, no_zero};
@@ -301,6 +303,26 @@ pub fn cache_rows()
     ensures test { EndsIn (tested_by (odd_by 0 ∷ odd_by 0 ∷ [])) (codes "false") [] }
     ensures other_test { EndsIn (tested_by (odd_by 0 ∷ unsure_by 0 ∷ [])) [] (BadStream ∷ []) }
     ensures past_tests { EndsIn (tested_by (odd_by 50 ∷ [])) [] (BadStream ∷ []) }
+{}
+
+/// Further calls of a filter: `{{ f() }}`, alone and in a scope, where f asks for `upper` with a; `{{ "a"|twice }}`, which asks for `upper`
+/// with its text doubled; each under a limit with room for one more depth, and without. `{{ "a"|again }}`, which asks for itself; what is
+/// kept before a further call, which sees it; and a filter that isn't there.
+pub fn further_rows()
+    ensures function { Charges (with_limit 2 further_of_function) (codes "A") 2 }
+    ensures too_deep { Fails (with_limit 1 further_of_function) [] (InvalidOperation ∷ []) }
+    ensures scope { Shows (with_limit 3 further_within) (codes "A") }
+    ensures scope_too_deep { Fails (with_limit 2 further_within) [] (InvalidOperation ∷ []) }
+    ensures filter { Charges (with_limit 2 (further_of (codes "twice"))) (codes "AA") 3 }
+    ensures filter_too_deep { Fails (with_limit 1 (further_of (codes "twice"))) []
+        (InvalidOperation ∷ []) }
+    ensures test { Shows (with_limit 2 further_of_test) (codes "true") }
+    ensures endless { Fails (with_limit 5 (further_of (codes "again"))) [] (InvalidOperation ∷ []) }
+    ensures fault { Fails (further_of (codes "kept")) [] (MissingArgument ∷ []) }
+    ensures fault_kept { Leaves (further_of (codes "kept")) ((codes "k", number (pos 1)) ∷ []) }
+    ensures sees { Shows (further_of (codes "with_k")) (decimal 1) }
+    ensures unknown { Fails (further_of (codes "unknown")) [] (UnknownFilter ∷ []) }
+    ensures kept { Leaves (further_of (codes "unknown")) ((codes "k", number (pos 1)) ∷ []) }
 {}
 
 /// `{{ sum.x() }}` of a function, `{{ nope.m() }}` of an undefined name under Strict, and `loop.index()`, without and with a method object

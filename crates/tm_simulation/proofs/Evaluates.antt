@@ -31,7 +31,7 @@ use Rattle.tm_definitions.specs.Members.{settable}
 use Rattle.tm_meaning.specs.World.{World, HostValue, loop_scope, next_turn, cleared, items_over, Res, bind, answered, tick, depth}
 use Rattle.tm_meaning.specs.World.{looked_up}
 use Rattle.tm_meaning.specs.World.{lookup, records_of, with_member, set_member, unpacked_items}
-use Rattle.tm_meaning.specs.Calls.{Callee, Call, undone, wrapped, Asked, has, refused, runs, recurs, applied}
+use Rattle.tm_meaning.specs.Calls.{Callee, NestedCall, undone, wrapped, Asked, has, refused, runs, recurs, applied}
 use Rattle.tm_meaning.specs.Meaning.{text_behind, Run, Outcome, Ending, done, leave, next, fault, Under, audible, value_of, value_behind}
 use Rattle.tm_meaning.specs.Meaning.{in_place_of, behind, truth, applied_unary, operated, applied_binary, eval, eval_all, eval_pairs}
 use Rattle.tm_meaning.specs.Meaning.{eval_argument, eval_arguments, eval_keywords, eval_lists, one_counted, selected, loop_items}
@@ -126,7 +126,7 @@ wrap_arises host None chain h = h
 wrap_arises host (Some wrapping.EvalBlock) chain h = wraps refl h
 wrap_arises host (Some wrapping.BadInclude) chain h = wraps refl h
 
-value_by : (host : HostValue) (w world1 : World) (c : Call) (e : Ending) (o : Outcome) →
+value_by : (host : HostValue) (w world1 : World) (c : NestedCall) (e : Ending) (o : Outcome) →
     EndingKeeps host (in_stream o.world.stream world1) e o.world →
     ((world2 : World) → Advances (in_stream world2.stream world1) world2 → Kept w (undone c.undo world2)) →
     Gives host w (value_behind e c o)
@@ -142,7 +142,7 @@ text_by host w world1 leave o h k = kept_then h k
 text_by host w world1 next o h k = kept_then h k
 text_by host w world1 (fault chain) o h k = (advances_then h.advances k.0, k.1)
 
-place_by : (host : HostValue) (w world1 : World) (c : Call) (run : Run) (e : Ending) (o : Outcome) →
+place_by : (host : HostValue) (w world1 : World) (c : NestedCall) (run : Run) (e : Ending) (o : Outcome) →
     EndingKeeps host (in_stream o.world.stream world1) e o.world →
     ((world2 : World) → Advances (in_stream world2.stream world1) world2 → Kept w (undone c.undo world2)) →
     OutcomeKeeps host w (behind e c run o)

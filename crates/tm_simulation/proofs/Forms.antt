@@ -3,7 +3,7 @@ use Rattle.std.proofs.Common.{◌≡◌, ℕ, suc, ◌+◌, ◌<◌, ◌≤◌, 
 use Rattle.std.proofs.Common.{refl, sym, subst, arith, lt-ltb, le-ltb}
 use Rattle.tm_values.specs.Val.{Val}
 use Rattle.tm_meaning.specs.World.{choose, World, captured_text}
-use Rattle.tm_meaning.specs.Calls.{Callee, Call, undone, wrapped, runs}
+use Rattle.tm_meaning.specs.Calls.{Callee, NestedCall, undone, wrapped, runs}
 use Rattle.tm_meaning.specs.Meaning.{Run, Outcome, Ending, done, leave, next, fault, Under, audible as heard_here, say, behind, in_place_of}
 use Rattle.tm_meaning.specs.Meaning.{value_behind, value_of, capturing}
 use Rattle.tm_meaning.specs.Machine.{Activation, Finished, Failed, Back, More, Nest, Program, audible, put_in, put_out, writes, back_to}
@@ -85,7 +85,7 @@ Entered p k heard b out w o =
     (start k (captures_of b out) w)) (end_of b o)
 
 module _ (context : RunContext) where
-  in_place_by : (k : Call) (run : Run) (a : Activation) (b : Bed) (e : Ending) (parent : Option TemplateId) (out : List ℕ) (w : World)
+  in_place_by : (k : NestedCall) (run : Run) (a : Activation) (b : Bed) (e : Ending) (parent : Option TemplateId) (out : List ℕ) (w : World)
       (D L N : Then) →
       Ends context b (behind e k run (whole_of e parent out w)) D L N → (D run.parent out (undone k.undo w) →
       LeadsToEnd context (told_by b out) (More [] (record { run = a; captures = captures_of b out; world = undone k.undo w }))) →
@@ -97,7 +97,7 @@ module _ (context : RunContext) where
       (wrapped k.wrap chain) D L N h)
 
   -- a call in place: its text is heard where the call is
-  pub call_in_place : (u : Under) (k : Call) (run : Run) (s : Spot) (pc : ℕ) (stack vs : List Val) (w v : World) (D L N : Then) →
+  pub call_in_place : (u : Under) (k : NestedCall) (run : Run) (s : Spot) (pc : ℕ) (stack vs : List Val) (w v : World) (D L N : Then) →
       s.parent ≡ run.parent → Fits context.base run s.bed →
       Entered context.program k.callee (heard_here run) s.bed s.out v (u.nests k.callee (heard_here run) s.out v) →
       Ends context s.bed (in_place_of u run s.out (runs k v)) D L N →
@@ -113,7 +113,7 @@ module _ (context : RunContext) where
       (Nest (base_of x (captures_of s.bed s.out) v) (start k.callee (captures_of s.bed s.out) v) back))
       (sym e) (nest refl entered rest)
 
-  value_by : (k : Call) (a : Activation) (b : Bed) (out0 : List ℕ) (e : Ending) (o : Outcome) (K : Val → World → Type 0) →
+  value_by : (k : NestedCall) (a : Activation) (b : Bed) (out0 : List ℕ) (e : Ending) (o : Outcome) (K : Val → World → Type 0) →
       Follows context (told_by b out0) (value_behind e k o) K →
       (K (captured_text o.text (undone k.undo o.world)) (undone k.undo o.world) →
       LeadsToEnd context (told_by b out0) (More [] (record {
@@ -130,7 +130,7 @@ module _ (context : RunContext) where
   value_by k a b out0 (fault chain) o K h g = over refl h
 
   -- a call whose text is a value
-  pub call_as_value : (u : Under) (run : Run) (k : Call) (s : Spot) (pc : ℕ) (stack vs : List Val) (w v : World)
+  pub call_as_value : (u : Under) (run : Run) (k : NestedCall) (s : Spot) (pc : ℕ) (stack vs : List Val) (w v : World)
       (K : Val → World → Type 0) →
       Entered context.program k.callee true (inside true (told s) (captures_of s.bed s.out)) [] v (u.nests k.callee true [] v) →
       Follows context (told s) (value_of u run (runs k v)) K →

@@ -7,7 +7,7 @@ use Rattle.tm_values.specs.declared.error.ErrorKind.TheVariants.{InvalidOperatio
 use Rattle.tm_syntax.specs.Loops.{loops_in}
 use Rattle.tm_meaning.specs.Tree.{Body, Trees}
 use Rattle.tm_meaning.specs.World.{choose, World, HostValue, Res, Good, Bad, tick, plain_scope}
-use Rattle.tm_meaning.specs.Calls.{Callee, whole, Call, of_block, undone, runs}
+use Rattle.tm_meaning.specs.Calls.{Callee, whole, NestedCall, of_block, undone, runs}
 use Rattle.tm_meaning.specs.Meaning.{over, under, again_of, Run, Outcome, Ending, done, leave, next, fault, Nests, Under, done_by, exec_all}
 use Rattle.tm_meaning.specs.Meaning.{behind, in_place_of, block_tag, audible, none_waits, at_end, new_run, nests_of, rendered, chain_in}
 use Rattle.tm_meaning.specs.Meaning.{chain_of}
@@ -119,7 +119,7 @@ render_ends_there host trees w =
     (nest_ends_there host trees (host.limit + 1) (whole w.stream) true [] w))).same_stream
 
 -- ---------------------------------------------------------------- what a block's tag puts back
-behind_world : (e : Ending) (c : Call) (run : Run) (o : Outcome) → (behind e c run o).world ≡ undone c.undo o.world
+behind_world : (e : Ending) (c : NestedCall) (run : Run) (o : Outcome) → (behind e c run o).world ≡ undone c.undo o.world
 behind_world done c run o = refl
 behind_world leave c run o = refl
 behind_world next c run o = refl
@@ -137,7 +137,7 @@ entered_puts_back : (u : Under) (run : Run) (b : List ℕ) (out : List ℕ) (w :
     RunEnds u.host (in_block stream b w) (u.nests (whole stream) (audible run) out (in_block stream b w)) →
     PutsBack w (in_place_of u run out (runs (record { callee = whole stream; undo = of_block w; wrap = None }) (in_block stream b w))).world
 entered_puts_back u run b out w stream ends =
-    let c : Call = record { callee = whole stream; undo = of_block w; wrap = None } in
+    let c : NestedCall = record { callee = whole stream; undo = of_block w; wrap = None } in
     let o = u.nests (whole stream) (audible run) out (in_block stream b w) in
     let began = in_stream o.world.stream (in_block stream b w) in
     let l = ends_advance u.host began o.ending o.world (run_ends_as u.host (in_block stream b w) o ends) in
