@@ -136,12 +136,12 @@ given_by own.Range args w = answered (range_of args) w
 given_by own.Dict args w = bind (answered (dict_of (records_of w) args) w) (λ ps world1. Good (map (pairs_of ps)) world1)
 given_by own.Namespace args w = bind (answered (namespace_of (records_of w) args) w) (λ ps world1. make_namespace ps world1)
 
--- an object of the caller is called by code
-abbrev pub call_object : HostValue → Object → List Val → World → Asked
-call_object host f args w = object_call (further_calls (depths_left host w) host) host f args w
+-- what makes further calls where code calls
+abbrev pub by_depths : HostValue → World → MakesFurther
+by_depths host w = further_calls (depths_left host w) host
 
 abbrev pub call_by : HostValue → Function → List Val → World → Asked
-call_by host (callers f) args w = call_object host f args w
+call_by host (callers f) args w = object_call (by_depths host w) host f args w
 call_by host (languages g) args w = ask (given_by g args w) has
 
 -- a value is called: of values alone a function can be, by its number
@@ -197,8 +197,7 @@ method_object (Some f) v x = Some (f v x)
 
 -- A value has no method of a name: the caller's object answers, where there is one.
 abbrev pub unknown_method : HostValue → List ℕ → Val → List Val → World → Asked
-unknown_method host x v args w =
-    ask (need (method_object host.unknown_method v x) UnknownMethod w) (λ f world1. call_object host f args world1)
+unknown_method host x v args w = found_call (by_depths host w) host (method_object host.unknown_method v x) UnknownMethod args w
 
 -- A loop has two methods of its own: whether what it is called with changed, and the argument whose turn it is.
 abbrev pub loop_method : HostValue → List ℕ → ℕ → ℕ → List Val → World → Asked
@@ -233,7 +232,7 @@ call_first host x (v ∷ args) w = call_method host x v args w
 
 -- ---------------------------------------------------------------- filters and tests
 abbrev pub apply_filter : HostValue → List ℕ → List Val → World → Asked
-apply_filter host x args w = ask (need (find x host.filters) UnknownFilter w) (λ f world1. call_object host f args world1)
+apply_filter host x args w = found_call (by_depths host w) host (find x host.filters) UnknownFilter args w
 
 -- Of a test's answer the truth alone counts, whatever undefined values do.
 abbrev pub as_truth : Asked → Asked
@@ -243,8 +242,7 @@ as_truth (runs c w) = runs c w
 as_truth (recurs n items w) = recurs n items w
 
 abbrev pub perform_test : HostValue → List ℕ → List Val → World → Asked
-perform_test host x args w =
-    as_truth (ask (need (find x host.tests) UnknownTest w) (λ f world1. call_object host f args world1))
+perform_test host x args w = as_truth (found_call (by_depths host w) host (find x host.tests) UnknownTest args w)
 
 -- Values are passed to what a name stands for: the first one's method, a filter or a test.
 abbrev pub applied : HostValue → Application → List ℕ → List Val → World → Asked

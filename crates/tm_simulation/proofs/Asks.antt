@@ -16,11 +16,13 @@ use Rattle.tm_meaning.specs.World.{items_over, Res, Good, Bad}
 use Rattle.tm_meaning.specs.World.{need, check, answered, depth, lookup, Function, callers, languages, records_of}
 use Rattle.tm_meaning.specs.World.{plain_scope, Object, View}
 use Rattle.tm_meaning.specs.declared.reply.Reply.{Reply}
-use Rattle.tm_meaning.specs.declared.reply.Reply.TheVariants.{Value as gives, Fault as faults}
+use Rattle.tm_meaning.specs.declared.reply.Reply.TheVariants.{Value as gives, Fault as faults, Further as asks_for}
+use Rattle.tm_meaning.specs.declared.reply.Call.{Call}
+use Rattle.tm_meaning.specs.declared.reply.Call.TheVariants as further
 use Rattle.tm_meaning.specs.Calls.{whole, of_block, undone, Asked, has, refused, runs, recurs, ask, same_stream, wrapped_as}
 use Rattle.tm_meaning.specs.Calls.{call_loop, call_innermost, one_argument, call_found, enter_block, call_named, call_value, call_method}
-use Rattle.tm_meaning.specs.Calls.{method_object, unknown_method, call_callee, call_in, call_object, call_first, apply_filter, perform_test}
-use Rattle.tm_meaning.specs.Calls.{as_truth, applied}
+use Rattle.tm_meaning.specs.Calls.{method_object, unknown_method, call_callee, call_in, call_first, apply_filter, perform_test}
+use Rattle.tm_meaning.specs.Calls.{as_truth, applied, MakesFurther, object_call, found_call, further_calls, depths_left, by_depths}
 use Rattle.tm_meaning.specs.Calls.{loop_method, method_in, of_loop, record_at, call_by, given_by, replied, required_alone}
 use Rattle.tm_meaning.specs.declared.function.GlobalFunction.{GlobalFunction}
 use Rattle.tm_meaning.specs.declared.function.GlobalFunction.TheVariants as own
@@ -117,23 +119,45 @@ given_gives host own.Namespace args w =
     kept_lasting (lasts_by_namespaces world1 (world1.namespaces ++ ps ∷ []) (omega (arith, length-append world1.namespaces (ps ∷ []))))
     refl refl refl refl)
 
--- values that are kept are kept first, also where the rest is a fault
-replied_asks : (host : HostValue) (f : Object) (args : List Val) (view : View) (w : World) (reply : Reply) →
-    IsObject host f → (f args view).reply ≡ reply → Asks host w (replied reply w)
-replied_asks host f args view w (gives v) e s = kept_same w
-replied_asks host f args view w (faults chain) e s = (advances_same w, by_object f args view e s)
+-- What makes further calls keeps the world, as what it calls does.
+abbrev MakesAsks : HostValue → MakesFurther → Type 0
+MakesAsks host make = (c : Call) (w : World) → Asks host w (make c w)
 
-object_asks : (host : HostValue) (f : Object) (args : List Val) (w : World) → IsObject host f → Asks host w (call_object host f args w)
-object_asks host f args w e =
+replied_asks : (host : HostValue) (make : MakesFurther) → MakesAsks host make → (f : Object) (args : List Val) (view : View) (w : World)
+    (reply : Reply) → IsObject host f → (f args view).reply ≡ reply → Asks host w (replied make reply w)
+replied_asks host make k f args view w (gives v) e s = kept_same w
+replied_asks host make k f args view w (faults chain) e s = (advances_same w, by_object f args view e s)
+replied_asks host make k f args view w (asks_for c) e s = k c w
+
+-- values to keep are kept first
+object_asks : (host : HostValue) (make : MakesFurther) → MakesAsks host make → (f : Object) (args : List Val) (w : World) →
+    IsObject host f → Asks host w (object_call make host f args w)
+object_asks host make k f args w e =
     let stated = f args (view_of host w) in
     let temps = put_each stated.temps w.temps in
-    asks_then host w (record w { temps = temps }) (replied stated.reply (record w { temps = temps }))
+    asks_then host w (record w { temps = temps }) (replied make stated.reply (record w { temps = temps }))
     (kept_lasting (lasts_by_temps w temps (put_each_long stated.temps w.temps)) refl refl refl refl)
-    (replied_asks host f args (view_of host w) _ stated.reply e refl)
+    (replied_asks host make k f args (view_of host w) _ stated.reply e refl)
+
+named_object_asks : (host : HostValue) (make : MakesFurther) → MakesAsks host make → (found : Option Object) (kind : ErrorKind)
+    (args : List Val) (w : World) → is_raised kind ≡ true → ((f : Object) → found ≡ Some f → IsObject host f) →
+    Asks host w (found_call make host found kind args w)
+named_object_asks host make k found kind args w e there =
+    ask_need host w found kind (λ f world1. object_call make host f args world1) e
+    (λ f is. object_asks host make k f args w (there f is))
+
+further_asks : (left : ℕ) (host : HostValue) → MakesAsks host (further_calls left host)
+further_asks zero host c w = asks_refused host w InvalidOperation refl
+further_asks (suc left) host (further.Filter x args) w =
+    named_object_asks host (further_calls left host) (further_asks left host) (find x host.filters) UnknownFilter args w refl
+    (λ f e. is_filter x e)
+
+depths_ask : (host : HostValue) (w : World) → MakesAsks host (by_depths host w)
+depths_ask host w = further_asks (depths_left host w) host
 
 by_asks : (host : HostValue) (n : ℕ) (f : Function) (args : List Val) (w : World) → slice_get host.functions n ≡ Some f →
     Asks host w (call_by host f args w)
-by_asks host n (callers f) args w e = object_asks host f args w (is_function n e)
+by_asks host n (callers f) args w e = object_asks host (by_depths host w) (depths_ask host w) f args w (is_function n e)
 by_asks host n (languages g) args w e = ask_then host w (given_by g args w) has (given_gives host g args w) (λ v world1. kept_same world1)
 
 value_asks : (host : HostValue) (v : Val) (args : List Val) (w : World) → Asks host w (call_value host v args w)
@@ -158,8 +182,8 @@ of_loop_asks host w (Some l) f k = k l
 
 unknown_asks : (host : HostValue) (x : List ℕ) (v : Val) (args : List Val) (w : World) → Asks host w (unknown_method host x v args w)
 unknown_asks host x v args w =
-    ask_need host w (method_object host.unknown_method v x) UnknownMethod (λ f world1. call_object host f args world1) refl
-    (λ f e. object_asks host f args w (is_method v x e))
+    named_object_asks host (by_depths host w) (depths_ask host w) (method_object host.unknown_method v x) UnknownMethod args w refl
+    (λ f e. is_method v x e)
 
 loop_asks : (host : HostValue) (x : List ℕ) (state n : ℕ) (args : List Val) (w : World) → Asks host w (loop_method host x state n args w)
 loop_asks host x state n args w =
@@ -189,8 +213,7 @@ first_asks host x (v ∷ args) w = method_asks host x v args w
 
 filter_asks : (host : HostValue) (x : List ℕ) (args : List Val) (w : World) → Asks host w (apply_filter host x args w)
 filter_asks host x args w =
-    ask_need host w (find x host.filters) UnknownFilter (λ f world1. call_object host f args world1) refl
-    (λ f e. object_asks host f args w (is_filter x e))
+    named_object_asks host (by_depths host w) (depths_ask host w) (find x host.filters) UnknownFilter args w refl (λ f e. is_filter x e)
 
 truth_asks : (host : HostValue) (w : World) (q : Asked) → Asks host w q → Asks host w (as_truth q)
 truth_asks host w (has v world1) h = h
@@ -200,8 +223,8 @@ truth_asks host w (recurs n items world1) h = h
 
 test_asks : (host : HostValue) (x : List ℕ) (args : List Val) (w : World) → Asks host w (perform_test host x args w)
 test_asks host x args w =
-    truth_asks host w _ (ask_need host w (find x host.tests) UnknownTest (λ f world1. call_object host f args world1) refl
-    (λ f e. object_asks host f args w (is_test x e)))
+    truth_asks host w _ (named_object_asks host (by_depths host w) (depths_ask host w) (find x host.tests) UnknownTest args w refl
+    (λ f e. is_test x e))
 
 pub applied_asks : (host : HostValue) (k : Application) (x : List ℕ) (vs : List Val) (w : World) → Asks host w (applied host k x vs w)
 applied_asks host applications.Method x vs w = first_asks host x vs w

@@ -10,7 +10,7 @@ use Rattle.tm_meaning.specs.Memory.{is_wrapping}
 use Rattle.tm_meaning.specs.World.{HostValue, View, Object, Fallback, Format, Function, callers, languages, find}
 use Rattle.tm_meaning.specs.Calls.{method_object}
 use Rattle.tm_meaning.specs.declared.reply.Reply.{Reply}
-use Rattle.tm_meaning.specs.declared.reply.Reply.TheVariants.{Value as gives, Fault as faults}
+use Rattle.tm_meaning.specs.declared.reply.Reply.TheVariants.{Value as gives, Fault as faults, Further as asks_for}
 
 -- the kinds that a render raises by itself
 abbrev pub is_raised : ErrorKind → Bool
@@ -63,6 +63,7 @@ AnswersOnly Has (Err chain) = Has chain
 abbrev pub RepliesOnly : (List ErrorKind → Type 0) → Reply → Type 0
 RepliesOnly Has (gives v) = Unit {0}
 RepliesOnly Has (faults chain) = Has chain
+RepliesOnly Has (asks_for c) = Unit {0}
 
 -- Whatever it is called with, and whatever it sees, an object of the caller replies so.
 abbrev pub ObjectStates : (List ErrorKind → Type 0) → Object → Type 0

@@ -10,8 +10,8 @@ use Rattle.tm_values.specs.Val.{Val}
 use Rattle.tm_tables.specs.declared.callable.Called.{Called}
 use Rattle.tm_tables.specs.declared.callable.Called.TheVariants as called
 use Rattle.tm_tables.specs.Stated.{is_for_memory}
-use Rattle.tm_meaning.specs.World.{World, HostValue, Object, Stated, Loop, Res, Good, Bad, need}
-use Rattle.tm_meaning.specs.Calls.{Asked, has, refused, recurs, ask, replied, call_object, given_by, is_changed}
+use Rattle.tm_meaning.specs.World.{World, HostValue, Object, Stated, Loop, Res, Good, Bad}
+use Rattle.tm_meaning.specs.Calls.{Asked, has, refused, recurs, ask, MakesFurther, replied, found_call, by_depths, given_by, is_changed}
 use Rattle.tm_state.specs.declared.calls.CallResult.{CallResult}
 use Rattle.tm_state.specs.declared.calls.CallResult.TheVariants as outcome
 use Rattle.tm_state.specs.declared.calls.Recursion.{Recursion}
@@ -32,23 +32,22 @@ abbrev pub IsEmitted : Result (String Global) (List ErrorKind) → Res (List ℕ
 IsEmitted (Ok text) emitted w = emitted ≡ Good (string_bytes text) w
 IsEmitted (Err chain) emitted w = is_want_of_memory chain ≡ false → emitted ≡ Bad chain w
 
--- What a call of these arguments comes to: what was answered, with its values kept; or what a function of the language gives; or the call
--- is refused.
-abbrev pub Calls : Result Called (List ErrorKind) → Asked → List Val → World → Type 0
-Calls (Ok (called.Answered answer)) asked args w = is_for_memory answer.reply ≡ false →
-    asked ≡ replied answer.reply (record w { temps = put_each answer.temps w.temps })
-Calls (Ok (called.Language g)) asked args w = asked ≡ ask (given_by g args w) has
-Calls (Err chain) asked args w = is_want_of_memory chain ≡ false → asked ≡ refused chain w
+-- A call comes to what was answered, with its values kept, unless that is want of memory; or it is refused.
+abbrev pub Answers : MakesFurther → Result Stated (List ErrorKind) → Asked → World → Type 0
+Answers make (Ok answer) asked w = is_for_memory answer.reply ≡ false →
+    asked ≡ replied make answer.reply (record w { temps = put_each answer.temps w.temps })
+Answers make (Err chain) asked w = is_want_of_memory chain ≡ false → asked ≡ refused chain w
 
--- An object of the caller is called, where it is there; else the call is refused by a kind.
-abbrev pub object_called : HostValue → Option Object → ErrorKind → List Val → World → Asked
-object_called host found kind args w = ask (need found kind w) (λ f world1. call_object host f args world1)
+-- The object that is found answers so, or none is, whatever makes its further calls.
+abbrev pub FoundAnswers : Result Stated (List ErrorKind) → HostValue → Option Object → ErrorKind → List Val → World → Type 0
+FoundAnswers result host found kind args w =
+    (make : MakesFurther) → Answers make result (found_call make host found kind args w) w
 
--- What a call comes to of which this is the answer, with its values kept; or the call is refused.
-abbrev pub Answers : Result Stated (List ErrorKind) → Asked → World → Type 0
-Answers (Ok answer) asked w = is_for_memory answer.reply ≡ false →
-    asked ≡ replied answer.reply (record w { temps = put_each answer.temps w.temps })
-Answers (Err chain) asked w = is_want_of_memory chain ≡ false → asked ≡ refused chain w
+-- What a call of these arguments comes to: what was answered; or what a function of the language gives; or the call is refused.
+abbrev pub Calls : HostValue → Result Called (List ErrorKind) → Asked → List Val → World → Type 0
+Calls host (Ok (called.Answered answer)) asked args w = Answers (by_depths host w) (Ok answer) asked w
+Calls host (Ok (called.Language g)) asked args w = asked ≡ ask (given_by g args w) has
+Calls host (Err chain) asked args w = is_want_of_memory chain ≡ false → asked ≡ refused chain w
 
 -- What a test came to, but for want of memory: a truth value and the world behind it, or a fault.
 abbrev pub Tests : Result Bool (List ErrorKind) → Asked → World → Type 0

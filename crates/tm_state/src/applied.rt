@@ -1,7 +1,7 @@
 //! What values give that are passed to what a name stands for: a method, a filter or a test.
 ghost use Rattle.std.specs.Prelude.{◌≡◌};
 ghost use Rattle.tm_meaning.specs.Calls.{applied, apply_filter, call_first, perform_test};
-ghost use Rattle.tm_state.specs.Answers.{Answers, Comes, Tests, object_called};
+ghost use Rattle.tm_state.specs.Answers.{Comes, FoundAnswers, Tests};
 ghost use Rattle.tm_syntax.specs.Named.{find};
 ghost use Rattle.tm_values.specs.declared.error.ErrorKind.TheVariants.{UnknownFilter, UnknownTest};
 
@@ -59,7 +59,7 @@ impl StateData<'_> {
 
     /// What the filter of a name gives for these values; what it keeps is kept, also where it answers a fault.
     /// UnknownFilter where there is none of that name, and the filter's fault.
-    #[tactic(auto, using(crate::proofs::Answered::taken))]
+    #[tactic(auto, using(crate::proofs::Answered::followed))]
     pub fn apply_filter<H: Host>(
         &mut self,
         alloc: Global,
@@ -72,13 +72,13 @@ impl StateData<'_> {
         ensures rest { self.new ≡ record self.old { temps = self.new.temps } }
     {
         let answer = self.filter_answer(alloc, host, name, args)?;
-        self.take_answer(answer)
+        self.follow(alloc, host, answer)
     }
 
     /// Whether what the test of a name answers to these values is true, whatever undefined values do; what it
     /// keeps is kept, also where it answers a fault. UnknownTest where there is none of that name, and the
     /// test's fault.
-    #[tactic(auto, using(crate::proofs::Answered::taken_truth))]
+    #[tactic(auto, using(crate::proofs::Answered::followed_truth))]
     pub fn perform_test<H: Host>(
         &mut self,
         alloc: Global,
@@ -91,21 +91,21 @@ impl StateData<'_> {
         ensures rest { self.new ≡ record self.old { temps = self.new.temps } }
     {
         let answer = self.test_answer(alloc, host, name, args)?;
-        let value = self.take_answer(answer)?;
+        let value = self.follow(alloc, host, answer)?;
         Ok(is_true(&value))
     }
 
     /// What the filter of a name answers.
     #[tactic(auto, using(crate::proofs::Answered::named))]
-    fn filter_answer<H: Host>(
+    pub(crate) fn filter_answer<H: Host>(
         &self,
         alloc: Global,
         host: &H,
         name: &str,
         args: &[Value],
     ) -> Result<CallableAnswer, Error>
-        ensures { Answers result (object_called (H.meaning host.now)
-            (find name.now (H.meaning host.now).filters) UnknownFilter args.now self.now) self.now }
+        ensures { FoundAnswers result (H.meaning host.now)
+            (find name.now (H.meaning host.now).filters) UnknownFilter args.now self.now }
     {
         let view = self.view(host);
         match host.apply_filter(alloc, name, args, &view) {
@@ -123,8 +123,8 @@ impl StateData<'_> {
         name: &str,
         args: &[Value],
     ) -> Result<CallableAnswer, Error>
-        ensures { Answers result (object_called (H.meaning host.now)
-            (find name.now (H.meaning host.now).tests) UnknownTest args.now self.now) self.now }
+        ensures { FoundAnswers result (H.meaning host.now)
+            (find name.now (H.meaning host.now).tests) UnknownTest args.now self.now }
     {
         let view = self.view(host);
         match host.perform_test(alloc, name, args, &view) {

@@ -7,13 +7,14 @@ ghost use Rattle.tm_meaning.specs.World.{records_of};
 ghost use Rattle.tm_values.specs.Val.{loop};
 ghost use Rattle.tm_meaning.specs.Calls.{call_callee, call_found, call_innermost, call_loop, call_named, call_value, call_method};
 ghost use Rattle.tm_meaning.specs.Calls.{loop_method, method_in, method_object, unknown_method, is_macro_attribute, replied};
-ghost use Rattle.tm_state.specs.Answers.{Answers, Becomes, Calls, Comes, IsBecause, Recurs, object_called};
+ghost use Rattle.tm_meaning.specs.Calls.{by_depths, further_call};
+ghost use Rattle.tm_state.specs.Answers.{Answers, Becomes, Calls, Comes, FoundAnswers, IsBecause, Recurs};
 ghost use Rattle.tm_values.specs.declared.error.ErrorKind.TheVariants.{UnknownMethod};
 
 use crate::state::StateData;
 use std::alloc::Global;
 use std::rc::Rc;
-use tm_meaning::Reply;
+use tm_meaning::{Call, Reply};
 use tm_operations::{attribute, iterate};
 use tm_syntax::Name;
 use tm_tables::{CallableAnswer, Called, Host, LoopState};
@@ -178,7 +179,7 @@ impl StateData<'_> {
 
     /// What the method object answers of a value's method of a name; what it keeps is kept, also where it answers
     /// a fault. UnknownMethod where there is no such object, and the object's fault.
-    #[tactic(auto, using(crate::proofs::Answered::taken))]
+    #[tactic(auto, using(crate::proofs::Answered::followed))]
     fn call_unknown_method<H: Host>(
         &mut self,
         alloc: Global,
@@ -192,7 +193,7 @@ impl StateData<'_> {
         ensures rest { self.new ≡ record self.old { temps = self.new.temps } }
     {
         let answer = self.method_answer(alloc, host, receiver, name, args)?;
-        self.take_answer(answer)
+        self.follow(alloc, host, answer)
     }
 
     /// What the method object answers.
@@ -205,9 +206,9 @@ impl StateData<'_> {
         name: &str,
         args: &[Value],
     ) -> Result<CallableAnswer, Error>
-        ensures { Answers result (object_called (H.meaning host.now)
+        ensures { FoundAnswers result (H.meaning host.now)
             (method_object (H.meaning host.now).unknown_method receiver.now name.now)
-            UnknownMethod args.now self.now) self.now }
+            UnknownMethod args.now self.now }
     {
         let view = self.view(host);
         match host.call_unknown_method(alloc, receiver, name, args, &view) {
@@ -269,7 +270,7 @@ impl StateData<'_> {
     }
 
     /// What a value gives for these arguments; of values functions alone can be called.
-    #[tactic(auto, using(crate::proofs::Answered::taken))]
+    #[tactic(auto, using(crate::proofs::Answered::followed))]
     fn call_value<H: Host>(
         &mut self,
         alloc: Global,
@@ -283,7 +284,7 @@ impl StateData<'_> {
             { temps = self.new.temps; namespaces = self.new.namespaces } }
     {
         match self.ask(alloc, host, value, args)? {
-            Called::Answered(answer) => self.take_answer(answer),
+            Called::Answered(answer) => self.follow(alloc, host, answer),
             Called::Language(function) => self.call_language(alloc, function, args),
         }
     }
@@ -297,8 +298,8 @@ impl StateData<'_> {
         value: &Value,
         args: &[Value],
     ) -> Result<Called, Error>
-        ensures { Calls result (call_value (H.meaning host.now) value.now args.now self.now)
-            args.now self.now }
+        ensures { Calls (H.meaning host.now) result
+            (call_value (H.meaning host.now) value.now args.now self.now) args.now self.now }
     {
         let Node::Function(number) = &value.node else {
             return Err(Error::from(ErrorKind::InvalidOperation));
@@ -310,17 +311,50 @@ impl StateData<'_> {
         }
     }
 
-    /// Keeps what an answer asks for, and gives its value or its fault.
-    pub(crate) fn take_answer(&mut self, answer: CallableAnswer) -> Result<Value, Error>
-        ensures called { Comes result (replied answer.reply
+    /// What an answer comes to: it is kept what it asks for, and its further call is made, and so on, each one
+    /// deeper. InvalidOperation for one beyond the limit, and what a call answers as its fault.
+    pub(crate) fn follow<H: Host>(
+        &mut self,
+        alloc: Global,
+        host: &H,
+        answer: CallableAnswer,
+    ) -> Result<Value, Error>
+        ensures called { Comes result (replied (by_depths (H.meaning host.now) self.old) answer.reply
             (record self.old { temps = put_each answer.temps self.old.temps })) self.new }
         ensures rest { self.new ≡ record self.old { temps = self.new.temps } }
     {
-        let CallableAnswer { temps, result } = answer;
-        self.keep(temps)?;
-        match result {
-            Reply::Value(value) => Ok(value),
-            Reply::Fault(error) => Err(error),
+        let mut left = self.depths_left(host);
+        let mut answer = answer;
+        loop {
+            let CallableAnswer { temps, result } = answer;
+            self.keep(temps)?;
+            let call = match result {
+                Reply::Value(value) => return Ok(value),
+                Reply::Fault(error) => return Err(error),
+                Reply::Further(call) => call,
+            };
+            if left == 0 {
+                return Err(Error::from(ErrorKind::InvalidOperation));
+            }
+            left -= 1;
+            answer = self.further_answer(alloc, host, &call)?;
+        }
+    }
+
+    /// What is answered to a further call.
+    fn further_answer<H: Host>(
+        &self,
+        alloc: Global,
+        host: &H,
+        call: &Call,
+    ) -> Result<CallableAnswer, Error>
+        ensures { (make : _) → Answers make result
+            (further_call make (H.meaning host.now) call.now self.now) self.now }
+    {
+        match call {
+            Call::Filter(name, args) => {
+                self.filter_answer(alloc, host, name.as_str(), args.as_slice())
+            }
         }
     }
 }

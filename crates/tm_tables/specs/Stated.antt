@@ -10,7 +10,7 @@ use Rattle.tm_values.specs.declared.escape.AutoEscape.{AutoEscape}
 use Rattle.tm_meaning.specs.World.{View, Function, Object, Fallback, Format, callers, languages, Stated}
 use Rattle.tm_syntax.specs.Named.{Named, put, without}
 use Rattle.tm_meaning.specs.declared.reply.Reply.{Reply}
-use Rattle.tm_meaning.specs.declared.reply.Reply.TheVariants.{Value as gives, Fault as faults}
+use Rattle.tm_meaning.specs.declared.reply.Reply.TheVariants.{Value as gives, Fault as faults, Further as asks_for}
 use Rattle.tm_tables.specs.Language.{language}
 use Rattle.tm_tables.specs.declared.callable.Called.{Called}
 use Rattle.tm_tables.specs.declared.callable.Called.TheVariants as called
@@ -19,6 +19,7 @@ use Rattle.tm_tables.specs.declared.callable.Called.TheVariants as called
 abbrev pub is_for_memory : Reply → Bool
 is_for_memory (gives v) = false
 is_for_memory (faults chain) = is_want_of_memory chain
+is_for_memory (asks_for c) = false
 
 -- The answer is the stated one, unless it is want of memory.
 abbrev pub IsStated : Stated → Stated → Type 0

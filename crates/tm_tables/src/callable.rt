@@ -3,16 +3,20 @@ ghost use Rattle.std.specs.Prelude.{◌≡◌, ◌++◌, [], ◌∷◌, List, On
 ghost use Rattle.tm_values.specs.Val.{Val};
 ghost use Rattle.tm_meaning.specs.World.{View as Seen, Stated};
 ghost use Rattle.tm_meaning.specs.declared.reply.Reply.TheVariants.{Value as gives, Fault as faults};
+ghost use Rattle.tm_meaning.specs.declared.reply.Reply.TheVariants.{Further as asks_for};
+ghost use Rattle.tm_meaning.specs.declared.reply.Call.TheVariants as further;
 ghost use Rattle.tm_tables.specs.Stated.{IsStated, just, keeping};
 
 use crate::view::View;
 use std::alloc::Global;
 use std::marker::Model;
-use tm_meaning::{GlobalFunction, Reply};
+use sqlite_items::Items;
+use tm_meaning::{Call, GlobalFunction, Reply};
 use tm_syntax::Name;
 use tm_values::{Error, Value};
 
-/// What a callable answers: values that the state keeps by name, in order, and its reply. They are kept where the reply is a fault, too.
+/// What a callable answers: values that the state keeps by name, in order, and its reply. They are kept first, also where the reply is
+/// a fault or a further call.
 #[derive(Drop)]
 pub struct CallableAnswer {
     /// What is kept.
@@ -51,6 +55,21 @@ impl CallableAnswer {
         CallableAnswer {
             temps: Vec::new(alloc),
             result: Reply::Fault(error),
+        }
+    }
+
+    /// A further call of the filter of a name with these values, and nothing to keep; a fault of OutOfMemory where
+    /// there is no memory for the name. The machine makes the call, one deeper than that which is answered, and its
+    /// end is that of the call which is answered.
+    pub fn further_filter(alloc: Global, name: &str, args: Vec<Value>) -> CallableAnswer
+        ensures { IsStated result (just (asks_for (further.Filter name.now args.items))) }
+    {
+        match Name::new(alloc, name) {
+            Ok(name) => CallableAnswer {
+                temps: Vec::new(alloc),
+                result: Reply::Further(Call::Filter(name, Items::from_vec(args))),
+            },
+            Err(error) => CallableAnswer::fault(alloc, Error::from(error)),
         }
     }
 
