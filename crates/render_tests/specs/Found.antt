@@ -1,5 +1,5 @@
 -- What a test's object answers.
-use Rattle.std.specs.Prelude.{ℕ, List, [], ◌∷◌, Option, Some, None, true, false, map, Ok, Err}
+use Rattle.std.specs.Prelude.{ℕ, List, [], ◌∷◌, ◌++◌, Option, Some, None, true, false, map, Ok, Err, codes}
 use Rattle.std.specs.Char.{to_ascii_uppercase}
 use Rattle.tm_values.specs.Answer.{Answer}
 use Rattle.tm_values.specs.Val.{Val, none, text, text_in, undefined}
@@ -7,7 +7,9 @@ use Rattle.tm_values.specs.declared.undefined.UndefinedBehavior.TheVariants.{Len
 use Rattle.tm_definitions.specs.Members.{or_undefined}
 use Rattle.tm_definitions.specs.Slices.{sliced}
 use Rattle.tm_meaning.specs.declared.reply.Reply.{Reply}
-use Rattle.tm_meaning.specs.declared.reply.Reply.TheVariants.{Value as gives, Fault as faults}
+use Rattle.tm_meaning.specs.declared.reply.Reply.TheVariants.{Value as gives, Fault as faults, Further as asks_for}
+use Rattle.tm_meaning.specs.declared.reply.Call.TheVariants as further
+use Rattle.tm_meaning.specs.World.{View, find_name}
 
 -- the value that a look-up found, or its fault
 abbrev pub reply_of_found : Answer (Option Val) → Reply
@@ -41,3 +43,27 @@ abbrev pub part_of : List Val → Reply
 part_of (v ∷ from ∷ []) = reply_of (sliced Lenient v from none none)
 part_of (v ∷ from ∷ to ∷ []) = reply_of (sliced Lenient v from to none)
 part_of _ = gives (undefined false)
+
+-- the text of the first of arguments
+abbrev pub first_text : List Val → Option (List ℕ)
+first_text [] = None
+first_text (v ∷ vs) = text_in v
+
+-- the value of the name that a text is; undefined where there is none
+abbrev pub found_at : View → Option (List ℕ) → Reply
+found_at view None = gives (undefined false)
+found_at view (Some t) = reply_of_found (find_name view t)
+
+-- a further call of the filter of a name with one value
+abbrev pub further_with : List ℕ → Val → Reply
+further_with x v = asks_for (further.Filter x (v ∷ []))
+
+-- of `upper` with a text doubled; undefined where there is none
+abbrev pub capitals_twice : Option (List ℕ) → Reply
+capitals_twice None = gives (undefined false)
+capitals_twice (Some t) = further_with (codes "upper") (text (t ++ t) false)
+
+-- of `again` with the first of arguments; undefined where there is none
+abbrev pub again_with : List Val → Reply
+again_with [] = gives (undefined false)
+again_with (v ∷ vs) = further_with (codes "again") v

@@ -1,5 +1,8 @@
 //! The functions of the rows.
-ghost use Rattle.std.specs.Prelude.{◌≡◌, ◌-◌, false, List, [], ◌∷◌, codes, length, option_copied, pos, slice_get};
+ghost use Rattle.std.specs.Prelude.{◌≡◌, ◌-◌, ◌++◌, false, List, [], ◌∷◌, None, Some, codes, length, option_copied, pos, slice_get};
+ghost use Rattle.std.specs.Prelude.{IfErr, IfOk, MatchOption};
+ghost use Rattle.tm_values.specs.Answer.{OkOrOutOfMemory};
+ghost use Rattle.tm_values.specs.declared.error.ErrorKind.TheVariants.{MissingArgument};
 ghost use Rattle.tm_values.specs.Val.{number, text};
 ghost use Rattle.tm_syntax.specs.Named.{find};
 ghost use Rattle.tm_definitions.specs.Members.{or_undefined};
@@ -8,7 +11,9 @@ ghost use Rattle.tm_meaning.specs.declared.reply.Reply.TheVariants.{Value as giv
 ghost use Rattle.tm_tables.specs.Stated.{IsStated, just, keeping};
 ghost use Rattle.render_tests.specs.Found.{as_safe, in_capitals, of_first, of_text, part_of, reply_of, reply_of_found};
 ghost use Rattle.render_tests.specs.declared.party.Party.TheVariants.{Second, Last, Keeper, Reader, Title, Seen, Faulty};
+ghost use Rattle.render_tests.specs.Found.{again_with, capitals_twice, first_text, found_at, further_with};
 ghost use Rattle.render_tests.specs.declared.party.Party.TheVariants.{Upper, Safe, Substr};
+ghost use Rattle.render_tests.specs.declared.party.Party.TheVariants.{Look, Kept, Capital, Twice, Again};
 ghost use Rattle.tm_values.specs.Val.{none, text_in};
 ghost use Rattle.tm_values.specs.declared.undefined.UndefinedBehavior.TheVariants.{Lenient};
 ghost use Rattle.tm_definitions.specs.Slices.{sliced};
@@ -40,6 +45,16 @@ pub(crate) enum Party {
     Safe,
     /// Answers the part of its first argument from its second on, up to its third where there is one.
     Substr,
+    /// Answers the value of the name that its first argument is.
+    Look,
+    /// Keeps 1 at `k`, and answers MissingArgument.
+    Kept,
+    /// Asks for the filter `upper` with a.
+    Capital,
+    /// Asks for the filter `upper` with its first argument's text doubled.
+    Twice,
+    /// Asks for the filter `again` with its first argument.
+    Again,
 }
 
 impl Callable for Party {
@@ -55,6 +70,12 @@ impl Callable for Party {
       | Upper ↦ λ args view. just (gives (of_first in_capitals args))
       | Safe ↦ λ args view. just (gives (of_first as_safe args))
       | Substr ↦ λ args view. just (part_of args)
+      | Look ↦ λ args view. just (found_at view (first_text args))
+      | Kept ↦ λ args view. keeping (codes "k") (number (pos 1))
+          (just (faults (MissingArgument ∷ [])))
+      | Capital ↦ λ args view. just (further_with (codes "upper") (text (codes "a") false))
+      | Twice ↦ λ args view. just (capitals_twice (first_text args))
+      | Again ↦ λ args view. just (again_with args)
     ] };
 
     fn call(&self, alloc: Global, args: &[Value], view: &View<'_>) -> CallableAnswer {
@@ -80,6 +101,12 @@ impl Callable for Party {
             Party::Upper => upper(alloc, args),
             Party::Safe => safe(alloc, args),
             Party::Substr => substr(alloc, args),
+            Party::Look => look(alloc, args, view),
+            Party::Kept => CallableAnswer::fault(alloc, Error::from(ErrorKind::MissingArgument))
+                .keep(alloc, "k", Value::number(1)),
+            Party::Capital => further(alloc, "upper", Value::text(alloc, "a")),
+            Party::Twice => twice(alloc, args),
+            Party::Again => again(alloc, args),
         }
     }
 }
@@ -174,6 +201,76 @@ fn part(alloc: Global, value: &Value, from: &Value, to: &Value) -> CallableAnswe
     )
 }
 
+/// The text of the first argument, where it is one.
+fn first_text(args: &[Value]) -> Option<&str>
+    ensures { MatchOption result (first_text args.now ≡ None)
+        (λ text. first_text args.now ≡ Some text.now) }
+{
+    match args {
+        [value, ..] => value.as_str(),
+        _ => None,
+    }
+}
+
+/// Answers the value of the name that the first argument is; undefined where it is no text.
+fn look(alloc: Global, args: &[Value], view: &View<'_>) -> CallableAnswer
+    ensures { IsStated result (just (found_at view.now (first_text args.now))) }
+{
+    let Some(name) = first_text(args) else {
+        return CallableAnswer::value(alloc, Value::undefined());
+    };
+    match view.lookup(name) {
+        Ok(Some(found)) => CallableAnswer::value(alloc, found),
+        Ok(None) => CallableAnswer::value(alloc, Value::undefined()),
+        Err(error) => CallableAnswer::fault(alloc, error),
+    }
+}
+
+/// Asks for the filter of a name with a value that was made.
+fn further(alloc: Global, name: &str, made: Result<Value, Error>) -> CallableAnswer
+    ensures ok { IfOk made (λ value. IsStated result (just (further_with name.now value))) }
+    ensures err { IfErr made (λ chain. result ≡ just (faults chain)) }
+{
+    let value = match made {
+        Ok(value) => value,
+        Err(error) => return CallableAnswer::fault(alloc, error),
+    };
+    let mut args = Vec::new(alloc);
+    match args.push(value) {
+        Ok(()) => CallableAnswer::further_filter(alloc, name, args),
+        Err(error) => CallableAnswer::fault(alloc, Error::from(error)),
+    }
+}
+
+/// A text doubled. Fails by OutOfMemory alone.
+fn doubled(alloc: Global, text: &str) -> Result<Value, Error>
+    ensures { OkOrOutOfMemory result (λ value. value ≡ text (text.now ++ text.now) false) }
+{
+    let mut both = String::from_str(alloc, text)?;
+    both.push_str(text)?;
+    Value::text(alloc, both.as_str())
+}
+
+/// Asks for the filter `upper` with the first argument's text doubled; undefined where it is no text.
+fn twice(alloc: Global, args: &[Value]) -> CallableAnswer
+    ensures { IsStated result (just (capitals_twice (first_text args.now))) }
+{
+    match first_text(args) {
+        Some(text) => further(alloc, "upper", doubled(alloc, text)),
+        None => CallableAnswer::value(alloc, Value::undefined()),
+    }
+}
+
+/// Asks for the filter `again` with the first argument; undefined where there is none.
+fn again(alloc: Global, args: &[Value]) -> CallableAnswer
+    ensures { IsStated result (just (again_with args.now)) }
+{
+    match args {
+        [value, ..] => further(alloc, "again", value.share()),
+        _ => CallableAnswer::value(alloc, Value::undefined()),
+    }
+}
+
 /// The objects of the rows.
 pub(crate) type Parts = Objects<Party, Method, Style, EscapeSetting<OfT>>;
 
@@ -198,6 +295,8 @@ static FUNCTIONS: &[(&str, Party)] = &[
     ("failing", Party::Faulty(ErrorKind::WriteFailure)),
     ("stuck", Party::Faulty(ErrorKind::BadStream)),
     ("hungry", Party::Faulty(ErrorKind::OutOfMemory)),
+    ("look", Party::Look),
+    ("capital", Party::Capital),
 ];
 
 static FILTERS: &[(&str, Party)] = &[
@@ -210,6 +309,9 @@ static FILTERS: &[(&str, Party)] = &[
     ("upper", Party::Upper),
     ("safe", Party::Safe),
     ("substr", Party::Substr),
+    ("kept", Party::Kept),
+    ("twice", Party::Twice),
+    ("again", Party::Again),
 ];
 
 static TESTS: &[(&str, Party)] = &[

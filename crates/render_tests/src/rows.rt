@@ -155,6 +155,23 @@ pub(crate) const PASSING: &str = r#"Spread arguments, and calls of values.
 - {{ f(**{}, *[1]) }} =>  => SyntaxError
 - {{ f(**{}, 1) }} =>  => SyntaxError"#;
 
+/// What objects see, and further calls.
+pub(crate) const FURTHER: &str = r#"What objects see, and further calls.
+- {% with x = 1 %}{{ look("x") }}{% endwith %} => 1 => 5
+- {{ look("w") }}{{ look(1) }}{{ look("nope") }} => World => 9
+- {{ capital() }} => A => 2
+- {{ "a"|twice|twice }} => AAAA => 4
+- a{{ "a"|kept }} => a => MissingArgument
+- a{{ 1|again }} => a => InvalidOperation
+- @limit 2
+- {{ capital() }} => A => 2
+- {{ "a"|twice }} => AA => 3
+- {% with %}{{ capital() }}{% endwith %} =>  => InvalidOperation
+- @limit 1
+- {{ capital() }} =>  => InvalidOperation
+- {{ "a"|twice }} =>  => InvalidOperation
+- @limit 500"#;
+
 /// Operators, conditions and literals.
 pub(crate) const EXPRESSIONS: &str = r#"Operators, conditions and literals.
 - {{ 2 ** 3 ** 2 }} => 64 => 6

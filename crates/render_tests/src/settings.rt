@@ -159,6 +159,7 @@ static TABLES: [&str; 23] = [
     rows::FILTERS,
     rows::FILTER_BLOCKS,
     rows::PASSING,
+    rows::FURTHER,
     rows::EXPRESSIONS,
     rows::SCOPES,
     loops::LOOPS,

@@ -46,6 +46,14 @@ fn applies(alloc: Global, state: &mut Left<'_>) -> Result<bool, Error> {
     Ok(filtered.as_whole() == Some(0) && !holds && unknown)
 }
 
+/// Whether a filter that answers a fault has kept its value before.
+fn keeps_before_a_fault(state: &mut Left<'_>) -> bool {
+    match state.apply_filter("kept", &[]) {
+        Ok(_) => false,
+        Err(error) => error.kind() == ErrorKind::MissingArgument && kept(state) == Some(1),
+    }
+}
+
 /// Whether a state writes values as templates do, here under strict undefined values.
 fn formats(state: &Left<'_>) -> Result<bool, Error> {
     let text = state.format(&Value::number(42))?;
@@ -66,7 +74,8 @@ fn keeps_the_last(alloc: Global, template: &Page<'_, '_>) -> Result<bool, Error>
     let (output, mut state) = captured.into_parts();
     let before = replaced(&mut state, 2)?;
     let is_able = applies(alloc, &mut state)? && formats(&state)?;
-    Ok(output.is_empty() && before == Some(3) && kept(&state) == Some(2) && is_able)
+    let is_kept = kept(&state) == Some(2) && keeps_before_a_fault(&mut state);
+    Ok(output.is_empty() && before == Some(3) && is_able && is_kept)
 }
 
 /// Whether a template that was given no name has the usual one, and renders its source.
@@ -91,6 +100,7 @@ fn renders_otherwise(alloc: Global, environment: &Rows<'_>) -> Result<bool, Erro
 fn is_well(alloc: Global, environment: &mut Rows<'_>) -> Result<bool, Error> {
     environment.add_function("title", Party::Title)?;
     environment.add_filter("second", Party::Second)?;
+    environment.add_filter("kept", Party::Kept)?;
     environment.add_test("second", Party::Second)?;
     environment.set_undefined_behavior(UndefinedBehavior::Strict);
     Ok(renders_at_once(environment)? && renders_otherwise(alloc, environment)?)

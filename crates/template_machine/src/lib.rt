@@ -18,7 +18,7 @@ pub use tm_compiler::{
     Keyword, Name, NameMap, Pair, RawText, Step, Stmt, Streams, SyntaxConfig, SyntaxConfigBuilder,
     Tree, UnaryOperator, generate, parse,
 };
-pub use tm_meaning::{GlobalFunction, Reply};
+pub use tm_meaning::{Call, GlobalFunction, Reply};
 pub use tm_operations as operations;
 pub use tm_output::{Target, TargetFailed};
 pub use tm_parts::{Counted, Limited, NullWriter, Output, Sink, WriteWrapper};

@@ -311,7 +311,7 @@ impl StateData<'_> {
         }
     }
 
-    /// What an answer comes to: it is kept what it asks for, and its further call is made, and so on, each one
+    /// What an answer comes to: what it keeps is kept, and then its further call is made, and so on, each one
     /// deeper. InvalidOperation for one beyond the limit, and what a call answers as its fault.
     pub(crate) fn follow<H: Host>(
         &mut self,
