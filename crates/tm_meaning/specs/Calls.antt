@@ -9,7 +9,7 @@ use Rattle.tm_definitions.specs.Truth.{is_true}
 use Rattle.tm_values.specs.Answer.{Answer}
 use Rattle.tm_values.specs.Order.{val_cmp}
 use Rattle.tm_values.specs.Records.{RecordData}
-use Rattle.tm_values.specs.Val.{Val, undefined, boolean, list, map, function, macro, loop, pairs_of, vals_of}
+use Rattle.tm_values.specs.Val.{Val, undefined, boolean, text, list, map, function, macro, loop, pairs_of, vals_of}
 use Rattle.tm_values.specs.declared.error.ErrorKind.{ErrorKind}
 use Rattle.tm_values.specs.declared.error.ErrorKind.TheVariants.{InvalidOperation, UnknownFilter, UnknownTest, UnknownFunction}
 use Rattle.tm_values.specs.declared.error.ErrorKind.TheVariants.{UnknownMethod, UnknownBlock}
@@ -17,12 +17,14 @@ use Rattle.tm_syntax.specs.declared.tree.Application.{Application}
 use Rattle.tm_syntax.specs.declared.tree.Application.TheVariants as applications
 use Rattle.tm_meaning.specs.declared.function.GlobalFunction.{GlobalFunction}
 use Rattle.tm_meaning.specs.declared.wrapping.Wrapping.{Wrapping}
+use Rattle.tm_meaning.specs.declared.run_text.RunText.{RunText}
+use Rattle.tm_meaning.specs.declared.run_text.RunText.TheVariants as texts
 use Rattle.tm_meaning.specs.Memory.{kind_of_wrapping}
 use Rattle.tm_meaning.specs.declared.function.GlobalFunction.TheVariants as own
 use Rattle.tm_meaning.specs.World.{TemplateId, own, entry, StreamId, block_of, Named, find, put_each, same_name, Card, Layers, Loop, World}
 use Rattle.tm_meaning.specs.World.{HostValue, View, Scope, Object, Fallback, Function, callers, languages, Res, Good, Bad, bind, bad, answered}
 use Rattle.tm_meaning.specs.World.{depth, items_over, innermost, records_of, make_namespace, need, check, card_at, view_of, lookup}
-use Rattle.tm_meaning.specs.World.{context_member, place_of, plain_scope, push}
+use Rattle.tm_meaning.specs.World.{context_member, place_of, plain_scope, push, captured_text}
 use Rattle.tm_meaning.specs.declared.reply.Reply.{Reply}
 use Rattle.tm_meaning.specs.declared.reply.Reply.TheVariants.{Value as gives, Fault as faults, Further as asks_for}
 use Rattle.tm_meaning.specs.declared.reply.Call.{Call}
@@ -36,11 +38,12 @@ pub data Callee : Type 0 where
 pub data Undo : Type 0 where
   of_block : World → Undo
 
--- A run, what is put back behind it, and the kind that is put before its fault, if one is.
+-- A run, what is put back behind it, the kind that is put before its fault, if one is, and what its text is where that is a value.
 pub record NestedCall : Type 0 where
   pub callee : Callee
   pub undo : Undo
   pub wrap : Option Wrapping
+  pub text : RunText
 
 -- A value, a fault, a run that is needed and the world that it starts from, or the loop of a number of the stream that runs, which is
 -- called over these items.
@@ -68,6 +71,12 @@ cut_to n outer w = record w { scopes = record { frames = outermost n w.scopes.fr
 abbrev pub undone : Undo → World → World
 undone (of_block b) w = record (cut_to (length b.scopes.frames) b.scopes.outer w) { stream = b.stream; block = b.block; escape = b.escape }
 
+-- the text of a run as a value
+abbrev pub run_value : RunText → List ℕ → World → Val
+run_value texts.Captured t w = captured_text t w
+run_value texts.Plain t w = text t false
+run_value texts.Truth t w = boolean (is_true (text t false))
+
 abbrev pub wrapped : Option Wrapping → List ErrorKind → List ErrorKind
 wrapped None chain = chain
 wrapped (Some wrap) chain = kind_of_wrapping wrap ∷ chain
@@ -80,6 +89,10 @@ is_required (Some c) = c.required
 abbrev pub required_alone : HostValue → StreamId → Layers → Bool
 required_alone host s l = nat_eq (length l.templates) 1 && is_required (card_at host s)
 
+-- the run of a block, needed in this world
+abbrev pub block_call : StreamId → World → NestedCall
+block_call s w = record { callee = whole s; undo = of_block w; wrap = None; text = texts.Captured }
+
 -- the block at its list's present place, in a new scope
 abbrev pub enter_block : HostValue → List ℕ → World → Asked
 enter_block host b w =
@@ -87,7 +100,7 @@ enter_block host b w =
     ask (need (slice_get l.templates l.place) UnknownBlock world1) (λ t world2.
     ask (check (not (required_alone host (block_of t b) l)) InvalidOperation world2) (λ _ world3.
     ask (push host (plain_scope (undefined false)) world3) (λ _ world4.
-    runs (record { callee = whole (block_of t b); undo = of_block w; wrap = None })
+    runs (block_call (block_of t b) w)
     (record world4 { stream = block_of t b; block = Some b })))))
 
 -- the blocks of a template, each alone
@@ -238,7 +251,7 @@ apply_filter host x args w = found_call (by_depths host w) host (find x host.fil
 abbrev pub as_truth : Asked → Asked
 as_truth (has v w) = has (boolean (is_true v)) w
 as_truth (refused chain w) = refused chain w
-as_truth (runs c w) = runs c w
+as_truth (runs c w) = runs (record c { text = texts.Truth }) w
 as_truth (recurs n items w) = recurs n items w
 
 abbrev pub perform_test : HostValue → List ℕ → List Val → World → Asked

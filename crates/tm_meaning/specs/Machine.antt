@@ -8,7 +8,8 @@ use Rattle.tm_values.specs.declared.escape.AutoEscape.{AutoEscape}
 use Rattle.tm_syntax.specs.declared.instruction.Instruction.{Instruction}
 pub use Rattle.tm_meaning.specs.declared.base.Base.{Base}
 use Rattle.tm_meaning.specs.World.{choose, TemplateId, StreamId, World, HostValue, Res, Good, Bad, open_loop, captured_text}
-use Rattle.tm_meaning.specs.Calls.{Callee, whole, NestedCall, Asked, has, refused, runs, recurs, undone, wrapped}
+use Rattle.tm_meaning.specs.Calls.{Callee, whole, NestedCall, Asked, has, refused, runs, recurs, undone, wrapped, run_value}
+use Rattle.tm_meaning.specs.declared.run_text.RunText.{RunText}
 use Rattle.tm_syntax.specs.declared.instruction.LoopPlace.{LoopPlace}
 use Rattle.tm_syntax.specs.Loops.{loop_places}
 use Rattle.tm_meaning.specs.Meaning.{none_waits}
@@ -191,13 +192,13 @@ abbrev pub pushed : Val → Activation → Activation
 pushed v r = record r { operands = v ∷ r.operands }
 
 -- what the end of a nested run leads to, behind what is put back
-abbrev pub back_with : Bool → Activation → List Capture → World → Next
-back_with false r ks w = More [] (record { run = r; captures = ks; world = w })
-back_with true r [] w = stuck w
-back_with true r (k ∷ ks) w = More [] (record { run = pushed (captured_text k.text w) r; captures = ks; world = w })
+abbrev pub back_with : Bool → RunText → Activation → List Capture → World → Next
+back_with false t r ks w = More [] (record { run = r; captures = ks; world = w })
+back_with true t r [] w = stuck w
+back_with true t r (k ∷ ks) w = More [] (record { run = pushed (run_value t k.text w) r; captures = ks; world = w })
 
 abbrev pub back_to : Back → End → Next
-back_to back (Finished ks w) = back_with back.value back.run ks (undone back.call.undo w)
+back_to back (Finished ks w) = back_with back.value back.call.text back.run ks (undone back.call.undo w)
 back_to back (Failed chain w) = Over (Failed (wrapped back.call.wrap chain) (undone back.call.undo w))
 back_to back (Stuck w) = stuck (undone back.call.undo w)
 

@@ -50,7 +50,7 @@ use Rattle.tm_syntax.specs.Loops.{passes, within_loop, past, pasts, FoundLoop, l
 use Rattle.tm_meaning.specs.World.{choose, TemplateId, root_of, World, HostValue, Res, Good, Bad, bind, answered, tick, ticked, looked_up}
 use Rattle.tm_meaning.specs.World.{records_of, template_at, emitted, escape_for, with_escape, captured_text, open_loop, next_turn}
 use Rattle.tm_meaning.specs.World.{cleared, items_over, store, set_member, unpacked_items, push, pop, plain_scope}
-use Rattle.tm_meaning.specs.Calls.{Callee, whole, NestedCall, Asked, has, refused, runs, recurs, undone, wrapped, enter_block, call_named}
+use Rattle.tm_meaning.specs.Calls.{Callee, whole, NestedCall, Asked, has, refused, runs, recurs, undone, wrapped, run_value, enter_block, call_named}
 use Rattle.tm_meaning.specs.Calls.{applied, call_callee, call_innermost, own_blocks}
 use Rattle.tm_meaning.specs.Tree.{Body, Trees}
 
@@ -125,7 +125,7 @@ say run t out = choose (audible run) (λ _. out ++ t) (λ _. out)
 -- a run that was needed, as a value; what it replaced is put back, also where it ended in a fault
 abbrev pub value_behind : Ending → NestedCall → Outcome → Res Val
 value_behind (fault chain) c o = Bad (wrapped c.wrap chain) (undone c.undo o.world)
-value_behind e c o = Good (captured_text o.text (undone c.undo o.world)) (undone c.undo o.world)
+value_behind e c o = Good (run_value c.text o.text (undone c.undo o.world)) (undone c.undo o.world)
 
 -- a run inside a capture of its own, which takes what is written or not
 abbrev pub capturing : Bool → Run → Run

@@ -17,6 +17,7 @@ mod mark;
 mod operators;
 mod reply;
 mod rows;
+mod run_text;
 mod stream;
 mod wrapping;
 
@@ -35,6 +36,7 @@ pub use rows::{
     loop_condition_rows, loop_rows, method_rows, operator_rows, recursion_rows, scope_rows,
     spread_keyword_rows, spread_rows, text_rows, two_names_rows,
 };
+pub use run_text::RunText;
 pub use stream::{StreamId, TemplateId};
 pub use wrapping::Wrapping;
 

@@ -1,6 +1,6 @@
 -- What calls come to keeps the world, or is a run that starts one level deeper.
 use Rattle.tm_values.specs.declared.escape.AutoEscape.{AutoEscape}
-use Rattle.std.proofs.Common.{◌≡◌, ℕ, ◌+◌, List, [], ◌∷◌, Option, Some, None, Bool, true, false, nat_lt, ◌++◌, refl, ap, ◌∙◌, arith}
+use Rattle.std.proofs.Common.{◌≡◌, ℕ, zero, suc, ◌+◌, List, [], ◌∷◌, Option, Some, None, Bool, true, false, nat_lt, ◌++◌, refl, ap, ◌∙◌, arith}
 use Rattle.std.proofs.Common.{ltb-true, length-append, ◌≤◌}
 use Rattle.std.specs.Prelude.{slice_get, not, ◌&&◌, codes, if◌then◌else◌}
 use Rattle.tm_values.specs.Val.{Val, undefined, function, loop}
@@ -19,7 +19,7 @@ use Rattle.tm_meaning.specs.declared.reply.Reply.{Reply}
 use Rattle.tm_meaning.specs.declared.reply.Reply.TheVariants.{Value as gives, Fault as faults, Further as asks_for}
 use Rattle.tm_meaning.specs.declared.reply.Call.{Call}
 use Rattle.tm_meaning.specs.declared.reply.Call.TheVariants as further
-use Rattle.tm_meaning.specs.Calls.{whole, of_block, undone, Asked, has, refused, runs, recurs, ask, same_stream, wrapped_as}
+use Rattle.tm_meaning.specs.Calls.{block_call, undone, Asked, has, refused, runs, recurs, ask, same_stream, wrapped_as}
 use Rattle.tm_meaning.specs.Calls.{call_loop, call_innermost, one_argument, call_found, enter_block, call_named, call_value, call_method}
 use Rattle.tm_meaning.specs.Calls.{method_object, unknown_method, call_callee, call_in, call_first, apply_filter, perform_test}
 use Rattle.tm_meaning.specs.Calls.{as_truth, applied, MakesFurther, object_call, found_call, further_calls, depths_left, by_depths}
@@ -90,7 +90,7 @@ in_block stream b w = record (within (plain_scope (undefined false)) w) { stream
 pub block_asks_by : (Holds : Asked → Type 0) (host : HostValue) (b : List ℕ) (w : World) →
     ((kind : ErrorKind) → is_raised kind ≡ true → Holds (refused (kind ∷ []) w)) →
     ((stream : StreamId) → nat_lt (depth w.scopes) host.limit ≡ true →
-    Holds (runs (record { callee = whole stream; undo = of_block w; wrap = None }) (in_block stream b w))) →
+    Holds (runs (block_call stream w) (in_block stream b w))) →
     Holds (enter_block host b w)
 block_asks_by Holds host b w refuses enters =
     need_asks Holds w (find b w.blocks) UnknownBlock _ (refuses UnknownBlock refl) (λ l _.

@@ -17,6 +17,7 @@ use Rattle.tm_syntax.specs.declared.tree.BinaryOperator.TheVariants as binaries
 use Rattle.tm_syntax.specs.declared.tree.UnaryOperator.TheVariants as unaries
 use Rattle.tm_meaning.specs.World.{choose, World, Loop, HostValue, Res, Good, Bad, answered, emitted, looked_up, escape_for}
 use Rattle.tm_meaning.specs.World.{items_over, unpacked_items, set_member, open_loop, top_mark, top_loop, push, plain_scope}
+use Rattle.tm_meaning.specs.declared.run_text.RunText.{RunText}
 use Rattle.tm_meaning.specs.Calls.{Callee, whole, Asked, has, refused, runs, recurs, call_named, call_callee, applied}
 use Rattle.tm_meaning.specs.Calls.{call_innermost, enter_block, undone}
 use Rattle.tm_meaning.specs.Meaning.{none_waits, truth, applied_unary, operated, attribute, item_at, slice_of, merged_values, items_of_lists}
@@ -278,15 +279,15 @@ module _ (s : StreamId) (fs ts : Caches) where
       effect_same f i.PopAutoEscape none = pop_escape_same c.run.escapes
 
   -- ---------------------------------------------------------------- ends of runs
-  back_with_same : (value : Bool) (r : Activation) (ks : List Capture) (w : World) → r.stream ≡ s →
-      Same (back_with value r ks w) (back_with value (with_caches fs ts r) ks w)
-  back_with_same false r ks w here = (here, refl)
-  back_with_same true r [] w here = refl
-  back_with_same true r (k ∷ ks) w here = (here, refl)
+  back_with_same : (value : Bool) (t : RunText) (r : Activation) (ks : List Capture) (w : World) → r.stream ≡ s →
+      Same (back_with value t r ks w) (back_with value t (with_caches fs ts r) ks w)
+  back_with_same false t r ks w here = (here, refl)
+  back_with_same true t r [] w here = refl
+  back_with_same true t r (k ∷ ks) w here = (here, refl)
 
   pub back_same : (back : Back) (e : End) → back.run.stream ≡ s →
       Same (back_to back e) (back_to (record back { run = with_caches fs ts back.run }) e)
-  back_same back (Finished ks w) here = back_with_same back.value back.run ks (undone back.call.undo w) here
+  back_same back (Finished ks w) here = back_with_same back.value back.call.text back.run ks (undone back.call.undo w) here
   back_same back (Failed chain w) here = refl
   back_same back (Stuck w) here = refl
 

@@ -3,7 +3,7 @@ use Rattle.std.proofs.Common.{◌≡◌, ℕ, suc, ◌+◌, ◌<◌, ◌≤◌, 
 use Rattle.std.proofs.Common.{refl, sym, subst, arith, lt-ltb, le-ltb}
 use Rattle.tm_values.specs.Val.{Val}
 use Rattle.tm_meaning.specs.World.{choose, World, captured_text}
-use Rattle.tm_meaning.specs.Calls.{Callee, NestedCall, undone, wrapped, runs}
+use Rattle.tm_meaning.specs.Calls.{Callee, NestedCall, undone, wrapped, run_value, runs}
 use Rattle.tm_meaning.specs.Meaning.{Run, Outcome, Ending, done, leave, next, fault, Under, audible as heard_here, say, behind, in_place_of}
 use Rattle.tm_meaning.specs.Meaning.{value_behind, value_of, capturing}
 use Rattle.tm_meaning.specs.Machine.{Activation, Finished, Failed, Back, More, Nest, Program, audible, put_in, put_out, writes, back_to}
@@ -115,9 +115,9 @@ module _ (context : RunContext) where
 
   value_by : (k : NestedCall) (a : Activation) (b : Bed) (out0 : List ℕ) (e : Ending) (o : Outcome) (K : Val → World → Type 0) →
       Follows context (told_by b out0) (value_behind e k o) K →
-      (K (captured_text o.text (undone k.undo o.world)) (undone k.undo o.world) →
+      (K (run_value k.text o.text (undone k.undo o.world)) (undone k.undo o.world) →
       LeadsToEnd context (told_by b out0) (More [] (record {
-        run = pushed (captured_text o.text (undone k.undo o.world)) a;
+        run = pushed (run_value k.text o.text (undone k.undo o.world)) a;
         captures = captures_of b out0;
         world = undone k.undo o.world;
       }))) →

@@ -7,7 +7,7 @@ use Rattle.tm_values.specs.declared.error.ErrorKind.TheVariants.{InvalidOperatio
 use Rattle.tm_syntax.specs.Loops.{loops_in}
 use Rattle.tm_meaning.specs.Tree.{Body, Trees}
 use Rattle.tm_meaning.specs.World.{choose, World, HostValue, Res, Good, Bad, tick, plain_scope}
-use Rattle.tm_meaning.specs.Calls.{Callee, whole, NestedCall, of_block, undone, runs}
+use Rattle.tm_meaning.specs.Calls.{Callee, whole, NestedCall, block_call, undone, runs}
 use Rattle.tm_meaning.specs.Meaning.{over, under, again_of, Run, Outcome, Ending, done, leave, next, fault, Nests, Under, done_by, exec_all}
 use Rattle.tm_meaning.specs.Meaning.{behind, in_place_of, block_tag, audible, none_waits, at_end, new_run, nests_of, rendered, chain_in}
 use Rattle.tm_meaning.specs.Meaning.{chain_of}
@@ -135,9 +135,9 @@ puts_back_same w = record { same_scopes = refl; same_stream = refl; same_block =
 
 entered_puts_back : (u : Under) (run : Run) (b : List ℕ) (out : List ℕ) (w : World) (stream : StreamId) →
     RunEnds u.host (in_block stream b w) (u.nests (whole stream) (audible run) out (in_block stream b w)) →
-    PutsBack w (in_place_of u run out (runs (record { callee = whole stream; undo = of_block w; wrap = None }) (in_block stream b w))).world
+    PutsBack w (in_place_of u run out (runs (block_call stream w) (in_block stream b w))).world
 entered_puts_back u run b out w stream ends =
-    let c : NestedCall = record { callee = whole stream; undo = of_block w; wrap = None } in
+    let c : NestedCall = block_call stream w in
     let o = u.nests (whole stream) (audible run) out (in_block stream b w) in
     let began = in_stream o.world.stream (in_block stream b w) in
     let l = ends_advance u.host began o.ending o.world (run_ends_as u.host (in_block stream b w) o ends) in
