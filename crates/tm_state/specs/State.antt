@@ -5,7 +5,7 @@ use Rattle.tm_values.specs.Val.{Val, undefined}
 use Rattle.tm_values.specs.declared.escape.AutoEscape.{AutoEscape}
 use Rattle.tm_syntax.specs.declared.instruction.Instruction.{Instruction}
 use Rattle.tm_meaning.specs.World.{Named, World, Loop, loop_scope, new_loop, Layers, root_of, block_of, plain_scope, with_frames}
-use Rattle.tm_meaning.specs.Calls.{Asked, runs, whole, of_block, cut_to}
+use Rattle.tm_meaning.specs.Calls.{Asked, runs, cut_to, block_call}
 use Rattle.tm_meaning.specs.Meaning.{first_fuel}
 use Rattle.tm_meaning.specs.declared.stream.TemplateId.{TemplateId}
 use Rattle.tm_meaning.specs.declared.stream.StreamId.{StreamId}
@@ -59,7 +59,7 @@ put_back saved w = record (cut_to saved.scopes saved.outer w) { stream = saved.s
 
 -- the run of a block's stream, from a world; the world before it was b
 abbrev pub runs_block : StreamId → World → World → Asked
-runs_block s b w = runs (record { callee = whole s; undo = of_block b; wrap = None }) w
+runs_block s b w = runs (block_call s b) w
 
 -- The stream is the block of this name of the one template that has it.
 abbrev pub IsBlockOf : StreamId → List ℕ → World → Type 0

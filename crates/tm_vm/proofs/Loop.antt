@@ -78,9 +78,9 @@ nest_only {p = p} {f = f} {g = g} {t = t} {c = c} {back = back} {e = e} {o = o} 
 
 -- what a nested run's end leads to, by what is put back behind it
 behind_is : (e : NestedRun) (b : World) (r : Activation) (end : End) → e.saved ≡ saved_of b →
-    back_to (record { run = r; call = record { callee = whole e.stream; undo = of_block b; wrap = e.wrap }; value = e.value }) end
+    back_to (record { run = r; call = record { callee = whole e.stream; undo = of_block b; wrap = e.wrap; text = e.text }; value = e.value }) end
     ≡ behind e r end
-behind_is e b r (Finished ks w) saved = sym (ap (λ x. back_with e.value r ks (put_back x w)) saved)
+behind_is e b r (Finished ks w) saved = sym (ap (λ x. back_with e.value e.text r ks (put_back x w)) saved)
 behind_is e b r (Failed chain w) saved = sym (ap (λ x. Over (Failed (wrapped e.wrap chain) (put_back x w))) saved)
 behind_is e b r (Stuck w) saved = sym (ap (λ x. Over (Stuck (put_back x w))) saved)
 

@@ -4,7 +4,8 @@ use Rattle.std.proofs.Common.{◌≡◌, ◌<◌, ℕ, zero, suc, List, [], ◌�
 use Rattle.std.proofs.Common.{refl, sym, ◌∙◌, ap, subst, arith, length, slice_get}
 use Rattle.std.specs.Global.{Box}
 use Rattle.std.specs.Io.KnownBytes.{Appends}
-use Rattle.tm_meaning.specs.Calls.{NestedCall, enter_block, of_block, whole}
+use Rattle.tm_meaning.specs.Calls.{NestedCall, enter_block, block_call, whole}
+use Rattle.tm_meaning.specs.declared.run_text.RunText.TheVariants as texts
 use Rattle.tm_meaning.specs.Instructions.{call_block_of}
 use Rattle.tm_meaning.specs.Machine.{Config, Next, More, Nest, Program, after, asked_in_place, audible, base_of, start, with_world}
 use Rattle.tm_meaning.specs.Meaning.{none_waits}
@@ -209,11 +210,11 @@ pub block_entered : (p : Program) (f : Base) (old : Config) (x : List ℕ) (s : 
     none_waits old.run.parent ≡ true → audible f old ≡ true
     → enter_block p.host x old.world ≡ runs_block s old.world w →
     new ≡ record { run = record old.run { place = old.run.place + 1 }; captures = old.captures; world = w }
-    → e ≡ record { stream = s; heard = true; value = false; wrap = None; saved = saved_of old.world }
+    → e ≡ record { stream = s; heard = true; value = false; text = texts.Captured; wrap = None; saved = saved_of old.world }
     → Enters e new (call_block_of p f x old)
 block_entered p f old x s e new w waits heard enters moved is =
-    let d : NestedRun = record { stream = s; heard = true; value = false; wrap = None; saved = saved_of old.world } in
-    let call : NestedCall = record { callee = whole s; undo = of_block old.world; wrap = None } in
+    let d : NestedRun = record { stream = s; heard = true; value = false; text = texts.Captured; wrap = None; saved = saved_of old.world } in
+    let call : NestedCall = block_call s old.world in
     let mid : Config = record { run = record old.run { place = old.run.place + 1 }; captures = old.captures; world = w } in
     let goes : call_block_of p f x old ≡ entered d old.world mid =
     chosen (none_waits old.run.parent && audible f old) _ _ (both _ _ waits heard)

@@ -57,7 +57,7 @@ output (Nest f c back) = []
 abbrev pub entered : NestedRun → World → Config → Next
 entered e b c =
     Nest (base_of e.heard c.captures c.world) (start (whole e.stream) c.captures c.world)
-    (record { run = c.run; call = record { callee = whole e.stream; undo = of_block b; wrap = e.wrap }; value = e.value })
+    (record { run = c.run; call = record { callee = whole e.stream; undo = of_block b; wrap = e.wrap; text = e.text }; value = e.value })
 
 abbrev pub Enters : NestedRun → Config → Next → Type 0
 Enters e c n = (b : World) × (e.saved ≡ saved_of b) × (n ≡ entered e b c)

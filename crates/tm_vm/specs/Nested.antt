@@ -10,6 +10,7 @@ use Rattle.tm_meaning.specs.Machine.{Activation, Capture, Config, End, Finished,
 use Rattle.tm_meaning.specs.Machine.{base_of, start}
 use Rattle.tm_meaning.specs.Steps.{Final, Reaches, final}
 use Rattle.tm_meaning.specs.declared.base.Base.{Base}
+use Rattle.tm_meaning.specs.declared.run_text.RunText.{RunText}
 use Rattle.tm_output.specs.Counts.{AppendsBeginning}
 use Rattle.tm_parts.specs.declared.halt.Halt.{Halt}
 use Rattle.tm_parts.specs.declared.halt.Halt.TheVariants as halt
@@ -27,7 +28,7 @@ start_in e c = start (whole e.stream) c.captures c.world
 
 -- What its end leads to, behind what is put back, for the run that waits: as it was, or with the captured text on top; or that ends so too.
 abbrev pub behind : NestedRun → Activation → End → Next
-behind e r (Finished ks w) = back_with e.value r ks (put_back e.saved w)
+behind e r (Finished ks w) = back_with e.value e.text r ks (put_back e.saved w)
 behind e r (Failed chain w) = Over (Failed (wrapped e.wrap chain) (put_back e.saved w))
 behind e r (Stuck w) = stuck (put_back e.saved w)
 
@@ -60,11 +61,11 @@ IsWrapped wrap halt.Stuck now = now ≡ halt.Stuck
 IsWrapped wrap (halt.Fault chain) now = (now ≡ halt.Fault (wrapped wrap chain)) ⊎ (now ≡ halt.Fault (OutOfMemory ∷ []))
 
 -- The innermost capture's text was put on top; or none was open; or no memory was found.
-abbrev pub IsCaptured : Result (Unit {0}) Halt → Config → Config → Type 0
-IsCaptured (Ok _) old new = back_with true old.run old.captures old.world ≡ More [] new
-IsCaptured (Err halt.Writer) old new = ⊥
-IsCaptured (Err halt.Stuck) old new = old.captures ≡ []
-IsCaptured (Err (halt.Fault chain)) old new = is_want_of_memory chain ≡ true
+abbrev pub IsCaptured : RunText → Result (Unit {0}) Halt → Config → Config → Type 0
+IsCaptured kind (Ok _) old new = back_with true kind old.run old.captures old.world ≡ More [] new
+IsCaptured kind (Err halt.Writer) old new = ⊥
+IsCaptured kind (Err halt.Stuck) old new = old.captures ≡ []
+IsCaptured kind (Err (halt.Fault chain)) old new = is_want_of_memory chain ≡ true
 
 -- What the writer has got is a beginning of all that the run writes.
 abbrev pub WroteBeginning : Program → Base → Config → Option (List ℕ) → Option (List ℕ) → Type 0

@@ -9,7 +9,7 @@ ghost use Rattle.tm_vm.specs.Answers.{program, recurses, CanGoOn, Silently, Open
 use crate::flow::{Flow, NestedRun};
 use crate::machine::Machine;
 use std::alloc::Global;
-use tm_meaning::Base;
+use tm_meaning::{Base, RunText};
 use tm_parts::Halt;
 use tm_state::{CallResult, Recursion};
 use tm_syntax::{Application, CaptureMode, Code, Name};
@@ -272,6 +272,7 @@ impl Machine<'_> {
             stream,
             heard,
             value: false,
+            text: RunText::Captured,
             wrap: None,
             saved,
         };

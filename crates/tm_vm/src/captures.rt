@@ -1,6 +1,7 @@
 //! The instructions of captures and escapes.
 ghost use Rattle.std.specs.Prelude.{◌≡◌, IfOk, IfErr, true};
 ghost use Rattle.tm_meaning.specs.Memory.{is_want_of_memory};
+ghost use Rattle.tm_meaning.specs.Calls.{run_value};
 ghost use Rattle.tm_meaning.specs.World.{captured_text};
 ghost use Rattle.tm_meaning.specs.Instructions.{begin_capture_of, end_capture_of, push_auto_escape_of, pop_auto_escape_of};
 ghost use Rattle.tm_vm.specs.Answers.{CanGoOn, Silently};
@@ -8,7 +9,7 @@ ghost use Rattle.tm_vm.specs.Answers.{CanGoOn, Silently};
 use crate::flow::Flow;
 use crate::machine::Machine;
 use std::alloc::Global;
-use tm_meaning::Base;
+use tm_meaning::{Base, RunText};
 use tm_parts::{Halt, captured_value, escape_for};
 use tm_syntax::CaptureMode;
 use tm_values::{Error, Value};
@@ -20,6 +21,18 @@ impl Machine<'_> {
         ensures kind { IfErr result (λ e. is_want_of_memory e ≡ true) }
     {
         captured_value(alloc, text, self.state.escape())
+    }
+
+    /// The text of a run as a value. Fails by OutOfMemory alone.
+    pub(crate) fn run_value(&self, alloc: Global, kind: RunText, text: &str) -> Result<Value, Error>
+        ensures ok { IfOk result (λ value. value ≡ run_value kind text.now self.now.world) }
+        ensures kind { IfErr result (λ e. is_want_of_memory e ≡ true) }
+    {
+        match kind {
+            RunText::Captured => self.captured(alloc, text),
+            RunText::Plain => Value::text(alloc, text),
+            RunText::Truth => Ok(Value::boolean(!text.is_empty())),
+        }
     }
 
     /// Begins a capture, which takes what is written from here on.

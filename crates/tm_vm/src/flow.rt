@@ -2,7 +2,7 @@
 ghost use Rattle.std.specs.Prelude.{◌≡◌, [], ◌∷◌, IfOk, IfErr};
 
 use std::alloc::Global;
-use tm_meaning::{StreamId, Wrapping};
+use tm_meaning::{RunText, StreamId, Wrapping};
 use tm_state::Saved;
 use tm_values::{Error, ErrorKind};
 
@@ -15,6 +15,8 @@ pub struct NestedRun {
     pub heard: bool,
     /// Whether its text is a value, which waits in the innermost capture, and not put where the run that waits is heard.
     pub value: bool,
+    /// What its text is, where that is a value.
+    pub text: RunText,
     /// The kind that is put before its fault, if one is.
     pub wrap: Option<Wrapping>,
     /// What is put back behind it.

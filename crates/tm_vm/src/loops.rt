@@ -7,7 +7,7 @@ use crate::activation::Return;
 use crate::flow::Flow;
 use crate::machine::Machine;
 use std::alloc::Global;
-use tm_meaning::Base;
+use tm_meaning::{Base, RunText};
 use tm_operations::iterate;
 use tm_parts::Halt;
 use tm_syntax::{Code, LoopFlags};
@@ -119,7 +119,7 @@ impl Machine<'_> {
         if !value {
             return Ok(Flow::GoOn);
         }
-        self.push_captured(alloc)?;
+        self.push_captured(alloc, RunText::Captured)?;
         Ok(Flow::GoOn)
     }
 }

@@ -13,7 +13,7 @@ use crate::flow::{Flow, NestedRun};
 use std::alloc::Global;
 use std::marker::Model;
 use std::mem;
-use tm_meaning::{Base, StreamId, Wrapping};
+use tm_meaning::{Base, RunText, StreamId, Wrapping};
 use tm_parts::{Captures, Halt, Sink};
 use tm_state::{Saved, StateData};
 use tm_syntax::Code;
@@ -140,6 +140,7 @@ impl<'env> Machine<'env> {
             stream,
             heard,
             value,
+            text,
             wrap,
             saved,
         } = entry;
@@ -151,14 +152,14 @@ impl<'env> Machine<'env> {
             return Err(wrapped(alloc, wrap, halt));
         }
         if value {
-            return self.push_captured(alloc);
+            return self.push_captured(alloc, text);
         }
         Ok(())
     }
 
-    /// Puts the innermost capture's text on top, safe where the state escapes; stuck where no capture is open.
-    pub(crate) fn push_captured(&mut self, alloc: Global) -> Result<(), Halt>
-        ensures captured { IsCaptured result self.old self.new }
+    /// Puts the innermost capture's text on top, as such a value; stuck where no capture is open.
+    pub(crate) fn push_captured(&mut self, alloc: Global, kind: RunText) -> Result<(), Halt>
+        ensures captured { IsCaptured kind result self.old self.new }
         ensures same_world { self.new.world ≡ self.old.world }
         ensures same_stream { self.new.run.stream ≡ self.old.run.stream }
         ensures same_loops { self.new.run.loops ≡ self.old.run.loops }
@@ -166,7 +167,7 @@ impl<'env> Machine<'env> {
         let Some((_mode, text)) = self.captures.end() else {
             return Err(Halt::Stuck);
         };
-        let value = self.captured(alloc, text.as_str())?;
+        let value = self.run_value(alloc, kind, text.as_str())?;
         self.run.push(value)?;
         Ok(())
     }
