@@ -15,12 +15,14 @@ use tm_values::{Error, ErrorKind, Value};
 impl StateData<'_> {
     /// What these values give that are passed to what a name stands for: the first one's method, a filter, or
     /// the truth of what a test answers. InvalidOperation for a method of no value, and what the call refuses.
+    /// The place is a hint at where the filter or the test stands.
     pub fn apply<H: Host>(
         &mut self,
         alloc: Global,
         host: &H,
         application: Application,
         name: &str,
+        place: usize,
         args: &[Value],
     ) -> Result<Value, Error>
         ensures called { Comes result
@@ -30,9 +32,9 @@ impl StateData<'_> {
     {
         match application {
             Application::Method => self.call_first(alloc, host, name, args),
-            Application::Filter => self.apply_filter(alloc, host, name, args),
+            Application::Filter => self.apply_filter(alloc, host, name, place, args),
             Application::Test | Application::NegatedTest => {
-                let holds = self.perform_test(alloc, host, name, args)?;
+                let holds = self.perform_test(alloc, host, name, place, args)?;
                 Ok(Value::boolean(holds))
             }
         }
@@ -65,13 +67,14 @@ impl StateData<'_> {
         alloc: Global,
         host: &H,
         name: &str,
+        place: usize,
         args: &[Value],
     ) -> Result<Value, Error>
         ensures called { Comes result
             (apply_filter (H.meaning host.now) name.now args.now self.old) self.new }
         ensures rest { self.new ≡ record self.old { temps = self.new.temps } }
     {
-        let answer = self.filter_answer(alloc, host, name, args)?;
+        let answer = self.filter_answer(alloc, host, name, place, args)?;
         self.follow(alloc, host, answer)
     }
 
@@ -84,13 +87,14 @@ impl StateData<'_> {
         alloc: Global,
         host: &H,
         name: &str,
+        place: usize,
         args: &[Value],
     ) -> Result<bool, Error>
         ensures called { Tests result
             (perform_test (H.meaning host.now) name.now args.now self.old) self.new }
         ensures rest { self.new ≡ record self.old { temps = self.new.temps } }
     {
-        let answer = self.test_answer(alloc, host, name, args)?;
+        let answer = self.test_answer(alloc, host, name, place, args)?;
         let value = self.follow(alloc, host, answer)?;
         Ok(is_true(&value))
     }
@@ -102,13 +106,14 @@ impl StateData<'_> {
         alloc: Global,
         host: &H,
         name: &str,
+        place: usize,
         args: &[Value],
     ) -> Result<CallableAnswer, Error>
         ensures { FoundAnswers result (H.meaning host.now)
             (find name.now (H.meaning host.now).filters) UnknownFilter args.now self.now }
     {
         let view = self.view(host);
-        match host.apply_filter(alloc, name, args, &view) {
+        match host.apply_filter(alloc, name, place, args, &view) {
             Some(answer) => Ok(answer),
             None => Err(Error::from(ErrorKind::UnknownFilter)),
         }
@@ -121,13 +126,14 @@ impl StateData<'_> {
         alloc: Global,
         host: &H,
         name: &str,
+        place: usize,
         args: &[Value],
     ) -> Result<CallableAnswer, Error>
         ensures { FoundAnswers result (H.meaning host.now)
             (find name.now (H.meaning host.now).tests) UnknownTest args.now self.now }
     {
         let view = self.view(host);
-        match host.perform_test(alloc, name, args, &view) {
+        match host.perform_test(alloc, name, place, args, &view) {
             Some(answer) => Ok(answer),
             None => Err(Error::from(ErrorKind::UnknownTest)),
         }

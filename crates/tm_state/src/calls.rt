@@ -17,7 +17,7 @@ use std::rc::Rc;
 use tm_meaning::{Call, Reply};
 use tm_operations::{attribute, iterate};
 use tm_syntax::Name;
-use tm_tables::{CallableAnswer, Called, Host, LoopState};
+use tm_tables::{CallableAnswer, Called, Host, LoopState, NO_PLACE};
 use tm_values::{Error, ErrorKind, Node, UndefinedBehavior, Value, find_namespace};
 
 /// What a call came to.
@@ -353,7 +353,7 @@ impl StateData<'_> {
     {
         match call {
             Call::Filter(name, args) => {
-                self.filter_answer(alloc, host, name.as_str(), args.as_slice())
+                self.filter_answer(alloc, host, name.as_str(), NO_PLACE, args.as_slice())
             }
         }
     }

@@ -2,6 +2,7 @@ pub mod Found
 pub mod Known
 pub mod Language
 pub mod Locals
+pub mod Places
 pub mod Scopes
 pub mod Stated
 pub mod Views

@@ -56,22 +56,30 @@ pub trait Host {
         ensures { MatchOption (slice_get (meaning self.now).functions number) (result ≡ None)
             (λ f. IsSomeAnd result (λ called. IsCalled called f args.now view.now)) };
 
-    /// What the filter of a name answers; none where there is none of that name.
+    /// Where the filter of a name stands, as a hint for `apply_filter`; NO_PLACE where there is none of that name.
+    fn filter_place(&self, name: &str) -> usize;
+
+    /// What the filter of a name answers, wherever it stands; none where there is none of that name.
     fn apply_filter(
         &self,
         alloc: Global,
         name: &str,
+        place: usize,
         args: &[Value],
         view: &View<'_>,
     ) -> Option<CallableAnswer>
         ensures { IsNamedAnswer result (find name.now (meaning self.now).filters)
             args.now view.now };
 
-    /// What the test of a name answers; none where there is none of that name.
+    /// Where the test of a name stands, as a hint for `perform_test`; NO_PLACE where there is none of that name.
+    fn test_place(&self, name: &str) -> usize;
+
+    /// What the test of a name answers, wherever it stands; none where there is none of that name.
     fn perform_test(
         &self,
         alloc: Global,
         name: &str,
+        place: usize,
         args: &[Value],
         view: &View<'_>,
     ) -> Option<CallableAnswer>

@@ -14,10 +14,11 @@ use crate::escape_rule::EscapeRule;
 use crate::fallback::MethodFallback;
 use crate::formatter::Formatter;
 use crate::language::{LANGUAGE, language_function};
+use crate::name_table::{NO_PLACE, NameTable};
 use crate::view::View;
 use std::alloc::Global;
 use std::marker::Model;
-use tm_syntax::{Name, NameMap};
+use tm_syntax::Name;
 use tm_values::{AutoEscape, Error, ErrorKind, Value};
 
 /// All objects of an environment, as one.
@@ -35,22 +36,30 @@ pub trait Parties: Drop {
         ensures { MatchOption (slice_get (stated self.now).functions number) (result ≡ None)
             (λ f. IsSomeAnd result (λ called. IsCalled called f args.now view.now)) };
 
-    /// What the filter of a name answers; none where there is none of that name.
+    /// Where the filter of a name stands, as a hint for `apply_filter`; NO_PLACE where there is none of that name.
+    fn filter_place(&self, name: &str) -> usize;
+
+    /// What the filter of a name answers, wherever it stands; none where there is none of that name.
     fn apply_filter(
         &self,
         alloc: Global,
         name: &str,
+        place: usize,
         args: &[Value],
         view: &View<'_>,
     ) -> Option<CallableAnswer>
         ensures { IsNamedAnswer result (find name.now (stated self.now).filters)
             args.now view.now };
 
-    /// What the test of a name answers; none where there is none of that name.
+    /// Where the test of a name stands, as a hint for `perform_test`; NO_PLACE where there is none of that name.
+    fn test_place(&self, name: &str) -> usize;
+
+    /// What the test of a name answers, wherever it stands; none where there is none of that name.
     fn perform_test(
         &self,
         alloc: Global,
         name: &str,
+        place: usize,
         args: &[Value],
         view: &View<'_>,
     ) -> Option<CallableAnswer>
@@ -89,8 +98,8 @@ pub trait Parties: Drop {
 pub struct Objects<C: Drop, M: Drop, F: Drop, R: Drop> {
     language: bool,
     functions: Vec<C>,
-    filters: NameMap<C>,
-    tests: NameMap<C>,
+    filters: NameTable<C>,
+    tests: NameTable<C>,
     fallback: Option<M>,
     formatter: Option<F>,
     escaping: R,
@@ -137,8 +146,8 @@ impl<C: Drop, M: Drop, F: Drop, R: Drop> Objects<C, M, F, R> {
         Objects {
             language,
             functions: Vec::new(alloc),
-            filters: NameMap::new(alloc),
-            tests: NameMap::new(alloc),
+            filters: NameTable::new(alloc),
+            tests: NameTable::new(alloc),
             fallback: None,
             formatter: None,
             escaping,
@@ -251,19 +260,20 @@ impl<C: Callable, M: Drop, F: Drop, R: Drop> Objects<C, M, F, R> {
     }
 }
 
-/// What the object of a name answers; none where there is none of that name.
+/// What the object of a name answers, wherever it stands; none where there is none of that name.
 #[tactic(auto, using(crate::proofs::NamedObjects::stated))]
 fn named_answer<C: Callable>(
-    objects: &NameMap<C>,
+    objects: &NameTable<C>,
     alloc: Global,
     name: &str,
+    place: usize,
     args: &[Value],
     view: &View<'_>,
 ) -> Option<CallableAnswer>
     ensures { IsNamedAnswer result (find name.now (named_objects C.answers objects.now))
         args.now view.now }
 {
-    match objects.get(name) {
+    match objects.get_at(place, name) {
         Some(object) => Some(object.call(alloc, args, view)),
         None => None,
     }
@@ -291,24 +301,34 @@ impl<C: Callable, M: MethodFallback, F: Formatter, R: EscapeRule> Parties for Ob
         }
     }
 
+    fn filter_place(&self, name: &str) -> usize {
+        self.filters.place(name).unwrap_or(NO_PLACE)
+    }
+
+    fn test_place(&self, name: &str) -> usize {
+        self.tests.place(name).unwrap_or(NO_PLACE)
+    }
+
     fn apply_filter(
         &self,
         alloc: Global,
         name: &str,
+        place: usize,
         args: &[Value],
         view: &View<'_>,
     ) -> Option<CallableAnswer> {
-        named_answer(&self.filters, alloc, name, args, view)
+        named_answer(&self.filters, alloc, name, place, args, view)
     }
 
     fn perform_test(
         &self,
         alloc: Global,
         name: &str,
+        place: usize,
         args: &[Value],
         view: &View<'_>,
     ) -> Option<CallableAnswer> {
-        named_answer(&self.tests, alloc, name, args, view)
+        named_answer(&self.tests, alloc, name, place, args, view)
     }
 
     fn call_unknown_method(

@@ -1,4 +1,3 @@
 pub mod Named
-mod Places
 pub mod Streams
 pub mod Endings

@@ -1,4 +1,3 @@
 pub mod Defaults
-pub mod Places
 pub mod Sources
 pub mod Templates

@@ -2,7 +2,7 @@
 ghost use Rattle.std.specs.Prelude.{◌≡◌, [], ◌∷◌, None, Some, OnOk, OnErr, IfErr, MatchOption, MatchResult};
 ghost use Rattle.tm_syntax.specs.Named.{find, put, name_cmp};
 ghost use Rattle.tm_values.specs.Answer.{IsLent};
-ghost use Rattle.tm_templates.specs.Places.{IsThere, IsGapFor};
+ghost use Rattle.tm_tables.specs.Places.{IsThere, IsGapFor};
 
 use crate::compiled::CompiledTemplate;
 use std::alloc::Global;
@@ -27,7 +27,7 @@ impl<'source> Model for Templates<'source> {
 
     ghost coded = { Prim.hlevel (codes, statement.the_row.coded) };
 
-    ghost use Rattle.tm_templates.specs.Places.{AreOrdered};
+    ghost use Rattle.tm_tables.specs.Places.{AreOrdered};
 
     ghost view = { λ a. a.entries.items };
 

@@ -1,13 +1,18 @@
 -- What a place among names gives, and that `put` keeps the names in order.
 use Rattle.std.proofs.Common.{◌≡◌, ◌≤◌, ◌<◌, ℕ, zero, suc, List, [], ◌∷◌, length, get_or, set, Some, None, MatchResult, Result, Ok, Err}
 use Rattle.std.proofs.Common.{Bool, true, false, if◌then◌else◌, Ordering, Less, Equal, Greater, insert, refl, sym, ap, subst, ◌∙◌, arith}
+use Rattle.std.proofs.Common.{cond, slice_get, true≢false}
 use Rattle.std.proofs.lemmas.Cmp.{alike_right, nat_list_cmp_total}
-use Rattle.std.specs.List.{AllByRecursion}
+use Rattle.std.proofs.lemmas.Option.{get_or_from_slice_get, slice_get_within}
+use Rattle.std.specs.BTreeMap.{is_at}
+use Rattle.std.specs.Cmp.Lexicographic.{texts_ties}
+use Rattle.std.specs.List.{AllByRecursion, remove}
 use Rattle.std.specs.List.Sorted.{IsStrictlySortedBy, IsSearchInRange, IsBinarySearchResult, IsNonDecreasingBy}
 use Rattle.std.specs.Map.{keys_of}
-use Rattle.std.specs.Ordering.{match_ordering, ordering_index, ordering_reverse}
-use Rattle.tm_syntax.specs.Named.{Named, name_cmp, find, put}
-use Rattle.tm_templates.specs.Places.{AreOrdered, IsThere, IsGapFor}
+use Rattle.std.specs.Ordering.{match_ordering, is_eq, ordering_index, ordering_reverse}
+use Rattle.tm_syntax.specs.Named.{Named, name_cmp, same_name, find, put, without}
+use Rattle.tm_syntax.proofs.Named.{without_absent}
+use Rattle.tm_tables.specs.Places.{AreOrdered, IsThere, IsGapFor}
 
 -- the other way round
 turned : (x y : List ℕ) (o : Ordering) → name_cmp x y ≡ o → name_cmp y x ≡ ordering_reverse o
@@ -24,6 +29,15 @@ rises x y z Greater h e = rw e (at_most_two (name_cmp x z))
     at_most_two Less = omega arith
     at_most_two Equal = omega arith
     at_most_two Greater = omega arith
+
+equal_by : (o : Ordering) → is_eq o ≡ true → o ≡ Equal
+equal_by Less h = absurd (true≢false (sym h))
+equal_by Equal h = refl
+equal_by Greater h = absurd (true≢false (sym h))
+
+-- two that are the same compare as equal
+compare_equal : (x y : List ℕ) → same_name x y ≡ true → name_cmp x y ≡ Equal
+compare_equal x y same = equal_by (name_cmp x y) (sym (texts_ties x y) ∙ same)
 
 pub ordered-none : (A : Type 0) → AreOrdered {A = A} []
 unfolding IsStrictlySortedBy
@@ -182,3 +196,69 @@ module _ {A : Type 0} where
   added-ordered x y a ps seen i true e f o g =
       subst AreOrdered (ap (put x a) e ∙ sym (added x y a ps seen i e f g)) (ordered-put x a ps o)
   added-ordered x y a ps seen i false e f o g = o
+
+  pub ordered_without_names : (ps : Named A) → ps ≡ [] → AreOrdered ps
+  ordered_without_names ps e = subst AreOrdered (sym e) (ordered-none A)
+
+  -- what stands at a name of what is seen of the names
+  pub read : (x : List ℕ) (ps seen : Named A) (i : ℕ) (p : List ℕ × A) → ps ≡ seen → AreOrdered ps → IsThere x seen i → p ≡ get_or ps i p →
+      find x seen ≡ Some p.1
+  read x ps seen i p e o t at = ap (find x) (sym e) ∙ find-read x ps i p o (subst (λ l. IsThere x l i) (sym e) t) at
+
+  -- a pair of this name is what the name stands for, wherever it stands
+  find-held : (x : List ℕ) (ps : Named A) (i : ℕ) (p : List ℕ × A) → AreOrdered ps → slice_get ps i ≡ Some p →
+      same_name p.0 x ≡ true → find x ps ≡ Some p.1
+  find-held x ps i p o at same =
+      find-read x ps i p o (record {
+        in_range = slice_get_within ps i p at;
+        same_name = λ d. ap (λ (q : List ℕ × A). name_cmp q.0 x) (get_or_from_slice_get ps i p d at) ∙ compare_equal p.0 x same;
+      }) (sym (get_or_from_slice_get ps i p p at))
+
+  -- the same of what is lent of the names
+  pub held : (x : List ℕ) (ps lent seen : Named A) (i : ℕ) (p : List ℕ × A) → lent ≡ ps → ps ≡ seen → AreOrdered ps →
+      slice_get lent i ≡ Some p → same_name p.0 x ≡ true → find x seen ≡ Some p.1
+  held x ps lent seen i p e f o at same =
+      ap (find x) (sym (e ∙ f)) ∙ find-held x lent i p (subst AreOrdered (sym e) o) at same
+
+  -- `without` takes out the pair at a name that is there
+  without-there : (x : List ℕ) (ps : Named A) (i : ℕ) → AreOrdered ps → IsThere x ps i → without x ps ≡ remove ps i
+  unfolding IsStrictlySortedBy
+  without-there x [] i o t = absurd (omega (arith, t.in_range))
+  without-there x (p ∷ ps) zero o t = rw (turned p.0 x Equal (t.same_name p)) refl
+  without-there x (p ∷ ps) (suc i) o t =
+      let within : i < length ps = omega (arith, t.in_range) in
+      rw (behind_first x p ps i p o.0 within (t.same_name p))
+      (ap (λ l. p ∷ l) (without-there x ps i o.1 (record { in_range = within; same_name = λ e. t.same_name e })))
+
+  above_case-without : (b : Bool) (x y : List ℕ) (p : List ℕ × A) (ps : Named A) → AreAbove x (p ∷ ps) → AreAbove x (without y ps) →
+      AreAbove x (cond b ps (p ∷ without y ps))
+  above_case-without true x y p ps h rest = h.1
+  above_case-without false x y p ps h rest = (h.0, rest)
+
+  above-without : (x y : List ℕ) (ps : Named A) → AreAbove x ps → AreAbove x (without y ps)
+  above-without x y [] h = tt
+  above-without x y (p ∷ ps) h = above_case-without (is_at (name_cmp y) p.0) x y p ps h (above-without x y ps h.1)
+
+  ordered_case-without : (b : Bool) (x : List ℕ) (p : List ℕ × A) (ps : Named A) → AreOrdered (p ∷ ps) → AreOrdered (without x ps) →
+      AreOrdered (cond b ps (p ∷ without x ps))
+  unfolding IsStrictlySortedBy
+  ordered_case-without true x p ps o rest = o.1
+  ordered_case-without false x p ps o rest = (above-without p.0 x ps o.0, rest)
+
+  -- and the names stay in order
+  ordered-without : (x : List ℕ) (ps : Named A) → AreOrdered ps → AreOrdered (without x ps)
+  unfolding IsStrictlySortedBy
+  ordered-without x [] o = o
+  ordered-without x (p ∷ ps) o = ordered_case-without (is_at (name_cmp x) p.0) x p ps o (ordered-without x ps o.1)
+
+  -- so it is with what is taken out of what is seen of the names
+  pub taken : (x : List ℕ) (ps seen : Named A) (i : ℕ) → ps ≡ seen → AreOrdered ps → IsThere x seen i → remove ps i ≡ without x seen
+  taken x ps seen i e o t = sym (without-there x ps i o (subst (λ l. IsThere x l i) (sym e) t)) ∙ ap (without x) e
+
+  pub taken-ordered : (x : List ℕ) (ps seen : Named A) (i : ℕ) → ps ≡ seen → AreOrdered ps → IsThere x seen i → AreOrdered (remove ps i)
+  taken-ordered x ps seen i e o t =
+      subst AreOrdered (ap (without x) e ∙ sym (taken x ps seen i e o t)) (ordered-without x ps o)
+
+  -- where the name isn't there, nothing is taken out
+  pub without-gap : (x : List ℕ) (ps : Named A) (i : ℕ) → IsGapFor x ps i → ps ≡ without x ps
+  without-gap x ps i g = sym (without_absent x ps (find-gap x ps i g))
