@@ -556,6 +556,7 @@ known (Some x) = pure x
 abbrev pub target_link : Sign → Option Link
 target_link sign.Dot = Some links.Member
 target_link sign.OpenSquare = Some links.Item
+target_link sign.OpenRound = Some links.Call
 target_link sign.Is = Some links.Test
 target_link _ = None
 

@@ -184,6 +184,7 @@ pub fn target_link(sign: Sign) -> Option<Link>
     match sign {
         Sign::Dot => Some(Link::Member),
         Sign::OpenSquare => Some(Link::Item),
+        Sign::OpenRound => Some(Link::Call),
         Sign::Is => Some(Link::Test),
         _ => None,
     }

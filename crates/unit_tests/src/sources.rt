@@ -9,7 +9,7 @@ use tm_compiler::{SyntaxConfig, Tree, parse};
 use tm_values::{Error, ErrorKind};
 
 /// What a source is compiled to.
-static EXPRESSIONS_AND_STATEMENTS: [&str; 116] = [
+static EXPRESSIONS_AND_STATEMENTS: [&str; 118] = [
     "{# c #} =>",
     "{{ \"}}\" }}\n => #}} emit",
     "{{ a == none }} => $a #none == emit",
@@ -48,6 +48,8 @@ static EXPRESSIONS_AND_STATEMENTS: [&str; 116] = [
     "{% set a, b %}{% endset %} => capture captured unpack:2 store:a store:b",
     "{% set (a) %}{% endset %} => capture captured store:a",
     "{% set a.b %}x{% endset %} => capture raw:x captured $a set:b",
+    "{% set f(1)(2).n = 3 %} => #3 #1 call:f1 #2 value:2 set:n",
+    "{% set a[0](1).n, b.m(1)(2).n = c %} => $c unpack:2 $a #0 item #1 value:2 set:n $b #1 method:m2 #2 value:2 set:n",
     "{% filter f %}a{% endfilter %} => capture raw:a captured filter:f1@0 emit",
     "{% filter f | g . h(1, k=a) %}{% endfilter %} => capture captured filter:f1@0 #1 #k $a named:1 filter:g.h3@1 emit",
     "{% set x | f | g(1) %}a{% endset %} => capture raw:a captured filter:f1@0 #1 filter:g2@1 store:x",
@@ -202,7 +204,7 @@ fn sources_have_their_code(rt: HostRuntime) -> Result<(), Fail> {
 }
 
 /// What spells no template.
-static REFUSED: [&str; 160] = [
+static REFUSED: [&str; 163] = [
     "a{#",
     "{{ \"a }}",
     "{{ 1.5 }}",
@@ -237,6 +239,9 @@ static REFUSED: [&str; 160] = [
     "{% set ¦ f %}{% endset %}",
     "{% set a.b ¦ upper = 1 %}",
     "{% set a ¦ f(1).b = 2 %}",
+    "{% set f(1)(2) = 3 %}",
+    "{% set a.b(1)(2) %}{% endset %}",
+    "{% for f(1)(2) in x %}{% endfor %}",
     "{% for x in y %}{% filter f %}{% block b %}{% break %}{% endblock %}{% endfilter %}{% endfor %}",
     "{% autoescape %}x{% endautoescape %}",
     "{% autoescape 1, 2 %}{% endautoescape %}",
