@@ -11,6 +11,7 @@ pub mod Follow
 pub mod Forms
 mod Operands
 mod Levels
+mod Arguments
 mod Expressions
 mod Targets
 mod Rounds

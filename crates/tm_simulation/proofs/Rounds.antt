@@ -54,7 +54,8 @@ use Rattle.tm_meaning.specs.Machine.{onto}
 use Rattle.tm_simulation.proofs.Operands.{items_back, one_more_then}
 use Rattle.tm_simulation.proofs.Levels.{Deep, Here, Setting, as_at, deep_kept, deep_later, here, here_kept, here_within, meaning}
 use Rattle.tm_simulation.proofs.Levels.{nest_ends, stands_later}
-use Rattle.tm_simulation.proofs.Expressions.{In, built_then, expr_runs}
+use Rattle.tm_simulation.proofs.Arguments.{In, built_then}
+use Rattle.tm_simulation.proofs.Expressions.{expr_runs}
 use Rattle.tm_simulation.proofs.Targets.{Jumps, StmtsRun, around_kept, target_runs}
 
 -- a run with a loop more open

@@ -55,7 +55,8 @@ use Rattle.tm_simulation.proofs.Forms.{Stands, writes_then}
 use Rattle.tm_meaning.specs.declared.stream.TemplateId.{TemplateId}
 use Rattle.tm_simulation.proofs.Levels.{Deep, Setting, as_at, deep_escaped, deep_kept, deep_later, deep_within, here, meaning, nest_ends}
 use Rattle.tm_simulation.proofs.Levels.{placed_then, stands_later}
-use Rattle.tm_simulation.proofs.Expressions.{In, expr_runs}
+use Rattle.tm_simulation.proofs.Arguments.{In}
+use Rattle.tm_simulation.proofs.Expressions.{expr_runs}
 use Rattle.tm_simulation.proofs.Targets.{Around, StmtsRun, around_capture, around_escape, around_kept, around_scope, emit_then, filters_run}
 use Rattle.tm_simulation.proofs.Targets.{ended_then, popped_then, set_runs, sets_run, stands_captured, tag_then, tested_then, used_then}
 use Rattle.tm_simulation.proofs.Rounds.{did_not_is, end_at, iterable_runs, left_loop_then, looped, round_code, round_labels, rounds_run}

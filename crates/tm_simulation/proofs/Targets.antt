@@ -51,7 +51,8 @@ use Rattle.tm_simulation.proofs.Forms.{Stands, fits_captured, audible_is, writes
 use Rattle.tm_meaning.specs.declared.stream.TemplateId.{TemplateId}
 use Rattle.tm_simulation.proofs.Operands.{bind_long, items_long}
 use Rattle.tm_simulation.proofs.Levels.{Deep, Here, Setting, as_at, deep_kept, here, here_kept, meaning, nest_ends, placed_then}
-use Rattle.tm_simulation.proofs.Expressions.{In, expr_runs, step_runs}
+use Rattle.tm_simulation.proofs.Arguments.{In}
+use Rattle.tm_simulation.proofs.Expressions.{expr_runs, step_runs}
 
 abbrev escaping : Spot → AutoEscape → Spot
 escaping s e = record s { run = record s.run { escapes = e ∷ s.run.escapes } }
