@@ -7,14 +7,13 @@ use Rattle.tm_syntax.specs.declared.tree.UnaryOperator.{UnaryOperator}
 use Rattle.tm_syntax.specs.declared.tree.UnaryOperator.TheVariants as unaries
 use Rattle.tm_syntax.specs.declared.tree.BinaryOperator.{BinaryOperator}
 use Rattle.tm_syntax.specs.declared.tree.BinaryOperator.TheVariants as binaries
-use Rattle.tm_syntax.specs.declared.tree.Expr.{Row_of-Argument, more_of-Argument as argument}
+use Rattle.tm_syntax.specs.declared.tree.Expr.{Row_of-Argument}
 use Rattle.tm_syntax.specs.declared.tree.Expr.{Row_of-Keyword}
 use Rattle.tm_syntax.specs.declared.tree.Application.{Application}
 use Rattle.tm_syntax.specs.CacheNumbers.{no_cache}
 use Rattle.tm_syntax.specs.declared.tree.Application.TheVariants as applications
 use Rattle.tm_syntax.specs.declared.instruction.Instruction.{Instruction}
 use Rattle.tm_syntax.specs.declared.instruction.Instruction.TheVariants as i
-use Rattle.tm_syntax.specs.Forms.{keyword}
 use Rattle.tm_syntax.specs.Code.{together, count, count_lists, count_maps, count_by}
 use Rattle.tm_syntax.specs.Code.{unary_code, binary_code, application_code, list_of_row, map_of_row, merged_code, merging, passing_by}
 use Rattle.tm_syntax.specs.Code.{has_spread_keyword}
@@ -46,7 +45,7 @@ use Rattle.tm_simulation.proofs.Follow.{Follows, follows_map_kept, bound_follows
 use Rattle.tm_simulation.proofs.Follow.{Go, silent, at, after_then, pushes, choose_then}
 use Rattle.tm_simulation.proofs.Operands.{IsLong, bind_long, flat, flat_long}
 use Rattle.tm_simulation.proofs.Operands.{onto_both, paired_flat, taken_all}
-use Rattle.tm_simulation.proofs.Levels.{Here, asked_then, here_kept, meaning, nest_ends}
+use Rattle.tm_simulation.proofs.Levels.{Setting, Here, asked_then, here_kept, meaning, nest_ends}
 
 module _ (setting : Setting) where
   open setting use {context, trees, n, entered, id, level, again, again_kept, called_in_place, called_as_value}

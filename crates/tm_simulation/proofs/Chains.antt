@@ -7,7 +7,7 @@ use Rattle.std.specs.Prelude.{slice_get}
 use Rattle.tm_values.specs.Val.{Val}
 use Rattle.tm_values.specs.declared.error.ErrorKind.{ErrorKind}
 use Rattle.tm_meaning.specs.Tree.{Trees}
-use Rattle.tm_meaning.specs.World.{World, HostValue, Function, Object, Fallback, callers, View, Named, find}
+use Rattle.tm_meaning.specs.World.{World, HostValue, Function, Object, Fallback, callers, Named, find}
 use Rattle.tm_meaning.specs.Calls.{method_object}
 use Rattle.tm_syntax.specs.Named.{name_cmp}
 use Rattle.std.specs.BTreeMap.{is_at}

@@ -49,7 +49,7 @@ use Rattle.tm_simulation.proofs.Follow.{Go, silent, at, after_then, move, pushes
 use Rattle.tm_simulation.proofs.Operands.{all_long, arguments_long, bind_long, flat, flat_long, flat_more, keywords_long}
 use Rattle.tm_simulation.proofs.Operands.{lists_long, named_long}
 use Rattle.tm_simulation.proofs.Operands.{onto_both, paired_flat, pairs_long}
-use Rattle.tm_simulation.proofs.Levels.{Here, here_kept, meaning, nest_ends}
+use Rattle.tm_simulation.proofs.Levels.{Setting, Here, here_kept, meaning, nest_ends}
 use Rattle.tm_simulation.proofs.Arguments.{unary_then, binary_then, passed_then, calls, built_then, listed_then, mapped_then}
 use Rattle.tm_simulation.proofs.Arguments.{dropped_then, In, Runs, Pushes, Long, named_runs, passing_runs, condition_runs}
 

@@ -2,7 +2,7 @@
 use Rattle.std.proofs.Common.{◌≡◌, ℕ, suc, ◌+◌, ◌<◌, ◌≤◌, ◌⊎◌, inl, inr, List, [], ◌∷◌, ◌++◌, length, nat_lt, Option, Bool, true, false}
 use Rattle.std.proofs.Common.{refl, sym, subst, arith, lt-ltb, le-ltb}
 use Rattle.tm_values.specs.Val.{Val}
-use Rattle.tm_meaning.specs.World.{choose, World, captured_text}
+use Rattle.tm_meaning.specs.World.{choose, World}
 use Rattle.tm_meaning.specs.Calls.{Callee, NestedCall, undone, wrapped, run_value, runs}
 use Rattle.tm_meaning.specs.Meaning.{Run, Outcome, Ending, done, leave, next, fault, Under, audible as heard_here, say, behind, in_place_of}
 use Rattle.tm_meaning.specs.Meaning.{value_behind, value_of, capturing}

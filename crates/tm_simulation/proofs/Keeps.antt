@@ -1,5 +1,5 @@
 -- What runs keep, and of which kinds their faults are.
-use Rattle.std.proofs.Common.{ℕ, zero, suc, ◌+◌, List, [], ◌∷◌, Option, None, Some, Bool, true, false, ◌≡◌, refl, sym, subst}
+use Rattle.std.proofs.Common.{ℕ, zero, suc, ◌+◌, List, [], ◌∷◌, Option, Some, Bool, true, false, ◌≡◌, refl, sym, subst}
 use Rattle.std.specs.Prelude.{slice_get, ◌&&◌}
 use Rattle.tm_values.specs.Val.{Val, undefined}
 use Rattle.tm_values.specs.declared.error.ErrorKind.{ErrorKind}

@@ -1,7 +1,7 @@
 -- Code with its cache numbers, against the code before it.
 use Rattle.std.proofs.Common.{◌≡◌, ℕ, zero, suc, ◌+◌, ◌≤◌, ◌⊎◌, inl, inr, List, [], ◌∷◌, ◌++◌, length, Option, Some, None}
 use Rattle.std.proofs.Common.{Bool, true, false, refl, sym, ap, ◌∙◌, arith, length-append, eqb-true}
-use Rattle.std.specs.Prelude.{slice_get, nat_lt, nat_eq, if◌then◌else◌}
+use Rattle.std.specs.Prelude.{slice_get, nat_lt, if◌then◌else◌}
 use Rattle.std.proofs.lemmas.Bool.Decides.{nat_tests}
 use Rattle.std.proofs.lemmas.Slice.Eq.{bytes_eq-Decides}
 use Rattle.tm_syntax.specs.declared.instruction.Instruction.{Instruction}
@@ -10,7 +10,7 @@ use Rattle.tm_syntax.specs.CacheNumbers.{no_cache, cache_count, place_from, numb
 use Rattle.tm_syntax.specs.CacheNumbers.{numbered_from, numbered}
 use Rattle.tm_syntax.specs.Loops.{begins, with_place, loop_places, one_more_loop, loops_before}
 use Rattle.tm_syntax.specs.Named.{same_name}
-use Rattle.tm_simulation.specs.Uncached.{is_uncached, AllUncached}
+use Rattle.tm_simulation.specs.Uncached.{AllUncached}
 
 -- ---------------------------------------------------------------- code before it
 pub both_uncached : (a b : List Instruction) → AllUncached a → AllUncached b → AllUncached (a ++ b)
