@@ -1,13 +1,13 @@
 -- A look-up answers as names are found.
-use Rattle.std.proofs.Common.{◌≡◌, ℕ, List, [], ◌∷◌, Option, Some, None, Ok, Err, Bool, true, false, refl, sym, ap, subst, ◌∙◌}
+use Rattle.std.proofs.Common.{◌≡◌, ℕ, List, [], ◌∷◌, Option, Some, None, Ok, Bool, true, false, refl}
 use Rattle.std.specs.Prelude.{codes, slice_get, option_and_then}
 use Rattle.tm_values.specs.Answer.{Answer}
-use Rattle.tm_values.specs.Val.{Val, loop}
+use Rattle.tm_values.specs.Val.{Val}
 use Rattle.tm_meaning.specs.declared.mark.LoopMark.{LoopMark}
-use Rattle.tm_meaning.specs.World.{Bindings, View, Scope, find, same_name, marked_loop, read_closure, in_scope, in_frames, or_else, or_on}
+use Rattle.tm_meaning.specs.World.{Bindings, View, Scope, find, same_name, marked_loop, read_closure, in_scope, in_frames}
 use Rattle.tm_meaning.specs.World.{or_on_answer}
-use Rattle.tm_meaning.specs.World.{context_member, find_name}
-use Rattle.tm_meaning.specs.LookUp.{IsNoLoop, IsNotEnclosed, HasNone, Finds, in_locals, as_loop, in_closure, in_context, refused, outward}
+use Rattle.tm_meaning.specs.World.{find_name}
+use Rattle.tm_meaning.specs.LookUp.{HasNone, Finds, in_locals, as_loop, in_closure, in_context, refused, outward}
 use Rattle.tm_meaning.specs.LookUp.{in_globals}
 
 -- ---------------------------------------------------------------- a scope's own names

@@ -7,7 +7,6 @@ use Rattle.tm_syntax.specs.declared.tree.Expr.{Expr, Const, List', Call', end_of
 use Rattle.tm_syntax.specs.declared.tree.Expr.{end_of-Argument as no_argument, more_of-Argument as argument, end_of-Keyword as no_keyword}
 use Rattle.tm_syntax.specs.declared.tree.Expr.{more_of-Keyword as keyword_and}
 use Rattle.tm_syntax.specs.declared.tree.Expr.{end_of-Step as no_step, more_of-Step as step}
-use Rattle.tm_syntax.specs.declared.tree.Application.{Application}
 use Rattle.tm_syntax.specs.declared.tree.Application.TheVariants as applications
 use Rattle.tm_syntax.specs.declared.tree.Step.{Attribute, Apply'}
 use Rattle.tm_syntax.specs.declared.tree.AssignmentTarget.{Name as To, Attribute as Member}

@@ -22,7 +22,7 @@ use Rattle.tm_meaning.specs.declared.run_text.RunText.TheVariants as texts
 use Rattle.tm_meaning.specs.Memory.{kind_of_wrapping}
 use Rattle.tm_meaning.specs.declared.function.GlobalFunction.TheVariants as own
 use Rattle.tm_meaning.specs.World.{TemplateId, own, entry, StreamId, block_of, Named, find, put_each, same_name, Card, Layers, Loop, World}
-use Rattle.tm_meaning.specs.World.{HostValue, View, Scope, Object, Fallback, Function, callers, languages, Res, Good, Bad, bind, bad, answered}
+use Rattle.tm_meaning.specs.World.{HostValue, Scope, Object, Fallback, Function, callers, languages, Res, Good, Bad, bind, bad, answered}
 use Rattle.tm_meaning.specs.World.{depth, items_over, innermost, records_of, make_namespace, need, check, card_at, view_of, lookup}
 use Rattle.tm_meaning.specs.World.{context_member, place_of, plain_scope, push, captured_text}
 use Rattle.tm_meaning.specs.declared.reply.Reply.{Reply}

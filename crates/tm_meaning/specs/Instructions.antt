@@ -10,7 +10,7 @@ use Rattle.tm_syntax.specs.declared.tree.UnaryOperator.{UnaryOperator}
 use Rattle.tm_meaning.specs.declared.mark.LoopMark.{LoopMark}
 use Rattle.tm_syntax.specs.declared.tree.BinaryOperator.{BinaryOperator}
 use Rattle.tm_meaning.specs.World.{choose, TemplateId, World, HostValue, Loop, top_mark, top_loop, open_loop, next_turn, cleared}
-use Rattle.tm_meaning.specs.World.{items_over, Res, Good, answered, looked_up, emitted, escape_for, with_escape, store, unpacked_items}
+use Rattle.tm_meaning.specs.World.{items_over, Res, answered, looked_up, emitted, escape_for, with_escape, store, unpacked_items}
 use Rattle.tm_meaning.specs.World.{set_member, push, pop, plain_scope, captured_text}
 use Rattle.tm_syntax.specs.Loops.{loops_before}
 use Rattle.tm_syntax.specs.CacheNumbers.{no_cache, cache_count}
@@ -18,9 +18,10 @@ use Rattle.tm_syntax.specs.Named.{same_name}
 use Rattle.tm_syntax.specs.declared.tree.Application.{Application}
 use Rattle.tm_syntax.specs.declared.tree.Application.TheVariants as applications
 use Rattle.tm_meaning.specs.Calls.{enter_block, call_named, call_callee, applied, call_innermost}
-use Rattle.tm_meaning.specs.Meaning.{none_waits, truth, applied_unary, operated, attribute, item_at, slice_of, list_of_values, map_of_pairs}
-use Rattle.tm_meaning.specs.Meaning.{keyword_map, merged_values, items_of_lists}
-use Rattle.tm_meaning.specs.Machine.{Capture, Caches, Return, Activation, Config, Base, Next, More, after, on_top, take_n, onto, on, goes, pushed}
+use Rattle.tm_meaning.specs.Meaning.{none_waits}
+use Rattle.tm_meaning.specs.Operators.{truth, applied_unary, operated, attribute, item_at, slice_of, list_of_values, map_of_pairs}
+use Rattle.tm_meaning.specs.Operators.{keyword_map, merged_values, items_of_lists}
+use Rattle.tm_meaning.specs.Machine.{Capture, Caches, Return, Config, Base, Next, More, after, on_top, take_n, onto, on, goes, pushed}
 use Rattle.tm_meaning.specs.Machine.{Program, jumps, stuck, with_world, audible, writes, new_capture, captured_value, asked, asked_in_place}
 
 -- ---------------------------------------------------------------- output

@@ -2,6 +2,7 @@ pub mod World
 pub mod Memory
 pub mod Calls
 pub mod Tree
+pub mod Operators
 pub mod Meaning
 pub mod Machine
 pub mod Instructions

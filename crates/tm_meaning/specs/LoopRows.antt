@@ -10,7 +10,7 @@ use Rattle.tm_syntax.specs.declared.tree.Stmt.{end_of-Stmt as no_statement, more
 use Rattle.tm_syntax.specs.declared.tree.Stmt.{None' as no_else}
 use Rattle.tm_syntax.specs.Forms.{binary}
 use Rattle.tm_meaning.specs.Tree.{body_of}
-use Rattle.tm_meaning.specs.Rows.{page, nothing, raw, named, one, a, else_one, and_one, literal_number, x, Page}
+use Rattle.tm_meaning.specs.Rows.{page, nothing, raw, named, one, else_one, and_one, literal_number, x, Page}
 
 abbrev pub numbers : ℕ → ℕ → Expr
 numbers m n = List' (tt ∷ tt ∷ []) (expr (literal_number m) (expr (literal_number n) no_expr))

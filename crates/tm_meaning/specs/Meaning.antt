@@ -1,28 +1,12 @@
 -- What trees mean. No stream's place and no operand stands here.
-use Rattle.std.specs.Prelude.{ℕ, zero, suc, ◌+◌, ◌^◌, ◌-◌, pos, List, [], ◌∷◌, ◌++◌, Option, Some, None, Bool, true, false, not, ◌&&◌}
+use Rattle.std.specs.Prelude.{ℕ, zero, suc, ◌+◌, ◌^◌, ◌-◌, pos, List, [], ◌∷◌, ◌++◌, Option, Some, None, Bool, true, false, ◌&&◌}
 use Rattle.std.specs.Prelude.{nat_lt, if◌then◌else◌, Ok, slice_get}
-use Rattle.std.specs.Result.{result_map_both}
 use Rattle.tm_values.specs.Answer.{Answer, invalid}
-use Rattle.tm_values.specs.Map.{put_all}
-use Rattle.tm_values.specs.Records.{RecordData}
-use Rattle.tm_values.specs.Val.{Val, undefined, boolean, number, text, list, map, keywords, vals_of, pairs_of}
+use Rattle.tm_values.specs.Val.{Val, undefined, number, text}
 use Rattle.tm_values.specs.declared.error.ErrorKind.{ErrorKind}
 use Rattle.tm_values.specs.declared.error.ErrorKind.TheVariants.{InvalidOperation}
 use Rattle.tm_values.specs.declared.escape.AutoEscape.{AutoEscape}
-use Rattle.tm_values.specs.declared.undefined.UndefinedBehavior.{UndefinedBehavior}
-use Rattle.tm_definitions.specs.Arithmetic as arithmetic
-use Rattle.tm_definitions.specs.Truth.{truth_of}
-use Rattle.tm_definitions.specs.Comparison.{compared}
-use Rattle.tm_definitions.specs.Concatenation.{concatenated}
-use Rattle.tm_definitions.specs.Containment.{contained}
-use Rattle.tm_definitions.specs.Spread.{items_of_all, merged}
-use Rattle.tm_definitions.specs.Members.{attribute_of, item_of}
-use Rattle.tm_definitions.specs.Slices.{sliced}
-use Rattle.tm_definitions.specs.declared.comparison.ComparisonOperator.TheVariants as comparison
-use Rattle.tm_syntax.specs.declared.tree.UnaryOperator.{UnaryOperator}
-use Rattle.tm_syntax.specs.declared.tree.UnaryOperator.TheVariants as unaries
 use Rattle.tm_syntax.specs.declared.tree.BinaryOperator.{BinaryOperator}
-use Rattle.tm_syntax.specs.declared.tree.BinaryOperator.TheVariants as binaries
 use Rattle.tm_syntax.specs.declared.tree.Expr.{Expr, Var, Const, List', Tuple', Map', Call', Row_of-Expr, end_of-Expr as no_expr}
 use Rattle.tm_syntax.specs.declared.tree.Expr.{more_of-Expr as expr, Row_of-Pair, end_of-Pair as no_pair, Row_of-Argument}
 use Rattle.tm_syntax.specs.declared.tree.Expr.{end_of-Argument as no_argument, more_of-Argument as argument, Row_of-Keyword}
@@ -30,8 +14,6 @@ use Rattle.tm_syntax.specs.declared.tree.Expr.{end_of-Keyword as no_keyword, mor
 use Rattle.tm_syntax.specs.declared.tree.Expr.{end_of-Step as no_step, more_of-Step as step}
 use Rattle.tm_syntax.specs.declared.tree.Expr.{Row_of-Condition, end_of-Condition as no_condition}
 use Rattle.tm_syntax.specs.declared.tree.Argument.{Argument}
-use Rattle.tm_syntax.specs.declared.tree.Application.{Application}
-use Rattle.tm_syntax.specs.declared.tree.Application.TheVariants as applications
 use Rattle.tm_syntax.specs.declared.tree.Step.{Step, Attribute, Apply', Call' as Called, Row_of-Comparison, end_of-Comparison as no_comparison}
 use Rattle.tm_syntax.specs.declared.tree.AssignmentTarget.{AssignmentTarget, Name as To, Unpack' as Items, Attribute as Member}
 use Rattle.tm_syntax.specs.declared.tree.AssignmentTarget.{Row_of-AssignmentTarget}
@@ -45,14 +27,16 @@ use Rattle.tm_syntax.specs.declared.tree.Stmt.{more_of-Stmt as statement, Held-S
 use Rattle.tm_syntax.specs.declared.tree.Stmt.{Some' as otherwise}
 use Rattle.tm_syntax.specs.Forms.{unary, chained, conditional, with_condition, with_comparison, with_pair, plain, spread, keyword, item}
 use Rattle.tm_syntax.specs.Forms.{spread_keywords, slice, binary, compare, and_then, or_else}
-use Rattle.tm_syntax.specs.Code.{has_spread, has_spread_keyword, count_targets, for_flags, pass_flags}
+use Rattle.tm_syntax.specs.Code.{count_targets, for_flags, pass_flags}
 use Rattle.tm_syntax.specs.Loops.{passes, within_loop, past, pasts, FoundLoop, loops_in}
 use Rattle.tm_meaning.specs.World.{choose, TemplateId, root_of, World, HostValue, Res, Good, Bad, bind, answered, tick, ticked, looked_up}
-use Rattle.tm_meaning.specs.World.{records_of, template_at, emitted, escape_for, with_escape, captured_text, open_loop, next_turn}
+use Rattle.tm_meaning.specs.World.{template_at, emitted, escape_for, with_escape, captured_text, open_loop, next_turn}
 use Rattle.tm_meaning.specs.World.{cleared, items_over, store, set_member, unpacked_items, push, pop, plain_scope}
 use Rattle.tm_meaning.specs.Calls.{Callee, whole, NestedCall, Asked, has, refused, runs, recurs, undone, wrapped, run_value, enter_block, call_named}
 use Rattle.tm_meaning.specs.Calls.{applied, call_callee, call_innermost, own_blocks}
 use Rattle.tm_meaning.specs.Tree.{Body, Trees}
+use Rattle.tm_meaning.specs.Operators.{truth, applied_unary, operated, applied_binary, attribute, item_at, slice_of}
+use Rattle.tm_meaning.specs.Operators.{list_of_values, map_of_pairs, listed, mapped, passed, turned}
 
 -- ---------------------------------------------------------------- runs and outcomes
 -- A run of a stream's tree: the escape at its start, whether it is heard, whether this stands inside a capture of its own, the parent that
@@ -157,124 +141,6 @@ in_place_of u run out (recurs n items w) = u.again n items run out w
 abbrev pub block_tag : Under → Run → List ℕ → List ℕ → World → Outcome
 block_tag u run b out w =
     choose (none_waits run.parent && audible run) (λ _. in_place_of u run out (enter_block u.host b w)) (λ _. so_far run out w)
-
--- ---------------------------------------------------------------- operators
-abbrev pub truth : HostValue → Val → World → Res Bool
-truth host v w = answered (truth_of host.undefined v) w
-
-abbrev pub as_value : Answer Bool → Answer Val
-as_value answer = result_map_both boolean (λ e. e) answer
-
-abbrev pub negated : Answer Bool → Answer Val
-negated answer = result_map_both (λ b. boolean (not b)) (λ e. e) answer
-
--- what a prefix operator gives of a value
-abbrev pub result_of_unary : UnaryOperator → UndefinedBehavior → Val → Answer Val
-result_of_unary unaries.Not b v = negated (truth_of b v)
-result_of_unary unaries.Negate b v = arithmetic.negated v
-
-abbrev pub applied_unary : HostValue → UnaryOperator → Val → World → Res Val
-applied_unary host op v w = answered (result_of_unary op host.undefined v) w
-
--- what an operator gives of two values
-abbrev pub result_of : BinaryOperator → UndefinedBehavior → RecordData → Val → Val → Answer Val
-result_of binaries.Equal b r x y = as_value (compared comparison.Equal b x y)
-result_of binaries.NotEqual b r x y = as_value (compared comparison.NotEqual b x y)
-result_of binaries.Less b r x y = as_value (compared comparison.Less b x y)
-result_of binaries.LessOrEqual b r x y = as_value (compared comparison.LessOrEqual b x y)
-result_of binaries.Greater b r x y = as_value (compared comparison.Greater b x y)
-result_of binaries.GreaterOrEqual b r x y = as_value (compared comparison.GreaterOrEqual b x y)
-result_of binaries.In b r x y = as_value (contained b r y x)
-result_of binaries.NotIn b r x y = negated (contained b r y x)
-result_of binaries.Add b r x y = arithmetic.added x y
-result_of binaries.Subtract b r x y = arithmetic.subtracted x y
-result_of binaries.Concatenate b r x y = concatenated b r x y
-result_of binaries.Multiply b r x y = arithmetic.multiplied x y
-result_of binaries.Divide b r x y = arithmetic.divided x y
-result_of binaries.FloorDivide b r x y = arithmetic.floor_divided x y
-result_of binaries.Remainder b r x y = arithmetic.remaining x y
-result_of binaries.Power b r x y = arithmetic.raised x y
-
-abbrev pub operated : HostValue → BinaryOperator → Val → Val → World → Res Val
-operated host op x y w = answered (result_of op host.undefined (records_of w) x y) w
-
--- the same in an expression, where `not in` is `in` and then `not`, which is charged too
-abbrev pub applied_binary : HostValue → BinaryOperator → Val → Val → World → Res Val
-applied_binary host binaries.NotIn x y w =
-    bind (operated host binaries.In x y w) (λ v world1. ticked world1 (λ world2. applied_unary host unaries.Not v world2))
-applied_binary host op x y w = operated host op x y w
-
-abbrev pub attribute : HostValue → Val → List ℕ → World → Res Val
-attribute host v x w = answered (attribute_of host.undefined (records_of w) v x) w
-
-abbrev pub item_at : HostValue → Val → Val → World → Res Val
-item_at host v k w = answered (item_of host.undefined (records_of w) v k) w
-
--- from a start to a stop by a step
-abbrev pub slice_of : HostValue → Val → Val → Val → Val → World → Res Val
-slice_of host v start stop by w = answered (sliced host.undefined v start stop by) w
-
-abbrev pub list_of_values : List Val → Val
-list_of_values vs = list (vals_of vs)
-
--- of equal keys the first spelling and the last value
-abbrev pub map_of_pairs : List (Val × Val) → Val
-map_of_pairs ps = map (pairs_of (put_all ps))
-
--- and of arguments by their names
-abbrev pub keyword_map : List (Val × Val) → Val
-keyword_map ps = keywords (pairs_of (put_all ps))
-
--- ---------------------------------------------------------------- arguments
--- the keyword map of the pairs of all maps that are spread
-abbrev pub merged_values : HostValue → List Val → World → Res Val
-merged_values host vs w =
-    bind (answered (merged host.undefined (records_of w) vs) w) (λ ps world1. Good (keywords (pairs_of ps)) world1)
-
--- the items of all lists
-abbrev pub items_of_lists : HostValue → List Val → World → Res (List Val)
-items_of_lists host vs w = answered (items_of_all host.undefined (records_of w) vs) w
-
--- A row of values is a list, and one of names with their values a keyword map, charged, where there are any.
-abbrev pub listed : List Val → World → Res (List Val)
-listed [] w = Good [] w
-listed (v ∷ vs) w = ticked w (λ world1. Good (list_of_values (v ∷ vs) ∷ []) world1)
-
-abbrev pub mapped : List (Val × Val) → World → Res (List Val)
-mapped [] w = Good [] w
-mapped (p ∷ ps) w = ticked w (λ world1. Good (keyword_map (p ∷ ps) ∷ []) world1)
-
--- maps become one, charged, where one was spread
-abbrev pub merged_by : Bool → HostValue → List Val → World → Res (List Val)
-merged_by false host ms w = Good ms w
-merged_by true host ms w = ticked w (λ world1. bind (merged_values host ms world1) (λ v world2. Good (v ∷ []) world2))
-
--- What stands under a name is evaluated behind what stands at a place.
-abbrev pub both_passed : List Val → (World → Res (List Val)) → (World → Res (List Val)) → World → Res (List Val)
-both_passed before by_place by_name w =
-    bind (by_place w) (λ vs world1. bind (by_name world1) (λ ks world2. Good (before ++ (vs ++ ks)) world2))
-
--- What a call is passed, behind values before the arguments: one by one; or the items of lists, charged, where some are spread.
-abbrev pub passed_by : Bool → HostValue → List Val → (World → Res (List Val)) → (World → Res (List Val)) →
-    ((World → Res (List Val)) → World → Res (List Val)) → World → Res (List Val)
-passed_by false host before by_place by_name lists w = both_passed before by_place by_name w
-passed_by true host before by_place by_name lists w =
-    bind (lists by_name w) (λ ls world1. ticked world1 (λ world2. items_of_lists host ls world2))
-
-abbrev pub named_by : {n : _} → HostValue → Row_of-Keyword n → (World → Res (List Val)) → World → Res (List Val)
-named_by host named maps w = bind (maps w) (λ ms world1. merged_by (has_spread_keyword named) host ms world1)
-
-abbrev pub passed : {n m : _} → HostValue → List Val → Row_of-Argument n → Row_of-Keyword m → (World → Res (List Val)) →
-    (World → Res (List Val)) → ((World → Res (List Val)) → World → Res (List Val)) → World → Res (List Val)
-passed host before given named by_place maps lists w =
-    passed_by (has_spread given) host before by_place (named_by host named maps) lists w
-
--- what a test answered is turned round, charged, where that is asked for
-abbrev pub turned : HostValue → Application → Val → World → Res Val
-turned host applications.Method v w = Good v w
-turned host applications.Filter v w = Good v w
-turned host applications.Test v w = Good v w
-turned host applications.NegatedTest v w = ticked w (λ world1. applied_unary host unaries.Not v world1)
 
 -- ---------------------------------------------------------------- expressions
 -- what is guarded where the condition is true, with the jump behind it, and else what stands for it

@@ -1,7 +1,6 @@
 -- Pages with a method object or a formatter of the caller's.
-use Rattle.std.specs.Prelude.{zero, List, [], ◌∷◌, Some, None, Ok, Err, false, codes, pos}
-use Rattle.tm_values.specs.Val.{Val, undefined, none, number, text, function}
-use Rattle.tm_values.specs.declared.error.ErrorKind.{ErrorKind}
+use Rattle.std.specs.Prelude.{zero, [], ◌∷◌, Some, None, Ok, Err, false, codes, pos}
+use Rattle.tm_values.specs.Val.{undefined, none, number, text, function}
 use Rattle.tm_values.specs.declared.error.ErrorKind.TheVariants.{MissingArgument}
 use Rattle.tm_syntax.specs.declared.tree.Expr.{Const}
 use Rattle.tm_syntax.specs.declared.tree.Stmt.{EmitExpr, end_of-Stmt as no_statement, more_of-Stmt as statement}

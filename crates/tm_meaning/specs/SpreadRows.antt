@@ -1,8 +1,8 @@
 -- Pages that spread arguments, and that call what an expression gives.
 use Rattle.std.specs.Prelude.{ℕ, ◌+◌, List, [], ◌∷◌, codes, pos}
 use Rattle.tm_values.specs.Val.{Val, number, function}
-use Rattle.tm_syntax.specs.declared.tree.Expr.{Expr, List', Map', Call', end_of-Expr as no_expr, more_of-Expr as expr}
-use Rattle.tm_syntax.specs.declared.tree.Expr.{end_of-Argument as no_argument, more_of-Argument as argument, Row_of-Argument}
+use Rattle.tm_syntax.specs.declared.tree.Expr.{Expr, Map', Call'}
+use Rattle.tm_syntax.specs.declared.tree.Expr.{end_of-Argument as no_argument, more_of-Argument as argument}
 use Rattle.tm_syntax.specs.declared.tree.Expr.{end_of-Keyword as no_keyword, more_of-Keyword as keyword_and, end_of-Pair as no_pair}
 use Rattle.tm_syntax.specs.declared.tree.Expr.{end_of-Step as no_step, more_of-Step as step}
 use Rattle.tm_syntax.specs.declared.tree.Application.TheVariants as applications
@@ -12,7 +12,7 @@ use Rattle.tm_syntax.specs.Forms.{chained, plain, spread, keyword, spread_keywor
 use Rattle.tm_meaning.specs.World.{Object, callers, languages}
 use Rattle.tm_meaning.specs.declared.reply.Reply.TheVariants.{Value as gives}
 use Rattle.tm_meaning.specs.declared.function.GlobalFunction.TheVariants as own
-use Rattle.tm_meaning.specs.Rows.{Page, page, nothing, one, named, literal, literal_number, and_one, x}
+use Rattle.tm_meaning.specs.Rows.{Page, page, nothing, one, named, literal, literal_number, and_one}
 use Rattle.tm_meaning.specs.LoopRows.{numbers, alone_in_list}
 use Rattle.tm_meaning.specs.CallRows.{answers, one_named}
 use Rattle.tm_meaning.specs.FilterRows.{filtering}

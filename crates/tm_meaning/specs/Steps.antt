@@ -1,14 +1,13 @@
 -- A step of the machine, and whole runs.
-use Rattle.std.specs.Prelude.{◌≡◌, ℕ, zero, suc, List, [], ◌∷◌, ◌++◌, length, Option, Some, None, option_and_then, Bool, true, false, ◌&&◌}
+use Rattle.std.specs.Prelude.{◌≡◌, ℕ, zero, suc, List, [], ◌∷◌, ◌++◌, length, Option, Some, None, Bool, true, false, ◌&&◌}
 use Rattle.std.specs.Prelude.{nat_eq, slice_get}
-use Rattle.tm_values.specs.declared.escape.AutoEscape.{AutoEscape}
 use Rattle.tm_syntax.specs.declared.instruction.Instruction.{Instruction}
 use Rattle.tm_syntax.specs.declared.instruction.Instruction.TheVariants as i
 use Rattle.tm_syntax.specs.declared.tree.Application.TheVariants as applications
 use Rattle.tm_syntax.specs.declared.tree.UnaryOperator.TheVariants as unaries
 use Rattle.tm_syntax.specs.declared.tree.BinaryOperator.TheVariants as binaries
-use Rattle.tm_meaning.specs.World.{choose, World, HostValue, Res, pays}
-use Rattle.tm_meaning.specs.Machine.{Config, Return, Base, End, Finished, Back, back_to, Next, More, Over, Nest, Program, after, stuck}
+use Rattle.tm_meaning.specs.World.{choose, World, Res, pays}
+use Rattle.tm_meaning.specs.Machine.{Config, Base, End, Finished, Back, back_to, Next, More, Over, Nest, Program, after, stuck}
 use Rattle.tm_meaning.specs.Machine.{with_world}
 use Rattle.tm_meaning.specs.Instructions.{emit_raw_of, emit_of, lookup_of, load_const_of, get_attr_of, unary_of, binary_of}
 use Rattle.tm_meaning.specs.Instructions.{compare_and_preserve_of, swap_of, dup_top_of, discard_top_of, get_item_of, slice_instruction_of}

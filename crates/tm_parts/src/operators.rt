@@ -3,7 +3,7 @@ ghost use Rattle.std.specs.Prelude.{◌≡◌, IfErr, IfOk, IfSome, [], ◌∷�
 ghost use Rattle.tm_parts.specs.Operate.{Gives};
 ghost use Rattle.tm_values.specs.Val.{number};
 ghost use Rattle.tm_meaning.specs.Instructions as instructions;
-ghost use Rattle.tm_meaning.specs.Meaning.{result_of, result_of_unary};
+ghost use Rattle.tm_meaning.specs.Operators.{result_of, result_of_unary};
 ghost use Rattle.tm_values.specs.Answer.{IsAnswer};
 ghost use Rattle.tm_values.specs.declared.error.ErrorKind.TheVariants.{OutOfMemory};
 

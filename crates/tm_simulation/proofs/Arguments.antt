@@ -23,10 +23,12 @@ use Rattle.tm_meaning.specs.World.{World}
 use Rattle.tm_meaning.specs.World.{Res, Good, bind, tick, ticked}
 use Rattle.tm_meaning.specs.Calls.{Asked, applied}
 use Rattle.tm_meaning.specs.Meaning.{Run}
-use Rattle.tm_meaning.specs.Meaning.{Under, truth, applied_unary, operated, turned, value_of}
-use Rattle.tm_meaning.specs.Meaning.{applied_binary, list_of_values}
-use Rattle.tm_meaning.specs.Meaning.{keyword_map, under_condition, listed, mapped, merged_by}
-use Rattle.tm_meaning.specs.Meaning.{merged_values, items_of_lists, named_by, passed_by}
+use Rattle.tm_meaning.specs.Meaning.{Under, value_of}
+use Rattle.tm_meaning.specs.Operators.{truth, applied_unary, operated, turned}
+use Rattle.tm_meaning.specs.Operators.{applied_binary, list_of_values}
+use Rattle.tm_meaning.specs.Meaning.{under_condition}
+use Rattle.tm_meaning.specs.Operators.{keyword_map, listed, mapped, merged_by}
+use Rattle.tm_meaning.specs.Operators.{merged_values, items_of_lists, named_by, passed_by}
 use Rattle.tm_meaning.specs.Machine.{Config, Next, onto}
 use Rattle.tm_meaning.specs.Machine.{after, goes, taken, on_taken, asked}
 use Rattle.tm_meaning.specs.Machine.{with_world}

@@ -20,7 +20,8 @@ use Rattle.tm_meaning.specs.World.{items_over, unpacked_items, set_member, open_
 use Rattle.tm_meaning.specs.declared.run_text.RunText.{RunText}
 use Rattle.tm_meaning.specs.Calls.{Callee, whole, Asked, has, refused, runs, recurs, call_named, call_callee, applied}
 use Rattle.tm_meaning.specs.Calls.{call_innermost, enter_block, undone}
-use Rattle.tm_meaning.specs.Meaning.{none_waits, truth, applied_unary, operated, attribute, item_at, slice_of, merged_values, items_of_lists}
+use Rattle.tm_meaning.specs.Meaning.{none_waits}
+use Rattle.tm_meaning.specs.Operators.{truth, applied_unary, operated, attribute, item_at, slice_of, merged_values, items_of_lists}
 use Rattle.tm_meaning.specs.Instructions.{apply_of, replaces_one, replaces_two, take_counted, on_count, count_in, on_truth, iterate_with}
 use Rattle.tm_meaning.specs.Instructions.{end_capture_with, pop_auto_escape_with, is_no_loop, on_loop, pop_loop_with, returned, returns}
 use Rattle.tm_meaning.specs.Instructions.{with_text, may_hold, holding, used, on_used, looping}

@@ -33,11 +33,13 @@ use Rattle.tm_meaning.specs.World.{looked_up}
 use Rattle.tm_meaning.specs.World.{lookup, records_of, with_member, set_member, unpacked_items}
 use Rattle.tm_meaning.specs.Calls.{Callee, NestedCall, undone, wrapped, Asked, has, refused, runs, recurs, applied}
 use Rattle.tm_meaning.specs.Meaning.{text_behind, Run, Outcome, Ending, done, leave, next, fault, Under, audible, value_of, value_behind}
-use Rattle.tm_meaning.specs.Meaning.{in_place_of, behind, truth, applied_unary, operated, applied_binary, eval, eval_all, eval_pairs}
+use Rattle.tm_meaning.specs.Meaning.{in_place_of, behind, eval, eval_all, eval_pairs}
+use Rattle.tm_meaning.specs.Operators.{truth, applied_unary, operated, applied_binary}
 use Rattle.tm_meaning.specs.Meaning.{eval_argument, eval_arguments, eval_keywords, eval_lists, one_counted, selected, loop_items}
-use Rattle.tm_meaning.specs.Meaning.{listed, mapped, merged_by, merged_values, items_of_lists, named_by, passed_by}
+use Rattle.tm_meaning.specs.Operators.{listed, mapped, merged_by, merged_values, items_of_lists, named_by, passed_by}
 use Rattle.tm_meaning.specs.Meaning.{under_condition, eval_conditions, eval_step, eval_links, eval_steps, assign, assign_all, set_to}
-use Rattle.tm_meaning.specs.Meaning.{filtered, set_each, capturing, turned}
+use Rattle.tm_meaning.specs.Meaning.{filtered, set_each, capturing}
+use Rattle.tm_meaning.specs.Operators.{turned}
 use Rattle.tm_meaning.specs.declared.wrapping.Wrapping.{Wrapping}
 use Rattle.tm_simulation.specs.Chains.{Arises, wrapped as wraps}
 use Rattle.tm_simulation.proofs.Raised.{truth_raises, unary_raises, binary_raises, attribute_raises, item_raises, settable_raises}

@@ -28,11 +28,13 @@ use Rattle.tm_meaning.specs.World.{Res, Good, bind, tick}
 use Rattle.tm_meaning.specs.World.{looked_up}
 use Rattle.tm_meaning.specs.Calls.{call_named, call_callee}
 use Rattle.tm_meaning.specs.Meaning.{Run}
-use Rattle.tm_meaning.specs.Meaning.{Under, truth, operated}
-use Rattle.tm_meaning.specs.Meaning.{applied_binary, attribute, item_at, slice_of, list_of_values, map_of_pairs}
+use Rattle.tm_meaning.specs.Meaning.{Under}
+use Rattle.tm_meaning.specs.Operators.{truth, operated}
+use Rattle.tm_meaning.specs.Operators.{applied_binary, attribute, item_at, slice_of, list_of_values, map_of_pairs}
 use Rattle.tm_meaning.specs.Meaning.{eval, eval_all, eval_pairs, eval_argument, eval_arguments}
-use Rattle.tm_meaning.specs.Meaning.{eval_keywords, eval_lists, under_condition, listed, mapped}
-use Rattle.tm_meaning.specs.Meaning.{named_by}
+use Rattle.tm_meaning.specs.Meaning.{eval_keywords, eval_lists, under_condition}
+use Rattle.tm_meaning.specs.Operators.{listed, mapped}
+use Rattle.tm_meaning.specs.Operators.{named_by}
 use Rattle.tm_meaning.specs.Meaning.{eval_conditions, eval_step, eval_links, eval_steps}
 use Rattle.tm_meaning.specs.Machine.{onto}
 use Rattle.tm_meaning.specs.Instructions.{paired}

@@ -21,7 +21,8 @@ use Rattle.tm_meaning.specs.World.{unpacked_items, answered}
 use Rattle.tm_meaning.specs.Meaning.{Run}
 use Rattle.tm_meaning.specs.Meaning.{Under}
 use Rattle.tm_meaning.specs.Meaning.{eval, eval_all, eval_pairs, eval_argument, eval_arguments}
-use Rattle.tm_meaning.specs.Meaning.{eval_keywords, eval_lists, incremented, listed, mapped, merged_by, merged_values, named_by}
+use Rattle.tm_meaning.specs.Meaning.{eval_keywords, eval_lists, incremented}
+use Rattle.tm_meaning.specs.Operators.{listed, mapped, merged_by, merged_values, named_by}
 use Rattle.tm_meaning.specs.Machine.{taken, onto}
 use Rattle.tm_meaning.specs.Instructions.{paired}
 use Rattle.tm_simulation.proofs.Advances.{Kept}

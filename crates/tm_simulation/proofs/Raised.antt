@@ -47,7 +47,7 @@ use Rattle.tm_meaning.specs.World.{Scope, HostValue, View, Format, find_name, in
 use Rattle.tm_meaning.specs.World.{namespace_member}
 use Rattle.tm_meaning.specs.World.{escape_for, escape_named, formatted, where_fine, same_name}
 use Rattle.tm_meaning.specs.Calls.{method_in}
-use Rattle.tm_meaning.specs.Meaning.{as_value, negated, result_of, result_of_unary}
+use Rattle.tm_meaning.specs.Operators.{as_value, negated, result_of, result_of_unary}
 use Rattle.tm_simulation.specs.Chains.{is_raised, Arises, raised, by_formatter, AnswersOnly}
 
 -- ---------------------------------------------------------------- answers

@@ -20,8 +20,9 @@ use Rattle.tm_syntax.specs.Code.{statements_code}
 use Rattle.tm_meaning.specs.World.{choose, World, Loop, loop_scope, new_loop, open_loop, turned, next_turn, cleared}
 use Rattle.tm_meaning.specs.World.{top_loop, items_over, Res, Good, bind, tick, depth, pop}
 use Rattle.tm_meaning.specs.Meaning.{Run, Outcome}
-use Rattle.tm_meaning.specs.Meaning.{Under, so_far, use_it, truth, operated}
-use Rattle.tm_meaning.specs.Meaning.{list_of_values}
+use Rattle.tm_meaning.specs.Meaning.{Under, so_far, use_it}
+use Rattle.tm_meaning.specs.Operators.{truth, operated}
+use Rattle.tm_meaning.specs.Operators.{list_of_values}
 use Rattle.tm_meaning.specs.Meaning.{eval}
 use Rattle.tm_meaning.specs.Meaning.{one_counted, selected, loop_items}
 use Rattle.tm_meaning.specs.Meaning.{assign}

@@ -22,7 +22,8 @@ use Rattle.tm_meaning.specs.World.{tick, depth, push, pop, plain_scope}
 use Rattle.tm_meaning.specs.World.{answered, escape_for, with_escape, captured_text}
 use Rattle.tm_meaning.specs.Calls.{call_innermost}
 use Rattle.tm_meaning.specs.Meaning.{Run}
-use Rattle.tm_meaning.specs.Meaning.{Under, so_far, say, use_it, truth}
+use Rattle.tm_meaning.specs.Meaning.{Under, so_far, say, use_it}
+use Rattle.tm_meaning.specs.Operators.{truth}
 use Rattle.tm_meaning.specs.Meaning.{eval}
 use Rattle.tm_meaning.specs.Meaning.{loop_items}
 use Rattle.tm_meaning.specs.Meaning.{filtered, set_to, set_each, capturing}

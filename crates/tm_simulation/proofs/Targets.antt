@@ -25,7 +25,8 @@ use Rattle.tm_meaning.specs.World.{top_mark, tick, pop, plain_scope}
 use Rattle.tm_meaning.specs.World.{unpacked_items, set_member, emitted, with_escape, captured_text}
 use Rattle.tm_meaning.specs.Calls.{enter_block}
 use Rattle.tm_meaning.specs.Meaning.{Run, Outcome}
-use Rattle.tm_meaning.specs.Meaning.{Under, so_far, say, use_it, in_place_of, block_tag, truth}
+use Rattle.tm_meaning.specs.Meaning.{Under, so_far, say, use_it, in_place_of, block_tag}
+use Rattle.tm_meaning.specs.Operators.{truth}
 use Rattle.tm_meaning.specs.Meaning.{audible as heard_here}
 use Rattle.tm_meaning.specs.Meaning.{none_waits, eval, eval_step, filtered, use_text}
 use Rattle.tm_meaning.specs.Meaning.{assign, assign_all, set_to, set_each, capturing}

@@ -15,7 +15,8 @@ use Rattle.tm_syntax.specs.declared.tree.UnaryOperator.TheVariants as unaries
 use Rattle.tm_meaning.specs.World.{choose, World, Loop, HostValue, Res, Good, Bad, answered, emitted, looked_up, escape_for, items_over}
 use Rattle.tm_meaning.specs.World.{unpacked_items, set_member, open_loop, top_mark, top_loop, push, plain_scope}
 use Rattle.tm_meaning.specs.Calls.{Asked, has, refused, runs, recurs, call_named, call_callee, applied, call_innermost, enter_block}
-use Rattle.tm_meaning.specs.Meaning.{none_waits, truth, applied_unary, operated, attribute, item_at, slice_of, merged_values, items_of_lists}
+use Rattle.tm_meaning.specs.Meaning.{none_waits}
+use Rattle.tm_meaning.specs.Operators.{truth, applied_unary, operated, attribute, item_at, slice_of, merged_values, items_of_lists}
 use Rattle.tm_meaning.specs.Instructions.{apply_of, replaces_one, replaces_two, take_counted, on_count, count_in, on_truth, iterate_with}
 use Rattle.tm_meaning.specs.Instructions.{end_capture_with, on_used, used, with_filters, with_tests}
 use Rattle.tm_meaning.specs.Instructions.{pop_auto_escape_with, is_no_loop, on_loop, pop_loop_with, returned, returns, with_text}
