@@ -79,8 +79,8 @@ abbrev pub IsRenderedText : Result (String Global) (List ErrorKind) → Outcome 
 IsRenderedText (Ok text) m = (string_bytes text ≡ m.text) × (w : World) × (answer_of m ≡ Ok w)
 IsRenderedText (Err answer) m = answer_of m ≡ Err answer
 
--- How a render into a writer ended. The writer was given what stood in `told` before and `now` after, and its count of failures was `failures`
--- and is `count`.
+-- How a render into a writer ended. The writer was given what stood in `told` before and `now` after, and its count of failures was
+-- `failures` and is `count`.
 pub data Rendered {O : Type 0} (t : TemplateValue O) (m : Outcome) (result : Result (CapturedValue (StateValue O)) (List ErrorKind))
     (told now : Option (List ℕ)) (failures count : ℕ) : Type 0 where
   -- as was meant: the answer is the end that was meant, and the writer got the whole text

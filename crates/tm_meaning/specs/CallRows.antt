@@ -99,7 +99,8 @@ map_of_a n = Const (map (pairs_of ((text (codes "a") false, number (pos n)) ∷ 
 abbrev pub dict_by_names : Page
 dict_by_names =
     with_languages (page (one (EmitExpr (Call' (codes "dict") (tt ∷ []) (argument (plain (map_of_a 1)) no_argument)
-    (tt ∷ tt ∷ []) (keyword_and (keyword (codes "a") (literal_number 2)) (keyword_and (keyword (codes "b") (literal_number 3)) no_keyword))))) nothing)
+    (tt ∷ tt ∷ []) (keyword_and (keyword (codes "a") (literal_number 2))
+    (keyword_and (keyword (codes "b") (literal_number 3)) no_keyword))))) nothing)
 
 abbrev pub ns : Expr
 ns = named (codes "ns")

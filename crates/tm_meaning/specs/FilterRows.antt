@@ -1,5 +1,6 @@
 -- Pages with filters and tests.
-use Rattle.std.specs.Prelude.{◌≡◌, ℕ, ◌-◌, ◌%◌, List, [], ◌∷◌, ◌++◌, None, Some, true, false, codes, drop, take, pos, nat_lt, nat_eq, ◌&&◌, map as each}
+use Rattle.std.specs.Prelude.{◌≡◌, ℕ, ◌-◌, ◌%◌, List, [], ◌∷◌, ◌++◌, None, Some, true, false, codes, drop, take, pos, nat_lt}
+use Rattle.std.specs.Prelude.{nat_eq, ◌&&◌, map as each}
 use Rattle.std.specs.Prelude.{if◌then◌else◌}
 use Rattle.tm_values.specs.Val.{Val, undefined, boolean, number, text, function}
 use Rattle.tm_values.specs.Order.{bytes_in}
@@ -28,7 +29,8 @@ use Rattle.tm_meaning.specs.Tree.{Body}
 use Rattle.tm_meaning.specs.Calls.{whole}
 use Rattle.tm_meaning.specs.Machine.{Program, base_of, start}
 use Rattle.tm_meaning.specs.Steps.{run_for, step as step_of}
-use Rattle.tm_meaning.specs.Rows.{Page, page, one, two, nothing, literal, literal_number, and_one, raw, to_x, x, Said, said_by, host_of, world_of}
+use Rattle.tm_meaning.specs.Rows.{Page, page, one, two, nothing, literal, literal_number, and_one, raw, to_x, x, Said, said_by}
+use Rattle.tm_meaning.specs.Rows.{host_of, world_of}
 use Rattle.tm_meaning.specs.LoopRows.{for_x, numbers}
 
 -- ---------------------------------------------------------------- objects
@@ -229,7 +231,7 @@ further_page body = record (filter_page body) {
   functions = callers capital_a ∷ [];
   globals = (codes "f", function 0) ∷ [];
   filters = (codes "again", again) ∷ (codes "kept", kept) ∷ (codes "read", kept_at_k) ∷ (codes "twice", twice)
-    ∷ (codes "unknown", keeps_and_asks (codes "nope")) ∷ (codes "upper", upper) ∷ (codes "with_k", keeps_and_asks (codes "read")) ∷ [];
+      ∷ (codes "unknown", keeps_and_asks (codes "nope")) ∷ (codes "upper", upper) ∷ (codes "with_k", keeps_and_asks (codes "read")) ∷ [];
   tests = (codes "upper", capital_a) ∷ [];
 }
 

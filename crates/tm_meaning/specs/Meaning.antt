@@ -14,7 +14,8 @@ use Rattle.tm_syntax.specs.declared.tree.Expr.{end_of-Keyword as no_keyword, mor
 use Rattle.tm_syntax.specs.declared.tree.Expr.{end_of-Step as no_step, more_of-Step as step}
 use Rattle.tm_syntax.specs.declared.tree.Expr.{Row_of-Condition, end_of-Condition as no_condition}
 use Rattle.tm_syntax.specs.declared.tree.Argument.{Argument}
-use Rattle.tm_syntax.specs.declared.tree.Step.{Step, Attribute, Apply', Call' as Called, Row_of-Comparison, end_of-Comparison as no_comparison}
+use Rattle.tm_syntax.specs.declared.tree.Step.{Step, Attribute, Apply', Call' as Called, Row_of-Comparison}
+use Rattle.tm_syntax.specs.declared.tree.Step.{end_of-Comparison as no_comparison}
 use Rattle.tm_syntax.specs.declared.tree.AssignmentTarget.{AssignmentTarget, Name as To, Unpack' as Items, Attribute as Member}
 use Rattle.tm_syntax.specs.declared.tree.AssignmentTarget.{Row_of-AssignmentTarget}
 use Rattle.tm_syntax.specs.declared.tree.AssignmentTarget.{end_of-AssignmentTarget as no_target, more_of-AssignmentTarget as target}
@@ -32,7 +33,8 @@ use Rattle.tm_syntax.specs.Loops.{passes, within_loop, past, pasts, FoundLoop, l
 use Rattle.tm_meaning.specs.World.{choose, TemplateId, root_of, World, HostValue, Res, Good, Bad, bind, answered, tick, ticked, looked_up}
 use Rattle.tm_meaning.specs.World.{template_at, emitted, escape_for, with_escape, captured_text, open_loop, next_turn}
 use Rattle.tm_meaning.specs.World.{cleared, items_over, store, set_member, unpacked_items, push, pop, plain_scope}
-use Rattle.tm_meaning.specs.Calls.{Callee, whole, NestedCall, Asked, has, refused, runs, recurs, undone, wrapped, run_value, enter_block, call_named}
+use Rattle.tm_meaning.specs.Calls.{Callee, whole, NestedCall, Asked, has, refused, runs, recurs, undone, wrapped, run_value}
+use Rattle.tm_meaning.specs.Calls.{enter_block, call_named}
 use Rattle.tm_meaning.specs.Calls.{applied, call_callee, call_innermost, own_blocks}
 use Rattle.tm_meaning.specs.Tree.{Body, Trees}
 use Rattle.tm_meaning.specs.Operators.{truth, applied_unary, operated, applied_binary, attribute, item_at, slice_of}

@@ -44,7 +44,8 @@ with_formatter f p = record p { formatter = Some f }
 -- a{{ 0 }}b
 abbrev pub zero_between : Page
 zero_between =
-    page (body_of (statement (raw (codes "a")) (statement (EmitExpr (literal_number 0)) (statement (raw (codes "b")) no_statement)))) nothing
+    page (body_of (statement (raw (codes "a")) (statement (EmitExpr (literal_number 0))
+    (statement (raw (codes "b")) no_statement)))) nothing
 
 -- {{ none }}
 abbrev pub emitted_none : Page

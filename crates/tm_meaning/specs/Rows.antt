@@ -23,7 +23,8 @@ use Rattle.tm_syntax.specs.declared.tree.Stmt.{end_of-Stmt as no_statement, more
 use Rattle.tm_syntax.specs.declared.tree.Stmt.{None' as no_else, Some' as otherwise}
 use Rattle.tm_syntax.specs.Forms.{unary, chained, conditional, with_condition, with_comparison, binary, compare, and_then, or_else}
 use Rattle.tm_meaning.specs.Compiled.{code_of}
-use Rattle.tm_meaning.specs.World.{Bindings, find_name, view_of, own, World, HostValue, Function, Named, Object, Fallback, Format, fuel_levels}
+use Rattle.tm_meaning.specs.World.{Bindings, find_name, view_of, own, World, HostValue, Function, Named, Object, Fallback, Format}
+use Rattle.tm_meaning.specs.World.{fuel_levels}
 use Rattle.tm_meaning.specs.Calls.{whole}
 use Rattle.tm_meaning.specs.Tree.{Body, body_of, TemplateTree, Trees, template_of, trees_of}
 use Rattle.tm_meaning.specs.Meaning.{rendered, first_world, chain_of}

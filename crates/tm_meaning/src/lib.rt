@@ -32,9 +32,9 @@ pub use operators::{arithmetic_rows, comparison_rows, item_rows, membership_rows
 pub use reply::{Call, Reply};
 pub use rows::{
     attribute_rows, block_rows, cache_rows, call_rows, callee_rows, capture_rows, chain_rows,
-    condition_rows, conditional_rows, filter_block_rows, filter_rows, function_rows, further_rows, hello_rows,
-    loop_condition_rows, loop_rows, method_rows, operator_rows, recursion_rows, scope_rows,
-    spread_keyword_rows, spread_rows, text_rows, two_names_rows,
+    condition_rows, conditional_rows, filter_block_rows, filter_rows, function_rows, further_rows,
+    hello_rows, loop_condition_rows, loop_rows, method_rows, operator_rows, recursion_rows,
+    scope_rows, spread_keyword_rows, spread_rows, text_rows, two_names_rows,
 };
 pub use run_text::RunText;
 pub use stream::{StreamId, TemplateId};

@@ -186,7 +186,8 @@ pub fn loop_condition_rows()
     ensures no_loop { Charges chosen_by_loop (codes "E") 19 }
 {}
 
-/// `{{ range(3) }}`, `{{ range(a=3) }}`, `{{ dict(m, a=2, b=3) }}` of a constant map and `{% set ns = namespace(n=0) %}{% for x in [1,2] %}{% set ns.n = ns.n + x %}{% endfor %}{{ ns.n }}`.
+/// `{{ range(3) }}`, `{{ range(a=3) }}`, `{{ dict(m, a=2, b=3) }}` of a constant map, and
+/// `{% set ns = namespace(n=0) %}{% for x in [1,2] %}{% set ns.n = ns.n + x %}{% endfor %}{{ ns.n }}`.
 pub fn function_rows()
     ensures range { Charges range_of_three
         (codes "[" ++ decimal 0 ++ codes ", " ++ decimal 1

@@ -1,5 +1,6 @@
 //! Output: captures that take a text before the writer does.
-ghost use Rattle.std.specs.Prelude.{◌≡◌, ◌≢◌, ◌⊎◌, ◌↔◌, ℕ, Bool, IsTrue, [], ◌∷◌, length, take, None, Err, IsOk, IsSome, OnOk, OnErr, IfErr};
+ghost use Rattle.std.specs.Prelude.{◌≡◌, ◌≢◌, ◌⊎◌, ◌↔◌, ℕ, Bool, IsTrue, [], ◌∷◌, length, take, None, Err, IsOk, IsSome, OnOk};
+ghost use Rattle.std.specs.Prelude.{OnErr, IfErr};
 ghost use Rattle.std.specs.Prelude.{MatchOption, not, string_bytes};
 ghost use Rattle.std.specs.Io.KnownBytes.{Appends};
 ghost use Rattle.tm_values.specs.declared.error.ErrorKind.TheVariants.{WriteFailure, OutOfMemory};

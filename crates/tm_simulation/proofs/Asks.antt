@@ -1,6 +1,7 @@
 -- What calls come to keeps the world, or is a run that starts one level deeper.
 use Rattle.tm_values.specs.declared.escape.AutoEscape.{AutoEscape}
-use Rattle.std.proofs.Common.{◌≡◌, ℕ, zero, suc, ◌+◌, List, [], ◌∷◌, Option, Some, None, Bool, true, false, nat_lt, ◌++◌, refl, ap, ◌∙◌, arith}
+use Rattle.std.proofs.Common.{◌≡◌, ℕ, zero, suc, ◌+◌, List, [], ◌∷◌, Option, Some, None, Bool, true, false, nat_lt, ◌++◌, refl}
+use Rattle.std.proofs.Common.{ap, ◌∙◌, arith}
 use Rattle.std.proofs.Common.{ltb-true, length-append, ◌≤◌}
 use Rattle.std.specs.Prelude.{slice_get, not, ◌&&◌, codes, if◌then◌else◌}
 use Rattle.tm_values.specs.Val.{Val, undefined, function, loop}

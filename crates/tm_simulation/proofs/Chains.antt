@@ -15,7 +15,8 @@ use Rattle.std.specs.Prelude.{cond, Option, None}
 use Rattle.tm_meaning.specs.Meaning.{rendered, chain_of}
 use Rattle.tm_simulation.specs.Chains.{wrapped, is_raised, Arises, raised, by_object, AnswersOnly, by_formatter, RepliesOnly, IfAny}
 use Rattle.tm_simulation.specs.Chains.{IsObject, is_function, is_filter, is_test, is_method, ObjectStates, NamedStates}
-use Rattle.tm_simulation.specs.Chains.{HasRaised, FunctionStates, FallbackStates, FormatterStates, StatesOnly, ends_in_memory, StatesNoMemory, MayWrap}
+use Rattle.tm_simulation.specs.Chains.{HasRaised, FunctionStates, FallbackStates, FormatterStates, StatesOnly, ends_in_memory}
+use Rattle.tm_simulation.specs.Chains.{StatesNoMemory, MayWrap}
 use Rattle.tm_simulation.specs.Chains.{is_foreign}
 use Rattle.tm_simulation.specs.Chains.{HasNoForeign}
 use Rattle.tm_simulation.proofs.Keeps.{render_arises}

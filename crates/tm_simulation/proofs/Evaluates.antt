@@ -18,7 +18,8 @@ use Rattle.tm_syntax.specs.declared.tree.Expr.{end_of-Condition as no_condition}
 use Rattle.tm_syntax.specs.declared.tree.Argument.{Argument}
 use Rattle.tm_syntax.specs.declared.tree.Application.{Application}
 use Rattle.tm_syntax.specs.declared.tree.Application.TheVariants as applications
-use Rattle.tm_syntax.specs.declared.tree.Step.{Step, Attribute, Apply', Call' as Called, Row_of-Comparison, end_of-Comparison as no_comparison}
+use Rattle.tm_syntax.specs.declared.tree.Step.{Step, Attribute, Apply', Call' as Called, Row_of-Comparison}
+use Rattle.tm_syntax.specs.declared.tree.Step.{end_of-Comparison as no_comparison}
 use Rattle.tm_syntax.specs.declared.tree.AssignmentTarget.{AssignmentTarget, Name as To, Unpack' as Items, Attribute as Member}
 use Rattle.tm_syntax.specs.declared.tree.AssignmentTarget.{Row_of-AssignmentTarget}
 use Rattle.tm_syntax.specs.declared.tree.AssignmentTarget.{end_of-AssignmentTarget as no_target, more_of-AssignmentTarget as target}

@@ -11,7 +11,8 @@ use Rattle.tm_syntax.specs.declared.tree.Expr.{Row_of-Keyword, end_of-Keyword as
 use Rattle.tm_syntax.specs.declared.tree.Expr.{end_of-Step as no_step, more_of-Step as step_and, Row_of-Condition}
 use Rattle.tm_syntax.specs.declared.tree.Expr.{end_of-Condition as no_condition}
 use Rattle.tm_syntax.specs.declared.tree.Argument.{Argument}
-use Rattle.tm_syntax.specs.declared.tree.Step.{Step, Attribute, Apply', Call' as Called, Row_of-Comparison, end_of-Comparison as no_comparison}
+use Rattle.tm_syntax.specs.declared.tree.Step.{Step, Attribute, Apply', Call' as Called, Row_of-Comparison}
+use Rattle.tm_syntax.specs.declared.tree.Step.{end_of-Comparison as no_comparison}
 use Rattle.tm_syntax.specs.declared.instruction.Instruction.TheVariants as i
 use Rattle.tm_syntax.specs.Forms.{unary, chained, conditional, with_condition, with_comparison, with_pair, plain, spread, keyword}
 use Rattle.tm_syntax.specs.Forms.{spread_keywords, item, slice, binary, compare, and_then, or_else}

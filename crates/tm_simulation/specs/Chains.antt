@@ -28,8 +28,8 @@ is_raised kinds.BadSerialization = true
 is_raised kinds.OutOfFuel = true
 is_raised _ = false
 
--- An object of the caller that the environment has: a function of a number, a filter or a test of a name, or the method object for a value's
--- method of a name.
+-- An object of the caller that the environment has: a function of a number, a filter or a test of a name, or the method object for a
+-- value's method of a name.
 pub data IsObject (host : HostValue) (f : Object) : Type 0 where
   is_function : (n : ℕ) → slice_get host.functions n ≡ Some (callers f) → IsObject host f
   is_filter : (x : List ℕ) → find x host.filters ≡ Some f → IsObject host f

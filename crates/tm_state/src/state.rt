@@ -251,8 +251,8 @@ impl<'env> StateData<'env> {
         Ok(Value::namespace(self.id, number))
     }
 
-    /// Whether a value can be emitted where there is no formatter: UndefinedError where it is undefined and the behaviour refuses that, else
-    /// what the escape refuses.
+    /// Whether a value can be emitted where there is no formatter: UndefinedError where it is undefined and the
+    /// behaviour refuses that, else what the escape refuses.
     pub fn check_value<H: Host>(&self, alloc: Global, host: &H, value: &Value) -> Result<(), Error>
         requires { (H.meaning host.now).formatter ≡ None }
         ensures { CanBeEmitted result (emitted (H.meaning host.now) value.now self.now)

@@ -18,7 +18,7 @@ pub no_count : (o : Option ℕ) (us : List Val) (w : World) (f : List Val → Li
 no_count None us w f few = refl
 no_count (Some n) us w f few = ap (λ t. on_taken t w f) (taken_too_many n [] us (few n refl))
 
--- ---------------------------------------------------------------- the operands that an instruction finds don't matter to what a call comes to
+-- ---------------------------------------------------------------- operands that don't matter to what a call comes to
 abbrev over : List Val → Config → Config
 over us c = record c { run = record c.run { operands = us } }
 

@@ -22,7 +22,7 @@ use Rattle.tm_parts.specs.declared.halt.Halt.TheVariants as halt
 use Rattle.tm_vm.specs.declared.flow.NestedRun.{NestedRun}
 use Rattle.tm_vm.specs.declared.flow.Flow.{Flow}
 use Rattle.tm_vm.specs.declared.flow.Flow.TheVariants as flow
-use Rattle.tm_vm.specs.Answers.{Did, Enters, OneDeeper, HaltsAs, ReachesEnd, SameScopes, KeepsBaseScopes, output}
+use Rattle.tm_vm.specs.Answers.{call_of, Did, Enters, OneDeeper, HaltsAs, ReachesEnd, SameScopes, KeepsBaseScopes, output}
 use Rattle.tm_state.specs.Answers.{KeepsIdAndFuel}
 use Rattle.tm_vm.specs.Nested.{Went, EndsIn, WroteBeginning, IsBack, IsWrapped, behind, start_in, base_in}
 use Rattle.tm_state.specs.State.{saved_of, put_back}
@@ -78,7 +78,7 @@ nest_only {p = p} {f = f} {g = g} {t = t} {c = c} {back = back} {e = e} {o = o} 
 
 -- what a nested run's end leads to, by what is put back behind it
 behind_is : (e : NestedRun) (b : World) (r : Activation) (end : End) → e.saved ≡ saved_of b →
-    back_to (record { run = r; call = record { callee = whole e.stream; undo = of_block b; wrap = e.wrap; text = e.text }; value = e.value }) end
+    back_to (record { run = r; call = call_of e b; value = e.value }) end
     ≡ behind e r end
 behind_is e b r (Finished ks w) saved = sym (ap (λ x. back_with e.value e.text r ks (put_back x w)) saved)
 behind_is e b r (Failed chain w) saved = sym (ap (λ x. Over (Failed (wrapped e.wrap chain) (put_back x w))) saved)

@@ -5,7 +5,7 @@ use Rattle.std.specs.Io.KnownBytes.{Appends}
 use Rattle.tm_meaning.specs.Memory.{is_want_of_memory}
 use Rattle.tm_syntax.specs.declared.instruction.Instruction.{Instruction}
 use Rattle.tm_meaning.specs.World.{World, HostValue, depth}
-use Rattle.tm_meaning.specs.Calls.{whole, of_block}
+use Rattle.tm_meaning.specs.Calls.{NestedCall, whole, of_block}
 use Rattle.tm_values.specs.declared.error.ErrorKind.TheVariants.{OutOfMemory}
 use Rattle.tm_meaning.specs.Machine.{Caches, take_n, stuck}
 use Rattle.tm_meaning.specs.Machine.{Return, Activation, Capture, Config, End, Finished, Failed, Stuck, Next, More, Over, Nest, Program}
@@ -53,11 +53,15 @@ output (More t c) = t
 output (Over e) = []
 output (Nest f c back) = []
 
+-- the call of a run, where the world before it was b
+abbrev pub call_of : NestedRun → World → NestedCall
+call_of e b = record { callee = whole e.stream; undo = of_block b; wrap = e.wrap; text = e.text }
+
 -- the run that is needed first, where the world before it was b, and the configuration is c
 abbrev pub entered : NestedRun → World → Config → Next
 entered e b c =
     Nest (base_of e.heard c.captures c.world) (start (whole e.stream) c.captures c.world)
-    (record { run = c.run; call = record { callee = whole e.stream; undo = of_block b; wrap = e.wrap; text = e.text }; value = e.value })
+    (record { run = c.run; call = call_of e b; value = e.value })
 
 abbrev pub Enters : NestedRun → Config → Next → Type 0
 Enters e c n = (b : World) × (e.saved ≡ saved_of b) × (n ≡ entered e b c)
