@@ -148,6 +148,7 @@ pub(crate) const PASSING: &str = r#"Spread arguments, and calls of values.
 - {{ (f)(1, 2) }} => 2 => 4
 - {{ {"f": f}.f(1, 2) }} => 2 => 7
 - {{ f(f)(1) }} => 1 => 5
+- {% set n = namespace() %}{% set f(f)(n).x = 3 %}{{ n.x }} => 3 => 11
 - {% for x in [[]] recursive %}a{{ [loop][0](x) }}{% endfor %} => a => InvalidOperation
 - {{ f(1)(2) }} =>  => InvalidOperation
 - {{ "x"() }} =>  => InvalidOperation
