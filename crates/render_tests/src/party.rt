@@ -307,6 +307,7 @@ static FILTERS: &[(&str, Party)] = &[
     ("keep", Party::Keeper),
     ("missing", Party::Faulty(ErrorKind::MissingArgument)),
     ("upper", Party::Upper),
+    ("my.upper", Party::Upper),
     ("safe", Party::Safe),
     ("substr", Party::Substr),
     ("kept", Party::Kept),

@@ -74,6 +74,8 @@ pub(crate) const FILTERS: &str = r#"Filters and tests of the caller.
 - {{ 1|f(2, k=3) }} => {"k": 3} => 7
 - {{ [1, 2]|f[0] }} => 1 => 7
 - {{ -2|second(3) ** 2 }} => 9 => 7
+- {{ "a"|upper }} => A => 3
+- {{ "a"|my . upper|substr(0) }} => A => 5
 - {{ 1|nope }} =>  => UnknownFilter
 - a{{ 1|gone }} => a => UnknownFilter
 - a{{ 1|missing }} => a => MissingArgument
@@ -87,6 +89,8 @@ pub(crate) const FILTERS: &str = r#"Filters and tests of the caller.
 - {{ 1 is in [1] }} =>  => 5
 - {{ 1 is second none }} => false => 4
 - {{ 1 is nope }} =>  => UnknownTest
+- {{ "a" is upper }} =>  => UnknownTest
+- {{ [].nope() }} =>  => UnknownMethod
 - {{ 1 is not nope }} =>  => UnknownTest
 - {{ 1 is gone }} =>  => UnknownTest
 - {{ 1 is missing }} =>  => MissingArgument

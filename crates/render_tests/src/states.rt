@@ -46,6 +46,14 @@ fn applies(alloc: Global, state: &mut Left<'_>) -> Result<bool, Error> {
     Ok(filtered.as_whole() == Some(0) && !holds && unknown)
 }
 
+/// Whether a filter gives a text in capitals.
+fn shouts(alloc: Global, state: &mut Left<'_>) -> Result<bool, Error> {
+    let mut values = Vec::new(alloc);
+    values.push(Value::text(alloc, "hello world")?)?;
+    let shouted = state.apply_filter("upper", &values)?;
+    Ok(shouted.as_str() == Some("HELLO WORLD"))
+}
+
 /// Whether a filter that answers a fault has kept its value before.
 fn keeps_before_a_fault(state: &mut Left<'_>) -> bool {
     match state.apply_filter("kept", &[]) {
@@ -73,7 +81,7 @@ fn keeps_the_last(alloc: Global, template: &Page<'_, '_>) -> Result<bool, Error>
     }
     let (output, mut state) = captured.into_parts();
     let before = replaced(&mut state, 2)?;
-    let is_able = applies(alloc, &mut state)? && formats(&state)?;
+    let is_able = applies(alloc, &mut state)? && shouts(alloc, &mut state)? && formats(&state)?;
     let is_kept = kept(&state) == Some(2) && keeps_before_a_fault(&mut state);
     Ok(output.is_empty() && before == Some(3) && is_able && is_kept)
 }
@@ -100,6 +108,7 @@ fn renders_otherwise(alloc: Global, environment: &Rows<'_>) -> Result<bool, Erro
 fn is_well(alloc: Global, environment: &mut Rows<'_>) -> Result<bool, Error> {
     environment.add_function("title", Party::Title)?;
     environment.add_filter("second", Party::Second)?;
+    environment.add_filter("upper", Party::Upper)?;
     environment.add_filter("kept", Party::Kept)?;
     environment.add_test("second", Party::Second)?;
     environment.set_undefined_behavior(UndefinedBehavior::Strict);
