@@ -90,7 +90,6 @@ pub(crate) const FILTERS: &str = r#"Filters and tests of the caller.
 - {{ 1 is second none }} => false => 4
 - {{ 1 is nope }} =>  => UnknownTest
 - {{ "a" is upper }} =>  => UnknownTest
-- {{ [].nope() }} =>  => UnknownMethod
 - {{ 1 is not nope }} =>  => UnknownTest
 - {{ 1 is gone }} =>  => UnknownTest
 - {{ 1 is missing }} =>  => MissingArgument
