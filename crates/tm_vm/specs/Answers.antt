@@ -226,7 +226,7 @@ abbrev pub recurses : Program → Recursion → Bool → Config → Next
 recurses p r value c = recursion p c value c.run.operands c.captures r.number (place_of_loop p c r.number) r.items.value.items c.world
 
 -- These are the caches behind a use of a name by its number, but for want of memory; or it can't be used by that.
-abbrev pub IsUsed : Option Caches → Caches → Result (Unit {0}) Halt → Type 0
+abbrev pub IsUsed : Option Caches → Caches → Result ℕ Halt → Type 0
 IsUsed used new (Ok _) = used ≡ Some new
 IsUsed used new (Err halt.Writer) = ⊥
 IsUsed used new (Err halt.Stuck) = used ≡ None

@@ -18,7 +18,8 @@ use std::mem;
 use tm_meaning::StreamId;
 use tm_operations::truth;
 use tm_parts::{Halt, Stack};
-use tm_syntax::{BinaryOperator, Name};
+use tm_syntax::{Application, BinaryOperator, Name};
+use tm_tables::Host;
 use tm_values::{AutoEscape, Error, ErrorKind, UndefinedBehavior, Value};
 
 /// Where a loop goes on that was called: the run as it was at the call, and whether the text is a value.
@@ -116,22 +117,35 @@ impl Activation {
         }
     }
 
-    /// Uses a filter by its cache number. Stuck where it can't be used by that; OutOfMemory.
+    /// Uses a filter by its cache number, and gives where it stands. Stuck where it can't be used by that;
+    /// OutOfMemory.
     #[inline(always)]
-    pub(crate) fn use_filter(&mut self, cache: u8, name: &Name) -> Result<(), Halt>
+    pub(crate) fn use_filter<H: Host>(
+        &mut self,
+        host: &H,
+        cache: u8,
+        name: &Name,
+    ) -> Result<usize, Halt>
         ensures used { IsUsed (used cache name.now self.old.filters) self.new.filters result }
         ensures rest { self.new ≡ record self.old { filters = self.new.filters } }
     {
-        self.filters.use_name(cache, name)
+        self.filters
+            .use_name(host, Application::Filter, cache, name)
     }
 
-    /// Uses a test by its cache number. Stuck where it can't be used by that; OutOfMemory.
+    /// Uses a test by its cache number, and gives where it stands. Stuck where it can't be used by that;
+    /// OutOfMemory.
     #[inline(always)]
-    pub(crate) fn use_test(&mut self, cache: u8, name: &Name) -> Result<(), Halt>
+    pub(crate) fn use_test<H: Host>(
+        &mut self,
+        host: &H,
+        cache: u8,
+        name: &Name,
+    ) -> Result<usize, Halt>
         ensures used { IsUsed (used cache name.now self.old.tests) self.new.tests result }
         ensures rest { self.new ≡ record self.old { tests = self.new.tests } }
     {
-        self.tests.use_name(cache, name)
+        self.tests.use_name(host, Application::Test, cache, name)
     }
 
     /// Whether no parent waits. None can yet.

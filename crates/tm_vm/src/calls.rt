@@ -120,13 +120,14 @@ impl Machine<'_> {
     }
 
     /// Replaces so many values by what they give, passed to what a name stands for: the first one's method, a
-    /// filter or a test.
+    /// filter or a test. The place is a hint at where that stands.
     pub(crate) fn do_apply<H: Host>(
         &mut self,
         alloc: Global,
         host: &H,
         application: Application,
         name: &Name,
+        place: usize,
         count: Option<usize>,
     ) -> Result<Flow, Halt>
         requires { CanGoOn self.old.run }
@@ -135,7 +136,7 @@ impl Machine<'_> {
             self.old self.new result }
     {
         match self.run.take_count(count) {
-            Some(count) => self.apply(alloc, host, application, name, count),
+            Some(count) => self.apply(alloc, host, application, name, place, count),
             None => Err(Halt::Stuck),
         }
     }
@@ -147,6 +148,7 @@ impl Machine<'_> {
         host: &H,
         application: Application,
         name: &Name,
+        place: usize,
         count: usize,
     ) -> Result<Flow, Halt>
         requires { CanGoOn self.old.run }
@@ -159,7 +161,7 @@ impl Machine<'_> {
         };
         let value = self
             .state
-            .apply(alloc, host, application, name.as_str(), values)?;
+            .apply(alloc, host, application, name.as_str(), place, values)?;
         self.replace(count, value)
     }
 
@@ -211,8 +213,8 @@ impl Machine<'_> {
             (program (H.meaning host.now) (H.code host.now)) name.now count cache self.old)
             self.old self.new result }
     {
-        self.run.use_filter(cache, name)?;
-        self.do_apply(alloc, host, Application::Filter, name, count)
+        let place = self.run.use_filter(host, cache, name)?;
+        self.do_apply(alloc, host, Application::Filter, name, place, count)
     }
 
     /// Replaces so many values by whether what the test of a name answers to them is true. Stuck where it can't be
@@ -231,8 +233,8 @@ impl Machine<'_> {
             (program (H.meaning host.now) (H.code host.now)) name.now count cache self.old)
             self.old self.new result }
     {
-        self.run.use_test(cache, name)?;
-        self.do_apply(alloc, host, Application::Test, name, count)
+        let place = self.run.use_test(host, cache, name)?;
+        self.do_apply(alloc, host, Application::Test, name, place, count)
     }
 
     /// Replaces so many values by one.

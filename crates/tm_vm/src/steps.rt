@@ -14,7 +14,7 @@ use std::alloc::Global;
 use tm_meaning::Base;
 use tm_parts::{Halt, Sink};
 use tm_syntax::{Application, BinaryOperator, Code, Instruction, UnaryOperator};
-use tm_tables::{Exhausted, Host};
+use tm_tables::{Exhausted, Host, NO_PLACE};
 use tm_values::{Error, ErrorKind};
 
 impl Machine<'_> {
@@ -84,7 +84,7 @@ impl Machine<'_> {
                 self.do_call_function(alloc, host, code, name, *count)
             }
             Instruction::CallMethod(name, count) => {
-                self.do_apply(alloc, host, Application::Method, name, *count)
+                self.do_apply(alloc, host, Application::Method, name, NO_PLACE, *count)
             }
             Instruction::CallObject(count) => self.do_call_object(alloc, host, *count),
             Instruction::ApplyFilter(name, count, cache) => {
