@@ -120,28 +120,38 @@ impl<O: Parties> Host for Rendering<'_, O> {
             .call_function(alloc, number, args, view)
     }
 
+    fn filter_place(&self, name: &str) -> usize {
+        self.environment.objects().filter_place(name)
+    }
+
     fn apply_filter(
         &self,
         alloc: Global,
         name: &str,
+        place: usize,
         args: &[Value],
         view: &View<'_>,
     ) -> Option<CallableAnswer> {
         self.environment
             .objects()
-            .apply_filter(alloc, name, args, view)
+            .apply_filter(alloc, name, place, args, view)
+    }
+
+    fn test_place(&self, name: &str) -> usize {
+        self.environment.objects().test_place(name)
     }
 
     fn perform_test(
         &self,
         alloc: Global,
         name: &str,
+        place: usize,
         args: &[Value],
         view: &View<'_>,
     ) -> Option<CallableAnswer> {
         self.environment
             .objects()
-            .perform_test(alloc, name, args, view)
+            .perform_test(alloc, name, place, args, view)
     }
 
     fn call_unknown_method(

@@ -17,7 +17,7 @@ use crate::rendering::Rendering;
 use std::marker::Model;
 use tm_state::StateData;
 use tm_syntax::Name;
-use tm_tables::{Host, Parties};
+use tm_tables::{Host, NO_PLACE, Parties};
 use tm_values::{AutoEscape, Error, ErrorKind, Value};
 
 /// The state of a render. A contract sees the template that was rendered, and a world of the definitions.
@@ -132,7 +132,7 @@ impl<'env, O: Parties> StateOf<'env, O> {
             (record self.old.world { temps = self.new.world.temps }) self.old }
     {
         let alloc = self.rendering.allocator();
-        self.kept.apply_filter(alloc, &self.rendering, name, args)
+        self.kept.apply_filter(alloc, &self.rendering, name, NO_PLACE, args)
     }
 
     /// Whether what the test of a name answers to these values is true, the first of which is the one that is
@@ -146,7 +146,7 @@ impl<'env, O: Parties> StateOf<'env, O> {
             (record self.old.world { temps = self.new.world.temps }) self.old }
     {
         let alloc = self.rendering.allocator();
-        self.kept.perform_test(alloc, &self.rendering, name, args)
+        self.kept.perform_test(alloc, &self.rendering, name, NO_PLACE, args)
     }
 
     /// What a value is emitted as. UndefinedError where it is undefined and the behaviour refuses that, else what the
