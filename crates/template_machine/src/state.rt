@@ -132,7 +132,8 @@ impl<'env, O: Parties> StateOf<'env, O> {
             (record self.old.world { temps = self.new.world.temps }) self.old }
     {
         let alloc = self.rendering.allocator();
-        self.kept.apply_filter(alloc, &self.rendering, name, NO_PLACE, args)
+        self.kept
+            .apply_filter(alloc, &self.rendering, name, NO_PLACE, args)
     }
 
     /// Whether what the test of a name answers to these values is true, the first of which is the one that is
@@ -146,7 +147,8 @@ impl<'env, O: Parties> StateOf<'env, O> {
             (record self.old.world { temps = self.new.world.temps }) self.old }
     {
         let alloc = self.rendering.allocator();
-        self.kept.perform_test(alloc, &self.rendering, name, NO_PLACE, args)
+        self.kept
+            .perform_test(alloc, &self.rendering, name, NO_PLACE, args)
     }
 
     /// What a value is emitted as. UndefinedError where it is undefined and the behaviour refuses that, else what the
