@@ -1,6 +1,7 @@
 use Rattle.std.proofs.Common.{None, false, rules}
 use Rattle.tm_meaning.specs.Instructions.{call_block_of}
 use Rattle.tm_meaning.specs.Machine.{Config}
+use Rattle.tm_meaning.specs.declared.run_text.RunText.TheVariants as texts
 use Rattle.tm_vm.specs.Answers.{program}
 use Rattle.tm_vm.specs.declared.flow.NestedRun.{NestedRun}
 use Rattle.tm_vm.proofs.Performed.{boxed, block_entered}
@@ -17,6 +18,7 @@ returns g c =
       stream = c.in-Ok.entered.0;
       heard = c.is_audible-heard.result;
       value = false;
+      text = texts.Captured;
       wrap = None;
       saved = c.in-Ok.entered.1;
     } in
