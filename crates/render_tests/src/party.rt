@@ -102,8 +102,10 @@ impl Callable for Party {
             Party::Safe => safe(alloc, args),
             Party::Substr => substr(alloc, args),
             Party::Look => look(alloc, args, view),
-            Party::Kept => CallableAnswer::fault(alloc, Error::from(ErrorKind::MissingArgument))
-                .keep(alloc, "k", Value::number(1)),
+            Party::Kept => CallableAnswer::fault(
+                alloc,
+                Error::from(ErrorKind::MissingArgument),
+            ).keep(alloc, "k", Value::number(1)),
             Party::Capital => further(alloc, "upper", Value::text(alloc, "a")),
             Party::Twice => twice(alloc, args),
             Party::Again => again(alloc, args),

@@ -273,8 +273,7 @@ impl<'env> StateData<'env> {
     pub(crate) fn depths_left<H: Host>(&self, host: &H) -> usize
         ensures { result ≡ depths_left (H.meaning host.now) self.now }
     {
-        host.recursion_limit()
-            .saturating_sub(self.context.depth())
+        host.recursion_limit().saturating_sub(self.context.depth())
     }
 
     /// The stream that runs.

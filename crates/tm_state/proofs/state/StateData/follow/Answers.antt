@@ -10,7 +10,9 @@ returns-in_err-answer-clause-called g c =
     c.in_err-answer.ensures)
 
 pub loop-result-preserved : goal.loop-result-preserved
-loop-result-preserved g c =
-    (search rules, λ m. went_on (g.H.Host.meaning c.args.host.now) _ c.loop-result.left c.loop-result.answer.reply c.in-Further.call _
-    c.keep.new.self c.in_ok-answer.answer c.loop-result.invariant.1 (search rules) (search rules) c.if-left-eq0.false
-    c.in_ok-answer.ensures m)
+loop-result-preserved g c = (
+  search rules,
+  λ m. went_on (g.H.Host.meaning c.args.host.now) _ c.loop-result.left c.loop-result.answer.reply c.in-Further.call _
+      c.keep.new.self c.in_ok-answer.answer c.loop-result.invariant.1 (search rules) (search rules) c.if-left-eq0.false
+      c.in_ok-answer.ensures m,
+)
