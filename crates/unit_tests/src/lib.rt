@@ -10,6 +10,7 @@ mod code;
 mod errors;
 #[cfg(test)]
 mod flags;
+mod guards;
 #[cfg(test)]
 mod output;
 #[cfg(test)]
@@ -22,3 +23,5 @@ mod sources;
 mod syntax;
 #[cfg(test)]
 mod values;
+
+pub use guards::run_text_guards;
