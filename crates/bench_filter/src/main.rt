@@ -1,4 +1,4 @@
-//! Renders standard input over one name and one filter, so that bench/filters can count what a filter costs.
+//! Renders standard input over one name and one filter, so that bench/instructions can count what a filter costs.
 #![tactic(auto)]
 
 ghost use Rattle.std.specs.Prelude.{slice_get};
