@@ -245,11 +245,11 @@ fn further(alloc: Global, name: &str, made: Result<Value, Error>) -> CallableAns
 }
 
 /// A text doubled. Fails by OutOfMemory alone.
-fn doubled(alloc: Global, text: &str) -> Result<Value, Error>
-    ensures { OkOrOutOfMemory result (λ value. value ≡ text (text.now ++ text.now) false) }
+fn doubled(alloc: Global, word: &str) -> Result<Value, Error>
+    ensures { OkOrOutOfMemory result (λ value. value ≡ text (word.now ++ word.now) false) }
 {
-    let mut both = String::from_str(alloc, text)?;
-    both.push_str(text)?;
+    let mut both = String::from_str(alloc, word)?;
+    both.push_str(word)?;
     Value::text(alloc, both.as_str())
 }
 
