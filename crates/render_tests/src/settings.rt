@@ -153,7 +153,7 @@ fn expect_table<'source>(
     Ok(())
 }
 
-static TABLES: [&str; 23] = [
+static TABLES: [&str; 24] = [
     rows::TEXTS,
     rows::CALLS,
     rows::FILTERS,
