@@ -1,11 +1,12 @@
 -- What a call comes to, up to the run that it needs: the meaning and the machine share it. Neither trees nor instructions stand here.
-use Rattle.std.specs.Prelude.{ℕ, zero, suc, ◌-◌, ◌%◌, drop, List, [], ◌∷◌, length, map as each, Option, Some, None, Ok, Bool, true, false}
+use Rattle.std.specs.Prelude.{ℕ, zero, suc, ◌+◌, ◌-◌, ◌%◌, drop, List, [], ◌∷◌, length, map as each, Option, Some, None, Ok, Bool, true, false}
 use Rattle.std.specs.Prelude.{not, nat_eq, ◌&&◌, ◌||◌, slice_get, codes, if◌then◌else◌}
 use Rattle.std.specs.Ordering.{is_eq}
 use Rattle.tm_definitions.specs.Maps.{dict_of, namespace_of}
 use Rattle.tm_definitions.specs.Ranges.{range_of}
 use Rattle.tm_definitions.specs.Members.{macro_member, or_undefined}
 use Rattle.tm_definitions.specs.Truth.{is_true}
+use Rattle.tm_definitions.specs.Emitted.{text_answer}
 use Rattle.tm_values.specs.Answer.{Answer}
 use Rattle.tm_values.specs.Order.{val_cmp}
 use Rattle.tm_values.specs.Records.{RecordData}
@@ -131,36 +132,67 @@ object_call make host f args w =
 abbrev pub found_call : MakesFurther → HostValue → Option Object → ErrorKind → List Val → World → Asked
 found_call make host found kind args w = ask (need found kind w) (λ f world1. object_call make host f args world1)
 
-abbrev pub further_call : MakesFurther → HostValue → Call → World → Asked
-further_call make host (further.Filter x args) w = found_call make host (find x host.filters) UnknownFilter args w
-
--- Each further call is one deeper, so only so many are made, one asked for by the other.
-abbrev pub further_calls : ℕ → HostValue → MakesFurther
-further_calls zero host c w = refused (InvalidOperation ∷ []) w
-further_calls (suc left) host c w = further_call (further_calls left host) host c w
-
--- so many more depths lie within the limit
-abbrev pub depths_left : HostValue → World → ℕ
-depths_left host w = host.limit - depth w.scopes
-
 -- what a function of the language gives
 abbrev pub given_by : GlobalFunction → List Val → World → Res Val
 given_by own.Range args w = answered (range_of args) w
 given_by own.Dict args w = bind (answered (dict_of (records_of w) args) w) (λ ps world1. Good (map (pairs_of ps)) world1)
 given_by own.Namespace args w = bind (answered (namespace_of (records_of w) args) w) (λ ps world1. make_namespace ps world1)
 
--- what makes further calls where code calls
-abbrev pub by_depths : HostValue → World → MakesFurther
-by_depths host w = further_calls (depths_left host w) host
-
-abbrev pub call_by : HostValue → Function → List Val → World → Asked
-call_by host (callers f) args w = object_call (by_depths host w) host f args w
-call_by host (languages g) args w = ask (given_by g args w) has
+-- a function is called, whose further calls are made so
+abbrev pub function_call : MakesFurther → HostValue → Function → List Val → World → Asked
+function_call make host (callers f) args w = object_call make host f args w
+function_call make host (languages g) args w = ask (given_by g args w) has
 
 -- a value is called: of values alone a function can be, by its number
+abbrev pub value_call : MakesFurther → HostValue → Val → List Val → World → Asked
+value_call make host (function n) args w =
+    ask (need (slice_get host.functions n) InvalidOperation w) (λ f world1. function_call make host f args world1)
+value_call make host v args w = refused (InvalidOperation ∷ []) w
+
+-- what a name stands for is called as a value
+abbrev pub named_call : MakesFurther → HostValue → List ℕ → List Val → World → Asked
+named_call make host x args w =
+    ask (lookup host x w) (λ found world1. ask (need found UnknownFunction world1) (λ f world2. value_call make host f args world2))
+
+-- The text of what a call comes to, which is not safe.
+abbrev pub as_printed : Asked → Asked
+as_printed (has v w) = ask (answered (text_answer (records_of w) v) w) (λ t world1. has (text t false) world1)
+as_printed (refused chain w) = refused chain w
+as_printed (runs c w) = runs (record c { text = texts.Plain }) w
+as_printed (recurs n items w) = recurs n items w
+
+-- a world that stands so many levels deeper
+abbrev pub deeper : ℕ → World → World
+deeper n w = record w { scopes = record w.scopes { outer = n + w.scopes.outer } }
+
+-- What was asked for from there: what is put back behind a run is the world that stood before, and so it is where none is needed.
+abbrev pub from_deeper : World → Asked → Asked
+from_deeper w (has v _) = has v w
+from_deeper w (refused chain _) = refused chain w
+from_deeper w (runs c world1) = runs (record c { undo = of_block w; text = texts.Plain }) world1
+from_deeper w (recurs n items _) = refused (InvalidOperation ∷ []) w
+
+-- A further call, made so many levels deeper than code called; the further calls of what it calls are made so.
+abbrev pub further_call : MakesFurther → ℕ → HostValue → Call → World → Asked
+further_call make n host (further.Filter x args) w = found_call make host (find x host.filters) UnknownFilter args w
+further_call make n host (further.Macro x args) w = as_printed (named_call make host x args w)
+further_call make n host (further.Block b) w = from_deeper w (enter_block host b (deeper n w))
+
+-- Each further call is one deeper, so only so many are made, one asked for by the other, behind so many that were made.
+abbrev pub further_calls : ℕ → ℕ → HostValue → MakesFurther
+further_calls zero n host c w = refused (InvalidOperation ∷ []) w
+further_calls (suc left) n host c w = further_call (further_calls left (suc n) host) (suc n) host c w
+
+-- so many more depths lie within the limit
+abbrev pub depths_left : HostValue → World → ℕ
+depths_left host w = host.limit - depth w.scopes
+
+-- what makes further calls where code calls
+abbrev pub by_depths : HostValue → World → MakesFurther
+by_depths host w = further_calls (depths_left host w) 0 host
+
 abbrev pub call_value : HostValue → Val → List Val → World → Asked
-call_value host (function n) args w = ask (need (slice_get host.functions n) InvalidOperation w) (λ f world1. call_by host f args world1)
-call_value host v args w = refused (InvalidOperation ∷ []) w
+call_value host v args w = value_call (by_depths host w) host v args w
 
 -- the first of the values is called with the others
 abbrev pub call_callee : HostValue → List Val → World → Asked

@@ -11,6 +11,7 @@ pub mod Rows
 pub mod LoopRows
 pub mod CallRows
 pub mod FilterRows
+pub mod FurtherRows
 pub mod SpreadRows
 pub mod ObjectRows
 pub mod OperatorRows

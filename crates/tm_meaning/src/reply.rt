@@ -19,4 +19,9 @@ pub enum Reply {
 pub enum Call {
     /// The filter of a name, with these values. The name is looked up as it is.
     Filter(Name, Items<Value>),
+    /// What a name stands for where the call is, a macro or a function, with these values. Its value is the text
+    /// of what that gives, and not safe.
+    Macro(Name, Items<Value>),
+    /// The block of a name, whose text is the value, and not safe.
+    Block(Name),
 }

@@ -31,13 +31,16 @@ ghost use Rattle.tm_meaning.specs.FilterRows.{is_unsure, under, unknown, filtere
 ghost use Rattle.tm_meaning.specs.FilterRows.{upper_by, second_by, odd_by, unsure_by, EndsIn};
 ghost use Rattle.tm_meaning.specs.FilterRows.{further_of, further_of_function, further_of_test};
 ghost use Rattle.tm_meaning.specs.FilterRows.{further_within, with_limit};
+ghost use Rattle.tm_meaning.specs.FurtherRows.{further_by, calling_escaped, calling_in_scope, calling_loop, calling_block};
+ghost use Rattle.tm_meaning.specs.FurtherRows.{block_again, calling_block_plain, fails, testing_block};
+ghost use Rattle.tm_meaning.specs.Rows.{raw};
 ghost use Rattle.tm_meaning.specs.FilterRows.{filter_block, two_filters, last_counts, set_filtered};
 ghost use Rattle.tm_meaning.specs.FilterRows.{capitals_in_html, safe_in_html, break_in_filter, fault_in_filter};
 ghost use Rattle.tm_meaning.specs.ObjectRows.{by_name, emitted_none, keeps_and_faults, method_of_function, no_zero};
 ghost use Rattle.tm_meaning.specs.ObjectRows.{none_as_undefined, with_formatter, with_methods, zero_between};
 ghost use Rattle.tm_syntax.specs.declared.tree.Application.TheVariants.{Filter, Test, NegatedTest};
 ghost use Rattle.tm_values.specs.declared.undefined.UndefinedBehavior.TheVariants.{SemiStrict, Strict};
-ghost use Rattle.tm_values.specs.declared.error.ErrorKind.TheVariants.{BadStream, UnknownFilter, UnknownTest};
+ghost use Rattle.tm_values.specs.declared.error.ErrorKind.TheVariants.{BadStream, UnknownBlock, UnknownFilter, UnknownTest};
 
 /// `Hello {{ name }}!` with the name World takes 4 charges, so 5 units of fuel; with fewer it ends where the fuel does.
 pub fn hello_rows()
@@ -324,6 +327,43 @@ pub fn further_rows()
     ensures sees { Shows (further_of (codes "with_k")) (decimal 1) }
     ensures unknown { Fails (further_of (codes "unknown")) [] (UnknownFilter ∷ []) }
     ensures kept { Leaves (further_of (codes "unknown")) ((codes "k", number (pos 1)) ∷ []) }
+{}
+
+/// Further calls of what a name stands for: its text is not safe; a function of the language; a name of a scope, and `loop`, which can't be
+/// called so; a name that isn't found; and each one deeper than the last.
+pub fn further_macro_rows()
+    ensures text { Shows (calling_escaped (codes "by_macro")) (codes "&lt;") }
+    ensures direct { Shows (calling_escaped (codes "tag")) (codes "<") }
+    ensures charges { Charges (further_by (codes "by_macro")) (codes "<") 2 }
+    ensures language { Shows (further_by (codes "by_range"))
+        (codes "[" ++ decimal 0 ++ codes ", " ++ decimal 1 ++ codes "]") }
+    ensures scope { Fails calling_in_scope [] (InvalidOperation ∷ []) }
+    ensures of_loop { Fails calling_loop [] (InvalidOperation ∷ []) }
+    ensures not_found { Fails (further_by (codes "by_none")) [] (UnknownFunction ∷ []) }
+    ensures two { Shows (with_limit 3 (further_by (codes "by_both"))) (codes "<") }
+    ensures too_deep { Fails (with_limit 2 (further_by (codes "by_both"))) [] (InvalidOperation ∷ []) }
+{}
+
+/// Further calls of a block, which is reached by them alone, or runs in its place too: its text is not safe, and for a test counts by its truth; its scope stands one
+/// deeper for each call before it; its fault is its own, and all is as before it; and a block that isn't there.
+pub fn further_block_rows()
+    ensures text { Shows (calling_block (raw (codes "<")) (codes "by_block")) (codes "&lt;") }
+    ensures fits { Shows (with_limit 3 (calling_block (raw (codes "x")) (codes "by_block")))
+        (codes "x") }
+    ensures too_deep { Fails (with_limit 2 (calling_block (raw (codes "x")) (codes "by_block"))) []
+        (InvalidOperation ∷ []) }
+    ensures two_fit { Shows (with_limit 4 (calling_block (raw (codes "x")) (codes "by_two")))
+        (codes "x") }
+    ensures two_too_deep { Fails (with_limit 3 (calling_block (raw (codes "x")) (codes "by_two")))
+        [] (InvalidOperation ∷ []) }
+    ensures holds { Shows (testing_block (raw (codes "x"))) (codes "true") }
+    ensures empty { Shows (testing_block (raw [])) (codes "false") }
+    ensures fault { Fails (calling_block fails (codes "by_block")) [] (UnknownFunction ∷ []) }
+    ensures restores { Restores (calling_block (raw (codes "x")) (codes "by_block")) }
+    ensures restores_at_fault { Restores (calling_block_plain fails (codes "by_block")) }
+    ensures unknown { Fails (further_by (codes "by_block")) [] (UnknownBlock ∷ []) }
+    ensures again { Charges (with_limit 3 block_again) (codes "xx") 5 }
+    ensures again_too_deep { Fails (with_limit 2 block_again) (codes "x") (InvalidOperation ∷ []) }
 {}
 
 /// `{{ sum.x() }}` of a function, `{{ nope.m() }}` of an undefined name under Strict, and `loop.index()`, without and with a method object

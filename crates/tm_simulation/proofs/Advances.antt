@@ -328,20 +328,34 @@ kept_unescaped e w world1 k = record {
 abbrev pub in_stream : StreamId → World → World
 in_stream s w = record w { stream = s }
 
+-- a world with one scope more, whose outermost one stands at a depth
+abbrev pub within_at : ℕ → Scope → World → World
+within_at outer s w = record w { scopes = record { frames = s ∷ w.scopes.frames; outer = outer } }
+
 -- A block's run, in whichever stream it ended: what is put back behind it gives the very scopes before it, and all is kept.
-pub undone_scopes : (s : Scope) (stream : StreamId) (block : Option (List ℕ)) (w v : World) →
-    Advances (in_stream v.stream (record (within s w) { stream = stream; block = block })) v → (undone (of_block w) v).scopes ≡ w.scopes
-undone_scopes s stream block w v l =
+pub undone_scopes_at : (outer : ℕ) (s : Scope) (stream : StreamId) (block : Option (List ℕ)) (w v : World) →
+    Advances (in_stream v.stream (record (within_at outer s w) { stream = stream; block = block })) v →
+    (undone (of_block w) v).scopes ≡ w.scopes
+undone_scopes_at outer s stream block w v l =
     ap (λ frames. record { frames = frames; outer = w.scopes.outer }) (outermost_below s w.scopes.frames v.scopes.frames l.scopes)
 
-pub undone_kept : (s : Scope) (stream : StreamId) (block : Option (List ℕ)) (w v : World) →
-    Advances (in_stream v.stream (record (within s w) { stream = stream; block = block })) v → Kept w (undone (of_block w) v)
-undone_kept s stream block w v l =
-    let inner : Scopes = record w.scopes { frames = s ∷ w.scopes.frames } in
+pub undone_at : (outer : ℕ) (s : Scope) (stream : StreamId) (block : Option (List ℕ)) (w v : World) →
+    Advances (in_stream v.stream (record (within_at outer s w) { stream = stream; block = block })) v → Kept w (undone (of_block w) v)
+undone_at outer s stream block w v l =
+    let inner : Scopes = record { frames = s ∷ w.scopes.frames; outer = outer } in
     let back : Scopes = record { frames = outermost (length w.scopes.frames) v.scopes.frames; outer = w.scopes.outer } in
     kept_lasting
     (lasts_then (lasts_then (lasts_anywhere inner v.stream block w.escape w) l.lasts) (lasts_anywhere back w.stream w.block w.escape v))
-    (undone_scopes s stream block w v l) refl refl refl
+    (undone_scopes_at outer s stream block w v l) refl refl refl
+
+-- the same at the depth at which the scopes stand
+pub undone_scopes : (s : Scope) (stream : StreamId) (block : Option (List ℕ)) (w v : World) →
+    Advances (in_stream v.stream (record (within s w) { stream = stream; block = block })) v → (undone (of_block w) v).scopes ≡ w.scopes
+undone_scopes s stream block w v l = undone_scopes_at w.scopes.outer s stream block w v l
+
+pub undone_kept : (s : Scope) (stream : StreamId) (block : Option (List ℕ)) (w v : World) →
+    Advances (in_stream v.stream (record (within s w) { stream = stream; block = block })) v → Kept w (undone (of_block w) v)
+undone_kept s stream block w v l = undone_at w.scopes.outer s stream block w v l
 
 -- ---------------------------------------------------------------- loops
 -- the record that is asked for its next item

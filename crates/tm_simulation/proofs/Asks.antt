@@ -1,16 +1,17 @@
--- What calls come to keeps the world, or is a run that starts one level deeper.
+-- What calls come to keeps the world, or is a run that starts deeper.
 use Rattle.tm_values.specs.declared.escape.AutoEscape.{AutoEscape}
 use Rattle.std.proofs.Common.{◌≡◌, ℕ, zero, suc, ◌+◌, List, [], ◌∷◌, Option, Some, None, Bool, true, false, nat_lt, ◌++◌, refl}
 use Rattle.std.proofs.Common.{ap, ◌∙◌, arith}
 use Rattle.std.proofs.Common.{ltb-true, length-append, ◌≤◌}
 use Rattle.std.specs.Prelude.{slice_get, not, ◌&&◌, codes, if◌then◌else◌}
-use Rattle.tm_values.specs.Val.{Val, undefined, function, loop}
+use Rattle.tm_values.specs.Val.{Val, undefined, function, loop, text}
 use Rattle.tm_values.specs.declared.error.ErrorKind.{ErrorKind}
 use Rattle.tm_values.specs.declared.error.ErrorKind.TheVariants.{InvalidOperation, UnknownBlock, UnknownFilter, UnknownTest}
 use Rattle.tm_values.specs.declared.error.ErrorKind.TheVariants.{UnknownFunction, UnknownMethod}
 use Rattle.tm_syntax.specs.declared.tree.Application.{Application}
 use Rattle.tm_syntax.specs.declared.tree.Application.TheVariants as applications
 use Rattle.tm_definitions.specs.Maps.{dict_of, namespace_of}
+use Rattle.tm_definitions.specs.Emitted.{text_answer}
 use Rattle.tm_meaning.specs.World.{unpacked_items, emitted, escape_for, view_of, find, same_name, block_of, World, HostValue, Scope, Loop}
 use Rattle.tm_meaning.specs.World.{innermost}
 use Rattle.tm_meaning.specs.World.{items_over, Res, Good, Bad}
@@ -23,8 +24,9 @@ use Rattle.tm_meaning.specs.declared.reply.Call.TheVariants as further
 use Rattle.tm_meaning.specs.Calls.{block_call, undone, Asked, has, refused, runs, recurs, ask, same_stream, wrapped_as}
 use Rattle.tm_meaning.specs.Calls.{call_loop, call_innermost, one_argument, call_found, enter_block, call_named, call_value, call_method}
 use Rattle.tm_meaning.specs.Calls.{method_object, unknown_method, call_callee, call_in, call_first, apply_filter, perform_test}
-use Rattle.tm_meaning.specs.Calls.{as_truth, applied, MakesFurther, object_call, found_call, further_calls, depths_left, by_depths}
-use Rattle.tm_meaning.specs.Calls.{loop_method, method_in, of_loop, record_at, call_by, given_by, replied, required_alone}
+use Rattle.tm_meaning.specs.Calls.{as_truth, applied, MakesFurther, object_call, found_call, further_call, further_calls}
+use Rattle.tm_meaning.specs.Calls.{depths_left, by_depths, function_call, value_call, as_printed, deeper, from_deeper}
+use Rattle.tm_meaning.specs.Calls.{loop_method, method_in, of_loop, record_at, given_by, replied, required_alone}
 use Rattle.tm_meaning.specs.declared.function.GlobalFunction.{GlobalFunction}
 use Rattle.tm_meaning.specs.declared.function.GlobalFunction.TheVariants as own
 use Rattle.tm_meaning.specs.declared.stream.StreamId.{StreamId}
@@ -32,26 +34,26 @@ use Rattle.tm_syntax.specs.Named.{put_each}
 use Rattle.tm_simulation.specs.Chains.{is_raised, Arises, wrapped as wraps, by_object, IsObject, is_function, is_filter, is_test}
 use Rattle.tm_simulation.specs.Chains.{is_method}
 use Rattle.tm_simulation.proofs.Raised.{unpacked_raises, escape_raises, emitted_arises, iterated_raises, range_raises, dict_raises}
-use Rattle.tm_simulation.proofs.Raised.{namespace_raises, name_raises, method_raises}
+use Rattle.tm_simulation.proofs.Raised.{namespace_raises, name_raises, method_raises, text_raises}
 use Rattle.tm_simulation.proofs.Advances.{Advances, Kept, advances_then, lasts_by_namespaces, lasts_by_temps, advances_same}
 use Rattle.tm_simulation.proofs.Advances.{kept_same, kept_then, kept_lasting, undone_kept, in_stream, kept_depth, within, one_more}
-use Rattle.tm_simulation.proofs.Advances.{put_each_long, keeping_kept}
+use Rattle.tm_simulation.proofs.Advances.{put_each_long, keeping_kept, undone_at}
 use Rattle.tm_simulation.proofs.Gives.{answered_gives, Gives, refused_arises, gives_bind, operation_gives}
 
--- A value keeps the world; a run starts one level deeper, within the limit, and however it ends what is put back behind it keeps the world.
+-- A value keeps the world; a run starts at least one level deeper, within the limit, and however it ends what is put back behind it keeps the world.
 abbrev pub Asks : HostValue → World → Asked → Type 0
 Asks host w (has v world1) = Kept w world1
 Asks host w (refused chain world1) = Advances w world1 × Arises host chain
 Asks host w (recurs n items world1) = Kept w world1
 Asks host w (runs c world1) =
-    (depth world1.scopes ≡ depth w.scopes + 1) × (depth world1.scopes ≤ host.limit) ×
+    (depth w.scopes + 1 ≤ depth world1.scopes) × (depth world1.scopes ≤ host.limit) ×
     ((world2 : World) → Advances (in_stream world2.stream world1) world2 → Kept w (undone c.undo world2))
 
 asks_then : (host : HostValue) (w world1 : World) (q : Asked) → Kept w world1 → Asks host world1 q → Asks host w q
 asks_then host w world1 (has v world2) h k = kept_then h k
 asks_then host w world1 (refused chain world2) h k = (advances_then h.advances k.0, k.1)
 asks_then host w world1 (recurs n items world2) h k = kept_then h k
-asks_then host w world1 (runs c world2) h k = (k.0 ∙ ap (λ n. n + 1) (kept_depth h), k.1, λ world3 l. kept_then h (k.2 world3 l))
+asks_then host w world1 (runs c world2) h k = (omega (arith, k.0, kept_depth h), k.1, λ world3 l. kept_then h (k.2 world3 l))
 
 asks_refused : (host : HostValue) (w : World) (kind : ErrorKind) → is_raised kind ≡ true → Asks host w (refused (kind ∷ []) w)
 asks_refused host w kind e = refused_arises host w kind e
@@ -147,25 +149,58 @@ named_object_asks host make k found kind args w e there =
     ask_need host w found kind (λ f world1. object_call make host f args world1) e
     (λ f is. object_asks host make k f args w (there f is))
 
-further_asks : (left : ℕ) (host : HostValue) → MakesAsks host (further_calls left host)
-further_asks zero host c w = asks_refused host w InvalidOperation refl
-further_asks (suc left) host (further.Filter x args) w =
-    named_object_asks host (further_calls left host) (further_asks left host) (find x host.filters) UnknownFilter args w refl
-    (λ f e. is_filter x e)
+pub lookup_gives : (host : HostValue) (x : List ℕ) (w : World) → Gives host w (lookup host x w)
+lookup_gives host x w = operation_gives host _ w (name_raises (view_of host w) x)
+
+function_asks : (make : MakesFurther) (host : HostValue) → MakesAsks host make → (n : ℕ) (f : Function) (args : List Val) (w : World) →
+    slice_get host.functions n ≡ Some f → Asks host w (function_call make host f args w)
+function_asks make host k n (callers f) args w e = object_asks host make k f args w (is_function n e)
+function_asks make host k n (languages g) args w e =
+    ask_then host w (given_by g args w) has (given_gives host g args w) (λ v world1. kept_same world1)
+
+value_call_asks : (make : MakesFurther) (host : HostValue) → MakesAsks host make → (v : Val) (args : List Val) (w : World) →
+    Asks host w (value_call make host v args w)
+value_call_asks make host k (function n) args w =
+    ask_need host w (slice_get host.functions n) InvalidOperation (λ f world1. function_call make host f args world1) refl
+    (λ f e. function_asks make host k n f args w e)
+value_call_asks make host k _ args w = asks_refused host w InvalidOperation refl
+
+printed_asks : (host : HostValue) (w : World) (q : Asked) → Asks host w q → Asks host w (as_printed q)
+printed_asks host w (has v world1) h =
+    asks_then host w world1 _ h
+    (ask_then host world1 (answered (text_answer (records_of world1) v) world1) (λ t world2. has (text t false) world2)
+    (operation_gives host _ world1 (text_raises (records_of world1) v)) (λ t world2. kept_same world2))
+printed_asks host w (refused chain world1) h = h
+printed_asks host w (runs c world1) h = h
+printed_asks host w (recurs n items world1) h = h
+
+-- a block that is entered deeper
+deeper_block_asks : (n : ℕ) (host : HostValue) (b : List ℕ) (w : World) → Asks host w (from_deeper w (enter_block host b (deeper n w)))
+deeper_block_asks n host b w =
+    block_asks_by (λ q. Asks host w (from_deeper w q)) host b (deeper n w) (λ kind e. asks_refused host w kind e) (λ stream room. (
+      omega arith,
+      omega (arith, ltb-true (depth (deeper n w).scopes) host.limit room),
+      λ world2 l. undone_at (n + w.scopes.outer) (plain_scope (undefined false)) stream (Some b) w world2 l,
+    ))
+
+further_call_asks : (make : MakesFurther) (n : ℕ) (host : HostValue) → MakesAsks host make → MakesAsks host (further_call make n host)
+further_call_asks make n host k (further.Filter x args) w =
+    named_object_asks host make k (find x host.filters) UnknownFilter args w refl (λ f e. is_filter x e)
+further_call_asks make n host k (further.Macro x args) w =
+    printed_asks host w _ (ask_then host w (lookup host x w) _ (lookup_gives host x w) (λ found world1.
+    ask_need host world1 found UnknownFunction (λ f world2. value_call make host f args world2) refl
+    (λ f e. value_call_asks make host k f args world1)))
+further_call_asks make n host k (further.Block b) w = deeper_block_asks n host b w
+
+further_asks : (left n : ℕ) (host : HostValue) → MakesAsks host (further_calls left n host)
+further_asks zero n host c w = asks_refused host w InvalidOperation refl
+further_asks (suc left) n host c w = further_call_asks (further_calls left (suc n) host) (suc n) host (further_asks left (suc n) host) c w
 
 depths_ask : (host : HostValue) (w : World) → MakesAsks host (by_depths host w)
-depths_ask host w = further_asks (depths_left host w) host
-
-by_asks : (host : HostValue) (n : ℕ) (f : Function) (args : List Val) (w : World) → slice_get host.functions n ≡ Some f →
-    Asks host w (call_by host f args w)
-by_asks host n (callers f) args w e = object_asks host (by_depths host w) (depths_ask host w) f args w (is_function n e)
-by_asks host n (languages g) args w e = ask_then host w (given_by g args w) has (given_gives host g args w) (λ v world1. kept_same world1)
+depths_ask host w = further_asks (depths_left host w) 0 host
 
 value_asks : (host : HostValue) (v : Val) (args : List Val) (w : World) → Asks host w (call_value host v args w)
-value_asks host (function n) args w =
-    ask_need host w (slice_get host.functions n) InvalidOperation (λ f world1. call_by host f args world1) refl
-    (λ f e. by_asks host n f args w e)
-value_asks host _ args w = asks_refused host w InvalidOperation refl
+value_asks host v args w = value_call_asks (by_depths host w) host (depths_ask host w) v args w
 
 pub callee_asks : (host : HostValue) (vs : List Val) (w : World) → Asks host w (call_callee host vs w)
 callee_asks host [] w = asks_refused host w InvalidOperation refl
@@ -273,9 +308,6 @@ found_call_asks host (loop state n) args w =
     of_loop_asks host w (record_at w state n) _ (λ l.
     ask_then host w (one_argument args w) _ (one_argument_gives host args w) (λ v world1. loop_call_asks host l v world1))
 found_call_asks host v args w = value_asks host v args w
-
-pub lookup_gives : (host : HostValue) (x : List ℕ) (w : World) → Gives host w (lookup host x w)
-lookup_gives host x w = operation_gives host _ w (name_raises (view_of host w) x)
 
 pub named_asks : (host : HostValue) (x : List ℕ) (args : List Val) (w : World) → Asks host w (call_named host x args w)
 named_asks host x args w =

@@ -24,7 +24,8 @@ use Rattle.tm_definitions.specs.Truth.{truth_of}
 use Rattle.tm_definitions.specs.Comparison.{compared}
 use Rattle.tm_definitions.specs.Concatenation.{concatenated, where_fine as joined_where_fine}
 use Rattle.tm_definitions.specs.Containment.{contained, found_in, text_contains, namespace_contains}
-use Rattle.tm_definitions.specs.Emitted.{emission_verdict, escaped_verdict}
+use Rattle.tm_definitions.specs.Emitted.{emission_verdict, escaped_verdict, map_ok, text_answer}
+use Rattle.tm_definitions.specs.Printed.{printed}
 use Rattle.tm_definitions.specs.Iteration.{iterated, unpacked, items_of, items_or, namespace_keys, exactly}
 use Rattle.tm_definitions.specs.Maps.{dict_of, namespace_of, base_of, namespace_pairs, plain_of}
 use Rattle.tm_definitions.specs.Spread.{joined, spread_items, items_of_all, pairs_in, spread_pairs, merged}
@@ -172,6 +173,13 @@ inside_raises form r (suc levels) way s n =
 
 print_raises : (r : RecordData) (v : Val) → Raises (print_verdict r v)
 print_raises r v = verdict_raises Printed r _ (inside_raises Printed r (length r.namespaces) nowhere) v
+
+printed_raises : (r : RecordData) (v : Val) (verdict : Verdict) → Raises verdict → Raises (map_ok (λ _. printed r v) verdict)
+printed_raises r v (Ok _) h = tt
+printed_raises r v (Err chain) h = h
+
+pub text_raises : (r : RecordData) (v : Val) → Raises (text_answer r v)
+text_raises r v = printed_raises r v (print_verdict r v) (print_raises r v)
 
 escaped_raises : (e : AutoEscape) (r : RecordData) (v : Val) → Raises (escaped_verdict e r v)
 escaped_raises escapes.None r v = print_raises r v
