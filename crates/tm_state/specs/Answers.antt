@@ -1,20 +1,44 @@
 -- What a state's calls answer, beside what the definitions say.
-use Rattle.std.specs.Prelude.{◌≡◌, ◌≤◌, ℕ, List, ◌∷◌, Option, Some, Bool, Result, Ok, Err, String, string_bytes, false}
+use Rattle.std.specs.Prelude.{◌≡◌, ◌≤◌, ◌+◌, ℕ, List, ◌∷◌, length, Option, Some, None, Bool, Result, Ok, Err, String, string_bytes}
+use Rattle.std.specs.Prelude.{true, false}
 use Rattle.std.specs.declared.alloc.Global.{Global}
-use Rattle.tm_values.specs.Val.{boolean}
 use Rattle.tm_meaning.specs.Memory.{is_want_of_memory}
 use Rattle.tm_values.specs.declared.error.ErrorKind.{ErrorKind}
 use Rattle.tm_values.specs.declared.error.ErrorKind.TheVariants.{InvalidOperation}
 use Rattle.tm_syntax.specs.Named.{put_each}
 use Rattle.tm_values.specs.Val.{Val}
-use Rattle.tm_tables.specs.declared.callable.Called.{Called}
-use Rattle.tm_tables.specs.declared.callable.Called.TheVariants as called
 use Rattle.tm_tables.specs.Stated.{is_for_memory}
-use Rattle.tm_meaning.specs.World.{World, HostValue, Object, Stated, Loop, Res, Good, Bad}
-use Rattle.tm_meaning.specs.Calls.{Asked, has, refused, recurs, ask, MakesFurther, replied, found_call, by_depths, given_by, is_changed}
+use Rattle.tm_meaning.specs.World.{World, HostValue, Object, Stated, Loop, Res, Good, Bad, depth}
+use Rattle.tm_meaning.specs.Calls.{Asked, has, refused, recurs, runs, NestedCall, whole, of_block, MakesFurther, replied, found_call}
+use Rattle.tm_meaning.specs.Calls.{as_printed, as_truth, is_changed}
+use Rattle.tm_meaning.specs.declared.reply.Call.{Call}
+use Rattle.tm_meaning.specs.declared.reply.Call.TheVariants as calls
+use Rattle.tm_meaning.specs.declared.run_text.RunText.{RunText}
+use Rattle.tm_meaning.specs.declared.run_text.RunText.TheVariants as texts
+use Rattle.tm_state.specs.State.{saved_of}
+use Rattle.tm_state.specs.declared.saved.Saved.{Saved}
+use Rattle.tm_state.specs.declared.nested.NestedRun.{NestedRun}
+use Rattle.tm_state.specs.declared.further.Further.{Further}
+use Rattle.tm_state.specs.declared.further.Further.TheVariants as further
 use Rattle.tm_state.specs.declared.calls.CallResult.{CallResult}
 use Rattle.tm_state.specs.declared.calls.CallResult.TheVariants as outcome
 use Rattle.tm_state.specs.declared.calls.Recursion.{Recursion}
+
+-- There are as many scopes, and they stand where they stood.
+abbrev pub SameScopes : World → World → Type 0
+SameScopes old new = (length new.scopes.frames ≡ length old.scopes.frames) × (new.scopes.outer ≡ old.scopes.outer)
+
+-- The scopes stand as they stood, and stream, block and escape are those from before.
+abbrev pub StaysInPlace : World → World → Type 0
+StaysInPlace old new =
+    SameScopes old new × (new.stream ≡ old.stream) × (new.block ≡ old.block) × (new.escape ≡ old.escape)
+
+-- There is a scope more, within the limit, for a run that is needed first; it may stand deeper. What is put back behind the run is what
+-- stood before.
+abbrev pub OneDeeper : ℕ → Saved → World → World → Type 0
+OneDeeper limit saved old new =
+    (saved ≡ saved_of old) × (length new.scopes.frames ≡ length old.scopes.frames + 1) ×
+    (old.scopes.outer ≤ new.scopes.outer) × (depth new.scopes ≤ limit)
 
 -- What every answer keeps, also where it is a halt.
 pub record KeepsIdAndFuel (old new : World) : Type 0 where
@@ -43,17 +67,6 @@ abbrev pub FoundAnswers : Result Stated (List ErrorKind) → HostValue → Optio
 FoundAnswers result host found kind args w =
     (make : MakesFurther) → Answers make result (found_call make host found kind args w) w
 
--- What a call of these arguments comes to: what was answered; or what a function of the language gives; or the call is refused.
-abbrev pub Calls : HostValue → Result Called (List ErrorKind) → Asked → List Val → World → Type 0
-Calls host (Ok (called.Answered answer)) asked args w = Answers (by_depths host w) (Ok answer) asked w
-Calls host (Ok (called.Language g)) asked args w = asked ≡ ask (given_by g args w) has
-Calls host (Err chain) asked args w = is_want_of_memory chain ≡ false → asked ≡ refused chain w
-
--- What a test came to, but for want of memory: a truth value and the world behind it, or a fault.
-abbrev pub Tests : Result Bool (List ErrorKind) → Asked → World → Type 0
-Tests (Ok b) asked w = asked ≡ has (boolean b) w
-Tests (Err chain) asked w = is_want_of_memory chain ≡ false → asked ≡ refused chain w
-
 -- What a call came to, but for want of memory: a value and the world behind it, or a fault.
 abbrev pub Comes : Result Val (List ErrorKind) → Asked → World → Type 0
 Comes (Ok v) asked w = asked ≡ has v w
@@ -64,11 +77,69 @@ abbrev pub Recurs : Result Recursion (List ErrorKind) → Asked → World → Ty
 Recurs (Ok r) asked w = asked ≡ recurs r.number r.items.value.items w
 Recurs (Err chain) asked w = is_want_of_memory chain ≡ false → asked ≡ refused chain w
 
--- What a call came to, but for want of memory: a value, a loop that is called, or a fault, and the world behind it.
+-- the call of a run, where the world before it was b
+abbrev pub call_of : NestedRun → World → NestedCall
+call_of e b = record { callee = whole e.stream; undo = of_block b; wrap = e.wrap; text = e.text }
+
+-- A call needs this run first, from this world; its text is the call's value, and its fault the call's.
+abbrev pub NeedsRun : NestedRun → Asked → World → Type 0
+NeedsRun e asked w =
+    (e.heard ≡ true) × (e.value ≡ true) × (e.wrap ≡ None) × ((b : World) × (e.saved ≡ saved_of b) × (asked ≡ runs (call_of e b) w))
+
+-- What a call came to, but for want of memory: a value, a loop that is called, a run that is needed, or a fault, and the world behind it.
 abbrev pub Becomes : Result CallResult (List ErrorKind) → Asked → World → Type 0
 Becomes (Ok (outcome.Value v)) asked w = asked ≡ has v w
 Becomes (Ok (outcome.Recursion r)) asked w = asked ≡ recurs r.number r.items.value.items w
+Becomes (Ok (outcome.Run e)) asked w = NeedsRun e.value asked w
 Becomes (Err chain) asked w = is_want_of_memory chain ≡ false → asked ≡ refused chain w
+
+-- How the scopes lie behind a call: as before, or with one more for the run that it needs.
+abbrev pub CallLies : ℕ → Result CallResult (List ErrorKind) → World → World → Type 0
+CallLies limit (Ok (outcome.Run e)) old new = OneDeeper limit e.value.saved old new
+CallLies limit _ old new = StaysInPlace old new
+
+-- What a call leaves, whatever it came to.
+pub record Leaves (limit : ℕ) (result : Result CallResult (List ErrorKind)) (old new : World) : Type 0 where
+  pub kept : KeepsIdAndFuel old new
+  pub lies : CallLies limit result old new
+
+-- ---------------------------------------------------------------- further calls
+-- the text of what is asked for, where a macro was called on the way
+abbrev pub shown : Bool → Asked → Asked
+shown false asked = asked
+shown true asked = as_printed asked
+
+-- the truth of what is asked for, where a test was called
+abbrev pub tested : Bool → Asked → Asked
+tested false asked = asked
+tested true asked = as_truth asked
+
+-- what the text of a run is, where a test was called and where none was
+abbrev pub text_for : Bool → RunText
+text_for false = texts.Plain
+text_for true = texts.Truth
+
+abbrev pub is_macro : Call → Bool
+is_macro (calls.Macro x args) = true
+is_macro _ = false
+
+-- A further call needs this run first, whose text is plain but for what was tested.
+abbrev pub NeedsPlain : Bool → NestedRun → Asked → World → Type 0
+NeedsPlain test e asked w =
+    (e.heard ≡ true) × (e.value ≡ true) × (e.wrap ≡ None) × (e.text ≡ text_for test) ×
+    ((b : World) × (e.saved ≡ saved_of b) × (asked ≡ runs (record (call_of e b) { text = texts.Plain }) w))
+
+-- What a further call came to, whatever makes those behind it: what was answered to it, or a run; or it is refused.
+abbrev pub FurtherComes : MakesFurther → Bool → Call → Result Further (List ErrorKind) → Asked → World → Type 0
+FurtherComes make test call (Ok (further.Answered answer)) asked w = is_for_memory answer.reply ≡ false →
+    asked ≡ shown (is_macro call) (replied make answer.reply (record w { temps = put_each answer.temps w.temps }))
+FurtherComes make test call (Ok (further.Run e)) asked w = NeedsPlain test e.value asked w
+FurtherComes make test call (Err chain) asked w = is_want_of_memory chain ≡ false → asked ≡ refused chain w
+
+-- How the scopes lie behind it.
+abbrev pub FurtherLies : ℕ → Result Further (List ErrorKind) → World → World → Type 0
+FurtherLies limit (Ok (further.Run e)) old new = OneDeeper limit e.value.saved old new × KeepsIdAndFuel old new
+FurtherLies limit _ old new = new ≡ record old { namespaces = new.namespaces }
 
 -- InvalidOperation for this cause, unless it is want of memory
 abbrev pub IsBecause : List ErrorKind → List ErrorKind → Type 0

@@ -1,13 +1,13 @@
 //! What values give that are passed to what a name stands for: a method, a filter or a test.
 ghost use Rattle.std.specs.Prelude.{◌≡◌};
 ghost use Rattle.tm_meaning.specs.Calls.{applied, apply_filter, call_first, perform_test};
-ghost use Rattle.tm_state.specs.Answers.{Comes, FoundAnswers, Tests};
+ghost use Rattle.tm_state.specs.Answers.{Becomes, FoundAnswers, Leaves};
 ghost use Rattle.tm_syntax.specs.Named.{find};
 ghost use Rattle.tm_values.specs.declared.error.ErrorKind.TheVariants.{UnknownFilter, UnknownTest};
 
+use crate::calls::CallResult;
 use crate::state::StateData;
 use std::alloc::Global;
-use tm_operations::is_true;
 use tm_syntax::Application;
 use tm_tables::{CallableAnswer, Host};
 use tm_values::{Error, ErrorKind, Value};
@@ -24,18 +24,16 @@ impl StateData<'_> {
         name: &str,
         place: usize,
         args: &[Value],
-    ) -> Result<Value, Error>
-        ensures called { Comes result
+    ) -> Result<CallResult, Error>
+        ensures called { Becomes result
             (applied (H.meaning host.now) application name.now args.now self.old) self.new }
-        ensures rest { self.new ≡ record self.old
-            { temps = self.new.temps; namespaces = self.new.namespaces; loops = self.new.loops } }
+        ensures leaves { Leaves (H.meaning host.now).limit result self.old self.new }
     {
         match application {
             Application::Method => self.call_first(alloc, host, name, args),
             Application::Filter => self.apply_filter(alloc, host, name, place, args),
             Application::Test | Application::NegatedTest => {
-                let holds = self.perform_test(alloc, host, name, place, args)?;
-                Ok(Value::boolean(holds))
+                self.perform_test(alloc, host, name, place, args)
             }
         }
     }
@@ -47,11 +45,10 @@ impl StateData<'_> {
         host: &H,
         name: &str,
         args: &[Value],
-    ) -> Result<Value, Error>
-        ensures called { Comes result
+    ) -> Result<CallResult, Error>
+        ensures called { Becomes result
             (call_first (H.meaning host.now) name.now args.now self.old) self.new }
-        ensures rest { self.new ≡ record self.old
-            { temps = self.new.temps; namespaces = self.new.namespaces; loops = self.new.loops } }
+        ensures leaves { Leaves (H.meaning host.now).limit result self.old self.new }
     {
         match args.split_first() {
             Some((receiver, others)) => self.call_method(alloc, host, receiver, name, others),
@@ -60,7 +57,8 @@ impl StateData<'_> {
     }
 
     /// What the filter of a name gives for these values; what it keeps is kept, also where it answers a fault.
-    /// UnknownFilter where there is none of that name, and the filter's fault.
+    /// UnknownFilter where there is none of that name, InvalidOperation for a further call beyond the limit, and the
+    /// fault of what is called.
     #[tactic(auto, using(crate::proofs::Answered::followed))]
     pub fn apply_filter<H: Host>(
         &mut self,
@@ -69,19 +67,19 @@ impl StateData<'_> {
         name: &str,
         place: usize,
         args: &[Value],
-    ) -> Result<Value, Error>
-        ensures called { Comes result
+    ) -> Result<CallResult, Error>
+        ensures called { Becomes result
             (apply_filter (H.meaning host.now) name.now args.now self.old) self.new }
-        ensures rest { self.new ≡ record self.old { temps = self.new.temps } }
+        ensures leaves { Leaves (H.meaning host.now).limit result self.old self.new }
     {
         let answer = self.filter_answer(alloc, host, name, place, args)?;
-        self.follow(alloc, host, answer)
+        self.follow(alloc, host, answer, false)
     }
 
     /// Whether what the test of a name answers to these values is true, whatever undefined values do; what it
-    /// keeps is kept, also where it answers a fault. UnknownTest where there is none of that name, and the
-    /// test's fault.
-    #[tactic(auto, using(crate::proofs::Answered::followed_truth))]
+    /// keeps is kept, also where it answers a fault. UnknownTest where there is none of that name, InvalidOperation
+    /// for a further call beyond the limit, and the fault of what is called.
+    #[tactic(auto, using(crate::proofs::Answered::followed))]
     pub fn perform_test<H: Host>(
         &mut self,
         alloc: Global,
@@ -89,14 +87,13 @@ impl StateData<'_> {
         name: &str,
         place: usize,
         args: &[Value],
-    ) -> Result<bool, Error>
-        ensures called { Tests result
+    ) -> Result<CallResult, Error>
+        ensures called { Becomes result
             (perform_test (H.meaning host.now) name.now args.now self.old) self.new }
-        ensures rest { self.new ≡ record self.old { temps = self.new.temps } }
+        ensures leaves { Leaves (H.meaning host.now).limit result self.old self.new }
     {
         let answer = self.test_answer(alloc, host, name, place, args)?;
-        let value = self.follow(alloc, host, answer)?;
-        Ok(is_true(&value))
+        self.follow(alloc, host, answer, true)
     }
 
     /// What the filter of a name answers.

@@ -1,23 +1,21 @@
 //! Calls of functions and methods.
-ghost use Rattle.std.specs.Prelude.{◌≡◌, [], ◌∷◌};
+ghost use Rattle.std.specs.Prelude.{◌≡◌};
 ghost use Rattle.std.specs.Option.{option_copied};
 ghost use Rattle.tm_values.specs.Answer.{IsAnswer, OkOrOutOfMemory};
-ghost use Rattle.tm_syntax.specs.Named.{put_each};
 ghost use Rattle.tm_meaning.specs.World.{records_of};
 ghost use Rattle.tm_values.specs.Val.{loop};
 ghost use Rattle.tm_meaning.specs.Calls.{call_callee, call_found, call_innermost, call_loop, call_named, call_value, call_method};
-ghost use Rattle.tm_meaning.specs.Calls.{loop_method, method_in, method_object, unknown_method, is_macro_attribute, replied};
-ghost use Rattle.tm_meaning.specs.Calls.{by_depths, further_call};
-ghost use Rattle.tm_state.specs.Answers.{Answers, Becomes, Calls, Comes, FoundAnswers, IsBecause, Recurs};
+ghost use Rattle.tm_meaning.specs.Calls.{loop_method, method_in, method_object, unknown_method, is_macro_attribute};
+ghost use Rattle.tm_state.specs.Answers.{Becomes, FoundAnswers, IsBecause, Leaves, Recurs};
 ghost use Rattle.tm_values.specs.declared.error.ErrorKind.TheVariants.{UnknownMethod};
 
+use crate::nested::NestedRun;
 use crate::state::StateData;
 use std::alloc::Global;
 use std::rc::Rc;
-use tm_meaning::{Call, Reply};
 use tm_operations::{attribute, iterate};
 use tm_syntax::Name;
-use tm_tables::{CallableAnswer, Called, Host, LoopState, NO_PLACE};
+use tm_tables::{CallableAnswer, Host, LoopState};
 use tm_values::{Error, ErrorKind, Node, UndefinedBehavior, Value, find_namespace};
 
 /// What a call came to.
@@ -27,6 +25,8 @@ pub enum CallResult {
     Value(Value),
     /// A loop of the stream that runs is called, which the machine does.
     Recursion(Recursion),
+    /// A run that it needs, which the machine does. Boxed, since each call hands its answer on.
+    Run(Box<NestedRun>),
 }
 
 /// A loop that is called.
@@ -39,8 +39,8 @@ pub struct Recursion {
 }
 
 impl StateData<'_> {
-    /// What the function of a name gives for these arguments, or the loop that is called; what a function
-    /// keeps is kept, also where it answers a fault. UnknownFunction where the name isn't found,
+    /// What the function of a name gives for these arguments, or the loop that is called, or the run that a further
+    /// call needs; what a function keeps is kept, also where it answers a fault. UnknownFunction where the name isn't found,
     /// InvalidOperation where its value can't be called, or not there or so, or a context value on the way
     /// can't be known, and what the function refuses.
     pub fn call<H: Host>(
@@ -52,8 +52,7 @@ impl StateData<'_> {
     ) -> Result<CallResult, Error>
         ensures called { Becomes result
             (call_named (H.meaning host.now) name.now args.now self.old) self.new }
-        ensures rest { self.new ≡ record self.old
-            { temps = self.new.temps; namespaces = self.new.namespaces } }
+        ensures leaves { Leaves (H.meaning host.now).limit result self.old self.new }
     {
         let Some(found) = self.lookup(host, name)? else {
             return Err(Error::from(ErrorKind::UnknownFunction));
@@ -62,8 +61,7 @@ impl StateData<'_> {
             let recursion = self.call_found(alloc, host, *state, *number, args)?;
             return Ok(CallResult::Recursion(recursion));
         }
-        let value = self.call_value(alloc, host, &found, args)?;
-        Ok(CallResult::Value(value))
+        self.call_value(alloc, host, &found, args)
     }
 
     /// What the first of these values gives, called with the others; what a function keeps is kept, also where
@@ -74,10 +72,9 @@ impl StateData<'_> {
         alloc: Global,
         host: &H,
         values: &[Value],
-    ) -> Result<Value, Error>
-        ensures called { Comes result (call_callee (H.meaning host.now) values.now self.old) self.new }
-        ensures rest { self.new ≡ record self.old
-            { temps = self.new.temps; namespaces = self.new.namespaces } }
+    ) -> Result<CallResult, Error>
+        ensures called { Becomes result (call_callee (H.meaning host.now) values.now self.old) self.new }
+        ensures leaves { Leaves (H.meaning host.now).limit result self.old self.new }
     {
         match values.split_first() {
             Some((callee, args)) => self.call_value(alloc, host, callee, args),
@@ -162,11 +159,10 @@ impl StateData<'_> {
         receiver: &Value,
         name: &str,
         args: &[Value],
-    ) -> Result<Value, Error>
-        ensures called { Comes result
+    ) -> Result<CallResult, Error>
+        ensures called { Becomes result
             (call_method (H.meaning host.now) name.now receiver.now args.now self.old) self.new }
-        ensures rest { self.new ≡ record self.old
-            { temps = self.new.temps; namespaces = self.new.namespaces; loops = self.new.loops } }
+        ensures leaves { Leaves (H.meaning host.now).limit result self.old self.new }
     {
         if let Node::Loop(state, number) = &receiver.node {
             return self.call_loop_method(alloc, host, receiver, *state, *number, name, args);
@@ -187,13 +183,13 @@ impl StateData<'_> {
         receiver: &Value,
         name: &str,
         args: &[Value],
-    ) -> Result<Value, Error>
-        ensures called { Comes result (unknown_method (H.meaning host.now)
+    ) -> Result<CallResult, Error>
+        ensures called { Becomes result (unknown_method (H.meaning host.now)
             name.now receiver.now args.now self.old) self.new }
-        ensures rest { self.new ≡ record self.old { temps = self.new.temps } }
+        ensures leaves { Leaves (H.meaning host.now).limit result self.old self.new }
     {
         let answer = self.method_answer(alloc, host, receiver, name, args)?;
-        self.follow(alloc, host, answer)
+        self.follow(alloc, host, answer, false)
     }
 
     /// What the method object answers.
@@ -227,12 +223,11 @@ impl StateData<'_> {
         number: usize,
         name: &str,
         args: &[Value],
-    ) -> Result<Value, Error>
+    ) -> Result<CallResult, Error>
         requires { receiver.now ≡ loop state number }
-        ensures called { Comes result (loop_method (H.meaning host.now)
+        ensures called { Becomes result (loop_method (H.meaning host.now)
             name.now state number args.now self.old) self.new }
-        ensures rest { self.new ≡ record self.old
-            { temps = self.new.temps; loops = self.new.loops } }
+        ensures leaves { Leaves (H.meaning host.now).limit result self.old self.new }
     {
         let changed = name == "changed";
         if !changed && name != "cycle" {
@@ -241,11 +236,12 @@ impl StateData<'_> {
         if self.id() != state {
             return Err(Error::from(ErrorKind::InvalidOperation));
         }
-        if changed {
-            self.loop_changed(alloc, number, args)
+        let value = if changed {
+            self.loop_changed(alloc, number, args)?
         } else {
-            self.loop_cycle(number, args)
-        }
+            self.loop_cycle(number, args)?
+        };
+        Ok(CallResult::Value(value))
     }
 
     /// What is called as a value's method of a name, which is no loop; none where it has none.
@@ -277,85 +273,13 @@ impl StateData<'_> {
         host: &H,
         value: &Value,
         args: &[Value],
-    ) -> Result<Value, Error>
-        ensures called { Comes result
+    ) -> Result<CallResult, Error>
+        ensures called { Becomes result
             (call_value (H.meaning host.now) value.now args.now self.old) self.new }
-        ensures rest { self.new ≡ record self.old
-            { temps = self.new.temps; namespaces = self.new.namespaces } }
+        ensures leaves { Leaves (H.meaning host.now).limit result self.old self.new }
     {
-        match self.ask(alloc, host, value, args)? {
-            Called::Answered(answer) => self.follow(alloc, host, answer),
-            Called::Language(function) => self.call_language(alloc, function, args),
-        }
-    }
-
-    /// What an object of the caller answers to these arguments, or which function of the language a value is.
-    /// InvalidOperation where it can't be called.
-    fn ask<H: Host>(
-        &self,
-        alloc: Global,
-        host: &H,
-        value: &Value,
-        args: &[Value],
-    ) -> Result<Called, Error>
-        ensures { Calls (H.meaning host.now) result
-            (call_value (H.meaning host.now) value.now args.now self.now) args.now self.now }
-    {
-        let Node::Function(number) = &value.node else {
-            return Err(Error::from(ErrorKind::InvalidOperation));
-        };
-        let view = self.view(host);
-        match host.call_function(alloc, *number, args, &view) {
-            Some(called) => Ok(called),
-            None => Err(Error::from(ErrorKind::InvalidOperation)),
-        }
-    }
-
-    /// What an answer comes to: what it keeps is kept, and then its further call is made, and so on, each one
-    /// deeper. InvalidOperation for one beyond the limit, and what a call answers as its fault.
-    pub(crate) fn follow<H: Host>(
-        &mut self,
-        alloc: Global,
-        host: &H,
-        answer: CallableAnswer,
-    ) -> Result<Value, Error>
-        ensures called { Comes result (replied (by_depths (H.meaning host.now) self.old) answer.reply
-            (record self.old { temps = put_each answer.temps self.old.temps })) self.new }
-        ensures rest { self.new ≡ record self.old { temps = self.new.temps } }
-    {
-        let mut left = self.depths_left(host);
-        let mut answer = answer;
-        loop {
-            let CallableAnswer { temps, result } = answer;
-            self.keep(temps)?;
-            let call = match result {
-                Reply::Value(value) => return Ok(value),
-                Reply::Fault(error) => return Err(error),
-                Reply::Further(call) => call,
-            };
-            if left == 0 {
-                return Err(Error::from(ErrorKind::InvalidOperation));
-            }
-            left -= 1;
-            answer = self.further_answer(alloc, host, &call)?;
-        }
-    }
-
-    /// What is answered to a further call.
-    fn further_answer<H: Host>(
-        &self,
-        alloc: Global,
-        host: &H,
-        call: &Call,
-    ) -> Result<CallableAnswer, Error>
-        ensures { (make : _) → Answers make result
-            (further_call make (H.meaning host.now) call.now self.now) self.now }
-    {
-        match call {
-            Call::Filter(name, args) => {
-                self.filter_answer(alloc, host, name.as_str(), NO_PLACE, args.as_slice())
-            }
-        }
+        let answer = self.value_answer(alloc, host, value, args)?;
+        self.follow(alloc, host, answer, false)
     }
 }
 

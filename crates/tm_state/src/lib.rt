@@ -5,10 +5,13 @@ mod applied;
 mod calls;
 mod formatting;
 mod fuel;
+mod further;
+mod nested;
 mod records;
 mod saved;
 mod state;
 
 pub use calls::{CallResult, Recursion};
+pub use nested::NestedRun;
 pub use saved::Saved;
 pub use state::StateData;

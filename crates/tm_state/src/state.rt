@@ -5,7 +5,7 @@ ghost use Rattle.std.specs.Prelude.{nat_lt, slice_get, Ok, OnOk, OnErr, IfErr, I
 ghost use Rattle.tm_values.specs.Answer.{IsAnswer, OkOrOutOfMemory, OrStays, IsLent};
 ghost use Rattle.tm_meaning.specs.Memory.{is_want_of_memory};
 ghost use Rattle.tm_syntax.specs.Named.{find, name_cmp, put, put_each, texts_of};
-ghost use Rattle.tm_meaning.specs.Calls.{depths_left};
+ghost use Rattle.tm_meaning.specs.Calls.{deeper, depths_left};
 ghost use Rattle.tm_meaning.specs.World.{depth, with_escape, innermost, loop_depth, top_loop, top_mark, next_turn};
 ghost use Rattle.tm_meaning.specs.World.{cleared, pop, store, set_member, make_namespace, emitted, records_of};
 ghost use Rattle.tm_meaning.specs.World.{HostValue, find_name, view_of, name_of, Good, Bad, block_of};
@@ -274,6 +274,50 @@ impl<'env> StateData<'env> {
         ensures { result ≡ depths_left (H.meaning host.now) self.now }
     {
         host.recursion_limit().saturating_sub(self.context.depth())
+    }
+
+    /// Lets the scopes stand so many levels deeper, within the limit, and gives the depth at which the outermost one stood.
+    pub(crate) fn go_deeper<H: Host>(&mut self, host: &H, levels: usize) -> usize
+        requires { depth self.old.scopes + levels ≤ (H.meaning host.now).limit }
+        ensures outer { result ≡ self.old.scopes.outer }
+        ensures deeper { self.new ≡ deeper levels self.old }
+    {
+        // The limit bounds the sum.
+        let _limit = host.recursion_limit();
+        let outer = self.context.outer();
+        self.context.set_outer(levels + outer);
+        outer
+    }
+
+    /// Lets the outermost scope stand at a depth.
+    pub(crate) fn stand_at(&mut self, outer: usize)
+        ensures { self.new ≡ record self.old { scopes = record self.old.scopes { outer = outer } } }
+    {
+        self.context.set_outer(outer);
+    }
+
+    /// Takes the state out, and leaves one of no template and without scopes in its place.
+    pub fn take(&mut self, alloc: Global) -> StateData<'env>
+        ensures { result ≡ self.old }
+    {
+        let blocks = self.blocks;
+        mem::replace(
+            self,
+            StateData {
+                id: 0,
+                context: Context::new(alloc),
+                namespaces: Vec::new(alloc),
+                loops: Vec::new(alloc),
+                temps: NameMap::new(alloc),
+                template: TemplateId::Own,
+                blocks,
+                block: None,
+                escape: AutoEscape::None,
+                stream: StreamId::root(TemplateId::Own),
+                fuel: FuelTracker::new(0),
+                fuel_is_set: false,
+            },
+        )
     }
 
     /// The stream that runs.

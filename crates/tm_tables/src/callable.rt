@@ -65,11 +65,40 @@ impl CallableAnswer {
         ensures { IsStated result (just (asks_for (further.Filter name.now args.items))) }
     {
         match Name::new(alloc, name) {
-            Ok(name) => CallableAnswer {
-                temps: Vec::new(alloc),
-                result: Reply::Further(Call::Filter(name, Items::from_vec(args))),
-            },
+            Ok(name) => CallableAnswer::further(alloc, Call::Filter(name, Items::from_vec(args))),
             Err(error) => CallableAnswer::fault(alloc, Error::from(error)),
+        }
+    }
+
+    /// A further call of what a name stands for, a macro or a function, with these values, as `further_filter` is
+    /// one of a filter. Its value is the text of what that gives, and not safe.
+    pub fn further_macro(alloc: Global, name: &str, args: Vec<Value>) -> CallableAnswer
+        ensures { IsStated result (just (asks_for (further.Macro name.now args.items))) }
+    {
+        match Name::new(alloc, name) {
+            Ok(name) => CallableAnswer::further(alloc, Call::Macro(name, Items::from_vec(args))),
+            Err(error) => CallableAnswer::fault(alloc, Error::from(error)),
+        }
+    }
+
+    /// A further call of the block of a name, as `further_filter` is one of a filter. Its value is the block's text,
+    /// and not safe.
+    pub fn further_block(alloc: Global, name: &str) -> CallableAnswer
+        ensures { IsStated result (just (asks_for (further.Block name.now))) }
+    {
+        match Name::new(alloc, name) {
+            Ok(name) => CallableAnswer::further(alloc, Call::Block(name)),
+            Err(error) => CallableAnswer::fault(alloc, Error::from(error)),
+        }
+    }
+
+    /// A further call, and nothing to keep.
+    fn further(alloc: Global, call: Call) -> CallableAnswer
+        ensures { result ≡ just (asks_for call) }
+    {
+        CallableAnswer {
+            temps: Vec::new(alloc),
+            result: Reply::Further(call),
         }
     }
 

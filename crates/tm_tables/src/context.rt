@@ -263,6 +263,16 @@ impl Model for Context {
 }
 
 impl Context {
+    /// No scopes.
+    pub fn new(alloc: Global) -> Context
+        ensures { result ≡ record { frames = []; outer = 0 } }
+    {
+        Context {
+            frames: Vec::new(alloc),
+            outer: 0,
+        }
+    }
+
     /// One scope, whose depth isn't tested. Fails by OutOfMemory alone.
     pub fn new_with_frame(alloc: Global, frame: Frame) -> Result<Context, Error>
         ensures { OkOrOutOfMemory result (λ c. c ≡ one_scope frame) }
@@ -289,6 +299,13 @@ impl Context {
         ensures { result ≡ self.now.outer }
     {
         self.outer
+    }
+
+    /// Lets the outermost scope stand at a depth.
+    pub fn set_outer(&mut self, outer: usize)
+        ensures { self.new ≡ record self.old { outer = outer } }
+    {
+        self.outer = outer;
     }
 
     /// How deep the scopes lie, at most the greatest usize.

@@ -9,7 +9,7 @@ use Rattle.tm_meaning.specs.Machine.{Activation, Capture, Config, Next, Program,
 use Rattle.tm_meaning.specs.Machine.{on_taken, take_n, taken}
 use Rattle.tm_meaning.specs.Instructions.{on_count, take_counted}
 use Rattle.tm_parts.specs.declared.halt.Halt.{Halt}
-use Rattle.tm_vm.specs.Answers.{Opens, Quietly, Silently, TakesCounted}
+use Rattle.tm_vm.specs.Answers.{Needed, Needs, TakesCounted}
 use Rattle.tm_vm.specs.declared.flow.Flow.{Flow}
 use Rattle.tm_parts.proofs.Operands.{taken_too_many}
 
@@ -39,7 +39,7 @@ same_taken : (t : Option (List Val × List Val)) (w : World) (f g : List Val →
 same_taken None w f g same = refl
 same_taken (Some r) w f g same = same r.0 r.1
 
-abbrev calling : Program → (World → List Val → Asked) → Config → List Val → List Val → Next
+abbrev pub calling : Program → (World → List Val → Asked) → Config → List Val → List Val → Next
 calling p call c vs rest = asked p c rest (call c.world vs)
 
 -- A call of so many values, or of as many as the number on top counts, is that of the number of them, once that is taken.
@@ -53,24 +53,13 @@ module _ (p : Program) (call : World → List Val → Asked) (count : Option ℕ
       (λ vs rest. asked_over p inside run.operands rest (call inside.world vs))
       ∙ sym (takes inside.world (calling p call inside))
 
-  pub counted_opens : (old new : Config) (result : Result Flow Halt) → inside ≡ old →
-      Opens (take_n n run.operands inside.world (calling p call (record inside { run = run }))) (record inside { run = run }) new result →
-      Opens (take_counted count old.run.operands old.world (calling p call old)) old new result
-  counted_opens old new result is h =
-      subst (λ c. Opens (take_counted count c.run.operands c.world (calling p call c)) c new result) is (record {
-        did = subst (λ q. Quietly result new q) counted_call h.did;
+  pub counted_needs : (limit : ℕ) (old new : Config) (result : Result Flow Halt) → inside ≡ old →
+      Needs limit (take_n n run.operands inside.world (calling p call (record inside { run = run }))) (record inside { run = run }) new result →
+      Needs limit (take_counted count old.run.operands old.world (calling p call old)) old new result
+  counted_needs limit old new result is h =
+      subst (λ c. Needs limit (take_counted count c.run.operands c.world (calling p call c)) c new result) is (record {
+        did = subst (λ q. Needed result new q) counted_call h.did;
         kept = h.kept;
-        no_fewer = h.no_fewer;
-        same_stream = h.same_stream ∙ ap (λ (r : Activation). r.stream) same;
-      })
-
-  pub counted_silent : (old new : Config) (result : Result Flow Halt) → inside ≡ old →
-      Silently (take_n n run.operands inside.world (calling p call (record inside { run = run }))) (record inside { run = run }) new result →
-      Silently (take_counted count old.run.operands old.world (calling p call old)) old new result
-  counted_silent old new result is h =
-      subst (λ c. Silently (take_counted count c.run.operands c.world (calling p call c)) c new result) is (record {
-        did = subst (λ q. Quietly result new q) counted_call h.did;
-        kept = h.kept;
-        same_scopes = h.same_scopes;
+        deepens = h.deepens;
         same_stream = h.same_stream ∙ ap (λ (r : Activation). r.stream) same;
       })

@@ -14,8 +14,8 @@ use Rattle.tm_meaning.specs.declared.base.Base.{Base}
 use Rattle.tm_output.specs.Targets.{IsToldInPart, IsToldWhole}
 use Rattle.tm_output.specs.declared.target.TargetFailed.{TargetFailed}
 use Rattle.tm_output.specs.Counts.{AppendsBeginning}
-use Rattle.tm_state.specs.Answers.{KeepsIdAndFuel}
-use Rattle.tm_vm.specs.Answers.{SameScopes, output}
+use Rattle.tm_state.specs.Answers.{KeepsIdAndFuel, SameScopes}
+use Rattle.tm_vm.specs.Answers.{output}
 use Rattle.tm_vm.specs.AtOnce.{Attempted, paid, written_of}
 use Rattle.tm_vm.proofs.Performed.{chosen}
 

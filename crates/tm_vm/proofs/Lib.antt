@@ -5,5 +5,6 @@ pub mod Performed
 pub mod Emitted
 pub mod Weight
 pub mod Counted
+pub mod Called
 pub mod Returned
 pub mod StepsAtOnce

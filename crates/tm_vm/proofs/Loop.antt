@@ -19,11 +19,12 @@ use Rattle.tm_output.specs.Counts.{AppendsBeginning}
 use Rattle.tm_output.specs.Pieces.{appends_then, appends_nothing, appends_beginning, appends_then_beginning_longer}
 use Rattle.tm_parts.specs.declared.halt.Halt.{Halt}
 use Rattle.tm_parts.specs.declared.halt.Halt.TheVariants as halt
-use Rattle.tm_vm.specs.declared.flow.NestedRun.{NestedRun}
+use Rattle.tm_state.specs.declared.nested.NestedRun.{NestedRun}
 use Rattle.tm_vm.specs.declared.flow.Flow.{Flow}
 use Rattle.tm_vm.specs.declared.flow.Flow.TheVariants as flow
-use Rattle.tm_vm.specs.Answers.{call_of, Did, Enters, OneDeeper, HaltsAs, ReachesEnd, SameScopes, KeepsBaseScopes, output}
-use Rattle.tm_state.specs.Answers.{KeepsIdAndFuel}
+use Rattle.tm_vm.specs.Answers.{Did, Enters, HaltsAs, ReachesEnd, KeepsBaseScopes, output}
+use Rattle.tm_state.specs.Answers.{KeepsIdAndFuel, OneDeeper, SameScopes, call_of}
+use Rattle.tm_state.specs.declared.saved.Saved.{Saved}
 use Rattle.tm_vm.specs.Nested.{Went, EndsIn, WroteBeginning, IsBack, IsWrapped, behind, start_in, base_in}
 use Rattle.tm_state.specs.State.{saved_of, put_back}
 use Rattle.tm_vm.proofs.Shift.{behind as after_text, alone, behind_text}
@@ -212,8 +213,10 @@ pub at_base : (p : Program) (old new : Config) (told now : Option (List ℕ)) (r
 at_base p old new told now r f g e did = subst (λ x. Did r told now new (step p x old)) e did
 
 -- behind a nested run there are as many scopes as before it, and they stand where they stood
-pub scopes_behind : (limit : ℕ) (e : NestedRun) (old mid new : World) → OneDeeper limit e old mid → IsBack e.saved new → SameScopes old new
-scopes_behind limit e old mid new deep back = (back.0 ∙ deep.2, back.1 ∙ deep.3)
+pub scopes_behind : (limit : ℕ) (e : NestedRun) (old mid new : World) → OneDeeper limit e.saved old mid → IsBack e.saved new →
+    SameScopes old new
+scopes_behind limit e old mid new deep back =
+    (back.0 ∙ ap (λ (s : Saved). s.scopes) deep.0, back.1 ∙ ap (λ (s : Saved). s.outer) deep.0)
 
 -- behind a step of a run whose base stood over so many scopes
 pub above_base : (heard : Bool) (ks : List Capture) (first : World) (f : Base) (old new : World) → f ≡ base_of heard ks first →
@@ -229,9 +232,9 @@ pub unboxed : {n : Next} (b : Box NestedRun) (e : NestedRun) (c : Config) (told 
     Did (Ok (flow.Enter b)) told now c n → Enters e c n × (now ≡ told)
 unboxed {n = n} b e c told now same did = (subst (λ x. Enters x c n) (sym same) did.0, did.1)
 
-pub deeper : (limit : ℕ) (b : Box NestedRun) (e : NestedRun) (old new : World) → e ≡ b.value → OneDeeper limit b.value old new →
-    OneDeeper limit e old new
-deeper limit b e old new same h = subst (λ x. OneDeeper limit x old new) (sym same) h
+pub deeper : (limit : ℕ) (b : Box NestedRun) (e : NestedRun) (old new : World) → e ≡ b.value → OneDeeper limit b.value.saved old new →
+    OneDeeper limit e.saved old new
+deeper limit b e old new same h = subst (λ (x : NestedRun). OneDeeper limit x.saved old new) (sym same) h
 
 -- ---------------------------------------------------------------- wraps
 want_wrapped : (wrap : Option Wrapping) (chain : List ErrorKind) → is_want_of_memory (wrapped wrap chain) ≡ is_want_of_memory chain

@@ -14,7 +14,7 @@ use Rattle.std.proofs.Common.{◌-◌, nat_lt}
 use Rattle.std.proofs.lemmas.Bool.Decides.{nat_tests}
 use Rattle.tm_meaning.specs.Steps.{act, charge_of, effect, pay, step}
 use Rattle.tm_syntax.specs.declared.instruction.Instruction.{Instruction}
-use Rattle.tm_state.specs.Answers.{KeepsIdAndFuel}
+use Rattle.tm_state.specs.Answers.{KeepsIdAndFuel, OneDeeper, SameScopes}
 use Rattle.tm_vm.proofs.Loop.{kept_then}
 use Rattle.tm_meaning.specs.declared.base.Base.{Base}
 use Rattle.tm_output.specs.Pieces.{appends_nothing, beginning_nothing}
@@ -22,12 +22,12 @@ use Rattle.tm_parts.specs.declared.halt.Halt.{Halt}
 use Rattle.tm_parts.specs.declared.halt.Halt.TheVariants as halt
 use Rattle.tm_meaning.specs.World.{World, Good, block_of, choose}
 use Rattle.tm_state.specs.State.{runs_block, saved_of}
-use Rattle.tm_vm.specs.Answers.{Depths, Did, Enters, entered, OneDeeper, Performs, Writes, Silently, Opens, Shifts, Needs, SameScopes}
+use Rattle.tm_vm.specs.Answers.{Depths, Did, Enters, entered, Performs, Writes, Silently, Opens, Shifts, Needs}
 use Rattle.tm_vm.specs.Answers.{NoFewer, KeepsBaseScopes, output}
 use Rattle.tm_vm.specs.AtOnce.{Attempted, IsAtOnce, IsPaid, attempt_of, paid}
 use Rattle.tm_vm.specs.declared.at_once.Attempt.{Attempt}
 use Rattle.tm_vm.specs.declared.at_once.Attempt.TheVariants.{Done, Left, WriterFailed}
-use Rattle.tm_vm.specs.declared.flow.NestedRun.{NestedRun}
+use Rattle.tm_state.specs.declared.nested.NestedRun.{NestedRun}
 use Rattle.tm_vm.specs.declared.flow.Flow.{Flow}
 use Rattle.tm_vm.specs.declared.flow.Flow.TheVariants as flow
 
@@ -159,7 +159,7 @@ needed {f = f} {old = old} {new = new} {told = told} (Ok flow.GoOn) s =
       did = nothing_written told s.did;
       counted = refl;
       kept = s.kept;
-      depths = stays f old.world new.world s.deepens;
+      depths = stays_over f old.world new.world s.deepens;
       same_stream = s.same_stream;
     }
 needed (Ok flow.Done) s = absurd s.did
@@ -171,7 +171,7 @@ needed {f = f} {n = n} {old = old} {new = new} {told = told} (Err halt.Stuck) s 
       did = (s.did, beginning_nothing told (output n));
       counted = refl;
       kept = s.kept;
-      depths = stays f old.world new.world s.deepens;
+      depths = stays_over f old.world new.world s.deepens;
       same_stream = s.same_stream;
     }
 needed {f = f} {n = n} {old = old} {new = new} {told = told} (Err (halt.Fault chain)) s =
@@ -179,18 +179,18 @@ needed {f = f} {n = n} {old = old} {new = new} {told = told} (Err (halt.Fault ch
       did = (s.did, beginning_nothing told (output n));
       counted = refl;
       kept = s.kept;
-      depths = stays_over f old.world new.world s.deepens.0;
+      depths = stays_over f old.world new.world s.deepens;
       same_stream = s.same_stream;
     }
 
 -- one that needs a run, which is boxed
 pub boxed : {limit : ℕ} {n : Next} {old new : Config} (e : NestedRun) (b : Box NestedRun) → b.value ≡ e → Enters e new n →
-    KeepsIdAndFuel old.world new.world → OneDeeper limit e old.world new.world
+    KeepsIdAndFuel old.world new.world → OneDeeper limit e.saved old.world new.world
     → new.run.stream ≡ old.run.stream → Needs limit n old new (Ok (flow.Enter b))
 boxed {limit = limit} {n = n} {old = old} {new = new} e b same enters kept deeper stream = record {
   did = subst (λ x. Enters x new n) (sym same) enters;
   kept = kept;
-  deepens = subst (λ x. OneDeeper limit x old.world new.world) (sym same) deeper;
+  deepens = subst (λ (x : NestedRun). OneDeeper limit x.saved old.world new.world) (sym same) deeper;
   same_stream = stream;
 }
 

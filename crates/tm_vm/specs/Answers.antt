@@ -1,15 +1,15 @@
 -- What the machine's functions answer, beside what the definitions say.
 use Rattle.std.specs.Prelude.{◌≡◌, ◌+◌, ◌<◌, ◌≤◌, ◌^◌, ◌-◌, ◌*◌, ℕ, List, [], ◌∷◌, length, Option, None, Some, Result, Ok, Err, Bool, true}
-use Rattle.std.specs.Prelude.{false}
+use Rattle.std.specs.Prelude.{false, drop}
 use Rattle.std.specs.Io.KnownBytes.{Appends}
 use Rattle.tm_meaning.specs.Memory.{is_want_of_memory}
 use Rattle.tm_syntax.specs.declared.instruction.Instruction.{Instruction}
 use Rattle.tm_meaning.specs.World.{World, HostValue, depth}
-use Rattle.tm_meaning.specs.Calls.{NestedCall, whole, of_block}
+use Rattle.tm_meaning.specs.Calls.{Asked, whole}
 use Rattle.tm_values.specs.declared.error.ErrorKind.TheVariants.{OutOfMemory}
 use Rattle.tm_meaning.specs.Machine.{Caches, take_n, stuck}
 use Rattle.tm_meaning.specs.Machine.{Return, Activation, Capture, Config, End, Finished, Failed, Stuck, Next, More, Over, Nest, Program}
-use Rattle.tm_meaning.specs.Machine.{base_of, start, recursion, place_of_loop}
+use Rattle.tm_meaning.specs.Machine.{base_of, start, recursion, place_of_loop, asked, waiting, new_capture}
 use Rattle.tm_values.specs.Val.{Val}
 use Rattle.tm_state.specs.declared.calls.Recursion.{Recursion}
 use Rattle.tm_meaning.specs.Instructions.{jump_if_true_or_pop_of, jump_if_false_or_pop_of, take_counted}
@@ -20,9 +20,10 @@ use Rattle.tm_output.specs.Counts.{AppendsBeginning}
 use Rattle.tm_parts.specs.Halts.{failures_after}
 use Rattle.tm_parts.specs.declared.halt.Halt.{Halt}
 use Rattle.tm_parts.specs.declared.halt.Halt.TheVariants as halt
-use Rattle.tm_state.specs.Answers.{KeepsIdAndFuel}
-use Rattle.tm_state.specs.State.{saved_of}
-use Rattle.tm_vm.specs.declared.flow.NestedRun.{NestedRun}
+use Rattle.tm_state.specs.Answers.{KeepsIdAndFuel, SameScopes, OneDeeper, Becomes, Leaves, call_of}
+use Rattle.tm_state.specs.State.{saved_of, put_back}
+use Rattle.tm_state.specs.declared.calls.CallResult.{CallResult}
+use Rattle.tm_state.specs.declared.nested.NestedRun.{NestedRun}
 use Rattle.tm_vm.specs.declared.flow.Flow.{Flow}
 use Rattle.tm_vm.specs.declared.flow.Flow.TheVariants as flow
 
@@ -53,10 +54,6 @@ output (More t c) = t
 output (Over e) = []
 output (Nest f c back) = []
 
--- the call of a run, where the world before it was b
-abbrev pub call_of : NestedRun → World → NestedCall
-call_of e b = record { callee = whole e.stream; undo = of_block b; wrap = e.wrap; text = e.text }
-
 -- the run that is needed first, where the world before it was b, and the configuration is c
 abbrev pub entered : NestedRun → World → Config → Next
 entered e b c =
@@ -74,10 +71,6 @@ Did (Ok flow.Done) told now c n = (n ≡ Over (Finished c.captures c.world)) × 
 Did (Ok (flow.Enter e)) told now c n = Enters e.value c n × (now ≡ told)
 Did (Err why) told now c n = HaltsAs why c.world (λ e. n ≡ Over e) × AppendsBeginning told now (output n)
 
--- There are as many scopes, and they stand where they stood.
-abbrev pub SameScopes : World → World → Type 0
-SameScopes old new = (length new.scopes.frames ≡ length old.scopes.frames) × (new.scopes.outer ≡ old.scopes.outer)
-
 -- No scope is left, and they stand where they stood.
 abbrev pub NoFewer : World → World → Type 0
 NoFewer old new = (length old.scopes.frames ≤ length new.scopes.frames) × (new.scopes.outer ≡ old.scopes.outer)
@@ -87,18 +80,12 @@ abbrev pub KeepsBaseScopes : Base → World → World → Type 0
 KeepsBaseScopes f old new = (f.scopes ≤ length old.scopes.frames → f.scopes ≤ length new.scopes.frames)
     × (new.scopes.outer ≡ old.scopes.outer)
 
--- There is a scope more, within the limit, for a run that is needed first. What it saves says how many there were, and where they stood.
-abbrev pub OneDeeper : ℕ → NestedRun → World → World → Type 0
-OneDeeper limit e old new =
-    (length new.scopes.frames ≡ length old.scopes.frames + 1) × (new.scopes.outer ≡ old.scopes.outer) ×
-    (e.saved.scopes ≡ length old.scopes.frames) × (e.saved.outer ≡ old.scopes.outer) × (depth new.scopes ≤ limit)
-
 -- How the scopes lie behind a step: none of before is left; there is one more, within the limit, where a run of its own is needed; and a
 -- run that is over has closed what it opened.
 abbrev pub Depths : ℕ → Base → Result Flow Halt → World → World → Type 0
 Depths limit f (Ok flow.GoOn) old new = KeepsBaseScopes f old new
 Depths limit f (Ok flow.Done) old new = KeepsBaseScopes f old new × (f.scopes ≡ length new.scopes.frames)
-Depths limit f (Ok (flow.Enter e)) old new = OneDeeper limit e.value old new
+Depths limit f (Ok (flow.Enter e)) old new = OneDeeper limit e.value.saved old new
 Depths limit f (Err why) old new = KeepsBaseScopes f old new
 
 -- An instruction, or a step, did what its definition says: by its answer, with the writer that had got `told` and has got `now`, and whose
@@ -183,19 +170,30 @@ Needed (Err halt.Writer) c n = ⊥
 Needed (Err halt.Stuck) c n = n ≡ Over (Stuck c.world)
 Needed (Err (halt.Fault chain)) c n = is_want_of_memory chain ≡ false → n ≡ Over (Failed chain c.world)
 
--- how the scopes lie behind an instruction; only where memory lacks for the run may its scope be left
+-- how the scopes lie behind an instruction: with one more for the run that it needs, and else none of them is left
 abbrev pub Deepens : ℕ → Result Flow Halt → World → World → Type 0
-Deepens limit (Ok (flow.Enter e)) old new = OneDeeper limit e.value old new
-Deepens limit (Ok _) old new = SameScopes old new
-Deepens limit (Err halt.Writer) old new = SameScopes old new
-Deepens limit (Err halt.Stuck) old new = SameScopes old new
-Deepens limit (Err (halt.Fault chain)) old new = NoFewer old new × (is_want_of_memory chain ≡ false → SameScopes old new)
+Deepens limit (Ok (flow.Enter e)) old new = OneDeeper limit e.value.saved old new
+Deepens limit _ old new = NoFewer old new
 
 pub record Needs (limit : ℕ) (n : Next) (old new : Config) (result : Result Flow Halt) : Type 0 where
   pub did : Needed result new n
   pub kept : KeepsIdAndFuel old.world new.world
   pub deepens : Deepens limit result old.world new.world
   pub same_stream : new.run.stream ≡ old.run.stream
+
+-- The run's text will be a value, in place of so many operands; or no memory was found, and what it replaced is put back.
+abbrev pub EntersAsValue : NestedRun → ℕ → Result Flow Halt → Config → Config → Type 0
+EntersAsValue run count (Ok (flow.Enter e)) old new = (e.value ≡ run) ×
+    (new ≡ record { run = waiting (drop count old.run.operands) old; captures = new_capture true ∷ old.captures; world = old.world })
+EntersAsValue run count (Err (halt.Fault chain)) old new = (is_want_of_memory chain ≡ true) ×
+    (new.world ≡ put_back run.saved old.world) × (new.run.stream ≡ old.run.stream)
+EntersAsValue run count _ old new = ⊥
+
+-- A run goes on behind a call of so many operands, which came to this and left this world, whatever was asked for in the world before.
+abbrev pub GoesOnWith : ℕ → Program → CallResult → ℕ → Config → Config → Result Flow Halt → Type 0
+GoesOnWith limit p came count old new result = (q : Asked) (before : World) → Becomes (Ok came) q old.world →
+    Leaves limit (Ok came) before old.world →
+    Needs limit (asked p (record old { world = before }) (drop count old.run.operands) q) (record old { world = before }) new result
 
 -- A run is over behind its last instruction, where it has closed what it opened, and else stuck.
 abbrev pub Finishes : Result Flow Halt → Base → Config → Next → Type 0

@@ -17,7 +17,7 @@ use Rattle.tm_parts.specs.declared.halt.Halt.TheVariants as halt
 use Rattle.tm_vm.specs.Answers.{ReachesEnd, HaltsAs}
 use Rattle.tm_state.specs.State.{put_back}
 use Rattle.tm_state.specs.declared.saved.Saved.{Saved}
-use Rattle.tm_vm.specs.declared.flow.NestedRun.{NestedRun}
+use Rattle.tm_state.specs.declared.nested.NestedRun.{NestedRun}
 
 -- what the run stands on, and where it starts, where the configuration is c
 abbrev pub base_in : NestedRun → Config → Base

@@ -359,6 +359,16 @@ impl Activation {
         self.operands.remove(count);
     }
 
+    /// The topmost so many operands, the lowest first, where there are so many.
+    #[inline(always)]
+    pub(crate) fn args(&self, count: usize) -> Option<&[Value]>
+        ensures { MatchOption result (taken count [] self.now.operands ≡ None)
+            (λ args. taken count [] self.now.operands
+            ≡ Some (args.now, drop count self.now.operands)) }
+    {
+        self.operands.args(count)
+    }
+
     /// Takes the topmost so many operands, the lowest first, where there are so many. Fails by OutOfMemory alone.
     pub(crate) fn take(&mut self, count: usize) -> Result<Option<Vec<Value>>, Error>
         ensures taken { MatchResult result

@@ -1,17 +1,18 @@
 //! The calls.
 ghost use Rattle.std.specs.Prelude.{◌≡◌, ◌∷◌, Some, drop};
-ghost use Rattle.tm_meaning.specs.Machine.{goes};
+ghost use Rattle.tm_meaning.specs.Calls.{recurs};
+ghost use Rattle.tm_meaning.specs.Machine.{asked, goes};
 ghost use Rattle.tm_meaning.specs.Instructions.{call_function_of, call_object_of, apply_of};
 ghost use Rattle.tm_meaning.specs.Instructions.{apply_filter_of, perform_test_of};
 ghost use Rattle.tm_meaning.specs.Instructions.{call_block_of, fast_recurse_of};
-ghost use Rattle.tm_vm.specs.Answers.{program, recurses, CanGoOn, Silently, Opens, Needs};
+ghost use Rattle.tm_vm.specs.Answers.{program, recurses, CanGoOn, Silently, Opens, Needs, EntersAsValue, GoesOnWith};
 
-use crate::flow::{Flow, NestedRun};
+use crate::flow::Flow;
 use crate::machine::Machine;
 use std::alloc::Global;
 use tm_meaning::{Base, RunText};
 use tm_parts::Halt;
-use tm_state::{CallResult, Recursion};
+use tm_state::{CallResult, NestedRun, Recursion};
 use tm_syntax::{Application, CaptureMode, Code, Name};
 use tm_tables::Host;
 use tm_values::{Error, ErrorKind, Value};
@@ -28,7 +29,7 @@ impl Machine<'_> {
     ) -> Result<Flow, Halt>
         requires in_place { CanGoOn self.old.run }
         requires its_code { code.now ≡ H.code host.now self.old.run.stream }
-        ensures { Opens (call_function_of
+        ensures { Needs (H.meaning host.now).limit (call_function_of
             (program (H.meaning host.now) (H.code host.now)) name.now count self.old)
             self.old self.new result }
     {
@@ -39,7 +40,6 @@ impl Machine<'_> {
     }
 
     /// The same of so many values.
-    #[tactic(auto, using(crate::proofs::Performed::still))]
     fn call_function<H: Host>(
         &mut self,
         alloc: Global,
@@ -50,21 +50,83 @@ impl Machine<'_> {
     ) -> Result<Flow, Halt>
         requires in_place { CanGoOn self.old.run }
         requires its_code { code.now ≡ H.code host.now self.old.run.stream }
-        ensures { Opens (call_function_of
+        ensures { Needs (H.meaning host.now).limit (call_function_of
             (program (H.meaning host.now) (H.code host.now)) name.now (Some count) self.old)
             self.old self.new result }
     {
-        let Some(args) = self.run.operands.args(count) else {
+        let Some(args) = self.run.args(count) else {
             return Err(Halt::Stuck);
         };
-        match self.state.call(alloc, host, name, args)? {
+        let called = self.state.call(alloc, host, name, args)?;
+        self.go_on_with(alloc, host, code, count, called)
+    }
+
+    /// Goes on behind a call of so many values: its value replaces them, or the text of the loop or of the run that
+    /// it needs will.
+    fn go_on_with<H: Host>(
+        &mut self,
+        alloc: Global,
+        host: &H,
+        code: &Code,
+        count: usize,
+        called: CallResult,
+    ) -> Result<Flow, Halt>
+        requires in_place { CanGoOn self.old.run }
+        requires its_code { code.now ≡ H.code host.now self.old.run.stream }
+        ensures { GoesOnWith (H.meaning host.now).limit
+            (program (H.meaning host.now) (H.code host.now)) called count self.old self.new
+            result }
+    {
+        match called {
             CallResult::Value(value) => self.replace(count, value),
             CallResult::Recursion(recursion) => {
-                self.run.drop_operands(count);
-                self.captures.begin(alloc, CaptureMode::Capture)?;
-                self.recurse(alloc, host, code, recursion, true)
+                self.begin_recursion(alloc, host, code, count, recursion)
             }
+            CallResult::Run(run) => self.enter_as_value(alloc, count, run),
         }
+    }
+
+    /// Begins a loop that is called, whose text is a value in place of so many operands. As `recurse`; OutOfMemory.
+    fn begin_recursion<H: Host>(
+        &mut self,
+        alloc: Global,
+        host: &H,
+        code: &Code,
+        count: usize,
+        called: Recursion,
+    ) -> Result<Flow, Halt>
+        requires in_place { CanGoOn self.old.run }
+        requires its_code { code.now ≡ H.code host.now self.old.run.stream }
+        ensures { Opens (asked (program (H.meaning host.now) (H.code host.now)) self.old
+            (drop count self.old.run.operands)
+            (recurs called.number called.items.value.items self.old.world))
+            self.old self.new result }
+    {
+        self.run.drop_operands(count);
+        self.captures.begin(alloc, CaptureMode::Capture)?;
+        self.recurse(alloc, host, code, called, true)
+    }
+
+    /// Goes on behind a run, whose text is a value in place of so many operands. OutOfMemory where there is no memory
+    /// for its capture; then what the run replaced is put back.
+    #[inline(never)]
+    fn enter_as_value(
+        &mut self,
+        alloc: Global,
+        count: usize,
+        run: Box<NestedRun>,
+    ) -> Result<Flow, Halt>
+        requires { CanGoOn self.old.run }
+        ensures { EntersAsValue run.value count result self.old self.new }
+    {
+        if let Err(error) = self.captures.begin(alloc, CaptureMode::Capture) {
+            let NestedRun { saved, .. } = Box::into_inner(run);
+            self.state.leave_block(saved);
+            return Err(Halt::Fault(error));
+        }
+        self.run.drop_operands(count);
+        self.run.advance();
+        Ok(Flow::Enter(run))
     }
 
     /// Pops a value, and calls the innermost loop with it, which writes in place.
@@ -125,18 +187,20 @@ impl Machine<'_> {
         &mut self,
         alloc: Global,
         host: &H,
+        code: &Code,
         application: Application,
         name: &Name,
         place: usize,
         count: Option<usize>,
     ) -> Result<Flow, Halt>
-        requires { CanGoOn self.old.run }
-        ensures { Silently (apply_of
+        requires in_place { CanGoOn self.old.run }
+        requires its_code { code.now ≡ H.code host.now self.old.run.stream }
+        ensures { Needs (H.meaning host.now).limit (apply_of
             (program (H.meaning host.now) (H.code host.now)) application name.now count self.old)
             self.old self.new result }
     {
         match self.run.take_count(count) {
-            Some(count) => self.apply(alloc, host, application, name, place, count),
+            Some(count) => self.apply(alloc, host, code, application, name, place, count),
             None => Err(Halt::Stuck),
         }
     }
@@ -146,23 +210,27 @@ impl Machine<'_> {
         &mut self,
         alloc: Global,
         host: &H,
+        code: &Code,
         application: Application,
         name: &Name,
         place: usize,
         count: usize,
     ) -> Result<Flow, Halt>
-        requires { CanGoOn self.old.run }
-        ensures { Silently (apply_of (program (H.meaning host.now) (H.code host.now))
+        requires in_place { CanGoOn self.old.run }
+        requires its_code { code.now ≡ H.code host.now self.old.run.stream }
+        ensures { Needs (H.meaning host.now).limit (apply_of
+            (program (H.meaning host.now) (H.code host.now))
             application name.now (Some count) self.old)
             self.old self.new result }
     {
-        let Some(values) = self.run.operands.args(count) else {
+        let Some(values) = self.run.args(count) else {
             return Err(Halt::Stuck);
         };
-        let value = self
+        let name = name.as_str();
+        let called = self
             .state
-            .apply(alloc, host, application, name.as_str(), place, values)?;
-        self.replace(count, value)
+            .apply(alloc, host, application, name, place, values)?;
+        self.go_on_with(alloc, host, code, count, called)
     }
 
     /// Replaces so many values by what the first one, a function, answers to the others.
@@ -170,31 +238,40 @@ impl Machine<'_> {
         &mut self,
         alloc: Global,
         host: &H,
+        code: &Code,
         count: Option<usize>,
     ) -> Result<Flow, Halt>
-        requires { CanGoOn self.old.run }
-        ensures { Silently (call_object_of
+        requires in_place { CanGoOn self.old.run }
+        requires its_code { code.now ≡ H.code host.now self.old.run.stream }
+        ensures { Needs (H.meaning host.now).limit (call_object_of
             (program (H.meaning host.now) (H.code host.now)) count self.old)
             self.old self.new result }
     {
         match self.run.take_count(count) {
-            Some(count) => self.call_object(alloc, host, count),
+            Some(count) => self.call_object(alloc, host, code, count),
             None => Err(Halt::Stuck),
         }
     }
 
     /// The same of so many values.
-    fn call_object<H: Host>(&mut self, alloc: Global, host: &H, count: usize) -> Result<Flow, Halt>
-        requires { CanGoOn self.old.run }
-        ensures { Silently (call_object_of
+    fn call_object<H: Host>(
+        &mut self,
+        alloc: Global,
+        host: &H,
+        code: &Code,
+        count: usize,
+    ) -> Result<Flow, Halt>
+        requires in_place { CanGoOn self.old.run }
+        requires its_code { code.now ≡ H.code host.now self.old.run.stream }
+        ensures { Needs (H.meaning host.now).limit (call_object_of
             (program (H.meaning host.now) (H.code host.now)) (Some count) self.old)
             self.old self.new result }
     {
-        let Some(values) = self.run.operands.args(count) else {
+        let Some(values) = self.run.args(count) else {
             return Err(Halt::Stuck);
         };
-        let value = self.state.call_callee(alloc, host, values)?;
-        self.replace(count, value)
+        let called = self.state.call_callee(alloc, host, values)?;
+        self.go_on_with(alloc, host, code, count, called)
     }
 
     /// Replaces so many values by what the filter of a name answers to them. Stuck where it can't be used by its
@@ -204,17 +281,19 @@ impl Machine<'_> {
         &mut self,
         alloc: Global,
         host: &H,
+        code: &Code,
         name: &Name,
         count: Option<usize>,
         cache: u8,
     ) -> Result<Flow, Halt>
-        requires { CanGoOn self.old.run }
-        ensures { Silently (apply_filter_of
+        requires in_place { CanGoOn self.old.run }
+        requires its_code { code.now ≡ H.code host.now self.old.run.stream }
+        ensures { Needs (H.meaning host.now).limit (apply_filter_of
             (program (H.meaning host.now) (H.code host.now)) name.now count cache self.old)
             self.old self.new result }
     {
         let place = self.run.use_filter(host, cache, name)?;
-        self.do_apply(alloc, host, Application::Filter, name, place, count)
+        self.do_apply(alloc, host, code, Application::Filter, name, place, count)
     }
 
     /// Replaces so many values by whether what the test of a name answers to them is true. Stuck where it can't be
@@ -224,17 +303,19 @@ impl Machine<'_> {
         &mut self,
         alloc: Global,
         host: &H,
+        code: &Code,
         name: &Name,
         count: Option<usize>,
         cache: u8,
     ) -> Result<Flow, Halt>
-        requires { CanGoOn self.old.run }
-        ensures { Silently (perform_test_of
+        requires in_place { CanGoOn self.old.run }
+        requires its_code { code.now ≡ H.code host.now self.old.run.stream }
+        ensures { Needs (H.meaning host.now).limit (perform_test_of
             (program (H.meaning host.now) (H.code host.now)) name.now count cache self.old)
             self.old self.new result }
     {
         let place = self.run.use_test(host, cache, name)?;
-        self.do_apply(alloc, host, Application::Test, name, place, count)
+        self.do_apply(alloc, host, code, Application::Test, name, place, count)
     }
 
     /// Replaces so many values by one.

@@ -2,7 +2,7 @@
 ghost use Rattle.std.specs.Prelude.{◌≡◌, IfOk, IfErr, true};
 ghost use Rattle.tm_meaning.specs.Memory.{is_want_of_memory};
 ghost use Rattle.tm_meaning.specs.Calls.{run_value};
-ghost use Rattle.tm_meaning.specs.World.{captured_text};
+ghost use Rattle.tm_meaning.specs.World.{World, captured_text};
 ghost use Rattle.tm_meaning.specs.Instructions.{begin_capture_of, end_capture_of, push_auto_escape_of, pop_auto_escape_of};
 ghost use Rattle.tm_vm.specs.Answers.{CanGoOn, Silently};
 
@@ -12,7 +12,7 @@ use std::alloc::Global;
 use tm_meaning::{Base, RunText};
 use tm_parts::{Halt, captured_value, escape_for};
 use tm_syntax::CaptureMode;
-use tm_values::{Error, Value};
+use tm_values::{AutoEscape, Error, Value};
 
 impl Machine<'_> {
     /// A captured text as a value, safe where the state escapes. Fails by OutOfMemory alone.
@@ -21,18 +21,6 @@ impl Machine<'_> {
         ensures kind { IfErr result (λ e. is_want_of_memory e ≡ true) }
     {
         captured_value(alloc, text, self.state.escape())
-    }
-
-    /// The text of a run as a value. Fails by OutOfMemory alone.
-    pub(crate) fn run_value(&self, alloc: Global, kind: RunText, text: &str) -> Result<Value, Error>
-        ensures ok { IfOk result (λ value. value ≡ run_value kind text.now self.now.world) }
-        ensures kind { IfErr result (λ e. is_want_of_memory e ≡ true) }
-    {
-        match kind {
-            RunText::Captured => self.captured(alloc, text),
-            RunText::Plain => Value::text(alloc, text),
-            RunText::Truth => Ok(Value::boolean(!text.is_empty())),
-        }
     }
 
     /// Begins a capture, which takes what is written from here on.
@@ -94,5 +82,23 @@ impl Machine<'_> {
         self.state.set_escape(escape);
         self.run.advance();
         Ok(Flow::GoOn)
+    }
+}
+
+/// The text of a run as a value, in a state that escapes so. Fails by OutOfMemory alone.
+pub fn run_value(
+    alloc: Global,
+    kind: RunText,
+    text: &str,
+    escape: AutoEscape,
+) -> Result<Value, Error>
+    ensures ok { IfOk result (λ value. (w : World) → w.escape ≡ escape →
+        value ≡ run_value kind text.now w) }
+    ensures kind { IfErr result (λ e. is_want_of_memory e ≡ true) }
+{
+    match kind {
+        RunText::Captured => captured_value(alloc, text, escape),
+        RunText::Plain => Value::text(alloc, text),
+        RunText::Truth => Ok(Value::boolean(!text.is_empty())),
     }
 }

@@ -15,5 +15,6 @@ mod output;
 mod scopes;
 mod steps;
 
-pub use flow::{Flow, NestedRun};
+pub use captures::run_value;
+pub use flow::Flow;
 pub use machine::Machine;

@@ -3,19 +3,20 @@ ghost use Rattle.std.specs.Prelude.{◌≡◌, ◌+◌, length, OnOk};
 ghost use Rattle.tm_meaning.specs.Calls.{whole};
 ghost use Rattle.tm_meaning.specs.Machine.{audible, base_of, start};
 ghost use Rattle.tm_parts.specs.Halts.{failures_after};
-ghost use Rattle.tm_vm.specs.Answers.{program, EndsAs, ReachesEnd, SameScopes, NoFewer};
-ghost use Rattle.tm_state.specs.Answers.{KeepsIdAndFuel};
+ghost use Rattle.tm_vm.specs.Answers.{program, EndsAs, ReachesEnd, NoFewer};
+ghost use Rattle.tm_state.specs.Answers.{KeepsIdAndFuel, SameScopes};
 ghost use Rattle.tm_state.specs.State.{put_back};
 ghost use Rattle.tm_vm.specs.Nested.{RanNested, WroteBeginning, IsBack, IsWrapped, IsCaptured, base_in, start_in};
 
 use crate::activation::Activation;
-use crate::flow::{Flow, NestedRun};
+use crate::captures::run_value;
+use crate::flow::Flow;
 use std::alloc::Global;
 use std::marker::Model;
 use std::mem;
 use tm_meaning::{Base, RunText, StreamId, Wrapping};
 use tm_parts::{Captures, Halt, Sink};
-use tm_state::{Saved, StateData};
+use tm_state::{NestedRun, Saved, StateData};
 use tm_syntax::Code;
 use tm_tables::Host;
 use tm_values::Error;
@@ -123,8 +124,7 @@ impl<'env> Machine<'env> {
         entry: NestedRun,
         writer: &mut W,
     ) -> Result<(), Halt>
-        requires scopes { entry.saved.scopes + 1 ≡ length self.old.world.scopes.frames }
-        requires outer { entry.saved.outer ≡ self.old.world.scopes.outer }
+        requires { entry.saved.scopes + 1 ≡ length self.old.world.scopes.frames }
         ensures ran { RanNested (program (H.meaning host.now) (H.code host.now)) entry self.old self.new
             (W.written writer.old) (W.written writer.new) result }
         ensures beginning { WroteBeginning (program (H.meaning host.now) (H.code host.now))
@@ -167,7 +167,7 @@ impl<'env> Machine<'env> {
         let Some((_mode, text)) = self.captures.end() else {
             return Err(Halt::Stuck);
         };
-        let value = self.run_value(alloc, kind, text.as_str())?;
+        let value = run_value(alloc, kind, text.as_str(), self.state.escape())?;
         self.run.push(value)?;
         Ok(())
     }

@@ -84,14 +84,22 @@ impl Machine<'_> {
                 self.do_call_function(alloc, host, code, name, *count)
             }
             Instruction::CallMethod(name, count) => {
-                self.do_apply(alloc, host, Application::Method, name, NO_PLACE, *count)
+                self.do_apply(
+                    alloc,
+                    host,
+                    code,
+                    Application::Method,
+                    name,
+                    NO_PLACE,
+                    *count,
+                )
             }
-            Instruction::CallObject(count) => self.do_call_object(alloc, host, *count),
+            Instruction::CallObject(count) => self.do_call_object(alloc, host, code, *count),
             Instruction::ApplyFilter(name, count, cache) => {
-                self.do_apply_filter(alloc, host, name, *count, *cache)
+                self.do_apply_filter(alloc, host, code, name, *count, *cache)
             }
             Instruction::PerformTest(name, count, cache) => {
-                self.do_perform_test(alloc, host, name, *count, *cache)
+                self.do_perform_test(alloc, host, code, name, *count, *cache)
             }
             Instruction::FastRecurse => self.do_fast_recurse(alloc, host, base, code),
             Instruction::CallBlock(name) => self.do_call_block(alloc, host, base, name),

@@ -1,0 +1,263 @@
+//! What an object of the caller answers, followed through the further calls that it asks for.
+ghost use Rattle.std.specs.Prelude.{◌≡◌, ◌+◌, ◌≤◌, false, IfOk, IfErr, OnErr, OnOk, length};
+ghost use Rattle.tm_values.specs.Val.{function};
+ghost use Rattle.tm_syntax.specs.Named.{find, put_each};
+ghost use Rattle.tm_meaning.specs.Memory.{is_want_of_memory};
+ghost use Rattle.tm_meaning.specs.World.{depth};
+ghost use Rattle.tm_meaning.specs.Calls.{block_call, by_depths, deeper, enter_block, from_deeper, further_call, has, refused};
+ghost use Rattle.tm_meaning.specs.Calls.{named_call, replied, runs, value_call};
+ghost use Rattle.tm_meaning.specs.declared.run_text.RunText.TheVariants as texts;
+ghost use Rattle.tm_state.specs.Answers.{Answers, Becomes, Comes, FurtherComes, FurtherLies, KeepsIdAndFuel, Leaves, NeedsPlain};
+ghost use Rattle.tm_state.specs.Answers.{OneDeeper, is_macro, shown, tested, text_for};
+ghost use Rattle.tm_state.specs.State.{saved_of};
+
+use crate::calls::CallResult;
+use crate::nested::NestedRun;
+use crate::saved::Saved;
+use crate::state::StateData;
+use std::alloc::Global;
+use tm_meaning::{Call, Reply, RunText, StreamId};
+use tm_operations::is_true;
+use tm_printing::to_text;
+use tm_syntax::Name;
+use tm_tables::{CallableAnswer, Called, Host, NO_PLACE};
+use tm_values::{Error, ErrorKind, Node, Value};
+
+/// What a further call came to.
+#[derive(Drop)]
+pub(crate) enum Further {
+    /// What was answered to it.
+    Answered(CallableAnswer),
+    /// A run that it needs.
+    Run(Box<NestedRun>),
+}
+
+impl StateData<'_> {
+    /// What an answer comes to: what it keeps is kept, and then its further call is made, and so on, each one
+    /// deeper; of a test its truth. InvalidOperation for one beyond the limit, and what a call answers as its fault.
+    pub(crate) fn follow<H: Host>(
+        &mut self,
+        alloc: Global,
+        host: &H,
+        answer: CallableAnswer,
+        test: bool,
+    ) -> Result<CallResult, Error>
+        ensures called { Becomes result (tested test
+            (replied (by_depths (H.meaning host.now) self.old) answer.reply
+            (record self.old { temps = put_each answer.temps self.old.temps }))) self.new }
+        ensures leaves { Leaves (H.meaning host.now).limit result self.old self.new }
+    {
+        let left = self.depths_left(host);
+        let mut made = 0;
+        let mut printed = false;
+        let mut answer = answer;
+        loop {
+            let CallableAnswer { temps, result } = answer;
+            self.keep(temps)?;
+            let call = match result {
+                Reply::Value(value) => {
+                    let value = self.answered_value(alloc, value, printed, test)?;
+                    return Ok(CallResult::Value(value));
+                }
+                Reply::Fault(error) => return Err(error),
+                Reply::Further(call) => call,
+            };
+            if made == left {
+                return Err(Error::from(ErrorKind::InvalidOperation));
+            }
+            made += 1;
+            printed = printed | is_macro(&call);
+            answer = match self.further(alloc, host, call, made, test)? {
+                Further::Answered(answer) => answer,
+                Further::Run(run) => return Ok(CallResult::Run(run)),
+            };
+        }
+    }
+
+    /// A value that was answered: its text where a macro was called on the way, and its truth where a test was.
+    fn answered_value(
+        &self,
+        alloc: Global,
+        value: Value,
+        printed: bool,
+        test: bool,
+    ) -> Result<Value, Error>
+        ensures { Comes result (tested test (shown printed (has value self.now))) self.now }
+    {
+        let shown = if printed {
+            let text = to_text(alloc, &value, self)?;
+            Value::text(alloc, text.as_str())?
+        } else {
+            value
+        };
+        if test {
+            return Ok(Value::boolean(is_true(&shown)));
+        }
+        Ok(shown)
+    }
+
+    /// What a further call comes to, which is so many levels deeper than the scopes stand.
+    fn further<H: Host>(
+        &mut self,
+        alloc: Global,
+        host: &H,
+        call: Call,
+        levels: usize,
+        test: bool,
+    ) -> Result<Further, Error>
+        requires { depth self.old.scopes + levels ≤ (H.meaning host.now).limit }
+        ensures comes { (make : _) → FurtherComes make test call result
+            (further_call make levels (H.meaning host.now) call self.old) self.new }
+        ensures lies { FurtherLies (H.meaning host.now).limit result self.old self.new }
+    {
+        match call {
+            Call::Filter(name, args) => {
+                let name = name.as_str();
+                let answer = self.filter_answer(alloc, host, name, NO_PLACE, args.as_slice())?;
+                Ok(Further::Answered(answer))
+            }
+            Call::Macro(name, args) => {
+                let answer = self.macro_answer(alloc, host, &name, args.as_slice())?;
+                Ok(Further::Answered(answer))
+            }
+            Call::Block(name) => {
+                let run = self.further_block(alloc, host, &name, levels, test)?;
+                Ok(Further::Run(run))
+            }
+        }
+    }
+
+    /// What the value of a name answers to these arguments. UnknownFunction where the name isn't found, and as
+    /// `value_answer`.
+    fn macro_answer<H: Host>(
+        &mut self,
+        alloc: Global,
+        host: &H,
+        name: &Name,
+        args: &[Value],
+    ) -> Result<CallableAnswer, Error>
+        ensures answers { (make : _) → Answers make result
+            (named_call make (H.meaning host.now) name.now args.now self.old) self.new }
+        ensures rest { self.new ≡ record self.old { namespaces = self.new.namespaces } }
+    {
+        let Some(found) = self.lookup(host, name)? else {
+            return Err(Error::from(ErrorKind::UnknownFunction));
+        };
+        self.value_answer(alloc, host, &found, args)
+    }
+
+    /// What a value answers to these arguments, of values functions alone can; what a function of the language gives
+    /// is its answer. InvalidOperation where it can't be called, and what such a function refuses.
+    pub(crate) fn value_answer<H: Host>(
+        &mut self,
+        alloc: Global,
+        host: &H,
+        value: &Value,
+        args: &[Value],
+    ) -> Result<CallableAnswer, Error>
+        ensures answers { (make : _) → Answers make result
+            (value_call make (H.meaning host.now) value.now args.now self.old) self.new }
+        ensures rest { self.new ≡ record self.old { namespaces = self.new.namespaces } }
+    {
+        let Node::Function(number) = &value.node else {
+            return Err(Error::from(ErrorKind::InvalidOperation));
+        };
+        let view = self.view(host);
+        match host.call_function(alloc, *number, args, &view) {
+            Some(Called::Answered(answer)) => Ok(answer),
+            Some(Called::Language(function)) => {
+                let value = self.call_language(alloc, function, args)?;
+                Ok(CallableAnswer::value(alloc, value))
+            }
+            None => Err(Error::from(ErrorKind::InvalidOperation)),
+        }
+    }
+
+    /// The run of the block of a name, so many levels deeper than the scopes stand, whose text is plain, or its truth
+    /// where a test asks for it. As `enter_block`; then the state stays as it was.
+    fn further_block<H: Host>(
+        &mut self,
+        alloc: Global,
+        host: &H,
+        name: &Name,
+        levels: usize,
+        test: bool,
+    ) -> Result<Box<NestedRun>, Error>
+        requires { depth self.old.scopes + levels ≤ (H.meaning host.now).limit }
+        ensures ok { IfOk result (λ run. NeedsPlain test run.value (from_deeper self.old
+            (enter_block (H.meaning host.now) name.now (deeper levels self.old))) self.new) }
+        ensures deeper { IfOk result (λ run.
+            OneDeeper (H.meaning host.now).limit run.value.saved self.old self.new) }
+        ensures err { IfErr result (λ e. is_want_of_memory e ≡ false → from_deeper self.old
+            (enter_block (H.meaning host.now) name.now (deeper levels self.old))
+            ≡ refused e self.old) }
+        ensures unchanged { OnErr result (self.new ≡ self.old) }
+        ensures kept { KeepsIdAndFuel self.old self.new }
+    {
+        let (stream, saved) = self.enter_deeper(alloc, host, name, levels)?;
+        let text = if test { RunText::Truth } else { RunText::Plain };
+        let run = NestedRun {
+            stream,
+            heard: true,
+            value: true,
+            text,
+            wrap: None,
+            saved,
+        };
+        match Box::new(alloc, run) {
+            Ok(run) => Ok(run),
+            Err(failed) => {
+                let NestedRun { saved, .. } = failed.value;
+                self.leave_block(saved);
+                Err(Error::from(ErrorKind::OutOfMemory))
+            }
+        }
+    }
+
+    /// Enters the block of a name, so many levels deeper than the scopes stand, and gives its stream and what is put
+    /// back behind it. As `enter_block`; then the state stays as it was.
+    fn enter_deeper<H: Host>(
+        &mut self,
+        alloc: Global,
+        host: &H,
+        name: &Name,
+        levels: usize,
+    ) -> Result<(StreamId, Saved), Error>
+        requires { depth self.old.scopes + levels ≤ (H.meaning host.now).limit }
+        ensures ok { IfOk result (λ r. (r.1 ≡ saved_of self.old) × (from_deeper self.old
+            (enter_block (H.meaning host.now) name.now (deeper levels self.old)) ≡
+            runs (record (block_call r.0 self.old) { text = texts.Plain }) self.new)) }
+        ensures deeper { OnOk result
+            ((length self.new.scopes.frames ≡ length self.old.scopes.frames + 1)
+            × (self.old.scopes.outer ≤ self.new.scopes.outer)
+            × (depth self.new.scopes ≤ (H.meaning host.now).limit)) }
+        ensures err { IfErr result (λ e. is_want_of_memory e ≡ false → from_deeper self.old
+            (enter_block (H.meaning host.now) name.now (deeper levels self.old))
+            ≡ refused e self.old) }
+        ensures unchanged { OnErr result (self.new ≡ self.old) }
+        ensures kept { KeepsIdAndFuel self.old self.new }
+    {
+        let outer = self.go_deeper(host, levels);
+        match self.enter_block(alloc, host, name) {
+            Ok((stream, mut saved)) => {
+                saved.outer = outer;
+                Ok((stream, saved))
+            }
+            Err(error) => {
+                self.stand_at(outer);
+                Err(error)
+            }
+        }
+    }
+}
+
+/// Whether a further call is one of a macro.
+fn is_macro(call: &Call) -> bool
+    ensures { result ≡ is_macro call.now }
+{
+    match call {
+        Call::Macro(_name, _args) => true,
+        Call::Filter(_name, _args) => false,
+        Call::Block(_name) => false,
+    }
+}

@@ -1,0 +1,34 @@
+//! A run that is needed before the next instruction.
+ghost use Rattle.std.specs.Prelude.{◌≡◌, [], ◌∷◌, IfOk, IfErr};
+
+use crate::saved::Saved;
+use std::alloc::Global;
+use tm_meaning::{RunText, StreamId, Wrapping};
+use tm_values::{Error, ErrorKind};
+
+/// A run that is needed before the next instruction.
+#[derive(Drop)]
+pub struct NestedRun {
+    /// What runs.
+    pub stream: StreamId,
+    /// Whether its text is heard.
+    pub heard: bool,
+    /// Whether its text is a value, which waits in the innermost capture, and not put where the run that waits is heard.
+    pub value: bool,
+    /// What its text is, where that is a value.
+    pub text: RunText,
+    /// The kind that is put before its fault, if one is.
+    pub wrap: Option<Wrapping>,
+    /// What is put back behind it.
+    pub saved: Saved,
+}
+
+impl NestedRun {
+    /// This, boxed; OutOfMemory where there is no memory for it.
+    pub fn boxed(self, alloc: Global) -> Result<Box<NestedRun>, Error>
+        ensures ok { IfOk result (λ boxed. boxed.value ≡ self) }
+        ensures kind { IfErr result (λ e. e ≡ ErrorKind.OutOfMemory ∷ []) }
+    {
+        Ok(Box::new(alloc, self)?)
+    }
+}

@@ -1,0 +1,174 @@
+-- How a run goes on behind a call.
+use Rattle.std.specs.Global.{Box}
+use Rattle.std.proofs.Common.{◌≡◌, ◌≤◌, ◌-◌, ◌+◌, ℕ, zero, suc, List, [], ◌∷◌, length, drop, Option, Some, None, Result, Ok, Err, Bool, true, false}
+use Rattle.std.proofs.Common.{refl, sym, ap, ◌∙◌, subst, arith}
+use Rattle.tm_values.specs.Val.{Val}
+use Rattle.tm_values.specs.declared.error.ErrorKind.{ErrorKind}
+use Rattle.std.proofs.lemmas.List.{length-drop}
+use Rattle.std.specs.Result.{IsErr, IsErrAnd}
+use Rattle.tm_meaning.specs.Memory.{is_want_of_memory}
+use Rattle.tm_meaning.specs.World.{World, Scope}
+use Rattle.tm_syntax.specs.declared.instruction.LoopPlace.{LoopPlace}
+use Rattle.tm_meaning.specs.Calls.{Asked, has, refused, runs, recurs, outermost, whole}
+use Rattle.tm_meaning.specs.Machine.{Capture, Config, Next, Nest, Over, Failed, Program, asked, base_of, goes, new_capture, on_taken, place_of_loop}
+use Rattle.tm_meaning.specs.Machine.{recursion, start, take_n, taken, waiting}
+use Rattle.tm_parts.specs.declared.halt.Halt.{Halt}
+use Rattle.tm_parts.specs.declared.halt.Halt.TheVariants as halt
+use Rattle.tm_state.specs.declared.calls.CallResult.{CallResult}
+use Rattle.tm_state.specs.declared.calls.CallResult.TheVariants as outcome
+use Rattle.tm_state.specs.declared.calls.Recursion.{Recursion}
+use Rattle.tm_state.specs.declared.saved.Saved.{Saved}
+use Rattle.tm_state.specs.declared.nested.NestedRun.{NestedRun}
+use Rattle.tm_state.specs.Answers.{Becomes, KeepsIdAndFuel, Leaves, NeedsRun, OneDeeper, SameScopes, StaysInPlace, call_of}
+use Rattle.tm_state.specs.State.{put_back, saved_of}
+use Rattle.tm_vm.specs.declared.flow.Flow.{Flow}
+use Rattle.tm_vm.specs.declared.flow.Flow.TheVariants as flow
+use Rattle.tm_vm.specs.Answers.{EntersAsValue, Enters, GoesOnWith, Needed, Needs, NoFewer, Opens, Quietly, Silently, entered}
+use Rattle.tm_vm.proofs.Counted.{calling}
+use Rattle.tm_vm.proofs.Loop.{kept_then}
+use Rattle.tm_vm.proofs.Performed.{still}
+
+-- ---------------------------------------------------------------- worlds that don't matter
+recursion_in : (p : Program) (c : Config) (x : World) (value : Bool) (vs : List Val) (ks : List Capture) (n : ℕ) (l : Option LoopPlace)
+    (items : List Val) (w : World) → recursion p (record c { world = x }) value vs ks n l items w ≡ recursion p c value vs ks n l items w
+recursion_in p c x value vs ks n None items w = refl
+recursion_in p c x value vs ks n (Some l) items w = refl
+
+-- ---------------------------------------------------------------- values and loops
+fewer_then : (a b c : World) → StaysInPlace a b → NoFewer b c → NoFewer a c
+fewer_then a b c stays more = (omega (arith, stays.0.0, more.0), more.1 ∙ stays.0.1)
+
+-- behind a call that left the scopes as they were
+opens_behind : (limit : ℕ) (n : Next) (old new : Config) (before : World) (result : Result Flow Halt) → KeepsIdAndFuel before old.world →
+    StaysInPlace before old.world → Opens n old new result → Needs limit n (record old { world = before }) new result
+opens_behind limit n old new before (Ok flow.GoOn) kept stays h = record {
+  did = h.did;
+  kept = kept_then kept h.kept;
+  deepens = fewer_then before old.world new.world stays h.no_fewer;
+  same_stream = h.same_stream;
+}
+opens_behind limit n old new before (Ok flow.Done) kept stays h = absurd h.did
+opens_behind limit n old new before (Ok (flow.Enter e)) kept stays h = absurd h.did
+opens_behind limit n old new before (Err halt.Writer) kept stays h = absurd h.did
+opens_behind limit n old new before (Err halt.Stuck) kept stays h = record {
+  did = h.did;
+  kept = kept_then kept h.kept;
+  deepens = fewer_then before old.world new.world stays h.no_fewer;
+  same_stream = h.same_stream;
+}
+opens_behind limit n old new before (Err (halt.Fault chain)) kept stays h = record {
+  did = h.did;
+  kept = kept_then kept h.kept;
+  deepens = fewer_then before old.world new.world stays h.no_fewer;
+  same_stream = h.same_stream;
+}
+
+pub value_goes_on : (limit : ℕ) (p : Program) (v : Val) (count : ℕ) (old new : Config) (result : Result Flow Halt) →
+    Silently (goes (v ∷ drop count old.run.operands) old.world old) old new result → GoesOnWith limit p (outcome.Value v) count old new result
+value_goes_on limit p v count old new result h q before is leaves =
+    subst (λ r. Needs limit (asked p (record old { world = before }) (drop count old.run.operands) r) (record old { world = before }) new result)
+    (sym is)
+    (opens_behind limit (goes (v ∷ drop count old.run.operands) old.world old) old new before result leaves.kept leaves.lies (still result h))
+
+pub loop_goes_on : (limit : ℕ) (p : Program) (r : Recursion) (count : ℕ) (old new : Config) (result : Result Flow Halt) →
+    Opens (asked p old (drop count old.run.operands) (recurs r.number r.items.value.items old.world)) old new result →
+    GoesOnWith limit p (outcome.Recursion r) count old new result
+loop_goes_on limit p r count old new result h q before is leaves =
+    let vs = drop count old.run.operands in
+    let items = r.items.value.items in
+    let same = recursion_in p old before true vs (new_capture true ∷ old.captures) r.number (place_of_loop p old r.number) items old.world in
+    subst (λ a. Needs limit (asked p (record old { world = before }) vs a) (record old { world = before }) new result) (sym is)
+    (subst (λ n. Needs limit n (record old { world = before }) new result) (sym same)
+    (opens_behind limit (asked p old vs (recurs r.number items old.world)) old new before result leaves.kept leaves.lies h))
+
+-- ---------------------------------------------------------------- runs
+outermost_long : (n : ℕ) (frames : List Scope) → n ≤ length frames → length (outermost n frames) ≡ n
+outermost_long n frames h = omega (arith, length-drop (length frames - n) frames, h)
+
+-- what is put back where no memory was found for the capture
+put_back_fewer : (limit : ℕ) (saved : Saved) (before w : World) → OneDeeper limit saved before w → NoFewer before (put_back saved w)
+put_back_fewer limit saved before w deep =
+    let scopes : saved.scopes ≡ length before.scopes.frames = ap (λ (s : Saved). s.scopes) deep.0 in
+    let long = outermost_long saved.scopes w.scopes.frames (omega (arith, scopes, deep.1)) in
+    (omega (arith, long, scopes), ap (λ (s : Saved). s.outer) deep.0)
+
+entered_as : (p : Program) (e : NestedRun) (vs : List Val) (old : Config) (before b : World) → e.heard ≡ true → e.value ≡ true →
+    asked p (record old { world = before }) vs (runs (call_of e b) old.world) ≡
+    entered e b (record { run = waiting vs old; captures = new_capture true ∷ old.captures; world = old.world })
+entered_as p e vs old before b heard value =
+    let ks = new_capture true ∷ old.captures in
+    ap (λ h. Nest (base_of h ks old.world) (start (whole e.stream) ks old.world)
+    (record { run = waiting vs old; call = call_of e b; value = true })) (sym heard)
+    ∙ ap (λ v. Nest (base_of e.heard ks old.world) (start (whole e.stream) ks old.world)
+    (record { run = waiting vs old; call = call_of e b; value = v })) (sym value)
+
+enters_it : (p : Program) (e : NestedRun) (vs : List Val) (old new : Config) (before : World) (q : Asked) → NeedsRun e q old.world →
+    new ≡ record { run = waiting vs old; captures = new_capture true ∷ old.captures; world = old.world } →
+    Enters e new (asked p (record old { world = before }) vs q)
+enters_it p e vs old new before q needs moved =
+    let b = needs.3.0 in (
+      b,
+      needs.3.1,
+      ap (asked p (record old { world = before }) vs) needs.3.2 ∙ entered_as p e vs old before b needs.0 needs.1
+          ∙ ap (entered e b) (sym moved),
+    )
+
+pub run_goes_on : (limit : ℕ) (p : Program) (e : Box NestedRun) (count : ℕ) (old new : Config) (result : Result Flow Halt) →
+    EntersAsValue e.value count result old new → GoesOnWith limit p (outcome.Run e) count old new result
+run_goes_on limit p e count old new (Ok flow.GoOn) h q before needs leaves = absurd h
+run_goes_on limit p e count old new (Ok flow.Done) h q before needs leaves = absurd h
+run_goes_on limit p e count old new (Ok (flow.Enter b)) h q before needs leaves =
+    let vs = drop count old.run.operands in
+    let world : new.world ≡ old.world = ap (λ (c : Config). c.world) h.1 in record {
+      did = subst (λ r. Enters r new (asked p (record old { world = before }) vs q)) (sym h.0)
+          (enters_it p e.value vs old new before q needs h.1);
+      kept = subst (λ w. KeepsIdAndFuel before w) (sym world) leaves.kept;
+      deepens = subst (λ r. OneDeeper limit r before new.world) (sym (ap (λ (r : NestedRun). r.saved) h.0))
+          (subst (λ w. OneDeeper limit e.value.saved before w) (sym world) leaves.lies);
+      same_stream = ap (λ (c : Config). c.run.stream) h.1;
+    }
+run_goes_on limit p e count old new (Err halt.Writer) h q before needs leaves = absurd h
+run_goes_on limit p e count old new (Err halt.Stuck) h q before needs leaves = absurd h
+run_goes_on limit p e count old new (Err (halt.Fault chain)) h q before needs leaves = record {
+  did = λ m. absurd (let w : true ≡ false = sym h.0 ∙ m in cc w);
+  kept = subst (λ w. KeepsIdAndFuel before w) (sym h.1) (record {
+    same_id = leaves.kept.same_id;
+    same_fuel_set = leaves.kept.same_fuel_set;
+    no_more_fuel = leaves.kept.no_more_fuel;
+  });
+  deepens = subst (λ w. NoFewer before w) (sym h.1) (put_back_fewer limit e.value.saved before old.world leaves.lies);
+  same_stream = h.2;
+}
+
+-- ---------------------------------------------------------------- calls of so many operands
+module _ (limit : ℕ) (p : Program) (call : World → List Val → Asked) (count : ℕ) (old now : Config) (is : old ≡ now) (vs : List Val)
+    (w : World) (there : taken count [] old.run.operands ≡ Some (vs, drop count old.run.operands)) where
+  abbrev Called : Config → Config → Result Flow Halt → Type 0
+  Called c new result = Needs limit (take_n count c.run.operands c.world (calling p call c)) c new result
+
+  pub went_on : (came : CallResult) (new : Config) (result : Result Flow Halt) → Becomes (Ok came) (call old.world vs) w →
+      Leaves limit (Ok came) old.world w → GoesOnWith limit p came count (record old { world = w }) new result → Called now new result
+  went_on came new result becomes leaves goes_on =
+      subst (λ c. Called c new result) is
+      (subst (λ t. Needs limit (on_taken t old.world (calling p call old)) old new result) (sym there)
+      (goes_on (call old.world vs) old.world becomes leaves))
+
+  -- or it was refused
+  refused_there : (chain : List ErrorKind) → Becomes (Err chain) (call old.world vs) w → Leaves limit (Err chain) old.world w →
+      Called old (record old { world = w }) (Err (halt.Fault chain))
+  refused_there chain becomes leaves =
+      let same = leaves.lies.0 in
+      subst (λ t. Needs limit (on_taken t old.world (calling p call old)) old (record old { world = w }) (Err (halt.Fault chain)))
+      (sym there) (record {
+        did = λ m. ap (asked p old (drop count old.run.operands)) (becomes m);
+        kept = leaves.kept;
+        deepens = (omega (arith, same.0), same.1);
+        same_stream = refl;
+      })
+
+  pub ended : (r : Result Flow Halt) (chain : List ErrorKind) → IsErr r × IsErrAnd r (λ e. e ≡ halt.Fault chain) →
+      Becomes (Err chain) (call old.world vs) w → Leaves limit (Err chain) old.world w → Called now (record old { world = w }) r
+  ended (Ok f) chain same becomes leaves = absurd (cc same.0)
+  ended (Err e) chain same becomes leaves =
+      subst (λ c. Called c (record old { world = w }) (Err e)) is
+      (subst (λ x. Called old (record old { world = w }) (Err x)) (sym same.1) (refused_there chain becomes leaves))
