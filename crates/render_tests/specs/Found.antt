@@ -67,3 +67,13 @@ capitals_twice (Some t) = further_with (codes "upper") (text (t ++ t) false)
 abbrev pub again_with : List Val → Reply
 again_with [] = gives (undefined false)
 again_with (v ∷ vs) = further_with (codes "again") v
+
+-- a further call, without arguments, of what a text names; undefined where there is none
+abbrev pub macro_named : Option (List ℕ) → Reply
+macro_named None = gives (undefined false)
+macro_named (Some t) = asks_for (further.Macro t [])
+
+-- and of the block
+abbrev pub block_named : Option (List ℕ) → Reply
+block_named None = gives (undefined false)
+block_named (Some t) = asks_for (further.Block t)

@@ -12,8 +12,9 @@ ghost use Rattle.tm_tables.specs.Stated.{IsStated, just, keeping};
 ghost use Rattle.render_tests.specs.Found.{as_safe, in_capitals, of_first, of_text, part_of, reply_of, reply_of_found};
 ghost use Rattle.render_tests.specs.declared.party.Party.TheVariants.{Second, Last, Keeper, Reader, Title, Seen, Faulty};
 ghost use Rattle.render_tests.specs.Found.{again_with, capitals_twice, first_text, found_at, further_with};
+ghost use Rattle.render_tests.specs.Found.{block_named, macro_named};
 ghost use Rattle.render_tests.specs.declared.party.Party.TheVariants.{Upper, Safe, Substr};
-ghost use Rattle.render_tests.specs.declared.party.Party.TheVariants.{Look, Kept, Capital, Twice, Again};
+ghost use Rattle.render_tests.specs.declared.party.Party.TheVariants.{Look, Kept, Capital, Twice, Again, Macro, Block};
 ghost use Rattle.tm_values.specs.Val.{none, text_in};
 ghost use Rattle.tm_values.specs.declared.undefined.UndefinedBehavior.TheVariants.{Lenient};
 ghost use Rattle.tm_definitions.specs.Slices.{sliced};
@@ -55,6 +56,10 @@ pub(crate) enum Party {
     Twice,
     /// Asks for the filter `again` with its first argument.
     Again,
+    /// Asks for what the name that its first argument is stands for.
+    Macro,
+    /// Asks for the block of the name that its first argument is.
+    Block,
 }
 
 impl Callable for Party {
@@ -76,6 +81,8 @@ impl Callable for Party {
       | Capital ↦ λ args view. just (further_with (codes "upper") (text (codes "a") false))
       | Twice ↦ λ args view. just (capitals_twice (first_text args))
       | Again ↦ λ args view. just (again_with args)
+      | Macro ↦ λ args view. just (macro_named (first_text args))
+      | Block ↦ λ args view. just (block_named (first_text args))
     ] };
 
     fn call(&self, alloc: Global, args: &[Value], view: &View<'_>) -> CallableAnswer {
@@ -109,6 +116,8 @@ impl Callable for Party {
             Party::Capital => further(alloc, "upper", Value::text(alloc, "a")),
             Party::Twice => twice(alloc, args),
             Party::Again => again(alloc, args),
+            Party::Macro => macro_named(alloc, args),
+            Party::Block => block_named(alloc, args),
         }
     }
 }
@@ -273,6 +282,26 @@ fn again(alloc: Global, args: &[Value]) -> CallableAnswer
     }
 }
 
+/// Asks for what the name that the first argument is stands for; undefined where it is no text.
+fn macro_named(alloc: Global, args: &[Value]) -> CallableAnswer
+    ensures { IsStated result (just (macro_named (first_text args.now))) }
+{
+    match first_text(args) {
+        Some(name) => CallableAnswer::further_macro(alloc, name, Vec::new(alloc)),
+        None => CallableAnswer::value(alloc, Value::undefined()),
+    }
+}
+
+/// Asks for the block of the name that the first argument is; undefined where it is no text.
+fn block_named(alloc: Global, args: &[Value]) -> CallableAnswer
+    ensures { IsStated result (just (block_named (first_text args.now))) }
+{
+    match first_text(args) {
+        Some(name) => CallableAnswer::further_block(alloc, name),
+        None => CallableAnswer::value(alloc, Value::undefined()),
+    }
+}
+
 /// The objects of the rows.
 pub(crate) type Parts = Objects<Party, Method, Style, EscapeSetting<OfT>>;
 
@@ -299,6 +328,8 @@ static FUNCTIONS: &[(&str, Party)] = &[
     ("hungry", Party::Faulty(ErrorKind::OutOfMemory)),
     ("look", Party::Look),
     ("capital", Party::Capital),
+    ("by_macro", Party::Macro),
+    ("by_block", Party::Block),
 ];
 
 static FILTERS: &[(&str, Party)] = &[
@@ -315,6 +346,7 @@ static FILTERS: &[(&str, Party)] = &[
     ("kept", Party::Kept),
     ("twice", Party::Twice),
     ("again", Party::Again),
+    ("block", Party::Block),
 ];
 
 static TESTS: &[(&str, Party)] = &[
@@ -323,6 +355,7 @@ static TESTS: &[(&str, Party)] = &[
     ("my.second", Party::Second),
     ("gone", Party::Second),
     ("missing", Party::Faulty(ErrorKind::MissingArgument)),
+    ("block", Party::Block),
 ];
 
 /// Adds the functions of the rows.

@@ -174,6 +174,21 @@ pub(crate) const FURTHER: &str = r#"What objects see, and further calls.
 - @limit 1
 - {{ capital() }} =>  => InvalidOperation
 - {{ "a"|twice }} =>  => InvalidOperation
+- @limit 500
+- {{ by_macro("capital") }} => A => 3
+- {{ by_macro("w") }} =>  => InvalidOperation
+- {{ by_macro("nope") }} =>  => UnknownFunction
+- {% with w = capital %}{{ by_macro("w") }}{% endwith %} => A => 5
+- {% block b %}x{% endblock %}{{ by_block("b") }} => xx => 6
+- {% if false %}{% block b %}<{% endblock %}{% endif %}{% autoescape "html" %}{{ "b"|block }}{% endautoescape %} => &lt; => 7
+- {% block b %}{{ w }}{% endblock %}{{ "b" is block }} => Worldtrue => 8
+- {% block b %}{% endblock %}{{ "b" is block }} => false => 4
+- a{{ by_block("c") }} => a => UnknownBlock
+- {% if false %}{% block b %}a{{ nope.x }}{% endblock %}{% endif %}z{{ by_block("b") }} => z => UndefinedError
+- @limit 3
+- {% if false %}{% block b %}x{% endblock %}{% endif %}{{ by_block("b") }} => x => 6
+- @limit 2
+- {% if false %}{% block b %}x{% endblock %}{% endif %}{{ by_block("b") }} =>  => InvalidOperation
 - @limit 500"#;
 
 /// Operators, conditions and literals.

@@ -281,7 +281,7 @@ const SETTINGS: &str =
 - {{ seen() }}{{ title() }} => 1<string> => 4
 - @names
 - {{ g }}{{ seen() }} => 77 => 4
-- @globals capital dict f failing g hungry keep look missing namespace range read second seen stuck title
+- @globals by_block by_macro capital dict f failing g hungry keep look missing namespace range read second seen stuck title
 - @global g 2
 - @undefined-names
 - {{ g }} => 2 => 2
@@ -293,10 +293,10 @@ const SETTINGS: &str =
 - {{ f(1, 2, 3) }} => 3 => 5
 - @second f
 - {{ f(1, 2, 3) }} => 2 => 5
-- @globals capital dict f failing hungry keep look missing namespace range read seen stuck title
-- {% set b = 1 %}{% set a = 1 %}{% set _b = 2 %} =>  => 6 => known _b a b capital dict f failing hungry keep look missing namespace range read seen stuck title
+- @globals by_block by_macro capital dict f failing hungry keep look missing namespace range read seen stuck title
+- {% set b = 1 %}{% set a = 1 %}{% set _b = 2 %} =>  => 6 => known _b a b by_block by_macro capital dict f failing hungry keep look missing namespace range read seen stuck title
 - @names
-- {% set b = 1 %}{% set a = 1 %}{% set _b = 2 %} =>  => 6 => known _b a b capital dict ended f failing g hungry keep look lost m missing namespace range read seen stuck t title w
+- {% set b = 1 %}{% set a = 1 %}{% set _b = 2 %} =>  => 6 => known _b a b by_block by_macro capital dict ended f failing g hungry keep look lost m missing namespace range read seen stuck t title w
 - @lost-names
 -  =>  => 0 => known InvalidOperation
 - @names

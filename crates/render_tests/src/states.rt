@@ -86,6 +86,25 @@ fn keeps_the_last(alloc: Global, template: &Page<'_, '_>) -> Result<bool, Error>
     Ok(output.is_empty() && before == Some(3) && is_able && is_kept)
 }
 
+/// Whether a state runs its template's block for a filter and for a test that ask for it, and goes on behind a fault.
+fn runs_blocks(alloc: Global, environment: &Rows<'_>) -> Result<bool, Error> {
+    let template = environment.template_from_str("{% block b %}{{ title() }}{% endblock %}")?;
+    let mut ids = StateIds::new();
+    let captured = template.render_captured_to(&mut ids, Value::undefined(), &mut NullWriter)?;
+    let (_output, mut state) = captured.into_parts();
+    let mut name = Vec::new(alloc);
+    name.push(Value::text(alloc, "c")?)?;
+    let unknown = match state.apply_filter("block", &name) {
+        Ok(_) => false,
+        Err(error) => error.kind() == ErrorKind::UnknownBlock,
+    };
+    name.clear();
+    name.push(Value::text(alloc, "b")?)?;
+    let text = state.apply_filter("block", &name)?;
+    let holds = state.perform_test("block", &name)?;
+    Ok(unknown && text.as_str() == Some("<string>") && holds && state.name() == "<string>")
+}
+
 /// Whether a template that was given no name has the usual one, and renders its source.
 fn is_unnamed(template: &Page<'_, '_>) -> Result<bool, Error> {
     let text = template.render(&mut StateIds::new(), Value::undefined())?;
@@ -102,7 +121,11 @@ fn renders_at_once(environment: &Rows<'_>) -> Result<bool, Error> {
 
 fn renders_otherwise(alloc: Global, environment: &Rows<'_>) -> Result<bool, Error> {
     let template = environment.template_from_str("x")?;
-    Ok(is_unnamed(&template)? && keeps_the_last(alloc, &template)?)
+    Ok(
+        is_unnamed(&template)?
+            && keeps_the_last(alloc, &template)?
+            && runs_blocks(alloc, environment)?,
+    )
 }
 
 fn is_well(alloc: Global, environment: &mut Rows<'_>) -> Result<bool, Error> {
@@ -110,7 +133,9 @@ fn is_well(alloc: Global, environment: &mut Rows<'_>) -> Result<bool, Error> {
     environment.add_filter("second", Party::Second)?;
     environment.add_filter("upper", Party::Upper)?;
     environment.add_filter("kept", Party::Kept)?;
+    environment.add_filter("block", Party::Block)?;
     environment.add_test("second", Party::Second)?;
+    environment.add_test("block", Party::Block)?;
     environment.set_undefined_behavior(UndefinedBehavior::Strict);
     Ok(renders_at_once(environment)? && renders_otherwise(alloc, environment)?)
 }

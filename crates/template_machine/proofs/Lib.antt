@@ -2,3 +2,4 @@ mod Answered
 mod Meant
 mod Runs
 mod Started
+mod StateCalls

@@ -1,18 +1,20 @@
 -- What renders mean, leave and answer.
-use Rattle.std.specs.Prelude.{◌≡◌, ◌⊎◌, ◌+◌, ◌-◌, ◌^◌, ℕ, List, [], ◌∷◌, true, Option, Result, Ok, Err, String, string_bytes}
+use Rattle.std.specs.Prelude.{◌≡◌, ◌⊎◌, ◌+◌, ◌-◌, ◌^◌, ℕ, List, [], ◌∷◌, Bool, true, false, Option, Result, Ok, Err, String, string_bytes}
 use Rattle.std.specs.Io.KnownBytes.{Appends}
 use Rattle.std.specs.declared.alloc.Global.{Global}
 use Rattle.tm_values.specs.Answer.{Answer}
 use Rattle.tm_meaning.specs.Memory.{is_want_of_memory}
-use Rattle.tm_values.specs.Val.{Val}
+use Rattle.tm_values.specs.Val.{Val, boolean}
 use Rattle.tm_values.specs.declared.error.ErrorKind.{ErrorKind}
 use Rattle.tm_values.specs.declared.error.ErrorKind.TheVariants.{InvalidOperation, WriteFailure}
 use Rattle.tm_syntax.specs.Named.{put}
-use Rattle.tm_meaning.specs.World.{World}
+use Rattle.tm_meaning.specs.World.{World, Res, Good, Bad}
+use Rattle.tm_meaning.specs.Calls.{Asked, has, refused, runs, recurs, Callee, whole}
+use Rattle.tm_meaning.specs.declared.stream.StreamId.{StreamId}
 use Rattle.tm_tables.specs.Stated.{StatedObjects}
 use Rattle.tm_meaning.specs.declared.stream.TemplateId.TheVariants.{Own}
 use Rattle.tm_meaning.specs.Machine.{Capture, new_capture, put_in, put_out}
-use Rattle.tm_meaning.specs.Meaning.{Ending, fault, Outcome, first_world, rendered}
+use Rattle.tm_meaning.specs.Meaning.{Ending, fault, Outcome, first_world, nests_of, rendered, value_behind}
 use Rattle.tm_output.specs.Counts.{saturating_increment, AppendsBeginning}
 use Rattle.tm_parts.specs.declared.halt.Halt.{Halt}
 use Rattle.tm_parts.specs.declared.halt.Halt.TheVariants as halt
@@ -54,6 +56,22 @@ meaning_from stated t w = rendered (host_of stated t) (trees t) w
 -- environment's fuel.
 abbrev pub meaning : {O : Type 0} → (O → StatedObjects) → TemplateValue O → ℕ → Val → Outcome
 meaning stated t id context = meaning_from stated t (first stated t id context)
+
+-- the run of a callee, heard, over no text
+abbrev pub callee_run : {O : Type 0} → (O → StatedObjects) → TemplateValue O → Callee → World → Outcome
+callee_run stated t k w = let host = host_of stated t in nests_of host (trees t) (host.limit + 1) k true [] w
+
+-- the run of a stream
+abbrev pub run_of : {O : Type 0} → (O → StatedObjects) → TemplateValue O → StreamId → World → Outcome
+run_of stated t s w = callee_run stated t (whole s) w
+
+-- What a call comes to where no template runs, as a value: the run that it needs is in a capture, and what that replaced is put back behind
+-- it, also where it ended in a fault.
+abbrev pub called_value : {O : Type 0} → (O → StatedObjects) → TemplateValue O → Asked → Res Val
+called_value stated t (has v w) = Good v w
+called_value stated t (refused chain w) = Bad chain w
+called_value stated t (runs c w) = let o = callee_run stated t c.callee w in value_behind o.ending c o
+called_value stated t (recurs n items w) = Bad (InvalidOperation ∷ []) w
 
 abbrev pub answer_by : Ending → World → Answer World
 answer_by (fault chain) w = Err chain
@@ -114,6 +132,28 @@ abbrev pub IsUnnumbered :
 IsUnnumbered stated e name source (Ok text) = ⊥
 IsUnnumbered stated e name source (Err chain) =
     IsRefused e.syntax source chain ⊎ ((t : Compiled) × IsTemplateOf stated e name source t × (chain ≡ InvalidOperation ∷ []))
+
+-- What a call of a state answered, but for want of memory: the value that was meant, or the fault, and the world behind it.
+abbrev pub IsCalled : Result Val (List ErrorKind) → Res Val → World → Type 0
+IsCalled (Ok v) meant w = meant ≡ Good v w
+IsCalled (Err chain) meant w = is_want_of_memory chain ≡ false → meant ≡ Bad chain w
+
+-- The same of a test, whose value is a truth value.
+abbrev pub IsTested : Result Bool (List ErrorKind) → Res Val → World → Type 0
+IsTested (Ok b) meant w = meant ≡ Good (boolean b) w
+IsTested (Err chain) meant w = is_want_of_memory chain ≡ false → meant ≡ Bad chain w
+
+-- What a run in a capture of its own answered, but for want of memory: the text that was meant, or the fault, and the world behind it.
+abbrev pub IsCaptured : Result (String Global) (List ErrorKind) → Outcome → World → Type 0
+IsCaptured (Ok text) m w = (string_bytes text ≡ m.text) × (answer_of m ≡ Ok w)
+IsCaptured (Err chain) m w = is_want_of_memory chain ≡ false → (m.ending ≡ fault chain) × (m.world ≡ w)
+
+-- The same of a run over one capture.
+abbrev pub RanApart : Result (List Capture) Halt → Outcome → World → Type 0
+RanApart (Ok new) m w = (answer_of m ≡ Ok w) × (new ≡ record { heard = true; text = m.text } ∷ [])
+RanApart (Err halt.Writer) m w = ⊥
+RanApart (Err halt.Stuck) m w = ⊥
+RanApart (Err (halt.Fault chain)) m w = is_want_of_memory chain ≡ false → (m.ending ≡ fault chain) × (m.world ≡ w)
 
 -- ---------------------------------------------------------------- runs
 -- No capture is open, or one without text.

@@ -1,24 +1,29 @@
 //! States, and what a render leaves.
 ghost use Rattle.std.specs.Fn.{FnOnceReturnsAtMut};
 ghost use Rattle.std.specs.List.Sorted.{IsStrictlySortedBy};
-ghost use Rattle.std.specs.Prelude.{◌≡◌, ◌+◌, [], ◌∷◌, Some, IfErr, IfOk, IfSome, OnErr, OnOk, string_bytes};
+ghost use Rattle.std.specs.Prelude.{◌≡◌, ◌+◌, ◌≤◌, [], ◌∷◌, Some, IfErr, IfOk, IfSome, Ok, OnErr, OnOk, length, string_bytes, true};
 ghost use Rattle.tm_syntax.specs.Named.{find, name_cmp, texts_of};
 ghost use Rattle.tm_values.specs.Answer.{IsAnswer, IsLent, OkOrOutOfMemory};
 ghost use Rattle.tm_meaning.specs.World.{emitted, find_name, fuel_levels, name_of, records_of, view_of};
 ghost use Rattle.tm_tables.specs.Known.{AreFound, NamingFails};
 ghost use Rattle.tm_meaning.specs.Calls.{apply_filter, perform_test};
-ghost use Rattle.tm_state.specs.Answers.{Comes, IsEmitted, Tests};
+ghost use Rattle.tm_state.specs.Answers.{Becomes, CallLies, IsEmitted, KeepsIdAndFuel, NeedsRun, OneDeeper, StaysInPlace};
 ghost use Rattle.tm_state.specs.State.{exported};
 ghost use Rattle.template_machine.specs.Environment.{host_of};
-ghost use Rattle.template_machine.specs.Renders.{with_temp, with_world};
+ghost use Rattle.template_machine.specs.Renders.{called_value, run_of, with_temp, with_world, IsCalled, IsCaptured, IsTested, RanApart};
+ghost use Rattle.tm_meaning.specs.Machine.{new_capture};
 
 use crate::environment::BoxedObjects;
 use crate::rendering::Rendering;
 use std::marker::Model;
-use tm_state::StateData;
-use tm_syntax::Name;
+use tm_meaning::StreamId;
+use tm_operations::is_true;
+use tm_parts::{Captures, Halt, NullWriter};
+use tm_state::{CallResult, NestedRun, StateData};
+use tm_syntax::{CaptureMode, Name};
 use tm_tables::{Host, NO_PLACE, Parties};
 use tm_values::{AutoEscape, Error, ErrorKind, Value};
+use tm_vm::{Machine, run_value};
 
 /// The state of a render. A contract sees the template that was rendered, and a world of the definitions.
 pub struct StateOf<'env, O: Drop> {
@@ -123,32 +128,124 @@ impl<'env, O: Parties> StateOf<'env, O> {
 
     /// What the filter of a name gives for these values, the first of which is the one that is filtered; what it
     /// keeps is kept, also where it answers a fault. The name is looked up as it is: UnknownFilter where there is
-    /// none, and the filter's fault.
+    /// none, InvalidOperation for a further call beyond the limit, and the fault of what is called; OutOfMemory.
+    /// However it ends, the state stands where it stood.
     pub fn apply_filter(&mut self, name: &str, args: &[Value]) -> Result<Value, Error>
-        ensures called { Comes result
-            (apply_filter (host_of O.stated self.old.template) name.now args.now self.old.world)
-            self.new.world }
-        ensures rest { self.new ≡ with_world
-            (record self.old.world { temps = self.new.world.temps }) self.old }
+        ensures called { IsCalled result (called_value O.stated self.old.template (apply_filter
+            (host_of O.stated self.old.template) name.now args.now self.old.world)) self.new.world }
+        ensures template { self.new.template ≡ self.old.template }
+        ensures stays { StaysInPlace self.old.world self.new.world }
+        ensures kept { KeepsIdAndFuel self.old.world self.new.world }
     {
         let alloc = self.rendering.allocator();
-        self.kept
-            .apply_filter(alloc, &self.rendering, name, NO_PLACE, args)
+        let called = self
+            .kept
+            .apply_filter(alloc, &self.rendering, name, NO_PLACE, args)?;
+        self.value_of(called)
     }
 
     /// Whether what the test of a name answers to these values is true, the first of which is the one that is
     /// tested; what it keeps is kept, also where it answers a fault. The name is looked up as it is: UnknownTest
-    /// where there is none, and the test's fault.
+    /// where there is none, InvalidOperation for a further call beyond the limit, and the fault of what is called;
+    /// OutOfMemory. However it ends, the state stands where it stood.
     pub fn perform_test(&mut self, name: &str, args: &[Value]) -> Result<bool, Error>
-        ensures called { Tests result
-            (perform_test (host_of O.stated self.old.template) name.now args.now self.old.world)
-            self.new.world }
-        ensures rest { self.new ≡ with_world
-            (record self.old.world { temps = self.new.world.temps }) self.old }
+        ensures called { IsTested result (called_value O.stated self.old.template (perform_test
+            (host_of O.stated self.old.template) name.now args.now self.old.world)) self.new.world }
+        ensures template { self.new.template ≡ self.old.template }
+        ensures stays { StaysInPlace self.old.world self.new.world }
+        ensures kept { KeepsIdAndFuel self.old.world self.new.world }
     {
         let alloc = self.rendering.allocator();
-        self.kept
-            .perform_test(alloc, &self.rendering, name, NO_PLACE, args)
+        let called = self
+            .kept
+            .perform_test(alloc, &self.rendering, name, NO_PLACE, args)?;
+        let value = self.value_of(called)?;
+        Ok(is_true(&value))
+    }
+
+    /// What a call came to, as a value: the run that it needs is run, and what that replaced is put back behind it.
+    /// The run's fault; InvalidOperation for a loop, since none is open; OutOfMemory.
+    fn value_of(&mut self, called: CallResult) -> Result<Value, Error>
+        ensures called { (asked : _) → Becomes (Ok called) asked self.old.world →
+            IsCalled result (called_value O.stated self.old.template asked) self.new.world }
+        ensures template { self.new.template ≡ self.old.template }
+        ensures stays { (limit : _) (before : _) → CallLies limit (Ok called) before self.old.world →
+            StaysInPlace before self.new.world }
+        ensures kept { KeepsIdAndFuel self.old.world self.new.world }
+    {
+        match called {
+            CallResult::Value(value) => Ok(value),
+            CallResult::Recursion(_recursion) => Err(Error::from(ErrorKind::InvalidOperation)),
+            CallResult::Run(run) => self.value_of_run(Box::into_inner(run)),
+        }
+    }
+
+    /// The text of a run as a value; what it replaced is put back. The run's fault; OutOfMemory.
+    fn value_of_run(&mut self, run: NestedRun) -> Result<Value, Error>
+        ensures called { (asked : _) → NeedsRun run asked self.old.world →
+            IsCalled result (called_value O.stated self.old.template asked) self.new.world }
+        ensures template { self.new.template ≡ self.old.template }
+        ensures stays { (limit : _) (before : _) → OneDeeper limit run.saved before self.old.world →
+            StaysInPlace before self.new.world }
+        ensures kept { KeepsIdAndFuel self.old.world self.new.world }
+    {
+        let alloc = self.rendering.allocator();
+        let NestedRun {
+            stream,
+            text,
+            saved,
+            ..
+        } = run;
+        let result = self.run_in_capture(stream);
+        self.kept.leave_block(saved);
+        let captured = result?;
+        run_value(alloc, text, captured.as_str(), self.kept.escape())
+    }
+
+    /// Runs a stream from where the state stands, and gives its text. The run's fault; OutOfMemory.
+    fn run_in_capture(&mut self, stream: StreamId) -> Result<String, Error>
+        ensures captured { IsCaptured result
+            (run_of O.stated self.old.template stream self.old.world) self.new.world }
+        ensures template { self.new.template ≡ self.old.template }
+        ensures no_fewer { length self.old.world.scopes.frames ≤ length self.new.world.scopes.frames }
+        ensures kept { KeepsIdAndFuel self.old.world self.new.world }
+    {
+        let alloc = self.rendering.allocator();
+        let mut captures = Captures::new(alloc);
+        captures.begin(alloc, CaptureMode::Capture)?;
+        let mut captures = self.run_over(stream, captures)?;
+        match captures.end() {
+            Some((_mode, text)) => Ok(text),
+            None => unreachable!(),
+        }
+    }
+
+    /// Runs a stream over a capture, from where the state stands, and gives the captures that are left.
+    fn run_over(&mut self, stream: StreamId, captures: Captures) -> Result<Captures, Halt>
+        requires { captures ≡ new_capture true ∷ [] }
+        ensures ran { RanApart result (run_of O.stated self.old.template stream self.old.world)
+            self.new.world }
+        ensures template { self.new.template ≡ self.old.template }
+        ensures no_fewer { length self.old.world.scopes.frames ≤ length self.new.world.scopes.frames }
+        ensures kept { KeepsIdAndFuel self.old.world self.new.world }
+    {
+        let alloc = self.rendering.allocator();
+        let state = self.kept.take(alloc);
+        let mut machine = Machine::new(alloc, stream, captures, state);
+        let result = machine.run(alloc, &self.rendering, true, &mut NullWriter);
+        let (captures, state) = machine.into_parts();
+        self.put(state);
+        match result {
+            Ok(()) => Ok(captures),
+            Err(halt) => Err(halt),
+        }
+    }
+
+    /// Puts data in the place of those that are there.
+    fn put(&mut self, kept: StateData<'env>)
+        ensures { self.new ≡ with_world kept.entry self.old }
+    {
+        self.kept = kept;
     }
 
     /// What a value is emitted as. UndefinedError where it is undefined and the behaviour refuses that, else what the

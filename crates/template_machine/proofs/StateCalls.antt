@@ -1,0 +1,199 @@
+-- What calls of a state answer is what is meant.
+use Rattle.std.proofs.Common.{◌≡◌, ◌+◌, ◌≤◌, ◌-◌, ℕ, suc, List, [], ◌∷◌, Option, None, Result, Ok, Err, String, string_bytes, Bool, true, false}
+use Rattle.std.proofs.Common.{refl, sym, ap, ◌∙◌, subst, arith, length}
+use Rattle.std.specs.declared.alloc.Global.{Global}
+use Rattle.std.proofs.lemmas.List.{length-drop}
+use Rattle.tm_meaning.specs.Memory.{is_want_of_memory}
+use Rattle.tm_values.specs.Val.{Val}
+use Rattle.tm_values.specs.declared.error.ErrorKind.{ErrorKind}
+use Rattle.tm_meaning.specs.World.{World, Scope, Res, Good, Bad}
+use Rattle.tm_meaning.specs.Calls.{Asked, Callee, NestedCall, outermost, run_value, runs, undone, whole, wrapped}
+use Rattle.tm_meaning.specs.Tree.{Trees}
+use Rattle.tm_meaning.specs.Meaning.{Ending, done, leave, next, fault, Outcome, nests_of, value_behind}
+use Rattle.tm_meaning.specs.Machine.{Capture, Config, End, Finished, Failed, Stuck, Program, base_of, new_capture, start}
+use Rattle.tm_meaning.specs.Steps.{Final, final, Reaches}
+use Rattle.tm_meaning.specs.Compiled.{IsCompiled}
+use Rattle.tm_meaning.proofs.Ends.{one_end}
+use Rattle.tm_simulation.specs.Reached.{RunsTo, captures_with, end_by, final_in, text_in}
+use Rattle.tm_simulation.proofs.Simulation.{nested_comes_to_meaning}
+use Rattle.tm_meaning.specs.declared.stream.StreamId.{StreamId}
+use Rattle.tm_parts.specs.Halts.{failures_after}
+use Rattle.tm_parts.specs.declared.halt.Halt.{Halt}
+use Rattle.tm_parts.specs.declared.halt.Halt.TheVariants as halt
+use Rattle.tm_state.specs.Answers.{NeedsRun, OneDeeper, StaysInPlace, call_of}
+use Rattle.tm_state.specs.State.{put_back, saved_of}
+use Rattle.tm_state.specs.declared.saved.Saved.{Saved}
+use Rattle.tm_state.specs.declared.nested.NestedRun.{NestedRun}
+use Rattle.tm_tables.specs.Stated.{StatedObjects}
+use Rattle.tm_vm.specs.Answers.{HaltsAs, ReachesEnd, program}
+use Rattle.template_machine.specs.Environment.{TemplateValue, code, host_of, trees}
+use Rattle.template_machine.specs.Renders.{answer_by, answer_of, called_value, callee_run, run_of, IsCalled, IsCaptured, RanApart}
+
+-- the captures of a run whose text is a value, and those behind it
+abbrev one : List Capture
+one = new_capture true ∷ []
+
+abbrev taking : List ℕ → List Capture
+taking text = captures_with one text
+
+-- ---------------------------------------------------------------- ends
+done_as : (new : List Capture) (t out : List ℕ) (left x : World) →
+    final t (Finished new left) ≡ final [] (Finished (taking out) x) → (x ≡ left) × (new ≡ taking out)
+done_as new t out left x same =
+    let ends : Finished new left ≡ Finished (taking out) x = ap (λ (o : Final). o.end) same in
+    let world : x ≡ left = cc in
+    let captures : new ≡ taking out = cc in (world, captures)
+
+done_by : (e : Ending) (new : List Capture) (t out : List ℕ) (left x : World) →
+    final t (Finished new left) ≡ final [] (end_by e (taking out) x) → (answer_by e x ≡ Ok left) × (new ≡ taking out)
+done_by done new t out left x same = let d = done_as new t out left x same in (ap (λ w. Ok w) d.0, d.1)
+done_by leave new t out left x same = let d = done_as new t out left x same in (ap (λ w. Ok w) d.0, d.1)
+done_by next new t out left x same = let d = done_as new t out left x same in (ap (λ w. Ok w) d.0, d.1)
+done_by (fault chain) new t out left x same =
+    let ends : Finished new left ≡ Failed chain x = ap (λ (o : Final). o.end) same in absurd (cc)
+
+no_fault : {A : Type 0} (t out : List ℕ) (left x : World) (chain : List ErrorKind) →
+    final t (Failed chain left) ≡ final [] (Finished (taking out) x) → A
+no_fault t out left x chain same =
+    let ends : Failed chain left ≡ Finished (taking out) x = ap (λ (o : Final). o.end) same in absurd (cc)
+
+failed_by : (e : Ending) (t out : List ℕ) (left x : World) (chain : List ErrorKind) →
+    final t (Failed chain left) ≡ final [] (end_by e (taking out) x) → (e ≡ fault chain) × (x ≡ left)
+failed_by done t out left x chain same = no_fault t out left x chain same
+failed_by leave t out left x chain same = no_fault t out left x chain same
+failed_by next t out left x chain same = no_fault t out left x chain same
+failed_by (fault why) t out left x chain same =
+    let ends : Failed chain left ≡ Failed why x = ap (λ (o : Final). o.end) same in
+    let chains : why ≡ chain = cc in
+    let world : x ≡ left = cc in (ap (λ c. fault c) chains, world)
+
+not_stuck : {A : Type 0} (e : Ending) (t out : List ℕ) (left x : World) → final t (Stuck left) ≡ final [] (end_by e (taking out) x) → A
+not_stuck done t out left x same = let ends : Stuck left ≡ Finished (taking out) x = ap (λ (o : Final). o.end) same in absurd (cc)
+not_stuck leave t out left x same = let ends : Stuck left ≡ Finished (taking out) x = ap (λ (o : Final). o.end) same in absurd (cc)
+not_stuck next t out left x same = let ends : Stuck left ≡ Finished (taking out) x = ap (λ (o : Final). o.end) same in absurd (cc)
+not_stuck (fault why) t out left x same = let ends : Stuck left ≡ Failed why x = ap (λ (o : Final). o.end) same in absurd (cc)
+
+-- ---------------------------------------------------------------- a run in a capture
+module _ {O : Type 0} (stated : O → StatedObjects) (t : TemplateValue O) (k : Callee) (w left : World) (told now : Option (List ℕ)) where
+  abbrev p : Program
+  p = program (host_of stated t) (code t)
+
+  abbrev o : Outcome
+  o = callee_run stated t k w
+
+  -- the code comes to the end that the tree means
+  reached : RunsTo p k true one [] w (final_in one [] o)
+  reached =
+      let e : suc p.host.limit ≡ p.host.limit + 1 = omega arith in
+      subst (λ n. RunsTo p k true one [] w (final_in one [] (nests_of p.host (trees t) n k true [] w))) e
+      (nested_comes_to_meaning (trees t) p p.host.limit k true one [] w (λ s. refl) (omega arith))
+
+  abbrev ComesTo : End → Type 0
+  ComesTo e = ReachesEnd p (base_of true one w) (start k one w) told now e
+
+  pub run_done : (new : List Capture) → ComesTo (Finished new left) → (answer_of o ≡ Ok left) × (new ≡ taking o.text)
+  run_done new (text, appended, reaches) = done_by o.ending new text o.text left o.world (one_end reaches reached)
+
+  run_failed : (chain : List ErrorKind) → ComesTo (Failed chain left) → (o.ending ≡ fault chain) × (o.world ≡ left)
+  run_failed chain (text, appended, reaches) = failed_by o.ending text o.text left o.world chain (one_end reaches reached)
+
+  run_stuck : {A : Type 0} → ComesTo (Stuck left) → A
+  run_stuck (text, appended, reaches) = not_stuck o.ending text o.text left o.world (one_end reaches reached)
+
+-- a run that was made of a template's rendering
+module _ {O : Type 0} (stated : O → StatedObjects) (t r : TemplateValue O) (same : r ≡ t) (s : StreamId) (w left : World)
+    (captures new : List Capture) (config : Config) (begins : config ≡ start (whole s) captures w) (fresh : captures ≡ one)
+    (told now : Option (List ℕ)) where
+  abbrev Comes : TemplateValue O → Config → End → Type 0
+  Comes v c e = ReachesEnd (program (host_of stated v) (code v)) (base_of true c.captures c.world) c told now e
+
+  of_template : (e : End) → Comes r config e → Comes t (start (whole s) one w) e
+  of_template e comes =
+      subst (λ v. Comes v (start (whole s) one w) e) same
+      (subst (λ ks. Comes r (start (whole s) ks w) e) fresh (subst (λ c. Comes r c e) begins comes))
+
+  pub over_done : (kept : List Capture) (put : World) → new ≡ kept → left ≡ put → Comes r config (Finished new left) →
+      RanApart (Ok kept) (run_of stated t s w) put
+  over_done kept put is there comes =
+      subst (λ ks. RanApart (Ok ks) (run_of stated t s w) put) is
+      (subst (λ x. RanApart (Ok new) (run_of stated t s w) x) there
+      (run_done stated t (whole s) w left told now new (of_template (Finished new left) comes)))
+
+  by_halt : (why : Halt) → 0 ≡ failures_after {A = Unit {0}} (Err why) 0 → HaltsAs why left (Comes r config) →
+      RanApart (Err why) (run_of stated t s w) left
+  by_halt halt.Writer counted ends = absurd (cc counted)
+  by_halt halt.Stuck counted ends = run_stuck stated t (whole s) w left told now (of_template (Stuck left) ends)
+  by_halt (halt.Fault chain) counted ends = λ m.
+      run_failed stated t (whole s) w left told now chain (of_template (Failed chain left) (ends m))
+
+  pub over_halted : (why : Halt) (put : World) → left ≡ put → 0 ≡ failures_after {A = Unit {0}} (Err why) 0 →
+      HaltsAs why left (Comes r config) → RanApart (Err why) (run_of stated t s w) put
+  over_halted why put there counted ends =
+      subst (λ x. RanApart (Err why) (run_of stated t s w) x) there (by_halt why counted ends)
+
+-- the capture that was left holds the text
+pub text_left : (captures rest : List Capture) (heard : Bool) (text : List ℕ) (m : Outcome) (left : World) →
+    RanApart (Ok captures) m left → captures ≡ record { heard = heard; text = text } ∷ rest → text ≡ m.text
+text_left captures rest heard text m left ran ended =
+    let same : record { heard = true; text = m.text } ∷ [] ≡ record { heard = heard; text = text } ∷ rest = sym ran.1 ∙ ended in
+    sym (ap text_of same)
+  where
+    text_of : List Capture → List ℕ
+    text_of [] = []
+    text_of (k ∷ ks) = k.text
+
+-- ---------------------------------------------------------------- what a call needed
+module _ {O : Type 0} (stated : O → StatedObjects) (t : TemplateValue O) (e : NestedRun) (w left : World) (asked : Asked)
+    (needs : NeedsRun e asked w) where
+  abbrev ran : Outcome
+  ran = run_of stated t e.stream w
+
+  meant_by : called_value stated t asked ≡ value_behind ran.ending (call_of e needs.3.0) ran
+  meant_by = ap (called_value stated t) needs.3.2
+
+  back : undone (call_of e needs.3.0).undo left ≡ put_back e.saved left
+  back = ap (λ s. put_back s left) (sym needs.3.1)
+
+  value_by : (end : Ending) (c : NestedCall) (x : Outcome) (text : List ℕ) → text ≡ x.text → answer_by end x.world ≡ Ok left →
+      value_behind end c x ≡ Good (run_value c.text text (undone c.undo left)) (undone c.undo left)
+  value_by done c x text same is =
+      let world : x.world ≡ left = cc is in rw (sym world, same) refl
+  value_by leave c x text same is =
+      let world : x.world ≡ left = cc is in rw (sym world, same) refl
+  value_by next c x text same is =
+      let world : x.world ≡ left = cc is in rw (sym world, same) refl
+  value_by (fault chain) c x text same is = absurd (cc is)
+
+  pub value_answered : (text : String Global) (v : Val) → IsCaptured (Ok text) ran left →
+      v ≡ run_value e.text (string_bytes text) (put_back e.saved left) → IsCalled (Ok v) (called_value stated t asked) (put_back e.saved left)
+  value_answered text v captured is =
+      let c : NestedCall = call_of e needs.3.0 in
+      meant_by ∙ value_by ran.ending c ran (string_bytes text) captured.0 captured.1
+      ∙ ap (λ x. Good (run_value e.text (string_bytes text) x) x) back
+      ∙ ap (λ u. Good u (put_back e.saved left)) (sym is)
+
+  pub fault_answered : (chain : List ErrorKind) → IsCaptured (Err chain) ran left →
+      IsCalled (Err chain) (called_value stated t asked) (put_back e.saved left)
+  fault_answered chain captured = λ m.
+      let c : NestedCall = call_of e needs.3.0 in
+      let is = captured m in
+      meant_by ∙ ap (λ end. value_behind end c ran) is.0 ∙ ap (λ x. Bad (wrapped_by chain) (undone c.undo x)) is.1
+      ∙ ap (λ x. Bad (wrapped_by chain) x) back ∙ ap (λ u. Bad (wrapped u chain) (put_back e.saved left)) needs.2
+    where
+      wrapped_by : List ErrorKind → List ErrorKind
+      wrapped_by ks = wrapped e.wrap ks
+
+-- ---------------------------------------------------------------- what stands behind it
+outermost_long : (n : ℕ) (frames : List Scope) → n ≤ length frames → length (outermost n frames) ≡ n
+outermost_long n frames h = omega (arith, length-drop (length frames - n) frames, h)
+
+pub stands_again : (limit : ℕ) (saved : Saved) (before w left : World) → OneDeeper limit saved before w →
+    length w.scopes.frames ≤ length left.scopes.frames → StaysInPlace before (put_back saved left)
+stands_again limit saved before w left deep more =
+    let scopes : saved.scopes ≡ length before.scopes.frames = ap (λ (s : Saved). s.scopes) deep.0 in
+    let long = outermost_long saved.scopes left.scopes.frames (omega (arith, scopes, deep.1, more)) in (
+      (omega (arith, long, scopes), ap (λ (s : Saved). s.outer) deep.0),
+      ap (λ (s : Saved). s.stream) deep.0,
+      ap (λ (s : Saved). s.block) deep.0,
+      ap (λ (s : Saved). s.escape) deep.0,
+    )
