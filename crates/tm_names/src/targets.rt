@@ -11,7 +11,11 @@ use tm_values::Error;
 impl Walker {
     /// Walks over a target: its names are assigned. OutOfMemory.
     #[cycle(targets)]
-    pub(crate) fn walk_target(&mut self, nested: bool, target: &AssignmentTarget) -> Result<(), Error>
+    pub(crate) fn walk_target(
+        &mut self,
+        nested: bool,
+        target: &AssignmentTarget,
+    ) -> Result<(), Error>
         ensures ok { OnOk result (self.new ≡ walk_target nested target.now self.old) }
         ensures err { IfErr result (λ e. e ≡ OutOfMemory ∷ []) }
     {
@@ -49,7 +53,11 @@ impl Walker {
     }
 
     /// Walks over targets with their values, one after the other; OutOfMemory.
-    pub(crate) fn walk_assignments(&mut self, nested: bool, given: &[Assignment]) -> Result<(), Error>
+    pub(crate) fn walk_assignments(
+        &mut self,
+        nested: bool,
+        given: &[Assignment],
+    ) -> Result<(), Error>
         ensures ok { OnOk result (self.new ≡ walk_assignments nested given.now self.old) }
         ensures err { IfErr result (λ e. e ≡ OutOfMemory ∷ []) }
     {
