@@ -77,12 +77,7 @@ fn names_of(
     Ok(text)
 }
 
-fn check_names(
-    rt: &impl Abort,
-    alloc: Global,
-    rows: &[&str],
-    nested: bool,
-) -> Result<(), Error> {
+fn check_names(rt: &impl Abort, alloc: Global, rows: &[&str], nested: bool) -> Result<(), Error> {
     let syntax = syntax::usual(alloc)?;
     for row in rows {
         let (source, names) = halves(row);
