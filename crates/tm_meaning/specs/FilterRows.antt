@@ -262,7 +262,7 @@ ran_alone code =
     let p : Program = record { host = host_of in_capitals; code = λ s. code } in
     let w = world_of in_capitals None in
     let f = base_of true [] w in
-    said_by (run_for 20 p f [] (step_of p f (start (whole w.stream) [] w)))
+    said_by (run_for 20 p f [] (step_of p f (start p (whole w.stream) [] w)))
 
 -- a name and its cache number
 abbrev pub upper_by : ℕ → List ℕ × ℕ

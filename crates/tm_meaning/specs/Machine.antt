@@ -7,11 +7,12 @@ use Rattle.tm_values.specs.declared.error.ErrorKind.TheVariants.{InvalidOperatio
 use Rattle.tm_values.specs.declared.escape.AutoEscape.{AutoEscape}
 use Rattle.tm_syntax.specs.declared.instruction.Instruction.{Instruction}
 pub use Rattle.tm_meaning.specs.declared.base.Base.{Base}
-use Rattle.tm_meaning.specs.World.{choose, TemplateId, StreamId, World, HostValue, Res, Good, Bad, open_loop, captured_text}
-use Rattle.tm_meaning.specs.Calls.{Callee, whole, NestedCall, Asked, has, refused, runs, recurs, undone, wrapped, run_value}
+use Rattle.tm_meaning.specs.World.{choose, or_is, TemplateId, StreamId, World, HostValue, Res, Good, Bad, open_loop, captured_text}
+use Rattle.tm_meaning.specs.Calls.{Callee, whole, macro_of, NestedCall, Asked, has, refused, runs, recurs, undone, wrapped, run_value}
 use Rattle.tm_meaning.specs.declared.run_text.RunText.{RunText}
 use Rattle.tm_syntax.specs.declared.instruction.LoopPlace.{LoopPlace}
 use Rattle.tm_syntax.specs.Loops.{loop_places}
+use Rattle.tm_syntax.specs.Entries.{entry_places}
 use Rattle.tm_meaning.specs.Meaning.{none_waits}
 
 -- A text that waits for its capture's end, and whether it takes what is written.
@@ -159,9 +160,21 @@ run_from s floor = record {
   tests = [];
 }
 
+-- where the macro of a number is entered: nowhere in code without it
+abbrev pub entry_of : ℕ → List Instruction → ℕ
+entry_of n code = or_is (slice_get (entry_places code) n) (length code + 1)
+
+-- a run of a macro from its entry, with its arguments as its first operands, the last one on top
+abbrev pub run_of_macro : List Instruction → StreamId → ℕ → List Val → ℕ → Activation
+run_of_macro code s n given floor = record (run_from s floor) { place = entry_of n code; operands = onto given [] }
+
+abbrev pub first_activation : Program → Callee → ℕ → Activation
+first_activation p (whole s) floor = run_from s floor
+first_activation p (macro_of s n given) floor = run_of_macro (p.code s) s n given floor
+
 -- a run of a callee from its first place, over captures and in a world
-abbrev pub start : Callee → List Capture → World → Config
-start (whole s) ks w = record { run = run_from s (length ks); captures = ks; world = w }
+abbrev pub start : Program → Callee → List Capture → World → Config
+start p k ks w = record { run = first_activation p k (length ks); captures = ks; world = w }
 
 abbrev pub base_of : Bool → List Capture → World → Base
 base_of heard ks w = record { captures = length ks; scopes = length w.scopes.frames; heard = heard; first = w.escape }
@@ -178,15 +191,15 @@ abbrev pub waiting : List Val → Config → Activation
 waiting vs c = record c.run { place = c.run.place + 1; operands = vs }
 
 -- a nested run whose text is heard where the call is
-abbrev pub nested_in_place : Base → List Val → Config → NestedCall → World → Next
-nested_in_place f vs c k w =
-    Nest (base_of (audible f c) c.captures w) (start k.callee c.captures w) (record { run = waiting vs c; call = k; value = false })
+abbrev pub nested_in_place : Program → Base → List Val → Config → NestedCall → World → Next
+nested_in_place p f vs c k w =
+    Nest (base_of (audible f c) c.captures w) (start p k.callee c.captures w) (record { run = waiting vs c; call = k; value = false })
 
 -- a nested run whose text waits in a capture
-abbrev pub nested_as_value : List Val → Config → NestedCall → World → Next
-nested_as_value vs c k w =
+abbrev pub nested_as_value : Program → List Val → Config → NestedCall → World → Next
+nested_as_value p vs c k w =
     let ks = new_capture true ∷ c.captures in
-    Nest (base_of true ks w) (start k.callee ks w) (record { run = waiting vs c; call = k; value = true })
+    Nest (base_of true ks w) (start p k.callee ks w) (record { run = waiting vs c; call = k; value = true })
 
 abbrev pub pushed : Val → Activation → Activation
 pushed v r = record r { operands = v ∷ r.operands }
@@ -236,12 +249,12 @@ place_of_loop p c n = slice_get (loop_places 0 (p.code c.run.stream)) n
 abbrev pub asked : Program → Config → List Val → Asked → Next
 asked p c vs (has v w) = goes (v ∷ vs) w c
 asked p c vs (refused chain w) = Over (Failed chain w)
-asked p c vs (runs k w) = nested_as_value vs c k w
+asked p c vs (runs k w) = nested_as_value p vs c k w
 asked p c vs (recurs n items w) = recursion p c true vs (new_capture true ∷ c.captures) n (place_of_loop p c n) items w
 
 -- or it is made in place
 abbrev pub asked_in_place : Program → Base → Config → List Val → Asked → Next
 asked_in_place p f c vs (has v w) = goes vs w c
 asked_in_place p f c vs (refused chain w) = Over (Failed chain w)
-asked_in_place p f c vs (runs k w) = nested_in_place f vs c k w
+asked_in_place p f c vs (runs k w) = nested_in_place p f vs c k w
 asked_in_place p f c vs (recurs n items w) = recursion p c false vs c.captures n (place_of_loop p c n) items w

@@ -111,7 +111,7 @@ abbrev pub ended : Page → Option ℕ → Option Final
 ended p fuel =
     let w = world_of p fuel in
     let f = base_of true [] w in
-    run_for 200 (program_of p) f [] (step_of (program_of p) f (start (whole w.stream) [] w))
+    run_for 200 (program_of p) f [] (step_of (program_of p) f (start (program_of p) (whole w.stream) [] w))
 
 abbrev pub ran : Page → Option ℕ → Said
 ran p fuel = said_by (ended p fuel)

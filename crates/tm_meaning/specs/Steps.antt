@@ -17,7 +17,7 @@ use Rattle.tm_meaning.specs.Instructions.{jump_if_true_or_pop_of, call_function_
 use Rattle.tm_meaning.specs.Instructions.{apply_filter_of, perform_test_of}
 use Rattle.tm_meaning.specs.Instructions.{store_local_of, unpack_list_of, set_attr_of, push_with_of, pop_frame_of, push_loop_of, iterate_of}
 use Rattle.tm_meaning.specs.Instructions.{push_did_not_iterate_of, pop_loop_frame_of, begin_capture_of, end_capture_of, push_auto_escape_of}
-use Rattle.tm_meaning.specs.Instructions.{pop_auto_escape_of}
+use Rattle.tm_meaning.specs.Instructions.{pop_auto_escape_of, is_undefined_of, enclose_of, get_closure_of, build_macro_of}
 
 -- what an instruction is charged: 0 where it is free
 abbrev pub charge_of : Instruction → ℕ
@@ -31,6 +31,8 @@ charge_of i.PopLoopFrame = 0
 charge_of (i.BeginCapture mode) = 0
 charge_of i.PushAutoEscape = 0
 charge_of i.PopAutoEscape = 0
+charge_of (i.BuildMacro _ _ _) = 0
+charge_of i.Return = 0
 charge_of (i.EmitRaw _) = 1
 charge_of i.Emit = 1
 charge_of (i.Lookup _) = 1
@@ -62,6 +64,7 @@ charge_of i.Rem = 1
 charge_of i.Pow = 1
 charge_of i.Neg = 1
 charge_of i.Not = 1
+charge_of i.IsUndefined = 1
 charge_of i.Swap = 1
 charge_of (i.Jump _) = 1
 charge_of (i.JumpIfFalse _) = 1
@@ -74,6 +77,8 @@ charge_of (i.ApplyFilter _ _ _) = 1
 charge_of (i.PerformTest _ _ _) = 1
 charge_of (i.CallBlock _) = 1
 charge_of (i.StoreLocal _) = 1
+charge_of (i.Enclose _) = 1
+charge_of i.GetClosure = 1
 charge_of (i.UnpackList _) = 1
 charge_of (i.SetAttr _) = 1
 charge_of (i.Iterate _) = 1
@@ -83,6 +88,20 @@ charge_of i.EndCapture = 1
 -- an instruction is paid for before its effect
 abbrev pub pay : Instruction → World → Res (Unit {0})
 pay x w = pays (charge_of x) w
+
+abbrev pub is_empty : {A : Type 0} → List A → Bool
+is_empty [] = true
+is_empty (x ∷ xs) = false
+
+-- all that the run opened is closed
+abbrev pub closed : Base → Config → Bool
+closed f c =
+    nat_eq f.captures (length c.captures) && nat_eq f.scopes
+    (length c.world.scopes.frames) && is_empty c.run.escapes && is_empty c.run.loops
+
+-- A run is over, with all closed that it opened.
+abbrev pub return_of : Base → Config → Next
+return_of f c = choose (closed f c) (λ _. Over (Finished c.captures c.world)) (λ _. stuck c.world)
 
 abbrev pub effect : Program → Base → Instruction → Config → Next
 effect p f (i.EmitRaw t) c = emit_raw_of f t c
@@ -116,6 +135,7 @@ effect p f i.Rem c = binary_of p.host binaries.Remainder c
 effect p f i.Pow c = binary_of p.host binaries.Power c
 effect p f i.Neg c = unary_of p.host unaries.Negate c
 effect p f i.Not c = unary_of p.host unaries.Not c
+effect p f i.IsUndefined c = is_undefined_of c
 effect p f i.Swap c = swap_of c
 effect p f i.DupTop c = dup_top_of c
 effect p f i.DiscardTop c = discard_top_of c
@@ -131,6 +151,10 @@ effect p f (i.PerformTest x n cache) c = perform_test_of p x n cache c
 effect p f i.FastRecurse c = fast_recurse_of p f c
 effect p f (i.CallBlock b) c = call_block_of p f b c
 effect p f (i.StoreLocal x) c = store_local_of x c
+effect p f (i.Enclose x) c = enclose_of p.host x c
+effect p f i.GetClosure c = get_closure_of c
+effect p f (i.BuildMacro x place caller) c = build_macro_of p x place caller c
+effect p f i.Return c = return_of f c
 effect p f (i.UnpackList n) c = unpack_list_of n c
 effect p f (i.SetAttr x) c = set_attr_of x c
 effect p f i.PushWith c = push_with_of p.host c
@@ -143,16 +167,6 @@ effect p f (i.BeginCapture mode) c = begin_capture_of mode c
 effect p f i.EndCapture c = end_capture_of c
 effect p f i.PushAutoEscape c = push_auto_escape_of f c
 effect p f i.PopAutoEscape c = pop_auto_escape_of c
-
-abbrev pub is_empty : {A : Type 0} → List A → Bool
-is_empty [] = true
-is_empty (x ∷ xs) = false
-
--- all that the run opened is closed, and the place is the stream's end
-abbrev pub closed : Base → Config → Bool
-closed f c =
-    nat_eq f.captures (length c.captures) && nat_eq f.scopes
-    (length c.world.scopes.frames) && is_empty c.run.escapes && is_empty c.run.loops
 
 -- Behind the last instruction the run is over, with all closed that it opened.
 abbrev pub finish : ℕ → Base → Config → Next
