@@ -1,6 +1,6 @@
 -- What a call comes to, up to the run that it needs: the meaning and the machine share it. Neither trees nor instructions stand here.
 use Rattle.std.specs.Prelude.{ℕ, zero, suc, ◌+◌, ◌-◌, ◌%◌, drop, List, [], ◌∷◌, length, map as each, Option, Some, None, Ok, Bool, true, false}
-use Rattle.std.specs.Prelude.{not, nat_eq, nat_lt, is_none, option_and_then, ◌&&◌, ◌||◌, slice_get, codes, if◌then◌else◌}
+use Rattle.std.specs.Prelude.{not, nat_eq, nat_lt, is_none, ◌&&◌, ◌||◌, slice_get, codes, if◌then◌else◌}
 use Rattle.std.specs.Ordering.{is_eq}
 use Rattle.tm_definitions.specs.Maps.{dict_of, namespace_of, keywords_of, plain_of}
 use Rattle.tm_definitions.specs.Ranges.{range_of}
@@ -25,14 +25,14 @@ use Rattle.tm_meaning.specs.Memory.{kind_of_wrapping}
 use Rattle.tm_meaning.specs.declared.function.GlobalFunction.TheVariants as own
 use Rattle.tm_meaning.specs.World.{TemplateId, own, entry, StreamId, block_of, Named, Bindings, find, put, put_each, same_name, Card, Layers}
 use Rattle.tm_meaning.specs.World.{choose, HostValue, Scope, Scopes, Loop, World, Object, Fallback, Function, callers, languages, Res, Good}
-use Rattle.tm_meaning.specs.World.{Bad, bind, bad, answered, macros_at, same_stream, depth, items_over, innermost, records_of, make_namespace, need, check, card_at, view_of, lookup}
+use Rattle.tm_meaning.specs.World.{Bad, bind, bad, answered, same_stream, depth, items_over, innermost, records_of, make_namespace, need, check, card_at, view_of, lookup}
 use Rattle.tm_meaning.specs.World.{context_member, place_of, plain_scope, push, captured_text}
 use Rattle.tm_meaning.specs.declared.reply.Reply.{Reply}
 use Rattle.tm_meaning.specs.declared.reply.Reply.TheVariants.{Value as gives, Fault as faults, Further as asks_for}
 use Rattle.tm_meaning.specs.declared.reply.Call.{Call}
 use Rattle.tm_meaning.specs.declared.reply.Call.TheVariants as further
 
--- What is run: a whole stream, or the macro of a number in a stream, with its arguments.
+-- What is run: a whole stream, or the macro of a number in a stream, with its arguments, of which it takes so many.
 pub data Callee : Type 0 where
   whole : StreamId → Callee
   macro_of : StreamId → ℕ → List Val → Callee
@@ -182,18 +182,10 @@ abbrev pub is_closure : Option ℕ → World → Bool
 is_closure None w = true
 is_closure (Some n) w = nat_lt n (length w.closures)
 
--- whether an entry takes so many arguments
-abbrev pub takes_so_many : Option ℕ → ℕ → Bool
-takes_so_many None n = false
-takes_so_many (Some m) n = nat_eq m n
-
-abbrev pub has_entry : MacroData → List ℕ → Bool
-has_entry m counts = takes_so_many (slice_get counts m.entry) (length m.arguments)
-
--- The stream of a macro whose stream, entry, closure and number of arguments are known in this state.
-abbrev pub known_stream : HostValue → MacroData → World → Option StreamId
-known_stream host m w =
-    option_and_then (λ s. if has_entry m (macros_at host s) && is_closure m.closure w then Some s else None) (slice_get w.streams m.stream)
+-- The stream of a macro, where that and the macro's closure are known in this state. Whether the stream has such a macro shows once that is
+-- entered.
+abbrev pub known_stream : MacroData → World → Option StreamId
+known_stream m w = choose (is_closure m.closure w) (λ _. slice_get w.streams m.stream) (λ _. None)
 
 abbrev pub macro_call : StreamId → MacroData → List Val → World → NestedCall
 macro_call s m given w =
@@ -209,7 +201,7 @@ abbrev pub enter_macro : ℕ → HostValue → MacroData → List Val → World 
 enter_macro n host m args w =
     ask (check (nat_eq m.state w.id) InvalidOperation w) (λ _ world1.
     ask (need (bound_to m args) TooManyArguments world1) (λ given world2.
-    ask (need (known_stream host m world2) InvalidOperation world2) (λ s world3.
+    ask (need (known_stream m world2) InvalidOperation world2) (λ s world3.
     let outer = n + depth world3.scopes + macro_depth in
     ask (check (nat_lt (outer + 1) host.limit) InvalidOperation world3) (λ _ world4.
     runs (macro_call s m given world4) (record world4 {

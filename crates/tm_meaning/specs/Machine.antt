@@ -1,18 +1,19 @@
 -- The machine: where it stands, what a step gives, and how runs end.
 use Rattle.std.specs.Prelude.{ℕ, zero, suc, ◌+◌, List, [], ◌∷◌, ◌++◌, length, Option, Some, None, Bool, true, false, ◌&&◌, nat_lt}
-use Rattle.std.specs.Prelude.{slice_get}
+use Rattle.std.specs.Prelude.{slice_get, nat_eq, option_and_then}
 use Rattle.tm_values.specs.Val.{Val, undefined}
 use Rattle.tm_values.specs.declared.error.ErrorKind.{ErrorKind}
 use Rattle.tm_values.specs.declared.error.ErrorKind.TheVariants.{InvalidOperation}
 use Rattle.tm_values.specs.declared.escape.AutoEscape.{AutoEscape}
 use Rattle.tm_syntax.specs.declared.instruction.Instruction.{Instruction}
 pub use Rattle.tm_meaning.specs.declared.base.Base.{Base}
-use Rattle.tm_meaning.specs.World.{choose, or_is, TemplateId, StreamId, World, HostValue, Res, Good, Bad, open_loop, captured_text}
+use Rattle.tm_meaning.specs.World.{choose, TemplateId, StreamId, World, HostValue, Res, Good, Bad, open_loop, captured_text}
 use Rattle.tm_meaning.specs.Calls.{Callee, whole, macro_of, NestedCall, Asked, has, refused, runs, recurs, undone, wrapped, run_value}
 use Rattle.tm_meaning.specs.declared.run_text.RunText.{RunText}
 use Rattle.tm_syntax.specs.declared.instruction.LoopPlace.{LoopPlace}
 use Rattle.tm_syntax.specs.Loops.{loop_places}
-use Rattle.tm_syntax.specs.Entries.{entry_places}
+use Rattle.tm_syntax.specs.Entries.{entries}
+use Rattle.tm_syntax.specs.declared.code.Entry.{Entry}
 use Rattle.tm_meaning.specs.Meaning.{none_waits}
 
 -- A text that waits for its capture's end, and whether it takes what is written.
@@ -160,21 +161,20 @@ run_from s floor = record {
   tests = [];
 }
 
--- where the macro of a number is entered: nowhere in code without it
-abbrev pub entry_of : ℕ → List Instruction → ℕ
-entry_of n code = or_is (slice_get (entry_places code) n) (length code + 1)
-
 -- a run of a macro from its entry, with its arguments as its first operands, the last one on top
-abbrev pub run_of_macro : List Instruction → StreamId → ℕ → List Val → ℕ → Activation
-run_of_macro code s n given floor = record (run_from s floor) { place = entry_of n code; operands = onto given [] }
+abbrev pub run_of_macro : StreamId → List Val → ℕ → Entry → Option Activation
+run_of_macro s given floor e =
+    choose (nat_eq e.count (length given)) (λ _. Some (record (run_from s floor) { place = e.place; operands = onto given [] })) (λ _. None)
 
-abbrev pub first_activation : Program → Callee → ℕ → Activation
-first_activation p (whole s) floor = run_from s floor
-first_activation p (macro_of s n given) floor = run_of_macro (p.code s) s n given floor
+-- The run of a callee from its first place, over so many captures. A stream has no run of a macro that it lacks, or that takes other
+-- arguments.
+abbrev pub first_run : Program → Callee → ℕ → Option Activation
+first_run p (whole s) floor = Some (run_from s floor)
+first_run p (macro_of s n given) floor = option_and_then (run_of_macro s given floor) (slice_get (entries (p.code s)) n)
 
--- a run of a callee from its first place, over captures and in a world
-abbrev pub start : Program → Callee → List Capture → World → Config
-start p k ks w = record { run = first_activation p k (length ks); captures = ks; world = w }
+-- a run over captures and in a world
+abbrev pub running : Activation → List Capture → World → Config
+running a ks w = record { run = a; captures = ks; world = w }
 
 abbrev pub base_of : Bool → List Capture → World → Base
 base_of heard ks w = record { captures = length ks; scopes = length w.scopes.frames; heard = heard; first = w.escape }
@@ -190,16 +190,21 @@ captured_value k w = choose k.heard (λ _. captured_text k.text w) (λ _. undefi
 abbrev pub waiting : List Val → Config → Activation
 waiting vs c = record c.run { place = c.run.place + 1; operands = vs }
 
+-- a run that is needed first, over these captures; where its callee has none the call is refused
+abbrev pub nested : Option Activation → Bool → List Capture → World → Back → Next
+nested None heard ks w back = Over (Failed (wrapped back.call.wrap (InvalidOperation ∷ [])) (undone back.call.undo w))
+nested (Some a) heard ks w back = Nest (base_of heard ks w) (running a ks w) back
+
 -- a nested run whose text is heard where the call is
 abbrev pub nested_in_place : Program → Base → List Val → Config → NestedCall → World → Next
 nested_in_place p f vs c k w =
-    Nest (base_of (audible f c) c.captures w) (start p k.callee c.captures w) (record { run = waiting vs c; call = k; value = false })
+    nested (first_run p k.callee (length c.captures)) (audible f c) c.captures w (record { run = waiting vs c; call = k; value = false })
 
 -- a nested run whose text waits in a capture
 abbrev pub nested_as_value : Program → List Val → Config → NestedCall → World → Next
 nested_as_value p vs c k w =
     let ks = new_capture true ∷ c.captures in
-    Nest (base_of true ks w) (start p k.callee ks w) (record { run = waiting vs c; call = k; value = true })
+    nested (first_run p k.callee (length ks)) true ks w (record { run = waiting vs c; call = k; value = true })
 
 abbrev pub pushed : Val → Activation → Activation
 pushed v r = record r { operands = v ∷ r.operands }

@@ -7,8 +7,10 @@ use Rattle.tm_syntax.specs.declared.tree.Application.TheVariants as applications
 use Rattle.tm_syntax.specs.declared.tree.UnaryOperator.TheVariants as unaries
 use Rattle.tm_syntax.specs.declared.tree.BinaryOperator.TheVariants as binaries
 use Rattle.tm_meaning.specs.World.{choose, World, Res, pays}
-use Rattle.tm_meaning.specs.Machine.{Config, Base, End, Finished, Back, back_to, Next, More, Over, Nest, Program, after, stuck}
-use Rattle.tm_meaning.specs.Machine.{with_world}
+use Rattle.tm_values.specs.declared.error.ErrorKind.TheVariants.{InvalidOperation}
+use Rattle.tm_meaning.specs.Calls.{Callee}
+use Rattle.tm_meaning.specs.Machine.{Activation, Capture, Config, Base, End, Finished, Failed, Back, back_to, Next, More, Over, Nest, Program}
+use Rattle.tm_meaning.specs.Machine.{after, stuck, with_world, first_run, running}
 use Rattle.tm_meaning.specs.Instructions.{emit_raw_of, emit_of, lookup_of, load_const_of, get_attr_of, unary_of, binary_of}
 use Rattle.tm_meaning.specs.Instructions.{compare_and_preserve_of, swap_of, dup_top_of, discard_top_of, get_item_of, slice_instruction_of}
 use Rattle.tm_meaning.specs.Instructions.{build_list_of, build_map_of, build_kwargs_of, jump_of, jump_if_false_of, jump_if_false_or_pop_of}
@@ -195,6 +197,14 @@ pub data Leads (p : Program) : Base → List ℕ → Next → Final → Type 0 w
   more : {f : Base} {t d : List ℕ} {n : Next} {c : Config} {o : Final} → n ≡ More d c → Leads p f (t ++ d) (step p f c) o → Leads p f t n o
   nest : {f g : Base} {t : List ℕ} {n : Next} {c : Config} {back : Back} {e o : Final} →
       n ≡ Nest g c back → Leads p g t (step p g c) e → Leads p f e.text (back_to back e.end) o → Leads p f t n o
+
+-- The run of a callee that begins here: its first step, or a refusal where there is none.
+abbrev pub begun : Program → Base → Option Activation → List Capture → World → Next
+begun p f None ks w = Over (Failed (InvalidOperation ∷ []) w)
+begun p f (Some a) ks w = step p f (running a ks w)
+
+abbrev pub begins : Program → Base → Callee → List Capture → World → Next
+begins p f k ks w = begun p f (first_run p k (length ks)) ks w
 
 -- From a configuration, once the writer has got this text, the machine comes to an end.
 abbrev pub Reaches : Program → Base → List ℕ → Config → Final → Type 0

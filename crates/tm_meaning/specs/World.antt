@@ -51,11 +51,9 @@ root_of t = record { template = t; block = None }
 abbrev pub block_of : TemplateId → List ℕ → StreamId
 block_of t b = record { template = t; block = Some b }
 
--- What is known of a stream beside its content: whether it is a required block, and how many arguments each of its macros takes, in source
--- order.
+-- What is known of a stream beside its content: whether it is a required block.
 pub record Card : Type 0 where
   pub required : Bool
-  pub macros : List ℕ
 
 pub record Template : Type 0 where
   pub name : List ℕ
@@ -493,14 +491,6 @@ abbrev pub unpacked_items : ℕ → Val → World → Res (List Val)
 unpacked_items n v w = answered (unpacked (records_of w) n v) w
 
 -- ---------------------------------------------------------------- macros
--- how many arguments each macro of a stream takes
-abbrev pub macros_of : Option Card → List ℕ
-macros_of None = []
-macros_of (Some c) = c.macros
-
-abbrev pub macros_at : HostValue → StreamId → List ℕ
-macros_at host s = macros_of (card_at host s)
-
 -- where a stream stands among those that declared macros: from a number on
 abbrev pub stream_from : ℕ → StreamId → List StreamId → ℕ
 stream_from n s [] = n
@@ -517,11 +507,11 @@ with_stream s ts = if is_there s ts then ts else ts ++ s ∷ []
 -- A macro of the stream that runs, by its entry, its closure, its name, the names of its arguments, and whether it takes `caller`. At its
 -- first macro a stream gets its number.
 abbrev pub make_macro : ℕ → Option ℕ → List ℕ → List (List ℕ) → Bool → World → Res Val
-make_macro entry closure x arguments caller w =
+make_macro number closure x arguments caller w =
     Good (macro (record {
       state = w.id;
       stream = stream_from 0 w.stream w.streams;
-      entry = entry;
+      entry = number;
       closure = closure;
       name = x;
       arguments = arguments;
