@@ -10,11 +10,15 @@ abbrev pub name_count : Val → ℕ
 name_count (list vs) = length (list_of vs)
 name_count v = 0
 
+-- a macro that is entered at a place, where the names of its arguments stand before it
+abbrev pub one_entry : Option Val → ℕ → List Entry → List Entry
+one_entry None place es = es
+one_entry (Some names) place es = record { place = place; count = name_count names } ∷ es
+
 -- The macros that are built behind the names of their arguments, in the order of the code, where this literal stands before it.
 abbrev pub entries_behind : Option Val → List Instruction → List Entry
 entries_behind before [] = []
-entries_behind (Some names) (i.BuildMacro x place caller ∷ is) =
-    record { place = place; count = name_count names } ∷ entries_behind None is
+entries_behind before (i.BuildMacro x place caller ∷ is) = one_entry before place (entries_behind None is)
 entries_behind before (i.LoadConst v ∷ is) = entries_behind (Some v) is
 entries_behind before (x ∷ is) = entries_behind None is
 
