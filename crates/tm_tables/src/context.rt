@@ -4,15 +4,17 @@ ghost use Rattle.std.specs.Prelude.{ℕ, option_map, ◌≡◌, ◌<◌, ◌^◌
 ghost use Rattle.std.specs.Prelude.{Ok, OnErr, OnOk, IfErr, IfOk, IfSome, MatchOption, Some};
 ghost use Rattle.tm_syntax.specs.Named.{name_cmp, put, texts_of};
 ghost use Rattle.tm_values.specs.Answer.{OkOrOutOfMemory, OrStays};
-ghost use Rattle.tm_values.specs.Val.{loop};
+ghost use Rattle.tm_values.specs.Val.{loop, undefined};
 ghost use Rattle.tm_values.specs.declared.error.ErrorKind.TheVariants.{OutOfMemory};
 ghost use Rattle.tm_meaning.specs.World.{plain_scope, loop_scope, marked_loop, depth, context_member, innermost, stored_in};
-ghost use Rattle.tm_meaning.specs.World.{View, in_frames, top_mark, without_first, without_locals};
-ghost use Rattle.tm_meaning.specs.Calls.{outermost};
+ghost use Rattle.tm_meaning.specs.World.{View, in_frames, top_mark, without_first, without_locals, own_closure, with_own};
+ghost use Rattle.tm_meaning.specs.World.{put_at};
+ghost use Rattle.tm_meaning.specs.Calls.{outermost, root_context};
 ghost use Rattle.tm_tables.specs.Found.{IsHeld, IsFoundIn, meant_by};
 ghost use Rattle.tm_tables.specs.Known.{AddsFound, AreFoundIn, AreKnownIn, AreMembers, NamingFails, has_text, is_among};
 ghost use Rattle.tm_tables.specs.Scopes.{one_scope, PushFails, is_exported, exported_by, exported_of};
 
+use crate::closures::Closures;
 use crate::locals::{Locals, in_order};
 use std::alloc::{AllocError, Global};
 use std::marker::Model;
@@ -51,24 +53,33 @@ impl Found<'_> {
     }
 }
 
-/// A scope: its own names, the value whose keys are names too, and its loop.
+/// A scope: its own names, the value whose keys are names too, its loop, and the numbers of the closure that was made
+/// in it and of the one that it reads.
 #[derive(Drop)]
 pub struct Frame {
     locals: Locals,
     context: Value,
     mark: Option<LoopMark>,
+    own_closure: Option<usize>,
+    reads: Option<usize>,
 }
 
 impl Model for Frame {
     ghost use Rattle.std.specs.Coded.{codes};
-    ghost use Rattle.tm_meaning.specs.World.{Scope, plain_scope};
+    ghost use Rattle.tm_meaning.specs.World.{Scope};
     ghost use Rattle.tm_values.specs.Code.{coded_Val};
 
     ghost Value = { Scope };
 
     ghost coded = { Prim.hlevel (codes, coded_Val) };
 
-    ghost view = { λ f. record (plain_scope f.context) { locals = f.locals; mark = f.mark } };
+    ghost view = { λ f. record {
+      locals = f.locals;
+      context = f.context;
+      mark = f.mark;
+      own_closure = f.own_closure;
+      reads = f.reads;
+    } };
 }
 
 impl Frame {
@@ -80,6 +91,8 @@ impl Frame {
             locals: Locals::new(alloc),
             context,
             mark: None,
+            own_closure: None,
+            reads: None,
         }
     }
 
@@ -91,6 +104,21 @@ impl Frame {
             locals: Locals::new(alloc),
             context: Value::undefined(),
             mark: Some(mark),
+            own_closure: None,
+            reads: None,
+        }
+    }
+
+    /// A macro's scope, which reads a closure, without names of its own.
+    pub fn of_macro(alloc: Global, reads: Option<usize>) -> Frame
+        ensures { result ≡ record (plain_scope (undefined false)) { reads = reads } }
+    {
+        Frame {
+            locals: Locals::new(alloc),
+            context: Value::undefined(),
+            mark: None,
+            own_closure: None,
+            reads,
         }
     }
 
@@ -107,20 +135,25 @@ impl Frame {
         }
     }
 
-    /// What a name stands for: its own, its loop, or what the context value has there. InvalidOperation where
-    /// it is neither of the first and the context value is a namespace whose record isn't there.
+    /// What a name stands for: its own, its loop, what the closure that it reads has there, or what the context value
+    /// has. InvalidOperation where it is none of the first and the context value is a namespace whose record isn't there.
     pub fn get<'a, R: Records>(
         &'a self,
         name: &Name,
+        closures: &'a Closures,
         records: &'a R,
     ) -> Result<Option<Found<'a>>, Error>
-        ensures { IsFoundIn (R.records records.now) name.now (self.now ∷ []) result }
+        ensures { IsFoundIn (R.records records.now) closures.now name.now
+            (self.now ∷ []) result }
     {
         if let Some(own) = self.locals.get(name) {
             return Ok(Some(Found::Value(own)));
         }
         if let Some(number) = self.named_loop(name.as_str()) {
             return Ok(Some(Found::Loop(number)));
+        }
+        if let Some(enclosed) = closures.get(self.reads, name) {
+            return Ok(Some(Found::Value(enclosed)));
         }
         match self.context_member(name.as_str(), records)? {
             Some(member) => Ok(Some(Found::Value(member))),
@@ -146,7 +179,7 @@ impl Frame {
     }
 
     /// Has a name from here on. OutOfMemory, and then it stays as it was.
-    fn store(&mut self, name: Name, value: Value) -> Result<(), Error>
+    pub fn store(&mut self, name: Name, value: Value) -> Result<(), Error>
         ensures ok { OnOk result
             (self.new ≡ record self.old { locals = put name value self.old.locals }) }
         ensures kind { IfErr result (λ e. e ≡ OutOfMemory ∷ []) }
@@ -164,6 +197,13 @@ impl Frame {
             (self.new ≡ record self.old { locals = put name.now value.now self.old.locals }) }
     {
         self.locals.insert_at_once(name, value)
+    }
+
+    /// Has the closure of a number as its own.
+    fn own(&mut self, number: usize)
+        ensures { self.new ≡ record self.old { own_closure = Some number } }
+    {
+        self.own_closure = Some(number);
     }
 
     /// Loses its names.
@@ -187,15 +227,17 @@ impl Frame {
         Ok(exported)
     }
 
-    /// Adds the names that stand for something here: its own, its loop's, and the texts among the keys of its
-    /// context value. InvalidOperation where that is a namespace whose record isn't there; OutOfMemory.
+    /// Adds the names that stand for something here: its own, its loop's, those of the closure that it reads, and the
+    /// texts among the keys of its context value. InvalidOperation where that is a namespace whose record isn't there;
+    /// OutOfMemory.
     fn add_names<'a, R: Records>(
         &'a self,
         alloc: Global,
+        closures: &'a Closures,
         records: &'a R,
         names: &mut Vec<&'a str>,
     ) -> Result<(), Error>
-        ensures ok { OnOk result (AddsFound (R.records records.now) (self.now ∷ [])
+        ensures ok { OnOk result (AddsFound (R.records records.now) closures.now (self.now ∷ [])
             (texts_of names.old.items) (texts_of names.new.items)) }
         ensures err { IfErr result (NamingFails (R.records records.now) (self.now ∷ [])) }
     {
@@ -205,6 +247,8 @@ impl Frame {
         if self.named_loop("loop").is_some() {
             names.push("loop")?;
         }
+        let mut enclosed = closures.names(alloc, self.reads)?;
+        names.append(&mut enclosed)?;
         add_texts(pairs, names)?;
         Ok(())
     }
@@ -282,6 +326,25 @@ impl Context {
         Ok(Context { frames, outer: 0 })
     }
 
+    /// Two scopes, whose depth isn't tested: one over a context value, and another over it; they stand at a depth. Fails
+    /// by OutOfMemory alone.
+    pub fn of_macro(
+        alloc: Global,
+        root: Value,
+        frame: Frame,
+        outer: usize,
+    ) -> Result<Context, Error>
+        ensures { OkOrOutOfMemory result (λ c. c ≡ record {
+          frames = frame ∷ plain_scope root ∷ [];
+          outer = outer;
+        }) }
+    {
+        let mut frames = Vec::with_capacity(alloc, 2)?;
+        frames.push(Frame::new(alloc, root))?;
+        frames.push(frame)?;
+        Ok(Context { frames, outer })
+    }
+
     /// The allocator of the scopes.
     pub(crate) fn allocator(&self) -> Global {
         *self.frames.allocator()
@@ -329,15 +392,17 @@ impl Context {
     pub fn find<'a, R: Records>(
         &'a self,
         name: &Name,
+        closures: &'a Closures,
         records: &'a R,
     ) -> Result<Option<Found<'a>>, Error>
-        ensures { IsFoundIn (R.records records.now) name.now self.now.frames result }
+        ensures { IsFoundIn (R.records records.now) closures.now name.now
+            self.now.frames result }
     {
         let mut i = self.frames.len();
         while i > 0 {
             i -= 1;
             let frame = &self.frames[i];
-            match frame.get(name, records) {
+            match frame.get(name, closures, records) {
                 Ok(None) => {}
                 found => return found,
             }
@@ -350,16 +415,17 @@ impl Context {
     pub fn known_names<'a, R: Records>(
         &'a self,
         alloc: Global,
+        closures: &'a Closures,
         records: &'a R,
         globals: &'a NameMap<Value>,
     ) -> Result<Vec<&'a str>, Error>
         ensures order { IfOk result
             (λ names. IsStrictlySortedBy name_cmp (texts_of names.items)) }
-        ensures known { IfOk result (λ names. AreKnownIn (R.records records.now)
+        ensures known { IfOk result (λ names. AreKnownIn (R.records records.now) closures.now
             self.now.frames globals.now (texts_of names.items)) }
         ensures err { IfErr result (NamingFails (R.records records.now) self.now.frames) }
     {
-        let mut names = self.names(alloc, records)?;
+        let mut names = self.names(alloc, closures, records)?;
         let mut global = globals.names(alloc)?;
         names.append(&mut global)?;
         Ok(in_order(names))
@@ -367,14 +433,19 @@ impl Context {
 
     /// The names that stand for something in the scopes. InvalidOperation where a context value is a
     /// namespace whose record isn't there; OutOfMemory.
-    fn names<'a, R: Records>(&'a self, alloc: Global, records: &'a R) -> Result<Vec<&'a str>, Error>
-        ensures found { IfOk result (λ names. AreFoundIn (R.records records.now)
+    fn names<'a, R: Records>(
+        &'a self,
+        alloc: Global,
+        closures: &'a Closures,
+        records: &'a R,
+    ) -> Result<Vec<&'a str>, Error>
+        ensures found { IfOk result (λ names. AreFoundIn (R.records records.now) closures.now
             self.now.frames (texts_of names.items)) }
         ensures err { IfErr result (NamingFails (R.records records.now) self.now.frames) }
     {
         let mut names = Vec::new(alloc);
         for frame in &self.frames {
-            frame.add_names(alloc, records, &mut names)?;
+            frame.add_names(alloc, closures, records, &mut names)?;
         }
         Ok(names)
     }
@@ -418,6 +489,39 @@ impl Context {
         }
     }
 
+    /// Lets the innermost scope, where there is one, and the closure of a number have a name from here on. Fails by
+    /// OutOfMemory alone, and then all stays as it was.
+    pub fn store_enclosed(
+        &mut self,
+        closures: &mut Closures,
+        number: usize,
+        name: &Name,
+        value: Value,
+    ) -> Result<(), Error>
+        ensures ok { OnOk result
+            (self.new ≡ record self.old { frames = stored_in name.now value self.old.frames }) }
+        ensures enclosed { OnOk result
+            (closures.new ≡ put_at number name.now value closures.old) }
+        ensures kind { IfErr result (λ e. e ≡ OutOfMemory ∷ []) }
+        ensures err { OnErr result (self.new ≡ self.old) }
+        ensures unchanged { OnErr result (closures.new ≡ closures.old) }
+    {
+        let own = name.share()?;
+        let kept = name.share()?;
+        let second = value.share()?;
+        if closures.get(Some(number), name).is_some() {
+            self.store(own, value)?;
+            let _replaced = closures.replace(number, kept, second);
+            return Ok(());
+        }
+        closures.put(number, kept, second)?;
+        let stored = self.store(own, value);
+        if stored.is_err() {
+            closures.remove(number, name);
+        }
+        stored
+    }
+
     /// The innermost scope's own value of a name, where it has one.
     #[inline(always)]
     pub fn local(&self, name: &Name) -> Option<&Value>
@@ -437,6 +541,33 @@ impl Context {
         match self.frames.len().checked_sub(1) {
             Some(innermost) => self.frames[innermost].store_at_once(name, value),
             None => true,
+        }
+    }
+
+    /// The number of the closure that was made in the innermost scope, where one was.
+    #[inline(always)]
+    pub fn own_closure(&self) -> Option<usize>
+        ensures { result ≡ own_closure self.now.frames }
+    {
+        self.frames.last()?.own_closure
+    }
+
+    /// Lets the innermost scope, where there is one, have the closure of a number as its own.
+    pub fn set_own_closure(&mut self, number: usize)
+        ensures { self.new ≡ record self.old { frames = with_own number self.old.frames } }
+    {
+        if let Some(innermost) = self.frames.len().checked_sub(1) {
+            self.frames[innermost].own(number);
+        }
+    }
+
+    /// The context value of the outermost scope; undefined where there is no scope. Fails by OutOfMemory alone.
+    pub fn root_context(&self) -> Result<Value, Error>
+        ensures { OkOrOutOfMemory result (λ v. v ≡ root_context self.now.frames) }
+    {
+        match self.frames.first() {
+            Some(outermost) => outermost.context.share(),
+            None => Ok(Value::undefined()),
         }
     }
 

@@ -2,6 +2,7 @@
 #![tactic(auto)]
 
 mod callable;
+mod closures;
 mod context;
 mod escape_rule;
 mod fallback;
@@ -17,6 +18,7 @@ mod plain;
 mod view;
 
 pub use callable::{Callable, CallableAnswer, Called};
+pub use closures::Closures;
 pub use context::{Context, Found, Frame};
 pub use escape_rule::EscapeRule;
 pub use fallback::MethodFallback;
