@@ -13,7 +13,6 @@ use Rattle.tm_meaning.specs.declared.run_text.RunText.{RunText}
 use Rattle.tm_syntax.specs.declared.instruction.LoopPlace.{LoopPlace}
 use Rattle.tm_syntax.specs.Loops.{loop_places}
 use Rattle.tm_syntax.specs.Entries.{entries}
-use Rattle.tm_syntax.specs.declared.code.Entry.{Entry}
 use Rattle.tm_meaning.specs.Meaning.{none_waits}
 
 -- A text that waits for its capture's end, and whether it takes what is written.
@@ -162,9 +161,9 @@ run_from s floor = record {
 }
 
 -- a run of a macro from its entry, with its arguments as its first operands, the last one on top
-abbrev pub run_of_macro : StreamId → List Val → ℕ → Entry → Option Activation
+abbrev pub run_of_macro : StreamId → List Val → ℕ → ℕ × ℕ → Option Activation
 run_of_macro s given floor e =
-    choose (nat_eq e.count (length given)) (λ _. Some (record (run_from s floor) { place = e.place; operands = onto given [] })) (λ _. None)
+    choose (nat_eq e.1 (length given)) (λ _. Some (record (run_from s floor) { place = e.0; operands = onto given [] })) (λ _. None)
 
 -- The run of a callee from its first place, over so many captures. A stream has no run of a macro that it lacks, or that takes other
 -- arguments.

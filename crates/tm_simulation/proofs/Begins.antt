@@ -12,8 +12,7 @@ use Rattle.tm_syntax.specs.Loops.{begins, with_place, one_more_loop, loops_befor
 use Rattle.tm_syntax.specs.Fragments.{Fragment, straight, ◌⨾◌, jump_out, bounded, fork, looped, break_loop, next_round, beyond_all}
 use Rattle.tm_syntax.specs.Fragments.{beyond, Labels, outward, inward, jump, assemble, aside, ending_at, over, either}
 use Rattle.tm_syntax.specs.declared.jump.JumpKind.{JumpKind}
-use Rattle.tm_syntax.specs.Entries.{entries_behind}
-use Rattle.tm_values.specs.Val.{Val}
+use Rattle.tm_syntax.specs.Entries.{entries_from, name_count}
 use Rattle.tm_syntax.specs.declared.jump.JumpKind.TheVariants.{IfFalse, IfFalseOrPop, IfTrueOrPop}
 use Rattle.tm_syntax.specs.Code.{target_code, statements_code}
 use Rattle.tm_syntax.proofs.Standing.{HasAt, At, beyond_is}
@@ -113,10 +112,10 @@ both_macroless [] b h k = k
 both_macroless (x ∷ a) b h k = (h.0, both_macroless a b h.1 k)
 
 -- code without macros has no entries
-pub no_entries : (before : Option Val) (is : List Instruction) → NoMacros is → entries_behind before is ≡ []
+pub no_entries : (before : Option ℕ) (is : List Instruction) → NoMacros is → entries_from [] before is ≡ []
 no_entries before [] h = refl
 no_entries before (i.BuildMacro x place caller ∷ is) h = absurd (cc h.0)
-no_entries before (i.LoadConst v ∷ is) h = no_entries (Some v) is h.1
+no_entries before (i.LoadConst v ∷ is) h = no_entries (Some (name_count v)) is h.1
 no_entries before (x ∷ is) h = no_entries None is h.1
 
 -- ---------------------------------------------------------------- what code begins

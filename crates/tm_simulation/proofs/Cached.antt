@@ -3,13 +3,13 @@ use Rattle.std.proofs.Common.{◌≡◌, ℕ, zero, suc, ◌⊎◌, inl, inr, Li
 use Rattle.std.proofs.Common.{refl, sym, ap, ◌∙◌, subst, arith, ◌+◌}
 use Rattle.std.proofs.lemmas.Bool.Decides.{nat_tests}
 use Rattle.std.proofs.lemmas.Slice.Eq.{bytes_eq-Decides}
-use Rattle.std.specs.Prelude.{slice_get, nat_lt, nat_eq, option_and_then, ◌&&◌}
+use Rattle.std.specs.Prelude.{slice_get, nat_lt, nat_eq, ltb, option_and_then, ◌&&◌}
+use Rattle.std.specs.List.{prefix_len}
 use Rattle.tm_values.specs.Val.{Val, undefined}
 use Rattle.tm_values.specs.declared.escape.AutoEscape.{AutoEscape}
 use Rattle.tm_syntax.specs.CacheNumbers.{no_cache}
 use Rattle.tm_syntax.specs.Loops.{loop_places, loops_before}
-use Rattle.tm_syntax.specs.Entries.{entries, in_order, count_below}
-use Rattle.tm_syntax.specs.declared.code.Entry.{Entry}
+use Rattle.tm_syntax.specs.Entries.{entries}
 use Rattle.tm_syntax.specs.declared.instruction.Instruction.{Instruction}
 use Rattle.tm_syntax.specs.declared.instruction.Instruction.TheVariants as i
 use Rattle.tm_syntax.specs.declared.instruction.LoopPlace.{LoopPlace}
@@ -56,14 +56,14 @@ abbrev AreEmpty : Option Activation → Type 0
 AreEmpty None = Unit {0}
 AreEmpty (Some a) = (a.filters ≡ []) × (a.tests ≡ [])
 
-entry_empty : (s : StreamId) (given : List Val) (floor : ℕ) (e : Entry) (b : Bool) →
-    AreEmpty (choose b (λ _. Some (record (run_from s floor) { place = e.place; operands = onto given [] })) (λ _. None))
+entry_empty : (s : StreamId) (given : List Val) (floor : ℕ) (e : ℕ × ℕ) (b : Bool) →
+    AreEmpty (choose b (λ _. Some (record (run_from s floor) { place = e.0; operands = onto given [] })) (λ _. None))
 entry_empty s given floor e true = (refl, refl)
 entry_empty s given floor e false = tt
 
-found_empty : (s : StreamId) (given : List Val) (floor : ℕ) (o : Option Entry) → AreEmpty (option_and_then (run_of_macro s given floor) o)
+found_empty : (s : StreamId) (given : List Val) (floor : ℕ) (o : Option (ℕ × ℕ)) → AreEmpty (option_and_then (run_of_macro s given floor) o)
 found_empty s given floor None = tt
-found_empty s given floor (Some e) = entry_empty s given floor e (nat_eq e.count (length given))
+found_empty s given floor (Some e) = entry_empty s given floor e (nat_eq e.1 (length given))
 
 -- a run begins with empty caches
 starts_empty : (p : Program) (k : Callee) (floor : ℕ) → AreEmpty (first_run p k floor)
@@ -285,7 +285,7 @@ module _ (s : StreamId) (fs ts : Caches) where
           (on_top c.run.operands c.world (λ names vs. on_top vs c.world (λ closure rest.
           on_parts (closure_in closure) (names_in names) c.world (λ own arguments.
           after (make_macro n own x arguments caller c.world) (λ v w. goes (v ∷ rest) w d))))))
-          (sym (ap (count_below place) (same c.run.stream)))
+          (sym (ap (prefix_len (λ (e : ℕ × ℕ). ltb e.0 place)) (same c.run.stream)))
           (on_top_same c.run.operands c.world _ _ (λ names vs. on_top_same vs c.world _ _ (λ closure rest.
           on_parts_same (closure_in closure) (names_in names) c.world _ _ (λ own arguments. (here, refl)))))
       effect_same f i.Return none = choose_same (closed f c) _ _ _ _ refl refl
@@ -434,7 +434,7 @@ module _ (host : HostValue) (plain coded : StreamId → List Instruction) (each 
     number = same_before numbers.0 numbers.1 c.run.place (plain s) (coded s) numbers.2
 
     tables : (r : StreamId) → entries (coded r) ≡ entries (plain r)
-    tables r = ap in_order (same_entries (each r).0 (each r).1 None (plain r) (coded r) (each r).2)
+    tables r = same_entries (each r).0 (each r).1 [] None (plain r) (coded r) (each r).2
 
     -- an instruction that is paid for first
     abbrev step_before : Instruction → Next
@@ -544,7 +544,7 @@ module _ (host : HostValue) (plain coded : StreamId → List Instruction) (each 
       (leads_too c.run.stream go.filters go.tests _ go.hold go.alike run))
 
   tables_too : (r : StreamId) → entries (coded r) ≡ entries (plain r)
-  tables_too r = ap in_order (same_entries (each r).0 (each r).1 None (plain r) (coded r) (each r).2)
+  tables_too r = same_entries (each r).0 (each r).1 [] None (plain r) (coded r) (each r).2
 
   begun_too : (f : Base) (t : List ℕ) (a : Option Activation) (ks : List Capture) (w : World) (o : Final) → AreEmpty a →
       Leads before f t (begun before f a ks w) o → Leads behind f t (begun behind f a ks w) o

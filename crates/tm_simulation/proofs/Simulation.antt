@@ -25,7 +25,7 @@ use Rattle.tm_simulation.specs.Reached.{RunsTo, Renders, text_in, end_by, final_
 use Rattle.tm_syntax.proofs.Standing.{At, beyond_is, stands_whole}
 use Rattle.tm_syntax.specs.Loops.{loops_in, loop_places}
 use Rattle.tm_values.specs.Val.{Val}
-use Rattle.tm_syntax.specs.Entries.{entries, in_order}
+use Rattle.tm_syntax.specs.Entries.{entries}
 use Rattle.tm_values.specs.declared.error.ErrorKind.TheVariants.{InvalidOperation}
 use Rattle.tm_syntax.specs.CacheNumbers.{numbered}
 use Rattle.tm_simulation.specs.Uncached.{AllUncached, HasNoCaches, with_numbers}
@@ -232,7 +232,7 @@ module _ (p : Program) (trees : Trees) (compiled : IsUnnumbered trees p) where
       let row = (trees id).row in
       let c = code_at id in
       let none : NoMacros (assembled c) = (statements_begin [] 0 row (assembled c) (whole_labels c) 0 (stands_whole c) refl).macroless in
-      let empty : entries (p.code id) ≡ [] = ap entries (coded id) ∙ ap in_order (no_entries None (assembled c) none) in
+      let empty : entries (p.code id) ≡ [] = ap entries (coded id) ∙ no_entries None (assembled c) none in
       let f = base_of heard (captures_of b out) w in
       let floor = length (captures_of b out) in
       subst (λ es. Leads p f (told_by b out) (begun p f (option_and_then (run_of_macro id given floor) (slice_get es m)) (captures_of b out) w)

@@ -1,45 +1,37 @@
--- The entries of macros: where they are entered, and how many arguments they take, each at its number, in the order of the places.
-use Rattle.std.specs.Prelude.{ℕ, ◌+◌, List, [], ◌∷◌, length, Option, None, Some, nat_lt, nat_eq, if◌then◌else◌}
+-- The entries of macros: the places at which they are entered, each with how many arguments it takes, in the order of the places. An entry's
+-- number is how many lie before it.
+use Rattle.std.specs.Prelude.{ℕ, List, [], ◌∷◌, length, Option, None, Some, ltb}
+use Rattle.std.specs.BTreeMap.{insert_entry}
+use Rattle.std.specs.List.{prefix_len}
+use Rattle.std.specs.Ordering.{nat_cmp}
 use Rattle.tm_values.specs.Val.{Val, list, list_of}
 use Rattle.tm_syntax.specs.declared.instruction.Instruction.{Instruction}
 use Rattle.tm_syntax.specs.declared.instruction.Instruction.TheVariants as i
-pub use Rattle.tm_syntax.specs.declared.code.Entry.{Entry}
+
+abbrev pub Entries : Type 0
+Entries = List (ℕ × ℕ)
 
 -- how many names a literal list of them has
 abbrev pub name_count : Val → ℕ
 name_count (list vs) = length (list_of vs)
 name_count v = 0
 
--- a macro that is entered at a place, where the names of its arguments stand before it
-abbrev pub one_entry : Option Val → ℕ → List Entry → List Entry
-one_entry None place es = es
-one_entry (Some names) place es = record { place = place; count = name_count names } ∷ es
+-- and a macro that is entered at a place, where a literal with so many names stands before it
+abbrev pub with_entry : Option ℕ → ℕ → Entries → Entries
+with_entry None place es = es
+with_entry (Some count) place es = insert_entry nat_cmp es place count
 
--- The macros that are built behind the names of their arguments, in the order of the code, where this literal stands before it.
-abbrev pub entries_behind : Option Val → List Instruction → List Entry
-entries_behind before [] = []
-entries_behind before (i.BuildMacro x place caller ∷ is) = one_entry before place (entries_behind None is)
-entries_behind before (i.LoadConst v ∷ is) = entries_behind (Some v) is
-entries_behind before (x ∷ is) = entries_behind None is
-
--- an entry among entries whose places rise; of two at one place this one
-abbrev pub with_entry : Entry → List Entry → List Entry
-with_entry e [] = e ∷ []
-with_entry e (f ∷ fs) =
-    if nat_lt e.place f.place then e ∷ f ∷ fs else if nat_eq e.place f.place then e ∷ fs else f ∷ with_entry e fs
-
-abbrev pub in_order : List Entry → List Entry
-in_order [] = []
-in_order (e ∷ es) = with_entry e (in_order es)
+-- and those that are built in code, where a literal with so many names stands before it
+abbrev pub entries_from : Entries → Option ℕ → List Instruction → Entries
+entries_from es before [] = es
+entries_from es before (i.BuildMacro x place caller ∷ is) = entries_from (with_entry before place es) None is
+entries_from es before (i.LoadConst v ∷ is) = entries_from es (Some (name_count v)) is
+entries_from es before (x ∷ is) = entries_from es None is
 
 -- the entries of code, each at its number
-abbrev pub entries : List Instruction → List Entry
-entries is = in_order (entries_behind None is)
+abbrev pub entries : List Instruction → Entries
+entries is = entries_from [] None is
 
-abbrev pub count_below : ℕ → List Entry → ℕ
-count_below place [] = 0
-count_below place (e ∷ es) = if nat_lt e.place place then count_below place es + 1 else count_below place es
-
--- the number of the entry at a place: how many lie before it
+-- the number of the entry at a place
 abbrev pub entry_number : ℕ → List Instruction → ℕ
-entry_number place is = count_below place (entries is)
+entry_number place is = prefix_len (λ (e : ℕ × ℕ). ltb e.0 place) (entries is)
