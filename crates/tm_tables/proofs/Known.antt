@@ -280,8 +280,9 @@ known-behind o x globals scoped global joined ordered h of_globals both same =
     ∙ ap (λ b. Ok (is_among x (texts_of scoped) || b)) (is_some-lookup (is_at (name_cmp x)) globals) ∙ ap (λ b. Ok b) (sym all)
 
 -- what is known in each view is known in this one
-pub known-in : (view : View) (frames : List Scope) (globals : Bindings) (names : List (List ℕ)) → view.frames ≡ frames →
-    view.globals ≡ globals → AreKnownIn view.records view.closures frames globals names → AreFound (find_name view) names
-known-in view frames globals names here there known x =
+pub known-in : (view : View) (closures : List Bindings) (frames : List Scope) (globals : Bindings) (names : List (List ℕ)) →
+    view.closures ≡ closures → view.frames ≡ frames → view.globals ≡ globals → AreKnownIn view.records closures frames globals names →
+    AreFound (find_name view) names
+known-in view closures frames globals names enclosed here there known x =
     ap (λ (scopes : List Scope). is_found (find_name (record view { frames = scopes }) x)) here
-    ∙ ap (λ (bindings : Bindings). is_found (find_name (record view { frames = frames; globals = bindings }) x)) there ∙ known view refl refl x
+    ∙ ap (λ (bindings : Bindings). is_found (find_name (record view { frames = frames; globals = bindings }) x)) there ∙ known view refl enclosed x

@@ -6,8 +6,8 @@ use Rattle.tm_values.specs.Records.{RecordData}
 use Rattle.tm_values.specs.Val.{Val, loop}
 use Rattle.tm_values.specs.declared.error.ErrorKind.{ErrorKind}
 use Rattle.tm_meaning.specs.World.{Bindings, Scope, View, in_frames}
-use Rattle.tm_tables.specs.declared.context.Found.{Found}
-use Rattle.tm_tables.specs.declared.context.Found.TheVariants.{Value, Loop}
+use Rattle.tm_tables.specs.declared.frame.Found.{Found}
+use Rattle.tm_tables.specs.declared.frame.Found.TheVariants.{Value, Loop}
 
 -- What is lent is what was stated: a value, none, or the chain of an error.
 abbrev pub IsHeld : Result (Option (Bor Val)) (List ErrorKind) → Answer (Option Val) → Type 0

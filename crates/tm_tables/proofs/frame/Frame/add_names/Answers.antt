@@ -6,8 +6,8 @@ use Rattle.tm_meaning.specs.World.{Scope, marked_loop}
 use Rattle.tm_tables.specs.Known.{has_text, is_among}
 use Rattle.tm_tables.specs.Closures.{names_read}
 use Rattle.tm_tables.proofs.Known.{among-both, among-one, loop-found, or-false, scope-adds}
-use Rattle.tm_tables.proofs.context.Frame.add_names.Goals as goal
-use Rattle.tm_tables.proofs.context.Frame.add_names.Goals.{then-is_some+in_ok-push, else-is_some}
+use Rattle.tm_tables.proofs.frame.Frame.add_names.Goals as goal
+use Rattle.tm_tables.proofs.frame.Frame.add_names.Goals.{then-is_some+in_ok-push, else-is_some}
 
 pub returns-clause-ok : goal.returns-clause-ok
 returns-clause-ok g c = λ view same enclosed x.
