@@ -6,11 +6,10 @@ use Rattle.std.specs.BTreeMap.{is_at}
 use Rattle.std.specs.Ordering.{match_ordering, is_eq}
 use Rattle.std.specs.declared.cmp.Ordering.{Ordering}
 use Rattle.std.specs.declared.cmp.Ordering.TheVariants.{Less, Equal, Greater}
-use Rattle.std.specs.Prelude.{option_and_then, slice_get}
 use Rattle.tm_syntax.specs.Named.{find, name_cmp, put}
 use Rattle.tm_values.specs.Val.{Val}
 use Rattle.tm_meaning.specs.World.{Bindings, put_at, read_closure}
-use Rattle.tm_tables.specs.Closures.{is_other, others_at, others_than, IsReplaced, IsReplacedAt}
+use Rattle.tm_tables.specs.Closures.{others_at, others_than, IsReplaced, IsReplacedAt}
 use Rattle.tm_tables.proofs.Ordered.{at_itself}
 
 pub put_past : (n : ℕ) (x : List ℕ) (v : Val) (cs : List Bindings) → length cs ≤ n → cs ≡ put_at n x v cs

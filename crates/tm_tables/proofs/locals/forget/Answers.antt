@@ -1,5 +1,4 @@
-use Rattle.std.proofs.Common.{◌≡◌, ◌∙◌, ap, subst, Some}
-use Rattle.std.proofs.Common.{rules}
+use Rattle.std.proofs.Common.{◌∙◌, ap, subst, Some}
 use Rattle.tm_syntax.specs.Named.{find}
 use Rattle.tm_tables.specs.Locals.{IsPlace}
 use Rattle.tm_tables.proofs.Ordered.{pair_gone}

@@ -1,5 +1,4 @@
-use Rattle.std.proofs.Common.{◌≡◌, ◌<◌, ◌≤◌, arith, ap, length, get_or, slice_set, subst}
-use Rattle.tm_meaning.specs.World.{Bindings}
+use Rattle.std.proofs.Common.{◌<◌, arith, ap, length, slice_set, subst}
 use Rattle.tm_tables.specs.Closures.{IsReplacedAt}
 use Rattle.tm_tables.proofs.Enclosed.{replaced_past, replaced_there}
 use Rattle.tm_tables.proofs.closures.Closures.replace.Goals as goal

@@ -1,4 +1,4 @@
-use Rattle.std.proofs.Common.{◌≡◌, ◌∙◌, ap, sym}
+use Rattle.std.proofs.Common.{◌∙◌, ap, sym}
 use Rattle.tm_tables.specs.Closures.{others_than}
 use Rattle.tm_tables.proofs.Ordered.{both_lack, either_way, find-hashed, is_at-hashed}
 use Rattle.tm_tables.proofs.locals.Locals.remove.Goals as goal

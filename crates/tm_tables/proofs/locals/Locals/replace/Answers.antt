@@ -1,6 +1,5 @@
-use Rattle.std.proofs.Common.{◌≡◌, ◌∙◌, ◌++◌, refl, ap, sym, subst, Bool, None, Some, not}
-use Rattle.tm_syntax.specs.Named.{find, put, Named}
-use Rattle.tm_values.specs.Val.{Val}
+use Rattle.std.proofs.Common.{◌≡◌, ◌∙◌, ◌++◌, refl, ap, sym, subst, None, Some}
+use Rattle.tm_syntax.specs.Named.{find, put}
 use Rattle.tm_tables.specs.Closures.{IsReplaced}
 use Rattle.tm_tables.specs.Locals.{IsPlace, in_order}
 use Rattle.tm_tables.proofs.Ordered.{found_behind, find-hashed, none_of, put_at, replaced_behind, the_name}
