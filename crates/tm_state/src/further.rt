@@ -138,8 +138,9 @@ impl StateData<'_> {
         levels: usize,
         test: bool,
     ) -> Result<Further, Error>
-        ensures comes { (make : _) → PrintedComes make test result (as_printed (named_call make levels
-            (H.meaning host.now) name.now args.now self.old)) self.new }
+        ensures comes { (make : _) → PrintedComes make test result
+            (as_printed (named_call make levels (H.meaning host.now)
+            name.now args.now self.old)) self.new }
         ensures lies { FurtherLies (H.meaning host.now).limit result self.old self.new }
     {
         match self.lookup(host, name)? {
@@ -159,8 +160,9 @@ impl StateData<'_> {
         levels: usize,
         test: bool,
     ) -> Result<Further, Error>
-        ensures comes { (make : _) → PrintedComes make test result (as_printed (value_call make levels
-            (H.meaning host.now) value.now args.now self.old)) self.new }
+        ensures comes { (make : _) → PrintedComes make test result
+            (as_printed (value_call make levels (H.meaning host.now)
+            value.now args.now self.old)) self.new }
         ensures lies { FurtherLies (H.meaning host.now).limit result self.old self.new }
     {
         match &value.node {
@@ -181,8 +183,9 @@ impl StateData<'_> {
         args: &[Value],
         test: bool,
     ) -> Result<Further, Error>
-        ensures comes { (make : _) → PrintedComes make test result (as_printed (value_call make 0
-            (H.meaning host.now) (function number) args.now self.old)) self.new }
+        ensures comes { (make : _) → PrintedComes make test result
+            (as_printed (value_call make 0 (H.meaning host.now)
+            (function number) args.now self.old)) self.new }
         ensures lies { FurtherLies (H.meaning host.now).limit result self.old self.new }
     {
         // Whether a test asked is no matter here.
@@ -203,8 +206,9 @@ impl StateData<'_> {
         levels: usize,
         test: bool,
     ) -> Result<Further, Error>
-        ensures comes { (make : _) → PrintedComes make test result (as_printed (value_call make levels
-            (H.meaning host.now) (macro declared.now) args.now self.old)) self.new }
+        ensures comes { (make : _) → PrintedComes make test result
+            (as_printed (value_call make levels (H.meaning host.now)
+            (macro declared.now) args.now self.old)) self.new }
         ensures lies { FurtherLies (H.meaning host.now).limit result self.old self.new }
     {
         match self.macro_run(alloc, host, declared, args, levels, text_for(test)) {

@@ -101,7 +101,11 @@ impl StateData<'_> {
     /// Lets a macro run in scopes of its own, and gives what that replaces.
     pub(crate) fn run_macro(&mut self, stream: StreamId, context: Context) -> SavedMacro
         ensures saved { result ≡ saved_scopes self.old }
-        ensures runs { self.new ≡ record self.old { scopes = context; stream = stream; block = None } }
+        ensures runs { self.new ≡ record self.old {
+          scopes = context;
+          stream = stream;
+          block = None;
+        } }
     {
         SavedMacro {
             context: mem::replace(&mut self.context, context),

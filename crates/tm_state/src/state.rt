@@ -477,8 +477,8 @@ impl<'env> StateData<'env> {
         self.context.pop_frame();
     }
 
-    /// Lets the innermost scope have a name from here on, and its own closure, where it has one. Fails by OutOfMemory alone, and then the
-    /// state stays as it was.
+    /// Lets the innermost scope have a name from here on, and its own closure too, where it has one. Fails by
+    /// OutOfMemory alone, and then the state stays as it was.
     #[tactic(auto, using(crate::proofs::Stored::plainly, crate::proofs::Stored::enclosed))]
     pub fn store(&mut self, name: &Name, value: Value) -> Result<(), Error>
         ensures ok { OnOk result (self.new ≡ store name.now value self.old) }
