@@ -87,15 +87,19 @@ Recurs (Err chain) asked w = is_want_of_memory chain ≡ false → asked ≡ ref
 abbrev pub call_of : NestedRun → World → NestedCall
 call_of e b = record { callee = callee_of e.run; undo = undo_of e.saved b; wrap = e.wrap; text = e.text }
 
+-- What is put back is of this world, whose lists of blocks and of loaded names are those of the world in which the run is needed.
+abbrev pub IsBefore : Saved → World → World → Type 0
+IsBefore kept b w = IsSaved kept b × (w.blocks ≡ b.blocks) × (w.loaded ≡ b.loaded)
+
 -- A call needs this run first, from this world; its text is the call's value, and its fault the call's.
 abbrev pub NeedsRun : NestedRun → Asked → World → Type 0
 NeedsRun e asked w =
-    (e.heard ≡ true) × (e.value ≡ true) × (e.wrap ≡ None) × ((b : World) × IsSaved e.saved b × (asked ≡ runs (call_of e b) w))
+    (e.heard ≡ true) × (e.value ≡ true) × (e.wrap ≡ None) × ((b : World) × IsBefore e.saved b w × (asked ≡ runs (call_of e b) w))
 
 -- A macro's run is needed first, from this world; the world before it was b. Its text is this.
 abbrev pub NeedsMacro : RunText → NestedRun → Asked → World → World → Type 0
 NeedsMacro text e asked b w =
-    (e.heard ≡ true) × (e.value ≡ true) × (e.wrap ≡ None) × (e.text ≡ text) × IsSaved e.saved b ×
+    (e.heard ≡ true) × (e.value ≡ true) × (e.wrap ≡ None) × (e.text ≡ text) × IsBefore e.saved b w ×
     (asked ≡ runs (record (call_of e b) { text = texts.Captured }) w)
 
 -- What a call came to, but for want of memory: a value, a loop that is called, a run that is needed, or a fault, and the world behind it.
@@ -139,7 +143,7 @@ is_macro _ = false
 abbrev pub NeedsPlain : Bool → NestedRun → Asked → World → Type 0
 NeedsPlain test e asked w =
     (e.heard ≡ true) × (e.value ≡ true) × (e.wrap ≡ None) × (e.text ≡ text_for test) ×
-    ((b : World) × IsSaved e.saved b × (asked ≡ runs (record (call_of e b) { text = texts.Plain }) w))
+    ((b : World) × IsBefore e.saved b w × (asked ≡ runs (record (call_of e b) { text = texts.Plain }) w))
 
 -- What a further call came to, whatever makes those behind it: what was answered to it, or a run; or it is refused.
 abbrev pub FurtherComes : MakesFurther → Bool → Call → Result Further (List ErrorKind) → Asked → World → Type 0
