@@ -101,7 +101,7 @@ put_back_fewer limit (saved.Macro s) before w deep =
     (omega (arith, frames), ap (λ (s : Scopes). s.outer) same)
 
 -- and what a run keeps is kept then
-put_back_keeps : (s : Saved) (before w : World) → KeepsFixed before w → KeepsFixed before (put_back s w)
+pub put_back_keeps : (s : Saved) (before w : World) → KeepsFixed before w → KeepsFixed before (put_back s w)
 put_back_keeps (saved.Block s) before w kept = record {
   same_id = kept.same_id;
   same_fuel_set = kept.same_fuel_set;

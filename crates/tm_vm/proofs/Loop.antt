@@ -106,7 +106,7 @@ module _ (p : Program) (heard : Bool) (ks : List Capture) (w : World) (back : Ba
       subst (λ (e : Final). Leads p f e.text (back_to back e.end) o) (one_end parts.1 (behind_text t run)) parts.2
 
 -- What is undone behind a run is what is put back.
-undone_is : (s : Saved) (b mid w : World) → IsBefore s b mid → KeepsLists mid w → undone (undo_of s b) w ≡ put_back s w
+pub undone_is : (s : Saved) (b mid w : World) → IsBefore s b mid → KeepsLists mid w → undone (undo_of s b) w ≡ put_back s w
 undone_is (saved.Block s) b mid w is keeps = sym (ap (λ x. put_back (saved.Block x) w) is.0)
 undone_is (saved.Macro s) b mid w is keeps =
     let back : World = put_back (saved.Macro (saved_scopes b)) w in

@@ -12,7 +12,7 @@ use Rattle.tm_meaning.specs.Calls.{Asked}
 use Rattle.tm_values.specs.declared.error.ErrorKind.TheVariants.{OutOfMemory}
 use Rattle.tm_meaning.specs.Machine.{Caches, take_n, stuck}
 use Rattle.tm_meaning.specs.Machine.{Return, Activation, Capture, Config, End, Finished, Failed, Stuck, Next, More, Over, Nest, Program}
-use Rattle.tm_meaning.specs.Machine.{first_run, nested, recursion, place_of_loop, asked, waiting, new_capture}
+use Rattle.tm_meaning.specs.Machine.{first_run, nested, running, recursion, place_of_loop, asked, waiting, new_capture}
 use Rattle.tm_values.specs.Val.{Val}
 use Rattle.tm_state.specs.declared.calls.Recursion.{Recursion}
 use Rattle.tm_meaning.specs.Instructions.{jump_if_true_or_pop_of, jump_if_false_or_pop_of, take_counted}
@@ -215,6 +215,11 @@ abbrev pub Begins : Option Activation → Option Activation → Config → Confi
 Begins first (Some waits) old new =
     (waits ≡ old.run) × (first ≡ Some new.run) × (new.captures ≡ old.captures) × (new.world ≡ old.world)
 Begins first None old new = (first ≡ None) × (new ≡ old)
+
+-- A machine stands at the first place of a run; or there is none, and the state is given back.
+abbrev pub IsAtFirst : Option Activation → List Capture → World → Result Config World → Type 0
+IsAtFirst first captures w (Ok c) = (first ≡ Some c.run) × (c ≡ running c.run captures w)
+IsAtFirst first captures w (Err left) = (first ≡ None) × (left ≡ w)
 
 -- a run with its loop at a place open, which is called, over so many captures
 abbrev pub called : ℕ → ℕ → Bool → Activation → Activation

@@ -3,7 +3,7 @@ ghost use Rattle.std.specs.Prelude.{◌≡◌, ◌+◌, length, OnOk};
 ghost use Rattle.tm_meaning.specs.Machine.{audible, base_of, first_run, run_from, running};
 ghost use Rattle.tm_meaning.specs.Steps.{step};
 ghost use Rattle.tm_parts.specs.Halts.{failures_after};
-ghost use Rattle.tm_vm.specs.Answers.{program, Begins, EndsAs, ReachesEnd, NoFewer};
+ghost use Rattle.tm_vm.specs.Answers.{program, Begins, EndsAs, IsAtFirst, ReachesEnd, NoFewer};
 ghost use Rattle.tm_state.specs.Answers.{KeepsFixed, SameScopes};
 ghost use Rattle.tm_state.specs.State.{callee_of, put_back};
 ghost use Rattle.tm_vm.specs.Nested.{RanNested, StandsOn, WroteBeginning, IsBack, IsWrapped, IsCaptured, base_in, begins_in};
@@ -37,6 +37,24 @@ fn wrapped(alloc: Global, wrap: Option<Wrapping>, halt: Halt) -> Halt
         },
         Halt::Writer => Halt::Writer,
         Halt::Stuck => Halt::Stuck,
+    }
+}
+
+/// The run of what is called, from its first place and over so many captures; none where its stream has no such macro,
+/// or one that takes other arguments.
+fn first_run<H: Host>(alloc: Global, host: &H, run: RunOf, floor: usize) -> Option<Activation>
+    ensures { result ≡ first_run (program (H.meaning host.now) (H.code host.now))
+        (callee_of run) floor }
+{
+    match run {
+        RunOf::Stream(stream) => Some(Activation::new(alloc, stream, floor)),
+        RunOf::Macro(stream, number, args) => {
+            let (place, count) = host.instructions(&stream).entry(number)?;
+            if count != args.len() {
+                return None;
+            }
+            Some(Activation::of_macro(alloc, stream, floor, place, args))
+        }
     }
 }
 
@@ -74,6 +92,28 @@ impl<'env> Machine<'env> {
             run: Activation::new(alloc, stream, captures.depth()),
             captures,
             state,
+        }
+    }
+
+    /// A machine at the first instruction of what is called, over captures and a state; the state where there is no such
+    /// run: where its stream has no such macro, or one that takes other arguments.
+    pub fn of_run<H: Host>(
+        alloc: Global,
+        host: &H,
+        run: RunOf,
+        captures: Captures,
+        state: StateData<'env>,
+    ) -> Result<Machine<'env>, StateData<'env>>
+        ensures { IsAtFirst (first_run (program (H.meaning host.now) (H.code host.now))
+            (callee_of run) (length captures)) captures state.entry result }
+    {
+        match first_run(alloc, host, run, captures.depth()) {
+            Some(run) => Ok(Machine {
+                run,
+                captures,
+                state,
+            }),
+            None => Err(state),
         }
     }
 
@@ -177,32 +217,13 @@ impl<'env> Machine<'env> {
         Ok(())
     }
 
-    /// The run of what is called, from its first place; none where its stream has no such macro, or one that takes
-    /// other arguments.
-    fn first_run<H: Host>(&self, alloc: Global, host: &H, run: RunOf) -> Option<Activation>
-        ensures { result ≡ first_run (program (H.meaning host.now) (H.code host.now))
-            (callee_of run) (length self.now.captures) }
-    {
-        let floor = self.captures.depth();
-        match run {
-            RunOf::Stream(stream) => Some(Activation::new(alloc, stream, floor)),
-            RunOf::Macro(stream, number, args) => {
-                let (place, count) = host.instructions(&stream).entry(number)?;
-                if count != args.len() {
-                    return None;
-                }
-                Some(Activation::of_macro(alloc, stream, floor, place, args))
-            }
-        }
-    }
-
     /// Begins the run of what is called over the same captures and state, and gives the run that waits; none where there
     /// is no such run.
     fn begin<H: Host>(&mut self, alloc: Global, host: &H, run: RunOf) -> Option<Activation>
         ensures { Begins (first_run (program (H.meaning host.now) (H.code host.now))
             (callee_of run) (length self.old.captures)) result self.old self.new }
     {
-        let first = self.first_run(alloc, host, run)?;
+        let first = first_run(alloc, host, run, self.captures.depth())?;
         Some(mem::replace(&mut self.run, first))
     }
 
