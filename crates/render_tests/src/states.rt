@@ -176,3 +176,29 @@ fn boxes_are_asked(rt: HostRuntime) -> Result<(), Fail> {
     assert!(rt; are_asked(rt.alloc(), &mut environment)?);
     Ok(())
 }
+
+/// The names that a template reads, each behind a blank.
+fn names_of(
+    alloc: Global,
+    environment: &Environment<'_>,
+    source: &str,
+    nested: bool,
+) -> Result<String, Error> {
+    let template = environment.template_from_str(source)?;
+    let names = template.undeclared_variables(nested)?;
+    let mut text = String::new(alloc);
+    for name in names.iter() {
+        text.push_str(" ")?;
+        text.push_str(name.as_str())?;
+    }
+    Ok(text)
+}
+
+#[test]
+fn templates_tell_what_they_read(rt: HostRuntime) -> Result<(), Fail> {
+    let environment = Environment::new(rt.alloc())?;
+    let source = "{% set x = foo %}{{ x }}{{ bar.baz }}";
+    assert!(rt; names_of(rt.alloc(), &environment, source, false)?.as_str() == " bar foo");
+    assert!(rt; names_of(rt.alloc(), &environment, source, true)?.as_str() == " bar.baz foo");
+    Ok(())
+}

@@ -1,5 +1,8 @@
 //! Templates of an environment.
-ghost use Rattle.std.specs.Prelude.{◌≡◌, ◌+◌, ◌<◌, [], ◌∷◌, Err, IfOk, IfErr};
+ghost use Rattle.std.specs.BTreeSet.{keys};
+ghost use Rattle.std.specs.Prelude.{◌≡◌, ◌+◌, ◌<◌, [], ◌∷◌, Err, IfOk, IfErr, map as each, string_bytes};
+ghost use Rattle.tm_names.specs.Names.{undeclared};
+ghost use Rattle.tm_syntax.specs.declared.tree.Stmt.TheBlock.{hidden-the_row-Stmt-0 as statements};
 ghost use Rattle.tm_meaning.specs.World.{root_of};
 ghost use Rattle.template_machine.specs.TemplateRef.{entry_id, held_id, held_template, IsHeldOf};
 ghost use Rattle.template_machine.specs.Renders.{first, greatest, meaning, meaning_from, IsFresh, Ran, Rendered, RenderedText};
@@ -8,6 +11,7 @@ use crate::environment::{BoxedObjects, EnvironmentOf};
 use crate::ids::StateIds;
 use crate::rendering::Rendering;
 use crate::state::{CapturedOf, StateOf};
+use std::collections::BTreeSet;
 use std::marker::Model;
 use tm_meaning::{StreamId, TemplateId};
 use tm_parts::{Captures, Halt, NullWriter, Sink};
@@ -95,6 +99,17 @@ impl<'env, 'source, O: Drop> TemplateOf<'env, 'source, O> {
         ensures { result.now ≡ self.now.template.source }
     {
         self.compiled().source()
+    }
+
+    /// The names that the template reads where no open scope of it has assigned them before, each as its text; with what is
+    /// nested in them, as `a.b.c`, where that is asked for. OutOfMemory where there is no memory.
+    pub fn undeclared_variables(&self, nested: bool) -> Result<BTreeSet<String>, Error>
+        ensures ok { IfOk result (λ names. each string_bytes (keys names)
+            ≡ undeclared nested (statements self.now.template.tree.statements)) }
+        ensures memory { IfErr result (λ e. e ≡ ErrorKind.OutOfMemory ∷ []) }
+    {
+        self.compiled()
+            .undeclared_variables(self.environment.allocator(), nested)
     }
 
     /// What was compiled.

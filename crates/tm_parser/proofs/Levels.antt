@@ -14,8 +14,8 @@ use Rattle.tm_grammar.specs.Meanings.{Read, got, known, first_sees, branch_reads
 use Rattle.tm_grammar.specs.Laws.{not_got, same_got}
 use Rattle.tm_grammar.specs.Growth as growth
 use Rattle.tm_grammar.specs.Combinators.{first, ◌>>=◌, pure, one_more}
-use Rattle.tm_parser.specs.Grammar.{Inside, is, primary, operand, expr_at, whole, prefix, prefix_of, link, step, at_level}
-use Rattle.tm_parser.specs.Grammar.{steps_from, chained, postfix_level, or_level, condition, conditions_from}
+use Rattle.tm_parser.specs.Tokens.{is, prefix, prefix_of, link, at_level, postfix_level, or_level}
+use Rattle.tm_parser.specs.Grammar.{Inside, primary, operand, expr_at, whole, step, steps_from, chained, condition, conditions_from}
 use Rattle.tm_parser.specs.declared.expressions.OperandStart.{OperandStart}
 use Rattle.tm_parser.specs.Levels.{up_to, prefix_up_to, operand_start, climbed, levels, EndsBefore, GoesOnAt}
 

@@ -13,7 +13,8 @@ use Rattle.tm_grammar.specs.Growth as growth
 use Rattle.tm_grammar.specs.Combinators.{first, grow, one_more, many_from}
 use Rattle.tm_values.specs.Answer.{Refused}
 use Rattle.tm_parser.specs.declared.primaries.Passed.{Passed}
-use Rattle.tm_parser.specs.Grammar.{is, more_parts, one_part}
+use Rattle.tm_parser.specs.Grammar.{more_parts, one_part}
+use Rattle.tm_parser.specs.Tokens.{is}
 use Rattle.tm_parser.specs.Grammar.{Inside, more_items, comma, one_passed, more_passed, single, more_targets, target_comma, whole}
 use Rattle.tm_parser.specs.Statements.{iterated_comma, more_filters, more_iterated}
 

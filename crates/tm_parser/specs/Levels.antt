@@ -7,7 +7,8 @@ use Rattle.tm_syntax.specs.declared.tree.Expr.{Expr}
 use Rattle.tm_syntax.specs.declared.tree.Expr.TheVariants as exprs
 use Rattle.tm_parser.specs.declared.expressions.OperandStart.{OperandStart}
 use Rattle.tm_grammar.specs.Combinators.{first, branch, pure, ◌>>=◌}
-use Rattle.tm_parser.specs.Grammar.{Rule, Inside, postfix_level, prefix_of, primary, link, operand, steps_from, chained}
+use Rattle.tm_parser.specs.Grammar.{Rule, Inside, primary, operand, steps_from, chained}
+use Rattle.tm_parser.specs.Tokens.{postfix_level, prefix_of, link}
 
 abbrev pub up_to : {A : Type 0} → ℕ → Option (ℕ × A) → Option (ℕ × A)
 up_to level None = None

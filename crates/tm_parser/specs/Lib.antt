@@ -4,3 +4,4 @@ pub mod Looks
 pub mod Parses
 pub mod Statements
 pub mod Template
+pub mod Tokens

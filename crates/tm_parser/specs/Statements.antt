@@ -19,6 +19,7 @@ use Rattle.tm_syntax.specs.Forms.{plain, spread, chained as chained_steps}
 use Rattle.tm_syntax.specs.declared.tree.Expr.TheVariants as exprs
 use Rattle.tm_syntax.specs.declared.tree.AssignmentTarget.{AssignmentTarget}
 use Rattle.tm_syntax.specs.declared.tree.Assignment.{Assignment}
+use Rattle.tm_syntax.specs.declared.tree.CaptureUse.{CaptureUse}
 use Rattle.tm_syntax.specs.declared.tree.CaptureUse.TheVariants as uses
 use Rattle.tm_syntax.specs.declared.tree.Stmt.{Stmt}
 use Rattle.tm_syntax.specs.declared.tree.Stmt.TheVariants as stmts
@@ -28,7 +29,8 @@ use Rattle.tm_parser.specs.declared.targets.LoopHead.{LoopHead}
 use Rattle.tm_grammar.specs.Combinators.{provided, first, nothing, pure, ◌>>=◌, branch, token, not_before, one_more, many_from}
 use Rattle.tm_grammar.specs.Rule.{Look}
 use Rattle.tm_parser.specs.Looks.{ahead}
-use Rattle.tm_parser.specs.Grammar.{Rule, is, a_name, is_comma, Inside, inside, items, whole, expr, target}
+use Rattle.tm_parser.specs.Grammar.{Rule, Inside, inside, items, whole, expr, target}
+use Rattle.tm_parser.specs.Tokens.{is, a_name, is_comma}
 
 -- this tag
 abbrev pub is_tag : Tag → Token → Option (Unit {0})
@@ -153,11 +155,9 @@ unfoldable pub rest : Inside → Inner → Bool → Rule (Option (List Stmt))
 rest i t looping = branch (first (is_tag tags.Elif)) (λ _. elif_tag i t looping) (else_or_end t tags.Endif looping)
 
 -- A loop's else part stands outside of it.
-unfoldable pub for_tag : Inside → Inner → Bool → Rule Stmt
-for_tag i t looping = do
-  to ← i.target
-  word ← token (is sign.In)
-  over ← t.loop_head
+-- a loop behind its head
+unfoldable pub for_body : Inner → Bool → AssignmentTarget → LoopHead → Rule Stmt
+for_body t looping to over = do
   body ← t.body true
   other ← t.else_or_end tags.Endfor looping
   pure (stmts.For (record {
@@ -168,6 +168,13 @@ for_tag i t looping = do
     body = body;
     other = other;
   }))
+
+unfoldable pub for_tag : Inside → Inner → Bool → Rule Stmt
+for_tag i t looping = do
+  to ← i.target
+  word ← token (is sign.In)
+  over ← t.loop_head
+  for_body t looping to over
 
 -- a statement of one word that stands nowhere but inside a loop
 unfoldable pub jump : Bool → Stmt → Rule Stmt
@@ -257,13 +264,18 @@ unfoldable pub more_filters : Inside → List Step → Rule (List Step)
 more_filters i xs = many_from (first (is sign.Bar)) (λ _. i.filter) xs
 
 -- what stands behind the target of a `set` without `=`
+-- what a body writes is filtered and used
+unfoldable pub captured : Inner → Tag → Bool → CaptureUse → List Step → Rule Stmt
+captured t end looping becomes filters = do
+  body ← t.body looping
+  last ← lone end
+  pure (stmts.CaptureBlock becomes filters body)
+
 unfoldable pub set_block : Inside → Inner → Bool → AssignmentTarget → Rule Stmt
 set_block i t looping to = do
   filters ← more_filters i []
   close ← block_end
-  body ← t.body looping
-  last ← lone tags.Endset
-  pure (stmts.CaptureBlock (uses.Assign to) filters body)
+  captured t tags.Endset looping (uses.Assign to) filters
 
 unfoldable pub set_tag : Inside → Inner → Bool → Rule Stmt
 set_tag i t looping = do
@@ -275,9 +287,7 @@ filter_tag i t looping = do
   one ← one_more i.filter []
   filters ← more_filters i one
   close ← block_end
-  body ← t.body looping
-  last ← lone tags.Endfilter
-  pure (stmts.CaptureBlock uses.Emit filters body)
+  captured t tags.Endfilter looping uses.Emit filters
 
 unfoldable pub assignment : Inside → Rule Assignment
 assignment i = do

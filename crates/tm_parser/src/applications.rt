@@ -8,6 +8,7 @@ ghost use Rattle.tm_grammar.specs.Combinators.{one_more};
 ghost use Rattle.tm_values.specs.declared.error.ErrorKind.TheVariants.{OutOfMemory};
 
 use crate::cursor::{Cursor, refusal};
+use crate::lists::with_one;
 use crate::primaries::Passed;
 use sqlite_items::Items;
 use std::alloc::Global;
@@ -55,9 +56,8 @@ impl Cursor<'_> {
         ensures { Parses result self.new
             ((one_more (inside depth).filter filters).reads self.old) }
     {
-        let mut filters = filters;
-        filters.push(self.inner_filter(alloc, depth)?)?;
-        Ok(filters)
+        let filter = self.inner_filter(alloc, depth)?;
+        with_one(filters, filter)
     }
 
     /// A filter inside one nesting more.
@@ -114,10 +114,8 @@ impl Cursor<'_> {
         ensures { Parses result self.new ((passed_to_test (inside depth)).reads self.old) }
     {
         if let Some(argument) = self.take_bare(alloc)? {
-            let mut by_place = Items::new(alloc);
-            by_place.push(Argument::Plain(argument))?;
             return Ok(Passed {
-                by_place,
+                by_place: with_one(Items::new(alloc), Argument::Plain(argument))?,
                 by_name: Items::new(alloc),
             });
         }

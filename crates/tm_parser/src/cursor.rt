@@ -1,8 +1,9 @@
 //! Tokens one after another.
 ghost use Rattle.std.specs.Prelude.{◌≡◌, ◌∷◌, [], ◌↔◌, IsTrue, MatchResult, is_some};
 ghost use Rattle.tm_parser.specs.Parses.{Parses, TakesFirst, TakesSign};
-ghost use Rattle.tm_parser.specs.Grammar.{is, a_name, a_constant, comma, ends_part, ends_target, is_comma, keyword_start, link};
-ghost use Rattle.tm_parser.specs.Grammar.{a_target_link, a_test_word, bare, is_kept, target_comma};
+ghost use Rattle.tm_parser.specs.Tokens.{is, a_name, a_constant, a_test_word, bare, is_comma, is_kept, link};
+ghost use Rattle.tm_parser.specs.Tokens.{a_target_link, ends_part, ends_target};
+ghost use Rattle.tm_parser.specs.Grammar.{comma, keyword_start, target_comma};
 ghost use Rattle.tm_parser.specs.Levels.{GoesOnAt, prefix_up_to};
 ghost use Rattle.tm_parser.specs.Looks.{starts};
 ghost use Rattle.tm_parser.specs.Statements.{a_start, ends_iterated, is_tag, is_word, iterated_comma, lone, same_name};
@@ -10,6 +11,7 @@ ghost use Rattle.tm_grammar.specs.Combinators.{token};
 ghost use Rattle.tm_grammar.specs.Meanings.{first_sees};
 ghost use Rattle.tm_syntax.specs.declared.token.Sign.TheVariants as sign;
 
+use crate::lists::boxed;
 use crate::tables::{
     Link, POSTFIX_LEVEL, Start, constant_of, link_of, negated_link_of, prefix_of, start_of,
     target_link, test_word,
@@ -307,15 +309,16 @@ impl<'t> Cursor<'t> {
                 if is_kept(name) {
                     return Ok(None);
                 }
-                Boxed::new(alloc, Expr::Var(name.share()?))?
+                Expr::Var(name.share()?)
             }
-            [Token::Literal(value), ..] => Boxed::new(alloc, Expr::Const(value.share()?))?,
+            [Token::Literal(value), ..] => Expr::Const(value.share()?),
             [Token::Sign(sign), ..] => match constant_of(*sign) {
-                Some(value) => Boxed::new(alloc, Expr::Const(value))?,
+                Some(value) => Expr::Const(value),
                 None => return Ok(None),
             },
             _ => return Ok(None),
         };
+        let expr = boxed(alloc, expr)?;
         self.rest = &self.rest[1..];
         Ok(Some(expr))
     }

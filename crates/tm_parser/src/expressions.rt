@@ -13,6 +13,7 @@ ghost use Rattle.tm_grammar.specs.Combinators.{one_more};
 ghost use Rattle.tm_values.specs.declared.error.ErrorKind.TheVariants.{OutOfMemory};
 
 use crate::cursor::{Cursor, refusal};
+use crate::lists::{boxed, with_one};
 use crate::tables::{Link, OR_LEVEL, POSTFIX_LEVEL};
 use sqlite_items::{Boxed, Items};
 use std::alloc::Global;
@@ -109,11 +110,9 @@ impl Cursor<'_> {
         ensures { Parses result self.new
             ((one_more (condition (inside depth)) conditions).reads self.old) }
     {
-        let mut conditions = conditions;
         let test = self.whole(alloc, depth)?;
         let otherwise = self.else_part(alloc, depth)?;
-        conditions.push(Condition { test, otherwise })?;
-        Ok(conditions)
+        with_one(conditions, Condition { test, otherwise })
     }
 
     /// What stands behind `else`, if it stands there.
@@ -221,9 +220,8 @@ impl Cursor<'_> {
             ((one_more (step (inside depth) (operand (inside depth) level) level link) steps).reads
             self.old) }
     {
-        let mut steps = steps;
-        steps.push(self.step(alloc, depth, level, link)?)?;
-        Ok(steps)
+        let step = self.step(alloc, depth, level, link)?;
+        with_one(steps, step)
     }
 
     /// The step of a link.
@@ -388,10 +386,8 @@ impl Cursor<'_> {
         let Link::Comparison(operator) = link else {
             return Err(refusal());
         };
-        let mut comparisons = comparisons;
         let right = self.operand(alloc, depth, level)?;
-        comparisons.push(Comparison { operator, right })?;
-        Ok(comparisons)
+        with_one(comparisons, Comparison { operator, right })
     }
 
     /// The right side of `and`.
@@ -422,7 +418,7 @@ fn missing(alloc: Global) -> Result<Boxed<Expr>, Error>
         (λ expr. expr ≡ grammar.missing)
         (λ e. e ≡ OutOfMemory ∷ []) }
 {
-    Ok(Boxed::new(alloc, Expr::Const(Value::none()))?)
+    boxed(alloc, Expr::Const(Value::none()))
 }
 
 /// What stands for a missing else part. OutOfMemory for want of memory.
@@ -432,7 +428,7 @@ fn no_else(alloc: Global) -> Result<Boxed<Expr>, Error>
         (λ expr. expr ≡ grammar.no_else)
         (λ e. e ≡ OutOfMemory ∷ []) }
 {
-    Ok(Boxed::new(alloc, Expr::Const(Value::silent_undefined()))?)
+    boxed(alloc, Expr::Const(Value::silent_undefined()))
 }
 
 /// A comparison, and those in a row behind it.
@@ -463,7 +459,7 @@ fn conditional(
     if conditions.is_empty() {
         return Ok(value);
     }
-    Ok(Boxed::new(alloc, Expr::Conditional(value, conditions))?)
+    boxed(alloc, Expr::Conditional(value, conditions))
 }
 
 /// An operator before its operand. OutOfMemory for want of memory.
@@ -473,7 +469,7 @@ fn unary(alloc: Global, operator: UnaryOperator, operand: Boxed<Expr>) -> Result
         (λ expr. expr ≡ exprs.Unary operator operand)
         (λ e. e ≡ OutOfMemory ∷ []) }
 {
-    Ok(Boxed::new(alloc, Expr::Unary(operator, operand))?)
+    boxed(alloc, Expr::Unary(operator, operand))
 }
 
 /// A value and its steps; the value itself where there are none. OutOfMemory for want of memory.
@@ -487,5 +483,5 @@ pub fn chained(alloc: Global, value: Boxed<Expr>, steps: Items<Step>) -> Result<
     if steps.is_empty() {
         return Ok(value);
     }
-    Ok(Boxed::new(alloc, Expr::Chain(value, steps))?)
+    boxed(alloc, Expr::Chain(value, steps))
 }

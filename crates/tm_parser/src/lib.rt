@@ -5,6 +5,7 @@ mod applications;
 mod blocks;
 mod cursor;
 mod expressions;
+mod lists;
 mod primaries;
 mod statements;
 mod tables;

@@ -8,6 +8,7 @@ ghost use Rattle.tm_grammar.specs.Combinators.{one_more};
 ghost use Rattle.tm_syntax.specs.declared.token.Sign.TheVariants as sign;
 
 use crate::cursor::{Cursor, refusal};
+use crate::lists::{boxed, with_one};
 use sqlite_items::{Boxed, Items};
 use std::alloc::Global;
 use tm_syntax::{Argument, Expr, Keyword, Name, Pair, Sign};
@@ -32,7 +33,7 @@ impl Cursor<'_> {
         ensures { Parses result self.new ((primary (inside depth)).reads self.old) }
     {
         if let Some(value) = self.take_constant()? {
-            return Ok(Boxed::new(alloc, Expr::Const(value))?);
+            return boxed(alloc, Expr::Const(value));
         }
         if let Some(name) = self.take_name()? {
             return self.named(alloc, depth, name);
@@ -59,7 +60,7 @@ impl Cursor<'_> {
         if self.take(Sign::OpenRound) {
             return self.called(alloc, depth, name);
         }
-        Ok(Boxed::new(alloc, Expr::Var(name))?)
+        boxed(alloc, Expr::Var(name))
     }
 
     /// The call of a name behind its opening bracket.
@@ -71,7 +72,7 @@ impl Cursor<'_> {
     {
         self.room(depth)?;
         let given = self.all_passed(alloc, depth)?;
-        Ok(Boxed::new(alloc, Expr::Call(name, given.by_place, given.by_name))?)
+        boxed(alloc, Expr::Call(name, given.by_place, given.by_name))
     }
 
     /// The expression or tuple in round brackets, and their end.
@@ -83,7 +84,7 @@ impl Cursor<'_> {
     {
         self.room(depth)?;
         if self.take(Sign::CloseRound) {
-            return Ok(Boxed::new(alloc, Expr::Tuple(Items::new(alloc)))?);
+            return boxed(alloc, Expr::Tuple(Items::new(alloc)));
         }
         let first = self.inner_expr(alloc, depth)?;
         if self.take(Sign::CloseRound) {
@@ -113,10 +114,9 @@ impl Cursor<'_> {
         ensures { Parses result self.new ((tuple (inside depth) first).reads self.old) }
     {
         self.expect(Sign::Comma)?;
-        let mut items = Items::new(alloc);
-        items.push(first.into_inner())?;
+        let items = with_one(Items::new(alloc), first.into_inner())?;
         let items = self.exprs(alloc, depth, Sign::CloseRound, items)?;
-        Ok(Boxed::new(alloc, Expr::Tuple(items))?)
+        boxed(alloc, Expr::Tuple(items))
     }
 
     /// The items of a list, and the end of its brackets.
@@ -128,7 +128,7 @@ impl Cursor<'_> {
     {
         self.room(depth)?;
         let items = self.exprs(alloc, depth, Sign::CloseSquare, Items::new(alloc))?;
-        Ok(Boxed::new(alloc, Expr::List(items))?)
+        boxed(alloc, Expr::List(items))
     }
 
     /// The pairs of a map, and the end of its brackets.
@@ -140,7 +140,7 @@ impl Cursor<'_> {
     {
         self.room(depth)?;
         let pairs = self.pairs(alloc, depth)?;
-        Ok(Boxed::new(alloc, Expr::Map(pairs))?)
+        boxed(alloc, Expr::Map(pairs))
     }
 
     /// More expressions behind others, up to a sign and with it.
@@ -195,10 +195,8 @@ impl Cursor<'_> {
     ) -> Result<Items<Expr>, Error>
         ensures { Parses result self.new ((one_more (inside depth).expr exprs).reads self.old) }
     {
-        let mut exprs = exprs;
         let value = self.inner_expr(alloc, depth)?;
-        exprs.push(value.into_inner())?;
-        Ok(exprs)
+        with_one(exprs, value.into_inner())
     }
 
     /// The pairs of a map, and the end of its brackets.
@@ -250,12 +248,10 @@ impl Cursor<'_> {
         ensures { Parses result self.new
             ((one_more (pair (inside depth)) pairs).reads self.old) }
     {
-        let mut pairs = pairs;
         let key = self.inner_expr(alloc, depth)?;
         self.expect(Sign::Colon)?;
         let value = self.inner_expr(alloc, depth)?;
-        pairs.push(Pair { key, value })?;
-        Ok(pairs)
+        with_one(pairs, Pair { key, value })
     }
 
     /// The arguments of a call, and the end of its brackets.

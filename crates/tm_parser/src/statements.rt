@@ -3,8 +3,8 @@ ghost use Rattle.std.specs.Prelude.{◌≡◌, ◌++◌, [], ◌∷◌, false, i
 ghost use Rattle.tm_parser.specs.Parses.{Parses};
 ghost use Rattle.tm_parser.specs.Grammar.{inside};
 ghost use Rattle.tm_parser.specs.Statements as spec;
-ghost use Rattle.tm_parser.specs.Statements.{autoescape_tag, block_end, block_tag, body, do_tag, elif_tag, else_or_end, else_tag};
-ghost use Rattle.tm_parser.specs.Statements.{emission, filter_tag, for_tag, if_tag, inner, jump, rest, set_block, set_tag};
+ghost use Rattle.tm_parser.specs.Statements.{autoescape_tag, block_end, block_tag, body, captured, do_tag, elif_tag, else_or_end};
+ghost use Rattle.tm_parser.specs.Statements.{else_tag, emission, filter_tag, for_body, for_tag, if_tag, inner, jump, rest, set_block, set_tag};
 ghost use Rattle.tm_parser.specs.Statements.{set_value, statement, with_tag};
 ghost use Rattle.tm_grammar.specs.Combinators.{one_more, provided};
 ghost use Rattle.tm_syntax.specs.declared.tree.Stmt.TheVariants.{Break, Continue};
@@ -13,6 +13,7 @@ ghost use Rattle.tm_syntax.specs.declared.tree.Argument.TheBlock.{hidden-the_row
 ghost use Rattle.tm_syntax.specs.declared.tree.Argument.TheBlock.{hidden-the_row-Argument-3 as row_of_arguments};
 
 use crate::cursor::{Cursor, refusal};
+use crate::lists::with_one;
 use crate::tables::Start;
 use crate::targets::LoopHead;
 use sqlite_items::{Boxed, Items};
@@ -139,9 +140,8 @@ impl Cursor<'_> {
             ((one_more (statement (inside depth) (inner depth) looping start) body).reads
             self.old) }
     {
-        let mut body = body;
-        body.push(self.statement(alloc, depth, looping, start)?)?;
-        Ok(body)
+        let statement = self.statement(alloc, depth, looping, start)?;
+        with_one(body, statement)
     }
 
     /// The statement behind its start.
@@ -230,8 +230,7 @@ impl Cursor<'_> {
         self.expect(Sign::BlockEnd)?;
         let body = self.inner_body(alloc, depth, looping)?;
         let other = self.inner_rest(alloc, depth, looping)?;
-        let mut part = Items::new(alloc);
-        part.push(Stmt::If(condition, body, other))?;
+        let part = with_one(Items::new(alloc), Stmt::If(condition, body, other))?;
         Ok(Some(part))
     }
 
@@ -273,7 +272,7 @@ impl Cursor<'_> {
     }
 
     /// The target of a `for`, what it goes over, its condition, whether it can be called, its body,
-    /// and all up to its end tag. Around its else part is no other loop than around it.
+    /// and all up to its end tag.
     #[cycle(statements)]
     #[tactic(auto, unfolding(crate::specs::Statements::for_tag))]
     fn for_tag(&mut self, alloc: Global, depth: u8, looping: bool) -> Result<Stmt, Error>
@@ -282,18 +281,32 @@ impl Cursor<'_> {
     {
         let target = self.inner_target(alloc, depth)?;
         self.expect(Sign::In)?;
-        let LoopHead {
-            iterable,
-            condition,
-            recursive,
-        } = self.inner_loop_head(alloc, depth)?;
+        let head = self.inner_loop_head(alloc, depth)?;
+        self.for_body(alloc, depth, looping, target, head)
+    }
+
+    /// The body of a `for`, and all up to its end tag. Around its else part is no other loop than
+    /// around it.
+    #[cycle(statements)]
+    #[tactic(auto, unfolding(crate::specs::Statements::for_body))]
+    fn for_body(
+        &mut self,
+        alloc: Global,
+        depth: u8,
+        looping: bool,
+        target: AssignmentTarget,
+        head: LoopHead,
+    ) -> Result<Stmt, Error>
+        ensures { Parses result self.new
+            ((for_body (inner depth) looping target head).reads self.old) }
+    {
         let body = self.inner_body(alloc, depth, true)?;
         let other = self.inner_else_or_end(alloc, depth, Tag::Endfor, looping)?;
         Ok(Stmt::For(ForLoop {
             target,
-            iterable,
-            condition,
-            recursive,
+            iterable: head.iterable,
+            condition: head.condition,
+            recursive: head.recursive,
             body,
             other,
         }))
@@ -386,9 +399,28 @@ impl Cursor<'_> {
     {
         let filters = self.more_filters(alloc, depth, Items::new(alloc))?;
         self.expect(Sign::BlockEnd)?;
+        let becomes = CaptureUse::Assign(target);
+        self.captured(alloc, depth, Tag::Endset, looping, becomes, filters)
+    }
+
+    /// A body whose text is filtered and used, up to this end tag.
+    #[cycle(statements)]
+    #[tactic(auto, unfolding(crate::specs::Statements::captured))]
+    fn captured(
+        &mut self,
+        alloc: Global,
+        depth: u8,
+        end: Tag,
+        looping: bool,
+        becomes: CaptureUse,
+        filters: Items<Step>,
+    ) -> Result<Stmt, Error>
+        ensures { Parses result self.new
+            ((captured (inner depth) end looping becomes filters).reads self.old) }
+    {
         let body = self.inner_body(alloc, depth, looping)?;
-        self.expect_lone(Tag::Endset)?;
-        Ok(Stmt::CaptureBlock(CaptureUse::Assign(target), filters, body))
+        self.expect_lone(end)?;
+        Ok(Stmt::CaptureBlock(becomes, filters, body))
     }
 
     /// The filters of a `filter` and its body, up to its end tag.
@@ -401,9 +433,14 @@ impl Cursor<'_> {
         let first = self.one_filter(alloc, depth, Items::new(alloc))?;
         let filters = self.more_filters(alloc, depth, first)?;
         self.expect(Sign::BlockEnd)?;
-        let body = self.inner_body(alloc, depth, looping)?;
-        self.expect_lone(Tag::Endfilter)?;
-        Ok(Stmt::CaptureBlock(CaptureUse::Emit, filters, body))
+        self.captured(
+            alloc,
+            depth,
+            Tag::Endfilter,
+            looping,
+            CaptureUse::Emit,
+            filters,
+        )
     }
 
     /// The assignments of a `with` and its body, up to its end tag.
@@ -445,18 +482,6 @@ impl Cursor<'_> {
         self.expect(Sign::BlockEnd)?;
         Ok(Stmt::Do(call))
     }
-}
-
-/// Statements with one more. OutOfMemory for want of memory.
-#[inline(always)]
-fn with_one(body: Items<Stmt>, statement: Stmt) -> Result<Items<Stmt>, Error>
-    ensures { MatchResult result
-        (λ items. items ≡ body ++ statement ∷ [])
-        (λ e. e ≡ OutOfMemory ∷ []) }
-{
-    let mut body = body;
-    body.push(statement)?;
-    Ok(body)
 }
 
 /// Statements with one more that emits a value. OutOfMemory for want of memory.

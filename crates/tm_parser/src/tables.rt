@@ -1,6 +1,6 @@
 //! What a sign or a tag begins: the tables of the grammar.
 ghost use Rattle.std.specs.Prelude.{◌≡◌, MatchOption, Some, None};
-ghost use Rattle.tm_parser.specs.Grammar as grammar;
+ghost use Rattle.tm_parser.specs.Tokens as tokens;
 ghost use Rattle.tm_parser.specs.Statements as statements;
 
 use tm_syntax::{BinaryOperator, RawText, Sign, Tag, UnaryOperator};
@@ -78,7 +78,7 @@ pub const OR_LEVEL: u8 = 7;
 
 /// How a sign goes on with a value, and at which level.
 pub fn link_of(sign: Sign) -> Option<(u8, Link)>
-    ensures { result ≡ grammar.link_of sign }
+    ensures { result ≡ tokens.link_of sign }
 {
     Some(match sign {
         Sign::Dot => (POSTFIX_LEVEL, Link::Member),
@@ -133,7 +133,7 @@ pub fn link_of(sign: Sign) -> Option<(u8, Link)>
 
 /// How a sign behind `not` goes on with a value, and at which level.
 pub fn negated_link_of(sign: Sign) -> Option<(u8, Link)>
-    ensures { result ≡ grammar.negated_link_of sign }
+    ensures { result ≡ tokens.negated_link_of sign }
 {
     Some(match sign {
         Sign::In => (COMPARISON_LEVEL, Link::Comparison(BinaryOperator::NotIn)),
@@ -179,7 +179,7 @@ pub fn negated_link_of(sign: Sign) -> Option<(u8, Link)>
 
 /// How a sign goes on with a target, which a bar ends.
 pub fn target_link(sign: Sign) -> Option<Link>
-    ensures { result ≡ grammar.target_link sign }
+    ensures { result ≡ tokens.target_link sign }
 {
     match sign {
         Sign::Dot => Some(Link::Member),
@@ -192,7 +192,7 @@ pub fn target_link(sign: Sign) -> Option<Link>
 
 /// The operator before an operand, and the level of the operand.
 pub fn prefix_of(sign: Sign) -> Option<(u8, UnaryOperator)>
-    ensures { result ≡ grammar.prefix_of sign }
+    ensures { result ≡ tokens.prefix_of sign }
 {
     Some(match sign {
         Sign::Minus => (POWER_LEVEL, UnaryOperator::Negate),
@@ -238,7 +238,7 @@ pub fn prefix_of(sign: Sign) -> Option<(u8, UnaryOperator)>
 
 /// The value of a reserved word.
 pub fn constant_of(sign: Sign) -> Option<Value>
-    ensures { result ≡ grammar.constant_of sign }
+    ensures { result ≡ tokens.constant_of sign }
 {
     Some(match sign {
         Sign::True => Value::boolean(true),
@@ -284,8 +284,8 @@ pub fn constant_of(sign: Sign) -> Option<Value>
 
 /// The reserved word that names a test, `not` aside.
 pub fn test_word(sign: Sign) -> Option<&'static str>
-    ensures { MatchOption result (grammar.test_word sign ≡ None)
-        (λ word. grammar.test_word sign ≡ Some word.now) }
+    ensures { MatchOption result (tokens.test_word sign ≡ None)
+        (λ word. tokens.test_word sign ≡ Some word.now) }
 {
     Some(match sign {
         Sign::And => "and",

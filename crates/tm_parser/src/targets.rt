@@ -12,6 +12,7 @@ ghost use Rattle.tm_syntax.specs.declared.token.Sign.TheVariants as sign;
 
 use crate::cursor::{Cursor, refusal};
 use crate::expressions::chained;
+use crate::lists::{boxed, with_one};
 use crate::tables::POSTFIX_LEVEL;
 use sqlite_items::{Boxed, Items};
 use std::alloc::Global;
@@ -67,8 +68,7 @@ impl Cursor<'_> {
     ) -> Result<AssignmentTarget, Error>
         ensures { Parses result self.new ((several (inside depth) first).reads self.old) }
     {
-        let mut targets = Items::new(alloc);
-        targets.push(first)?;
+        let targets = with_one(Items::new(alloc), first)?;
         let targets = self.more_targets(alloc, depth, targets)?;
         self.take(Sign::Comma);
         Ok(AssignmentTarget::Unpack(targets))
@@ -103,9 +103,8 @@ impl Cursor<'_> {
         ensures { Parses result self.new
             ((one_more (single (inside depth)) targets).reads self.old) }
     {
-        let mut targets = targets;
-        targets.push(self.single(alloc, depth)?)?;
-        Ok(targets)
+        let target = self.single(alloc, depth)?;
+        with_one(targets, target)
     }
 
     /// A target with no comma outside brackets.
@@ -205,11 +204,10 @@ impl Cursor<'_> {
     ) -> Result<Boxed<Expr>, Error>
         ensures { Parses result self.new ((iterated_tuple (inside depth) first).reads self.old) }
     {
-        let mut items = Items::new(alloc);
-        items.push(first.into_inner())?;
+        let items = with_one(Items::new(alloc), first.into_inner())?;
         let items = self.more_iterated(alloc, depth, items)?;
         self.take(Sign::Comma);
-        Ok(Boxed::new(alloc, Expr::Tuple(items))?)
+        boxed(alloc, Expr::Tuple(items))
     }
 
     /// More values, each behind a comma.
@@ -239,10 +237,8 @@ impl Cursor<'_> {
         ensures { Parses result self.new
             ((one_more (whole (inside depth)) items).reads self.old) }
     {
-        let mut items = items;
         let value = self.whole(alloc, depth)?;
-        items.push(value.into_inner())?;
-        Ok(items)
+        with_one(items, value.into_inner())
     }
 
     /// An expression or a tuple without brackets, and the end of the tag.
@@ -268,10 +264,9 @@ impl Cursor<'_> {
         ensures { Parses result self.new ((bare_tuple (inside depth) first).reads self.old) }
     {
         self.expect(Sign::Comma)?;
-        let mut items = Items::new(alloc);
-        items.push(first.into_inner())?;
+        let items = with_one(Items::new(alloc), first.into_inner())?;
         let items = self.bare_items(alloc, depth, items)?;
-        Ok(Boxed::new(alloc, Expr::Tuple(items))?)
+        boxed(alloc, Expr::Tuple(items))
     }
 
     /// More expressions behind others, and the end of the tag.
@@ -323,10 +318,8 @@ impl Cursor<'_> {
         ensures { Parses result self.new
             ((one_more (expr (inside depth)) items).reads self.old) }
     {
-        let mut items = items;
         let value = self.expr(alloc, depth)?;
-        items.push(value.into_inner())?;
-        Ok(items)
+        with_one(items, value.into_inner())
     }
 
     /// Assignments, and the end of the tag.
@@ -374,9 +367,8 @@ impl Cursor<'_> {
         ensures { Parses result self.new
             ((one_more (assignment (inside depth)) assignments).reads self.old) }
     {
-        let mut assignments = assignments;
-        assignments.push(self.assignment(alloc, depth)?)?;
-        Ok(assignments)
+        let assignment = self.assignment(alloc, depth)?;
+        with_one(assignments, assignment)
     }
 
     /// A target, and what is given to it.

@@ -1,7 +1,10 @@
 //! Compiled templates.
-ghost use Rattle.std.specs.Prelude.{◌≡◌, [], ◌∷◌, IfOk, IfErr, string_bytes};
+ghost use Rattle.std.specs.BTreeSet.{keys};
+ghost use Rattle.std.specs.Prelude.{◌≡◌, [], ◌∷◌, IfOk, IfErr, map as each, string_bytes};
 ghost use Rattle.std.specs.Rc.{rc_str_bytes};
+ghost use Rattle.tm_names.specs.Names.{undeclared};
 ghost use Rattle.tm_syntax.specs.Blocks.{code_of};
+ghost use Rattle.tm_syntax.specs.declared.tree.Stmt.TheBlock.{hidden-the_row-Stmt-0 as statements};
 ghost use Rattle.tm_syntax.specs.Named.{find};
 ghost use Rattle.tm_delimiters.specs.Syntax.{default_syntax};
 ghost use Rattle.tm_values.specs.Answer.{IsLent};
@@ -13,9 +16,11 @@ ghost use Rattle.tm_templates.specs.Sources.{source_bytes};
 
 use crate::defaults::EscapeSetting;
 use std::alloc::Global;
+use std::collections::BTreeSet;
 use std::marker::Model;
 use std::rc::RcStr;
 use tm_compiler::{Code, Name, NameMap, Streams, SyntaxConfig, Tree, generate, parse};
+use tm_names::undeclared;
 use tm_tables::EscapeRule;
 use tm_values::{AutoEscape, Error};
 
@@ -187,6 +192,20 @@ impl<'source> CompiledTemplate<'source> {
         ensures { result ≡ self.now.escape }
     {
         self.escape
+    }
+
+    /// The names that its tree reads where no open scope has assigned them before, each as its text; with what is nested
+    /// in them, as `a.b.c`, where that is asked for. OutOfMemory where there is no memory.
+    pub fn undeclared_variables(
+        &self,
+        alloc: Global,
+        nested: bool,
+    ) -> Result<BTreeSet<String>, Error>
+        ensures ok { IfOk result (λ names. each string_bytes (keys names)
+            ≡ undeclared nested (statements self.now.tree.statements)) }
+        ensures memory { IfErr result (λ e. e ≡ OutOfMemory ∷ []) }
+    {
+        undeclared(alloc, &self.tree, nested)
     }
 
     /// The code of its tree.

@@ -12,6 +12,8 @@ mod errors;
 mod flags;
 mod guards;
 #[cfg(test)]
+mod names;
+#[cfg(test)]
 mod output;
 #[cfg(test)]
 mod parts;

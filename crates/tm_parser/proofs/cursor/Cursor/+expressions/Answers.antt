@@ -2,7 +2,8 @@ use Rattle.std.proofs.Common.{◌+◌, ap, sym, ◌∙◌}
 use Rattle.std.proofs.lemmas.Result.{err_from_is_err_and}
 use Rattle.tm_syntax.specs.declared.token.Sign.TheVariants as sign
 use Rattle.tm_grammar.specs.Combinators.{first}
-use Rattle.tm_parser.specs.Grammar.{inside, is, steps_from, comparisons_from, conditions_from, link, step, behind_comparison, condition}
+use Rattle.tm_parser.specs.Grammar.{inside, steps_from, comparisons_from, conditions_from, step, behind_comparison, condition}
+use Rattle.tm_parser.specs.Tokens.{is, link}
 use Rattle.tm_parser.specs.Grammar.{operand, pair}
 use Rattle.tm_parser.proofs.Loops.{goes_on, comes_nearer, refuses, ends, comma_comes_nearer, comma_refuses, passed_comes_nearer}
 use Rattle.tm_parser.proofs.Loops.{passed_refuses, because}

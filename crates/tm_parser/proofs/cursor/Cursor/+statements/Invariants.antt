@@ -25,8 +25,14 @@ decreases-else_tag l = nesting_room * l.depth + 1
 abbrev pub decreases-if_tag : goal.decreases-if_tag
 decreases-if_tag l = nesting_room * l.depth + 1
 
+abbrev pub decreases-for_body : goal.decreases-for_body
+decreases-for_body l = nesting_room * l.depth + 1
+
+abbrev pub decreases-captured : goal.decreases-captured
+decreases-captured l = nesting_room * l.depth + 1
+
 abbrev pub decreases-for_tag : goal.decreases-for_tag
-decreases-for_tag l = nesting_room * l.depth + 1
+decreases-for_tag l = nesting_room * l.depth + 2
 
 abbrev pub decreases-block_tag : goal.decreases-block_tag
 decreases-block_tag l = nesting_room * l.depth + 1
@@ -35,16 +41,16 @@ abbrev pub decreases-with_tag : goal.decreases-with_tag
 decreases-with_tag l = nesting_room * l.depth + 1
 
 abbrev pub decreases-set_block : goal.decreases-set_block
-decreases-set_block l = nesting_room * l.depth + 1
+decreases-set_block l = nesting_room * l.depth + 2
 
 abbrev pub decreases-filter_tag : goal.decreases-filter_tag
-decreases-filter_tag l = nesting_room * l.depth + 1
+decreases-filter_tag l = nesting_room * l.depth + 2
 
 abbrev pub decreases-autoescape_tag : goal.decreases-autoescape_tag
 decreases-autoescape_tag l = nesting_room * l.depth + 1
 
 abbrev pub decreases-set_tag : goal.decreases-set_tag
-decreases-set_tag l = nesting_room * l.depth + 2
+decreases-set_tag l = nesting_room * l.depth + 3
 
 abbrev pub decreases-else_or_end : goal.decreases-else_or_end
 decreases-else_or_end l = nesting_room * l.depth + 2
@@ -53,16 +59,16 @@ abbrev pub decreases-rest : goal.decreases-rest
 decreases-rest l = nesting_room * l.depth + 3
 
 abbrev pub decreases-statement : goal.decreases-statement
-decreases-statement l = nesting_room * l.depth + 3
+decreases-statement l = nesting_room * l.depth + 4
 
 abbrev pub decreases-other_statement : goal.decreases-other_statement
-decreases-other_statement l = nesting_room * l.depth + 4
+decreases-other_statement l = nesting_room * l.depth + 5
 
 abbrev pub decreases-one_statement : goal.decreases-one_statement
-decreases-one_statement l = nesting_room * l.depth + 5
+decreases-one_statement l = nesting_room * l.depth + 6
 
 abbrev pub decreases-body : goal.decreases-body
-decreases-body l = nesting_room * l.depth + 6
+decreases-body l = nesting_room * l.depth + 7
 
 abbrev pub invariant-body-loop-body : goal.invariant-body-loop-body
 invariant-body-loop-body l = (more_statements (inside l.depth) (inner l.depth) l.looping l.body).reads l.self ≡

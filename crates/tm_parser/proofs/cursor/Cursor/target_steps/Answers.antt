@@ -1,8 +1,8 @@
 use Rattle.std.proofs.Common.{ap}
 use Rattle.std.proofs.lemmas.Result.{err_from_is_err_and}
 use Rattle.tm_grammar.specs.Combinators.{first}
-use Rattle.tm_grammar.specs.Rule.{Rule}
-use Rattle.tm_parser.specs.Grammar.{inside, a_target_link, operand, postfix_level, step, target_steps_from}
+use Rattle.tm_parser.specs.Grammar.{inside, operand, step, target_steps_from}
+use Rattle.tm_parser.specs.Tokens.{a_target_link, postfix_level}
 use Rattle.tm_parser.proofs.Loops.{goes_on, comes_nearer, refuses, ends}
 use Rattle.tm_parser.proofs.cursor.Cursor.target_steps.Goals as goal
 

@@ -1,0 +1,167 @@
+//! Names with the attributes behind them.
+ghost use Rattle.std.specs.Option.{option_copied};
+ghost use Rattle.std.specs.Prelude.{◌≡◌, ◌&&◌, [], ◌∷◌, IfOk, IfErr, OnOk};
+ghost use Rattle.std.specs.String.{string_bytes};
+ghost use Rattle.tm_names.specs.Names.{attribute_of, begins_bare, calls_block, dot, dotted};
+ghost use Rattle.tm_names.specs.Names.{is_bare_method, is_method, method_of, name_of};
+ghost use Rattle.tm_names.specs.Names.{no_arguments, no_keywords, with_member};
+ghost use Rattle.tm_syntax.specs.declared.tree.Argument.TheBlock.{hidden-the_row-Argument-3 as arguments};
+ghost use Rattle.tm_syntax.specs.declared.tree.Argument.TheBlock.{hidden-the_row-Keyword-4 as keywords};
+ghost use Rattle.tm_syntax.specs.declared.tree.Argument.TheBlock.{hidden-the_row-Step-5 as steps};
+ghost use Rattle.tm_values.specs.declared.error.ErrorKind.TheVariants.{OutOfMemory};
+
+use sqlite_items::Items;
+use std::alloc::Global;
+use tm_syntax::{Application, Argument, Expr, Keyword, Name, Step};
+use tm_values::Error;
+
+/// The name that an expression is; none of another expression.
+pub(crate) fn name_of(expr: &Expr) -> Option<&Name>
+    ensures { option_copied result ≡ name_of expr.now }
+{
+    match expr {
+        Expr::Var(name) => Some(name),
+        Expr::Const(_)
+        | Expr::List(_)
+        | Expr::Tuple(_)
+        | Expr::Map(_)
+        | Expr::Call(_, _, _)
+        | Expr::Unary(_, _)
+        | Expr::Chain(_, _)
+        | Expr::Conditional(_, _) => None,
+    }
+}
+
+/// The name of an attribute; none of another step.
+fn attribute_of(step: &Step) -> Option<&Name>
+    ensures { option_copied result ≡ attribute_of step.now }
+{
+    match step {
+        Step::Attribute(name) => Some(name),
+        Step::Item(_)
+        | Step::Apply(_, _, _, _)
+        | Step::Call(_, _)
+        | Step::Slice(_, _, _)
+        | Step::Binary(_, _)
+        | Step::Compare(_, _, _)
+        | Step::And(_)
+        | Step::Or(_) => None,
+    }
+}
+
+/// Whether a step calls a method.
+fn is_method(application: Application) -> bool
+    ensures { result ≡ is_method application }
+{
+    match application {
+        Application::Method => true,
+        Application::Filter | Application::Test | Application::NegatedTest => false,
+    }
+}
+
+/// The name of a method; none of another step.
+fn method_of(step: &Step) -> Option<&Name>
+    ensures { option_copied result ≡ method_of step.now }
+{
+    match step {
+        Step::Apply(application, name, _, _) => {
+            if is_method(*application) {
+                Some(name)
+            } else {
+                None
+            }
+        }
+        Step::Attribute(_)
+        | Step::Item(_)
+        | Step::Call(_, _)
+        | Step::Slice(_, _, _)
+        | Step::Binary(_, _)
+        | Step::Compare(_, _, _)
+        | Step::And(_)
+        | Step::Or(_) => None,
+    }
+}
+
+/// Whether there are no arguments.
+fn no_arguments(given: &Items<Argument>, named: &Items<Keyword>) -> bool
+    ensures { result ≡ (no_arguments (arguments given.now) && no_keywords (keywords named.now)) }
+{
+    given.is_empty() && named.is_empty()
+}
+
+/// Whether a step is a method without any arguments.
+fn is_bare_method(step: &Step) -> bool
+    ensures { result ≡ is_bare_method step.now }
+{
+    match step {
+        Step::Apply(application, _, given, named) => {
+            is_method(*application) && no_arguments(given, named)
+        }
+        Step::Attribute(_)
+        | Step::Item(_)
+        | Step::Call(_, _)
+        | Step::Slice(_, _, _)
+        | Step::Binary(_, _)
+        | Step::Compare(_, _, _)
+        | Step::And(_)
+        | Step::Or(_) => false,
+    }
+}
+
+/// Whether steps begin with a method without any arguments.
+fn begins_bare(after: &[Step]) -> bool
+    ensures { result ≡ begins_bare (steps after.now) }
+{
+    match after.first() {
+        Some(step) => is_bare_method(step),
+        None => false,
+    }
+}
+
+/// Whether a name with these steps is the text of one of the template's own blocks, `self.b()`.
+pub(crate) fn calls_block(name: &Name, after: &[Step]) -> bool
+    ensures { result ≡ calls_block name.now (steps after.now) }
+{
+    name.is("self") && begins_bare(after)
+}
+
+/// Adds an attribute to a text; OutOfMemory.
+fn push_member(text: &mut String, member: &Name) -> Result<(), Error>
+    ensures ok { OnOk result (string_bytes text.new ≡ dot (string_bytes text.old) member.now) }
+    ensures err { IfErr result (λ e. e ≡ OutOfMemory ∷ []) }
+{
+    text.push_str(".")?;
+    text.push_str(member.as_str())?;
+    Ok(())
+}
+
+/// Adds a method to a text; nothing of another step. OutOfMemory.
+fn push_last(text: &mut String, step: &Step) -> Result<(), Error>
+    ensures ok { OnOk result
+        (string_bytes text.new ≡ with_member (method_of step.now) (string_bytes text.old)) }
+    ensures err { IfErr result (λ e. e ≡ OutOfMemory ∷ []) }
+{
+    match method_of(step) {
+        Some(member) => push_member(text, member),
+        None => Ok(()),
+    }
+}
+
+/// A name with the attributes that stand first behind it, and a method directly behind these;
+/// OutOfMemory.
+pub(crate) fn dotted(alloc: Global, name: &Name, after: &[Step]) -> Result<String, Error>
+    ensures ok { IfOk result (λ text. string_bytes text ≡ dotted name.now (steps after.now)) }
+    ensures err { IfErr result (λ e. e ≡ OutOfMemory ∷ []) }
+{
+    let mut text = String::from_str(alloc, name.as_str())?;
+    for step in after {
+        match attribute_of(step) {
+            Some(member) => push_member(&mut text, member)?,
+            None => {
+                push_last(&mut text, step)?;
+                return Ok(text);
+            }
+        }
+    }
+    Ok(text)
+}

@@ -1,0 +1,248 @@
+//! The names in expressions.
+ghost use Rattle.std.specs.Prelude.{◌≡◌, [], ◌∷◌, OnOk, IfErr};
+ghost use Rattle.tm_names.specs.Names.{name_of, read_chain, read_first, read_function};
+ghost use Rattle.tm_names.specs.Names.{walk_argument, walk_arguments, walk_comparisons};
+ghost use Rattle.tm_names.specs.Names.{walk_conditions, walk_expr, walk_exprs, walk_filters};
+ghost use Rattle.tm_names.specs.Names.{walk_keyword, walk_keywords, walk_pairs, walk_step, walk_steps};
+ghost use Rattle.tm_syntax.specs.declared.tree.Argument.TheBlock.{hidden-the_row-Expr-1 as exprs};
+ghost use Rattle.tm_syntax.specs.declared.tree.Argument.TheBlock.{hidden-the_row-Pair-2 as pairs};
+ghost use Rattle.tm_syntax.specs.declared.tree.Argument.TheBlock.{hidden-the_row-Argument-3 as arguments};
+ghost use Rattle.tm_syntax.specs.declared.tree.Argument.TheBlock.{hidden-the_row-Keyword-4 as keywords};
+ghost use Rattle.tm_syntax.specs.declared.tree.Argument.TheBlock.{hidden-the_row-Step-5 as steps};
+ghost use Rattle.tm_syntax.specs.declared.tree.Argument.TheBlock.{hidden-the_row-Condition-6 as conditions};
+ghost use Rattle.tm_syntax.specs.declared.tree.Argument.TheBlock.{hidden-the_row-Comparison-7 as comparisons};
+ghost use Rattle.tm_values.specs.declared.error.ErrorKind.TheVariants.{OutOfMemory};
+
+use crate::chains::{calls_block, dotted, name_of};
+use crate::walker::Walker;
+use tm_syntax::{Argument, Comparison, Condition, Expr, Keyword, Name, Pair, Step};
+use tm_values::Error;
+
+impl Walker {
+    /// Reads the name that a call begins with; `super` is none. OutOfMemory.
+    fn read_function(&mut self, name: &Name) -> Result<(), Error>
+        ensures ok { OnOk result (self.new ≡ read_function name.now self.old) }
+        ensures err { IfErr result (λ e. e ≡ OutOfMemory ∷ []) }
+    {
+        if name.is("super") {
+            return Ok(());
+        }
+        self.read(name.as_str())
+    }
+
+    /// Reads a name with steps behind it, which `self.b()` does not; OutOfMemory.
+    fn read_chain(&mut self, nested: bool, name: &Name, after: &[Step]) -> Result<(), Error>
+        ensures ok { OnOk result
+            (self.new ≡ read_chain nested name.now (steps after.now) self.old) }
+        ensures err { IfErr result (λ e. e ≡ OutOfMemory ∷ []) }
+    {
+        if calls_block(name, after) {
+            return Ok(());
+        }
+        if nested {
+            let text = dotted(self.alloc(), name, after)?;
+            return self.read_as(name.as_str(), text.as_str());
+        }
+        self.read(name.as_str())
+    }
+
+    /// Walks over an expression; OutOfMemory.
+    #[cycle(expressions)]
+    pub(crate) fn walk_expr(&mut self, nested: bool, expr: &Expr) -> Result<(), Error>
+        ensures ok { OnOk result (self.new ≡ walk_expr nested expr.now self.old) }
+        ensures err { IfErr result (λ e. e ≡ OutOfMemory ∷ []) }
+    {
+        match expr {
+            Expr::Var(name) => self.read(name.as_str()),
+            Expr::Const(_) => Ok(()),
+            Expr::List(items) => self.walk_exprs(nested, items.as_slice()),
+            Expr::Tuple(items) => self.walk_exprs(nested, items.as_slice()),
+            Expr::Map(entries) => self.walk_pairs(nested, entries.as_slice()),
+            Expr::Call(name, given, named) => {
+                self.read_function(name)?;
+                self.walk_arguments(nested, given.as_slice())?;
+                self.walk_keywords(nested, named.as_slice())
+            }
+            Expr::Unary(_, operand) => self.walk_expr(nested, operand.get()),
+            Expr::Chain(first, after) => {
+                let after = after.as_slice();
+                self.walk_first(nested, first.get(), after)?;
+                self.walk_steps(nested, after)
+            }
+            Expr::Conditional(value, conditions) => {
+                self.walk_expr(nested, value.get())?;
+                self.walk_conditions(nested, conditions.as_slice())
+            }
+        }
+    }
+
+    /// Walks over what a chain begins with, of which these are the steps; OutOfMemory.
+    #[cycle(expressions)]
+    fn walk_first(&mut self, nested: bool, first: &Expr, after: &[Step]) -> Result<(), Error>
+        ensures ok { OnOk result (self.new ≡ read_first nested (name_of first.now)
+            (steps after.now) self.old (walk_expr nested first.now self.old)) }
+        ensures err { IfErr result (λ e. e ≡ OutOfMemory ∷ []) }
+    {
+        match name_of(first) {
+            Some(name) => self.read_chain(nested, name, after),
+            None => self.walk_expr(nested, first),
+        }
+    }
+
+    /// Walks over expressions; OutOfMemory.
+    #[cycle(expressions)]
+    fn walk_exprs(&mut self, nested: bool, items: &[Expr]) -> Result<(), Error>
+        ensures ok { OnOk result (self.new ≡ walk_exprs nested (exprs items.now) self.old) }
+        ensures err { IfErr result (λ e. e ≡ OutOfMemory ∷ []) }
+    {
+        for item in items {
+            self.walk_expr(nested, item)?;
+        }
+        Ok(())
+    }
+
+    /// Walks over pairs; OutOfMemory.
+    #[cycle(expressions)]
+    fn walk_pairs(&mut self, nested: bool, entries: &[Pair]) -> Result<(), Error>
+        ensures ok { OnOk result (self.new ≡ walk_pairs nested (pairs entries.now) self.old) }
+        ensures err { IfErr result (λ e. e ≡ OutOfMemory ∷ []) }
+    {
+        for entry in entries {
+            self.walk_expr(nested, entry.key.get())?;
+            self.walk_expr(nested, entry.value.get())?;
+        }
+        Ok(())
+    }
+
+    /// Walks over an argument; OutOfMemory.
+    #[cycle(expressions)]
+    fn walk_argument(&mut self, nested: bool, argument: &Argument) -> Result<(), Error>
+        ensures ok { OnOk result (self.new ≡ walk_argument nested argument.now self.old) }
+        ensures err { IfErr result (λ e. e ≡ OutOfMemory ∷ []) }
+    {
+        match argument {
+            Argument::Plain(value) => self.walk_expr(nested, value.get()),
+            Argument::Spread(value) => self.walk_expr(nested, value.get()),
+        }
+    }
+
+    /// Walks over arguments by their places; OutOfMemory.
+    #[cycle(expressions)]
+    fn walk_arguments(&mut self, nested: bool, given: &[Argument]) -> Result<(), Error>
+        ensures ok { OnOk result
+            (self.new ≡ walk_arguments nested (arguments given.now) self.old) }
+        ensures err { IfErr result (λ e. e ≡ OutOfMemory ∷ []) }
+    {
+        for argument in given {
+            self.walk_argument(nested, argument)?;
+        }
+        Ok(())
+    }
+
+    /// Walks over an argument by its name, which is not read; OutOfMemory.
+    #[cycle(expressions)]
+    fn walk_keyword(&mut self, nested: bool, keyword: &Keyword) -> Result<(), Error>
+        ensures ok { OnOk result (self.new ≡ walk_keyword nested keyword.now self.old) }
+        ensures err { IfErr result (λ e. e ≡ OutOfMemory ∷ []) }
+    {
+        match keyword {
+            Keyword::Named(_, value) => self.walk_expr(nested, value.get()),
+            Keyword::Spread(value) => self.walk_expr(nested, value.get()),
+        }
+    }
+
+    /// Walks over arguments by their names; OutOfMemory.
+    #[cycle(expressions)]
+    fn walk_keywords(&mut self, nested: bool, named: &[Keyword]) -> Result<(), Error>
+        ensures ok { OnOk result
+            (self.new ≡ walk_keywords nested (keywords named.now) self.old) }
+        ensures err { IfErr result (λ e. e ≡ OutOfMemory ∷ []) }
+    {
+        for keyword in named {
+            self.walk_keyword(nested, keyword)?;
+        }
+        Ok(())
+    }
+
+    /// Walks over conditions, each with what stands for a value where it is false; OutOfMemory.
+    #[cycle(expressions)]
+    fn walk_conditions(&mut self, nested: bool, asked: &[Condition]) -> Result<(), Error>
+        ensures ok { OnOk result
+            (self.new ≡ walk_conditions nested (conditions asked.now) self.old) }
+        ensures err { IfErr result (λ e. e ≡ OutOfMemory ∷ []) }
+    {
+        for condition in asked {
+            self.walk_expr(nested, condition.test.get())?;
+            self.walk_expr(nested, condition.otherwise.get())?;
+        }
+        Ok(())
+    }
+
+    /// Walks over a step; OutOfMemory.
+    #[cycle(expressions)]
+    fn walk_step(&mut self, nested: bool, step: &Step) -> Result<(), Error>
+        ensures ok { OnOk result (self.new ≡ walk_step nested step.now self.old) }
+        ensures err { IfErr result (λ e. e ≡ OutOfMemory ∷ []) }
+    {
+        match step {
+            Step::Attribute(_) => Ok(()),
+            Step::Item(key) => self.walk_expr(nested, key.get()),
+            Step::Apply(_, _, given, named) => {
+                self.walk_arguments(nested, given.as_slice())?;
+                self.walk_keywords(nested, named.as_slice())
+            }
+            Step::Call(given, named) => {
+                self.walk_arguments(nested, given.as_slice())?;
+                self.walk_keywords(nested, named.as_slice())
+            }
+            Step::Slice(start, stop, step) => {
+                self.walk_expr(nested, start.get())?;
+                self.walk_expr(nested, stop.get())?;
+                self.walk_expr(nested, step.get())
+            }
+            Step::Binary(_, right) => self.walk_expr(nested, right.get()),
+            Step::Compare(_, right, after) => {
+                self.walk_expr(nested, right.get())?;
+                self.walk_comparisons(nested, after.as_slice())
+            }
+            Step::And(right) => self.walk_expr(nested, right.get()),
+            Step::Or(right) => self.walk_expr(nested, right.get()),
+        }
+    }
+
+    /// Walks over comparisons; OutOfMemory.
+    #[cycle(expressions)]
+    fn walk_comparisons(&mut self, nested: bool, after: &[Comparison]) -> Result<(), Error>
+        ensures ok { OnOk result
+            (self.new ≡ walk_comparisons nested (comparisons after.now) self.old) }
+        ensures err { IfErr result (λ e. e ≡ OutOfMemory ∷ []) }
+    {
+        for comparison in after {
+            self.walk_expr(nested, comparison.right.get())?;
+        }
+        Ok(())
+    }
+
+    /// Walks over steps; OutOfMemory.
+    #[cycle(expressions)]
+    fn walk_steps(&mut self, nested: bool, after: &[Step]) -> Result<(), Error>
+        ensures ok { OnOk result (self.new ≡ walk_steps nested (steps after.now) self.old) }
+        ensures err { IfErr result (λ e. e ≡ OutOfMemory ∷ []) }
+    {
+        for step in after {
+            self.walk_step(nested, step)?;
+        }
+        Ok(())
+    }
+
+    /// Walks over the filters of a block; OutOfMemory.
+    pub(crate) fn walk_filters(&mut self, nested: bool, filters: &[Step]) -> Result<(), Error>
+        ensures ok { OnOk result (self.new ≡ walk_filters nested filters.now self.old) }
+        ensures err { IfErr result (λ e. e ≡ OutOfMemory ∷ []) }
+    {
+        for filter in filters {
+            self.walk_step(nested, filter)?;
+        }
+        Ok(())
+    }
+}

@@ -1,0 +1,172 @@
+//! The names in statements.
+ghost use Rattle.std.specs.BTreeSet.{keys};
+ghost use Rattle.std.specs.Prelude.{◌≡◌, [], ◌∷◌, OnOk, IfOk, IfErr, map};
+ghost use Rattle.std.specs.String.{string_bytes};
+ghost use Rattle.tm_names.specs.Names.{close_scope, open_scope, undeclared};
+ghost use Rattle.tm_names.specs.Names.{walk, walk_all, walk_assignments, walk_head};
+ghost use Rattle.tm_syntax.specs.declared.tree.Stmt.TheBlock.{hidden-the_row-Stmt-0 as statements};
+ghost use Rattle.tm_syntax.specs.declared.tree.Stmt.TheVariants.{For, If};
+ghost use Rattle.tm_values.specs.declared.error.ErrorKind.TheVariants.{OutOfMemory};
+
+use crate::walker::Walker;
+use sqlite_items::{Boxed, Items};
+use std::alloc::Global;
+use std::collections::BTreeSet;
+use tm_syntax::{Assignment, AssignmentTarget, Expr, ForLoop, Name, Stmt, Tree};
+use tm_values::Error;
+
+/// The names that a tree reads where no open scope has assigned them before, each as its text; with
+/// what is nested in them, as `a.b.c`, where that is asked for. OutOfMemory.
+pub fn undeclared(alloc: Global, tree: &Tree, nested: bool) -> Result<BTreeSet<String>, Error>
+    ensures ok { IfOk result
+        (λ names. map string_bytes (keys names) ≡ undeclared nested (statements tree.now.statements)) }
+    ensures err { IfErr result (λ e. e ≡ OutOfMemory ∷ []) }
+{
+    let mut walker = Walker::new(alloc)?;
+    walker.walk_all(nested, tree.statements.as_slice())?;
+    Ok(walker.into_found())
+}
+
+impl Walker {
+    /// Walks over a statement; OutOfMemory.
+    #[cycle(statements)]
+    fn walk(&mut self, nested: bool, statement: &Stmt) -> Result<(), Error>
+        ensures ok { OnOk result (self.new ≡ walk nested statement.now self.old) }
+        ensures err { IfErr result (λ e. e ≡ OutOfMemory ∷ []) }
+    {
+        match statement {
+            Stmt::EmitRaw(_) => Ok(()),
+            Stmt::EmitExpr(expr) => self.walk_expr(nested, expr.get()),
+            Stmt::EmitLoop(argument) => {
+                self.read("loop")?;
+                self.walk_expr(nested, argument.get())
+            }
+            Stmt::If(condition, body, other) => {
+                self.walk_if(nested, condition.get(), body.as_slice(), other)
+            }
+            Stmt::For(for_loop) => self.walk_for(nested, for_loop),
+            Stmt::Break => Ok(()),
+            Stmt::Continue => Ok(()),
+            Stmt::Block(_, body) => self.walk_block(nested, body.as_slice()),
+            Stmt::Set(target, value) => self.walk_set(nested, target, value.get()),
+            Stmt::CaptureBlock(becomes, filters, body) => {
+                self.walk_use(nested, becomes)?;
+                self.walk_filters(nested, filters.as_slice())?;
+                self.walk_all(nested, body.as_slice())
+            }
+            Stmt::With(given, body) => self.walk_with(nested, given.as_slice(), body.as_slice()),
+            Stmt::Do(call) => self.walk_expr(nested, call.get()),
+            Stmt::AutoEscape(value, body) => {
+                self.walk_expr(nested, value.get())?;
+                self.walk_all(nested, body.as_slice())
+            }
+        }
+    }
+
+    /// Walks over a condition and its bodies; OutOfMemory.
+    #[cycle(statements)]
+    fn walk_if(
+        &mut self,
+        nested: bool,
+        condition: &Expr,
+        body: &[Stmt],
+        other: &Option<Items<Stmt>>,
+    ) -> Result<(), Error>
+        ensures ok { OnOk result
+            (self.new ≡ walk nested (If condition.now body.now other.now) self.old) }
+        ensures err { IfErr result (λ e. e ≡ OutOfMemory ∷ []) }
+    {
+        self.walk_expr(nested, condition)?;
+        self.walk_all(nested, body)?;
+        match other {
+            Some(other) => self.walk_all(nested, other.as_slice()),
+            None => Ok(()),
+        }
+    }
+
+    /// Walks over a loop; OutOfMemory.
+    #[cycle(statements)]
+    fn walk_for(&mut self, nested: bool, for_loop: &ForLoop) -> Result<(), Error>
+        ensures ok { OnOk result (self.new ≡ walk nested (For for_loop.now) self.old) }
+        ensures err { IfErr result (λ e. e ≡ OutOfMemory ∷ []) }
+    {
+        self.walk_expr(nested, for_loop.iterable.get())?;
+        self.walk_rounds(nested, for_loop)?;
+        match &for_loop.other {
+            Some(other) => self.walk_all(nested, other.as_slice()),
+            None => Ok(()),
+        }
+    }
+
+    /// Walks over what is in the scope of a loop; OutOfMemory.
+    #[cycle(statements)]
+    fn walk_rounds(&mut self, nested: bool, for_loop: &ForLoop) -> Result<(), Error>
+        ensures ok { OnOk result (self.new ≡ close_scope (walk_all nested (statements for_loop.now.body)
+            (walk_head nested for_loop.now.target for_loop.now.condition (open_scope self.old)))) }
+        ensures err { IfErr result (λ e. e ≡ OutOfMemory ∷ []) }
+    {
+        self.open_scope()?;
+        self.walk_head(nested, &for_loop.target, &for_loop.condition)?;
+        self.walk_all(nested, for_loop.body.as_slice())?;
+        self.close_scope();
+        Ok(())
+    }
+
+    /// Walks over what stands before a loop's body in its scope; OutOfMemory.
+    fn walk_head(
+        &mut self,
+        nested: bool,
+        target: &AssignmentTarget,
+        condition: &Option<Boxed<Expr>>,
+    ) -> Result<(), Error>
+        ensures ok { OnOk result
+            (self.new ≡ walk_head nested target.now condition.now self.old) }
+        ensures err { IfErr result (λ e. e ≡ OutOfMemory ∷ []) }
+    {
+        self.walk_target(nested, target)?;
+        if let Some(condition) = condition {
+            self.walk_expr(nested, condition.get())?;
+        }
+        let name = Name::new(self.alloc(), "loop")?;
+        self.assign(name)
+    }
+
+    /// Walks over a block's body in its scope; OutOfMemory.
+    #[cycle(statements)]
+    fn walk_block(&mut self, nested: bool, body: &[Stmt]) -> Result<(), Error>
+        ensures ok { OnOk result (self.new ≡
+            close_scope (walk_all nested (statements body.now) (open_scope self.old))) }
+        ensures err { IfErr result (λ e. e ≡ OutOfMemory ∷ []) }
+    {
+        self.open_scope()?;
+        self.walk_all(nested, body)?;
+        self.close_scope();
+        Ok(())
+    }
+
+    /// Walks over targets with their values, and a body, in their scope; OutOfMemory.
+    #[cycle(statements)]
+    fn walk_with(&mut self, nested: bool, given: &[Assignment], body: &[Stmt]) -> Result<(), Error>
+        ensures ok { OnOk result (self.new ≡ close_scope (walk_all nested (statements body.now)
+            (walk_assignments nested given.now (open_scope self.old)))) }
+        ensures err { IfErr result (λ e. e ≡ OutOfMemory ∷ []) }
+    {
+        self.open_scope()?;
+        self.walk_assignments(nested, given)?;
+        self.walk_all(nested, body)?;
+        self.close_scope();
+        Ok(())
+    }
+
+    /// Walks over statements; OutOfMemory.
+    #[cycle(statements)]
+    fn walk_all(&mut self, nested: bool, body: &[Stmt]) -> Result<(), Error>
+        ensures ok { OnOk result (self.new ≡ walk_all nested (statements body.now) self.old) }
+        ensures err { IfErr result (λ e. e ≡ OutOfMemory ∷ []) }
+    {
+        for statement in body {
+            self.walk(nested, statement)?;
+        }
+        Ok(())
+    }
+}

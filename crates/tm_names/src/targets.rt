@@ -1,0 +1,80 @@
+//! The names that statements assign.
+ghost use Rattle.std.specs.Prelude.{◌≡◌, [], ◌∷◌, OnOk, IfErr};
+ghost use Rattle.tm_names.specs.Names.{walk_assignments, walk_set, walk_target, walk_targets, walk_use};
+ghost use Rattle.tm_syntax.specs.declared.tree.AssignmentTarget.TheBlock.{hidden-the_row-AssignmentTarget-0 as targets};
+ghost use Rattle.tm_values.specs.declared.error.ErrorKind.TheVariants.{OutOfMemory};
+
+use crate::walker::Walker;
+use tm_syntax::{Assignment, AssignmentTarget, CaptureUse, Expr};
+use tm_values::Error;
+
+impl Walker {
+    /// Walks over a target: its names are assigned. OutOfMemory.
+    #[cycle(targets)]
+    pub(crate) fn walk_target(
+        &mut self,
+        nested: bool,
+        target: &AssignmentTarget,
+    ) -> Result<(), Error>
+        ensures ok { OnOk result (self.new ≡ walk_target nested target.now self.old) }
+        ensures err { IfErr result (λ e. e ≡ OutOfMemory ∷ []) }
+    {
+        match target {
+            AssignmentTarget::Name(name) => self.assign(name.share()?),
+            AssignmentTarget::Unpack(parts) => self.walk_targets(nested, parts.as_slice()),
+            AssignmentTarget::Attribute(object, _) => self.walk_expr(nested, object.get()),
+        }
+    }
+
+    /// Walks over targets; OutOfMemory.
+    #[cycle(targets)]
+    fn walk_targets(&mut self, nested: bool, parts: &[AssignmentTarget]) -> Result<(), Error>
+        ensures ok { OnOk result (self.new ≡ walk_targets nested (targets parts.now) self.old) }
+        ensures err { IfErr result (λ e. e ≡ OutOfMemory ∷ []) }
+    {
+        for part in parts {
+            self.walk_target(nested, part)?;
+        }
+        Ok(())
+    }
+
+    /// Walks over a target and then the value that it is given; OutOfMemory.
+    pub(crate) fn walk_set(
+        &mut self,
+        nested: bool,
+        target: &AssignmentTarget,
+        value: &Expr,
+    ) -> Result<(), Error>
+        ensures ok { OnOk result (self.new ≡ walk_set nested target.now value.now self.old) }
+        ensures err { IfErr result (λ e. e ≡ OutOfMemory ∷ []) }
+    {
+        self.walk_target(nested, target)?;
+        self.walk_expr(nested, value)
+    }
+
+    /// Walks over targets with their values, one after the other; OutOfMemory.
+    pub(crate) fn walk_assignments(
+        &mut self,
+        nested: bool,
+        given: &[Assignment],
+    ) -> Result<(), Error>
+        ensures ok { OnOk result (self.new ≡ walk_assignments nested given.now self.old) }
+        ensures err { IfErr result (λ e. e ≡ OutOfMemory ∷ []) }
+    {
+        for assignment in given {
+            self.walk_set(nested, &assignment.target, assignment.value.get())?;
+        }
+        Ok(())
+    }
+
+    /// Walks over what becomes of the text of a capture; OutOfMemory.
+    pub(crate) fn walk_use(&mut self, nested: bool, becomes: &CaptureUse) -> Result<(), Error>
+        ensures ok { OnOk result (self.new ≡ walk_use nested becomes.now self.old) }
+        ensures err { IfErr result (λ e. e ≡ OutOfMemory ∷ []) }
+    {
+        match becomes {
+            CaptureUse::Emit => Ok(()),
+            CaptureUse::Assign(target) => self.walk_target(nested, target),
+        }
+    }
+}

@@ -1,0 +1,155 @@
+//! A walk over a tree: the names that are assigned in open scopes, and those that were found.
+ghost use Rattle.std.specs.BTreeMap.{is_at};
+ghost use Rattle.std.specs.BTreeSet.{insert_key, keys};
+ghost use Rattle.std.specs.List.{list_any};
+ghost use Rattle.std.specs.Prelude.{◌≡◌, [], ◌∷◌, OnOk, IfOk, IfErr, map, reverse};
+ghost use Rattle.std.specs.String.{string_bytes};
+ghost use Rattle.tm_names.specs.Names.{assign, beginning, close_scope, is_assigned, open_scope};
+ghost use Rattle.tm_names.specs.Names.{read, read_as};
+ghost use Rattle.tm_syntax.specs.Named.{name_cmp};
+ghost use Rattle.tm_values.specs.declared.error.ErrorKind.TheVariants.{OutOfMemory};
+
+use sqlite_items::Items;
+use std::alloc::Global;
+use std::collections::BTreeSet;
+use std::marker::Model;
+use tm_syntax::{Name, NameMap};
+use tm_values::Error;
+
+/// The open scopes, the innermost last, and the names that were found.
+#[derive(Drop)]
+pub(crate) struct Walker {
+    alloc: Global,
+    scopes: Items<NameMap<()>>,
+    found: BTreeSet<String>,
+}
+
+impl Model for Walker {
+    ghost use Rattle.std.specs.Prelude.{map, reverse};
+    ghost use Rattle.std.specs.String.{string_bytes};
+    ghost use Rattle.tm_names.specs.Names.{Walk};
+
+    ghost Value = { Walk };
+
+    ghost view = { λ a. record { assigned = reverse a.scopes; found = map string_bytes a.found.keys } };
+}
+
+impl Walker {
+    /// Nothing is found, and one scope is open; OutOfMemory.
+    pub(crate) fn new(alloc: Global) -> Result<Walker, Error>
+        ensures ok { IfOk result (λ walker. walker ≡ beginning) }
+        ensures err { IfErr result (λ e. e ≡ OutOfMemory ∷ []) }
+    {
+        let mut scopes = Items::new(alloc);
+        scopes.push(NameMap::new(alloc))?;
+        Ok(Walker {
+            alloc,
+            scopes,
+            found: BTreeSet::new(alloc),
+        })
+    }
+
+    /// Where memory comes from.
+    pub(crate) fn alloc(&self) -> Global {
+        self.alloc
+    }
+
+    /// Whether an open scope has assigned a name.
+    fn is_assigned(&self, name: &str) -> bool
+        ensures { result ≡ is_assigned name.now self.now.assigned }
+    {
+        is_assigned_in(self.scopes.as_slice(), name)
+    }
+
+    /// A name is assigned in the innermost scope; OutOfMemory.
+    pub(crate) fn assign(&mut self, name: Name) -> Result<(), Error>
+        ensures ok { OnOk result (self.new ≡ assign name self.old) }
+        ensures err { IfErr result (λ e. e ≡ OutOfMemory ∷ []) }
+    {
+        let mut scope = match self.scopes.pop() {
+            Some(scope) => scope,
+            None => NameMap::new(self.alloc),
+        };
+        scope.insert(name, ())?;
+        self.scopes.push(scope)?;
+        Ok(())
+    }
+
+    /// Whether a text is found.
+    fn has_found(&self, text: &str) -> bool
+        ensures { result ≡ list_any (is_at (name_cmp text.now)) self.now.found }
+    {
+        self.found.contains(text)
+    }
+
+    /// A text is found; OutOfMemory.
+    fn add_found(&mut self, text: &str) -> Result<(), Error>
+        ensures ok { OnOk result
+            (self.new ≡ record self.old { found = insert_key name_cmp self.old.found text.now }) }
+        ensures err { IfErr result (λ e. e ≡ OutOfMemory ∷ []) }
+    {
+        let text = String::from_str(self.alloc, text)?;
+        self.found.insert(text)?;
+        Ok(())
+    }
+
+    /// A name is read, and found as this text where no open scope has assigned it; OutOfMemory.
+    pub(crate) fn read_as(&mut self, name: &str, text: &str) -> Result<(), Error>
+        ensures ok { OnOk result (self.new ≡ read_as name.now text.now self.old) }
+        ensures err { IfErr result (λ e. e ≡ OutOfMemory ∷ []) }
+    {
+        if self.is_assigned(name) {
+            return Ok(());
+        }
+        if self.has_found(text) {
+            return Ok(());
+        }
+        self.add_found(text)
+    }
+
+    /// A name is read; OutOfMemory.
+    pub(crate) fn read(&mut self, name: &str) -> Result<(), Error>
+        ensures ok { OnOk result (self.new ≡ read name.now self.old) }
+        ensures err { IfErr result (λ e. e ≡ OutOfMemory ∷ []) }
+    {
+        self.read_as(name, name)
+    }
+
+    /// A scope opens; OutOfMemory.
+    pub(crate) fn open_scope(&mut self) -> Result<(), Error>
+        ensures ok { OnOk result (self.new ≡ open_scope self.old) }
+        ensures err { IfErr result (λ e. e ≡ OutOfMemory ∷ []) }
+    {
+        self.scopes.push(NameMap::new(self.alloc))?;
+        Ok(())
+    }
+
+    /// The innermost scope closes.
+    pub(crate) fn close_scope(&mut self)
+        ensures { self.new ≡ close_scope self.old }
+    {
+        let _closed = self.scopes.pop();
+    }
+
+    /// The names that were found.
+    pub(crate) fn into_found(self) -> BTreeSet<String>
+        ensures { map string_bytes (keys result) ≡ self.found }
+    {
+        let Walker { found, .. } = self;
+        found
+    }
+}
+
+/// Whether one of these scopes has assigned a name. The last are asked first.
+fn is_assigned_in(scopes: &[NameMap<()>], name: &str) -> bool
+    ensures { result ≡ is_assigned name.now (reverse scopes.now) }
+{
+    let mut left = scopes.len();
+    while left > 0 {
+        left -= 1;
+        if scopes[left].get(name).is_some() {
+            return true;
+        }
+    }
+    false
+}

@@ -1,0 +1,29 @@
+//! Lists and boxes of what was read, which want memory.
+ghost use Rattle.std.specs.Prelude.{◌≡◌, ◌++◌, [], ◌∷◌, MatchResult};
+ghost use Rattle.tm_values.specs.declared.error.ErrorKind.TheVariants.{OutOfMemory};
+
+use sqlite_items::{Boxed, Items};
+use std::alloc::Global;
+use tm_values::Error;
+
+/// Items with one more. OutOfMemory for want of memory.
+#[inline(always)]
+pub fn with_one<T: Drop>(items: Items<T>, item: T) -> Result<Items<T>, Error>
+    ensures { MatchResult result
+        (λ more. more ≡ items ++ item ∷ [])
+        (λ e. e ≡ OutOfMemory ∷ []) }
+{
+    let mut items = items;
+    items.push(item)?;
+    Ok(items)
+}
+
+/// A value in a box. OutOfMemory for want of memory.
+#[inline(always)]
+pub fn boxed<T: Drop>(alloc: Global, value: T) -> Result<Boxed<T>, Error>
+    ensures { MatchResult result
+        (λ held. held ≡ value)
+        (λ e. e ≡ OutOfMemory ∷ []) }
+{
+    Ok(Boxed::new(alloc, value)?)
+}

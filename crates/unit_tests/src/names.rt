@@ -1,0 +1,100 @@
+//! Sources with the names that they read where no open scope has assigned them.
+use crate::rows::halves;
+use crate::syntax;
+use std::alloc::Global;
+use std::process::Abort;
+use std::rc::RcStr;
+use std::test::Fail;
+use tm_compiler::{SyntaxConfig, parse};
+use tm_names::undeclared;
+use tm_values::Error;
+
+/// The names alone.
+static ALONE: [&str; 30] = [
+    "{% set x = foo %}{{ x }}{{ bar.baz }} => bar foo",
+    "{{ bar.baz() }} => bar",
+    "{{ super(a) }}{{ self.b() }} => a",
+    "{{ self.b }} => self",
+    "{{ self.b(c) }}{{ self.b(d=e) }} => c e self",
+    "{{ self }} => self",
+    "{{ self[0].b() }} => self",
+    "{% for x in xs if x.y > z %}{{ loop.index }}{{ x }}{% else %}{{ x }}{% endfor %} => x xs z",
+    "{% for x in xs if loop %}{% endfor %}{{ x }} => loop x xs",
+    "{% for x in x %}{% endfor %} => x",
+    "{% for a, b.c in d %}{{ a }}{% endfor %}{{ a }} => a b d",
+    "{% for x in y recursive %}{{ loop(z) }}{% endfor %} => y z",
+    "{{ loop(z) }} => loop z",
+    "{% with a = b, c = a %}{{ c }}{% endwith %}{{ a }} => a b",
+    "{% with a = a %}{% endwith %} =>",
+    "{% set x = x %}{{ x }} =>",
+    "{{ x }}{% set x = 1 %}{{ x }} => x",
+    "{% set y | f(y) %}{{ z }}{% endset %} => z",
+    "{% set y %}{{ y }}{% endset %} =>",
+    "{% set a, (b, c.d) = e %}{{ a }}{{ b }}{{ c }}{{ d }} => c d e",
+    "{% if a %}{% set b = 1 %}{% else %}{{ b }}{% endif %}{{ b }} => a",
+    "{% filter f(a) %}{% set b = 1 %}{% endfilter %}{{ b }} => a",
+    "{% block b %}{% set a = 1 %}{{ a }}{% endblock %}{{ a }}{{ b }} => a b",
+    "{% set a = 1 %}{% block b %}{{ a }}{% endblock %} =>",
+    "{% autoescape a %}{% set b = 1 %}{% endautoescape %}{{ b }} => a",
+    "{% do f(a, *b, c=d, **e) %} => a b d e f",
+    "{{ a|f(b) is g(c) }}{{ d.m(e)(f) }} => a b c d e f",
+    "{{ a if b else c }}{{ d[e:f:g] }}{{ h < i < j }} => a b c d e f g h i j",
+    "{{ [a, (b,), {c: d}] }}{{ not e and -f or g ~ h }} => a b c d e f g h",
+    "{{ b }}{{ a }}{{ ab }}{{ b }} => a ab b",
+];
+
+/// With what is nested in them.
+static NESTED: [&str; 12] = [
+    "{% set x = foo %}{{ x }}{{ bar.baz }} => bar.baz foo",
+    "{{ bar.baz() }} => bar.baz",
+    "{{ bar[\"x\"] }}{{ b[0].y }} => b bar",
+    "{{ bar.a.b[0].c }} => bar.a.b",
+    "{{ bar.a.b().c }} => bar.a.b",
+    "{{ bar.a(c.d).b(e.f).g }} => bar.a c.d e.f",
+    "{{ a.b|f(c.d) is g(e.f) }} => a.b c.d e.f",
+    "{% set x = 1 %}{{ x.y }}{{ z.x.y }} => z.x.y",
+    "{{ f(a.b).c }} => a.b f",
+    "{{ self.b() }}{{ self.b }}{{ super(a.b) }} => a.b self.b",
+    "{{ [a.b][0].c }}{{ a.b.c }}{{ a }} => a a.b a.b.c",
+    "{% for x.y in z.w %}{{ loop.index }}{{ a.loop }}{% endfor %} => a.loop x z.w",
+];
+
+/// The names that a source reads, each behind a blank.
+fn names_of(
+    alloc: Global,
+    syntax: &SyntaxConfig,
+    source: &str,
+    nested: bool,
+) -> Result<String, Error> {
+    let source = RcStr::from_str(alloc, source)?;
+    let tree = parse(alloc, &source, syntax)?;
+    let names = undeclared(alloc, &tree, nested)?;
+    let mut text = String::new(alloc);
+    for name in names.iter() {
+        text.push_str(" ")?;
+        text.push_str(name.as_str())?;
+    }
+    Ok(text)
+}
+
+fn check_names(rt: &impl Abort, alloc: Global, rows: &[&str], nested: bool) -> Result<(), Error> {
+    let syntax = syntax::usual(alloc)?;
+    for row in rows {
+        let (source, names) = halves(row);
+        let found = names_of(alloc, &*syntax, source, nested)?;
+        assert!(rt; found.as_str() == names, "at {row}");
+    }
+    Ok(())
+}
+
+#[test]
+fn names_are_read(rt: HostRuntime) -> Result<(), Fail> {
+    check_names(&rt, rt.alloc(), &ALONE, false)?;
+    Ok(())
+}
+
+#[test]
+fn names_are_read_with_what_is_nested(rt: HostRuntime) -> Result<(), Fail> {
+    check_names(&rt, rt.alloc(), &NESTED, true)?;
+    Ok(())
+}
