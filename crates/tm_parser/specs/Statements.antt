@@ -154,8 +154,7 @@ else_or_end t end looping = branch (first (is_tag tags.Else)) (λ _. else_tag t 
 unfoldable pub rest : Inside → Inner → Bool → Rule (Option (List Stmt))
 rest i t looping = branch (first (is_tag tags.Elif)) (λ _. elif_tag i t looping) (else_or_end t tags.Endif looping)
 
--- A loop's else part stands outside of it.
--- a loop behind its head
+-- A loop behind its head: its else part stands outside of it.
 unfoldable pub for_body : Inner → Bool → AssignmentTarget → LoopHead → Rule Stmt
 for_body t looping to over = do
   body ← t.body true
@@ -263,7 +262,6 @@ set_value i to = do
 unfoldable pub more_filters : Inside → List Step → Rule (List Step)
 more_filters i xs = many_from (first (is sign.Bar)) (λ _. i.filter) xs
 
--- what stands behind the target of a `set` without `=`
 -- what a body writes is filtered and used
 unfoldable pub captured : Inner → Tag → Bool → CaptureUse → List Step → Rule Stmt
 captured t end looping becomes filters = do
@@ -271,6 +269,7 @@ captured t end looping becomes filters = do
   last ← lone end
   pure (stmts.CaptureBlock becomes filters body)
 
+-- what stands behind the target of a `set` without `=`
 unfoldable pub set_block : Inside → Inner → Bool → AssignmentTarget → Rule Stmt
 set_block i t looping to = do
   filters ← more_filters i []
