@@ -1,15 +1,14 @@
 -- What a run of a template's code answered is what its trees mean.
 use Rattle.std.proofs.Common.{◌≡◌, ◌⊎◌, inl, inr, ℕ, List, [], ◌∷◌, Bool, true, false, Option, Result, Ok, Err, IsErrAnd, refl, sym, ap}
-use Rattle.std.proofs.Common.{◌∙◌, subst}
+use Rattle.std.proofs.Common.{◌∙◌, length, subst}
 use Rattle.std.specs.Io.KnownBytes.{Appends}
 use Rattle.tm_meaning.specs.Memory.{is_want_of_memory}
 use Rattle.tm_values.specs.declared.error.ErrorKind.{ErrorKind}
 use Rattle.tm_meaning.specs.World.{World}
-use Rattle.tm_meaning.specs.Calls.{whole}
 use Rattle.tm_meaning.specs.Tree.{Trees}
 use Rattle.tm_meaning.specs.Meaning.{Ending, done, leave, next, fault, Outcome, rendered}
-use Rattle.tm_meaning.specs.Machine.{Capture, Config, End, Finished, Failed, Stuck, Program, base_of, new_capture, put_in, put_out, start}
-use Rattle.tm_meaning.specs.Steps.{Final, final, Reaches}
+use Rattle.tm_meaning.specs.Machine.{Capture, Config, End, Finished, Failed, Stuck, Program, base_of, new_capture, put_in, put_out, run_from, running}
+use Rattle.tm_meaning.specs.Steps.{Final, final, step, Reaches}
 use Rattle.tm_meaning.specs.Compiled.{IsCompiled}
 use Rattle.tm_meaning.proofs.Ends.{one_end}
 use Rattle.tm_output.specs.Counts.{AppendsBeginning}
@@ -102,7 +101,7 @@ module _ (p : Program) (trees : Trees) (compiled : IsCompiled trees p) (captures
   m = rendered p.host trees w
 
   abbrev Goes : List Capture → Final → Type 0
-  Goes ks o = Reaches p (base_of true ks w) [] (start (whole w.stream) ks w) o
+  Goes ks o = Reaches p (base_of true ks w) [] (running (run_from w.stream (length ks)) ks w) o
 
   -- the code comes to the end that the tree means
   reached : IsFresh captures → Goes captures (final_in captures m)
@@ -115,7 +114,7 @@ module _ (p : Program) (trees : Trees) (compiled : IsCompiled trees p) (captures
       (render_runs p trees compiled (inside true [] []) w))
 
   abbrev ComesTo : End → Type 0
-  ComesTo e = ReachesEnd p (base_of true captures w) (start (whole w.stream) captures w) told now e
+  ComesTo e = ReachesEnd p (base_of true captures w) (running (run_from w.stream (length captures)) captures w) told now e
 
   written : (text : List ℕ) → text ≡ put_out captures m.text → Appends told now text → Appends told now (put_out captures m.text)
   written text same appended = subst (λ t. Appends told now t) same appended
@@ -127,7 +126,8 @@ module _ (p : Program) (trees : Trees) (compiled : IsCompiled trees p) (captures
       run_as_meant (same.1.0 ∙ ap (λ x. Ok x) (sym second), first ∙ same.1.1) (written text same.0 appended) counted
 
   pub run_halted : (why : Halt) → IsFresh captures → HaltsAs why left ComesTo →
-      WroteBeginning p (base_of true captures w) (start (whole w.stream) captures w) told now →
+      WroteBeginning p (base_of true captures w)
+      (step p (base_of true captures w) (running (run_from w.stream (length captures)) captures w)) told now →
       count ≡ failures_after {A = Unit {0}} (Err why) failures → Ran m (Err why) captures told now failures count
   run_halted why fresh ends begun counted = by_halt why ends counted
     where

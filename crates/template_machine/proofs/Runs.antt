@@ -1,15 +1,15 @@
 -- What a run answered that was made of a template's rendering.
-use Rattle.std.proofs.Common.{◌≡◌, ◌+◌, ℕ, List, [], ◌∷◌, Option, Result, Ok, Err, String, true, inr, refl, sym, subst}
+use Rattle.std.proofs.Common.{◌≡◌, ◌+◌, ℕ, List, [], ◌∷◌, Option, Result, Ok, Err, String, true, inr, refl, sym, subst, length}
 use Rattle.std.specs.declared.alloc.Global.{Global}
 use Rattle.tm_values.specs.Val.{Val}
 use Rattle.tm_values.specs.declared.error.ErrorKind.{ErrorKind}
 use Rattle.tm_values.specs.declared.error.ErrorKind.TheVariants.{InvalidOperation}
 use Rattle.tm_meaning.specs.World.{World}
 use Rattle.tm_tables.specs.Stated.{StatedObjects}
-use Rattle.tm_meaning.specs.Calls.{whole}
-use Rattle.tm_meaning.specs.Machine.{Capture, Config, Finished, Program, base_of, start}
+use Rattle.tm_meaning.specs.Machine.{Capture, Config, Finished, Program, base_of, run_from, running}
 use Rattle.tm_parts.specs.Halts.{failures_after}
 use Rattle.tm_parts.specs.declared.halt.Halt.{Halt}
+use Rattle.tm_meaning.specs.Steps.{step}
 use Rattle.tm_vm.specs.Answers.{program, HaltsAs, ReachesEnd}
 use Rattle.tm_vm.specs.Nested.{WroteBeginning}
 use Rattle.tm_meaning.specs.declared.stream.TemplateId.TheVariants.{Own}
@@ -19,7 +19,7 @@ use Rattle.template_machine.proofs.Answered.{run_done, run_halted}
 
 module _ {O : Type 0} (stated : O → StatedObjects) (t r : TemplateValue O) (same : r
     ≡ t) (captures new : List Capture) (w left : World) (told now : Option (List ℕ)) (failures count : ℕ)
-    (config : Config) (begins : config ≡ start (whole w.stream) captures w) (fresh : IsFresh captures) where
+    (config : Config) (begins : config ≡ running (run_from w.stream (length captures)) captures w) (fresh : IsFresh captures) where
   abbrev p : Program
   p = program (host_of stated r) (code r)
 
@@ -32,13 +32,13 @@ module _ {O : Type 0} (stated : O → StatedObjects) (t r : TemplateValue O) (sa
       (subst (λ (c : Config). ReachesEnd p (base_of true c.captures c.world) c told now (Finished new left)) begins comes) counted)
 
   pub over_halted : (why : Halt) → HaltsAs why left (ReachesEnd p (base_of true config.captures config.world) config told now) →
-      WroteBeginning p (base_of true config.captures config.world) config told now →
+      WroteBeginning p (base_of true config.captures config.world) (step p (base_of true config.captures config.world) config) told now →
       count ≡ failures_after {A = Unit {0}} (Err why) failures → Ran (meaning_from stated t w) (Err why) captures told now failures count
   over_halted why ends begun counted =
       subst (λ (v : TemplateValue O). Ran (meaning_from stated v w) (Err why) captures told now failures count) same
       (run_halted p (trees r) (λ s. refl) captures new w left told now failures count why fresh
       (subst (λ (c : Config). HaltsAs why left (ReachesEnd p (base_of true c.captures c.world) c told now)) begins ends)
-      (subst (λ (c : Config). WroteBeginning p (base_of true c.captures c.world) c told now) begins begun) counted)
+      (subst (λ (c : Config). WroteBeginning p (base_of true c.captures c.world) (step p (base_of true c.captures c.world) c) told now) begins begun) counted)
 
 -- a source that was rendered
 pub source_done : {O : Type 0} (stated : O → StatedObjects) (e : EnvironmentValue O) (t : TemplateValue O)

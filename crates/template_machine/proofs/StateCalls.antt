@@ -1,5 +1,5 @@
 -- What calls of a state answer is what is meant.
-use Rattle.std.proofs.Common.{◌≡◌, ◌+◌, ◌≤◌, ◌-◌, ℕ, suc, List, [], ◌∷◌, Option, None, Result, Ok, Err, String, string_bytes, Bool, true, false}
+use Rattle.std.proofs.Common.{◌≡◌, ◌+◌, ◌≤◌, ◌-◌, ℕ, suc, List, [], ◌∷◌, Option, Some, None, Result, Ok, Err, String, string_bytes, Bool, true, false}
 use Rattle.std.proofs.Common.{refl, sym, ap, ◌∙◌, subst, arith, length}
 use Rattle.std.specs.declared.alloc.Global.{Global}
 use Rattle.std.proofs.lemmas.List.{length-drop}
@@ -7,27 +7,32 @@ use Rattle.tm_meaning.specs.Memory.{is_want_of_memory}
 use Rattle.tm_values.specs.Val.{Val}
 use Rattle.tm_values.specs.declared.error.ErrorKind.{ErrorKind}
 use Rattle.tm_meaning.specs.World.{World, Scope, Res, Good, Bad}
-use Rattle.tm_meaning.specs.Calls.{Asked, Callee, NestedCall, outermost, run_value, runs, undone, whole, wrapped}
+use Rattle.tm_meaning.specs.Calls.{Asked, Callee, NestedCall, outermost, run_value, runs, undone, wrapped}
 use Rattle.tm_meaning.specs.Tree.{Trees}
 use Rattle.tm_meaning.specs.Meaning.{Ending, done, leave, next, fault, Outcome, nests_of, value_behind}
-use Rattle.tm_meaning.specs.Machine.{Capture, Config, End, Finished, Failed, Stuck, Program, base_of, new_capture, start}
-use Rattle.tm_meaning.specs.Steps.{Final, final, Reaches}
+use Rattle.tm_meaning.specs.Machine.{Capture, Config, End, Finished, Failed, Stuck, Over, Program, base_of, first_run, new_capture, running}
+use Rattle.tm_meaning.specs.Steps.{Final, begins, begun, final, over, step}
 use Rattle.tm_meaning.specs.Compiled.{IsCompiled}
 use Rattle.tm_meaning.proofs.Ends.{one_end}
 use Rattle.tm_simulation.specs.Reached.{RunsTo, captures_with, end_by, final_in, text_in}
 use Rattle.tm_simulation.proofs.Simulation.{nested_comes_to_meaning}
-use Rattle.tm_meaning.specs.declared.stream.StreamId.{StreamId}
+use Rattle.tm_output.specs.Pieces.{appends_nothing}
+use Rattle.tm_values.specs.declared.error.ErrorKind.TheVariants.{InvalidOperation}
 use Rattle.tm_parts.specs.Halts.{failures_after}
 use Rattle.tm_parts.specs.declared.halt.Halt.{Halt}
 use Rattle.tm_parts.specs.declared.halt.Halt.TheVariants as halt
-use Rattle.tm_state.specs.Answers.{NeedsRun, OneDeeper, StaysInPlace, call_of}
-use Rattle.tm_state.specs.State.{put_back, saved_of}
+use Rattle.tm_state.specs.Answers.{KeepsFixed, NeedsRun, OneDeeper, StaysInPlace, call_of}
+use Rattle.tm_state.specs.State.{callee_of, put_back}
 use Rattle.tm_state.specs.declared.saved.Saved.{Saved}
+use Rattle.tm_state.specs.declared.saved.Saved.TheVariants as saved
+use Rattle.tm_state.specs.declared.saved.SavedBlock.{SavedBlock}
+use Rattle.tm_state.specs.declared.saved.SavedMacro.{SavedMacro}
 use Rattle.tm_state.specs.declared.nested.NestedRun.{NestedRun}
 use Rattle.tm_tables.specs.Stated.{StatedObjects}
-use Rattle.tm_vm.specs.Answers.{HaltsAs, ReachesEnd, program}
+use Rattle.tm_vm.specs.Answers.{ComesTo, HaltsAs, ReachesEnd, program}
+use Rattle.tm_vm.proofs.Loop.{undone_is}
 use Rattle.template_machine.specs.Environment.{TemplateValue, code, host_of, trees}
-use Rattle.template_machine.specs.Renders.{answer_by, answer_of, called_value, callee_run, run_of, IsCalled, IsCaptured, RanApart}
+use Rattle.template_machine.specs.Renders.{answer_by, answer_of, called_value, callee_run, IsCalled, IsCaptured, RanApart}
 
 -- the captures of a run whose text is a value, and those behind it
 abbrev one : List Capture
@@ -88,48 +93,80 @@ module _ {O : Type 0} (stated : O → StatedObjects) (t : TemplateValue O) (k : 
       subst (λ n. RunsTo p k true one [] w (final_in one [] (nests_of p.host (trees t) n k true [] w))) e
       (nested_comes_to_meaning (trees t) p p.host.limit k true one [] w (λ s. refl) (omega arith))
 
-  abbrev ComesTo : End → Type 0
-  ComesTo e = ReachesEnd p (base_of true one w) (start k one w) told now e
+  abbrev Meant : End → Type 0
+  Meant e = ComesTo p (base_of true one w) (begins p (base_of true one w) k one w) told now e
 
-  pub run_done : (new : List Capture) → ComesTo (Finished new left) → (answer_of o ≡ Ok left) × (new ≡ taking o.text)
+  pub run_done : (new : List Capture) → Meant (Finished new left) → (answer_of o ≡ Ok left) × (new ≡ taking o.text)
   run_done new (text, appended, reaches) = done_by o.ending new text o.text left o.world (one_end reaches reached)
 
-  run_failed : (chain : List ErrorKind) → ComesTo (Failed chain left) → (o.ending ≡ fault chain) × (o.world ≡ left)
+  run_failed : (chain : List ErrorKind) → Meant (Failed chain left) → (o.ending ≡ fault chain) × (o.world ≡ left)
   run_failed chain (text, appended, reaches) = failed_by o.ending text o.text left o.world chain (one_end reaches reached)
 
-  run_stuck : {A : Type 0} → ComesTo (Stuck left) → A
+  run_stuck : {A : Type 0} → Meant (Stuck left) → A
   run_stuck (text, appended, reaches) = not_stuck o.ending text o.text left o.world (one_end reaches reached)
 
 -- a run that was made of a template's rendering
-module _ {O : Type 0} (stated : O → StatedObjects) (t r : TemplateValue O) (same : r ≡ t) (s : StreamId) (w left : World)
-    (captures new : List Capture) (config : Config) (begins : config ≡ start (whole s) captures w) (fresh : captures ≡ one)
-    (told now : Option (List ℕ)) where
+module _ {O : Type 0} (stated : O → StatedObjects) (t r : TemplateValue O) (same : r ≡ t) (k : Callee) (w left : World)
+    (captures : List Capture) (fresh : captures ≡ one) (told now : Option (List ℕ)) where
+  abbrev of : TemplateValue O → Program
+  of v = program (host_of stated v) (code v)
+
   abbrev Comes : TemplateValue O → Config → End → Type 0
-  Comes v c e = ReachesEnd (program (host_of stated v) (code v)) (base_of true c.captures c.world) c told now e
+  Comes v c e = ReachesEnd (of v) (base_of true c.captures c.world) c told now e
 
-  of_template : (e : End) → Comes r config e → Comes t (start (whole s) one w) e
-  of_template e comes =
-      subst (λ v. Comes v (start (whole s) one w) e) same
-      (subst (λ ks. Comes r (start (whole s) ks w) e) fresh (subst (λ c. Comes r c e) begins comes))
+  abbrev Starts : TemplateValue O → List Capture → End → Type 0
+  Starts v ks e = ComesTo (of v) (base_of true ks w) (begins (of v) (base_of true ks w) k ks w) told now e
 
-  pub over_done : (kept : List Capture) (put : World) → new ≡ kept → left ≡ put → Comes r config (Finished new left) →
-      RanApart (Ok kept) (run_of stated t s w) put
-  over_done kept put is there comes =
-      subst (λ ks. RanApart (Ok ks) (run_of stated t s w) put) is
-      (subst (λ x. RanApart (Ok new) (run_of stated t s w) x) there
-      (run_done stated t (whole s) w left told now new (of_template (Finished new left) comes)))
+  of_first : (e : End) → Starts r captures e → Starts t one e
+  of_first e comes = subst (λ v. Starts v one e) same (subst (λ ks. Starts r ks e) fresh comes)
 
-  by_halt : (why : Halt) → 0 ≡ failures_after {A = Unit {0}} (Err why) 0 → HaltsAs why left (Comes r config) →
-      RanApart (Err why) (run_of stated t s w) left
+  of_template : (config : Config) → config ≡ running config.run captures w → first_run (of r) k (length captures) ≡ Some config.run →
+      (e : End) → Comes r config e → Starts t one e
+  of_template config at there e comes =
+      let p = of r in
+      let base = base_of true captures w in
+      let first : step p base (running config.run captures w) ≡ begins p base k captures w =
+      sym (ap (λ x. begun p base x captures w) there) in
+      of_first e (subst (λ n. ComesTo p base n told now e) first (subst (λ c. Comes r c e) at comes))
+
+  pub over_done : (config : Config) → config ≡ running config.run captures w → first_run (of r) k (length captures) ≡ Some config.run →
+      (new kept : List Capture) (put : World) → new ≡ kept → left ≡ put → Comes r config (Finished new left) →
+      RanApart (Ok kept) (callee_run stated t k w) put
+  over_done config at first new kept put is there comes =
+      subst (λ ks. RanApart (Ok ks) (callee_run stated t k w) put) is
+      (subst (λ x. RanApart (Ok new) (callee_run stated t k w) x) there
+      (run_done stated t k w left told now new (of_template config at first (Finished new left) comes)))
+
+  by_halt : (why : Halt) → 0 ≡ failures_after {A = Unit {0}} (Err why) 0 → HaltsAs why left (Starts t one) →
+      RanApart (Err why) (callee_run stated t k w) left
   by_halt halt.Writer counted ends = absurd (cc counted)
-  by_halt halt.Stuck counted ends = run_stuck stated t (whole s) w left told now (of_template (Stuck left) ends)
-  by_halt (halt.Fault chain) counted ends = λ m.
-      run_failed stated t (whole s) w left told now chain (of_template (Failed chain left) (ends m))
+  by_halt halt.Stuck counted ends = run_stuck stated t k w left told now ends
+  by_halt (halt.Fault chain) counted ends = λ m. run_failed stated t k w left told now chain (ends m)
 
-  pub over_halted : (why : Halt) (put : World) → left ≡ put → 0 ≡ failures_after {A = Unit {0}} (Err why) 0 →
-      HaltsAs why left (Comes r config) → RanApart (Err why) (run_of stated t s w) put
-  over_halted why put there counted ends =
-      subst (λ x. RanApart (Err why) (run_of stated t s w) x) there (by_halt why counted ends)
+  halted_there : (config : Config) → config ≡ running config.run captures w → first_run (of r) k (length captures) ≡ Some config.run →
+      (why : Halt) → HaltsAs why left (Comes r config) → HaltsAs why left (Starts t one)
+  halted_there config at first halt.Writer ends = tt
+  halted_there config at first halt.Stuck ends = of_template config at first (Stuck left) ends
+  halted_there config at first (halt.Fault chain) ends = λ own. of_template config at first (Failed chain left) (ends own)
+
+  pub over_halted : (config : Config) → config ≡ running config.run captures w → first_run (of r) k (length captures) ≡ Some config.run →
+      (why : Halt) (put : World) → left ≡ put → 0 ≡ failures_after {A = Unit {0}} (Err why) 0 →
+      HaltsAs why left (Comes r config) → RanApart (Err why) (callee_run stated t k w) put
+  over_halted config at first why put there counted ends =
+      subst (λ x. RanApart (Err why) (callee_run stated t k w) x) there (by_halt why counted (halted_there config at first why ends))
+
+-- one that there isn't
+pub over_none : {O : Type 0} (stated : O → StatedObjects) (t r : TemplateValue O) (same : r ≡ t) (k : Callee) (w put : World)
+    (captures : List Capture) → captures ≡ one → first_run (program (host_of stated r) (code r)) k (length captures) ≡ None →
+    w ≡ put → RanApart (Err (halt.Fault (InvalidOperation ∷ []))) (callee_run stated t k w) put
+over_none stated t r same k w put captures fresh none there =
+    let p = program (host_of stated r) (code r) in
+    let base = base_of true captures w in
+    let refused : begins p base k captures w ≡ Over (Failed (InvalidOperation ∷ []) w) = ap (λ x. begun p base x captures w) none in
+    subst (λ x. RanApart (Err (halt.Fault (InvalidOperation ∷ []))) (callee_run stated t k w) x) there
+    (λ m. run_failed stated t k w w None None (InvalidOperation ∷ [])
+    (of_first stated t r same k w w captures fresh None None (Failed (InvalidOperation ∷ []) w)
+    ([], appends_nothing None, over refused refl)))
 
 -- the capture that was left holds the text
 pub text_left : (captures rest : List Capture) (heard : Bool) (text : List ℕ) (m : Outcome) (left : World) →
@@ -144,15 +181,15 @@ text_left captures rest heard text m left ran ended =
 
 -- ---------------------------------------------------------------- what a call needed
 module _ {O : Type 0} (stated : O → StatedObjects) (t : TemplateValue O) (e : NestedRun) (w left : World) (asked : Asked)
-    (needs : NeedsRun e asked w) where
+    (needs : NeedsRun e asked w) (kept : KeepsFixed w left) where
   abbrev ran : Outcome
-  ran = run_of stated t e.stream w
+  ran = callee_run stated t (callee_of e.run) w
 
   meant_by : called_value stated t asked ≡ value_behind ran.ending (call_of e needs.3.0) ran
   meant_by = ap (called_value stated t) needs.3.2
 
   back : undone (call_of e needs.3.0).undo left ≡ put_back e.saved left
-  back = ap (λ s. put_back s left) (sym needs.3.1)
+  back = undone_is e.saved needs.3.0 w left needs.3.1 (kept.same_blocks, kept.same_loaded)
 
   value_by : (end : Ending) (c : NestedCall) (x : Outcome) (text : List ℕ) → text ≡ x.text → answer_by end x.world ≡ Ok left →
       value_behind end c x ≡ Good (run_value c.text text (undone c.undo left)) (undone c.undo left)
@@ -187,13 +224,20 @@ module _ {O : Type 0} (stated : O → StatedObjects) (t : TemplateValue O) (e : 
 outermost_long : (n : ℕ) (frames : List Scope) → n ≤ length frames → length (outermost n frames) ≡ n
 outermost_long n frames h = omega (arith, length-drop (length frames - n) frames, h)
 
-pub stands_again : (limit : ℕ) (saved : Saved) (before w left : World) → OneDeeper limit saved before w →
-    length w.scopes.frames ≤ length left.scopes.frames → StaysInPlace before (put_back saved left)
-stands_again limit saved before w left deep more =
-    let scopes : saved.scopes ≡ length before.scopes.frames = ap (λ (s : Saved). s.scopes) deep.0 in
-    let long = outermost_long saved.scopes left.scopes.frames (omega (arith, scopes, deep.1, more)) in (
-      (omega (arith, long, scopes), ap (λ (s : Saved). s.outer) deep.0),
-      ap (λ (s : Saved). s.stream) deep.0,
-      ap (λ (s : Saved). s.block) deep.0,
-      ap (λ (s : Saved). s.escape) deep.0,
+pub stands_again : (limit : ℕ) (s : Saved) (before w left : World) → OneDeeper limit s before w →
+    length w.scopes.frames ≤ length left.scopes.frames → StaysInPlace before (put_back s left)
+stands_again limit (saved.Block s) before w left deep more =
+    let scopes : s.scopes ≡ length before.scopes.frames = ap (λ (s : SavedBlock). s.scopes) deep.0 in
+    let frames = deep.1.0 in
+    let long = outermost_long s.scopes left.scopes.frames (omega (arith, scopes, frames, more)) in (
+      (omega (arith, long, scopes), ap (λ (s : SavedBlock). s.outer) deep.0),
+      ap (λ (s : SavedBlock). s.stream) deep.0,
+      ap (λ (s : SavedBlock). s.block) deep.0,
+      ap (λ (s : SavedBlock). s.escape) deep.0,
     )
+stands_again limit (saved.Macro s) before w left deep more = (
+  (ap (λ (s : SavedMacro). length s.context.frames) deep.0, ap (λ (s : SavedMacro). s.context.outer) deep.0),
+  ap (λ (s : SavedMacro). s.stream) deep.0,
+  ap (λ (s : SavedMacro). s.block) deep.0,
+  ap (λ (s : SavedMacro). s.escape) deep.0,
+)

@@ -9,7 +9,7 @@ use Rattle.tm_values.specs.declared.error.ErrorKind.{ErrorKind}
 use Rattle.tm_values.specs.declared.error.ErrorKind.TheVariants.{InvalidOperation, WriteFailure}
 use Rattle.tm_syntax.specs.Named.{put}
 use Rattle.tm_meaning.specs.World.{World, Res, Good, Bad}
-use Rattle.tm_meaning.specs.Calls.{Asked, has, refused, runs, recurs, Callee, whole}
+use Rattle.tm_meaning.specs.Calls.{Asked, has, refused, runs, recurs, Callee}
 use Rattle.tm_meaning.specs.declared.stream.StreamId.{StreamId}
 use Rattle.tm_tables.specs.Stated.{StatedObjects}
 use Rattle.tm_meaning.specs.declared.stream.TemplateId.TheVariants.{Own}
@@ -60,10 +60,6 @@ meaning stated t id context = meaning_from stated t (first stated t id context)
 -- the run of a callee, heard, over no text
 abbrev pub callee_run : {O : Type 0} → (O → StatedObjects) → TemplateValue O → Callee → World → Outcome
 callee_run stated t k w = let host = host_of stated t in nests_of host (trees t) (host.limit + 1) k true [] w
-
--- the run of a stream
-abbrev pub run_of : {O : Type 0} → (O → StatedObjects) → TemplateValue O → StreamId → World → Outcome
-run_of stated t s w = callee_run stated t (whole s) w
 
 -- What a call comes to where no template runs, as a value: the run that it needs is in a capture, and what that replaced is put back behind
 -- it, also where it ended in a fault.

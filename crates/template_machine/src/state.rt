@@ -7,19 +7,18 @@ ghost use Rattle.tm_values.specs.Answer.{IsAnswer, IsLent, OkOrOutOfMemory};
 ghost use Rattle.tm_meaning.specs.World.{emitted, find_name, fuel_levels, name_of, records_of, view_of};
 ghost use Rattle.tm_tables.specs.Known.{AreFound, NamingFails};
 ghost use Rattle.tm_meaning.specs.Calls.{apply_filter, perform_test};
-ghost use Rattle.tm_state.specs.Answers.{Becomes, CallLies, IsEmitted, KeepsIdAndFuel, NeedsRun, OneDeeper, StaysInPlace};
-ghost use Rattle.tm_state.specs.State.{exported};
+ghost use Rattle.tm_state.specs.Answers.{Becomes, CallLies, IsEmitted, KeepsFixed, NeedsRun, OneDeeper, StaysInPlace};
+ghost use Rattle.tm_state.specs.State.{callee_of, exported};
 ghost use Rattle.template_machine.specs.Environment.{host_of};
-ghost use Rattle.template_machine.specs.Renders.{called_value, run_of, with_temp, with_world, IsCalled, IsCaptured, IsTested, RanApart};
+ghost use Rattle.template_machine.specs.Renders.{called_value, callee_run, with_temp, with_world, IsCalled, IsCaptured, IsTested, RanApart};
 ghost use Rattle.tm_meaning.specs.Machine.{new_capture};
 
 use crate::environment::BoxedObjects;
 use crate::rendering::Rendering;
 use std::marker::Model;
-use tm_meaning::StreamId;
 use tm_operations::is_true;
 use tm_parts::{Captures, Halt, NullWriter};
-use tm_state::{CallResult, NestedRun, StateData};
+use tm_state::{CallResult, NestedRun, RunOf, StateData};
 use tm_syntax::{CaptureMode, Name};
 use tm_tables::{Host, NO_PLACE, Parties};
 use tm_values::{AutoEscape, Error, ErrorKind, Value};
@@ -135,7 +134,7 @@ impl<'env, O: Parties> StateOf<'env, O> {
             (host_of O.stated self.old.template) name.now args.now self.old.world)) self.new.world }
         ensures template { self.new.template ≡ self.old.template }
         ensures stays { StaysInPlace self.old.world self.new.world }
-        ensures kept { KeepsIdAndFuel self.old.world self.new.world }
+        ensures kept { KeepsFixed self.old.world self.new.world }
     {
         let alloc = self.rendering.allocator();
         let called = self
@@ -153,7 +152,7 @@ impl<'env, O: Parties> StateOf<'env, O> {
             (host_of O.stated self.old.template) name.now args.now self.old.world)) self.new.world }
         ensures template { self.new.template ≡ self.old.template }
         ensures stays { StaysInPlace self.old.world self.new.world }
-        ensures kept { KeepsIdAndFuel self.old.world self.new.world }
+        ensures kept { KeepsFixed self.old.world self.new.world }
     {
         let alloc = self.rendering.allocator();
         let called = self
@@ -171,7 +170,7 @@ impl<'env, O: Parties> StateOf<'env, O> {
         ensures template { self.new.template ≡ self.old.template }
         ensures stays { (limit : _) (before : _) → CallLies limit (Ok called) before self.old.world →
             StaysInPlace before self.new.world }
-        ensures kept { KeepsIdAndFuel self.old.world self.new.world }
+        ensures kept { KeepsFixed self.old.world self.new.world }
     {
         match called {
             CallResult::Value(value) => Ok(value),
@@ -187,51 +186,56 @@ impl<'env, O: Parties> StateOf<'env, O> {
         ensures template { self.new.template ≡ self.old.template }
         ensures stays { (limit : _) (before : _) → OneDeeper limit run.saved before self.old.world →
             StaysInPlace before self.new.world }
-        ensures kept { KeepsIdAndFuel self.old.world self.new.world }
+        ensures kept { KeepsFixed self.old.world self.new.world }
     {
         let alloc = self.rendering.allocator();
         let NestedRun {
-            stream,
-            text,
-            saved,
-            ..
+            run, text, saved, ..
         } = run;
-        let result = self.run_in_capture(stream);
-        self.kept.leave_block(saved);
+        let result = self.run_in_capture(run);
+        self.kept.put_back(saved);
         let captured = result?;
         run_value(alloc, text, captured.as_str(), self.kept.escape())
     }
 
-    /// Runs a stream from where the state stands, and gives its text. The run's fault; OutOfMemory.
-    fn run_in_capture(&mut self, stream: StreamId) -> Result<String, Error>
-        ensures captured { IsCaptured result
-            (run_of O.stated self.old.template stream self.old.world) self.new.world }
+    /// Runs what is called from where the state stands, and gives its text. The run's fault, InvalidOperation where
+    /// there is no such run; OutOfMemory.
+    fn run_in_capture(&mut self, run: RunOf) -> Result<String, Error>
+        ensures captured { IsCaptured result (callee_run O.stated self.old.template
+            (callee_of run) self.old.world) self.new.world }
         ensures template { self.new.template ≡ self.old.template }
         ensures no_fewer { length self.old.world.scopes.frames ≤ length self.new.world.scopes.frames }
-        ensures kept { KeepsIdAndFuel self.old.world self.new.world }
+        ensures kept { KeepsFixed self.old.world self.new.world }
     {
         let alloc = self.rendering.allocator();
         let mut captures = Captures::new(alloc);
         captures.begin(alloc, CaptureMode::Capture)?;
-        let mut captures = self.run_over(stream, captures)?;
+        let mut captures = self.run_over(run, captures)?;
         match captures.end() {
             Some((_mode, text)) => Ok(text),
             None => unreachable!(),
         }
     }
 
-    /// Runs a stream over a capture, from where the state stands, and gives the captures that are left.
-    fn run_over(&mut self, stream: StreamId, captures: Captures) -> Result<Captures, Halt>
+    /// Runs what is called over a capture, from where the state stands, and gives the captures that are left.
+    /// InvalidOperation where there is no such run.
+    fn run_over(&mut self, run: RunOf, captures: Captures) -> Result<Captures, Halt>
         requires { captures ≡ new_capture true ∷ [] }
-        ensures ran { RanApart result (run_of O.stated self.old.template stream self.old.world)
-            self.new.world }
+        ensures ran { RanApart result (callee_run O.stated self.old.template
+            (callee_of run) self.old.world) self.new.world }
         ensures template { self.new.template ≡ self.old.template }
         ensures no_fewer { length self.old.world.scopes.frames ≤ length self.new.world.scopes.frames }
-        ensures kept { KeepsIdAndFuel self.old.world self.new.world }
+        ensures kept { KeepsFixed self.old.world self.new.world }
     {
         let alloc = self.rendering.allocator();
         let state = self.kept.take(alloc);
-        let mut machine = Machine::new(alloc, stream, captures, state);
+        let mut machine = match Machine::of_run(alloc, &self.rendering, run, captures, state) {
+            Ok(machine) => machine,
+            Err(state) => {
+                self.put(state);
+                return Err(Halt::Fault(Error::from(ErrorKind::InvalidOperation)));
+            }
+        };
         let result = machine.run(alloc, &self.rendering, true, &mut NullWriter);
         let (captures, state) = machine.into_parts();
         self.put(state);

@@ -1,8 +1,8 @@
 -- What a call comes to, up to the run that it needs: the meaning and the machine share it. Neither trees nor instructions stand here.
 use Rattle.std.specs.Prelude.{ℕ, zero, suc, ◌+◌, ◌-◌, ◌%◌, drop, List, [], ◌∷◌, length, map as each, Option, Some, None, Ok, Bool, true, false}
-use Rattle.std.specs.Prelude.{not, nat_eq, ◌&&◌, ◌||◌, slice_get, codes, if◌then◌else◌}
+use Rattle.std.specs.Prelude.{not, nat_eq, nat_lt, is_none, ◌&&◌, ◌||◌, slice_get, codes, if◌then◌else◌}
 use Rattle.std.specs.Ordering.{is_eq}
-use Rattle.tm_definitions.specs.Maps.{dict_of, namespace_of}
+use Rattle.tm_definitions.specs.Maps.{dict_of, namespace_of, keywords_of, plain_of}
 use Rattle.tm_definitions.specs.Ranges.{range_of}
 use Rattle.tm_definitions.specs.Members.{macro_member, or_undefined}
 use Rattle.tm_definitions.specs.Truth.{is_true}
@@ -10,10 +10,11 @@ use Rattle.tm_definitions.specs.Emitted.{text_answer}
 use Rattle.tm_values.specs.Answer.{Answer}
 use Rattle.tm_values.specs.Order.{val_cmp}
 use Rattle.tm_values.specs.Records.{RecordData}
-use Rattle.tm_values.specs.Val.{Val, undefined, boolean, text, list, map, function, macro, loop, pairs_of, vals_of}
+use Rattle.tm_values.specs.Map.{find as find_key}
+use Rattle.tm_values.specs.Val.{MacroData, Val, undefined, boolean, text, list, map, function, macro, loop, pairs_of, vals_of, text_in}
 use Rattle.tm_values.specs.declared.error.ErrorKind.{ErrorKind}
 use Rattle.tm_values.specs.declared.error.ErrorKind.TheVariants.{InvalidOperation, UnknownFilter, UnknownTest, UnknownFunction}
-use Rattle.tm_values.specs.declared.error.ErrorKind.TheVariants.{UnknownMethod, UnknownBlock}
+use Rattle.tm_values.specs.declared.error.ErrorKind.TheVariants.{UnknownMethod, UnknownBlock, TooManyArguments}
 use Rattle.tm_syntax.specs.declared.tree.Application.{Application}
 use Rattle.tm_syntax.specs.declared.tree.Application.TheVariants as applications
 use Rattle.tm_meaning.specs.declared.function.GlobalFunction.{GlobalFunction}
@@ -22,22 +23,24 @@ use Rattle.tm_meaning.specs.declared.run_text.RunText.{RunText}
 use Rattle.tm_meaning.specs.declared.run_text.RunText.TheVariants as texts
 use Rattle.tm_meaning.specs.Memory.{kind_of_wrapping}
 use Rattle.tm_meaning.specs.declared.function.GlobalFunction.TheVariants as own
-use Rattle.tm_meaning.specs.World.{TemplateId, own, entry, StreamId, block_of, Named, find, put_each, same_name, Card, Layers, Loop, World}
-use Rattle.tm_meaning.specs.World.{HostValue, Scope, Object, Fallback, Function, callers, languages, Res, Good, Bad, bind, bad, answered}
-use Rattle.tm_meaning.specs.World.{depth, items_over, innermost, records_of, make_namespace, need, check, card_at, view_of, lookup}
+use Rattle.tm_meaning.specs.World.{TemplateId, own, entry, StreamId, block_of, Named, Bindings, find, put, put_each, same_name, Card, Layers}
+use Rattle.tm_meaning.specs.World.{choose, HostValue, Scope, Scopes, Loop, World, Object, Fallback, Function, callers, languages, Res, Good}
+use Rattle.tm_meaning.specs.World.{Bad, bind, bad, answered, same_stream, depth, items_over, innermost, records_of, make_namespace, need, check, card_at, view_of, lookup}
 use Rattle.tm_meaning.specs.World.{context_member, place_of, plain_scope, push, captured_text}
 use Rattle.tm_meaning.specs.declared.reply.Reply.{Reply}
 use Rattle.tm_meaning.specs.declared.reply.Reply.TheVariants.{Value as gives, Fault as faults, Further as asks_for}
 use Rattle.tm_meaning.specs.declared.reply.Call.{Call}
 use Rattle.tm_meaning.specs.declared.reply.Call.TheVariants as further
 
--- What is run: a whole stream.
+-- What is run: a whole stream, or the macro of a number in a stream, with its arguments, of which it takes so many.
 pub data Callee : Type 0 where
   whole : StreamId → Callee
+  macro_of : StreamId → ℕ → List Val → Callee
 
 -- What is put back behind a run, from the world before it.
 pub data Undo : Type 0 where
   of_block : World → Undo
+  of_macro : World → Undo
 
 -- A run, what is put back behind it, the kind that is put before its fault, if one is, and what its text is where that is a value.
 pub record NestedCall : Type 0 where
@@ -67,10 +70,18 @@ outermost n frames = drop (length frames - n) frames
 abbrev pub cut_to : ℕ → ℕ → World → World
 cut_to n outer w = record w { scopes = record { frames = outermost n w.scopes.frames; outer = outer } }
 
--- However the run ended, only the scopes stay that stood before it, and stream, block, escape and outer depth are those before it.
--- Records, kept values and fuel go on.
+-- However the run ended, only the scopes stay that stood before it, and stream, block, escape and outer depth are those before it; behind a
+-- macro, which has scopes of its own, lists of blocks and loaded names are too. Records, kept values and fuel go on.
 abbrev pub undone : Undo → World → World
 undone (of_block b) w = record (cut_to (length b.scopes.frames) b.scopes.outer w) { stream = b.stream; block = b.block; escape = b.escape }
+undone (of_macro b) w = record w {
+  scopes = b.scopes;
+  stream = b.stream;
+  block = b.block;
+  escape = b.escape;
+  blocks = b.blocks;
+  loaded = b.loaded;
+}
 
 -- the text of a run as a value
 abbrev pub run_value : RunText → List ℕ → World → Val
@@ -111,6 +122,94 @@ alone t b = (b.0, record { templates = t ∷ []; place = 0 })
 abbrev pub own_blocks : TemplateId → Named Card → Named Layers
 own_blocks t bs = each (alone t) bs
 
+-- ---------------------------------------------------------------- macros
+abbrev pub is_argument : List ℕ → List (List ℕ) → Bool
+is_argument x [] = false
+is_argument x (y ∷ ys) = same_name x y || is_argument x ys
+
+-- whether `caller` is given to a macro that doesn't name it among its arguments
+abbrev pub takes_caller : MacroData → Bool
+takes_caller m = m.caller && not (is_argument (codes "caller") m.arguments)
+
+-- whether a macro uses what is given under this key; keys that are no texts are ignored
+abbrev pub is_used : MacroData → Option (List ℕ) → Bool
+is_used m None = true
+is_used m (Some x) = is_argument x m.arguments || (takes_caller m && same_name x (codes "caller"))
+
+abbrev pub all_used : MacroData → List (Val × Val) → Bool
+all_used m [] = true
+all_used m (p ∷ ps) = is_used m (text_in p.0) && all_used m ps
+
+abbrev pub behind_first : Val → Option (List Val) → Option (List Val)
+behind_first v None = None
+behind_first v (Some vs) = Some (v ∷ vs)
+
+-- What each of these names is bound to: a value by its place, or else the one given under the name, or else undefined. None where there are
+-- too many values, or a name is given twice.
+abbrev pub bound : List (List ℕ) → List Val → List (Val × Val) → Option (List Val)
+bound [] [] given = Some []
+bound [] (v ∷ vs) given = None
+bound (x ∷ xs) [] given = behind_first (or_undefined (find_key (text x false) given)) (bound xs [] given)
+bound (x ∷ xs) (v ∷ vs) given =
+    choose (is_none (find_key (text x false) given)) (λ _. behind_first v (bound xs vs given)) (λ _. None)
+
+-- the arguments of a macro that is called with these values, of which a keyword map that stands last gives some by their names
+abbrev pub bound_to : MacroData → List Val → Option (List Val)
+bound_to m args =
+    choose (all_used m (keywords_of args)) (λ _. bound m.arguments (plain_of args) (keywords_of args)) (λ _. None)
+
+-- the context value of the outermost scope
+abbrev pub root_context : List Scope → Val
+root_context [] = undefined false
+root_context (s ∷ []) = s.context
+root_context (s ∷ t ∷ ss) = root_context (t ∷ ss)
+
+-- what the scope of a macro has at its start
+abbrev pub first_locals : MacroData → List Val → Bindings
+first_locals m args =
+    choose (takes_caller m) (λ _. put (codes "caller") (or_undefined (find_key (text (codes "caller") false) (keywords_of args))) []) (λ _. [])
+
+-- the scopes in which a macro runs that is called with these values: one over the context value of the present root, and over it one that
+-- reads the macro's closure; they stand at a depth
+abbrev pub macro_scopes : MacroData → List Val → List Scope → ℕ → Scopes
+macro_scopes m args frames outer = record {
+  frames = record (plain_scope (undefined false)) { locals = first_locals m args; reads = m.closure } ∷
+      plain_scope (root_context frames) ∷ [];
+  outer = outer;
+}
+
+abbrev pub is_closure : Option ℕ → World → Bool
+is_closure None w = true
+is_closure (Some n) w = nat_lt n (length w.closures)
+
+-- The stream of a macro, where that and the macro's closure are known in this state. Whether the stream has such a macro shows once that is
+-- entered.
+abbrev pub known_stream : MacroData → World → Option StreamId
+known_stream m w = choose (is_closure m.closure w) (λ _. slice_get w.streams m.stream) (λ _. None)
+
+abbrev pub macro_call : StreamId → MacroData → List Val → World → NestedCall
+macro_call s m given w =
+    record { callee = macro_of s m.entry given; undo = of_macro w; wrap = None; text = texts.Captured }
+
+-- how deep the two scopes of a macro lie above the call, and the first of them
+abbrev pub macro_depth : ℕ
+macro_depth = 4
+
+-- The run of a macro that is called so many levels deeper than the scopes stand: refused in this order where the macro is another state's,
+-- where the values don't fit its arguments, where it isn't known in this state, and where its scopes would lie deeper than the limit.
+abbrev pub enter_macro : ℕ → HostValue → MacroData → List Val → World → Asked
+enter_macro n host m args w =
+    ask (check (nat_eq m.state w.id) InvalidOperation w) (λ _ world1.
+    ask (need (bound_to m args) TooManyArguments world1) (λ given world2.
+    ask (need (known_stream m world2) InvalidOperation world2) (λ s world3.
+    let outer = n + depth world3.scopes + macro_depth in
+    ask (check (nat_lt (outer + 1) host.limit) InvalidOperation world3) (λ _ world4.
+    runs (macro_call s m given world4) (record world4 {
+      scopes = macro_scopes m args world4.scopes.frames outer;
+      stream = s;
+      block = None;
+    })))))
+
 -- ---------------------------------------------------------------- functions
 -- What makes the further calls that objects ask for.
 abbrev pub MakesFurther : Type 0
@@ -143,16 +242,17 @@ abbrev pub function_call : MakesFurther → HostValue → Function → List Val 
 function_call make host (callers f) args w = object_call make host f args w
 function_call make host (languages g) args w = ask (given_by g args w) has
 
--- a value is called: of values alone a function can be, by its number
-abbrev pub value_call : MakesFurther → HostValue → Val → List Val → World → Asked
-value_call make host (function n) args w =
+-- A value is called so many levels deeper than the scopes stand: a function by its number, or a macro.
+abbrev pub value_call : MakesFurther → ℕ → HostValue → Val → List Val → World → Asked
+value_call make levels host (function n) args w =
     ask (need (slice_get host.functions n) InvalidOperation w) (λ f world1. function_call make host f args world1)
-value_call make host v args w = refused (InvalidOperation ∷ []) w
+value_call make levels host (macro m) args w = enter_macro levels host m args w
+value_call make levels host v args w = refused (InvalidOperation ∷ []) w
 
 -- what a name stands for is called as a value
-abbrev pub named_call : MakesFurther → HostValue → List ℕ → List Val → World → Asked
-named_call make host x args w =
-    ask (lookup host x w) (λ found world1. ask (need found UnknownFunction world1) (λ f world2. value_call make host f args world2))
+abbrev pub named_call : MakesFurther → ℕ → HostValue → List ℕ → List Val → World → Asked
+named_call make levels host x args w =
+    ask (lookup host x w) (λ found world1. ask (need found UnknownFunction world1) (λ f world2. value_call make levels host f args world2))
 
 -- The text of what a call comes to, which is not safe.
 abbrev pub as_printed : Asked → Asked
@@ -175,7 +275,7 @@ from_deeper w (recurs n items _) = refused (InvalidOperation ∷ []) w
 -- A further call, made so many levels deeper than code called; the further calls of what it calls are made so.
 abbrev pub further_call : MakesFurther → ℕ → HostValue → Call → World → Asked
 further_call make n host (further.Filter x args) w = found_call make host (find x host.filters) UnknownFilter args w
-further_call make n host (further.Macro x args) w = as_printed (named_call make host x args w)
+further_call make n host (further.Macro x args) w = as_printed (named_call make n host x args w)
 further_call make n host (further.Block b) w = from_deeper w (enter_block host b (deeper n w))
 
 -- Each further call is one deeper, so only so many are made, one asked for by the other, behind so many that were made.
@@ -192,7 +292,7 @@ abbrev pub by_depths : HostValue → World → MakesFurther
 by_depths host w = further_calls (depths_left host w) 0 host
 
 abbrev pub call_value : HostValue → Val → List Val → World → Asked
-call_value host v args w = value_call (by_depths host w) host v args w
+call_value host v args w = value_call (by_depths host w) 0 host v args w
 
 -- the first of the values is called with the others
 abbrev pub call_callee : HostValue → List Val → World → Asked
@@ -297,19 +397,6 @@ applied host applications.Test x vs w = perform_test host x vs w
 applied host applications.NegatedTest x vs w = perform_test host x vs w
 
 -- ---------------------------------------------------------------- loops
-abbrev pub same_template : TemplateId → TemplateId → Bool
-same_template own own = true
-same_template (entry x) (entry y) = same_name x y
-same_template s t = false
-
-abbrev pub same_block : Option (List ℕ) → Option (List ℕ) → Bool
-same_block None None = true
-same_block (Some x) (Some y) = same_name x y
-same_block b c = false
-
-abbrev pub same_stream : StreamId → StreamId → Bool
-same_stream s t = same_template s.template t.template && same_block s.block t.block
-
 -- a kind before a fault
 abbrev pub wrapped_as : {A : Type 0} → ErrorKind → Res A → Res A
 wrapped_as kind (Good a w) = Good a w

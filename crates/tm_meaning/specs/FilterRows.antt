@@ -27,8 +27,8 @@ use Rattle.tm_meaning.specs.declared.reply.Reply.TheVariants.{Value as gives, Fa
 use Rattle.tm_meaning.specs.declared.reply.Call.TheVariants as further
 use Rattle.tm_meaning.specs.Tree.{Body}
 use Rattle.tm_meaning.specs.Calls.{whole}
-use Rattle.tm_meaning.specs.Machine.{Program, base_of, start}
-use Rattle.tm_meaning.specs.Steps.{run_for, step as step_of}
+use Rattle.tm_meaning.specs.Machine.{Program, base_of}
+use Rattle.tm_meaning.specs.Steps.{run_for, begins}
 use Rattle.tm_meaning.specs.Rows.{Page, page, one, two, nothing, literal, literal_number, and_one, raw, to_x, x, Said, said_by}
 use Rattle.tm_meaning.specs.Rows.{host_of, world_of}
 use Rattle.tm_meaning.specs.LoopRows.{for_x, numbers}
@@ -262,7 +262,7 @@ ran_alone code =
     let p : Program = record { host = host_of in_capitals; code = λ s. code } in
     let w = world_of in_capitals None in
     let f = base_of true [] w in
-    said_by (run_for 20 p f [] (step_of p f (start (whole w.stream) [] w)))
+    said_by (run_for 20 p f [] (begins p f (whole w.stream) [] w))
 
 -- a name and its cache number
 abbrev pub upper_by : ℕ → List ℕ × ℕ

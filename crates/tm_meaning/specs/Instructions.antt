@@ -1,7 +1,7 @@
 -- What each instruction does once it is paid for.
 use Rattle.std.specs.Prelude.{ℕ, zero, suc, ◌+◌, pos, List, [], ◌∷◌, ◌++◌, length, nat_lt, nat_eq, Option, Some, None, Bool, true, false}
 use Rattle.std.specs.Prelude.{◌&&◌, slice_get, if◌then◌else◌}
-use Rattle.tm_values.specs.Val.{Val, undefined, boolean, number}
+use Rattle.tm_values.specs.Val.{Val, undefined, none, boolean, number, list, list_of, text_in}
 use Rattle.tm_values.specs.declared.escape.AutoEscape.{AutoEscape}
 use Rattle.tm_syntax.specs.declared.instruction.CaptureMode.{CaptureMode}
 use Rattle.tm_syntax.specs.declared.instruction.LoopFlags.{LoopFlags}
@@ -11,8 +11,9 @@ use Rattle.tm_meaning.specs.declared.mark.LoopMark.{LoopMark}
 use Rattle.tm_syntax.specs.declared.tree.BinaryOperator.{BinaryOperator}
 use Rattle.tm_meaning.specs.World.{choose, TemplateId, World, HostValue, Loop, top_mark, top_loop, open_loop, next_turn, cleared}
 use Rattle.tm_meaning.specs.World.{items_over, Res, answered, looked_up, emitted, escape_for, with_escape, store, unpacked_items}
-use Rattle.tm_meaning.specs.World.{set_member, push, pop, plain_scope, captured_text}
+use Rattle.tm_meaning.specs.World.{set_member, push, pop, plain_scope, captured_text, enclose, own_closure, make_macro}
 use Rattle.tm_syntax.specs.Loops.{loops_before}
+use Rattle.tm_syntax.specs.Entries.{entry_number}
 use Rattle.tm_syntax.specs.CacheNumbers.{no_cache, cache_count}
 use Rattle.tm_syntax.specs.Named.{same_name}
 use Rattle.tm_syntax.specs.declared.tree.Application.{Application}
@@ -20,7 +21,7 @@ use Rattle.tm_syntax.specs.declared.tree.Application.TheVariants as applications
 use Rattle.tm_meaning.specs.Calls.{enter_block, call_named, call_callee, applied, call_innermost}
 use Rattle.tm_meaning.specs.Meaning.{none_waits}
 use Rattle.tm_meaning.specs.Operators.{truth, applied_unary, operated, attribute, item_at, slice_of, list_of_values, map_of_pairs}
-use Rattle.tm_meaning.specs.Operators.{keyword_map, merged_values, items_of_lists}
+use Rattle.tm_meaning.specs.Operators.{keyword_map, merged_values, items_of_lists, is_undefined}
 use Rattle.tm_meaning.specs.Machine.{Capture, Caches, Return, Config, Base, Next, More, after, on_top, take_n, onto, on, goes, pushed}
 use Rattle.tm_meaning.specs.Machine.{Program, jumps, stuck, with_world, audible, writes, new_capture, captured_value, asked, asked_in_place}
 
@@ -143,6 +144,52 @@ jump_if_true_or_pop_of host n c = on_truth host c (λ b v vs w. choose b (λ _. 
 -- ---------------------------------------------------------------- scopes and targets
 abbrev pub store_local_of : List ℕ → Config → Next
 store_local_of x c = on_top c.run.operands c.world (λ v vs. goes vs (store x v c.world) c)
+
+-- ---------------------------------------------------------------- macros
+abbrev pub is_undefined_of : Config → Next
+is_undefined_of c = on_top c.run.operands c.world (λ v vs. goes (boolean (is_undefined v) ∷ vs) c.world c)
+
+abbrev pub enclose_of : HostValue → List ℕ → Config → Next
+enclose_of host x c = after (enclose host x c.world) (λ _ w. goes c.run.operands w c)
+
+-- a closure as an operand: its number, or none
+abbrev pub closure_value : Option ℕ → Val
+closure_value None = none
+closure_value (Some n) = number (pos n)
+
+abbrev pub get_closure_of : Config → Next
+get_closure_of c = goes (closure_value (own_closure c.world.scopes.frames) ∷ c.run.operands) c.world c
+
+-- the closure that an operand is
+abbrev pub closure_in : Val → Option (Option ℕ)
+closure_in none = Some None
+closure_in (number (pos n)) = Some (Some n)
+closure_in v = None
+
+abbrev pub and_text : Option (List ℕ) → Option (List (List ℕ)) → Option (List (List ℕ))
+and_text (Some x) (Some xs) = Some (x ∷ xs)
+and_text x xs = None
+
+-- the texts that values are, where each is one
+abbrev pub texts_in : List Val → Option (List (List ℕ))
+texts_in [] = Some []
+texts_in (v ∷ vs) = and_text (text_in v) (texts_in vs)
+
+-- the names that a list of texts is
+abbrev pub names_in : Val → Option (List (List ℕ))
+names_in (list vs) = texts_in (list_of vs)
+names_in v = None
+
+abbrev pub on_parts : Option (Option ℕ) → Option (List (List ℕ)) → World → (Option ℕ → List (List ℕ) → Next) → Next
+on_parts (Some closure) (Some names) w f = f closure names
+on_parts closure names w f = stuck w
+
+-- A closure below the names of arguments are replaced by a macro; stuck where they are no such operands.
+abbrev pub build_macro_of : Program → List ℕ → ℕ → Bool → Config → Next
+build_macro_of p x place caller c =
+    on_top c.run.operands c.world (λ names vs. on_top vs c.world (λ closure rest.
+    on_parts (closure_in closure) (names_in names) c.world (λ own arguments.
+    after (make_macro (entry_number place (p.code c.run.stream)) own x arguments caller c.world) (λ v w. goes (v ∷ rest) w c))))
 
 -- the first item on top
 abbrev pub unpack_list_of : ℕ → Config → Next

@@ -12,6 +12,7 @@ pub mod LoopRows
 pub mod CallRows
 pub mod FilterRows
 pub mod FurtherRows
+pub mod MacroRows
 pub mod SpreadRows
 pub mod ObjectRows
 pub mod OperatorRows

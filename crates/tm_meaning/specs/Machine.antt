@@ -1,6 +1,6 @@
 -- The machine: where it stands, what a step gives, and how runs end.
 use Rattle.std.specs.Prelude.{ℕ, zero, suc, ◌+◌, List, [], ◌∷◌, ◌++◌, length, Option, Some, None, Bool, true, false, ◌&&◌, nat_lt}
-use Rattle.std.specs.Prelude.{slice_get}
+use Rattle.std.specs.Prelude.{slice_get, nat_eq, option_and_then}
 use Rattle.tm_values.specs.Val.{Val, undefined}
 use Rattle.tm_values.specs.declared.error.ErrorKind.{ErrorKind}
 use Rattle.tm_values.specs.declared.error.ErrorKind.TheVariants.{InvalidOperation}
@@ -8,10 +8,11 @@ use Rattle.tm_values.specs.declared.escape.AutoEscape.{AutoEscape}
 use Rattle.tm_syntax.specs.declared.instruction.Instruction.{Instruction}
 pub use Rattle.tm_meaning.specs.declared.base.Base.{Base}
 use Rattle.tm_meaning.specs.World.{choose, TemplateId, StreamId, World, HostValue, Res, Good, Bad, open_loop, captured_text}
-use Rattle.tm_meaning.specs.Calls.{Callee, whole, NestedCall, Asked, has, refused, runs, recurs, undone, wrapped, run_value}
+use Rattle.tm_meaning.specs.Calls.{Callee, whole, macro_of, NestedCall, Asked, has, refused, runs, recurs, undone, wrapped, run_value}
 use Rattle.tm_meaning.specs.declared.run_text.RunText.{RunText}
 use Rattle.tm_syntax.specs.declared.instruction.LoopPlace.{LoopPlace}
 use Rattle.tm_syntax.specs.Loops.{loop_places}
+use Rattle.tm_syntax.specs.Entries.{entries}
 use Rattle.tm_meaning.specs.Meaning.{none_waits}
 
 -- A text that waits for its capture's end, and whether it takes what is written.
@@ -159,9 +160,20 @@ run_from s floor = record {
   tests = [];
 }
 
--- a run of a callee from its first place, over captures and in a world
-abbrev pub start : Callee → List Capture → World → Config
-start (whole s) ks w = record { run = run_from s (length ks); captures = ks; world = w }
+-- a run of a macro from its entry, with its arguments as its first operands, the last one on top
+abbrev pub run_of_macro : StreamId → List Val → ℕ → ℕ × ℕ → Option Activation
+run_of_macro s given floor e =
+    choose (nat_eq e.1 (length given)) (λ _. Some (record (run_from s floor) { place = e.0; operands = onto given [] })) (λ _. None)
+
+-- The run of a callee from its first place, over so many captures. A stream has no run of a macro that it lacks, or that takes other
+-- arguments.
+abbrev pub first_run : Program → Callee → ℕ → Option Activation
+first_run p (whole s) floor = Some (run_from s floor)
+first_run p (macro_of s n given) floor = option_and_then (run_of_macro s given floor) (slice_get (entries (p.code s)) n)
+
+-- a run over captures and in a world
+abbrev pub running : Activation → List Capture → World → Config
+running a ks w = record { run = a; captures = ks; world = w }
 
 abbrev pub base_of : Bool → List Capture → World → Base
 base_of heard ks w = record { captures = length ks; scopes = length w.scopes.frames; heard = heard; first = w.escape }
@@ -177,16 +189,21 @@ captured_value k w = choose k.heard (λ _. captured_text k.text w) (λ _. undefi
 abbrev pub waiting : List Val → Config → Activation
 waiting vs c = record c.run { place = c.run.place + 1; operands = vs }
 
+-- a run that is needed first, over these captures; where its callee has none the call is refused
+abbrev pub nested : Option Activation → Bool → List Capture → World → Back → Next
+nested None heard ks w back = Over (Failed (wrapped back.call.wrap (InvalidOperation ∷ [])) (undone back.call.undo w))
+nested (Some a) heard ks w back = Nest (base_of heard ks w) (running a ks w) back
+
 -- a nested run whose text is heard where the call is
-abbrev pub nested_in_place : Base → List Val → Config → NestedCall → World → Next
-nested_in_place f vs c k w =
-    Nest (base_of (audible f c) c.captures w) (start k.callee c.captures w) (record { run = waiting vs c; call = k; value = false })
+abbrev pub nested_in_place : Program → Base → List Val → Config → NestedCall → World → Next
+nested_in_place p f vs c k w =
+    nested (first_run p k.callee (length c.captures)) (audible f c) c.captures w (record { run = waiting vs c; call = k; value = false })
 
 -- a nested run whose text waits in a capture
-abbrev pub nested_as_value : List Val → Config → NestedCall → World → Next
-nested_as_value vs c k w =
+abbrev pub nested_as_value : Program → List Val → Config → NestedCall → World → Next
+nested_as_value p vs c k w =
     let ks = new_capture true ∷ c.captures in
-    Nest (base_of true ks w) (start k.callee ks w) (record { run = waiting vs c; call = k; value = true })
+    nested (first_run p k.callee (length ks)) true ks w (record { run = waiting vs c; call = k; value = true })
 
 abbrev pub pushed : Val → Activation → Activation
 pushed v r = record r { operands = v ∷ r.operands }
@@ -236,12 +253,12 @@ place_of_loop p c n = slice_get (loop_places 0 (p.code c.run.stream)) n
 abbrev pub asked : Program → Config → List Val → Asked → Next
 asked p c vs (has v w) = goes (v ∷ vs) w c
 asked p c vs (refused chain w) = Over (Failed chain w)
-asked p c vs (runs k w) = nested_as_value vs c k w
+asked p c vs (runs k w) = nested_as_value p vs c k w
 asked p c vs (recurs n items w) = recursion p c true vs (new_capture true ∷ c.captures) n (place_of_loop p c n) items w
 
 -- or it is made in place
 abbrev pub asked_in_place : Program → Base → Config → List Val → Asked → Next
 asked_in_place p f c vs (has v w) = goes vs w c
 asked_in_place p f c vs (refused chain w) = Over (Failed chain w)
-asked_in_place p f c vs (runs k w) = nested_in_place f vs c k w
+asked_in_place p f c vs (runs k w) = nested_in_place p f vs c k w
 asked_in_place p f c vs (recurs n items w) = recursion p c false vs c.captures n (place_of_loop p c n) items w

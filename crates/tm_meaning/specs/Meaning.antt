@@ -33,7 +33,7 @@ use Rattle.tm_syntax.specs.Loops.{passes, within_loop, past, pasts, FoundLoop, l
 use Rattle.tm_meaning.specs.World.{choose, TemplateId, root_of, World, HostValue, Res, Good, Bad, bind, answered, tick, ticked, looked_up}
 use Rattle.tm_meaning.specs.World.{template_at, emitted, escape_for, with_escape, captured_text, open_loop, next_turn}
 use Rattle.tm_meaning.specs.World.{cleared, items_over, store, set_member, unpacked_items, push, pop, plain_scope}
-use Rattle.tm_meaning.specs.Calls.{Callee, whole, NestedCall, Asked, has, refused, runs, recurs, undone, wrapped, run_value}
+use Rattle.tm_meaning.specs.Calls.{Callee, whole, macro_of, NestedCall, Asked, has, refused, runs, recurs, undone, wrapped, run_value}
 use Rattle.tm_meaning.specs.Calls.{enter_block, call_named}
 use Rattle.tm_meaning.specs.Calls.{applied, call_callee, call_innermost, own_blocks}
 use Rattle.tm_meaning.specs.Tree.{Body, Trees}
@@ -464,6 +464,7 @@ under host nests body = over host nests (again_of host nests body (host.limit + 
 -- limit
 abbrev pub nests_of : HostValue → Trees → ℕ → Nests
 nests_of host trees zero callee heard out w = failed InvalidOperation (new_run heard w) out w
+nests_of host trees (suc n) (macro_of s entry given) heard out w = failed InvalidOperation (new_run heard w) out w
 nests_of host trees (suc n) (whole s) heard out w =
     stream_run (under host (nests_of host trees n) (trees s)) (trees s) (new_run heard w) out w
 

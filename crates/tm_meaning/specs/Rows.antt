@@ -28,8 +28,8 @@ use Rattle.tm_meaning.specs.World.{fuel_levels}
 use Rattle.tm_meaning.specs.Calls.{whole}
 use Rattle.tm_meaning.specs.Tree.{Body, body_of, TemplateTree, Trees, template_of, trees_of}
 use Rattle.tm_meaning.specs.Meaning.{rendered, first_world, chain_of}
-use Rattle.tm_meaning.specs.Machine.{Program, Finished, Failed, Stuck, End, start, base_of}
-use Rattle.tm_meaning.specs.Steps.{Final, step as step_of, run_for}
+use Rattle.tm_meaning.specs.Machine.{Program, Finished, Failed, Stuck, End, base_of}
+use Rattle.tm_meaning.specs.Steps.{Final, begins, run_for}
 
 -- ---------------------------------------------------------------- a page and its renders
 pub record Page : Type 0 where
@@ -111,7 +111,7 @@ abbrev pub ended : Page → Option ℕ → Option Final
 ended p fuel =
     let w = world_of p fuel in
     let f = base_of true [] w in
-    run_for 200 (program_of p) f [] (step_of (program_of p) f (start (whole w.stream) [] w))
+    run_for 200 (program_of p) f [] (begins (program_of p) f (whole w.stream) [] w)
 
 abbrev pub ran : Page → Option ℕ → Said
 ran p fuel = said_by (ended p fuel)

@@ -7,8 +7,10 @@ use Rattle.tm_syntax.specs.declared.tree.Application.TheVariants as applications
 use Rattle.tm_syntax.specs.declared.tree.UnaryOperator.TheVariants as unaries
 use Rattle.tm_syntax.specs.declared.tree.BinaryOperator.TheVariants as binaries
 use Rattle.tm_meaning.specs.World.{choose, World, Res, pays}
-use Rattle.tm_meaning.specs.Machine.{Config, Base, End, Finished, Back, back_to, Next, More, Over, Nest, Program, after, stuck}
-use Rattle.tm_meaning.specs.Machine.{with_world}
+use Rattle.tm_values.specs.declared.error.ErrorKind.TheVariants.{InvalidOperation}
+use Rattle.tm_meaning.specs.Calls.{Callee}
+use Rattle.tm_meaning.specs.Machine.{Activation, Capture, Config, Base, End, Finished, Failed, Back, back_to, Next, More, Over, Nest, Program}
+use Rattle.tm_meaning.specs.Machine.{after, stuck, with_world, first_run, running}
 use Rattle.tm_meaning.specs.Instructions.{emit_raw_of, emit_of, lookup_of, load_const_of, get_attr_of, unary_of, binary_of}
 use Rattle.tm_meaning.specs.Instructions.{compare_and_preserve_of, swap_of, dup_top_of, discard_top_of, get_item_of, slice_instruction_of}
 use Rattle.tm_meaning.specs.Instructions.{build_list_of, build_map_of, build_kwargs_of, jump_of, jump_if_false_of, jump_if_false_or_pop_of}
@@ -17,7 +19,7 @@ use Rattle.tm_meaning.specs.Instructions.{jump_if_true_or_pop_of, call_function_
 use Rattle.tm_meaning.specs.Instructions.{apply_filter_of, perform_test_of}
 use Rattle.tm_meaning.specs.Instructions.{store_local_of, unpack_list_of, set_attr_of, push_with_of, pop_frame_of, push_loop_of, iterate_of}
 use Rattle.tm_meaning.specs.Instructions.{push_did_not_iterate_of, pop_loop_frame_of, begin_capture_of, end_capture_of, push_auto_escape_of}
-use Rattle.tm_meaning.specs.Instructions.{pop_auto_escape_of}
+use Rattle.tm_meaning.specs.Instructions.{pop_auto_escape_of, is_undefined_of, enclose_of, get_closure_of, build_macro_of}
 
 -- what an instruction is charged: 0 where it is free
 abbrev pub charge_of : Instruction → ℕ
@@ -31,6 +33,8 @@ charge_of i.PopLoopFrame = 0
 charge_of (i.BeginCapture mode) = 0
 charge_of i.PushAutoEscape = 0
 charge_of i.PopAutoEscape = 0
+charge_of (i.BuildMacro _ _ _) = 0
+charge_of i.Return = 0
 charge_of (i.EmitRaw _) = 1
 charge_of i.Emit = 1
 charge_of (i.Lookup _) = 1
@@ -62,6 +66,7 @@ charge_of i.Rem = 1
 charge_of i.Pow = 1
 charge_of i.Neg = 1
 charge_of i.Not = 1
+charge_of i.IsUndefined = 1
 charge_of i.Swap = 1
 charge_of (i.Jump _) = 1
 charge_of (i.JumpIfFalse _) = 1
@@ -74,6 +79,8 @@ charge_of (i.ApplyFilter _ _ _) = 1
 charge_of (i.PerformTest _ _ _) = 1
 charge_of (i.CallBlock _) = 1
 charge_of (i.StoreLocal _) = 1
+charge_of (i.Enclose _) = 1
+charge_of i.GetClosure = 1
 charge_of (i.UnpackList _) = 1
 charge_of (i.SetAttr _) = 1
 charge_of (i.Iterate _) = 1
@@ -83,6 +90,20 @@ charge_of i.EndCapture = 1
 -- an instruction is paid for before its effect
 abbrev pub pay : Instruction → World → Res (Unit {0})
 pay x w = pays (charge_of x) w
+
+abbrev pub is_empty : {A : Type 0} → List A → Bool
+is_empty [] = true
+is_empty (x ∷ xs) = false
+
+-- all that the run opened is closed
+abbrev pub closed : Base → Config → Bool
+closed f c =
+    nat_eq f.captures (length c.captures) && nat_eq f.scopes
+    (length c.world.scopes.frames) && is_empty c.run.escapes && is_empty c.run.loops
+
+-- A run is over, with all closed that it opened.
+abbrev pub return_of : Base → Config → Next
+return_of f c = choose (closed f c) (λ _. Over (Finished c.captures c.world)) (λ _. stuck c.world)
 
 abbrev pub effect : Program → Base → Instruction → Config → Next
 effect p f (i.EmitRaw t) c = emit_raw_of f t c
@@ -116,6 +137,7 @@ effect p f i.Rem c = binary_of p.host binaries.Remainder c
 effect p f i.Pow c = binary_of p.host binaries.Power c
 effect p f i.Neg c = unary_of p.host unaries.Negate c
 effect p f i.Not c = unary_of p.host unaries.Not c
+effect p f i.IsUndefined c = is_undefined_of c
 effect p f i.Swap c = swap_of c
 effect p f i.DupTop c = dup_top_of c
 effect p f i.DiscardTop c = discard_top_of c
@@ -131,6 +153,10 @@ effect p f (i.PerformTest x n cache) c = perform_test_of p x n cache c
 effect p f i.FastRecurse c = fast_recurse_of p f c
 effect p f (i.CallBlock b) c = call_block_of p f b c
 effect p f (i.StoreLocal x) c = store_local_of x c
+effect p f (i.Enclose x) c = enclose_of p.host x c
+effect p f i.GetClosure c = get_closure_of c
+effect p f (i.BuildMacro x place caller) c = build_macro_of p x place caller c
+effect p f i.Return c = return_of f c
 effect p f (i.UnpackList n) c = unpack_list_of n c
 effect p f (i.SetAttr x) c = set_attr_of x c
 effect p f i.PushWith c = push_with_of p.host c
@@ -143,16 +169,6 @@ effect p f (i.BeginCapture mode) c = begin_capture_of mode c
 effect p f i.EndCapture c = end_capture_of c
 effect p f i.PushAutoEscape c = push_auto_escape_of f c
 effect p f i.PopAutoEscape c = pop_auto_escape_of c
-
-abbrev pub is_empty : {A : Type 0} → List A → Bool
-is_empty [] = true
-is_empty (x ∷ xs) = false
-
--- all that the run opened is closed, and the place is the stream's end
-abbrev pub closed : Base → Config → Bool
-closed f c =
-    nat_eq f.captures (length c.captures) && nat_eq f.scopes
-    (length c.world.scopes.frames) && is_empty c.run.escapes && is_empty c.run.loops
 
 -- Behind the last instruction the run is over, with all closed that it opened.
 abbrev pub finish : ℕ → Base → Config → Next
@@ -181,6 +197,14 @@ pub data Leads (p : Program) : Base → List ℕ → Next → Final → Type 0 w
   more : {f : Base} {t d : List ℕ} {n : Next} {c : Config} {o : Final} → n ≡ More d c → Leads p f (t ++ d) (step p f c) o → Leads p f t n o
   nest : {f g : Base} {t : List ℕ} {n : Next} {c : Config} {back : Back} {e o : Final} →
       n ≡ Nest g c back → Leads p g t (step p g c) e → Leads p f e.text (back_to back e.end) o → Leads p f t n o
+
+-- The run of a callee that begins here: its first step, or a refusal where there is none.
+abbrev pub begun : Program → Base → Option Activation → List Capture → World → Next
+begun p f None ks w = Over (Failed (InvalidOperation ∷ []) w)
+begun p f (Some a) ks w = step p f (running a ks w)
+
+abbrev pub begins : Program → Base → Callee → List Capture → World → Next
+begins p f k ks w = begun p f (first_run p k (length ks)) ks w
 
 -- From a configuration, once the writer has got this text, the machine comes to an end.
 abbrev pub Reaches : Program → Base → List ℕ → Config → Final → Type 0

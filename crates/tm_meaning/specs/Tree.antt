@@ -12,7 +12,7 @@ pub record TemplateTree : Type 0 where
   pub root : Body
 
 abbrev pub card : Card
-card = record { required = false; macros = [] }
+card = record { required = false }
 
 abbrev pub carded : List ℕ × Body → List ℕ × Card
 carded b = (b.0, card)

@@ -1,6 +1,6 @@
 -- What a state is to the meaning and to the machine, and what both do to it.
 use Rattle.std.specs.Prelude.{ℕ, zero, suc, ◌+◌, ◌-◌, List, [], ◌∷◌, ◌++◌, length, map as each, Option, Some, None, option_and_then, Bool}
-use Rattle.std.specs.Prelude.{true, false, ◌&&◌, nat_lt, nat_eq, if◌then◌else◌, Ok, Err, slice_get, codes}
+use Rattle.std.specs.Prelude.{is_some, true, false, ◌&&◌, ◌||◌, nat_lt, nat_eq, if◌then◌else◌, Ok, Err, slice_get, codes}
 use Rattle.tm_syntax.specs.declared.instruction.LoopFlags.{LoopFlags}
 pub use Rattle.tm_syntax.specs.Named.{Named, same_name, find, put, put_each}
 use Rattle.tm_values.specs.Answer.{Answer, invalid}
@@ -9,7 +9,7 @@ use Rattle.tm_values.specs.Map as maps
 use Rattle.std.specs.Ordering.{is_eq}
 use Rattle.tm_values.specs.Order.{val_cmp}
 use Rattle.tm_values.specs.Records.{RecordData, LoopData, namespace_at}
-use Rattle.tm_values.specs.Val.{Val, undefined, boolean, text, namespace, loop}
+use Rattle.tm_values.specs.Val.{Val, undefined, boolean, text, macro, namespace, loop}
 use Rattle.tm_values.specs.declared.error.ErrorKind.{ErrorKind}
 use Rattle.tm_values.specs.declared.error.ErrorKind.TheVariants.{OutOfFuel, InvalidOperation}
 use Rattle.tm_values.specs.declared.escape.AutoEscape.{AutoEscape}
@@ -51,11 +51,9 @@ root_of t = record { template = t; block = None }
 abbrev pub block_of : TemplateId → List ℕ → StreamId
 block_of t b = record { template = t; block = Some b }
 
--- What is known of a stream beside its content: whether it is a required block, and how many arguments each of its macros takes, in source
--- order.
+-- What is known of a stream beside its content: whether it is a required block.
 pub record Card : Type 0 where
   pub required : Bool
-  pub macros : List ℕ
 
 pub record Template : Type 0 where
   pub name : List ℕ
@@ -217,6 +215,19 @@ abbrev pub card_in : Template → Option (List ℕ) → Option Card
 card_in t None = Some t.root
 card_in t (Some b) = find b t.blocks
 
+abbrev pub same_template : TemplateId → TemplateId → Bool
+same_template own own = true
+same_template (entry x) (entry y) = same_name x y
+same_template s t = false
+
+abbrev pub same_block : Option (List ℕ) → Option (List ℕ) → Bool
+same_block None None = true
+same_block (Some x) (Some y) = same_name x y
+same_block b c = false
+
+abbrev pub same_stream : StreamId → StreamId → Bool
+same_stream s t = same_template s.template t.template && same_block s.block t.block
+
 abbrev pub card_at : HostValue → StreamId → Option Card
 card_at host s = card_in (template_at host s.template) s.block
 
@@ -335,9 +346,56 @@ abbrev pub stored_in : List ℕ → Val → List Scope → List Scope
 stored_in x v [] = []
 stored_in x v (s ∷ ss) = record s { locals = put x v s.locals } ∷ ss
 
--- The innermost scope has the name from here on.
+-- ---------------------------------------------------------------- closures
+-- the closure that was made in the innermost scope
+abbrev pub own_closure : List Scope → Option ℕ
+own_closure [] = None
+own_closure (s ∷ ss) = s.own_closure
+
+abbrev pub put_at : ℕ → List ℕ → Val → List Bindings → List Bindings
+put_at n x v [] = []
+put_at zero x v (c ∷ cs) = put x v c ∷ cs
+put_at (suc n) x v (c ∷ cs) = c ∷ put_at n x v cs
+
+-- closures, where that of a number has a name
+abbrev pub put_in : Option ℕ → List ℕ → Val → List Bindings → List Bindings
+put_in None x v cs = cs
+put_in (Some n) x v cs = put_at n x v cs
+
+-- the innermost scope's own closure, where there is one, has the name from here on
+abbrev pub put_enclosed : List ℕ → Val → World → World
+put_enclosed x v w = record w { closures = put_in (own_closure w.scopes.frames) x v w.closures }
+
+-- The innermost scope has the name from here on, and so has its own closure.
 abbrev pub store : List ℕ → Val → World → World
-store x v w = with_frames (stored_in x v w.scopes.frames) w
+store x v w = put_enclosed x v (with_frames (stored_in x v w.scopes.frames) w)
+
+-- the closure of a new number, where the innermost scope has none of its own
+abbrev pub with_own : ℕ → List Scope → List Scope
+with_own n [] = []
+with_own n (s ∷ ss) = record s { own_closure = Some n } ∷ ss
+
+abbrev pub one_closure_more : List Scope → List Bindings → List Bindings
+one_closure_more [] cs = cs
+one_closure_more (s ∷ ss) cs = cs ++ [] ∷ []
+
+-- the innermost scope has a closure of its own from here on
+abbrev pub closing_over : Option ℕ → World → World
+closing_over (Some n) w = w
+closing_over None w =
+    record (with_frames (with_own (length w.closures) w.scopes.frames) w) { closures = one_closure_more w.scopes.frames w.closures }
+
+-- whether the innermost scope's own closure has a name
+abbrev pub has_enclosed : List ℕ → World → Bool
+has_enclosed x w = is_some (read_closure w.closures (own_closure w.scopes.frames) x)
+
+-- The innermost scope's own closure, which is made where there is none, has a name with its present value, or undefined; a name that it has
+-- stays as it is.
+abbrev pub enclose : HostValue → List ℕ → World → Res (Unit {0})
+enclose host x w =
+    choose (has_enclosed x w) (λ _. Good tt w) (λ _.
+    bind (looked_up host x w) (λ v world1.
+    Good tt (put_enclosed x v (closing_over (own_closure world1.scopes.frames) world1))))
 
 -- ---------------------------------------------------------------- loops
 -- the number of the innermost loop's record
@@ -431,6 +489,34 @@ make_namespace ps w = Good (namespace w.id (length w.namespaces)) (record w { na
 -- so many items of a value
 abbrev pub unpacked_items : ℕ → Val → World → Res (List Val)
 unpacked_items n v w = answered (unpacked (records_of w) n v) w
+
+-- ---------------------------------------------------------------- macros
+-- where a stream stands among those that declared macros: from a number on
+abbrev pub stream_from : ℕ → StreamId → List StreamId → ℕ
+stream_from n s [] = n
+stream_from n s (t ∷ ts) = if same_stream s t then n else stream_from (n + 1) s ts
+
+abbrev pub is_there : StreamId → List StreamId → Bool
+is_there s [] = false
+is_there s (t ∷ ts) = same_stream s t || is_there s ts
+
+-- the streams that declared macros, with this one behind them unless it is there
+abbrev pub with_stream : StreamId → List StreamId → List StreamId
+with_stream s ts = if is_there s ts then ts else ts ++ s ∷ []
+
+-- A macro of the stream that runs, by its entry, its closure, its name, the names of its arguments, and whether it takes `caller`. At its
+-- first macro a stream gets its number.
+abbrev pub make_macro : ℕ → Option ℕ → List ℕ → List (List ℕ) → Bool → World → Res Val
+make_macro number closure x arguments caller w =
+    Good (macro (record {
+      state = w.id;
+      stream = stream_from 0 w.stream w.streams;
+      entry = number;
+      closure = closure;
+      name = x;
+      arguments = arguments;
+      caller = caller;
+    })) (record w { streams = with_stream w.stream w.streams })
 
 -- ---------------------------------------------------------------- emission
 -- an answer behind a verdict

@@ -1,7 +1,6 @@
 //! What runs: the streams of templates, by name.
 ghost use Rattle.std.specs.Prelude.{◌≡◌, None, Some, IfOk};
-ghost use Rattle.tm_meaning.specs.Calls.{same_template, same_stream};
-ghost use Rattle.tm_meaning.specs.World.{root_of, block_of};
+ghost use Rattle.tm_meaning.specs.World.{root_of, block_of, same_template, same_stream};
 
 use std::alloc::AllocError;
 use tm_syntax::Name;

@@ -5,7 +5,16 @@ use Rattle.std.proofs.lemmas.List.{append-nil, append_assoc, reverse-append, rev
 use Rattle.std.proofs.lemmas.List.{drop_at, drop_all, take_rest}
 use Rattle.std.proofs.lemmas.Bool.{cases_lt}
 use Rattle.tm_values.specs.Val.{Val}
-use Rattle.tm_meaning.specs.Machine.{taken}
+use Rattle.tm_meaning.specs.Machine.{onto, taken}
+
+-- put on one by one, the last is on top
+onto_turned : (vs stack : List Val) → reverse vs ++ stack ≡ onto vs stack
+onto_turned [] stack = refl
+onto_turned (v ∷ vs) stack =
+    ap (λ (l : List Val). l ++ stack) (reverse-append (v ∷ []) vs) ∙ append_assoc (reverse vs) (v ∷ []) stack ∙ onto_turned vs (v ∷ stack)
+
+pub onto_none : (vs : List Val) → reverse vs ≡ onto vs []
+onto_none vs = sym (append-nil (reverse vs)) ∙ onto_turned vs []
 
 -- more than there are
 pub taken_too_many : (n : ℕ) (acc vs : List Val) → length vs < n → taken n acc vs ≡ None

@@ -52,6 +52,13 @@ impl Stack {
         }
     }
 
+    /// Values as operands, the last of them topmost.
+    pub fn of(values: Vec<Value>) -> Stack
+        ensures { result ≡ onto values.items [] }
+    {
+        Stack { values }
+    }
+
     /// How many operands there are.
     pub fn len(&self) -> usize
         ensures { result ≡ length self.now }

@@ -10,10 +10,10 @@ use Rattle.tm_values.specs.declared.error.ErrorKind.TheVariants.{InvalidOperatio
 use Rattle.tm_syntax.specs.declared.instruction.LoopFlags.{LoopFlags}
 use Rattle.tm_meaning.specs.World.{Bindings, choose, with_frames, World, Scopes, Scope, Loop, loop_scope, new_loop, turned_at, turned_of}
 use Rattle.tm_meaning.specs.World.{top_mark, next_turn, without_locals, cleared, Res, Good, Bad, pop, depth, without_first, stored_in}
-use Rattle.tm_meaning.specs.World.{store, with_escape, Named, Layers}
-use Rattle.tm_meaning.specs.Calls.{keeping_at, is_changed, outermost, undone, of_block}
+use Rattle.tm_meaning.specs.World.{own_closure, put_at, put_in, put_enclosed, store, with_escape, Named, Layers}
+use Rattle.tm_meaning.specs.Calls.{keeping_at, is_changed, outermost, undone, of_block, of_macro}
 use Rattle.tm_meaning.specs.declared.mark.LoopMark.{LoopMark}
-use Rattle.tm_simulation.specs.Kept.{shape, shapes, GoesOn, LieOver, BlocksGrow}
+use Rattle.tm_simulation.specs.Kept.{shape, shapes, GoesOn, bare, LieOver, BlocksGrow}
 use Rattle.tm_meaning.specs.declared.stream.StreamId.{StreamId}
 use Rattle.tm_syntax.specs.Named.{name_cmp, put, put_each}
 use Rattle.std.specs.Ordering.{match_ordering}
@@ -42,30 +42,30 @@ front_record (x ∷ a) b (suc n) l e = front_record a b n l e
 
 -- ---------------------------------------------------------------- scopes that lie over others
 -- as many but for the names of the innermost one
-bare_long : (ss : List Scope) → length (without_locals ss) ≡ length ss
+bare_long : (ss : List Scope) → length (bare ss) ≡ length ss
 bare_long [] = refl
 bare_long (s ∷ ss) = refl
 
-top_of_bare : (ss : List Scope) → top_mark (without_locals ss) ≡ top_mark ss
+top_of_bare : (ss : List Scope) → top_mark (bare ss) ≡ top_mark ss
 top_of_bare [] = refl
 top_of_bare (s ∷ ss) = refl
 
-bare_twice : (ss : List Scope) → without_locals (without_locals ss) ≡ without_locals ss
-bare_twice [] = refl
-bare_twice (s ∷ ss) = refl
+bare_without : (ss : List Scope) → bare (without_locals ss) ≡ bare ss
+bare_without [] = refl
+bare_without (s ∷ ss) = refl
 
 -- below the innermost scope they are the same
-below_bare : (s : Scope) (ss there : List Scope) → without_locals there ≡ without_locals (s ∷ ss) → (t : Scope) × (there ≡ t ∷ ss)
+below_bare : (s : Scope) (ss there : List Scope) → bare there ≡ bare (s ∷ ss) → (t : Scope) × (there ≡ t ∷ ss)
 below_bare s ss [] e = absurd (cc e)
 below_bare s ss (t ∷ ts) e = (t, cc e)
 
-lie_same : (old new : List Scope) → without_locals new ≡ without_locals old → LieOver old new
+lie_same : (old new : List Scope) → bare new ≡ bare old → LieOver old new
 lie_same old new e = ([], new, refl, e)
 
 lie_then : (a b c : List Scope) → LieOver a b → LieOver b c → LieOver a c
-lie_then a b c ([], there, is, same) (more, last, at, e) = (more, last, at, e ∙ ap without_locals is ∙ same)
+lie_then a b c ([], there, is, same) (more, last, at, e) = (more, last, at, e ∙ ap bare is ∙ same)
 lie_then a b c (s ∷ ss, there, is, same) (more, last, at, e) =
-    let below = below_bare s (ss ++ there) last (e ∙ ap without_locals is) in
+    let below = below_bare s (ss ++ there) last (e ∙ ap bare is) in
     (more ++ below.0 ∷ ss, there, at ∙ ap (λ l. more ++ l) below.1 ∙ sym (append_assoc more (below.0 ∷ ss) there), same)
 
 -- of scopes that lie over these the outermost, as many as these, are these
@@ -118,7 +118,7 @@ pub record Advances (old new : World) : Type 0 where
 -- Where that is no fault, no other scopes are there, and the escape is as before.
 pub record Kept (old new : World) : Type 0 where
   pub advances : Advances old new
-  pub same_scopes : without_locals new.scopes.frames ≡ without_locals old.scopes.frames
+  pub same_scopes : bare new.scopes.frames ≡ bare old.scopes.frames
   pub same_escape : new.escape ≡ old.escape
 
 lasts_then : {a b c : World} → Lasts a b → Lasts b c → Lasts a c
@@ -203,11 +203,25 @@ pub lasts_by_temps : (w : World) (temps : Bindings) → length w.temps ≤ lengt
 lasts_by_temps w temps more =
     lasts_to w.fuel w.loops w.namespaces temps w.scopes w.stream w.block w.escape w (omega arith) (goes_on_same w.loops) (omega arith) more
 
+lasts_by_closures : (w : World) (cs : List Bindings) → length w.closures ≤ length cs → Lasts w (record w { closures = cs })
+lasts_by_closures w cs more = record {
+  same_id = refl;
+  same_fuel_set = refl;
+  fuel = omega arith;
+  loops = goes_on_same w.loops;
+  namespaces = omega arith;
+  closures = more;
+  streams = omega arith;
+  temps = omega arith;
+  loaded = omega arith;
+  blocks = blocks_same w.blocks;
+}
+
 -- what lasts, with scopes, stream, block and escape as they are
 pub kept_lasting : {w x : World} → Lasts w x → x.scopes ≡ w.scopes → x.stream ≡ w.stream → x.block ≡ w.block → x.escape ≡ w.escape →
     Kept w x
 kept_lasting {w = w} {x = x} l scopes stream block escape =
-    let frames : without_locals x.scopes.frames ≡ without_locals w.scopes.frames = ap (λ (s : Scopes). without_locals s.frames) scopes in
+    let frames : bare x.scopes.frames ≡ bare w.scopes.frames = ap (λ (s : Scopes). bare s.frames) scopes in
     record {
       advances = record {
         lasts = l;
@@ -237,7 +251,7 @@ advances_frames frames w lie = record {
 }
 
 -- scopes that differ in the names of the innermost one
-kept_named : (frames : List Scope) (w : World) → without_locals frames ≡ without_locals w.scopes.frames → Kept w (with_frames frames w)
+kept_named : (frames : List Scope) (w : World) → bare frames ≡ bare w.scopes.frames → Kept w (with_frames frames w)
 kept_named frames w same = record {
   advances = advances_frames frames w (lie_same w.scopes.frames frames same);
   same_scopes = same;
@@ -262,16 +276,33 @@ kept_record {a = a} {b = b} h n l e =
     let loops = h.advances.lasts.loops in ap (λ ls. slice_get ls n) loops.1 ∙ front_record (shapes a.loops) loops.0 n l e
 
 -- ---------------------------------------------------------------- scopes
-stored_bare : (x : List ℕ) (v : Val) (frames : List Scope) → without_locals (stored_in x v frames) ≡ without_locals frames
+stored_bare : (x : List ℕ) (v : Val) (frames : List Scope) → bare (stored_in x v frames) ≡ bare frames
 stored_bare x v [] = refl
 stored_bare x v (s ∷ ss) = refl
 
+-- as many closures
+put_at_long : (n : ℕ) (x : List ℕ) (v : Val) (cs : List Bindings) → length (put_at n x v cs) ≡ length cs
+put_at_long n x v [] = refl
+put_at_long zero x v (c ∷ cs) = refl
+put_at_long (suc n) x v (c ∷ cs) = ap suc (put_at_long n x v cs)
+
+put_in_long : (o : Option ℕ) (x : List ℕ) (v : Val) (cs : List Bindings) → length (put_in o x v cs) ≡ length cs
+put_in_long None x v cs = refl
+put_in_long (Some n) x v cs = put_at_long n x v cs
+
+enclosed_kept : (x : List ℕ) (v : Val) (w : World) → Kept w (put_enclosed x v w)
+enclosed_kept x v w =
+    kept_lasting (lasts_by_closures w (put_in (own_closure w.scopes.frames) x v w.closures)
+    (omega (arith, put_in_long (own_closure w.scopes.frames) x v w.closures))) refl refl refl refl
+
 pub store_kept : (x : List ℕ) (v : Val) (w : World) → Kept w (store x v w)
-store_kept x v w = kept_named (stored_in x v w.scopes.frames) w (stored_bare x v w.scopes.frames)
+store_kept x v w =
+    let frames = stored_in x v w.scopes.frames in
+    kept_then (kept_named frames w (stored_bare x v w.scopes.frames)) (enclosed_kept x v (with_frames frames w))
 
 pub kept_cleared : {w world1 : World} → Kept w world1 → Kept w (cleared world1)
 kept_cleared {world1 = world1} k =
-    kept_then k (kept_named (without_locals world1.scopes.frames) world1 (bare_twice world1.scopes.frames))
+    kept_then k (kept_named (without_locals world1.scopes.frames) world1 (bare_without world1.scopes.frames))
 
 -- a world with one scope more
 abbrev pub within : Scope → World → World
@@ -289,7 +320,7 @@ pub kept_popped : (s : Scope) (w world1 : World) → Kept (within s w) world1 �
 kept_popped s w world1 k =
     let below = below_bare s w.scopes.frames world1.scopes.frames k.same_scopes in
     let frames : without_first world1.scopes.frames ≡ w.scopes.frames = ap without_first below.1 in
-    let same = ap without_locals frames in
+    let same = ap bare frames in
     let l = k.advances in
     record {
       advances = record {
@@ -356,6 +387,25 @@ undone_scopes s stream block w v l = undone_scopes_at w.scopes.outer s stream bl
 pub undone_kept : (s : Scope) (stream : StreamId) (block : Option (List ℕ)) (w v : World) →
     Advances (in_stream v.stream (record (within s w) { stream = stream; block = block })) v → Kept w (undone (of_block w) v)
 undone_kept s stream block w v l = undone_at w.scopes.outer s stream block w v l
+
+-- A macro's run, in whichever scopes, and whichever stream it ended: what is put back behind it are the very scopes before it, and all is
+-- kept.
+pub macro_undone_kept : (scopes : Scopes) (stream : StreamId) (w v : World) →
+    Advances (in_stream v.stream (record w { scopes = scopes; stream = stream; block = None })) v → Kept w (undone (of_macro w) v)
+macro_undone_kept scopes stream w v h =
+    let l = h.lasts in
+    kept_lasting (record {
+      same_id = l.same_id;
+      same_fuel_set = l.same_fuel_set;
+      fuel = l.fuel;
+      loops = l.loops;
+      namespaces = l.namespaces;
+      closures = l.closures;
+      streams = l.streams;
+      temps = l.temps;
+      loaded = omega arith;
+      blocks = blocks_same w.blocks;
+    }) refl refl refl refl
 
 -- ---------------------------------------------------------------- loops
 -- the record that is asked for its next item

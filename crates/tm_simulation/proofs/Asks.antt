@@ -3,11 +3,11 @@ use Rattle.tm_values.specs.declared.escape.AutoEscape.{AutoEscape}
 use Rattle.std.proofs.Common.{◌≡◌, ℕ, zero, suc, ◌+◌, List, [], ◌∷◌, Option, Some, None, Bool, true, false, nat_lt, ◌++◌, refl}
 use Rattle.std.proofs.Common.{ap, ◌∙◌, arith}
 use Rattle.std.proofs.Common.{ltb-true, length-append, ◌≤◌}
-use Rattle.std.specs.Prelude.{slice_get, not, ◌&&◌, codes, if◌then◌else◌}
-use Rattle.tm_values.specs.Val.{Val, undefined, function, loop, text}
+use Rattle.std.specs.Prelude.{slice_get, not, nat_eq, ◌&&◌, codes, if◌then◌else◌}
+use Rattle.tm_values.specs.Val.{MacroData, Val, undefined, function, macro, loop, text}
 use Rattle.tm_values.specs.declared.error.ErrorKind.{ErrorKind}
 use Rattle.tm_values.specs.declared.error.ErrorKind.TheVariants.{InvalidOperation, UnknownBlock, UnknownFilter, UnknownTest}
-use Rattle.tm_values.specs.declared.error.ErrorKind.TheVariants.{UnknownFunction, UnknownMethod}
+use Rattle.tm_values.specs.declared.error.ErrorKind.TheVariants.{UnknownFunction, UnknownMethod, TooManyArguments}
 use Rattle.tm_syntax.specs.declared.tree.Application.{Application}
 use Rattle.tm_syntax.specs.declared.tree.Application.TheVariants as applications
 use Rattle.tm_definitions.specs.Maps.{dict_of, namespace_of}
@@ -16,16 +16,17 @@ use Rattle.tm_meaning.specs.World.{unpacked_items, emitted, escape_for, view_of,
 use Rattle.tm_meaning.specs.World.{innermost}
 use Rattle.tm_meaning.specs.World.{items_over, Res, Good, Bad}
 use Rattle.tm_meaning.specs.World.{need, check, answered, depth, lookup, Function, callers, languages, records_of}
-use Rattle.tm_meaning.specs.World.{plain_scope, Object, View}
+use Rattle.tm_meaning.specs.World.{plain_scope, Object, View, same_stream}
 use Rattle.tm_meaning.specs.declared.reply.Reply.{Reply}
 use Rattle.tm_meaning.specs.declared.reply.Reply.TheVariants.{Value as gives, Fault as faults, Further as asks_for}
 use Rattle.tm_meaning.specs.declared.reply.Call.{Call}
 use Rattle.tm_meaning.specs.declared.reply.Call.TheVariants as further
-use Rattle.tm_meaning.specs.Calls.{block_call, undone, Asked, has, refused, runs, recurs, ask, same_stream, wrapped_as}
+use Rattle.tm_meaning.specs.Calls.{block_call, undone, Asked, has, refused, runs, recurs, ask, wrapped_as}
 use Rattle.tm_meaning.specs.Calls.{call_loop, call_innermost, one_argument, call_found, enter_block, call_named, call_value, call_method}
 use Rattle.tm_meaning.specs.Calls.{method_object, unknown_method, call_callee, call_in, call_first, apply_filter, perform_test}
 use Rattle.tm_meaning.specs.Calls.{as_truth, applied, MakesFurther, object_call, found_call, further_call, further_calls}
 use Rattle.tm_meaning.specs.Calls.{depths_left, by_depths, function_call, value_call, as_printed, deeper, from_deeper}
+use Rattle.tm_meaning.specs.Calls.{enter_macro, bound_to, known_stream, macro_depth, macro_scopes}
 use Rattle.tm_meaning.specs.Calls.{loop_method, method_in, of_loop, record_at, given_by, replied, required_alone}
 use Rattle.tm_meaning.specs.declared.function.GlobalFunction.{GlobalFunction}
 use Rattle.tm_meaning.specs.declared.function.GlobalFunction.TheVariants as own
@@ -37,7 +38,7 @@ use Rattle.tm_simulation.proofs.Raised.{unpacked_raises, escape_raises, emitted_
 use Rattle.tm_simulation.proofs.Raised.{namespace_raises, name_raises, method_raises, text_raises}
 use Rattle.tm_simulation.proofs.Advances.{Advances, Kept, advances_then, lasts_by_namespaces, lasts_by_temps, advances_same}
 use Rattle.tm_simulation.proofs.Advances.{kept_same, kept_then, kept_lasting, undone_kept, in_stream, kept_depth, within, one_more}
-use Rattle.tm_simulation.proofs.Advances.{put_each_long, keeping_kept, undone_at}
+use Rattle.tm_simulation.proofs.Advances.{put_each_long, keeping_kept, undone_at, macro_undone_kept}
 use Rattle.tm_simulation.proofs.Gives.{answered_gives, Gives, refused_arises, gives_bind, operation_gives}
 
 -- A value keeps the world; a run starts at least one level deeper, within the limit, and however it ends what is put back behind it keeps the world.
@@ -158,12 +159,31 @@ function_asks make host k n (callers f) args w e = object_asks host make k f arg
 function_asks make host k n (languages g) args w e =
     ask_then host w (given_by g args w) has (given_gives host g args w) (λ v world1. kept_same world1)
 
-value_call_asks : (make : MakesFurther) (host : HostValue) → MakesAsks host make → (v : Val) (args : List Val) (w : World) →
-    Asks host w (value_call make host v args w)
-value_call_asks make host k (function n) args w =
+-- A macro is refused, or asks for a run of its own.
+room_asks : (Holds : Asked → Type 0) (w : World) (b : Bool) (kind : ErrorKind) (g : Unit {0} → World → Asked) →
+    Holds (refused (kind ∷ []) w) → (b ≡ true → Holds (g tt w)) → Holds (ask (check b kind w) g)
+room_asks Holds w true kind g h k = k refl
+room_asks Holds w false kind g h k = h
+
+macro_asks : (levels : ℕ) (host : HostValue) (m : MacroData) (args : List Val) (w : World) → Asks host w (enter_macro levels host m args w)
+macro_asks levels host m args w =
+    let outer = levels + depth w.scopes + macro_depth in
+    check_asks (Asks host w) w (nat_eq m.state w.id) InvalidOperation _ (asks_refused host w InvalidOperation refl)
+    (ask_need host w (bound_to m args) TooManyArguments _ refl (λ given _.
+    ask_need host w (known_stream m w) InvalidOperation _ refl (λ s _.
+    room_asks (Asks host w) w (nat_lt (outer + 1) host.limit) InvalidOperation _ (asks_refused host w InvalidOperation refl) (λ room. (
+      omega arith,
+      omega (arith, ltb-true (outer + 1) host.limit room),
+      λ world2 l. macro_undone_kept (macro_scopes m args w.scopes.frames outer) s w world2 l,
+    )))))
+
+value_call_asks : (make : MakesFurther) (levels : ℕ) (host : HostValue) → MakesAsks host make → (v : Val) (args : List Val) (w : World) →
+    Asks host w (value_call make levels host v args w)
+value_call_asks make levels host k (macro m) args w = macro_asks levels host m args w
+value_call_asks make levels host k (function n) args w =
     ask_need host w (slice_get host.functions n) InvalidOperation (λ f world1. function_call make host f args world1) refl
     (λ f e. function_asks make host k n f args w e)
-value_call_asks make host k _ args w = asks_refused host w InvalidOperation refl
+value_call_asks make levels host k _ args w = asks_refused host w InvalidOperation refl
 
 printed_asks : (host : HostValue) (w : World) (q : Asked) → Asks host w q → Asks host w (as_printed q)
 printed_asks host w (has v world1) h =
@@ -188,8 +208,8 @@ further_call_asks make n host k (further.Filter x args) w =
     named_object_asks host make k (find x host.filters) UnknownFilter args w refl (λ f e. is_filter x e)
 further_call_asks make n host k (further.Macro x args) w =
     printed_asks host w _ (ask_then host w (lookup host x w) _ (lookup_gives host x w) (λ found world1.
-    ask_need host world1 found UnknownFunction (λ f world2. value_call make host f args world2) refl
-    (λ f e. value_call_asks make host k f args world1)))
+    ask_need host world1 found UnknownFunction (λ f world2. value_call make n host f args world2) refl
+    (λ f e. value_call_asks make n host k f args world1)))
 further_call_asks make n host k (further.Block b) w = deeper_block_asks n host b w
 
 further_asks : (left n : ℕ) (host : HostValue) → MakesAsks host (further_calls left n host)
@@ -200,7 +220,7 @@ depths_ask : (host : HostValue) (w : World) → MakesAsks host (by_depths host w
 depths_ask host w = further_asks (depths_left host w) 0 host
 
 value_asks : (host : HostValue) (v : Val) (args : List Val) (w : World) → Asks host w (call_value host v args w)
-value_asks host v args w = value_call_asks (by_depths host w) host (depths_ask host w) v args w
+value_asks host v args w = value_call_asks (by_depths host w) 0 host (depths_ask host w) v args w
 
 pub callee_asks : (host : HostValue) (vs : List Val) (w : World) → Asks host w (call_callee host vs w)
 callee_asks host [] w = asks_refused host w InvalidOperation refl

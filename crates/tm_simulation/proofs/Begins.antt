@@ -12,6 +12,7 @@ use Rattle.tm_syntax.specs.Loops.{begins, with_place, one_more_loop, loops_befor
 use Rattle.tm_syntax.specs.Fragments.{Fragment, straight, ◌⨾◌, jump_out, bounded, fork, looped, break_loop, next_round, beyond_all}
 use Rattle.tm_syntax.specs.Fragments.{beyond, Labels, outward, inward, jump, assemble, aside, ending_at, over, either}
 use Rattle.tm_syntax.specs.declared.jump.JumpKind.{JumpKind}
+use Rattle.tm_syntax.specs.Entries.{entries_from, name_count}
 use Rattle.tm_syntax.specs.declared.jump.JumpKind.TheVariants.{IfFalse, IfFalseOrPop, IfTrueOrPop}
 use Rattle.tm_syntax.specs.Code.{target_code, statements_code}
 use Rattle.tm_syntax.proofs.Standing.{HasAt, At, beyond_is}
@@ -97,12 +98,34 @@ match_at all (l ∷ ls) [] n h = absurd h
 match_at all (l ∷ ls) (p ∷ ps) zero h = h.0
 match_at all (l ∷ ls) (p ∷ ps) (suc n) h = match_at all ls ps n h.1
 
+-- ---------------------------------------------------------------- macros
+abbrev pub builds : Instruction → Bool
+builds (i.BuildMacro x place caller) = true
+builds x = false
+
+abbrev pub NoMacros : List Instruction → Type 0
+NoMacros [] = Unit {0}
+NoMacros (x ∷ is) = (builds x ≡ false) × NoMacros is
+
+both_macroless : (a b : List Instruction) → NoMacros a → NoMacros b → NoMacros (a ++ b)
+both_macroless [] b h k = k
+both_macroless (x ∷ a) b h k = (h.0, both_macroless a b h.1 k)
+
+-- code without macros has no entries
+pub no_entries : (before : Option ℕ) (is : List Instruction) → NoMacros is → entries_from [] before is ≡ []
+no_entries before [] h = refl
+no_entries before (i.BuildMacro x place caller ∷ is) h = absurd (cc h.0)
+no_entries before (i.LoadConst v ∷ is) h = no_entries (Some (name_count v)) is h.1
+no_entries before (x ∷ is) h = no_entries None is h.1
+
 -- ---------------------------------------------------------------- what code begins
--- Wherever this code stands after so many loops it begins these, and so many stand before what follows it. No name in it has a cache.
+-- Wherever this code stands after so many loops it begins these, and so many stand before what follows it. No name in it has a cache, and
+-- no macro is built in it.
 pub record Begun (all : List Instruction) (l : Labels) (pc : ℕ) (c : Fragment) (ls : List FoundLoop) (to : ℕ) : Type 0 where
   pub number : loops_before (beyond pc c) all ≡ to
   pub found : Match all ls (loop_places pc (assemble l pc c))
   pub uncached : AllUncached (assemble l pc c)
+  pub macroless : NoMacros (assemble l pc c)
 
 abbrev pub Begins : ℕ → Fragment → List FoundLoop → ℕ → Type 0
 Begins at c ls to = (all : List Instruction) (l : Labels) (pc : ℕ) → At all l pc c → loops_before pc all ≡ at → Begun all l pc c ls to
@@ -118,12 +141,13 @@ both_begin {c = c} {d = d} {ls = ls} {ks = ks} f g all l pc is e =
       found = subst (λ ps. Match all (ls ++ ks) ps) (sym (places_then l pc c (assemble l (beyond pc c) d)))
           (match_both all ls ks _ _ a.found b.found);
       uncached = both_uncached (assemble l pc c) (assemble l (beyond pc c) d) a.uncached b.uncached;
+      macroless = both_macroless (assemble l pc c) (assemble l (beyond pc c) d) a.macroless b.macroless;
     }
 
 pub bounded_begins : {at to : ℕ} {c : Fragment} {ls : List FoundLoop} → Begins at c ls to → Begins at (bounded c) ls to
 bounded_begins {c = c} f all l pc is e =
     let a = f all (outward (beyond pc c) l) pc is e in
-    record { number = a.number; found = a.found; uncached = a.uncached }
+    record { number = a.number; found = a.found; uncached = a.uncached; macroless = a.macroless }
 
 pub fork_begins : {at m to : ℕ} {c d : Fragment} {ls ks : List FoundLoop} → Begins at c ls m → Begins m d ks to →
     Begins at (fork c d) (ls ++ ks) to
@@ -138,13 +162,15 @@ fork_begins {c = c} {d = d} {ls = ls} {ks = ks} f g all l pc is e =
           (match_both all ls ks _ _ a.found b.found);
       uncached = both_uncached (assemble (outward second l) pc c) (i.Jump (beyond second d) ∷ assemble l second d) a.uncached
           (refl, b.uncached);
+      macroless = both_macroless (assemble (outward second l) pc c) (i.Jump (beyond second d) ∷ assemble l second d) a.macroless
+          (refl, b.macroless);
     }
 
 pub aside_begins : {at to : ℕ} {c : Fragment} {ls : List FoundLoop} → Begins at c ls to → Begins at (aside c) ls to
 aside_begins {c = c} f all l pc is e =
     let end = beyond (pc + 1) c in
     let a = f all (ending_at end) (pc + 1) is.1 (after_one pc all (i.Jump end) is.0 ∙ e) in
-    record { number = a.number; found = a.found; uncached = (refl, a.uncached) }
+    record { number = a.number; found = a.found; uncached = (refl, a.uncached); macroless = (refl, a.macroless) }
 
 -- A loop of code is this one of the tree.
 abbrev pub IsLoop : FoundLoop → ℕ → LoopFlags → Fragment → Fragment → Type 0
@@ -170,12 +196,17 @@ loop_begins {f = f} {g = g} {c = c} {d = d} {ls = ls} {ks = ks} one r s all l pc
         refl,
         (refl, both_uncached (assemble k (pc + 1 + 1) c) (i.Jump (pc + 1) ∷ assemble l end d) a.uncached (refl, b.uncached)),
       );
+      macroless = (
+        refl,
+        (refl, both_macroless (assemble k (pc + 1 + 1) c) (i.Jump (pc + 1) ∷ assemble l end d) a.macroless (refl, b.macroless)),
+      );
     }
 
 -- ---------------------------------------------------------------- code that begins none
--- whether an instruction begins no loop, and no name of its has a cache
+-- whether an instruction begins no loop and builds no macro, and no name of its has a cache
 abbrev pub is_simple : Instruction → Bool
 is_simple (i.PushLoop _) = false
+is_simple (i.BuildMacro _ _ _) = false
 is_simple x = is_uncached x
 
 simple_begins : (x : Instruction) → is_simple x ≡ true → begins x ≡ None
@@ -186,7 +217,12 @@ simple_uncached : (x : Instruction) → is_simple x ≡ true → is_uncached x �
 simple_uncached (i.PushLoop _) e = refl
 simple_uncached (i.ApplyFilter x n cache) e = e
 simple_uncached (i.PerformTest x n cache) e = e
+simple_uncached (i.BuildMacro x place caller) e = refl
 simple_uncached _ e = refl
+
+simple_macroless : (x : Instruction) → is_simple x ≡ true → builds x ≡ false
+simple_macroless (i.BuildMacro x place caller) e = absurd (cc e)
+simple_macroless _ e = refl
 
 abbrev pub NoneBegins : List Instruction → Type 0
 NoneBegins [] = Unit {0}
@@ -220,6 +256,10 @@ none_cached : (is : List Instruction) → NoneBegins is → AllUncached is
 none_cached [] n = tt
 none_cached (x ∷ is) n = (simple_uncached x n.0, none_cached is n.1)
 
+none_built : (is : List Instruction) → NoneBegins is → NoMacros is
+none_built [] n = tt
+none_built (x ∷ is) n = (simple_macroless x n.0, none_built is n.1)
+
 jump_none : (j : JumpKind) (to : ℕ) → is_simple (jump j to) ≡ true
 jump_none IfFalse to = refl
 jump_none IfFalseOrPop to = refl
@@ -230,6 +270,7 @@ straight_begins at is n all l pc h e = record {
   number = none_number all pc at is n h e;
   found = subst (λ ps. Match all [] ps) (sym (none_places pc is n)) tt;
   uncached = none_cached is n;
+  macroless = none_built is n;
 }
 
 jump_begins : (at : ℕ) (j : JumpKind) → Begins at (jump_out j) [] at
@@ -238,6 +279,7 @@ jump_begins at j all l pc h e =
       number = one_begins all pc at (jump j l.out) (simple_begins (jump j l.out) (jump_none j l.out)) h e;
       found = subst (λ ps. Match all [] ps) (sym (none_places pc (jump j l.out ∷ []) (jump_none j l.out, tt))) tt;
       uncached = none_cached (jump j l.out ∷ []) (jump_none j l.out, tt);
+      macroless = none_built (jump j l.out ∷ []) (jump_none j l.out, tt);
     }
 
 pub none_begin : (at : ℕ) (c : Fragment) → Loopless c → Begins at c [] at
@@ -248,9 +290,9 @@ none_begin at (bounded c) n = bounded_begins (none_begin at c n)
 none_begin at (fork c d) n = fork_begins (none_begin at c n.0) (none_begin at d n.1)
 none_begin at (looped g c d) n = absurd n
 none_begin at break_loop n = λ all l pc h e.
-    record { number = one_begins all pc at (i.Jump l.after) refl h e; found = tt; uncached = (refl, tt) }
+    record { number = one_begins all pc at (i.Jump l.after) refl h e; found = tt; uncached = (refl, tt); macroless = (refl, tt) }
 none_begin at next_round n = λ all l pc h e.
-    record { number = one_begins all pc at (i.Jump l.again) refl h e; found = tt; uncached = (refl, tt) }
+    record { number = one_begins all pc at (i.Jump l.again) refl h e; found = tt; uncached = (refl, tt); macroless = (refl, tt) }
 none_begin at (aside c) n = aside_begins (none_begin at c n)
 
 -- a jump over code

@@ -3,11 +3,13 @@ use Rattle.std.proofs.Common.{◌≡◌, ℕ, zero, suc, ◌⊎◌, inl, inr, Li
 use Rattle.std.proofs.Common.{refl, sym, ap, ◌∙◌, subst, arith, ◌+◌}
 use Rattle.std.proofs.lemmas.Bool.Decides.{nat_tests}
 use Rattle.std.proofs.lemmas.Slice.Eq.{bytes_eq-Decides}
-use Rattle.std.specs.Prelude.{slice_get, nat_lt, nat_eq, ◌&&◌}
+use Rattle.std.specs.Prelude.{slice_get, nat_lt, nat_eq, ltb, option_and_then, ◌&&◌}
+use Rattle.std.specs.List.{prefix_len}
 use Rattle.tm_values.specs.Val.{Val, undefined}
 use Rattle.tm_values.specs.declared.escape.AutoEscape.{AutoEscape}
 use Rattle.tm_syntax.specs.CacheNumbers.{no_cache}
 use Rattle.tm_syntax.specs.Loops.{loop_places, loops_before}
+use Rattle.tm_syntax.specs.Entries.{entries}
 use Rattle.tm_syntax.specs.declared.instruction.Instruction.{Instruction}
 use Rattle.tm_syntax.specs.declared.instruction.Instruction.TheVariants as i
 use Rattle.tm_syntax.specs.declared.instruction.LoopPlace.{LoopPlace}
@@ -16,22 +18,25 @@ use Rattle.tm_syntax.specs.declared.tree.Application.TheVariants as applications
 use Rattle.tm_syntax.specs.declared.tree.BinaryOperator.TheVariants as binaries
 use Rattle.tm_syntax.specs.declared.tree.UnaryOperator.TheVariants as unaries
 use Rattle.tm_meaning.specs.World.{choose, World, Loop, HostValue, Res, Good, Bad, answered, emitted, looked_up, escape_for}
-use Rattle.tm_meaning.specs.World.{items_over, unpacked_items, set_member, open_loop, top_mark, top_loop, push, plain_scope}
+use Rattle.tm_meaning.specs.World.{enclose, make_macro, items_over, unpacked_items, set_member, open_loop, top_mark, top_loop, push, plain_scope}
 use Rattle.tm_meaning.specs.declared.run_text.RunText.{RunText}
-use Rattle.tm_meaning.specs.Calls.{Callee, whole, Asked, has, refused, runs, recurs, call_named, call_callee, applied}
+use Rattle.tm_meaning.specs.Calls.{Callee, whole, macro_of, Asked, has, refused, runs, recurs, call_named, call_callee, applied}
 use Rattle.tm_meaning.specs.Calls.{call_innermost, enter_block, undone}
 use Rattle.tm_meaning.specs.Meaning.{none_waits}
 use Rattle.tm_meaning.specs.Operators.{truth, applied_unary, operated, attribute, item_at, slice_of, merged_values, items_of_lists}
 use Rattle.tm_meaning.specs.Instructions.{apply_of, replaces_one, replaces_two, take_counted, on_count, count_in, on_truth, iterate_with}
 use Rattle.tm_meaning.specs.Instructions.{end_capture_with, pop_auto_escape_with, is_no_loop, on_loop, pop_loop_with, returned, returns}
-use Rattle.tm_meaning.specs.Instructions.{with_text, may_hold, holding, used, on_used, looping}
+use Rattle.tm_meaning.specs.Instructions.{with_text, may_hold, holding, used, on_used, looping, on_parts, closure_in, names_in}
 use Rattle.tm_meaning.specs.Machine.{Activation, Caches, Capture, Return, Config, Program, End, Finished, Failed, Stuck, Next, More, Over}
 use Rattle.tm_meaning.specs.Machine.{Nest, Back, after, on_top, on_taken, taken, on, with_world, writes, audible, new_capture, recursion}
-use Rattle.tm_meaning.specs.Machine.{place_of_loop, asked, asked_in_place, start, back_with, back_to, goes}
-use Rattle.tm_meaning.specs.Steps.{pay, effect, finish, closed, act, step, Final, Leads, Reaches, over, more, nest}
+use Rattle.tm_meaning.specs.Machine.{place_of_loop, asked, asked_in_place, nested, run_from, run_of_macro, first_run, running, waiting, onto}
+use Rattle.tm_meaning.specs.Machine.{back_with, back_to, goes}
+use Rattle.tm_meaning.specs.Steps.{pay, effect, finish, closed, act, step, begun, begins, Final, Leads, Reaches, over, more, nest}
+use Rattle.tm_meaning.proofs.Ends.{one_end}
 use Rattle.tm_meaning.specs.declared.base.Base.{Base}
 use Rattle.tm_meaning.specs.declared.stream.StreamId.{StreamId}
-use Rattle.tm_simulation.proofs.Numbered.{Given, Numbers, IsNumbered, as_long, same_places, same_before, NumbersAt, numbers_at}
+use Rattle.tm_simulation.proofs.Numbered.{Given, Numbers, IsNumbered, as_long, same_places, same_entries, same_before, NumbersAt}
+use Rattle.tm_simulation.proofs.Numbered.{numbers_at}
 
 -- ---------------------------------------------------------------- the same but for the caches
 abbrev pub with_caches : Caches → Caches → Activation → Activation
@@ -47,8 +52,23 @@ Alike s fs ts (Over e) n = n ≡ Over e
 Alike s fs ts (Nest f c back) n = (back.run.stream ≡ s) × (c.run.filters ≡ []) × (c.run.tests ≡ [])
     × (n ≡ Nest f c (record back { run = with_caches fs ts back.run }))
 
-pub starts_empty : (k : Callee) (ks : List Capture) (w : World) → ((start k ks w).run.filters ≡ []) × ((start k ks w).run.tests ≡ [])
-starts_empty (whole s) ks w = (refl, refl)
+abbrev AreEmpty : Option Activation → Type 0
+AreEmpty None = Unit {0}
+AreEmpty (Some a) = (a.filters ≡ []) × (a.tests ≡ [])
+
+entry_empty : (s : StreamId) (given : List Val) (floor : ℕ) (e : ℕ × ℕ) (b : Bool) →
+    AreEmpty (choose b (λ _. Some (record (run_from s floor) { place = e.0; operands = onto given [] })) (λ _. None))
+entry_empty s given floor e true = (refl, refl)
+entry_empty s given floor e false = tt
+
+found_empty : (s : StreamId) (given : List Val) (floor : ℕ) (o : Option (ℕ × ℕ)) → AreEmpty (option_and_then (run_of_macro s given floor) o)
+found_empty s given floor None = tt
+found_empty s given floor (Some e) = entry_empty s given floor e (nat_eq e.1 (length given))
+
+-- a run begins with empty caches
+starts_empty : (p : Program) (k : Callee) (floor : ℕ) → AreEmpty (first_run p k floor)
+starts_empty p (whole s) floor = (refl, refl)
+starts_empty p (macro_of s n given) floor = found_empty s given floor (slice_get (entries (p.code s)) n)
 
 -- Caches aren't for this instruction.
 abbrev pub NoCache : Instruction → Type 0
@@ -89,6 +109,17 @@ module _ (s : StreamId) (fs ts : Caches) where
       Same (choose b (λ _. m) (λ _. n)) (choose b (λ _. m1) (λ _. n1))
   choose_same true m n m1 n1 h k = h
   choose_same false m n m1 n1 h k = k
+
+  on_parts_same : (o : Option (Option ℕ)) (names : Option (List (List ℕ))) (w : World) (f g : Option ℕ → List (List ℕ) → Next) →
+      ((closure : Option ℕ) (xs : List (List ℕ)) → Same (f closure xs) (g closure xs)) → Same (on_parts o names w f) (on_parts o names w g)
+  on_parts_same None names w f g h = refl
+  on_parts_same (Some closure) None w f g h = refl
+  on_parts_same (Some closure) (Some xs) w f g h = h closure xs
+
+  nested_same : (o : Option Activation) → AreEmpty o → (heard : Bool) (ks : List Capture) (w : World) (back : Back) →
+      back.run.stream ≡ s → Same (nested o heard ks w back) (nested o heard ks w (record back { run = with_caches fs ts back.run }))
+  nested_same None empty heard ks w back here = refl
+  nested_same (Some a) empty heard ks w back here = (here, empty.0, empty.1, refl)
 
   on_loop_same : (rs : List (Option Return)) (l : Option Loop) (w : World) (f g : Loop → Next) → ((l : Loop) → Same (f l) (g l)) →
       Same (on_loop rs l w f) (on_loop rs l w g)
@@ -153,7 +184,8 @@ module _ (s : StreamId) (fs ts : Caches) where
     -- of programs whose loops stand at the same places
     module _ (host : HostValue) (plain coded : StreamId → List Instruction)
         (places : loop_places 0 (coded c.run.stream) ≡ loop_places 0 (plain c.run.stream))
-        (before : loops_before c.run.place (coded c.run.stream) ≡ loops_before c.run.place (plain c.run.stream)) where
+        (before : loops_before c.run.place (coded c.run.stream) ≡ loops_before c.run.place (plain c.run.stream))
+        (same : (r : StreamId) → entries (coded r) ≡ entries (plain r)) where
       abbrev p : Program
       p = record { host = host; code = plain }
 
@@ -169,12 +201,23 @@ module _ (s : StreamId) (fs ts : Caches) where
       place_same : (n : ℕ) → place_of_loop q d n ≡ place_of_loop p c n
       place_same n = ap (λ ls. slice_get ls n) places
 
+      first_same : (k : Callee) (floor : ℕ) → first_run q k floor ≡ first_run p k floor
+      first_same (whole r) floor = refl
+      first_same (macro_of r n given) floor = ap (λ es. option_and_then (run_of_macro r given floor) (slice_get es n)) (same r)
+
+      run_same : (k : Callee) (heard : Bool) (ks : List Capture) (w : World) (back : Back) → back.run.stream ≡ s →
+          Same (nested (first_run p k (length ks)) heard ks w back)
+          (nested (first_run q k (length ks)) heard ks w (record back { run = with_caches fs ts back.run }))
+      run_same k heard ks w back at =
+          let a = first_run p k (length ks) in
+          subst (λ o. Same (nested a heard ks w back) (nested o heard ks w (record back { run = with_caches fs ts back.run })))
+          (sym (first_same k (length ks))) (nested_same a (starts_empty p k (length ks)) heard ks w back at)
+
       asked_same : (vs : List Val) (a : Asked) → Same (asked p c vs a) (asked q d vs a)
       asked_same vs (has v w) = (here, refl)
       asked_same vs (refused chain w) = refl
       asked_same vs (runs k w) =
-          let empty = starts_empty k.callee (new_capture true ∷ c.captures) w in
-          (here, empty.0, empty.1, refl)
+          run_same k.callee true (new_capture true ∷ c.captures) w (record { run = waiting vs c; call = k; value = true }) here
       asked_same vs (recurs n items w) =
           let ks = new_capture true ∷ c.captures in
           subst (λ l. Same (asked p c vs (recurs n items w)) (recursion q d true vs ks n l items w)) (sym (place_same n))
@@ -184,8 +227,7 @@ module _ (s : StreamId) (fs ts : Caches) where
       placed_same f vs (has v w) = (here, refl)
       placed_same f vs (refused chain w) = refl
       placed_same f vs (runs k w) =
-          let empty = starts_empty k.callee c.captures w in
-          (here, empty.0, empty.1, refl)
+          run_same k.callee (audible f c) c.captures w (record { run = waiting vs c; call = k; value = false }) here
       placed_same f vs (recurs n items w) =
           subst (λ l. Same (asked_in_place p f c vs (recurs n items w)) (recursion q d false vs c.captures n l items w))
           (sym (place_same n)) (recursion_same false vs c.captures n (place_of_loop p c n) items w)
@@ -235,6 +277,18 @@ module _ (s : StreamId) (fs ts : Caches) where
       effect_same f i.Pow none = two_same (operated host binaries.Power)
       effect_same f i.Neg none = one_same (applied_unary host unaries.Negate)
       effect_same f i.Not none = one_same (applied_unary host unaries.Not)
+      effect_same f i.IsUndefined none = on_top_same c.run.operands c.world _ _ (λ v vs. (here, refl))
+      effect_same f (i.Enclose x) none = after_same (enclose host x c.world) _ _ (λ _ w. (here, refl))
+      effect_same f i.GetClosure none = (here, refl)
+      effect_same f (i.BuildMacro x place caller) none =
+          subst (λ n. Same (effect p f (i.BuildMacro x place caller) c)
+          (on_top c.run.operands c.world (λ names vs. on_top vs c.world (λ closure rest.
+          on_parts (closure_in closure) (names_in names) c.world (λ own arguments.
+          after (make_macro n own x arguments caller c.world) (λ v w. goes (v ∷ rest) w d))))))
+          (sym (ap (prefix_len (λ (e : ℕ × ℕ). ltb e.0 place)) (same c.run.stream)))
+          (on_top_same c.run.operands c.world _ _ (λ names vs. on_top_same vs c.world _ _ (λ closure rest.
+          on_parts_same (closure_in closure) (names_in names) c.world _ _ (λ own arguments. (here, refl)))))
+      effect_same f i.Return none = choose_same (closed f c) _ _ _ _ refl refl
       effect_same f i.Swap none = on_top_same c.run.operands c.world _ _ (λ b vs. on_top_same vs c.world _ _ (λ a rest. (here, refl)))
       effect_same f i.DupTop none = on_top_same c.run.operands c.world _ _ (λ v vs. (here, refl))
       effect_same f i.DiscardTop none = on_top_same c.run.operands c.world _ _ (λ v vs. (here, refl))
@@ -379,6 +433,9 @@ module _ (host : HostValue) (plain coded : StreamId → List Instruction) (each 
     number : loops_before c.run.place (coded s) ≡ loops_before c.run.place (plain s)
     number = same_before numbers.0 numbers.1 c.run.place (plain s) (coded s) numbers.2
 
+    tables : (r : StreamId) → entries (coded r) ≡ entries (plain r)
+    tables r = same_entries (each r).0 (each r).1 [] None (plain r) (coded r) (each r).2
+
     -- an instruction that is paid for first
     abbrev step_before : Instruction → Next
     step_before x = after (pay x c.world) (λ _ w. effect before f x (with_world w c))
@@ -395,7 +452,7 @@ module _ (host : HostValue) (plain coded : StreamId → List Instruction) (each 
           subst (λ z. Alike s fs ts (step_before x) (step_behind z)) (sym is)
           (after_same s fs ts (pay x c.world) (λ _ w. effect before f x (with_world w c))
           (λ _ w. effect behind f x (with_world w (cached fs ts c)))
-          (λ _ w. effect_same s fs ts (with_world w c) refl host plain coded places number f x none));
+          (λ _ w. effect_same s fs ts (with_world w c) refl host plain coded places number tables f x none));
     }
 
     filter_goes : (x : List ℕ) (n : Option ℕ) (k : ℕ) → Given numbers.0 x k → GoOn s (step_before (i.ApplyFilter x n no_cache))
@@ -412,7 +469,7 @@ module _ (host : HostValue) (plain coded : StreamId → List Instruction) (each 
               (λ _ w. effect behind f (i.ApplyFilter x n k) (with_world w (cached fs ts c)))
               (λ _ w. subst (λ o. Alike s given.0 ts (effect before f (i.ApplyFilter x n no_cache) (with_world w c))
               (on_used o w (λ held. apply_of behind applications.Filter x n (cached held ts (with_world w c))))) (sym given.1)
-              (apply_same s given.0 ts (with_world w c) refl host plain coded places number applications.Filter x n));
+              (apply_same s given.0 ts (with_world w c) refl host plain coded places number tables applications.Filter x n));
         }
 
     test_goes : (x : List ℕ) (n : Option ℕ) (k : ℕ) → Given numbers.1 x k → GoOn s (step_before (i.PerformTest x n no_cache))
@@ -429,7 +486,7 @@ module _ (host : HostValue) (plain coded : StreamId → List Instruction) (each 
               (λ _ w. effect behind f (i.PerformTest x n k) (with_world w (cached fs ts c)))
               (λ _ w. subst (λ o. Alike s fs given.0 (effect before f (i.PerformTest x n no_cache) (with_world w c))
               (on_used o w (λ held. apply_of behind applications.Test x n (cached fs held (with_world w c))))) (sym given.1)
-              (apply_same s fs given.0 (with_world w c) refl host plain coded places number applications.Test x n));
+              (apply_same s fs given.0 (with_world w c) refl host plain coded places number tables applications.Test x n));
         }
 
     instruction_goes : (x y : Instruction) → Numbers numbers.0 numbers.1 x y → GoOn s (step_before x) (step_behind y)
@@ -478,10 +535,30 @@ module _ (host : HostValue) (plain coded : StreamId → List Instruction) (each 
       (leads_too s fs ts _ hold (back_same s fs ts back e.end on.0) rest)
 
   -- A run that begins with empty caches comes to the same end.
-  pub reaches_too : (f : Base) (t : List ℕ) (c : Config) (o : Final) → c.run.filters ≡ [] → c.run.tests ≡ [] → Reaches before f t c o →
+  reaches_too : (f : Base) (t : List ℕ) (c : Config) (o : Final) → c.run.filters ≡ [] → c.run.tests ≡ [] → Reaches before f t c o →
       Reaches behind f t c o
   reaches_too f t c o no_filters no_tests run =
       let go = step_goes f [] [] c (none_held (each c.run.stream).0, none_held (each c.run.stream).1) in
       subst (λ k. Leads behind f t (step behind f (cached c.run.filters k c)) o) (sym no_tests)
       (subst (λ k. Leads behind f t (step behind f (cached k [] c)) o) (sym no_filters)
       (leads_too c.run.stream go.filters go.tests _ go.hold go.alike run))
+
+  tables_too : (r : StreamId) → entries (coded r) ≡ entries (plain r)
+  tables_too r = same_entries (each r).0 (each r).1 [] None (plain r) (coded r) (each r).2
+
+  begun_too : (f : Base) (t : List ℕ) (a : Option Activation) (ks : List Capture) (w : World) (o : Final) → AreEmpty a →
+      Leads before f t (begun before f a ks w) o → Leads behind f t (begun behind f a ks w) o
+  begun_too f t None ks w o empty run = over refl (one_end run (over refl refl))
+  begun_too f t (Some a) ks w o empty run = reaches_too f t (running a ks w) o empty.0 empty.1 run
+
+  first_too : (k : Callee) (floor : ℕ) → first_run behind k floor ≡ first_run before k floor
+  first_too (whole r) floor = refl
+  first_too (macro_of r n given) floor = ap (λ es. option_and_then (run_of_macro r given floor) (slice_get es n)) (tables_too r)
+
+  -- A callee's run comes to the same end.
+  pub begins_too : (f : Base) (t : List ℕ) (k : Callee) (ks : List Capture) (w : World) (o : Final) →
+      Leads before f t (begins before f k ks w) o → Leads behind f t (begins behind f k ks w) o
+  begins_too f t k ks w o run =
+      let a = first_run before k (length ks) in
+      subst (λ b. Leads behind f t (begun behind f b ks w) o) (sym (first_too k (length ks)))
+      (begun_too f t a ks w o (starts_empty before k (length ks)) run)

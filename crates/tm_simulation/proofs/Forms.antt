@@ -1,14 +1,15 @@
 -- What is written, and runs that are nested, in place and as a value.
-use Rattle.std.proofs.Common.{◌≡◌, ℕ, suc, ◌+◌, ◌<◌, ◌≤◌, ◌⊎◌, inl, inr, List, [], ◌∷◌, ◌++◌, length, nat_lt, Option, Bool, true, false}
+use Rattle.std.proofs.Common.{◌≡◌, ℕ, suc, ◌+◌, ◌<◌, ◌≤◌, ◌⊎◌, inl, inr, List, [], ◌∷◌, ◌++◌, length, nat_lt, Option, None, Some, Bool, true, false}
 use Rattle.std.proofs.Common.{refl, sym, subst, arith, lt-ltb, le-ltb}
 use Rattle.tm_values.specs.Val.{Val}
 use Rattle.tm_meaning.specs.World.{choose, World}
 use Rattle.tm_meaning.specs.Calls.{Callee, NestedCall, undone, wrapped, run_value, runs}
 use Rattle.tm_meaning.specs.Meaning.{Run, Outcome, Ending, done, leave, next, fault, Under, audible as heard_here, say, behind, in_place_of}
 use Rattle.tm_meaning.specs.Meaning.{value_behind, value_of, capturing}
-use Rattle.tm_meaning.specs.Machine.{Activation, Finished, Failed, Back, More, Nest, Program, audible, put_in, put_out, writes, back_to}
-use Rattle.tm_meaning.specs.Machine.{base_of, start, waiting, pushed, nested_in_place, nested_as_value}
-use Rattle.tm_meaning.specs.Steps.{step, Final, final, Leads, over, more, nest}
+use Rattle.tm_meaning.specs.Machine.{Activation, Finished, Failed, Back, More, Program, audible, put_in, put_out, writes, back_to}
+use Rattle.tm_meaning.specs.Machine.{Capture, base_of, first_run, nested, new_capture, waiting, pushed, nested_in_place, nested_as_value}
+use Rattle.tm_meaning.specs.Steps.{begun, begins, step, Final, final, Leads, over, more, nest}
+use Rattle.tm_meaning.proofs.Ends.{one_end}
 use Rattle.tm_simulation.proofs.Follow.{RunContext, LeadsToEnd, Bed, air, inside, captured_in, captures_of, told_by, Spot, told, cfg, later}
 use Rattle.tm_simulation.proofs.Follow.{Follows, Then, Ends, whole_of, so_far_then, fault_then, Go, silent}
 use Rattle.tm_meaning.specs.declared.stream.TemplateId.{TemplateId}
@@ -81,10 +82,18 @@ end_of b o = end_by o.ending b o.text o.world
 -- A callee's run comes to what it means.
 abbrev pub Entered : Program → Callee → Bool → Bed → List ℕ → World → Outcome → Type 0
 Entered p k heard b out w o =
-    Leads p (base_of heard (captures_of b out) w) (told_by b out) (step p (base_of heard (captures_of b out) w)
-    (start k (captures_of b out) w)) (end_of b o)
+    let f = base_of heard (captures_of b out) w in Leads p f (told_by b out) (begins p f k (captures_of b out) w) (end_of b o)
+
 
 module _ (context : RunContext) where
+  -- a callee's run, and then what its end leads to; one that has none is refused
+  nested_then : (a : Option Activation) (heard : Bool) (ks : List Capture) (w : World) (back : Back) (t : List ℕ) (e : Final) →
+      (let f = base_of heard ks w in Leads context.program f t (begun context.program f a ks w) e) →
+      LeadsToEnd context e.text (back_to back e.end) → LeadsToEnd context t (nested a heard ks w back)
+  nested_then None heard ks w back t e inner rest =
+      subst (λ (o : Final). LeadsToEnd context o.text (back_to back o.end)) (one_end inner (over refl refl)) rest
+  nested_then (Some a) heard ks w back t e inner rest = nest refl inner rest
+
   in_place_by : (k : NestedCall) (run : Run) (a : Activation) (b : Bed) (e : Ending) (parent : Option TemplateId) (out : List ℕ) (w : World)
       (D L N : Then) →
       Ends context b (behind e k run (whole_of e parent out w)) D L N → (D run.parent out (undone k.undo w) →
@@ -102,16 +111,16 @@ module _ (context : RunContext) where
       Entered context.program k.callee (heard_here run) s.bed s.out v (u.nests k.callee (heard_here run) s.out v) →
       Ends context s.bed (in_place_of u run s.out (runs k v)) D L N →
       ((out1 : List ℕ) (world1 : World) → D run.parent out1 world1 → Go context (later s s.parent out1) (pc + 1) vs world1) →
-      LeadsToEnd context (told s) (nested_in_place context.base vs (cfg s pc stack w) k v)
+      LeadsToEnd context (told s) (nested_in_place context.program context.base vs (cfg s pc stack w) k v)
   call_in_place u k run s pc stack vs w v D L N q fits entered h g =
       let o = u.nests k.callee (heard_here run) s.out v in
       let back : Back = record { run = waiting vs (cfg s pc stack w); call = k; value = false } in
       let rest = in_place_by k run back.run s.bed o.ending o.parent o.text o.world D L N h
       (λ d. silent context _ _ (g o.text (undone k.undo o.world) d)) in
       let e = audible_is context.base run s.run s.parent s.bed s.out pc stack w q fits in
-      subst (λ x. LeadsToEnd context (told s)
-      (Nest (base_of x (captures_of s.bed s.out) v) (start k.callee (captures_of s.bed s.out) v) back))
-      (sym e) (nest refl entered rest)
+      let a = first_run context.program k.callee (length (captures_of s.bed s.out)) in
+      subst (λ x. LeadsToEnd context (told s) (nested a x (captures_of s.bed s.out) v back)) (sym e)
+      (nested_then a (heard_here run) (captures_of s.bed s.out) v back (told s) _ entered rest)
 
   value_by : (k : NestedCall) (a : Activation) (b : Bed) (out0 : List ℕ) (e : Ending) (o : Outcome) (K : Val → World → Type 0) →
       Follows context (told_by b out0) (value_behind e k o) K →
@@ -135,8 +144,10 @@ module _ (context : RunContext) where
       Entered context.program k.callee true (inside true (told s) (captures_of s.bed s.out)) [] v (u.nests k.callee true [] v) →
       Follows context (told s) (value_of u run (runs k v)) K →
       ((x : Val) (world1 : World) → K x world1 → Go context s (pc + 1) (x ∷ vs) world1) →
-      LeadsToEnd context (told s) (nested_as_value vs (cfg s pc stack w) k v)
+      LeadsToEnd context (told s) (nested_as_value context.program vs (cfg s pc stack w) k v)
   call_as_value u run k s pc stack vs w v K entered h g =
       let o = u.nests k.callee true [] v in
       let back : Back = record { run = waiting vs (cfg s pc stack w); call = k; value = true } in
-      nest refl entered (value_by k back.run s.bed s.out o.ending o K h (λ d. silent context _ _ (g _ _ d)))
+      let ks = new_capture true ∷ captures_of s.bed s.out in
+      nested_then (first_run context.program k.callee (length ks)) true ks v back (told s) _ entered
+      (value_by k back.run s.bed s.out o.ending o K h (λ d. silent context _ _ (g _ _ d)))

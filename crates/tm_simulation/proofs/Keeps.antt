@@ -7,7 +7,7 @@ use Rattle.tm_values.specs.declared.error.ErrorKind.TheVariants.{InvalidOperatio
 use Rattle.tm_syntax.specs.Loops.{loops_in}
 use Rattle.tm_meaning.specs.Tree.{Body, Trees}
 use Rattle.tm_meaning.specs.World.{choose, World, HostValue, Res, Good, Bad, tick, plain_scope}
-use Rattle.tm_meaning.specs.Calls.{Callee, whole, NestedCall, block_call, undone, runs}
+use Rattle.tm_meaning.specs.Calls.{Callee, whole, macro_of, NestedCall, block_call, undone, runs}
 use Rattle.tm_meaning.specs.Meaning.{over, under, again_of, Run, Outcome, Ending, done, leave, next, fault, Nests, Under, done_by, exec_all}
 use Rattle.tm_meaning.specs.Meaning.{behind, in_place_of, block_tag, audible, none_waits, at_end, new_run, nests_of, rendered, chain_in}
 use Rattle.tm_meaning.specs.Meaning.{chain_of}
@@ -53,6 +53,8 @@ again_end host nests nest_ends body (suc k) n items run out w =
 nest_ends_there : (host : HostValue) (trees : Trees) (n : ℕ) (k : Callee) (heard : Bool) (out : List ℕ) (w : World) →
     OutcomeKeeps host w (nests_of host trees n k heard out w)
 nest_ends_there host trees zero k heard out w = ends_refused host w (new_run heard w) out InvalidOperation refl
+nest_ends_there host trees (suc n) (macro_of s m given) heard out w =
+    ends_refused host w (new_run heard w) out InvalidOperation refl
 nest_ends_there host trees (suc n) (whole s) heard out w =
     let nests = nests_of host trees n in
     let nest_ends : (k : Callee) (heard : Bool) (out : List ℕ) (w : World) → RunEnds host w (nests k heard out w) =

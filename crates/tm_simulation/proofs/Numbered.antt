@@ -9,6 +9,7 @@ use Rattle.tm_syntax.specs.declared.instruction.Instruction.TheVariants as i
 use Rattle.tm_syntax.specs.CacheNumbers.{no_cache, cache_count, place_from, number_by, number_in, joined_by, joined}
 use Rattle.tm_syntax.specs.CacheNumbers.{numbered_from, numbered}
 use Rattle.tm_syntax.specs.Loops.{begins, with_place, loop_places, one_more_loop, loops_before}
+use Rattle.tm_syntax.specs.Entries.{Entries, entries_from, name_count, with_entry}
 use Rattle.tm_syntax.specs.Named.{same_name}
 use Rattle.tm_simulation.specs.Uncached.{AllUncached}
 
@@ -169,6 +170,21 @@ module _ (fs ts : List (List ℕ)) where
   same_places pc (x ∷ is) (y ∷ js) h =
       ap (λ o. with_place o pc (loop_places (pc + 1) js)) (same_begins x y h.0)
       ∙ ap (with_place (begins x) pc) (same_places (pc + 1) is js h.1)
+
+  pub same_entries : (es : Entries) (before : Option ℕ) (is js : List Instruction) → EachNumbers fs ts is js →
+      entries_from es before js ≡ entries_from es before is
+  same_entries es before [] [] h = refl
+  same_entries es before [] (y ∷ js) h = absurd h
+  same_entries es before (x ∷ is) [] h = absurd h
+  same_entries es before (i.ApplyFilter x n m ∷ is) (y ∷ js) h =
+      ap (λ z. entries_from es before (z ∷ js)) h.0.2 ∙ same_entries es None is js h.1
+  same_entries es before (i.PerformTest x n m ∷ is) (y ∷ js) h =
+      ap (λ z. entries_from es before (z ∷ js)) h.0.2 ∙ same_entries es None is js h.1
+  same_entries es before (i.LoadConst v ∷ is) (y ∷ js) h =
+      ap (λ z. entries_from es before (z ∷ js)) h.0 ∙ same_entries es (Some (name_count v)) is js h.1
+  same_entries es before (i.BuildMacro x place caller ∷ is) (y ∷ js) h =
+      ap (λ z. entries_from es before (z ∷ js)) h.0 ∙ same_entries (with_entry before place es) None is js h.1
+  same_entries es before (x ∷ is) (y ∷ js) h = ap (λ z. entries_from es before (z ∷ js)) h.0 ∙ same_entries es None is js h.1
 
   pub same_before : (n : ℕ) (is js : List Instruction) → EachNumbers fs ts is js → loops_before n js ≡ loops_before n is
   same_before zero is js h = refl

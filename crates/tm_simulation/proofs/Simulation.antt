@@ -1,7 +1,7 @@
 -- The code of streams and templates comes to what their trees mean.
 use Rattle.std.proofs.Common.{◌≡◌, ℕ, zero, suc, ◌+◌, inl, List, [], ◌∷◌, length, Option, Some, None, Bool}
 use Rattle.std.proofs.Common.{true, false, refl, sym, ap, ◌∙◌, subst, arith, eq-eqb}
-use Rattle.std.specs.Prelude.{slice_get, nat_eq}
+use Rattle.std.specs.Prelude.{slice_get, nat_eq, option_and_then}
 use Rattle.std.proofs.lemmas.Option.{slice_get_past}
 use Rattle.tm_syntax.specs.declared.instruction.Instruction.TheVariants as i
 use Rattle.tm_syntax.specs.Fragments.{Fragment, beyond, whole_labels, assembled}
@@ -9,26 +9,29 @@ use Rattle.tm_syntax.specs.Code.{statements_code, unnumbered_code}
 use Rattle.tm_meaning.specs.World.{HostValue, World}
 use Rattle.tm_meaning.specs.World.{Res, Good, Bad, tick}
 use Rattle.tm_meaning.specs.World.{captured_text}
-use Rattle.tm_meaning.specs.Calls.{Callee, whole}
+use Rattle.tm_meaning.specs.Calls.{Callee, whole, macro_of}
 use Rattle.tm_meaning.specs.Tree.{Trees}
 use Rattle.tm_meaning.specs.Meaning.{under, again_of, Ending, done, leave, next}
 use Rattle.tm_meaning.specs.Meaning.{fault, Under}
 use Rattle.tm_meaning.specs.Meaning.{capturing}
 use Rattle.tm_meaning.specs.Meaning.{done_by, exec_all}
-use Rattle.tm_meaning.specs.Meaning.{new_run, at_end, nests_of, rendered}
+use Rattle.tm_meaning.specs.Meaning.{new_run, at_end, failed, nests_of, rendered}
 use Rattle.tm_meaning.specs.Machine.{new_capture, recursion, Capture as OpenCapture, Finished}
-use Rattle.tm_meaning.specs.Machine.{Stuck, Over, Program, base_of, run_from, start}
-use Rattle.tm_meaning.specs.Steps.{act, finish, Final, final, over as is_over}
+use Rattle.tm_meaning.specs.Machine.{Stuck, Failed, Over, Program, base_of, run_from, run_of_macro}
+use Rattle.tm_meaning.specs.Steps.{act, begun, finish, Final, final, Leads, over as is_over}
 use Rattle.tm_meaning.specs.Compiled.{IsCompiled, code_of}
 use Rattle.tm_meaning.proofs.Ends.{one_end}
 use Rattle.tm_simulation.specs.Reached.{RunsTo, Renders, text_in, end_by, final_in, final_of, HasLevels}
 use Rattle.tm_syntax.proofs.Standing.{At, beyond_is, stands_whole}
 use Rattle.tm_syntax.specs.Loops.{loops_in, loop_places}
+use Rattle.tm_values.specs.Val.{Val}
+use Rattle.tm_syntax.specs.Entries.{entries}
+use Rattle.tm_values.specs.declared.error.ErrorKind.TheVariants.{InvalidOperation}
 use Rattle.tm_syntax.specs.CacheNumbers.{numbered}
 use Rattle.tm_simulation.specs.Uncached.{AllUncached, HasNoCaches, with_numbers}
-use Rattle.tm_simulation.proofs.Cached.{starts_empty, reaches_too}
+use Rattle.tm_simulation.proofs.Cached.{begins_too}
 use Rattle.tm_simulation.proofs.Numbered.{IsNumbered, numbered_is}
-use Rattle.tm_simulation.proofs.Begins.{Both, Match, match_at}
+use Rattle.tm_simulation.proofs.Begins.{Both, Match, match_at, NoMacros, no_entries}
 use Rattle.tm_simulation.proofs.TreeLoops.{statements_begin}
 use Rattle.tm_simulation.proofs.Advances.{Kept, kept_frames, kept_then}
 use Rattle.tm_simulation.proofs.Advances.{within}
@@ -222,15 +225,30 @@ module _ (p : Program) (trees : Trees) (compiled : IsUnnumbered trees p) where
       )
       (stops, stops) (stands_at id) refl placed
 
+  -- No tree declares a macro yet, so no stream has a run of one.
+  no_macro_runs : (id : StreamId) (m : ℕ) (given : List Val) (heard : Bool) (b : Bed) (out : List ℕ) (w : World) →
+      Entered p (macro_of id m given) heard b out w (failed InvalidOperation (new_run heard w) out w)
+  no_macro_runs id m given heard b out w =
+      let row = (trees id).row in
+      let c = code_at id in
+      let none : NoMacros (assembled c) = (statements_begin [] 0 row (assembled c) (whole_labels c) 0 (stands_whole c) refl).macroless in
+      let empty : entries (p.code id) ≡ [] = ap entries (coded id) ∙ no_entries None (assembled c) none in
+      let f = base_of heard (captures_of b out) w in
+      let floor = length (captures_of b out) in
+      subst (λ es. Leads p f (told_by b out) (begun p f (option_and_then (run_of_macro id given floor) (slice_get es m)) (captures_of b out) w)
+      (final (told_by b out) (Failed (InvalidOperation ∷ []) w))) (sym empty) (is_over refl refl)
+
   -- What nests comes to what it means. Level zero isn't reached, since a run stands one level deeper than the one that needs it, within the
   -- limit.
   nests_run : (n : ℕ) → AllNested p trees n
   nests_run zero k heard b out w deep within = absurd (omega (arith, deep, within))
+  nests_run (suc n) (macro_of id m given) heard b out w deep within = no_macro_runs id m given heard b out w
   nests_run (suc n) (whole id) heard b out w deep within = stream_runs n id heard b out w deep (nests_run n)
 
   -- And so does any run that has levels enough, from any world, heard or not.
   level_runs : (n : ℕ) (k : Callee) (heard : Bool) (b : Bed) (out : List ℕ) (w : World) → HasLevels p.host (suc n) w →
       Entered p k heard b out w (nests_of p.host trees (suc n) k heard out w)
+  level_runs n (macro_of id m given) heard b out w deep = no_macro_runs id m given heard b out w
   level_runs n (whole id) heard b out w deep = stream_runs n id heard b out w deep (nests_run n)
 
   -- A render's run comes to what its trees mean.
@@ -270,9 +288,8 @@ unnumbered_comes trees p n k heard (c ∷ ks) told w compiled enough =
 pub numbers_change_nothing : (p : Program) (k : Callee) (heard : Bool) (captures : List OpenCapture) (told : List ℕ) (w : World)
     (end : Final) → HasNoCaches p → RunsTo p k heard captures told w end → RunsTo (with_numbers p) k heard captures told w end
 numbers_change_nothing p k heard captures told w end none run =
-    let empty = starts_empty k captures w in
-    reaches_too p.host p.code (λ s. numbered (p.code s)) (λ s. numbered_is (p.code s) (none s)) (base_of heard captures w) told
-    (start k captures w) end empty.0 empty.1 run
+    begins_too p.host p.code (λ s. numbered (p.code s)) (λ s. numbered_is (p.code s) (none s)) (base_of heard captures w) told k captures w
+    end run
 
 -- the same streams before they have them
 abbrev unnumbered : Trees → Program → Program
@@ -292,9 +309,8 @@ numbered_streams trees p compiled s =
 once_numbered : (trees : Trees) (p : Program) (k : Callee) (heard : Bool) (captures : List OpenCapture) (told : List ℕ) (w : World)
     (end : Final) → IsCompiled trees p → RunsTo (unnumbered trees p) k heard captures told w end → RunsTo p k heard captures told w end
 once_numbered trees p k heard captures told w end compiled run =
-    let empty = starts_empty k captures w in
-    reaches_too p.host (λ s. unnumbered_code (trees s).row) p.code (numbered_streams trees p compiled) (base_of heard captures w) told
-    (start k captures w) end empty.0 empty.1 run
+    begins_too p.host (λ s. unnumbered_code (trees s).row) p.code (numbered_streams trees p compiled) (base_of heard captures w) told k
+    captures w end run
 
 pub nested_comes_to_meaning : (trees : Trees) (p : Program) (n : ℕ) (k : Callee) (heard : Bool) (captures : List OpenCapture)
     (told : List ℕ) (w : World) → IsCompiled trees p → HasLevels p.host (suc n) w →

@@ -1,6 +1,6 @@
 -- What runs keep of their world.
 use Rattle.std.specs.Prelude.{◌≡◌, ◌≤◌, List, [], ◌∷◌, ◌++◌, length, None, Some, ℕ}
-use Rattle.tm_meaning.specs.World.{World, Loop, Scope, Named, Layers, find, without_locals}
+use Rattle.tm_meaning.specs.World.{World, Loop, Scope, Named, Layers, find}
 use Rattle.tm_meaning.specs.declared.stream.TemplateId.{TemplateId}
 use Rattle.tm_meaning.specs.Meaning.{Ending, fault, Outcome}
 
@@ -21,9 +21,15 @@ shapes (l ∷ ls) = shape l ∷ shapes ls
 abbrev pub GoesOn : List Loop → List Loop → Type 0
 GoesOn old new = (more : List Loop) × (shapes new ≡ shapes old ++ more)
 
--- Scopes lie over those that stood: these are there still, but for the names of the innermost one, and perhaps more over them.
+-- scopes but for the names of the innermost one, and the closure that was made in it
+abbrev pub bare : List Scope → List Scope
+bare [] = []
+bare (s ∷ ss) = record s { locals = []; own_closure = None } ∷ ss
+
+-- Scopes lie over those that stood: these are there still, but for the names of the innermost one and the closure that was made in it, and
+-- perhaps more over them.
 abbrev pub LieOver : List Scope → List Scope → Type 0
-LieOver old new = (more : List Scope) × (there : List Scope) × (new ≡ more ++ there) × (without_locals there ≡ without_locals old)
+LieOver old new = (more : List Scope) × (there : List Scope) × (new ≡ more ++ there) × (bare there ≡ bare old)
 
 -- The list of each block that was there has its templates still, and perhaps more behind them, and its place is the same.
 abbrev pub BlocksGrow : Named Layers → Named Layers → Type 0
@@ -33,14 +39,14 @@ BlocksGrow old new =
 
 -- The state is the same one, with the fuel that was set, and no fuel comes back, and its scopes lie over those that stood, however the
 -- run ends.
--- Where that is no fault they are those that stood, but for the names of the innermost one.
+-- Where that is no fault they are those that stood, but for the names of the innermost one and the closure that was made in it.
 pub record Stays (old : World) (o : Outcome) : Type 0 where
   pub same_id : o.world.id ≡ old.id
   pub same_fuel_set : o.world.fuel_set ≡ old.fuel_set
   pub no_more_fuel : o.world.fuel ≤ old.fuel
   pub same_outer : o.world.scopes.outer ≡ old.scopes.outer
   pub lie_over : LieOver old.scopes.frames o.world.scopes.frames
-  pub same_scopes : UnlessFault o.ending (without_locals o.world.scopes.frames ≡ without_locals old.scopes.frames)
+  pub same_scopes : UnlessFault o.ending (bare o.world.scopes.frames ≡ bare old.scopes.frames)
 
 -- A state's records, the values that objects keep, the names loaded and the lists of blocks are never fewer, and the block is as it was,
 -- however the run ends.

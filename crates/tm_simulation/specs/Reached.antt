@@ -3,14 +3,15 @@ use Rattle.std.specs.Prelude.{ℕ, ◌+◌, ◌≤◌, List, [], ◌∷◌, Bool
 use Rattle.tm_meaning.specs.World.{World, HostValue, depth}
 use Rattle.tm_meaning.specs.Calls.{Callee, whole}
 use Rattle.tm_meaning.specs.Meaning.{Ending, fault, Outcome}
-use Rattle.tm_meaning.specs.Machine.{Program, Capture, End, Finished, Failed, base_of, start}
-use Rattle.tm_meaning.specs.Steps.{Final, final, Reaches}
+use Rattle.tm_meaning.specs.Machine.{Program, Capture, End, Finished, Failed, base_of}
+use Rattle.tm_meaning.specs.Steps.{Final, final, Leads, begins}
 
 -- ---------------------------------------------------------------- runs
 -- A run of a callee, heard or not, over these open captures and what the writer has got by then, comes from its start in this world to this
 -- end.
 abbrev pub RunsTo : Program → Callee → Bool → List Capture → List ℕ → World → Final → Type 0
-RunsTo p k heard captures told w end = Reaches p (base_of heard captures w) told (start k captures w) end
+RunsTo p k heard captures told w end =
+    let f = base_of heard captures w in Leads p f told (begins p f k captures w) end
 
 -- A render is a run of the stream that the world names, heard, where nothing is open and nothing written yet.
 abbrev pub Renders : Program → World → Final → Type 0

@@ -1,7 +1,7 @@
 -- What an answer of an object comes to.
 use Rattle.std.specs.Global.{Box}
-use Rattle.std.proofs.Common.{◌≡◌, ◌≤◌, ◌<◌, ℕ, zero, suc, ◌+◌, ◌-◌, ◌||◌, List, Option, Some, None, Result, Ok, Err, Bool, true, false}
-use Rattle.std.proofs.Common.{refl, sym, ap, ◌∙◌, arith, subst}
+use Rattle.std.proofs.Common.{◌≡◌, ◌≤◌, ◌<◌, ℕ, suc, ◌+◌, ◌-◌, ◌||◌, List, Option, Some, Result, Ok, Err, Bool, true, false}
+use Rattle.std.proofs.Common.{refl, sym, ap, ◌∙◌, arith, subst, IfOk, OnOk}
 use Rattle.std.specs.Result.{IsErr, IsErrAnd}
 use Rattle.tm_values.specs.Answer.{Answer}
 use Rattle.tm_meaning.specs.Memory.{is_want_of_memory}
@@ -14,15 +14,15 @@ use Rattle.tm_meaning.specs.declared.run_text.RunText.TheVariants as texts
 use Rattle.tm_meaning.specs.declared.reply.Reply.{Reply}
 use Rattle.tm_meaning.specs.declared.reply.Reply.TheVariants.{Value as gives, Fault as faults, Further as asks_for}
 use Rattle.tm_meaning.specs.Calls.{Asked, has, refused, runs, recurs, ask, NestedCall, MakesFurther, replied, as_truth, as_printed}
-use Rattle.tm_meaning.specs.Calls.{found_call, further_call, further_calls}
+use Rattle.tm_meaning.specs.Calls.{further_call, further_calls}
 use Rattle.tm_meaning.specs.declared.reply.Call.{Call}
 use Rattle.tm_tables.specs.Stated.{is_for_memory, IsNamedAnswer}
 use Rattle.tm_state.specs.declared.calls.CallResult.{CallResult}
 use Rattle.tm_state.specs.declared.calls.CallResult.TheVariants as outcome
-use Rattle.tm_state.specs.declared.further.Further.{Further}
 use Rattle.tm_state.specs.declared.further.Further.TheVariants as further
 use Rattle.tm_state.specs.declared.nested.NestedRun.{NestedRun}
-use Rattle.tm_state.specs.Answers.{Answers, Becomes, FoundAnswers, FurtherComes, NeedsPlain, NeedsRun, call_of, is_macro, shown, tested, text_for}
+use Rattle.tm_state.specs.Answers.{Becomes, FoundAnswers, FurtherComes, NeedsMacro, NeedsPlain, NeedsRun, call_of, is_macro, shown}
+use Rattle.tm_state.specs.Answers.{tested, text_for}
 
 -- ---------------------------------------------------------------- an answer that is followed
 -- What was refused is nothing else.
@@ -148,3 +148,24 @@ pub handed_on : (r : Result CallResult (List ErrorKind)) (chain : List ErrorKind
     IsErr r × IsErrAnd r (λ e. e ≡ chain) → Becomes (Err chain) asked w → Becomes r asked w
 handed_on (Ok v) chain asked w same d = absurd (cc same.0)
 handed_on (Err e) chain asked w same d = subst (λ z. Becomes (Err z) asked w) (sym same.1) d
+
+-- ---------------------------------------------------------------- macros
+-- a macro is called
+pub macro_needed : (e : NestedRun) (asked : Asked) (b w : World) → NeedsMacro texts.Captured e asked b w → NeedsRun e asked w
+macro_needed e asked b w needs = (
+  needs.0,
+  needs.1,
+  needs.2,
+  (b, needs.4, needs.5 ∙ ap (λ t. runs (record (call_of e b) { text = t }) w) (sym needs.3)),
+)
+
+-- and by a further call
+pub macro_plain : (test : Bool) (e : NestedRun) (asked : Asked) (b w : World) → NeedsMacro (text_for test) e asked b w →
+    NeedsPlain test e (as_printed asked) w
+macro_plain test e asked b w needs = (needs.0, needs.1, needs.2, needs.3, (b, needs.4, ap as_printed needs.5))
+
+-- what a run that is boxed is, once it is
+pub handed : {E : Type 0} (r : Result (Box NestedRun) E) (run : NestedRun) (old new : World) (P : NestedRun → World → Type 0) →
+    IfOk r (λ boxed. boxed.value ≡ run) → OnOk r (new ≡ old) → P run old → IfOk r (λ boxed. P boxed.value new)
+handed (Ok boxed) run old new P is stays p = subst (λ e. P e new) (sym is) (subst (P run) (sym stays) p)
+handed (Err e) run old new P is stays p = tt

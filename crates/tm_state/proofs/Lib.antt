@@ -3,3 +3,6 @@ pub mod Members
 pub mod Turns
 mod Answered
 pub mod Formatted
+pub mod Stored
+pub mod Declared
+pub mod Binding

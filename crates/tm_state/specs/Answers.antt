@@ -1,5 +1,5 @@
 -- What a state's calls answer, beside what the definitions say.
-use Rattle.std.specs.Prelude.{◌≡◌, ◌≤◌, ◌+◌, ℕ, List, ◌∷◌, length, Option, Some, None, Bool, Result, Ok, Err, String, string_bytes}
+use Rattle.std.specs.Prelude.{◌≡◌, ◌≤◌, ◌+◌, ℕ, List, [], ◌∷◌, length, Option, Some, None, Bool, Result, Ok, Err, String, string_bytes}
 use Rattle.std.specs.Prelude.{true, false}
 use Rattle.std.specs.declared.alloc.Global.{Global}
 use Rattle.tm_meaning.specs.Memory.{is_want_of_memory}
@@ -9,14 +9,15 @@ use Rattle.tm_syntax.specs.Named.{put_each}
 use Rattle.tm_values.specs.Val.{Val}
 use Rattle.tm_tables.specs.Stated.{is_for_memory}
 use Rattle.tm_meaning.specs.World.{World, HostValue, Object, Stated, Loop, Res, Good, Bad, depth}
-use Rattle.tm_meaning.specs.Calls.{Asked, has, refused, recurs, runs, NestedCall, whole, of_block, MakesFurther, replied, found_call}
+use Rattle.tm_meaning.specs.Calls.{Asked, has, refused, recurs, runs, NestedCall, MakesFurther, replied, found_call}
 use Rattle.tm_meaning.specs.Calls.{as_printed, as_truth, is_changed}
 use Rattle.tm_meaning.specs.declared.reply.Call.{Call}
 use Rattle.tm_meaning.specs.declared.reply.Call.TheVariants as calls
 use Rattle.tm_meaning.specs.declared.run_text.RunText.{RunText}
 use Rattle.tm_meaning.specs.declared.run_text.RunText.TheVariants as texts
-use Rattle.tm_state.specs.State.{saved_of}
+use Rattle.tm_state.specs.State.{callee_of, undo_of, IsSaved}
 use Rattle.tm_state.specs.declared.saved.Saved.{Saved}
+use Rattle.tm_state.specs.declared.saved.Saved.TheVariants as saved
 use Rattle.tm_state.specs.declared.nested.NestedRun.{NestedRun}
 use Rattle.tm_state.specs.declared.further.Further.{Further}
 use Rattle.tm_state.specs.declared.further.Further.TheVariants as further
@@ -33,18 +34,23 @@ abbrev pub StaysInPlace : World → World → Type 0
 StaysInPlace old new =
     SameScopes old new × (new.stream ≡ old.stream) × (new.block ≡ old.block) × (new.escape ≡ old.escape)
 
--- There is a scope more, within the limit, for a run that is needed first; it may stand deeper. What is put back behind the run is what
--- stood before.
+-- There is a scope more for a block, which may stand deeper; or there are two for a macro, deeper than those that stood.
+abbrev pub HasMore : Saved → World → World → Type 0
+HasMore (saved.Block s) old new =
+    (length new.scopes.frames ≡ length old.scopes.frames + 1) × (old.scopes.outer ≤ new.scopes.outer)
+HasMore (saved.Macro s) old new = (length new.scopes.frames ≡ 2) × (depth old.scopes + 1 ≤ depth new.scopes)
+
+-- A run is needed first, whose scopes lie within the limit. What is put back behind it is what stood before.
 abbrev pub OneDeeper : ℕ → Saved → World → World → Type 0
-OneDeeper limit saved old new =
-    (saved ≡ saved_of old) × (length new.scopes.frames ≡ length old.scopes.frames + 1) ×
-    (old.scopes.outer ≤ new.scopes.outer) × (depth new.scopes ≤ limit)
+OneDeeper limit kept old new = IsSaved kept old × HasMore kept old new × (depth new.scopes ≤ limit)
 
 -- What every answer keeps, also where it is a halt.
-pub record KeepsIdAndFuel (old new : World) : Type 0 where
+pub record KeepsFixed (old new : World) : Type 0 where
   pub same_id : new.id ≡ old.id
   pub same_fuel_set : new.fuel_set ≡ old.fuel_set
   pub no_more_fuel : new.fuel ≤ old.fuel
+  pub same_blocks : new.blocks ≡ old.blocks
+  pub same_loaded : new.loaded ≡ old.loaded
 
 -- A value can be emitted as this text, or it can't be.
 abbrev pub CanBeEmitted : Result (Unit {0}) (List ErrorKind) → Res (List ℕ) → List ℕ → World → Type 0
@@ -79,12 +85,22 @@ Recurs (Err chain) asked w = is_want_of_memory chain ≡ false → asked ≡ ref
 
 -- the call of a run, where the world before it was b
 abbrev pub call_of : NestedRun → World → NestedCall
-call_of e b = record { callee = whole e.stream; undo = of_block b; wrap = e.wrap; text = e.text }
+call_of e b = record { callee = callee_of e.run; undo = undo_of e.saved b; wrap = e.wrap; text = e.text }
+
+-- What is put back is of this world, whose lists of blocks and of loaded names are those of the world in which the run is needed.
+abbrev pub IsBefore : Saved → World → World → Type 0
+IsBefore kept b w = IsSaved kept b × (w.blocks ≡ b.blocks) × (w.loaded ≡ b.loaded)
 
 -- A call needs this run first, from this world; its text is the call's value, and its fault the call's.
 abbrev pub NeedsRun : NestedRun → Asked → World → Type 0
 NeedsRun e asked w =
-    (e.heard ≡ true) × (e.value ≡ true) × (e.wrap ≡ None) × ((b : World) × (e.saved ≡ saved_of b) × (asked ≡ runs (call_of e b) w))
+    (e.heard ≡ true) × (e.value ≡ true) × (e.wrap ≡ None) × ((b : World) × IsBefore e.saved b w × (asked ≡ runs (call_of e b) w))
+
+-- A macro's run is needed first, from this world; the world before it was b. Its text is this.
+abbrev pub NeedsMacro : RunText → NestedRun → Asked → World → World → Type 0
+NeedsMacro text e asked b w =
+    (e.heard ≡ true) × (e.value ≡ true) × (e.wrap ≡ None) × (e.text ≡ text) × IsBefore e.saved b w ×
+    (asked ≡ runs (record (call_of e b) { text = texts.Captured }) w)
 
 -- What a call came to, but for want of memory: a value, a loop that is called, a run that is needed, or a fault, and the world behind it.
 abbrev pub Becomes : Result CallResult (List ErrorKind) → Asked → World → Type 0
@@ -100,7 +116,7 @@ CallLies limit _ old new = StaysInPlace old new
 
 -- What a call leaves, whatever it came to.
 pub record Leaves (limit : ℕ) (result : Result CallResult (List ErrorKind)) (old new : World) : Type 0 where
-  pub kept : KeepsIdAndFuel old new
+  pub kept : KeepsFixed old new
   pub lies : CallLies limit result old new
 
 -- ---------------------------------------------------------------- further calls
@@ -127,7 +143,7 @@ is_macro _ = false
 abbrev pub NeedsPlain : Bool → NestedRun → Asked → World → Type 0
 NeedsPlain test e asked w =
     (e.heard ≡ true) × (e.value ≡ true) × (e.wrap ≡ None) × (e.text ≡ text_for test) ×
-    ((b : World) × (e.saved ≡ saved_of b) × (asked ≡ runs (record (call_of e b) { text = texts.Plain }) w))
+    ((b : World) × IsBefore e.saved b w × (asked ≡ runs (record (call_of e b) { text = texts.Plain }) w))
 
 -- What a further call came to, whatever makes those behind it: what was answered to it, or a run; or it is refused.
 abbrev pub FurtherComes : MakesFurther → Bool → Call → Result Further (List ErrorKind) → Asked → World → Type 0
@@ -136,9 +152,13 @@ FurtherComes make test call (Ok (further.Answered answer)) asked w = is_for_memo
 FurtherComes make test call (Ok (further.Run e)) asked w = NeedsPlain test e.value asked w
 FurtherComes make test call (Err chain) asked w = is_want_of_memory chain ≡ false → asked ≡ refused chain w
 
+-- The same of a macro, by which what is asked for was printed.
+abbrev pub PrintedComes : MakesFurther → Bool → Result Further (List ErrorKind) → Asked → World → Type 0
+PrintedComes make test result asked w = FurtherComes make test (calls.Macro [] []) result asked w
+
 -- How the scopes lie behind it.
 abbrev pub FurtherLies : ℕ → Result Further (List ErrorKind) → World → World → Type 0
-FurtherLies limit (Ok (further.Run e)) old new = OneDeeper limit e.value.saved old new × KeepsIdAndFuel old new
+FurtherLies limit (Ok (further.Run e)) old new = OneDeeper limit e.value.saved old new × KeepsFixed old new
 FurtherLies limit _ old new = new ≡ record old { namespaces = new.namespaces }
 
 -- InvalidOperation for this cause, unless it is want of memory

@@ -1,2 +1,4 @@
 pub mod State
 pub mod Answers
+pub mod Streams
+pub mod Macros

@@ -1,11 +1,11 @@
--- What a state's fields stand for, and what is put back behind a block.
+-- What a state's fields stand for, and what is put back behind a run.
 use Rattle.std.specs.Prelude.{◌≡◌, ℕ, List, [], ◌∷◌, ◌++◌, length, map as each, Option, Some, None, Bool, true, false}
 use Rattle.tm_syntax.specs.Named.{find}
-use Rattle.tm_values.specs.Val.{Val, undefined}
+use Rattle.tm_values.specs.Val.{MacroData, Val, undefined}
 use Rattle.tm_values.specs.declared.escape.AutoEscape.{AutoEscape}
 use Rattle.tm_syntax.specs.declared.instruction.Instruction.{Instruction}
 use Rattle.tm_meaning.specs.World.{Named, World, Loop, loop_scope, new_loop, Layers, root_of, block_of, plain_scope, with_frames}
-use Rattle.tm_meaning.specs.Calls.{Asked, runs, cut_to, block_call}
+use Rattle.tm_meaning.specs.Calls.{Asked, runs, cut_to, block_call, macro_call, Undo, of_block, of_macro, Callee, whole, macro_of}
 use Rattle.tm_meaning.specs.Meaning.{first_fuel}
 use Rattle.tm_meaning.specs.declared.stream.TemplateId.{TemplateId}
 use Rattle.tm_meaning.specs.declared.stream.StreamId.{StreamId}
@@ -13,6 +13,11 @@ use Rattle.tm_syntax.specs.declared.instruction.LoopFlags.{LoopFlags}
 use Rattle.tm_tables.specs.Fuel.{Fuel}
 use Rattle.tm_tables.specs.Scopes.{exported_of}
 use Rattle.tm_state.specs.declared.saved.Saved.{Saved}
+use Rattle.tm_state.specs.declared.saved.Saved.TheVariants as saved
+use Rattle.tm_state.specs.declared.saved.SavedBlock.{SavedBlock}
+use Rattle.tm_state.specs.declared.saved.SavedMacro.{SavedMacro}
+use Rattle.tm_state.specs.declared.nested.RunOf.{RunOf}
+use Rattle.tm_state.specs.declared.nested.RunOf.TheVariants as run_of
 
 -- the fuel that was set, where one was
 abbrev pub fuel_set_of : Bool → Fuel → Option ℕ
@@ -50,16 +55,47 @@ started id t blocks escape fuel context = record {
 }
 
 -- what is put back behind a block, of the world before it
-abbrev pub saved_of : World → Saved
+abbrev pub saved_of : World → SavedBlock
 saved_of w = record { stream = w.stream; block = w.block; escape = w.escape; scopes = length w.scopes.frames; outer = w.scopes.outer }
 
--- the world behind a block, however that ended
+-- what is put back behind a macro
+abbrev pub saved_scopes : World → SavedMacro
+saved_scopes w = record { context = w.scopes; stream = w.stream; block = w.block; escape = w.escape }
+
+-- What is put back is of this world,
+abbrev pub IsSaved : Saved → World → Type 0
+IsSaved (saved.Block s) w = s ≡ saved_of w
+IsSaved (saved.Macro s) w = s ≡ saved_scopes w
+
+-- and how it is undone.
+abbrev pub undo_of : Saved → World → Undo
+undo_of (saved.Block s) w = of_block w
+undo_of (saved.Macro s) w = of_macro w
+
+-- the world behind a block, however that ended; and behind a macro
+abbrev pub behind_block : SavedBlock → World → World
+behind_block s w = record (cut_to s.scopes s.outer w) { stream = s.stream; block = s.block; escape = s.escape }
+
+abbrev pub behind_macro : SavedMacro → World → World
+behind_macro s w = record w { scopes = s.context; stream = s.stream; block = s.block; escape = s.escape }
+
+-- the world behind a run
 abbrev pub put_back : Saved → World → World
-put_back saved w = record (cut_to saved.scopes saved.outer w) { stream = saved.stream; block = saved.block; escape = saved.escape }
+put_back (saved.Block s) w = behind_block s w
+put_back (saved.Macro s) w = behind_macro s w
+
+-- what runs
+abbrev pub callee_of : RunOf → Callee
+callee_of (run_of.Stream s) = whole s
+callee_of (run_of.Macro s n given) = macro_of s n given.items
 
 -- the run of a block's stream, from a world; the world before it was b
 abbrev pub runs_block : StreamId → World → World → Asked
 runs_block s b w = runs (block_call s b) w
+
+-- the run of a macro of a stream with its arguments, from a world; the world before it was b
+abbrev pub runs_macro : StreamId → MacroData → List Val → World → World → Asked
+runs_macro s m given b w = runs (macro_call s m given b) w
 
 -- The stream is the block of this name of the one template that has it.
 abbrev pub IsBlockOf : StreamId → List ℕ → World → Type 0

@@ -3,7 +3,7 @@ ghost use Rattle.std.specs.Prelude.{◌≡◌};
 ghost use Rattle.std.specs.Option.{option_copied};
 ghost use Rattle.tm_values.specs.Answer.{IsAnswer, OkOrOutOfMemory};
 ghost use Rattle.tm_meaning.specs.World.{records_of};
-ghost use Rattle.tm_values.specs.Val.{loop};
+ghost use Rattle.tm_values.specs.Val.{function, loop, macro};
 ghost use Rattle.tm_meaning.specs.Calls.{call_callee, call_found, call_innermost, call_loop, call_named, call_value, call_method};
 ghost use Rattle.tm_meaning.specs.Calls.{loop_method, method_in, method_object, unknown_method, is_macro_attribute};
 ghost use Rattle.tm_state.specs.Answers.{Becomes, FoundAnswers, IsBecause, Leaves, Recurs};
@@ -13,10 +13,11 @@ use crate::nested::NestedRun;
 use crate::state::StateData;
 use std::alloc::Global;
 use std::rc::Rc;
+use tm_meaning::RunText;
 use tm_operations::{attribute, iterate};
 use tm_syntax::Name;
 use tm_tables::{CallableAnswer, Host, LoopState};
-use tm_values::{Error, ErrorKind, Node, UndefinedBehavior, Value, find_namespace};
+use tm_values::{Error, ErrorKind, Macro, Node, UndefinedBehavior, Value, find_namespace};
 
 /// What a call came to.
 #[derive(Drop)]
@@ -265,8 +266,8 @@ impl StateData<'_> {
         }
     }
 
-    /// What a value gives for these arguments; of values functions alone can be called.
-    #[tactic(auto, using(crate::proofs::Answered::followed))]
+    /// What a value gives for these arguments, or the run that it needs: a function or a macro. InvalidOperation for
+    /// another value, and what is refused that is called.
     fn call_value<H: Host>(
         &mut self,
         alloc: Global,
@@ -278,8 +279,45 @@ impl StateData<'_> {
             (call_value (H.meaning host.now) value.now args.now self.old) self.new }
         ensures leaves { Leaves (H.meaning host.now).limit result self.old self.new }
     {
-        let answer = self.value_answer(alloc, host, value, args)?;
+        match &value.node {
+            Node::Function(number) => self.call_number(alloc, host, *number, args),
+            Node::Macro(declared) => self.call_macro(alloc, host, declared, args),
+            _ => Err(Error::from(ErrorKind::InvalidOperation)),
+        }
+    }
+
+    /// What the function of a number gives for these arguments.
+    #[tactic(auto, using(crate::proofs::Answered::followed))]
+    fn call_number<H: Host>(
+        &mut self,
+        alloc: Global,
+        host: &H,
+        number: usize,
+        args: &[Value],
+    ) -> Result<CallResult, Error>
+        ensures called { Becomes result
+            (call_value (H.meaning host.now) (function number) args.now self.old) self.new }
+        ensures leaves { Leaves (H.meaning host.now).limit result self.old self.new }
+    {
+        let answer = self.function_answer(alloc, host, number, args)?;
         self.follow(alloc, host, answer, false)
+    }
+
+    /// The run of a macro that is called with these arguments.
+    #[tactic(auto, using(crate::proofs::Answered::macro_needed))]
+    fn call_macro<H: Host>(
+        &mut self,
+        alloc: Global,
+        host: &H,
+        declared: &Macro,
+        args: &[Value],
+    ) -> Result<CallResult, Error>
+        ensures called { Becomes result
+            (call_value (H.meaning host.now) (macro declared.now) args.now self.old) self.new }
+        ensures leaves { Leaves (H.meaning host.now).limit result self.old self.new }
+    {
+        let run = self.macro_run(alloc, host, declared, args, 0, RunText::Captured)?;
+        Ok(CallResult::Run(run))
     }
 }
 

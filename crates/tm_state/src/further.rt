@@ -1,19 +1,19 @@
 //! What an object of the caller answers, followed through the further calls that it asks for.
 ghost use Rattle.std.specs.Prelude.{◌≡◌, ◌+◌, ◌≤◌, false, IfOk, IfErr, OnErr, OnOk, length};
-ghost use Rattle.tm_values.specs.Val.{function};
+ghost use Rattle.tm_values.specs.Val.{function, macro};
 ghost use Rattle.tm_syntax.specs.Named.{find, put_each};
 ghost use Rattle.tm_meaning.specs.Memory.{is_want_of_memory};
 ghost use Rattle.tm_meaning.specs.World.{depth};
 ghost use Rattle.tm_meaning.specs.Calls.{block_call, by_depths, deeper, enter_block, from_deeper, further_call, has, refused};
-ghost use Rattle.tm_meaning.specs.Calls.{named_call, replied, runs, value_call};
+ghost use Rattle.tm_meaning.specs.Calls.{as_printed, named_call, replied, runs, value_call};
 ghost use Rattle.tm_meaning.specs.declared.run_text.RunText.TheVariants as texts;
-ghost use Rattle.tm_state.specs.Answers.{Answers, Becomes, Comes, FurtherComes, FurtherLies, KeepsIdAndFuel, Leaves, NeedsPlain};
+ghost use Rattle.tm_state.specs.Answers.{Answers, Becomes, Comes, FurtherComes, FurtherLies, KeepsFixed, Leaves, NeedsPlain, PrintedComes};
 ghost use Rattle.tm_state.specs.Answers.{OneDeeper, is_macro, shown, tested, text_for};
 ghost use Rattle.tm_state.specs.State.{saved_of};
 
 use crate::calls::CallResult;
-use crate::nested::NestedRun;
-use crate::saved::Saved;
+use crate::nested::{NestedRun, RunOf};
+use crate::saved::{Saved, SavedBlock};
 use crate::state::StateData;
 use std::alloc::Global;
 use tm_meaning::{Call, Reply, RunText, StreamId};
@@ -21,7 +21,7 @@ use tm_operations::is_true;
 use tm_printing::to_text;
 use tm_syntax::Name;
 use tm_tables::{CallableAnswer, Called, Host, NO_PLACE};
-use tm_values::{Error, ErrorKind, Node, Value};
+use tm_values::{Error, ErrorKind, Macro, Node, Value};
 
 /// What a further call came to.
 #[derive(Drop)]
@@ -117,8 +117,7 @@ impl StateData<'_> {
                 Ok(Further::Answered(answer))
             }
             Call::Macro(name, args) => {
-                let answer = self.macro_answer(alloc, host, &name, args.as_slice())?;
-                Ok(Further::Answered(answer))
+                self.further_named(alloc, host, &name, args.as_slice(), levels, test)
             }
             Call::Block(name) => {
                 let run = self.further_block(alloc, host, &name, levels, test)?;
@@ -127,43 +126,112 @@ impl StateData<'_> {
         }
     }
 
-    /// What the value of a name answers to these arguments. UnknownFunction where the name isn't found, and as
-    /// `value_answer`.
-    fn macro_answer<H: Host>(
+    /// What a further call comes to of what a name stands for, so many levels deeper than the scopes stand.
+    /// UnknownFunction where the name isn't found, InvalidOperation where its value can't be called, and what is refused
+    /// that is called.
+    fn further_named<H: Host>(
         &mut self,
         alloc: Global,
         host: &H,
         name: &Name,
         args: &[Value],
-    ) -> Result<CallableAnswer, Error>
-        ensures answers { (make : _) → Answers make result
-            (named_call make (H.meaning host.now) name.now args.now self.old) self.new }
-        ensures rest { self.new ≡ record self.old { namespaces = self.new.namespaces } }
+        levels: usize,
+        test: bool,
+    ) -> Result<Further, Error>
+        ensures comes { (make : _) → PrintedComes make test result
+            (as_printed (named_call make levels (H.meaning host.now)
+            name.now args.now self.old)) self.new }
+        ensures lies { FurtherLies (H.meaning host.now).limit result self.old self.new }
     {
-        let Some(found) = self.lookup(host, name)? else {
-            return Err(Error::from(ErrorKind::UnknownFunction));
-        };
-        self.value_answer(alloc, host, &found, args)
+        match self.lookup(host, name)? {
+            Some(found) => self.further_value(alloc, host, &found, args, levels, test),
+            None => Err(Error::from(ErrorKind::UnknownFunction)),
+        }
     }
 
-    /// What a value answers to these arguments, of values functions alone can; what a function of the language gives
-    /// is its answer. InvalidOperation where it can't be called, and what such a function refuses.
-    pub(crate) fn value_answer<H: Host>(
+    /// What a further call comes to of a value, so many levels deeper than the scopes stand. InvalidOperation where it
+    /// can't be called, and what is refused that is called.
+    fn further_value<H: Host>(
         &mut self,
         alloc: Global,
         host: &H,
         value: &Value,
         args: &[Value],
+        levels: usize,
+        test: bool,
+    ) -> Result<Further, Error>
+        ensures comes { (make : _) → PrintedComes make test result
+            (as_printed (value_call make levels (H.meaning host.now)
+            value.now args.now self.old)) self.new }
+        ensures lies { FurtherLies (H.meaning host.now).limit result self.old self.new }
+    {
+        match &value.node {
+            Node::Function(number) => self.further_function(alloc, host, *number, args, test),
+            Node::Macro(declared) => {
+                self.further_macro(alloc, host, declared, args, levels, test)
+            }
+            _ => Err(Error::from(ErrorKind::InvalidOperation)),
+        }
+    }
+
+    /// What a further call comes to of the function of a number.
+    fn further_function<H: Host>(
+        &mut self,
+        alloc: Global,
+        host: &H,
+        number: usize,
+        args: &[Value],
+        test: bool,
+    ) -> Result<Further, Error>
+        ensures comes { (make : _) → PrintedComes make test result
+            (as_printed (value_call make 0 (H.meaning host.now)
+            (function number) args.now self.old)) self.new }
+        ensures lies { FurtherLies (H.meaning host.now).limit result self.old self.new }
+    {
+        // Whether a test asked is no matter here.
+        let _test = test;
+        match self.function_answer(alloc, host, number, args) {
+            Ok(answer) => Ok(Further::Answered(answer)),
+            Err(error) => Err(error),
+        }
+    }
+
+    /// The run that a further call of a macro needs, so many levels deeper than the scopes stand.
+    fn further_macro<H: Host>(
+        &mut self,
+        alloc: Global,
+        host: &H,
+        declared: &Macro,
+        args: &[Value],
+        levels: usize,
+        test: bool,
+    ) -> Result<Further, Error>
+        ensures comes { (make : _) → PrintedComes make test result
+            (as_printed (value_call make levels (H.meaning host.now)
+            (macro declared.now) args.now self.old)) self.new }
+        ensures lies { FurtherLies (H.meaning host.now).limit result self.old self.new }
+    {
+        match self.macro_run(alloc, host, declared, args, levels, text_for(test)) {
+            Ok(run) => Ok(Further::Run(run)),
+            Err(error) => Err(error),
+        }
+    }
+
+    /// What the function of a number answers to these arguments; what a function of the language gives is its answer.
+    /// InvalidOperation where there is no such function, and what a function of the language refuses.
+    pub(crate) fn function_answer<H: Host>(
+        &mut self,
+        alloc: Global,
+        host: &H,
+        number: usize,
+        args: &[Value],
     ) -> Result<CallableAnswer, Error>
-        ensures answers { (make : _) → Answers make result
-            (value_call make (H.meaning host.now) value.now args.now self.old) self.new }
+        ensures answers { (make : _) → Answers make result (value_call make 0
+            (H.meaning host.now) (function number) args.now self.old) self.new }
         ensures rest { self.new ≡ record self.old { namespaces = self.new.namespaces } }
     {
-        let Node::Function(number) = &value.node else {
-            return Err(Error::from(ErrorKind::InvalidOperation));
-        };
         let view = self.view(host);
-        match host.call_function(alloc, *number, args, &view) {
+        match host.call_function(alloc, number, args, &view) {
             Some(Called::Answered(answer)) => Ok(answer),
             Some(Called::Language(function)) => {
                 let value = self.call_language(alloc, function, args)?;
@@ -192,26 +260,18 @@ impl StateData<'_> {
             (enter_block (H.meaning host.now) name.now (deeper levels self.old))
             ≡ refused e self.old) }
         ensures unchanged { OnErr result (self.new ≡ self.old) }
-        ensures kept { KeepsIdAndFuel self.old self.new }
+        ensures kept { KeepsFixed self.old self.new }
     {
         let (stream, saved) = self.enter_deeper(alloc, host, name, levels)?;
-        let text = if test { RunText::Truth } else { RunText::Plain };
         let run = NestedRun {
-            stream,
+            run: RunOf::Stream(stream),
             heard: true,
             value: true,
-            text,
+            text: text_for(test),
             wrap: None,
-            saved,
+            saved: Saved::Block(saved),
         };
-        match Box::new(alloc, run) {
-            Ok(run) => Ok(run),
-            Err(failed) => {
-                let NestedRun { saved, .. } = failed.value;
-                self.leave_block(saved);
-                Err(Error::from(ErrorKind::OutOfMemory))
-            }
-        }
+        self.boxed(alloc, run)
     }
 
     /// Enters the block of a name, so many levels deeper than the scopes stand, and gives its stream and what is put
@@ -222,7 +282,7 @@ impl StateData<'_> {
         host: &H,
         name: &Name,
         levels: usize,
-    ) -> Result<(StreamId, Saved), Error>
+    ) -> Result<(StreamId, SavedBlock), Error>
         requires { depth self.old.scopes + levels ≤ (H.meaning host.now).limit }
         ensures ok { IfOk result (λ r. (r.1 ≡ saved_of self.old) × (from_deeper self.old
             (enter_block (H.meaning host.now) name.now (deeper levels self.old)) ≡
@@ -235,7 +295,7 @@ impl StateData<'_> {
             (enter_block (H.meaning host.now) name.now (deeper levels self.old))
             ≡ refused e self.old) }
         ensures unchanged { OnErr result (self.new ≡ self.old) }
-        ensures kept { KeepsIdAndFuel self.old self.new }
+        ensures kept { KeepsFixed self.old self.new }
     {
         let outer = self.go_deeper(host, levels);
         match self.enter_block(alloc, host, name) {
@@ -260,4 +320,11 @@ fn is_macro(call: &Call) -> bool
         Call::Filter(_name, _args) => false,
         Call::Block(_name) => false,
     }
+}
+
+/// What the text of a run is, where a test was called and where none was.
+fn text_for(test: bool) -> RunText
+    ensures { result ≡ text_for test }
+{
+    if test { RunText::Truth } else { RunText::Plain }
 }

@@ -1,17 +1,21 @@
-//! The data of a state: what a render starts from, what its names and functions give, its blocks and its fuel.
+//! The data of a state: what a render starts from, what its names and functions give, its blocks, its macros and its fuel.
 #![tactic(auto)]
 
 mod applied;
+mod bound;
 mod calls;
 mod formatting;
 mod fuel;
 mod further;
+mod macros;
 mod nested;
 mod records;
+mod runs;
 mod saved;
 mod state;
+mod streams;
 
 pub use calls::{CallResult, Recursion};
-pub use nested::NestedRun;
-pub use saved::Saved;
+pub use nested::{NestedRun, RunOf};
+pub use saved::{Saved, SavedBlock, SavedMacro};
 pub use state::StateData;

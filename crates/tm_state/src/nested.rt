@@ -4,13 +4,22 @@ ghost use Rattle.std.specs.Prelude.{◌≡◌, [], ◌∷◌, IfOk, IfErr};
 use crate::saved::Saved;
 use std::alloc::Global;
 use tm_meaning::{RunText, StreamId, Wrapping};
-use tm_values::{Error, ErrorKind};
+use tm_values::{Error, ErrorKind, Value};
+
+/// What runs.
+#[derive(Drop)]
+pub enum RunOf {
+    /// A whole stream.
+    Stream(StreamId),
+    /// The macro of a number in a stream, with its arguments.
+    Macro(StreamId, usize, Vec<Value>),
+}
 
 /// A run that is needed before the next instruction.
 #[derive(Drop)]
 pub struct NestedRun {
     /// What runs.
-    pub stream: StreamId,
+    pub run: RunOf,
     /// Whether its text is heard.
     pub heard: bool,
     /// Whether its text is a value, which waits in the innermost capture, and not put where the run that waits is heard.

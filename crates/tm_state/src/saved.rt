@@ -1,11 +1,21 @@
-//! What a block's run replaces.
+//! What a run replaces in the state.
 use tm_meaning::StreamId;
 use tm_syntax::Name;
+use tm_tables::Context;
 use tm_values::AutoEscape;
 
-/// What a block's run replaces in the state, and what is put back behind it.
+/// What a run replaces in the state, and what is put back behind it.
 #[derive(Drop)]
-pub struct Saved {
+pub enum Saved {
+    /// What a block's run replaces.
+    Block(SavedBlock),
+    /// What a macro's run replaces.
+    Macro(SavedMacro),
+}
+
+/// What a block's run replaces.
+#[derive(Drop)]
+pub struct SavedBlock {
     /// The stream that ran.
     pub stream: StreamId,
     /// The block that ran.
@@ -16,4 +26,17 @@ pub struct Saved {
     pub scopes: usize,
     /// The depth at which the outermost scope stood.
     pub outer: usize,
+}
+
+/// What a macro's run replaces, which has scopes of its own.
+#[derive(Drop)]
+pub struct SavedMacro {
+    /// The scopes.
+    pub context: Context,
+    /// The stream that ran.
+    pub stream: StreamId,
+    /// The block that ran.
+    pub block: Option<Name>,
+    /// The escape.
+    pub escape: AutoEscape,
 }

@@ -13,11 +13,11 @@ ghost use Rattle.tm_meaning.specs.Calls.{enter_block, given_by, refused, of_loop
 ghost use Rattle.tm_definitions.specs.Emitted.{emitted_text};
 ghost use Rattle.tm_tables.specs.Known.{AreFound, NamingFails};
 ghost use Rattle.tm_tables.specs.Scopes.{PushFails};
-ghost use Rattle.tm_state.specs.Answers.{KeepsIdAndFuel, CanBeEmitted, Comes};
+ghost use Rattle.tm_state.specs.Answers.{KeepsFixed, CanBeEmitted, Comes};
 ghost use Rattle.tm_state.specs.State.{with_open_loop, exported, started, put_back, saved_of, runs_block, IsBlockOf, scoped};
 
 use crate::records::{add_loop, changed_at, keep_each, set_in, turn_at};
-use crate::saved::Saved;
+use crate::streams::Streams;
 use std::alloc::Global;
 use std::marker::Model;
 use std::mem;
@@ -27,7 +27,7 @@ use tm_operations::{check_settable, dict, namespace, range};
 use tm_printing::check_emission;
 use tm_syntax::{Code, LoopFlags, Name, NameMap};
 use tm_tables::{
-    Called, Context, Frame, FuelTracker, Host, LoopState, View, following_at, position_at,
+    Closures, Context, Frame, FuelTracker, Host, LoopState, View, following_at, position_at,
     previous_at,
 };
 use tm_values::{
@@ -39,15 +39,17 @@ use tm_values::{
 #[derive(Drop)]
 pub struct StateData<'env> {
     id: u64,
-    context: Context,
+    pub(crate) context: Context,
     namespaces: Vec<ValueMap>,
     loops: Vec<LoopState>,
+    pub(crate) closures: Closures,
+    pub(crate) streams: Streams,
     temps: NameMap<Value>,
-    template: TemplateId,
-    blocks: &'env NameMap<Code>,
-    block: Option<Name>,
-    escape: AutoEscape,
-    stream: StreamId,
+    pub(crate) template: TemplateId,
+    pub(crate) blocks: &'env NameMap<Code>,
+    pub(crate) block: Option<Name>,
+    pub(crate) escape: AutoEscape,
+    pub(crate) stream: StreamId,
     pub(crate) fuel: FuelTracker,
     pub(crate) fuel_is_set: bool,
 }
@@ -68,8 +70,8 @@ impl<'env> Model for StateData<'env> {
       scopes = s.context;
       namespaces = s.namespaces.items;
       loops = s.loops.items;
-      closures = [];
-      streams = [];
+      closures = s.closures;
+      streams = s.streams;
       temps = s.temps;
       blocks = layers_of s.template s.blocks.now;
       loaded = [];
@@ -103,6 +105,8 @@ impl<'env> StateData<'env> {
             context,
             namespaces: Vec::new(alloc),
             loops: Vec::new(alloc),
+            closures: Closures::new(alloc),
+            streams: Streams::new(alloc),
             temps: NameMap::new(alloc),
             template,
             blocks,
@@ -130,6 +134,7 @@ impl<'env> StateData<'env> {
         View::new(
             self.id,
             &self.context,
+            &self.closures,
             &self.namespaces,
             &self.loops,
             host.globals(),
@@ -145,7 +150,7 @@ impl<'env> StateData<'env> {
     pub fn lookup<H: Host>(&self, host: &H, name: &Name) -> Result<Option<Value>, Error>
         ensures { IsAnswer result (find_name (view_of (H.meaning host.now) self.now) name.now) }
     {
-        match self.context.find(name, self)? {
+        match self.context.find(name, &self.closures, self)? {
             Some(found) => Ok(Some(found.value(self.id)?)),
             None => match host.globals().get(name.as_str()) {
                 Some(global) => Ok(Some(global.share()?)),
@@ -167,7 +172,8 @@ impl<'env> StateData<'env> {
             (find_name (view_of (H.meaning host.now) self.now)) (texts_of names.items)) }
         ensures err { IfErr result (NamingFails (records_of self.now) self.now.scopes.frames) }
     {
-        self.context.known_names(alloc, self, host.globals())
+        self.context
+            .known_names(alloc, &self.closures, self, host.globals())
     }
 
     /// The value that was kept at a name, where there is one.
@@ -276,26 +282,6 @@ impl<'env> StateData<'env> {
         host.recursion_limit().saturating_sub(self.context.depth())
     }
 
-    /// Lets the scopes stand so many levels deeper, within the limit, and gives the depth at which the outermost one stood.
-    pub(crate) fn go_deeper<H: Host>(&mut self, host: &H, levels: usize) -> usize
-        requires { depth self.old.scopes + levels ≤ (H.meaning host.now).limit }
-        ensures outer { result ≡ self.old.scopes.outer }
-        ensures deeper { self.new ≡ deeper levels self.old }
-    {
-        // The limit bounds the sum.
-        let _limit = host.recursion_limit();
-        let outer = self.context.outer();
-        self.context.set_outer(levels + outer);
-        outer
-    }
-
-    /// Lets the outermost scope stand at a depth.
-    pub(crate) fn stand_at(&mut self, outer: usize)
-        ensures { self.new ≡ record self.old { scopes = record self.old.scopes { outer = outer } } }
-    {
-        self.context.set_outer(outer);
-    }
-
     /// Takes the state out, and leaves one of no template and without scopes in its place.
     pub fn take(&mut self, alloc: Global) -> StateData<'env>
         ensures { result ≡ self.old }
@@ -308,6 +294,8 @@ impl<'env> StateData<'env> {
                 context: Context::new(alloc),
                 namespaces: Vec::new(alloc),
                 loops: Vec::new(alloc),
+                closures: Closures::new(alloc),
+                streams: Streams::new(alloc),
                 temps: NameMap::new(alloc),
                 template: TemplateId::Own,
                 blocks,
@@ -339,52 +327,6 @@ impl<'env> StateData<'env> {
         ensures { self.new ≡ with_escape escape self.old }
     {
         self.escape = escape;
-    }
-
-    /// Enters the block of a name, in a scope of its own, and gives its stream and what is put back behind
-    /// it. UnknownBlock where there is none, InvalidOperation where it is required and nothing fills it, or
-    /// where its scope would lie deeper than the limit; OutOfMemory where there is no memory. Then the state
-    /// stays as it was.
-    pub fn enter_block<H: Host>(
-        &mut self,
-        alloc: Global,
-        host: &H,
-        name: &Name,
-    ) -> Result<(StreamId, Saved), Error>
-        ensures ok { IfOk result (λ r. (r.1 ≡ saved_of self.old)
-            × (enter_block (H.meaning host.now) name.now self.old ≡
-            runs_block r.0 self.old self.new)) }
-        ensures deeper { OnOk result
-            ((length self.new.scopes.frames ≡ length self.old.scopes.frames + 1)
-            × (self.new.scopes.outer ≡ self.old.scopes.outer)
-            × (depth self.new.scopes ≤ (H.meaning host.now).limit)) }
-        ensures err { IfErr result (λ e. is_want_of_memory e ≡ false →
-            enter_block (H.meaning host.now) name.now self.old ≡ refused e self.old) }
-        ensures unchanged { OnErr result (self.new ≡ self.old) }
-        ensures kept { KeepsIdAndFuel self.old self.new }
-    {
-        let stream = self.block_stream(name)?;
-        if host.is_required(&stream) {
-            return Err(Error::from(ErrorKind::InvalidOperation));
-        }
-        let running = stream.share()?;
-        let block = name.share()?;
-        let scopes = self.height();
-        self.push_scope(alloc, host.recursion_limit())?;
-        let saved = self.run_block(running, block, scopes);
-        Ok((stream, saved))
-    }
-
-    /// The stream of the block of a name. UnknownBlock where there is none, OutOfMemory where the owners of a name can't be counted.
-    fn block_stream(&self, name: &Name) -> Result<StreamId, Error>
-        ensures ok { IfOk result (λ stream. IsBlockOf stream name.now self.now) }
-        ensures err { IfErr result (λ e. is_want_of_memory e ≡ false →
-            (e ≡ ErrorKind.UnknownBlock ∷ []) × (find name.now self.now.blocks ≡ None)) }
-    {
-        if self.blocks.get(name.as_str()).is_none() {
-            return Err(Error::from(ErrorKind::UnknownBlock));
-        }
-        Ok(StreamId::block(self.template.share()?, name.share()?))
     }
 
     /// One scope more, over no context. InvalidOperation where it would lie deeper than the limit,
@@ -535,22 +477,34 @@ impl<'env> StateData<'env> {
         self.context.pop_frame();
     }
 
-    /// Lets the innermost scope have a name from here on. Fails by OutOfMemory alone, and then the state stays as it was.
+    /// Lets the innermost scope have a name from here on, and its own closure too, where it has one. Fails by
+    /// OutOfMemory alone, and then the state stays as it was.
+    #[tactic(auto, using(crate::proofs::Stored::plainly, crate::proofs::Stored::enclosed))]
     pub fn store(&mut self, name: &Name, value: Value) -> Result<(), Error>
         ensures ok { OnOk result (self.new ≡ store name.now value self.old) }
         ensures kind { IfErr result (λ e. e ≡ ErrorKind.OutOfMemory ∷ []) }
         ensures err { OnErr result (self.new ≡ self.old) }
     {
-        self.context.store(name.share()?, value)
+        match self.context.own_closure() {
+            Some(number) => {
+                self.context
+                    .store_enclosed(&mut self.closures, number, name, value)
+            }
+            None => self.context.store(name.share()?, value),
+        }
     }
 
-    /// Lets the innermost scope have a name for a second owner of a value, where there is room. Else all stays as
-    /// it was, and the answer is false.
+    /// Lets the innermost scope have a name for a second owner of a value, where there is room and the scope has no
+    /// closure of its own. Else all stays as it was, and the answer is false.
     #[inline(always)]
+    #[tactic(auto, using(crate::proofs::Stored::at_once))]
     pub fn store_at_once(&mut self, name: &Name, value: &Value) -> bool
         ensures { OrStays result self.old self.new
             (self.new ≡ store name.now value.now self.old) }
     {
+        if self.context.own_closure().is_some() {
+            return false;
+        }
         self.context.store_at_once(name, value)
     }
 
@@ -572,37 +526,6 @@ impl<'env> StateData<'env> {
     {
         let index = check_settable(alloc, object, self)?;
         set_in(alloc, &mut self.namespaces, index, name, value)
-    }
-
-    /// Lets a block run, and gives what that replaces, with how many scopes there were before its own.
-    fn run_block(&mut self, stream: StreamId, block: Name, scopes: usize) -> Saved
-        ensures saved { result ≡ record (saved_of self.old) { scopes = scopes } }
-        ensures runs { self.new ≡ record self.old { stream = stream; block = Some block } }
-    {
-        Saved {
-            stream: mem::replace(&mut self.stream, stream),
-            block: mem::replace(&mut self.block, Some(block)),
-            escape: self.escape,
-            scopes,
-            outer: self.context.outer(),
-        }
-    }
-
-    /// Leaves the scopes that a block opened, and puts back what it replaced.
-    pub fn leave_block(&mut self, saved: Saved)
-        ensures { self.new ≡ put_back saved self.old }
-    {
-        let Saved {
-            stream,
-            block,
-            escape,
-            scopes,
-            outer,
-        } = saved;
-        self.context.cut_to(scopes, outer);
-        self.stream = stream;
-        self.block = block;
-        self.set_escape(escape);
     }
 }
 

@@ -1,4 +1,5 @@
 pub mod Named
 pub mod Forms
 pub mod Places
+pub mod Entries
 pub mod Standing

@@ -8,3 +8,4 @@ pub mod HashedLaws
 pub mod Blocks
 pub mod Loops
 pub mod RawText
+pub mod Entries

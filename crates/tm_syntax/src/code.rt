@@ -1,23 +1,31 @@
 //! The code of a stream.
-ghost use Rattle.std.specs.Prelude.{◌≡◌, ◌-◌, ◌^◌, ◌<◌, [], IfOk, IfSome, ltb, slice_get};
+ghost use Rattle.std.specs.List.Sorted.{IsNonDecreasingBy};
+ghost use Rattle.std.specs.Prelude.{◌≡◌, ◌-◌, ◌^◌, ℕ, ◌<◌, [], IfOk, IfSome, ltb, slice_get};
+ghost use Rattle.tm_syntax.specs.Entries.{entries, entry_number, name_count};
 ghost use Rattle.tm_syntax.specs.Loops.{loop_places, loops_before};
 
 use crate::instruction::{Instruction, LoopPlace};
 use sqlite_items::Items;
 use std::alloc::{AllocError, Global};
+use std::collections::BTreeMap;
 use std::marker::Model;
+use tm_values::{Node, Value};
 
-/// The instructions of a stream, and where its loops begin. A contract sees the instructions.
+/// The instructions of a stream, where its loops begin, and where its macros are entered, each with how many
+/// arguments it takes. A contract sees the instructions.
 #[derive(Drop)]
 pub struct Code {
     instructions: Items<Instruction>,
     loops: Vec<LoopPlace>,
+    macros: Vec<(usize, usize)>,
 }
 
 impl Model for Code {
-    ghost use Rattle.std.specs.Prelude.{◌≡◌, List};
+    ghost use Rattle.std.specs.Prelude.{◌≡◌, ℕ, List};
+    ghost use Rattle.std.specs.List.Sorted.{IsNonDecreasingBy};
     ghost use Rattle.std.specs.Coded.{codes};
     ghost use Rattle.tm_values.specs.Code.{coded_Val};
+    ghost use Rattle.tm_syntax.specs.Entries.{entries};
     ghost use Rattle.tm_syntax.specs.Loops.{loop_places};
     ghost use Rattle.tm_syntax.specs.declared.instruction.Instruction.{Instruction as Made};
 
@@ -27,7 +35,8 @@ impl Model for Code {
 
     ghost view = { λ a. a.instructions };
 
-    ghost invariant = { λ a. a.loops.items ≡ loop_places 0 a.instructions };
+    ghost invariant = { λ a. (a.loops.items ≡ loop_places 0 a.instructions) × (a.macros.items ≡ entries a.instructions) ×
+        IsNonDecreasingBy (λ (e : ℕ × ℕ). e.0) a.macros.items };
 }
 
 /// Where the loops of instructions begin, each at its number. AllocError for want of memory.
@@ -46,6 +55,58 @@ fn places_of(alloc: Global, instructions: &[Instruction]) -> Result<Vec<LoopPlac
     Ok(places)
 }
 
+/// How many names a literal list of them has.
+#[tactic(auto, using(tm_values::proofs::Lists::round_trips))]
+fn name_count(names: &Value) -> usize
+    ensures { result ≡ name_count names.now }
+{
+    match &names.node {
+        Node::List(items, _) => items.len(),
+        _ => 0,
+    }
+}
+
+/// Where the macros of instructions are entered, with how many arguments each takes. AllocError for want of memory.
+fn entries_by_place(
+    alloc: Global,
+    instructions: &[Instruction],
+) -> Result<BTreeMap<usize, usize>, AllocError>
+    ensures { IfOk result (λ found. found.entries ≡ entries instructions.now) }
+{
+    let mut found = BTreeMap::new(alloc);
+    let mut before = None;
+    for instruction in instructions {
+        before = match instruction {
+            Instruction::BuildMacro(_, place, _) => {
+                if let Some(count) = before {
+                    found.insert(*place, count)?;
+                }
+                None
+            }
+            Instruction::LoadConst(value) => Some(name_count(value)),
+            _ => None,
+        };
+    }
+    Ok(found)
+}
+
+/// The same in a row, in the order of the places. AllocError for want of memory.
+fn entries_of(
+    alloc: Global,
+    instructions: &[Instruction],
+) -> Result<Vec<(usize, usize)>, AllocError>
+    ensures all { IfOk result (λ found. found.items ≡ entries instructions.now) }
+    ensures order { IfOk result
+        (λ found. IsNonDecreasingBy (λ (e : ℕ × ℕ). e.0) found.items) }
+{
+    let by_place = entries_by_place(alloc, instructions)?;
+    let mut found = Vec::new(alloc);
+    for (place, count) in by_place.iter() {
+        found.push((*place, *count))?;
+    }
+    Ok(found)
+}
+
 impl Code {
     /// No instructions.
     pub fn empty(alloc: Global) -> Code
@@ -54,6 +115,7 @@ impl Code {
         Code {
             instructions: Items::new(alloc),
             loops: Vec::new(alloc),
+            macros: Vec::new(alloc),
         }
     }
 
@@ -62,9 +124,11 @@ impl Code {
         ensures { IfOk result (λ code. code ≡ instructions) }
     {
         let loops = places_of(alloc, instructions.as_slice())?;
+        let macros = entries_of(alloc, instructions.as_slice())?;
         Ok(Code {
             instructions,
             loops,
+            macros,
         })
     }
 
@@ -84,6 +148,27 @@ impl Code {
                 ensures { result ≡ ltb found.now.place place }
             { found.place < place },
         )
+    }
+
+    /// The number of the entry at a place.
+    pub fn entry_number(&self, place: usize) -> usize
+        ensures { result ≡ entry_number place self.now }
+    {
+        self.macros.as_slice().partition_point(
+            |found|
+                ensures { result ≡ ltb found.now.0 place }
+            { found.0 < place },
+        )
+    }
+
+    /// Where the macro of a number is entered, and how many arguments it takes, where there is one.
+    pub fn entry(&self, number: usize) -> Option<(usize, usize)>
+        ensures { result ≡ slice_get (entries self.now) number }
+    {
+        match self.macros.get(number) {
+            Some(found) => Some(*found),
+            None => None,
+        }
     }
 
     /// Where the loop of a number begins, which is within the instructions.

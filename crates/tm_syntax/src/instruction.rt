@@ -102,6 +102,8 @@ pub enum Instruction {
     Neg,
     /// Replaces a value by whether it is false.
     Not,
+    /// Replaces a value by whether it is undefined.
+    IsUndefined,
     /// Turns the two topmost values round.
     Swap,
     /// Pushes the topmost value once more.
@@ -133,6 +135,16 @@ pub enum Instruction {
     CallBlock(Name),
     /// Pops a value, and gives it to a name of the innermost scope.
     StoreLocal(Name),
+    /// Lets the innermost scope's own closure, which is made where there is none, have a name with its present value,
+    /// unless it has the name.
+    Enclose(Name),
+    /// Pushes the number of the innermost scope's own closure, or none where it has none.
+    GetClosure,
+    /// Replaces a closure and the names of arguments by a macro of a name, which is entered at a place; at last whether
+    /// it takes `caller`.
+    BuildMacro(Name, usize, bool),
+    /// Ends a macro's run.
+    Return,
     /// Replaces a value by its items, the first on top, of which there are so many.
     UnpackList(usize),
     /// Pops a namespace and a value below it, and gives the value to its attribute.

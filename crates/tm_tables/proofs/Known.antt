@@ -14,7 +14,7 @@ use Rattle.std.specs.List.Sorted.{IsPermutation, IsStrictlySortedBy}
 use Rattle.std.specs.Map.{keys_of}
 use Rattle.std.specs.Option.{option_map_or}
 use Rattle.std.specs.Ordering.{is_eq, match_ordering}
-use Rattle.std.specs.Prelude.{IfErr, IsErrAnd, codes}
+use Rattle.std.specs.Prelude.{IfErr, IsErrAnd, codes, option_and_then, slice_get}
 use Rattle.std.specs.Str.{bytes_eq}
 use Rattle.std.specs.declared.cmp.Ordering.TheVariants.{Less, Equal, Greater}
 use Rattle.tm_syntax.specs.Named.{name_cmp, same_name, texts_of, find as find_named}
@@ -31,6 +31,7 @@ use Rattle.tm_meaning.specs.World.{or_on_answer, read_closure}
 use Rattle.tm_meaning.specs.declared.mark.LoopMark.{LoopMark}
 use Rattle.tm_tables.specs.Known.{AddsFound, AreFound, AreFoundIn, AreKnownIn, NamingFails, has_text, one_lacks_record, is_among, is_found}
 use Rattle.tm_tables.specs.Known.{lacks_record, or_else_found}
+use Rattle.tm_tables.specs.Closures.{names_of, names_read}
 
 -- ---------------------------------------------------------------- names in order, each once
 abbrev pub order : Bor (List ℕ) → Bor (List ℕ) → Ordering
@@ -164,34 +165,42 @@ own-found (Some v) member = refl
 own-found None (Some v) = refl
 own-found None None = refl
 
-regrouped : (a b c d : Bool) → (a || ((b || (c || false)) || d)) ≡ (((a || b) || c) || d)
-regrouped true b c d = refl
-regrouped false true c d = refl
-regrouped false false true d = refl
-regrouped false false false d = refl
+regrouped : (a b c d e : Bool) → (a || ((b || (c || d)) || e)) ≡ ((((a || b) || c) || d) || e)
+regrouped true b c d e = refl
+regrouped false true c d e = refl
+regrouped false false true d e = refl
+regrouped false false false d e = refl
 
--- A scope that reads no closure adds its locals, its loop's name and the texts of its context value.
-pub scope-adds : (view : View) (s : Scope) (x : List ℕ) (pairs : List (Val × Val)) (before : Bool) → None ≡ s.reads →
+-- what a closure has is among the names that are read of it
+pub closure-found : (x : List ℕ) (cs : List Bindings) (r : Option ℕ) → is_some (read_closure cs r x) ≡ is_among x (names_read cs r)
+closure-found x cs None = refl
+closure-found x cs (Some n) = by (slice_get cs n)
+  where
+    by : (o : Option Bindings) → is_some (option_and_then (find_named x) o) ≡ is_among x (names_of o)
+    by None = refl
+    by (Some c) = is_some-lookup (is_at (name_cmp x)) c
+
+-- A scope adds its locals, its loop's name, the names of the closure that it reads, and the texts of its context value.
+pub scope-adds : (view : View) (s : Scope) (x : List ℕ) (pairs : List (Val × Val)) (before : Bool) →
     context_member view.records x s.context ≡ Ok (find (text x false) pairs) → IsMap pairs →
     or_else_found before (is_found (in_frames view x (s ∷ [])))
-    ≡ Ok (((before || is_among x (keys_of s.locals)) || is_some (marked_loop view.records.state s.mark x)) || has_text x pairs)
-scope-adds view s x pairs before e member m =
-    let closure : is_some (read_closure view.closures s.reads x) ≡ false = rw (sym e) refl in
-    let own : is_some (in_scope view x s)
-    ≡ (is_among x (keys_of s.locals) || (is_some (marked_loop view.records.state s.mark x) || false)) =
+    ≡ Ok ((((before || is_among x (keys_of s.locals)) || is_some (marked_loop view.records.state s.mark x))
+    || is_among x (names_read view.closures s.reads)) || has_text x pairs)
+scope-adds view s x pairs before member m =
+    let loop = is_some (marked_loop view.records.state s.mark x) in
+    let enclosed = is_among x (names_read view.closures s.reads) in
+    let own : is_some (in_scope view x s) ≡ (is_among x (keys_of s.locals) || (loop || enclosed)) =
     or-else (find_named x s.locals) (or_else (marked_loop view.records.state s.mark x) (read_closure view.closures s.reads x))
     ∙ ap (λ b. b || is_some (or_else (marked_loop view.records.state s.mark x) (read_closure view.closures s.reads x)))
     (is_some-lookup (is_at (name_cmp x)) s.locals)
     ∙ ap (λ b. is_among x (keys_of s.locals) || b) (or-else (marked_loop view.records.state s.mark x) (read_closure view.closures s.reads x)
-    ∙ ap (λ b. is_some (marked_loop view.records.state s.mark x) || b) closure) in
+    ∙ ap (λ b. loop || b) (closure-found x view.closures s.reads)) in
     let found : is_found (in_frames view x (s ∷ [])) ≡ Ok (is_some (in_scope view x s) || is_some (find (text x false) pairs)) =
     ap (λ (a : Answer (Option Val)). is_found (or_on (in_scope view x s) (λ _. or_on_answer a (λ _. Ok None)))) member
     ∙ own-found (in_scope view x s) (find (text x false) pairs) in
     ap (or_else_found before) (found ∙ ap (λ b. Ok (b || is_some (find (text x false) pairs))) own
-    ∙ ap (λ b. Ok ((is_among x (keys_of s.locals) || (is_some (marked_loop view.records.state s.mark x) || false)) || b))
-    (sym (texts-found x pairs m)))
-    ∙ ap (λ b. Ok b) (regrouped before (is_among x (keys_of s.locals)) (is_some (marked_loop view.records.state s.mark x))
-    (has_text x pairs))
+    ∙ ap (λ b. Ok ((is_among x (keys_of s.locals) || (loop || enclosed)) || b)) (sym (texts-found x pairs m)))
+    ∙ ap (λ b. Ok b) (regrouped before (is_among x (keys_of s.locals)) loop enclosed (has_text x pairs))
 
 -- ---------------------------------------------------------------- scopes, one by one
 or-true : (a : Bool) → (a || true) ≡ true
@@ -207,22 +216,23 @@ one-more None (Ok None) rest before after outer h = outer ∙ ap (λ b. Ok b) (s
 one-more None (Err chain) rest before after outer h = absurd (true≢false (ap is_ok (sym h)))
 
 -- an inner scope's names stand behind those of the outer ones
-pub scopes-more : (r : RecordData) (s : Scope) (ss : List Scope) (before after : List (List ℕ)) → AreFoundIn r ss before →
-    AddsFound r (s ∷ []) before after → AreFoundIn r (s ∷ ss) after
-scopes-more r s ss before after outer adds view e x =
+pub scopes-more : (r : RecordData) (cs : List Bindings) (s : Scope) (ss : List Scope) (before after : List (List ℕ)) →
+    AreFoundIn r cs ss before → AddsFound r cs (s ∷ []) before after → AreFoundIn r cs (s ∷ ss) after
+scopes-more r cs s ss before after outer adds view e f x =
     one-more (in_scope view x s) (context_member view.records x s.context) (in_frames view x ss) (is_among x before) (is_among x after)
-    (outer view e x) (adds view e x)
+    (outer view e f x) (adds view e f x)
 
 -- the scopes that were entered up to one
 entered : (ss : List Scope) (i : ℕ) (s : Scope) → i < length ss → s ≡ get_or ss i s → s ∷ reverse (take i ss) ≡ reverse (take (i + 1) ss)
 entered ss i s lt is = sym (reverse-append (take i ss) (s ∷ [])) ∙ ap (λ t. reverse (take i ss ++ t ∷ [])) is
     ∙ ap reverse (sym (take_more ss i s lt))
 
-pub entered-more : (r : RecordData) (ss : List Scope) (i : ℕ) (s : Scope) (before after : List (List ℕ)) → i < length ss →
-    s ≡ get_or ss i s →
-    AreFoundIn r (reverse (take i ss)) before → AddsFound r (s ∷ []) before after → AreFoundIn r (reverse (take (i + 1) ss)) after
-entered-more r ss i s before after lt is outer adds =
-    subst (λ scopes. AreFoundIn r scopes after) (entered ss i s lt is) (scopes-more r s (reverse (take i ss)) before after outer adds)
+pub entered-more : (r : RecordData) (cs : List Bindings) (ss : List Scope) (i : ℕ) (s : Scope) (before after : List (List ℕ)) →
+    i < length ss → s ≡ get_or ss i s → AreFoundIn r cs (reverse (take i ss)) before → AddsFound r cs (s ∷ []) before after →
+    AreFoundIn r cs (reverse (take (i + 1) ss)) after
+entered-more r cs ss i s before after lt is outer adds =
+    subst (λ scopes. AreFoundIn r cs scopes after) (entered ss i s lt is)
+    (scopes-more r cs s (reverse (take i ss)) before after outer adds)
 
 -- a scope over a namespace without a record is among the scopes
 pub lacks-among : (r : RecordData) (ss : List Scope) (i : ℕ) (s : Scope) → i < length ss → s ≡ get_or ss i s →
@@ -270,8 +280,9 @@ known-behind o x globals scoped global joined ordered h of_globals both same =
     ∙ ap (λ b. Ok (is_among x (texts_of scoped) || b)) (is_some-lookup (is_at (name_cmp x)) globals) ∙ ap (λ b. Ok b) (sym all)
 
 -- what is known in each view is known in this one
-pub known-in : (view : View) (frames : List Scope) (globals : Bindings) (names : List (List ℕ)) → view.frames ≡ frames →
-    view.globals ≡ globals → AreKnownIn view.records frames globals names → AreFound (find_name view) names
-known-in view frames globals names here there known x =
+pub known-in : (view : View) (closures : List Bindings) (frames : List Scope) (globals : Bindings) (names : List (List ℕ)) →
+    view.closures ≡ closures → view.frames ≡ frames → view.globals ≡ globals → AreKnownIn view.records closures frames globals names →
+    AreFound (find_name view) names
+known-in view closures frames globals names enclosed here there known x =
     ap (λ (scopes : List Scope). is_found (find_name (record view { frames = scopes }) x)) here
-    ∙ ap (λ (bindings : Bindings). is_found (find_name (record view { frames = frames; globals = bindings }) x)) there ∙ known view refl x
+    ∙ ap (λ (bindings : Bindings). is_found (find_name (record view { frames = frames; globals = bindings }) x)) there ∙ known view refl enclosed x

@@ -4,7 +4,12 @@ use Rattle.std.proofs.Common.{true, false, true≢false, cond, Option, Some, Non
 use Rattle.std.proofs.Common.{nat_eq, T, get_or, map, ◌||◌, ◌&&◌}
 use Rattle.std.proofs.lemmas.Map.Lookups.{exact_bytes}
 use Rattle.std.specs.FinMap.Entries.{is_sorted, is_sorted-put, same_entries, by_order, below_all, find-put as find_put, find as find_by}
-use Rattle.std.specs.FinMap.Entries.{put as put_by}
+use Rattle.std.specs.FinMap.Entries.{put as put_by, where_key, is_sorted-where_key, find-where_key}
+use Rattle.std.specs.List.{remove}
+use Rattle.std.specs.Prelude.{not}
+use Rattle.std.proofs.Common.{Result, Ok, Err, OnOk, OnErr, is_ok}
+use Rattle.tm_values.specs.Val.{Val}
+use Rattle.tm_tables.specs.Closures.{is_other, IsReplaced}
 use Rattle.std.proofs.lemmas.List.{append-nil, append_assoc}
 use Rattle.std.specs.BTreeMap.{is_at, insert_entry}
 use Rattle.std.specs.Cmp.Lexicographic.{bytes_decides, nat_list_cmp_total, nat_list_eq_equiv, other_text, pointwise, same_text, texts_ties}
@@ -31,7 +36,7 @@ at_itself x y e = sym (texts_ties x y) ∙ subst (λ z. pointwise nat_eq x z ≡
 pub at_same : (x y : List ℕ) → is_at (name_cmp x) y ≡ true → x ≡ y
 at_same x y e = (bytes_decides x y).0 (texts_ties x y ∙ e)
 
-is_at-hashed : (z x : List ℕ) → is_at (hashed_cmp z) x ≡ is_at (name_cmp z) x
+pub is_at-hashed : (z x : List ℕ) → is_at (hashed_cmp z) x ≡ is_at (name_cmp z) x
 is_at-hashed z x = sym (hashed_ties z x) ∙ texts_ties z x
 
 not_at : (x y : List ℕ) → y ≢ x → is_at (name_cmp x) y ≡ false
@@ -40,6 +45,10 @@ not_at x y apart = by (is_at (name_cmp x) y) refl
     by : (b : Bool) → is_at (name_cmp x) y ≡ b → b ≡ false
     by true e = absurd (apart (sym (at_same x y e)))
     by false e = refl
+
+pub either_way : (z x : List ℕ) (b : Bool) → is_at (name_cmp z) x ≡ b → is_at (name_cmp x) z ≡ b
+either_way z x true e = at_itself x z (sym (at_same z x e))
+either_way z x false e = not_at x z (λ same. true≢false (sym (at_itself z x same) ∙ e))
 
 twice : {B : Type 0} (b : Bool) (u v w : B) → cond b u w ≡ cond b u (cond b v w)
 twice true u v w = refl
@@ -163,6 +172,61 @@ module _ {A : Type 0} where
       in_order (slice_set ps n (k, a) ++ qs) ≡ put x a (in_order (ps ++ qs))
   put_at x a k ps qs n e h = in_order-with x a (ps ++ qs) (slice_set ps n (k, a) ++ qs) (replaced x a k ps qs n e h)
 
+  -- what names stand for once this one stands for nothing
+  abbrev Lacks : List ℕ → Named A → Named A → Type 0
+  Lacks x ps qs = (z : List ℕ) → find z qs ≡ cond (is_at (name_cmp z) x) None (find z ps)
+
+  by_other : (b c : Bool) (o : Option A) → c ≡ b → cond b None o ≡ cond (not c) o None
+  by_other true c o e = rw e refl
+  by_other false c o e = rw e refl
+
+  pub in_order-lacks : (x : List ℕ) (ps qs : Named A) → Lacks x ps qs → in_order qs ≡ where_key name_cmp (is_other x) (in_order ps)
+  in_order-lacks x ps qs h =
+      same_entries name_cmp nat_list_cmp_total exact_bytes (in_order qs) (where_key name_cmp (is_other x) (in_order ps)) (sorted-in_order qs)
+      (is_sorted-where_key name_cmp (is_other x) (in_order ps) (sorted-in_order ps))
+      (λ z. find-is z (in_order qs) ∙ find-in_order z qs ∙ h z
+      ∙ ap (cond (is_at (name_cmp z) x) None) (sym (find-in_order z ps) ∙ sym (find-is z (in_order ps)))
+      ∙ by_other (is_at (name_cmp z) x) (is_at (name_cmp x) z) _ (either_way z x _ refl)
+      ∙ sym (find-where_key name_cmp (is_other x) z (λ y e. ap (is_other x) (sym (exact_bytes z y e))) (in_order ps)))
+
+  abbrev or_found : Option A → Option A → Option A
+  or_found None o = o
+  or_found (Some a) o = Some a
+
+  found_one : (b : Bool) (a : A) (u v : Option A) → cond b (Some a) (or_found u v) ≡ or_found (cond b (Some a) u) v
+  found_one true a u v = refl
+  found_one false a u v = refl
+
+  find-both : (z : List ℕ) (ps qs : Named A) → find z (ps ++ qs) ≡ or_found (find z ps) (find z qs)
+  find-both z [] qs = refl
+  find-both z (p ∷ ps) qs =
+      ap (cond (is_at (name_cmp z) p.0) (Some p.1)) (find-both z ps qs) ∙ found_one (is_at (name_cmp z) p.0) p.1 (find z ps) (find z qs)
+
+  -- both parts lack a name, and have the others
+  pub both_lack : (x : List ℕ) (ps qs less fewer : Named A) → find x less ≡ None → find x fewer ≡ None →
+      ((z : List ℕ) → is_at (name_cmp z) x ≡ false → find z less ≡ find z ps) →
+      ((z : List ℕ) → is_at (name_cmp z) x ≡ false → find z fewer ≡ find z qs) →
+      in_order (less ++ fewer) ≡ where_key name_cmp (is_other x) (in_order (ps ++ qs))
+  both_lack x ps qs less fewer none no_more first others =
+      in_order-lacks x (ps ++ qs) (less ++ fewer) (λ z. find-both z less fewer ∙ by z (is_at (name_cmp z) x) refl
+      ∙ ap (cond (is_at (name_cmp z) x) None) (sym (find-both z ps qs)))
+    where
+      by : (z : List ℕ) (b : Bool) → is_at (name_cmp z) x ≡ b →
+          or_found (find z less) (find z fewer) ≡ cond b None (or_found (find z ps) (find z qs))
+      by z true e =
+          let same = at_same z x e in
+          ap (λ y. or_found (find y less) (find y fewer)) same ∙ ap (λ o. or_found o (find x fewer)) none ∙ no_more
+      by z false e = ap (λ o. or_found o (find z fewer)) (first z e) ∙ ap (or_found (find z ps)) (others z e)
+
+  -- the other names stay when a pair goes
+  pub pair_gone : (z x : List ℕ) (ps : Named A) (n : ℕ) → is_at (name_cmp z) x ≡ false → option_map (λ p. p.0) (slice_get ps n) ≡ Some x →
+      find z (remove ps n) ≡ find z ps
+  pair_gone z x [] n apart h = absurd (true≢false (sym (ap is_some h)))
+  pair_gone z x (p ∷ ps) zero apart h =
+      let same : p.0 ≡ x = ap (λ o. unwrap_or o x) h in
+      sym (ap (λ b. cond b (Some p.1) (find z ps)) (ap (is_at (name_cmp z)) same ∙ apart))
+  pair_gone z x (p ∷ ps) (suc n) apart h = ap (cond (is_at (name_cmp z) p.0) (Some p.1)) (pair_gone z x ps n apart h)
+
   -- what is found
   pub found_behind : (x : List ℕ) (ps qs : Named A) → find x ps ≡ None → find x (in_order (ps ++ qs)) ≡ find x qs
   found_behind x ps qs h = find-in_order x (ps ++ qs) ∙ by ps h
@@ -216,6 +280,20 @@ module _ {A : Type 0} where
       let next : suc n ≡ n + 1 = omega arith in
       subst (λ m. find x (take m ps) ≡ None) next
       (none_yet x ps n (get_or ps n p) before (at_place ps n p h) (not_at x (get_or ps n p).0 (other_text (get_or ps n p).0 x e)))
+
+-- ---------------------------------------------------------------- a name that is replaced
+pub none_of : {A : Type 0} (o : Option A) → is_some o ≡ false → o ≡ None
+none_of None e = refl
+none_of (Some a) e = absurd (true≢false e)
+
+pub replaced_behind : {T E : Type 0} (r : Result T E) (done : Bool) (x : List ℕ) (v : Val) (ps qs more : Named Val) → done ≡ is_ok r →
+    OnErr r (lookup (is_at (hashed_cmp x)) qs ≡ None) → is_some (lookup (is_at (hashed_cmp x)) qs) ≡ true →
+    OnOk r (more ≡ insert_entry hashed_cmp qs x v) → find x ps ≡ None →
+    IsReplaced done x v (in_order (ps ++ qs)) (in_order (ps ++ more))
+replaced_behind (Ok t) done x v ps qs more is absent there put_in none =
+    subst (λ b. IsReplaced b x v (in_order (ps ++ qs)) (in_order (ps ++ more))) (sym is)
+    (ap (λ l. in_order (ps ++ l)) put_in ∙ put_among x v ps qs none)
+replaced_behind (Err e) done x v ps qs more is absent there put_in none = absurd (true≢false (sym there ∙ ap is_some absent))
 
 -- ---------------------------------------------------------------- the names alone
 abbrev units : List (List ℕ) → Named ℕ

@@ -9,8 +9,8 @@ use Rattle.std.proofs.Common.{Bool, true, false}
 use Rattle.tm_values.specs.Answer.{OrStays}
 use Rattle.tm_values.specs.Val.{Val}
 use Rattle.tm_syntax.specs.Named.{put}
-use Rattle.tm_meaning.specs.World.{Scope, Scopes, stored_in, without_locals}
-use Rattle.tm_meaning.specs.Calls.{outermost}
+use Rattle.tm_meaning.specs.World.{Scope, Scopes, stored_in, with_own, without_locals}
+use Rattle.tm_meaning.specs.Calls.{outermost, root_context}
 use Rattle.tm_tables.specs.Scopes.{exported_by, exported_of}
 
 exported-behind : (s : Scope) (ss : List Scope) → exported_of (ss ++ s ∷ []) ≡ exported_by s
@@ -26,6 +26,16 @@ exported-first s (t ∷ ss) h =
 pub exported-none : (ss : List Scope) → None ≡ slice_get ss 0 → exported_of (reverse ss) ≡ []
 exported-none [] h = refl
 exported-none (t ∷ ss) h = absurd (true≢false (ap is_some (sym h)))
+
+root-behind : (s : Scope) (ss : List Scope) → root_context (ss ++ s ∷ []) ≡ s.context
+root-behind s [] = refl
+root-behind s (t ∷ []) = refl
+root-behind s (t ∷ u ∷ ss) = root-behind s (u ∷ ss)
+
+pub root-first : (s : Scope) (ss : List Scope) → Some s ≡ slice_get ss 0 → root_context (reverse ss) ≡ s.context
+root-first s [] h = absurd (true≢false (ap is_some h))
+root-first s (t ∷ ss) h =
+    ap root_context (reverse_onto ss t []) ∙ root-behind t (reverse ss) ∙ ap (λ o. (unwrap_or o s).context) (sym h)
 
 -- ---------------------------------------------------------------- the innermost scope is the last to be entered
 stored-before : (x : List ℕ) (v : Val) (ss ts : List Scope) → 0 < length ss → stored_in x v ss ++ ts ≡ stored_in x v (ss ++ ts)
@@ -74,6 +84,22 @@ cleared-last (t ∷ u ∷ ss) (suc n) s h e =
     let more : length (u ∷ ss) ≡ suc n = omega (arith, h) in
     reverse_onto (slice_set (u ∷ ss) n (record s { locals = [] })) t [] ∙ ap (λ l. l ++ t ∷ []) (cleared-last (u ∷ ss) n s more e)
     ∙ cleared-before (reverse (u ∷ ss)) (t ∷ []) (reverse-long (u ∷ ss) n more) ∙ ap without_locals (sym (reverse_onto (u ∷ ss) t []))
+
+owned-before : (k : ℕ) (ss ts : List Scope) → 0 < length ss → with_own k ss ++ ts ≡ with_own k (ss ++ ts)
+owned-before k [] ts h = absurd (omega (arith, h))
+owned-before k (s ∷ ss) ts h = refl
+
+pub owned-last : (k : ℕ) (ss : List Scope) (n : ℕ) (s : Scope) → length ss ≡ suc n → s ≡ get_or ss n s →
+    reverse (slice_set ss n (record s { own_closure = Some k })) ≡ with_own k (reverse ss)
+owned-last k [] n s h e = absurd (omega (arith, h))
+owned-last k (t ∷ []) zero s h e = ap (λ (u : Scope). record u { own_closure = Some k } ∷ []) e
+owned-last k (t ∷ []) (suc n) s h e = absurd (omega (arith, h))
+owned-last k (t ∷ u ∷ ss) zero s h e = absurd (omega (arith, h))
+owned-last k (t ∷ u ∷ ss) (suc n) s h e =
+    let more : length (u ∷ ss) ≡ suc n = omega (arith, h) in
+    reverse_onto (slice_set (u ∷ ss) n (record s { own_closure = Some k })) t []
+    ∙ ap (λ l. l ++ t ∷ []) (owned-last k (u ∷ ss) n s more e)
+    ∙ owned-before k (reverse (u ∷ ss)) (t ∷ []) (reverse-long (u ∷ ss) n more) ∙ ap (with_own k) (sym (reverse_onto (u ∷ ss) t []))
 
 -- ---------------------------------------------------------------- the outermost scopes are the first to be entered
 pub outermost_of : (n : ℕ) (ss : List Scope) → outermost n (reverse ss) ≡ reverse (take n ss)

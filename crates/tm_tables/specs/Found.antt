@@ -5,9 +5,9 @@ use Rattle.tm_values.specs.Answer.{Answer}
 use Rattle.tm_values.specs.Records.{RecordData}
 use Rattle.tm_values.specs.Val.{Val, loop}
 use Rattle.tm_values.specs.declared.error.ErrorKind.{ErrorKind}
-use Rattle.tm_meaning.specs.World.{Scope, View, in_frames}
-use Rattle.tm_tables.specs.declared.context.Found.{Found}
-use Rattle.tm_tables.specs.declared.context.Found.TheVariants.{Value, Loop}
+use Rattle.tm_meaning.specs.World.{Bindings, Scope, View, in_frames}
+use Rattle.tm_tables.specs.declared.frame.Found.{Found}
+use Rattle.tm_tables.specs.declared.frame.Found.TheVariants.{Value, Loop}
 
 -- What is lent is what was stated: a value, none, or the chain of an error.
 abbrev pub IsHeld : Result (Option (Bor Val)) (List ErrorKind) → Answer (Option Val) → Type 0
@@ -26,6 +26,7 @@ IsFound id (Ok None) stated = stated ≡ Ok None
 IsFound id (Ok (Some found)) stated = stated ≡ Ok (Some (meant_by id found))
 IsFound id (Err chain) stated = stated ≡ Err chain
 
--- What is found is what the scopes have at a name, in each view of these records.
-abbrev pub IsFoundIn : RecordData → List ℕ → List Scope → Result (Option Found) (List ErrorKind) → Type 0
-IsFoundIn records x scopes result = (view : View) → view.records ≡ records → IsFound records.state result (in_frames view x scopes)
+-- What is found is what the scopes have at a name, in each view of these records and closures.
+abbrev pub IsFoundIn : RecordData → List Bindings → List ℕ → List Scope → Result (Option Found) (List ErrorKind) → Type 0
+IsFoundIn records closures x scopes result =
+    (view : View) → view.records ≡ records → view.closures ≡ closures → IsFound records.state result (in_frames view x scopes)

@@ -26,13 +26,14 @@ is_found (Err chain) = Err chain
 abbrev pub AreFound : (List ℕ → Answer (Option Val)) → List (List ℕ) → Type 0
 AreFound looked_up names = (x : List ℕ) → is_found (looked_up x) ≡ Ok (is_among x names)
 
--- The same of the scopes, in each view of these records.
-abbrev pub AreFoundIn : RecordData → List Scope → List (List ℕ) → Type 0
-AreFoundIn records scopes names = (view : View) → view.records ≡ records → AreFound (λ x. in_frames view x scopes) names
+-- The same of the scopes, in each view of these records and closures.
+abbrev pub AreFoundIn : RecordData → List Bindings → List Scope → List (List ℕ) → Type 0
+AreFoundIn records closures scopes names =
+    (view : View) → view.records ≡ records → view.closures ≡ closures → AreFound (λ x. in_frames view x scopes) names
 
 -- The same of the scopes, and of the globals behind them.
-abbrev pub AreKnownIn : RecordData → List Scope → Bindings → List (List ℕ) → Type 0
-AreKnownIn records scopes globals names = (view : View) → view.records ≡ records →
+abbrev pub AreKnownIn : RecordData → List Bindings → List Scope → Bindings → List (List ℕ) → Type 0
+AreKnownIn records closures scopes globals names = (view : View) → view.records ≡ records → view.closures ≡ closures →
     AreFound (find_name (record view { frames = scopes; globals = globals })) names
 
 -- whether a name was there before, or a look-up finds it
@@ -40,10 +41,10 @@ abbrev pub or_else_found : Bool → Answer Bool → Answer Bool
 or_else_found before (Ok found) = Ok (before || found)
 or_else_found before (Err chain) = Err chain
 
--- Behind names stand those that a look-up in the scopes finds, in each view of these records.
-abbrev pub AddsFound : RecordData → List Scope → List (List ℕ) → List (List ℕ) → Type 0
-AddsFound records scopes before after =
-    (view : View) → view.records ≡ records → (x : List ℕ) →
+-- Behind names stand those that a look-up in the scopes finds, in each view of these records and closures.
+abbrev pub AddsFound : RecordData → List Bindings → List Scope → List (List ℕ) → List (List ℕ) → Type 0
+AddsFound records closures scopes before after =
+    (view : View) → view.records ≡ records → view.closures ≡ closures → (x : List ℕ) →
     or_else_found (is_among x before) (is_found (in_frames view x scopes)) ≡ Ok (is_among x after)
 
 -- Pairs in the order of their keys, in which a look-up finds what a context value has at each name.

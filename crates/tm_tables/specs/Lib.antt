@@ -1,3 +1,4 @@
+pub mod Closures
 pub mod Found
 pub mod Known
 pub mod Language

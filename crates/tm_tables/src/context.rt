@@ -1,246 +1,25 @@
 //! Scopes.
 ghost use Rattle.std.specs.List.Sorted.{IsStrictlySortedBy};
-ghost use Rattle.std.specs.Prelude.{ℕ, option_map, ◌≡◌, ◌<◌, ◌^◌, ◌-◌, ◌||◌, [], ◌∷◌, true, false, length, min, nat_lt};
+ghost use Rattle.std.specs.Prelude.{◌≡◌, ◌<◌, ◌^◌, ◌-◌, [], ◌∷◌, true, false, length, min, nat_lt};
 ghost use Rattle.std.specs.Prelude.{Ok, OnErr, OnOk, IfErr, IfOk, IfSome, MatchOption, Some};
-ghost use Rattle.tm_syntax.specs.Named.{name_cmp, put, texts_of};
+ghost use Rattle.tm_syntax.specs.Named.{name_cmp, texts_of};
 ghost use Rattle.tm_values.specs.Answer.{OkOrOutOfMemory, OrStays};
-ghost use Rattle.tm_values.specs.Val.{loop};
 ghost use Rattle.tm_values.specs.declared.error.ErrorKind.TheVariants.{OutOfMemory};
-ghost use Rattle.tm_meaning.specs.World.{plain_scope, loop_scope, marked_loop, depth, context_member, innermost, stored_in};
-ghost use Rattle.tm_meaning.specs.World.{View, in_frames, top_mark, without_first, without_locals};
-ghost use Rattle.tm_meaning.specs.Calls.{outermost};
-ghost use Rattle.tm_tables.specs.Found.{IsHeld, IsFoundIn, meant_by};
-ghost use Rattle.tm_tables.specs.Known.{AddsFound, AreFoundIn, AreKnownIn, AreMembers, NamingFails, has_text, is_among};
-ghost use Rattle.tm_tables.specs.Scopes.{one_scope, PushFails, is_exported, exported_by, exported_of};
+ghost use Rattle.tm_meaning.specs.World.{View, plain_scope, depth, in_frames, innermost, own_closure, put_at, stored_in, top_mark};
+ghost use Rattle.tm_meaning.specs.World.{with_own, without_first, without_locals};
+ghost use Rattle.tm_meaning.specs.Calls.{outermost, root_context};
+ghost use Rattle.tm_tables.specs.Found.{IsFoundIn};
+ghost use Rattle.tm_tables.specs.Known.{AreFoundIn, AreKnownIn, NamingFails};
+ghost use Rattle.tm_tables.specs.Scopes.{one_scope, PushFails, exported_of};
 
-use crate::locals::{Locals, in_order};
-use std::alloc::{AllocError, Global};
+use crate::closures::Closures;
+use crate::frame::{Found, Frame};
+use crate::locals::in_order;
+use std::alloc::Global;
 use std::marker::Model;
 use tm_meaning::LoopMark;
 use tm_syntax::{Name, NameMap};
-use tm_values::{Error, ErrorKind, Node, Records, Value, find_namespace};
-
-/// Whether a name is exported: it doesn't begin with `_`.
-fn is_exported(name: &str) -> bool
-    ensures { result ≡ is_exported name.now }
-{
-    match name.as_bytes().first() {
-        Some(b'_') => false,
-        _ => true,
-    }
-}
-
-/// What a name stands for in scopes.
-#[derive(Drop)]
-pub enum Found<'a> {
-    /// A value that is held there.
-    Value(&'a Value),
-    /// A scope's loop, by the number of its record.
-    Loop(usize),
-}
-
-impl Found<'_> {
-    /// The value, in the state of an id. Fails by OutOfMemory alone.
-    pub fn value(&self, state: u64) -> Result<Value, Error>
-        ensures { OkOrOutOfMemory result (λ v. v ≡ meant_by state self.now) }
-    {
-        match self {
-            Found::Value(value) => value.share(),
-            Found::Loop(number) => Ok(Value::loop_record(state, *number)),
-        }
-    }
-}
-
-/// A scope: its own names, the value whose keys are names too, and its loop.
-#[derive(Drop)]
-pub struct Frame {
-    locals: Locals,
-    context: Value,
-    mark: Option<LoopMark>,
-}
-
-impl Model for Frame {
-    ghost use Rattle.std.specs.Coded.{codes};
-    ghost use Rattle.tm_meaning.specs.World.{Scope, plain_scope};
-    ghost use Rattle.tm_values.specs.Code.{coded_Val};
-
-    ghost Value = { Scope };
-
-    ghost coded = { Prim.hlevel (codes, coded_Val) };
-
-    ghost view = { λ f. record (plain_scope f.context) { locals = f.locals; mark = f.mark } };
-}
-
-impl Frame {
-    /// A scope over a context value, without names of its own.
-    pub fn new(alloc: Global, context: Value) -> Frame
-        ensures { result ≡ plain_scope context }
-    {
-        Frame {
-            locals: Locals::new(alloc),
-            context,
-            mark: None,
-        }
-    }
-
-    /// A loop's scope, without names of its own.
-    pub fn of_loop(alloc: Global, mark: LoopMark) -> Frame
-        ensures { result ≡ loop_scope mark }
-    {
-        Frame {
-            locals: Locals::new(alloc),
-            context: Value::undefined(),
-            mark: Some(mark),
-        }
-    }
-
-    /// Whether its loop has a name here, and then the loop's number.
-    fn named_loop(&self, name: &str) -> Option<usize>
-        ensures { (id : ℕ) →
-            option_map (λ n. loop id n) result ≡ marked_loop id self.now.mark name.now }
-    {
-        let mark = self.mark?;
-        if mark.variable && name == "loop" {
-            Some(mark.number)
-        } else {
-            None
-        }
-    }
-
-    /// What a name stands for: its own, its loop, or what the context value has there. InvalidOperation where
-    /// it is neither of the first and the context value is a namespace whose record isn't there.
-    pub fn get<'a, R: Records>(
-        &'a self,
-        name: &Name,
-        records: &'a R,
-    ) -> Result<Option<Found<'a>>, Error>
-        ensures { IsFoundIn (R.records records.now) name.now (self.now ∷ []) result }
-    {
-        if let Some(own) = self.locals.get(name) {
-            return Ok(Some(Found::Value(own)));
-        }
-        if let Some(number) = self.named_loop(name.as_str()) {
-            return Ok(Some(Found::Loop(number)));
-        }
-        match self.context_member(name.as_str(), records)? {
-            Some(member) => Ok(Some(Found::Value(member))),
-            None => Ok(None),
-        }
-    }
-
-    /// What the context value has at a name. InvalidOperation where it is a namespace whose record isn't there.
-    fn context_member<'a, R: Records>(
-        &'a self,
-        name: &str,
-        records: &'a R,
-    ) -> Result<Option<&'a Value>, Error>
-        ensures { IsHeld result (context_member (R.records records.now) name.now self.now.context) }
-    {
-        match &self.context.node {
-            Node::Namespace(state, index) => match find_namespace(records, *state, *index) {
-                Some(pairs) => Ok(pairs.member(name)),
-                None => Err(Error::from(ErrorKind::InvalidOperation)),
-            },
-            _ => Ok(self.context.member(name)),
-        }
-    }
-
-    /// Has a name from here on. OutOfMemory, and then it stays as it was.
-    fn store(&mut self, name: Name, value: Value) -> Result<(), Error>
-        ensures ok { OnOk result
-            (self.new ≡ record self.old { locals = put name value self.old.locals }) }
-        ensures kind { IfErr result (λ e. e ≡ OutOfMemory ∷ []) }
-        ensures err { OnErr result (self.new ≡ self.old) }
-    {
-        self.locals.insert(name, value)?;
-        Ok(())
-    }
-
-    /// Has a name for a second owner of a value, where there is room. Else it stays as it was, and the answer is
-    /// false.
-    #[inline(always)]
-    fn store_at_once(&mut self, name: &Name, value: &Value) -> bool
-        ensures { OrStays result self.old self.new
-            (self.new ≡ record self.old { locals = put name.now value.now self.old.locals }) }
-    {
-        self.locals.insert_at_once(name, value)
-    }
-
-    /// Loses its names.
-    #[inline(always)]
-    fn clear(&mut self)
-        ensures { self.new ≡ record self.old { locals = [] } }
-    {
-        self.locals.clear();
-    }
-
-    /// The names that it exports, in their order: its own that don't begin with `_`. OutOfMemory.
-    fn exports(&self, alloc: Global) -> Result<Vec<&str>, Error>
-        ensures { OkOrOutOfMemory result (λ names. texts_of names.items ≡ exported_by self.now) }
-    {
-        let mut exported = Vec::new(alloc);
-        for name in self.locals.names(alloc)? {
-            if is_exported(name) {
-                exported.push(name)?;
-            }
-        }
-        Ok(exported)
-    }
-
-    /// Adds the names that stand for something here: its own, its loop's, and the texts among the keys of its
-    /// context value. InvalidOperation where that is a namespace whose record isn't there; OutOfMemory.
-    fn add_names<'a, R: Records>(
-        &'a self,
-        alloc: Global,
-        records: &'a R,
-        names: &mut Vec<&'a str>,
-    ) -> Result<(), Error>
-        ensures ok { OnOk result (AddsFound (R.records records.now) (self.now ∷ [])
-            (texts_of names.old.items) (texts_of names.new.items)) }
-        ensures err { IfErr result (NamingFails (R.records records.now) (self.now ∷ [])) }
-    {
-        let pairs = self.context_pairs(records)?;
-        let mut own = self.locals.names(alloc)?;
-        names.append(&mut own)?;
-        if self.named_loop("loop").is_some() {
-            names.push("loop")?;
-        }
-        add_texts(pairs, names)?;
-        Ok(())
-    }
-
-    /// The pairs of the context value, where it has such. InvalidOperation where it is a namespace whose record isn't there.
-    fn context_pairs<'a, R: Records>(
-        &'a self,
-        records: &'a R,
-    ) -> Result<&'a [(Value, Value)], Error>
-        ensures members { IfOk result (AreMembers (R.records records.now) self.now.context) }
-        ensures err { IfErr result (NamingFails (R.records records.now) (self.now ∷ [])) }
-    {
-        match &self.context.node {
-            Node::Namespace(state, index) => {
-                let Some(map) = find_namespace(records, *state, *index) else {
-                    return Err(Error::from(ErrorKind::InvalidOperation));
-                };
-                Ok(map.pairs())
-            }
-            _ => Ok(self.context.pairs()),
-        }
-    }
-}
-
-/// Adds the texts among the keys of a map. AllocError for want of memory.
-fn add_texts<'a>(pairs: &'a [(Value, Value)], names: &mut Vec<&'a str>) -> Result<(), AllocError>
-    ensures { OnOk result ((x : _) → is_among x (texts_of names.new.items)
-        ≡ (is_among x (texts_of names.old.items) || has_text x pairs.now)) }
-{
-    for pair in pairs {
-        if let Some(name) = pair.0.as_str() {
-            names.push(name)?;
-        }
-    }
-    Ok(())
-}
+use tm_values::{Error, ErrorKind, Records, Value};
 
 /// The scopes of a state. A contract sees them innermost first.
 #[derive(Drop)]
@@ -280,6 +59,25 @@ impl Context {
         let mut frames = Vec::new(alloc);
         frames.push(frame)?;
         Ok(Context { frames, outer: 0 })
+    }
+
+    /// Two scopes, whose depth isn't tested: one over a context value, and another over it; they stand at a depth. Fails
+    /// by OutOfMemory alone.
+    pub fn of_macro(
+        alloc: Global,
+        root: Value,
+        frame: Frame,
+        outer: usize,
+    ) -> Result<Context, Error>
+        ensures { OkOrOutOfMemory result (λ c. c ≡ record {
+          frames = frame ∷ plain_scope root ∷ [];
+          outer = outer;
+        }) }
+    {
+        let mut frames = Vec::with_capacity(alloc, 2)?;
+        frames.push(Frame::new(alloc, root))?;
+        frames.push(frame)?;
+        Ok(Context { frames, outer })
     }
 
     /// The allocator of the scopes.
@@ -329,15 +127,17 @@ impl Context {
     pub fn find<'a, R: Records>(
         &'a self,
         name: &Name,
+        closures: &'a Closures,
         records: &'a R,
     ) -> Result<Option<Found<'a>>, Error>
-        ensures { IsFoundIn (R.records records.now) name.now self.now.frames result }
+        ensures { IsFoundIn (R.records records.now) closures.now name.now
+            self.now.frames result }
     {
         let mut i = self.frames.len();
         while i > 0 {
             i -= 1;
             let frame = &self.frames[i];
-            match frame.get(name, records) {
+            match frame.get(name, closures, records) {
                 Ok(None) => {}
                 found => return found,
             }
@@ -350,16 +150,17 @@ impl Context {
     pub fn known_names<'a, R: Records>(
         &'a self,
         alloc: Global,
+        closures: &'a Closures,
         records: &'a R,
         globals: &'a NameMap<Value>,
     ) -> Result<Vec<&'a str>, Error>
         ensures order { IfOk result
             (λ names. IsStrictlySortedBy name_cmp (texts_of names.items)) }
-        ensures known { IfOk result (λ names. AreKnownIn (R.records records.now)
+        ensures known { IfOk result (λ names. AreKnownIn (R.records records.now) closures.now
             self.now.frames globals.now (texts_of names.items)) }
         ensures err { IfErr result (NamingFails (R.records records.now) self.now.frames) }
     {
-        let mut names = self.names(alloc, records)?;
+        let mut names = self.names(alloc, closures, records)?;
         let mut global = globals.names(alloc)?;
         names.append(&mut global)?;
         Ok(in_order(names))
@@ -367,14 +168,19 @@ impl Context {
 
     /// The names that stand for something in the scopes. InvalidOperation where a context value is a
     /// namespace whose record isn't there; OutOfMemory.
-    fn names<'a, R: Records>(&'a self, alloc: Global, records: &'a R) -> Result<Vec<&'a str>, Error>
-        ensures found { IfOk result (λ names. AreFoundIn (R.records records.now)
+    fn names<'a, R: Records>(
+        &'a self,
+        alloc: Global,
+        closures: &'a Closures,
+        records: &'a R,
+    ) -> Result<Vec<&'a str>, Error>
+        ensures found { IfOk result (λ names. AreFoundIn (R.records records.now) closures.now
             self.now.frames (texts_of names.items)) }
         ensures err { IfErr result (NamingFails (R.records records.now) self.now.frames) }
     {
         let mut names = Vec::new(alloc);
         for frame in &self.frames {
-            frame.add_names(alloc, records, &mut names)?;
+            frame.add_names(alloc, closures, records, &mut names)?;
         }
         Ok(names)
     }
@@ -418,6 +224,39 @@ impl Context {
         }
     }
 
+    /// Lets the innermost scope, where there is one, and the closure of a number have a name from here on. Fails by
+    /// OutOfMemory alone, and then all stays as it was.
+    pub fn store_enclosed(
+        &mut self,
+        closures: &mut Closures,
+        number: usize,
+        name: &Name,
+        value: Value,
+    ) -> Result<(), Error>
+        ensures ok { OnOk result
+            (self.new ≡ record self.old { frames = stored_in name.now value self.old.frames }) }
+        ensures enclosed { OnOk result
+            (closures.new ≡ put_at number name.now value closures.old) }
+        ensures kind { IfErr result (λ e. e ≡ OutOfMemory ∷ []) }
+        ensures err { OnErr result (self.new ≡ self.old) }
+        ensures unchanged { OnErr result (closures.new ≡ closures.old) }
+    {
+        let own = name.share()?;
+        let kept = name.share()?;
+        let second = value.share()?;
+        if closures.get(Some(number), name).is_some() {
+            self.store(own, value)?;
+            let _replaced = closures.replace(number, kept, second);
+            return Ok(());
+        }
+        closures.put(number, kept, second)?;
+        let stored = self.store(own, value);
+        if stored.is_err() {
+            closures.remove(number, name);
+        }
+        stored
+    }
+
     /// The innermost scope's own value of a name, where it has one.
     #[inline(always)]
     pub fn local(&self, name: &Name) -> Option<&Value>
@@ -437,6 +276,33 @@ impl Context {
         match self.frames.len().checked_sub(1) {
             Some(innermost) => self.frames[innermost].store_at_once(name, value),
             None => true,
+        }
+    }
+
+    /// The number of the closure that was made in the innermost scope, where one was.
+    #[inline(always)]
+    pub fn own_closure(&self) -> Option<usize>
+        ensures { result ≡ own_closure self.now.frames }
+    {
+        self.frames.last()?.own_closure
+    }
+
+    /// Lets the innermost scope, where there is one, have the closure of a number as its own.
+    pub fn set_own_closure(&mut self, number: usize)
+        ensures { self.new ≡ record self.old { frames = with_own number self.old.frames } }
+    {
+        if let Some(innermost) = self.frames.len().checked_sub(1) {
+            self.frames[innermost].own(number);
+        }
+    }
+
+    /// The context value of the outermost scope; undefined where there is no scope. Fails by OutOfMemory alone.
+    pub fn root_context(&self) -> Result<Value, Error>
+        ensures { OkOrOutOfMemory result (λ v. v ≡ root_context self.now.frames) }
+    {
+        match self.frames.first() {
+            Some(outermost) => outermost.context.share(),
+            None => Ok(Value::undefined()),
         }
     }
 

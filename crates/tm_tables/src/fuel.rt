@@ -45,7 +45,9 @@ fn charge(instruction: &Instruction) -> u64
         | Instruction::PopLoopFrame
         | Instruction::BeginCapture(_)
         | Instruction::PushAutoEscape
-        | Instruction::PopAutoEscape => 0,
+        | Instruction::PopAutoEscape
+        | Instruction::BuildMacro(_, _, _)
+        | Instruction::Return => 0,
         Instruction::EmitRaw(_)
         | Instruction::Emit
         | Instruction::Lookup(_)
@@ -77,6 +79,7 @@ fn charge(instruction: &Instruction) -> u64
         | Instruction::Pow
         | Instruction::Neg
         | Instruction::Not
+        | Instruction::IsUndefined
         | Instruction::Swap
         | Instruction::Jump(_)
         | Instruction::JumpIfFalse(_)
@@ -89,6 +92,8 @@ fn charge(instruction: &Instruction) -> u64
         | Instruction::PerformTest(_, _, _)
         | Instruction::CallBlock(_)
         | Instruction::StoreLocal(_)
+        | Instruction::Enclose(_)
+        | Instruction::GetClosure
         | Instruction::UnpackList(_)
         | Instruction::SetAttr(_)
         | Instruction::Iterate(_)

@@ -2,10 +2,12 @@
 #![tactic(auto)]
 
 mod callable;
+mod closures;
 mod context;
 mod escape_rule;
 mod fallback;
 mod formatter;
+mod frame;
 mod fuel;
 mod host;
 mod language;
@@ -17,10 +19,12 @@ mod plain;
 mod view;
 
 pub use callable::{Callable, CallableAnswer, Called};
-pub use context::{Context, Found, Frame};
+pub use closures::Closures;
+pub use context::Context;
 pub use escape_rule::EscapeRule;
 pub use fallback::MethodFallback;
 pub use formatter::Formatter;
+pub use frame::{Found, Frame};
 pub use fuel::{Exhausted, FuelTracker};
 pub use host::Host;
 pub use language::language_globals;

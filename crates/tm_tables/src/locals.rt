@@ -1,8 +1,10 @@
 //! A scope's own names.
 ghost use Rattle.std.specs.List.Sorted.{IsStrictlySortedBy};
 ghost use Rattle.std.specs.Map.{keys_of};
-ghost use Rattle.std.specs.Prelude.{◌≡◌, [], IfOk, OnErr, OnOk, MatchOption, None, Some};
+ghost use Rattle.std.specs.Prelude.{◌≡◌, [], IfOk, OnErr, OnOk, MatchOption, None, Some, false};
 ghost use Rattle.tm_syntax.specs.Named.{find, name_cmp, put, texts_of};
+ghost use Rattle.std.specs.BTreeMap.{is_at};
+ghost use Rattle.tm_tables.specs.Closures.{IsReplaced, others_than};
 ghost use Rattle.tm_tables.specs.Known.{is_among};
 ghost use Rattle.tm_tables.specs.Locals.{IsPlace};
 ghost use Rattle.tm_values.specs.Answer.{OrStays};
@@ -41,6 +43,17 @@ fn place_of(pairs: &[(Name, Value)], name: &Name) -> Option<usize>
         place += 1;
     }
     None
+}
+
+/// Drops the pairs with a name.
+fn forget(pairs: &mut Vec<(Name, Value)>, name: &Name)
+    ensures gone { find name.now pairs.new.items ≡ None }
+    ensures others { (x : _) → is_at (name_cmp x) name.now ≡ false →
+        find x pairs.new.items ≡ find x pairs.old.items }
+{
+    while let Some(place) = place_of(pairs, name) {
+        let _pair = pairs.remove(place);
+    }
 }
 
 /// Names with what they stand for, found by the hashes of the names first. The room of the first ones stays
@@ -102,6 +115,32 @@ impl Locals {
             }
         }
         Ok(())
+    }
+
+    /// Lets a name that stands for something stand for this. Else all stays as it was, and the answer is false.
+    pub(crate) fn replace(&mut self, name: Name, value: Value) -> bool
+        ensures { IsReplaced result name value self.old self.new }
+    {
+        match place_of(&self.first, &name) {
+            Some(place) => {
+                self.first[place].1 = value;
+                true
+            }
+            None => {
+                if !self.others.contains_key(&name) {
+                    return false;
+                }
+                self.others.insert(name, value).is_ok()
+            }
+        }
+    }
+
+    /// A name stands for nothing from here on.
+    pub(crate) fn remove(&mut self, name: &Name)
+        ensures { self.new ≡ others_than name.now self.old }
+    {
+        forget(&mut self.first, name);
+        let _value = self.others.remove(name);
     }
 
     /// Lets a name stand for a second owner of a value, where there is room among the first. Else all stays as it

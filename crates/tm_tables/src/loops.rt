@@ -3,8 +3,8 @@ ghost use Rattle.std.specs.Prelude.{◌≡◌, ◌∷◌, ◌&&◌, [], None, So
 ghost use Rattle.std.specs.Prelude.{nat_eq, option_and_then, option_map, slice_get};
 ghost use Rattle.tm_values.specs.Answer.{IsLent, OkOrOutOfMemory};
 ghost use Rattle.tm_values.specs.Position.{position_of};
-ghost use Rattle.tm_meaning.specs.World.{turned, loop_data, depth_inside, place_of};
-ghost use Rattle.tm_meaning.specs.Calls.{is_changed, keeping, cycled, same_stream};
+ghost use Rattle.tm_meaning.specs.World.{turned, loop_data, depth_inside, place_of, same_stream};
+ghost use Rattle.tm_meaning.specs.Calls.{is_changed, keeping, cycled};
 
 use std::alloc::Global;
 use std::marker::Model;

@@ -1,10 +1,11 @@
 //! What an object of the caller sees of a state.
-ghost use Rattle.std.specs.Prelude.{◌≡◌, [], ◌∷◌};
+ghost use Rattle.std.specs.Prelude.{◌≡◌};
 ghost use Rattle.tm_syntax.specs.Named.{find};
 ghost use Rattle.tm_values.specs.Answer.{IsAnswer, IsLent};
 ghost use Rattle.tm_meaning.specs.World.{find_name};
 ghost use Rattle.tm_tables.specs.Views.{records_with};
 
+use crate::closures::Closures;
 use crate::context::Context;
 use crate::loops::{LoopState, following_at, position_at, previous_at};
 use std::marker::Model;
@@ -16,6 +17,7 @@ use tm_values::{AutoEscape, Error, LoopPosition, Records, UndefinedBehavior, Val
 pub struct View<'a> {
     id: u64,
     context: &'a Context,
+    closures: &'a Closures,
     namespaces: &'a [ValueMap],
     loops: &'a [LoopState],
     globals: &'a NameMap<Value>,
@@ -26,7 +28,6 @@ pub struct View<'a> {
 }
 
 impl<'a> Model for View<'a> {
-    ghost use Rattle.std.specs.Prelude.{[]};
     ghost use Rattle.std.specs.Coded.{codes};
     ghost use Rattle.tm_meaning.specs.World.{View as Seen};
     ghost use Rattle.tm_values.specs.Code.{coded_Val};
@@ -39,7 +40,7 @@ impl<'a> Model for View<'a> {
     ghost view = { λ v. record {
       id = v.id;
       frames = v.context.now.frames;
-      closures = [];
+      closures = v.closures.now;
       records = records_with v.id v.namespaces.now v.loops.now;
       globals = v.globals.now;
       temps = v.temps.now;
@@ -50,11 +51,12 @@ impl<'a> Model for View<'a> {
 }
 
 impl<'a> View<'a> {
-    /// A view of a state's id, scopes, namespaces and loops, the environment's globals, the kept values, the
+    /// A view of a state's id, scopes, closures, namespaces and loops, the environment's globals, the kept values, the
     /// name of the template that runs, and how it is written.
     pub fn new(
         id: u64,
         context: &'a Context,
+        closures: &'a Closures,
         namespaces: &'a [ValueMap],
         loops: &'a [LoopState],
         globals: &'a NameMap<Value>,
@@ -66,7 +68,7 @@ impl<'a> View<'a> {
         ensures { result ≡ record {
           id = id;
           frames = context.entry.now.frames;
-          closures = [];
+          closures = closures.entry.now;
           records = records_with id namespaces.entry.now loops.entry.now;
           globals = globals.entry.now;
           temps = temps.entry.now;
@@ -78,6 +80,7 @@ impl<'a> View<'a> {
         View {
             id,
             context,
+            closures,
             namespaces,
             loops,
             globals,
@@ -94,7 +97,7 @@ impl<'a> View<'a> {
         ensures { IsAnswer result (find_name self.now name.now) }
     {
         let hashed = Name::new(self.context.allocator(), name)?;
-        match self.context.find(&hashed, self)? {
+        match self.context.find(&hashed, self.closures, self)? {
             Some(found) => Ok(Some(found.value(self.id)?)),
             None => match self.globals.get(name) {
                 Some(global) => Ok(Some(global.share()?)),

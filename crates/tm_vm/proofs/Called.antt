@@ -7,20 +7,23 @@ use Rattle.tm_values.specs.declared.error.ErrorKind.{ErrorKind}
 use Rattle.std.proofs.lemmas.List.{length-drop}
 use Rattle.std.specs.Result.{IsErr, IsErrAnd}
 use Rattle.tm_meaning.specs.Memory.{is_want_of_memory}
-use Rattle.tm_meaning.specs.World.{World, Scope}
+use Rattle.tm_meaning.specs.World.{World, Scope, Scopes}
 use Rattle.tm_syntax.specs.declared.instruction.LoopPlace.{LoopPlace}
-use Rattle.tm_meaning.specs.Calls.{Asked, has, refused, runs, recurs, outermost, whole}
-use Rattle.tm_meaning.specs.Machine.{Capture, Config, Next, Nest, Over, Failed, Program, asked, base_of, goes, new_capture, on_taken, place_of_loop}
-use Rattle.tm_meaning.specs.Machine.{recursion, start, take_n, taken, waiting}
+use Rattle.tm_meaning.specs.Calls.{Asked, has, refused, runs, recurs, outermost}
+use Rattle.tm_meaning.specs.Machine.{Capture, Config, Next, Over, Failed, Program, asked, first_run, goes, nested, new_capture, on_taken}
+use Rattle.tm_meaning.specs.Machine.{place_of_loop, recursion, take_n, taken, waiting}
 use Rattle.tm_parts.specs.declared.halt.Halt.{Halt}
 use Rattle.tm_parts.specs.declared.halt.Halt.TheVariants as halt
 use Rattle.tm_state.specs.declared.calls.CallResult.{CallResult}
 use Rattle.tm_state.specs.declared.calls.CallResult.TheVariants as outcome
 use Rattle.tm_state.specs.declared.calls.Recursion.{Recursion}
 use Rattle.tm_state.specs.declared.saved.Saved.{Saved}
+use Rattle.tm_state.specs.declared.saved.Saved.TheVariants as saved
+use Rattle.tm_state.specs.declared.saved.SavedBlock.{SavedBlock}
+use Rattle.tm_state.specs.declared.saved.SavedMacro.{SavedMacro}
 use Rattle.tm_state.specs.declared.nested.NestedRun.{NestedRun}
-use Rattle.tm_state.specs.Answers.{Becomes, KeepsIdAndFuel, Leaves, NeedsRun, OneDeeper, SameScopes, StaysInPlace, call_of}
-use Rattle.tm_state.specs.State.{put_back, saved_of}
+use Rattle.tm_state.specs.Answers.{Becomes, IsBefore, KeepsFixed, Leaves, NeedsRun, OneDeeper, SameScopes, StaysInPlace, call_of}
+use Rattle.tm_state.specs.State.{callee_of, put_back}
 use Rattle.tm_vm.specs.declared.flow.Flow.{Flow}
 use Rattle.tm_vm.specs.declared.flow.Flow.TheVariants as flow
 use Rattle.tm_vm.specs.Answers.{EntersAsValue, Enters, GoesOnWith, Needed, Needs, NoFewer, Opens, Quietly, Silently, entered}
@@ -39,126 +42,143 @@ fewer_then : (a b c : World) → StaysInPlace a b → NoFewer b c → NoFewer a 
 fewer_then a b c stays more = (omega (arith, stays.0.0, more.0), more.1 ∙ stays.0.1)
 
 -- behind a call that left the scopes as they were
-opens_behind : (limit : ℕ) (n : Next) (old new : Config) (before : World) (result : Result Flow Halt) → KeepsIdAndFuel before old.world →
-    StaysInPlace before old.world → Opens n old new result → Needs limit n (record old { world = before }) new result
-opens_behind limit n old new before (Ok flow.GoOn) kept stays h = record {
+opens_behind : (p : Program) (n : Next) (old new : Config) (before : World) (result : Result Flow Halt) → KeepsFixed before old.world →
+    StaysInPlace before old.world → Opens n old new result → Needs p n (record old { world = before }) new result
+opens_behind p n old new before (Ok flow.GoOn) kept stays h = record {
   did = h.did;
   kept = kept_then kept h.kept;
   deepens = fewer_then before old.world new.world stays h.no_fewer;
   same_stream = h.same_stream;
 }
-opens_behind limit n old new before (Ok flow.Done) kept stays h = absurd h.did
-opens_behind limit n old new before (Ok (flow.Enter e)) kept stays h = absurd h.did
-opens_behind limit n old new before (Err halt.Writer) kept stays h = absurd h.did
-opens_behind limit n old new before (Err halt.Stuck) kept stays h = record {
+opens_behind p n old new before (Ok flow.Done) kept stays h = absurd h.did
+opens_behind p n old new before (Ok (flow.Enter e)) kept stays h = absurd h.did
+opens_behind p n old new before (Err halt.Writer) kept stays h = absurd h.did
+opens_behind p n old new before (Err halt.Stuck) kept stays h = record {
   did = h.did;
   kept = kept_then kept h.kept;
   deepens = fewer_then before old.world new.world stays h.no_fewer;
   same_stream = h.same_stream;
 }
-opens_behind limit n old new before (Err (halt.Fault chain)) kept stays h = record {
+opens_behind p n old new before (Err (halt.Fault chain)) kept stays h = record {
   did = h.did;
   kept = kept_then kept h.kept;
   deepens = fewer_then before old.world new.world stays h.no_fewer;
   same_stream = h.same_stream;
 }
 
-pub value_goes_on : (limit : ℕ) (p : Program) (v : Val) (count : ℕ) (old new : Config) (result : Result Flow Halt) →
-    Silently (goes (v ∷ drop count old.run.operands) old.world old) old new result → GoesOnWith limit p (outcome.Value v) count old new result
-value_goes_on limit p v count old new result h q before is leaves =
-    subst (λ r. Needs limit (asked p (record old { world = before }) (drop count old.run.operands) r) (record old { world = before }) new result)
+pub value_goes_on : (p : Program) (v : Val) (count : ℕ) (old new : Config) (result : Result Flow Halt) →
+    Silently (goes (v ∷ drop count old.run.operands) old.world old) old new result → GoesOnWith p (outcome.Value v) count old new result
+value_goes_on p v count old new result h q before is leaves =
+    subst (λ r. Needs p (asked p (record old { world = before }) (drop count old.run.operands) r) (record old { world = before }) new result)
     (sym is)
-    (opens_behind limit (goes (v ∷ drop count old.run.operands) old.world old) old new before result leaves.kept leaves.lies (still result h))
+    (opens_behind p (goes (v ∷ drop count old.run.operands) old.world old) old new before result leaves.kept leaves.lies (still result h))
 
-pub loop_goes_on : (limit : ℕ) (p : Program) (r : Recursion) (count : ℕ) (old new : Config) (result : Result Flow Halt) →
+pub loop_goes_on : (p : Program) (r : Recursion) (count : ℕ) (old new : Config) (result : Result Flow Halt) →
     Opens (asked p old (drop count old.run.operands) (recurs r.number r.items.value.items old.world)) old new result →
-    GoesOnWith limit p (outcome.Recursion r) count old new result
-loop_goes_on limit p r count old new result h q before is leaves =
+    GoesOnWith p (outcome.Recursion r) count old new result
+loop_goes_on p r count old new result h q before is leaves =
     let vs = drop count old.run.operands in
     let items = r.items.value.items in
     let same = recursion_in p old before true vs (new_capture true ∷ old.captures) r.number (place_of_loop p old r.number) items old.world in
-    subst (λ a. Needs limit (asked p (record old { world = before }) vs a) (record old { world = before }) new result) (sym is)
-    (subst (λ n. Needs limit n (record old { world = before }) new result) (sym same)
-    (opens_behind limit (asked p old vs (recurs r.number items old.world)) old new before result leaves.kept leaves.lies h))
+    subst (λ a. Needs p (asked p (record old { world = before }) vs a) (record old { world = before }) new result) (sym is)
+    (subst (λ n. Needs p n (record old { world = before }) new result) (sym same)
+    (opens_behind p (asked p old vs (recurs r.number items old.world)) old new before result leaves.kept leaves.lies h))
 
 -- ---------------------------------------------------------------- runs
 outermost_long : (n : ℕ) (frames : List Scope) → n ≤ length frames → length (outermost n frames) ≡ n
 outermost_long n frames h = omega (arith, length-drop (length frames - n) frames, h)
 
 -- what is put back where no memory was found for the capture
-put_back_fewer : (limit : ℕ) (saved : Saved) (before w : World) → OneDeeper limit saved before w → NoFewer before (put_back saved w)
-put_back_fewer limit saved before w deep =
-    let scopes : saved.scopes ≡ length before.scopes.frames = ap (λ (s : Saved). s.scopes) deep.0 in
-    let long = outermost_long saved.scopes w.scopes.frames (omega (arith, scopes, deep.1)) in
-    (omega (arith, long, scopes), ap (λ (s : Saved). s.outer) deep.0)
+put_back_fewer : (limit : ℕ) (s : Saved) (before w : World) → OneDeeper limit s before w → NoFewer before (put_back s w)
+put_back_fewer limit (saved.Block s) before w deep =
+    let scopes : s.scopes ≡ length before.scopes.frames = ap (λ (s : SavedBlock). s.scopes) deep.0 in
+    let frames = deep.1.0 in
+    let long = outermost_long s.scopes w.scopes.frames (omega (arith, scopes, frames)) in
+    (omega (arith, long, scopes), ap (λ (s : SavedBlock). s.outer) deep.0)
+put_back_fewer limit (saved.Macro s) before w deep =
+    let same : s.context ≡ before.scopes = ap (λ (s : SavedMacro). s.context) deep.0 in
+    let frames = ap (λ (s : Scopes). length s.frames) same in
+    (omega (arith, frames), ap (λ (s : Scopes). s.outer) same)
+
+-- and what a run keeps is kept then
+pub put_back_keeps : (s : Saved) (before w : World) → KeepsFixed before w → KeepsFixed before (put_back s w)
+put_back_keeps (saved.Block s) before w kept = record {
+  same_id = kept.same_id;
+  same_fuel_set = kept.same_fuel_set;
+  no_more_fuel = kept.no_more_fuel;
+  same_blocks = kept.same_blocks;
+  same_loaded = kept.same_loaded;
+}
+put_back_keeps (saved.Macro s) before w kept = record {
+  same_id = kept.same_id;
+  same_fuel_set = kept.same_fuel_set;
+  no_more_fuel = kept.no_more_fuel;
+  same_blocks = kept.same_blocks;
+  same_loaded = kept.same_loaded;
+}
 
 entered_as : (p : Program) (e : NestedRun) (vs : List Val) (old : Config) (before b : World) → e.heard ≡ true → e.value ≡ true →
     asked p (record old { world = before }) vs (runs (call_of e b) old.world) ≡
-    entered e b (record { run = waiting vs old; captures = new_capture true ∷ old.captures; world = old.world })
+    entered p e b (record { run = waiting vs old; captures = new_capture true ∷ old.captures; world = old.world })
 entered_as p e vs old before b heard value =
     let ks = new_capture true ∷ old.captures in
-    ap (λ h. Nest (base_of h ks old.world) (start (whole e.stream) ks old.world)
-    (record { run = waiting vs old; call = call_of e b; value = true })) (sym heard)
-    ∙ ap (λ v. Nest (base_of e.heard ks old.world) (start (whole e.stream) ks old.world)
-    (record { run = waiting vs old; call = call_of e b; value = v })) (sym value)
+    let first = first_run p (callee_of e.run) (length ks) in
+    ap (λ h. nested first h ks old.world (record { run = waiting vs old; call = call_of e b; value = true })) (sym heard)
+    ∙ ap (λ v. nested first e.heard ks old.world (record { run = waiting vs old; call = call_of e b; value = v })) (sym value)
 
 enters_it : (p : Program) (e : NestedRun) (vs : List Val) (old new : Config) (before : World) (q : Asked) → NeedsRun e q old.world →
     new ≡ record { run = waiting vs old; captures = new_capture true ∷ old.captures; world = old.world } →
-    Enters e new (asked p (record old { world = before }) vs q)
+    Enters p e new (asked p (record old { world = before }) vs q)
 enters_it p e vs old new before q needs moved =
     let b = needs.3.0 in (
       b,
-      needs.3.1,
+      subst (λ (c : Config). IsBefore e.saved b c.world) (sym moved) needs.3.1,
       ap (asked p (record old { world = before }) vs) needs.3.2 ∙ entered_as p e vs old before b needs.0 needs.1
-          ∙ ap (entered e b) (sym moved),
+          ∙ ap (entered p e b) (sym moved),
     )
 
-pub run_goes_on : (limit : ℕ) (p : Program) (e : Box NestedRun) (count : ℕ) (old new : Config) (result : Result Flow Halt) →
-    EntersAsValue e.value count result old new → GoesOnWith limit p (outcome.Run e) count old new result
-run_goes_on limit p e count old new (Ok flow.GoOn) h q before needs leaves = absurd h
-run_goes_on limit p e count old new (Ok flow.Done) h q before needs leaves = absurd h
-run_goes_on limit p e count old new (Ok (flow.Enter b)) h q before needs leaves =
+pub run_goes_on : (p : Program) (e : Box NestedRun) (count : ℕ) (old new : Config) (result : Result Flow Halt) →
+    EntersAsValue e.value count result old new → GoesOnWith p (outcome.Run e) count old new result
+run_goes_on p e count old new (Ok flow.GoOn) h q before needs leaves = absurd h
+run_goes_on p e count old new (Ok flow.Done) h q before needs leaves = absurd h
+run_goes_on p e count old new (Ok (flow.Enter b)) h q before needs leaves =
     let vs = drop count old.run.operands in
     let world : new.world ≡ old.world = ap (λ (c : Config). c.world) h.1 in record {
-      did = subst (λ r. Enters r new (asked p (record old { world = before }) vs q)) (sym h.0)
+      did = subst (λ r. Enters p r new (asked p (record old { world = before }) vs q)) (sym h.0)
           (enters_it p e.value vs old new before q needs h.1);
-      kept = subst (λ w. KeepsIdAndFuel before w) (sym world) leaves.kept;
-      deepens = subst (λ r. OneDeeper limit r before new.world) (sym (ap (λ (r : NestedRun). r.saved) h.0))
-          (subst (λ w. OneDeeper limit e.value.saved before w) (sym world) leaves.lies);
+      kept = subst (λ w. KeepsFixed before w) (sym world) leaves.kept;
+      deepens = subst (λ r. OneDeeper p.host.limit r before new.world) (sym (ap (λ (r : NestedRun). r.saved) h.0))
+          (subst (λ w. OneDeeper p.host.limit e.value.saved before w) (sym world) leaves.lies);
       same_stream = ap (λ (c : Config). c.run.stream) h.1;
     }
-run_goes_on limit p e count old new (Err halt.Writer) h q before needs leaves = absurd h
-run_goes_on limit p e count old new (Err halt.Stuck) h q before needs leaves = absurd h
-run_goes_on limit p e count old new (Err (halt.Fault chain)) h q before needs leaves = record {
+run_goes_on p e count old new (Err halt.Writer) h q before needs leaves = absurd h
+run_goes_on p e count old new (Err halt.Stuck) h q before needs leaves = absurd h
+run_goes_on p e count old new (Err (halt.Fault chain)) h q before needs leaves = record {
   did = λ m. absurd (let w : true ≡ false = sym h.0 ∙ m in cc w);
-  kept = subst (λ w. KeepsIdAndFuel before w) (sym h.1) (record {
-    same_id = leaves.kept.same_id;
-    same_fuel_set = leaves.kept.same_fuel_set;
-    no_more_fuel = leaves.kept.no_more_fuel;
-  });
-  deepens = subst (λ w. NoFewer before w) (sym h.1) (put_back_fewer limit e.value.saved before old.world leaves.lies);
+  kept = subst (λ w. KeepsFixed before w) (sym h.1) (put_back_keeps e.value.saved before old.world leaves.kept);
+  deepens = subst (λ w. NoFewer before w) (sym h.1) (put_back_fewer p.host.limit e.value.saved before old.world leaves.lies);
   same_stream = h.2;
 }
 
 -- ---------------------------------------------------------------- calls of so many operands
-module _ (limit : ℕ) (p : Program) (call : World → List Val → Asked) (count : ℕ) (old now : Config) (is : old ≡ now) (vs : List Val)
+module _ (p : Program) (call : World → List Val → Asked) (count : ℕ) (old now : Config) (is : old ≡ now) (vs : List Val)
     (w : World) (there : taken count [] old.run.operands ≡ Some (vs, drop count old.run.operands)) where
   abbrev Called : Config → Config → Result Flow Halt → Type 0
-  Called c new result = Needs limit (take_n count c.run.operands c.world (calling p call c)) c new result
+  Called c new result = Needs p (take_n count c.run.operands c.world (calling p call c)) c new result
 
   pub went_on : (came : CallResult) (new : Config) (result : Result Flow Halt) → Becomes (Ok came) (call old.world vs) w →
-      Leaves limit (Ok came) old.world w → GoesOnWith limit p came count (record old { world = w }) new result → Called now new result
+      Leaves p.host.limit (Ok came) old.world w → GoesOnWith p came count (record old { world = w }) new result → Called now new result
   went_on came new result becomes leaves goes_on =
       subst (λ c. Called c new result) is
-      (subst (λ t. Needs limit (on_taken t old.world (calling p call old)) old new result) (sym there)
+      (subst (λ t. Needs p (on_taken t old.world (calling p call old)) old new result) (sym there)
       (goes_on (call old.world vs) old.world becomes leaves))
 
   -- or it was refused
-  refused_there : (chain : List ErrorKind) → Becomes (Err chain) (call old.world vs) w → Leaves limit (Err chain) old.world w →
+  refused_there : (chain : List ErrorKind) → Becomes (Err chain) (call old.world vs) w → Leaves p.host.limit (Err chain) old.world w →
       Called old (record old { world = w }) (Err (halt.Fault chain))
   refused_there chain becomes leaves =
       let same = leaves.lies.0 in
-      subst (λ t. Needs limit (on_taken t old.world (calling p call old)) old (record old { world = w }) (Err (halt.Fault chain)))
+      subst (λ t. Needs p (on_taken t old.world (calling p call old)) old (record old { world = w }) (Err (halt.Fault chain)))
       (sym there) (record {
         did = λ m. ap (asked p old (drop count old.run.operands)) (becomes m);
         kept = leaves.kept;
@@ -167,7 +187,7 @@ module _ (limit : ℕ) (p : Program) (call : World → List Val → Asked) (coun
       })
 
   pub ended : (r : Result Flow Halt) (chain : List ErrorKind) → IsErr r × IsErrAnd r (λ e. e ≡ halt.Fault chain) →
-      Becomes (Err chain) (call old.world vs) w → Leaves limit (Err chain) old.world w → Called now (record old { world = w }) r
+      Becomes (Err chain) (call old.world vs) w → Leaves p.host.limit (Err chain) old.world w → Called now (record old { world = w }) r
   ended (Ok f) chain same becomes leaves = absurd (cc same.0)
   ended (Err e) chain same becomes leaves =
       subst (λ c. Called c (record old { world = w }) (Err e)) is

@@ -53,12 +53,12 @@ module _ (p : Program) (call : World → List Val → Asked) (count : Option ℕ
       (λ vs rest. asked_over p inside run.operands rest (call inside.world vs))
       ∙ sym (takes inside.world (calling p call inside))
 
-  pub counted_needs : (limit : ℕ) (old new : Config) (result : Result Flow Halt) → inside ≡ old →
-      Needs limit (take_n n run.operands inside.world (calling p call (record inside { run = run }))) (record inside { run = run }) new result →
-      Needs limit (take_counted count old.run.operands old.world (calling p call old)) old new result
-  counted_needs limit old new result is h =
-      subst (λ c. Needs limit (take_counted count c.run.operands c.world (calling p call c)) c new result) is (record {
-        did = subst (λ q. Needed result new q) counted_call h.did;
+  pub counted_needs : (old new : Config) (result : Result Flow Halt) → inside ≡ old →
+      Needs p (take_n n run.operands inside.world (calling p call (record inside { run = run }))) (record inside { run = run }) new result →
+      Needs p (take_counted count old.run.operands old.world (calling p call old)) old new result
+  counted_needs old new result is h =
+      subst (λ c. Needs p (take_counted count c.run.operands c.world (calling p call c)) c new result) is (record {
+        did = subst (λ q. Needed p result new q) counted_call h.did;
         kept = h.kept;
         deepens = h.deepens;
         same_stream = h.same_stream ∙ ap (λ (r : Activation). r.stream) same;

@@ -8,3 +8,4 @@ pub mod Counted
 pub mod Called
 pub mod Returned
 pub mod StepsAtOnce
+pub mod Texts

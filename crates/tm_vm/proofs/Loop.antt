@@ -1,42 +1,48 @@
 -- Where the loop stands in a run, and what it answers there.
 use Rattle.std.specs.Global.{Box}
-use Rattle.std.proofs.Common.{◌≡◌, ◌≤◌, ℕ, List, [], ◌∷◌, length, ◌++◌, take, zero, suc, Option, Result, Ok, Some, None, Bool, refl, sym}
+use Rattle.std.proofs.Common.{◌≡◌, ◌≤◌, ◌<◌, ℕ, List, [], ◌∷◌, length, ◌++◌, take, zero, suc, Option, Result, Ok, Err, Some, None, Bool, true, false, refl, sym}
 use Rattle.std.proofs.Common.{◌∙◌, ap, subst, append_assoc, arith, inl, inr}
 use Rattle.std.specs.Io.KnownBytes.{Appends}
 use Rattle.std.proofs.lemmas.List.{append-nil}
-use Rattle.tm_meaning.specs.World.{World}
-use Rattle.tm_meaning.specs.Calls.{whole, of_block, wrapped}
+use Rattle.tm_meaning.specs.World.{World, Scopes, depth}
+use Rattle.tm_meaning.specs.Calls.{undone, wrapped}
 use Rattle.tm_meaning.specs.Memory.{is_want_of_memory}
 use Rattle.tm_meaning.specs.declared.wrapping.Wrapping.{Wrapping}
 use Rattle.tm_meaning.specs.declared.wrapping.Wrapping.TheVariants as wrapping
 use Rattle.tm_values.specs.declared.error.ErrorKind.{ErrorKind}
+use Rattle.tm_values.specs.declared.error.ErrorKind.TheVariants.{InvalidOperation}
 use Rattle.tm_meaning.specs.Machine.{Activation, Capture, Config, End, Finished, Failed, Stuck, Next, More, Over, Nest, Program, Back}
-use Rattle.tm_meaning.specs.Machine.{back_to, back_with, base_of}
-use Rattle.tm_meaning.specs.Steps.{step, Final, Leads, Reaches, over, more, nest}
+use Rattle.tm_meaning.specs.Machine.{back_to, back_with, base_of, first_run, nested, running}
+use Rattle.tm_meaning.specs.Steps.{begun, final, step, Final, Leads, Reaches, over, more, nest}
 use Rattle.tm_meaning.specs.declared.base.Base.{Base}
 use Rattle.tm_meaning.proofs.Ends.{one_end, text_grows, more_only}
 use Rattle.tm_output.specs.Counts.{AppendsBeginning}
-use Rattle.tm_output.specs.Pieces.{appends_then, appends_nothing, appends_beginning, appends_then_beginning_longer}
+use Rattle.tm_output.specs.Pieces.{appends_then, appends_nothing, appends_beginning, appends_then_beginning_longer, beginning_nothing}
 use Rattle.tm_parts.specs.declared.halt.Halt.{Halt}
 use Rattle.tm_parts.specs.declared.halt.Halt.TheVariants as halt
 use Rattle.tm_state.specs.declared.nested.NestedRun.{NestedRun}
 use Rattle.tm_vm.specs.declared.flow.Flow.{Flow}
 use Rattle.tm_vm.specs.declared.flow.Flow.TheVariants as flow
-use Rattle.tm_vm.specs.Answers.{Did, Enters, HaltsAs, ReachesEnd, KeepsBaseScopes, output}
-use Rattle.tm_state.specs.Answers.{KeepsIdAndFuel, OneDeeper, SameScopes, call_of}
+use Rattle.tm_vm.specs.Answers.{Begins, ComesTo, Did, Enters, HaltsAs, ReachesEnd, KeepsBaseScopes, output}
+use Rattle.tm_state.specs.Answers.{IsBefore, KeepsFixed, OneDeeper, SameScopes, call_of}
 use Rattle.tm_state.specs.declared.saved.Saved.{Saved}
-use Rattle.tm_vm.specs.Nested.{Went, EndsIn, WroteBeginning, IsBack, IsWrapped, behind, start_in, base_in}
-use Rattle.tm_state.specs.State.{saved_of, put_back}
-use Rattle.tm_vm.proofs.Shift.{behind as after_text, alone, behind_text}
+use Rattle.tm_state.specs.declared.saved.Saved.TheVariants as saved
+use Rattle.tm_state.specs.declared.saved.SavedBlock.{SavedBlock}
+use Rattle.tm_state.specs.declared.saved.SavedMacro.{SavedMacro}
+use Rattle.tm_vm.specs.Nested.{IsCaptured, RanNested, Went, EndsIn, WroteBeginning, IsBack, IsWrapped, KeepsLists, StandsOn, behind, begins_in, base_in, world_at}
+use Rattle.tm_state.specs.State.{callee_of, put_back, saved_scopes, undo_of}
+use Rattle.tm_vm.proofs.Shift.{alone, behind_text}
 
-pub kept_same : (w : World) → KeepsIdAndFuel w w
-kept_same w = record { same_id = refl; same_fuel_set = refl; no_more_fuel = omega arith }
+pub kept_same : (w : World) → KeepsFixed w w
+kept_same w = record { same_id = refl; same_fuel_set = refl; no_more_fuel = omega arith; same_blocks = refl; same_loaded = refl }
 
-pub kept_then : {a b c : World} → KeepsIdAndFuel a b → KeepsIdAndFuel b c → KeepsIdAndFuel a c
+pub kept_then : {a b c : World} → KeepsFixed a b → KeepsFixed b c → KeepsFixed a c
 kept_then h k = record {
   same_id = k.same_id ∙ h.same_id;
   same_fuel_set = k.same_fuel_set ∙ h.same_fuel_set;
   no_more_fuel = omega (arith, h.no_more_fuel, k.no_more_fuel);
+  same_blocks = k.same_blocks ∙ h.same_blocks;
+  same_loaded = k.same_loaded ∙ h.same_loaded;
 }
 
 -- The writer has got a text since the run began at a, and the machine has come from a to c.
@@ -52,7 +58,7 @@ stands_first p f a told = record { text = []; appended = appends_nothing told; o
 -- one step more
 pub stands_next : {p : Program} {f : Base} {a c : Config} {told now : Option (List ℕ)} (d : Config) (new : Option (List ℕ)) →
     RunsUpTo p f a told now c →
-    Did (Ok flow.GoOn) now new d (step p f c) → RunsUpTo p f a told new d
+    Did p (Ok flow.GoOn) now new d (step p f c) → RunsUpTo p f a told new d
 stands_next {p = p} {f = f} {c = c} {told = told} {now = now} d new s did =
     let t = output (step p f c) in
     record {
@@ -63,43 +69,79 @@ stands_next {p = p} {f = f} {c = c} {told = told} {now = now} d new s did =
     }
 
 -- ---------------------------------------------------------------- nested runs
--- what follows a nested run, of a run over it
-pub nest_only : {p : Program} {f g : Base} {t : List ℕ} {n : Next} {c : Config} {back : Back} {e o : Final} → n ≡ Nest g c back →
-    Reaches p g [] c e
-    → Leads p f t n o → Leads p f (t ++ e.text) (back_to back e.end) o
-nest_only at run (over x y) = absurd cc
-nest_only at run (more x y) = absurd cc
-nest_only {p = p} {f = f} {g = g} {t = t} {c = c} {back = back} {e = e} {o = o} at run (nest {g = g2} {c = c2} {back = b2} {e = e2} x y z) =
-    let kg : g2 ≡ g = cc in
-    let kc : c2 ≡ c = cc in
-    let kb : b2 ≡ back = cc in
-    let y1 : Leads p g t (step p g c) e2 = subst (λ c. Leads p g t (step p g c) e2) kc (subst (λ g. Leads p g t (step p g c2) e2) kg y) in
-    let ke : e2 ≡ after_text t e = one_end y1 (behind_text c t run) in
-    subst (λ (e : Final). Leads p f e.text (back_to back e.end) o) ke (subst (λ b. Leads p f e2.text (back_to b e2.end) o) kb z)
+module _ (p : Program) (heard : Bool) (ks : List Capture) (w : World) (back : Back) where
+  abbrev Within : Option Activation → List ℕ → Final → Type 0
+  Within a t e = Leads p (base_of heard ks w) t (begun p (base_of heard ks w) a ks w) e
+
+  -- A run that is needed leads on behind its end,
+  nested_leads : {f : Base} {t : List ℕ} {e o : Final} (a : Option Activation) → Within a t e → Leads p f e.text (back_to back e.end) o →
+      Leads p f t (nested a heard ks w back) o
+  nested_leads {f = f} {t = t} {o = o} None (over {e = x} at same) rest =
+      let ended : x ≡ Failed (InvalidOperation ∷ []) w = cc at in
+      subst (λ y. Leads p f y.text (back_to back y.end) o) (same ∙ ap (λ z. final t z) ended) rest
+  nested_leads None (more at then) rest = absurd cc
+  nested_leads None (nest at then last) rest = absurd cc
+  nested_leads (Some a) run rest = nest refl run rest
+
+  -- and what it leads to, it leads to behind its end.
+  nested_parts : {f : Base} {t : List ℕ} {o : Final} (a : Option Activation) → Leads p f t (nested a heard ks w back) o →
+      (e : Final) × Within a t e × Leads p f e.text (back_to back e.end) o
+  nested_parts {t = t} None l = (final t (Failed (InvalidOperation ∷ []) w), over refl refl, l)
+  nested_parts (Some a) (over x y) = absurd cc
+  nested_parts (Some a) (more x y) = absurd cc
+  nested_parts {f = f} {t = t} {o = o} (Some a) (nest {g = g2} {c = c2} {back = b2} {e = e2} x y z) =
+      let kg : g2 ≡ base_of heard ks w = cc in
+      let kc : c2 ≡ running a ks w = cc in
+      let kb : b2 ≡ back = cc in (
+        e2,
+        subst (λ c. Leads p (base_of heard ks w) t (step p (base_of heard ks w) c) e2) kc (subst (λ g. Leads p g t (step p g c2) e2) kg y),
+        subst (λ b. Leads p f e2.text (back_to b e2.end) o) kb z,
+      )
+
+  -- what follows a nested run, of a run over it
+  nest_only : {f : Base} {t : List ℕ} {e o : Final} (a : Option Activation) → Within a [] e → Leads p f t (nested a heard ks w back) o →
+      Leads p f (t ++ e.text) (back_to back e.end) o
+  nest_only {f = f} {t = t} {o = o} a run l =
+      let parts = nested_parts a l in
+      subst (λ (e : Final). Leads p f e.text (back_to back e.end) o) (one_end parts.1 (behind_text t run)) parts.2
+
+-- What is undone behind a run is what is put back.
+pub undone_is : (s : Saved) (b mid w : World) → IsBefore s b mid → KeepsLists mid w → undone (undo_of s b) w ≡ put_back s w
+undone_is (saved.Block s) b mid w is keeps = sym (ap (λ x. put_back (saved.Block x) w) is.0)
+undone_is (saved.Macro s) b mid w is keeps =
+    let back : World = put_back (saved.Macro (saved_scopes b)) w in
+    ap (λ x. record back { blocks = x; loaded = b.loaded }) (sym (keeps.0 ∙ is.1)) ∙ ap (λ x. record back { loaded = x }) (sym (keeps.1 ∙ is.2))
+    ∙ sym (ap (λ x. put_back (saved.Macro x) w) is.0)
 
 -- what a nested run's end leads to, by what is put back behind it
-behind_is : (e : NestedRun) (b : World) (r : Activation) (end : End) → e.saved ≡ saved_of b →
+behind_is : (e : NestedRun) (b mid : World) (r : Activation) (end : End) → IsBefore e.saved b mid → KeepsLists mid (world_at end) →
     back_to (record { run = r; call = call_of e b; value = e.value }) end
     ≡ behind e r end
-behind_is e b r (Finished ks w) saved = sym (ap (λ x. back_with e.value e.text r ks (put_back x w)) saved)
-behind_is e b r (Failed chain w) saved = sym (ap (λ x. Over (Failed (wrapped e.wrap chain) (put_back x w))) saved)
-behind_is e b r (Stuck w) saved = sym (ap (λ x. Over (Stuck (put_back x w))) saved)
+behind_is e b mid r (Finished ks w) is keeps = ap (λ x. back_with e.value e.text r ks x) (undone_is e.saved b mid w is keeps)
+behind_is e b mid r (Failed chain w) is keeps = ap (λ x. Over (Failed (wrapped e.wrap chain) x)) (undone_is e.saved b mid w is keeps)
+behind_is e b mid r (Stuck w) is keeps = ap (λ x. Over (Stuck x)) (undone_is e.saved b mid w is keeps)
+
+-- the run itself
+abbrev pub first_of : Program → NestedRun → Config → Option Activation
+first_of p e c = first_run p (callee_of e.run) (length c.captures)
 
 -- a nested run that is done, and what follows it
 pub stands_behind : {p : Program} {f : Base} {a c : Config} {told now : Option (List ℕ)} (entry : NestedRun) (mid d : Config)
     (at new : Option (List ℕ)) → RunsUpTo p f a told now c
-    → (Enters entry mid (step p f c) × (at ≡ now)) → Went p entry mid d at new → RunsUpTo p f a told new d
+    → (Enters p entry mid (step p f c) × (at ≡ now)) → Went p entry mid d at new → RunsUpTo p f a told new d
 stands_behind {p = p} {f = f} {c = c} {told = told} {now = now} entry mid d at new s did ran =
     let enters = did.0 in
     let b = enters.0 in
-    let goes = behind_is entry b mid.run (Finished ran.captures ran.world) enters.1 ∙ ran.goes in
+    let goes = behind_is entry b mid.world mid.run (Finished ran.captures ran.world) enters.1 ran.keeps ∙ ran.goes in
+    let back : Back = record { run = mid.run; call = call_of entry b; value = entry.value } in
     record {
       text = s.text ++ ran.text;
       appended = appends_then told now new s.text ran.text s.appended (subst (λ o. Appends o new ran.text) did.1 ran.appended);
-      onward = λ o l. s.onward o (nest enters.2 (behind_text (start_in entry mid) s.text ran.reaches)
-          (more goes (subst (λ u. Leads p f u (step p f d) o) (sym (append-nil (s.text ++ ran.text))) l)));
+      onward = λ o l. s.onward o (subst (λ n. Leads p f s.text n o) (sym enters.2)
+          (nested_leads p entry.heard mid.captures mid.world back (first_of p entry mid) (behind_text s.text ran.leads)
+          (more goes (subst (λ u. Leads p f u (step p f d) o) (sym (append-nil (s.text ++ ran.text))) l))));
       back = λ o l. subst (λ u. Leads p f u (step p f d) o) (append-nil (s.text ++ ran.text))
-          (more_only goes (nest_only enters.2 ran.reaches (s.back o l)));
+          (more_only goes (nest_only p entry.heard mid.captures mid.world back (first_of p entry mid) ran.leads (subst (λ n. Leads p f s.text n o) enters.2 (s.back o l))));
     }
 
 -- ---------------------------------------------------------------- ends
@@ -113,24 +155,21 @@ output_first {p = p} {f = f} {t = t} {n = Nest g c b} {o = o} l = text_grows l
 
 pub beginning_at : {p : Program} {f : Base} {a c : Config} {told now : Option (List ℕ)} (new : Option (List ℕ)) →
     RunsUpTo p f a told now c →
-    AppendsBeginning now new (output (step p f c)) → WroteBeginning p f a told new
+    AppendsBeginning now new (output (step p f c)) → WroteBeginning p f (step p f a) told new
 beginning_at {p = p} {f = f} {c = c} {told = told} {now = now} new s begun = λ o r.
     let first = output_first (s.back o r) in
     subst (λ t. AppendsBeginning told new t) (sym first.1)
     (appends_then_beginning_longer told now new s.text (output (step p f c)) first.0 s.appended begun)
 
 -- the same, in a nested run
-begun_in : {p : Program} {f g : Base} {t : List ℕ} {n : Next} {c : Config} {back : Back} {o : Final} (told now new : Option (List ℕ)) →
-    n ≡ Nest g c back → Appends told now t
-    → WroteBeginning p g c now new → Leads p f t n o → AppendsBeginning told new o.text
-begun_in told now new at first begins (over x y) = absurd cc
-begun_in told now new at first begins (more x y) = absurd cc
-begun_in {p = p} {f = f} {g = g} {t = t} {c = c} {o = o} told now new at first begins (nest {g = g2} {c = c2} {e = e2} x y z) =
-    let kg : g2 ≡ g = cc in
-    let kc : c2 ≡ c = cc in
-    let y1 : Leads p g t (step p g c) e2 = subst (λ c. Leads p g t (step p g c) e2) kc (subst (λ g. Leads p g t (step p g c2) e2) kg y) in
-    let inner = alone y1 in
-    let grown = text_grows z in
+begun_in : {p : Program} {f : Base} {t : List ℕ} {o : Final} (heard : Bool) (ks : List Capture) (w : World) (back : Back)
+    (told now new : Option (List ℕ)) (a : Option Activation) → Appends told now t →
+    WroteBeginning p (base_of heard ks w) (begun p (base_of heard ks w) a ks w) now new → Leads p f t (nested a heard ks w back) o →
+    AppendsBeginning told new o.text
+begun_in {p = p} {t = t} {o = o} heard ks w back told now new a first begins l =
+    let parts = nested_parts p heard ks w back a l in
+    let inner = alone parts.1 in
+    let grown = text_grows parts.2 in
     let same : o.text ≡ t ++ (inner.end.text ++ grown.0) =
     grown.1 ∙ ap (λ u. u ++ grown.0) (ap (λ (x : Final). x.text) inner.same) ∙ append_assoc t inner.end.text grown.0 in
     subst (λ u. AppendsBeginning told new u) (sym same)
@@ -138,11 +177,13 @@ begun_in {p = p} {f = f} {g = g} {t = t} {c = c} {o = o} told now new at first b
 
 pub beginning_in : {p : Program} {f : Base} {a c : Config} {told now : Option (List ℕ)} (entry : NestedRun) (mid : Config)
     (at new : Option (List ℕ)) → RunsUpTo p f a told now c
-    → (Enters entry mid (step p f c) × (at ≡ now)) → WroteBeginning p (base_in entry mid) (start_in entry mid) at new →
-    WroteBeginning p f a told new
-beginning_in {p = p} {told = told} {now = now} entry mid at new s did begins = λ o r.
-    begun_in told now new did.0.2 s.appended (subst (λ x. WroteBeginning p (base_in entry mid) (start_in entry mid) x new) did.1 begins)
-    (s.back o r)
+    → (Enters p entry mid (step p f c) × (at ≡ now)) → WroteBeginning p (base_in entry mid) (begins_in p entry mid) at new →
+    WroteBeginning p f (step p f a) told new
+beginning_in {p = p} {f = f} {told = told} {now = now} entry mid at new s did begins = λ o r.
+    begun_in entry.heard mid.captures mid.world (record { run = mid.run; call = call_of entry did.0.0; value = entry.value })
+    told now new (first_of p entry mid) s.appended
+    (subst (λ x. WroteBeginning p (base_in entry mid) (begins_in p entry mid) x new) did.1 begins)
+    (subst (λ n. Leads p f s.text n o) did.0.2 (s.back o r))
 
 take-nil : (n : ℕ) → take {A = ℕ} n [] ≡ []
 take-nil zero = refl
@@ -174,17 +215,19 @@ ended_at {p = p} {f = f} {a = a} {c = c} {told = told} {now = now} new why w s e
 -- the end of a run whose nested run halted
 pub ended_in : {p : Program} {f : Base} {a c : Config} {told now : Option (List ℕ)} (entry : NestedRun) (mid : Config)
     (at new : Option (List ℕ)) (why : Halt) (w : World) → RunsUpTo p f a told now c
-    → (Enters entry mid (step p f c) × (at ≡ now)) → HaltsAs why w (EndsIn p entry mid at new) → HaltsAs why w (ReachesEnd p f a told new)
+    → (Enters p entry mid (step p f c) × (at ≡ now)) → HaltsAs why w (EndsIn p entry mid at new) → HaltsAs why w (ReachesEnd p f a told new)
 ended_in {p = p} {f = f} {a = a} {c = c} {told = told} {now = now} entry mid at new why w s did ends = by_halt why ends
   where
     comes : (x : End) → EndsIn p entry mid at new x → ReachesEnd p f a told new x
     comes x ended =
         let run = ended.1 in
-        let enters = did.0 in (
+        let enters = did.0 in
+        let back : Back = record { run = mid.run; call = call_of entry enters.0; value = entry.value } in (
           s.text ++ run.0,
           appends_then told now new s.text run.0 s.appended (subst (λ o. Appends o new run.0) did.1 run.1),
-          s.onward _ (nest enters.2 (behind_text (start_in entry mid) s.text run.2)
-              (over (behind_is entry enters.0 mid.run ended.0 enters.1 ∙ ended.2) refl)),
+          s.onward _ (subst (λ n. Leads p f s.text n (final (s.text ++ run.0) x)) (sym enters.2)
+              (nested_leads p entry.heard mid.captures mid.world back (first_of p entry mid) (behind_text s.text run.2)
+              (over (behind_is entry enters.0 mid.world mid.run ended.0 enters.1 ended.2 ∙ ended.3) refl))),
         )
 
     by_halt : (why : Halt) → HaltsAs why w (EndsIn p entry mid at new) → HaltsAs why w (ReachesEnd p f a told new)
@@ -195,12 +238,12 @@ ended_in {p = p} {f = f} {a = a} {c = c} {told = told} {now = now} entry mid at 
 -- the end of a run that is done
 pub done_at : {p : Program} {f : Base} {a c : Config} {told now : Option (List ℕ)} (d : Config) (new : Option (List ℕ)) →
     RunsUpTo p f a told now c →
-    Did (Ok flow.Done) now new d (step p f c) → ReachesEnd p f a told new (Finished d.captures d.world)
+    Did p (Ok flow.Done) now new d (step p f c) → ReachesEnd p f a told new (Finished d.captures d.world)
 done_at {told = told} d new s did = (s.text, subst (λ t. Appends told t s.text) (sym did.1) s.appended, s.onward _ (over did.0 refl))
 
 -- then the writer has got the whole text
 pub whole_at : {p : Program} {f : Base} {a c : Config} {told now : Option (List ℕ)} (new : Option (List ℕ)) → RunsUpTo p f a told now c →
-    new ≡ now → WroteBeginning p f a told new
+    new ≡ now → WroteBeginning p f (step p f a) told new
 whole_at {told = told} {now = now} new s same = λ o r.
     let grown = text_grows (s.back o r) in
     subst (λ b. AppendsBeginning told b o.text) (sym same)
@@ -209,14 +252,33 @@ whole_at {told = told} {now = now} new s same = λ o r.
 -- ---------------------------------------------------------------- for the loop
 -- a step over the run's own base
 pub at_base : (p : Program) (old new : Config) (told now : Option (List ℕ)) (r : Result Flow Halt) (f g : Base) → f ≡ g →
-    Did r told now new (step p f old) → Did r told now new (step p g old)
-at_base p old new told now r f g e did = subst (λ x. Did r told now new (step p x old)) e did
+    Did p r told now new (step p f old) → Did p r told now new (step p g old)
+at_base p old new told now r f g e did = subst (λ x. Did p r told now new (step p x old)) e did
 
 -- behind a nested run there are as many scopes as before it, and they stand where they stood
+scopes_back : (limit : ℕ) (s : Saved) (old mid new : World) → OneDeeper limit s old mid → IsBack s new → SameScopes old new
+scopes_back limit (saved.Block s) old mid new deep back =
+    (back.0 ∙ ap (λ (s : SavedBlock). s.scopes) deep.0, back.1 ∙ ap (λ (s : SavedBlock). s.outer) deep.0)
+scopes_back limit (saved.Macro s) old mid new deep back =
+    let same : new.scopes ≡ old.scopes = back ∙ ap (λ (s : SavedMacro). s.context) deep.0 in
+    (ap (λ (s : Scopes). length s.frames) same, ap (λ (s : Scopes). s.outer) same)
+
 pub scopes_behind : (limit : ℕ) (e : NestedRun) (old mid new : World) → OneDeeper limit e.saved old mid → IsBack e.saved new →
     SameScopes old new
-scopes_behind limit e old mid new deep back =
-    (back.0 ∙ ap (λ (s : Saved). s.scopes) deep.0, back.1 ∙ ap (λ (s : Saved). s.outer) deep.0)
+scopes_behind limit e old mid new deep back = scopes_back limit e.saved old mid new deep back
+
+-- it stands deeper than the run that waits, on the scopes that were saved
+lies_deeper : (limit : ℕ) (s : Saved) (old mid : World) → OneDeeper limit s old mid → StandsOn s mid × (depth old.scopes < depth mid.scopes)
+lies_deeper limit (saved.Block s) old mid deep =
+    let frames = deep.1.0 in
+    let outer = deep.1.1 in
+    let held : s.scopes ≡ length old.scopes.frames = ap (λ (s : SavedBlock). s.scopes) deep.0 in
+    (omega (arith, frames, held), omega (arith, frames, outer))
+lies_deeper limit (saved.Macro s) old mid deep = let lies = deep.1.1 in (tt, omega (arith, lies))
+
+pub stands_deeper : (limit : ℕ) (e : NestedRun) (old mid : World) → OneDeeper limit e.saved old mid →
+    StandsOn e.saved mid × (depth old.scopes < depth mid.scopes)
+stands_deeper limit e old mid deep = lies_deeper limit e.saved old mid deep
 
 -- behind a step of a run whose base stood over so many scopes
 pub above_base : (heard : Bool) (ks : List Capture) (first : World) (f : Base) (old new : World) → f ≡ base_of heard ks first →
@@ -228,9 +290,9 @@ above_base heard ks first f old new e above stays =
     omega (arith, base, then)
 
 -- what a step gives boxed, taken out
-pub unboxed : {n : Next} (b : Box NestedRun) (e : NestedRun) (c : Config) (told now : Option (List ℕ)) → e ≡ b.value →
-    Did (Ok (flow.Enter b)) told now c n → Enters e c n × (now ≡ told)
-unboxed {n = n} b e c told now same did = (subst (λ x. Enters x c n) (sym same) did.0, did.1)
+pub unboxed : (p : Program) {n : Next} (b : Box NestedRun) (e : NestedRun) (c : Config) (told now : Option (List ℕ)) → e ≡ b.value →
+    Did p (Ok (flow.Enter b)) told now c n → Enters p e c n × (now ≡ told)
+unboxed p {n = n} b e c told now same did = (subst (λ x. Enters p x c n) (sym same) did.0, did.1)
 
 pub deeper : (limit : ℕ) (b : Box NestedRun) (e : NestedRun) (old new : World) → e ≡ b.value → OneDeeper limit b.value.saved old new →
     OneDeeper limit e.saved old new
@@ -246,22 +308,127 @@ want_wrapped (Some wrapping.BadInclude) (k ∷ ks) = refl
 
 -- the halt of a nested run, as it is told
 wrapped_as : (p : Program) (e : NestedRun) (old : Config) (told now : Option (List ℕ)) (why tells : Halt) (w : World) →
-    IsWrapped e.wrap why tells
-    → HaltsAs why w (ReachesEnd p (base_in e old) (start_in e old) told now) → HaltsAs tells (put_back e.saved w) (EndsIn p e old told now)
-wrapped_as p e old told now halt.Writer tells w is h = subst (λ x. HaltsAs x (put_back e.saved w) (EndsIn p e old told now)) (sym is) tt
-wrapped_as p e old told now halt.Stuck tells w is h =
-    subst (λ x. HaltsAs x (put_back e.saved w) (EndsIn p e old told now)) (sym is) (Stuck w, h, refl)
-wrapped_as p e old told now (halt.Fault chain) tells w (inl is) h =
+    KeepsLists old.world w → IsWrapped e.wrap why tells
+    → HaltsAs why w (ComesTo p (base_in e old) (begins_in p e old) told now) → HaltsAs tells (put_back e.saved w) (EndsIn p e old told now)
+wrapped_as p e old told now halt.Writer tells w keeps is h =
+    subst (λ x. HaltsAs x (put_back e.saved w) (EndsIn p e old told now)) (sym is) tt
+wrapped_as p e old told now halt.Stuck tells w keeps is h =
+    subst (λ x. HaltsAs x (put_back e.saved w) (EndsIn p e old told now)) (sym is) (Stuck w, h, keeps, refl)
+wrapped_as p e old told now (halt.Fault chain) tells w keeps (inl is) h =
     subst (λ x. HaltsAs x (put_back e.saved w) (EndsIn p e old told now)) (sym is)
-    (λ own. (Failed chain w, h (sym (want_wrapped e.wrap chain) ∙ own), refl))
-wrapped_as p e old told now (halt.Fault chain) tells w (inr is) h =
+    (λ own. (Failed chain w, h (sym (want_wrapped e.wrap chain) ∙ own), keeps, refl))
+wrapped_as p e old told now (halt.Fault chain) tells w keeps (inr is) h =
     subst (λ x. HaltsAs x (put_back e.saved w) (EndsIn p e old told now)) (sym is) (λ own. absurd (cc own))
 
-pub wrapped_ends : (p : Program) (e : NestedRun) (old begun ran left : Config) (told now : Option (List ℕ)) (why tells : Halt) →
-    begun ≡ start_in e old → left.world ≡ put_back e.saved ran.world
-    → IsWrapped e.wrap why tells → HaltsAs why ran.world (ReachesEnd p (base_of e.heard begun.captures begun.world) begun told now) →
-    HaltsAs tells left.world (EndsIn p e old told now)
-wrapped_ends p e old begun ran left told now why tells begins same is h =
-    subst (λ w. HaltsAs tells w (EndsIn p e old told now)) (sym same)
-    (wrapped_as p e old told now why tells ran.world is
-    (subst (λ c. HaltsAs why ran.world (ReachesEnd p (base_of e.heard c.captures c.world) c told now)) begins h))
+-- A run that has begun, and has come to another configuration.
+module _ (p : Program) (e : NestedRun) (waits : Activation) (old begun_at ran : Config) (told now : Option (List ℕ))
+    (begins : Begins (first_of p e old) (Some waits) old begun_at) (kept : KeepsFixed begun_at.world ran.world) where
+  abbrev Stands : Base
+  Stands = base_of e.heard begun_at.captures begun_at.world
+
+  stands : Stands ≡ base_in e old
+  stands = ap (λ ks. base_of e.heard ks begun_at.world) begins.2 ∙ ap (λ w. base_of e.heard old.captures w) begins.3
+
+  has_begun : step p Stands begun_at ≡ begins_in p e old
+  has_begun =
+      ap (λ ks. step p (base_of e.heard ks begun_at.world) (running begun_at.run ks begun_at.world)) begins.2
+      ∙ ap (λ w. step p (base_of e.heard old.captures w) (running begun_at.run old.captures w)) begins.3
+      ∙ sym (ap (λ a. begun p (base_in e old) a old.captures old.world) begins.1)
+
+  keeps : KeepsLists old.world ran.world
+  keeps = (kept.same_blocks ∙ ap (λ (w : World). w.blocks) begins.3, kept.same_loaded ∙ ap (λ (w : World). w.loaded) begins.3)
+
+  comes : (x : End) → ReachesEnd p Stands begun_at told now x → ComesTo p (base_in e old) (begins_in p e old) told now x
+  comes x r =
+      subst (λ n. ComesTo p (base_in e old) n told now x) has_begun
+      (subst (λ f. ComesTo p f (step p Stands begun_at) told now x) stands r)
+
+  halts : (why : Halt) → HaltsAs why ran.world (ReachesEnd p Stands begun_at told now) →
+      HaltsAs why ran.world (ComesTo p (base_in e old) (begins_in p e old) told now)
+  halts halt.Writer h = tt
+  halts halt.Stuck h = comes (Stuck ran.world) h
+  halts (halt.Fault chain) h = λ own. comes (Failed chain ran.world) (h own)
+
+  -- Where it halted, that is the end of the run that waits;
+  pub wrapped_ends : (left : Config) (why tells : Halt) → left.world ≡ put_back e.saved ran.world → IsWrapped e.wrap why tells →
+      HaltsAs why ran.world (ReachesEnd p Stands begun_at told now) → HaltsAs tells left.world (EndsIn p e old told now)
+  wrapped_ends left why tells same is h =
+      subst (λ w. HaltsAs tells w (EndsIn p e old told now)) (sym same)
+      (wrapped_as p e old told now why tells ran.world keeps is (halts why h))
+
+  -- and where it was done, that goes on.
+  pub went : (new : Config) → ReachesEnd p Stands begun_at told now (Finished ran.captures ran.world) →
+      behind e old.run (Finished ran.captures ran.world) ≡ More [] new → Went p e old new told now
+  went new r goes =
+      let came = comes (Finished ran.captures ran.world) r in
+      record {
+        text = came.0;
+        captures = ran.captures;
+        world = ran.world;
+        appended = came.1;
+        leads = came.2;
+        keeps = keeps;
+        goes = goes;
+      }
+
+  over_put : (put : Config) → put ≡ record { run = waits; captures = ran.captures; world = put_back e.saved ran.world } →
+      back_with e.value e.text old.run ran.captures (put_back e.saved ran.world) ≡ back_with e.value e.text put.run put.captures put.world
+  over_put put at =
+      ap (λ a. back_with e.value e.text a ran.captures (put_back e.saved ran.world)) (sym begins.0)
+      ∙ sym (ap (λ (c : Config). back_with e.value e.text c.run c.captures c.world) at)
+
+  pub in_place : (put : Config) → put ≡ record { run = waits; captures = ran.captures; world = put_back e.saved ran.world } →
+      e.value ≡ false → ReachesEnd p Stands begun_at told now (Finished ran.captures ran.world) → Went p e old put told now
+  in_place put at value r = went put r (over_put put at ∙ ap (λ v. back_with v e.text put.run put.captures put.world) value)
+
+  -- Where its text is a value, that is put on top.
+  pub as_value : (put new : Config) (result : Result (Unit {0}) Halt) → IsCaptured e.text result put new →
+      put ≡ record { run = waits; captures = ran.captures; world = put_back e.saved ran.world } → e.value ≡ true →
+      new.world ≡ put.world → ReachesEnd p Stands begun_at told now (Finished ran.captures ran.world) →
+      RanNested p e old new told now result
+  as_value put new (Ok u) is at value same r =
+      went new r (over_put put at ∙ ap (λ v. back_with v e.text put.run put.captures put.world) value ∙ is)
+  as_value put new (Err halt.Writer) is at value same r = absurd is
+  as_value put new (Err halt.Stuck) is at value same r = (
+    Finished ran.captures ran.world,
+    comes (Finished ran.captures ran.world) r,
+    keeps,
+    over_put put at ∙ ap (λ v. back_with v e.text put.run put.captures put.world) value
+        ∙ ap (λ ks. back_with true e.text put.run ks put.world) is ∙ ap (λ w. Over (Stuck w)) (sym same),
+  )
+  as_value put new (Err (halt.Fault chain)) is at value same r = λ own. absurd (let w : true ≡ false = sym is ∙ own in cc w)
+
+  -- What was written first is a beginning of what it writes.
+  pub began : WroteBeginning p Stands (step p Stands begun_at) told now → WroteBeginning p (base_in e old) (begins_in p e old) told now
+  began h =
+      subst (λ n. WroteBeginning p (base_in e old) n told now) has_begun
+      (subst (λ f. WroteBeginning p f (step p Stands begun_at) told now) stands h)
+
+-- Where there is no such run the call is refused.
+refused_first : (p : Program) (e : NestedRun) (old : Config) → first_of p e old ≡ None →
+    begins_in p e old ≡ Over (Failed (InvalidOperation ∷ []) old.world)
+refused_first p e old none = ap (λ a. begun p (base_in e old) a old.captures old.world) none
+
+pub refused_ends : (p : Program) (e : NestedRun) (old left : Config) (told : Option (List ℕ)) (tells : Halt) → first_of p e old ≡ None →
+    left.world ≡ put_back e.saved old.world → IsWrapped e.wrap (halt.Fault (InvalidOperation ∷ [])) tells →
+    HaltsAs tells left.world (EndsIn p e old told told)
+refused_ends p e old left told tells none same is =
+    subst (λ w. HaltsAs tells w (EndsIn p e old told told)) (sym same)
+    (wrapped_as p e old told told (halt.Fault (InvalidOperation ∷ [])) tells old.world (refl, refl) is
+    (λ own. ([], appends_nothing told, over (refused_first p e old none) refl)))
+
+pub refused_begins : (p : Program) (e : NestedRun) (old : Config) (told : Option (List ℕ)) →
+    WroteBeginning p (base_in e old) (begins_in p e old) told told
+refused_begins p e old told = λ o l. beginning_nothing told o.text
+
+-- One that was done is there.
+is_begun : {p : Program} {f : Base} {t : List ℕ} {o : Final} (ks later : List Capture) (w left : World) (a : Option Activation) →
+    Leads p f t (begun p f a ks w) o → o.end ≡ Finished later left → (first : Activation) × (a ≡ Some first)
+is_begun ks later w left (Some a) l done = (a, refl)
+is_begun ks later w left None (over at same) done = let last = ap (λ (x : Final). x.end) same in absurd (cc (at, last, done))
+is_begun ks later w left None (more at rest) done = absurd cc
+is_begun ks later w left None (nest at rest then) done = absurd cc
+
+pub was_there : {p : Program} {e : NestedRun} {old new : Config} {told now : Option (List ℕ)} → Went p e old new told now →
+    (first : Activation) × (first_of p e old ≡ Some first)
+was_there {p = p} {e = e} {old = old} ran = is_begun old.captures ran.captures old.world ran.world (first_of p e old) ran.leads refl

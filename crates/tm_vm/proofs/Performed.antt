@@ -7,22 +7,25 @@ use Rattle.std.specs.Io.KnownBytes.{Appends}
 use Rattle.tm_meaning.specs.Calls.{NestedCall, enter_block, block_call, whole}
 use Rattle.tm_meaning.specs.declared.run_text.RunText.TheVariants as texts
 use Rattle.tm_meaning.specs.Instructions.{call_block_of}
-use Rattle.tm_meaning.specs.Machine.{Config, Next, More, Nest, Program, after, asked_in_place, audible, base_of, start, with_world}
+use Rattle.tm_meaning.specs.Machine.{Config, Next, More, Program, after, asked_in_place, audible, first_run, nested, with_world}
 use Rattle.tm_meaning.specs.Meaning.{none_waits}
 use Rattle.tm_meaning.specs.declared.stream.StreamId.{StreamId}
 use Rattle.std.proofs.Common.{◌-◌, nat_lt}
 use Rattle.std.proofs.lemmas.Bool.Decides.{nat_tests}
 use Rattle.tm_meaning.specs.Steps.{act, charge_of, effect, pay, step}
 use Rattle.tm_syntax.specs.declared.instruction.Instruction.{Instruction}
-use Rattle.tm_state.specs.Answers.{KeepsIdAndFuel, OneDeeper, SameScopes}
-use Rattle.tm_vm.proofs.Loop.{kept_then}
+use Rattle.tm_state.specs.Answers.{IsBefore, KeepsFixed, OneDeeper, SameScopes}
+use Rattle.tm_vm.proofs.Loop.{kept_same, kept_then}
 use Rattle.tm_meaning.specs.declared.base.Base.{Base}
 use Rattle.tm_output.specs.Pieces.{appends_nothing, beginning_nothing}
 use Rattle.tm_parts.specs.declared.halt.Halt.{Halt}
 use Rattle.tm_parts.specs.declared.halt.Halt.TheVariants as halt
 use Rattle.tm_meaning.specs.World.{World, Good, block_of, choose}
 use Rattle.tm_state.specs.State.{runs_block, saved_of}
-use Rattle.tm_vm.specs.Answers.{Depths, Did, Enters, entered, Performs, Writes, Silently, Opens, Shifts, Needs}
+use Rattle.tm_state.specs.declared.saved.Saved.{Saved}
+use Rattle.tm_state.specs.declared.saved.Saved.TheVariants as saved
+use Rattle.tm_state.specs.declared.nested.RunOf.TheVariants as run_of
+use Rattle.tm_vm.specs.Answers.{Depths, Did, Enters, entered, Performs, Writes, Silently, Opens, Shifts, Needs, Finishes}
 use Rattle.tm_vm.specs.Answers.{NoFewer, KeepsBaseScopes, output}
 use Rattle.tm_vm.specs.AtOnce.{Attempted, IsAtOnce, IsPaid, attempt_of, paid}
 use Rattle.tm_vm.specs.declared.at_once.Attempt.{Attempt}
@@ -38,9 +41,9 @@ nothing_written {c = c} told at =
 stays : (f : Base) (old new : World) → SameScopes old new → KeepsBaseScopes f old new
 stays f old new same = (λ h. omega (arith, h, same.0), same.1)
 
-pub silent : {limit : ℕ} {f : Base} {n : Next} {old new : Config} {told : Option (List ℕ)} {failures : ℕ} (result : Result Flow Halt) →
+pub silent : {p : Program} {f : Base} {n : Next} {old new : Config} {told : Option (List ℕ)} {failures : ℕ} (result : Result Flow Halt) →
     Silently n old new result
-    → Performs limit f n old new told told failures failures result
+    → Performs p f n old new told told failures failures result
 silent {f = f} {n = n} {old = old} {new = new} {told = told} (Ok flow.GoOn) s =
     record {
       did = nothing_written told s.did;
@@ -76,9 +79,9 @@ still {old = old} {new = new} result s =
 stays_over : (f : Base) (old new : World) → NoFewer old new → KeepsBaseScopes f old new
 stays_over f old new more = let long = more.0 in (λ h. omega (arith, h, long), more.1)
 
-pub opened : {limit : ℕ} {f : Base} {n : Next} {old new : Config} {told : Option (List ℕ)} {failures : ℕ} (result : Result Flow Halt) →
+pub opened : {p : Program} {f : Base} {n : Next} {old new : Config} {told : Option (List ℕ)} {failures : ℕ} (result : Result Flow Halt) →
     Opens n old new result
-    → Performs limit f n old new told told failures failures result
+    → Performs p f n old new told told failures failures result
 opened {f = f} {n = n} {old = old} {new = new} {told = told} (Ok flow.GoOn) s =
     record {
       did = nothing_written told s.did;
@@ -105,9 +108,9 @@ opened {f = f} {n = n} {old = old} {new = new} {told = told} (Err (halt.Fault ch
   same_stream = s.same_stream;
 }
 
-pub shifted : {limit : ℕ} {f : Base} {n : Next} {old new : Config} {told : Option (List ℕ)} {failures : ℕ} (result : Result Flow Halt) →
+pub shifted : {p : Program} {f : Base} {n : Next} {old new : Config} {told : Option (List ℕ)} {failures : ℕ} (result : Result Flow Halt) →
     Shifts f n old new result
-    → Performs limit f n old new told told failures failures result
+    → Performs p f n old new told told failures failures result
 shifted {n = n} {told = told} (Ok flow.GoOn) s =
     record { did = nothing_written told s.did; counted = refl; kept = s.kept; depths = s.stays; same_stream = s.same_stream }
 shifted (Ok flow.Done) s = absurd s.did
@@ -130,8 +133,8 @@ shifted {n = n} {told = told} (Err (halt.Fault chain)) s =
       same_stream = s.same_stream;
     }
 
-pub wrote : {limit : ℕ} {f : Base} {n : Next} {old new : Config} {told now : Option (List ℕ)} {failures count : ℕ} (result : Result Flow Halt)
-    → Writes n old new told now failures count result → Performs limit f n old new told now failures count result
+pub wrote : {p : Program} {f : Base} {n : Next} {old new : Config} {told now : Option (List ℕ)} {failures count : ℕ} (result : Result Flow Halt)
+    → Writes n old new told now failures count result → Performs p f n old new told now failures count result
 wrote {f = f} {old = old} {new = new}
     (Ok flow.GoOn) s = record {
       did = s.did;
@@ -151,9 +154,9 @@ wrote {f = f} {old = old} {new = new}
       same_stream = s.same_stream;
     }
 
-pub needed : {limit : ℕ} {f : Base} {n : Next} {old new : Config} {told : Option (List ℕ)} {failures : ℕ} (result : Result Flow Halt) →
-    Needs limit n old new result
-    → Performs limit f n old new told told failures failures result
+pub needed : {p : Program} {f : Base} {n : Next} {old new : Config} {told : Option (List ℕ)} {failures : ℕ} (result : Result Flow Halt) →
+    Needs p n old new result
+    → Performs p f n old new told told failures failures result
 needed {f = f} {old = old} {new = new} {told = told} (Ok flow.GoOn) s =
     record {
       did = nothing_written told s.did;
@@ -184,19 +187,20 @@ needed {f = f} {n = n} {old = old} {new = new} {told = told} (Err (halt.Fault ch
     }
 
 -- one that needs a run, which is boxed
-pub boxed : {limit : ℕ} {n : Next} {old new : Config} (e : NestedRun) (b : Box NestedRun) → b.value ≡ e → Enters e new n →
-    KeepsIdAndFuel old.world new.world → OneDeeper limit e.saved old.world new.world
-    → new.run.stream ≡ old.run.stream → Needs limit n old new (Ok (flow.Enter b))
-boxed {limit = limit} {n = n} {old = old} {new = new} e b same enters kept deeper stream = record {
-  did = subst (λ x. Enters x new n) (sym same) enters;
+pub boxed : {p : Program} {n : Next} {old new : Config} (e : NestedRun) (b : Box NestedRun) → b.value ≡ e → Enters p e new n →
+    KeepsFixed old.world new.world → OneDeeper p.host.limit e.saved old.world new.world
+    → new.run.stream ≡ old.run.stream → Needs p n old new (Ok (flow.Enter b))
+boxed {p = p} {n = n} {old = old} {new = new} e b same enters kept deeper stream = record {
+  did = subst (λ x. Enters p x new n) (sym same) enters;
   kept = kept;
-  deepens = subst (λ (x : NestedRun). OneDeeper limit x.saved old.world new.world) (sym same) deeper;
+  deepens = subst (λ (x : NestedRun). OneDeeper p.host.limit x.saved old.world new.world) (sym same) deeper;
   same_stream = stream;
 }
 
 -- a block that is run in place
-same_entry : (e d : NestedRun) (b : World) (c : Config) → e ≡ d → d.saved ≡ saved_of b → (n : Next) → n ≡ entered d b c → Enters e c n
-same_entry e d b c same saved n at = subst (λ x. Enters x c n) (sym same) (b, saved, at)
+same_entry : (p : Program) (e d : NestedRun) (b : World) (c : Config) → e ≡ d → IsBefore d.saved b c.world → (n : Next) → n ≡ entered p d b c →
+    Enters p e c n
+same_entry p e d b c same is n at = subst (λ x. Enters p x c n) (sym same) (b, is, at)
 
 pub chosen : (b : Bool) (x y : Unit {0} → Next) → b ≡ true → choose b x y ≡ x tt
 chosen true x y e = refl
@@ -206,22 +210,35 @@ both : (a b : Bool) → a ≡ true → b ≡ true → a && b ≡ true
 both true b d e = e
 both false b d e = absurd cc
 
+-- the run of a block in place, where the world before it was b
+abbrev block_run : StreamId → World → NestedRun
+block_run s b = record {
+  run = run_of.Stream s;
+  heard = true;
+  value = false;
+  text = texts.Captured;
+  wrap = None;
+  saved = saved.Block (saved_of b);
+}
+
 pub block_entered : (p : Program) (f : Base) (old : Config) (x : List ℕ) (s : StreamId) (e : NestedRun) (new : Config) (w : World) →
     none_waits old.run.parent ≡ true → audible f old ≡ true
     → enter_block p.host x old.world ≡ runs_block s old.world w →
     new ≡ record { run = record old.run { place = old.run.place + 1 }; captures = old.captures; world = w }
-    → e ≡ record { stream = s; heard = true; value = false; text = texts.Captured; wrap = None; saved = saved_of old.world }
-    → Enters e new (call_block_of p f x old)
-block_entered p f old x s e new w waits heard enters moved is =
-    let d : NestedRun = record { stream = s; heard = true; value = false; text = texts.Captured; wrap = None; saved = saved_of old.world } in
+    → e ≡ block_run s old.world → KeepsFixed old.world w
+    → Enters p e new (call_block_of p f x old)
+block_entered p f old x s e new w waits heard enters moved is kept =
+    let d : NestedRun = block_run s old.world in
     let call : NestedCall = block_call s old.world in
     let mid : Config = record { run = record old.run { place = old.run.place + 1 }; captures = old.captures; world = w } in
-    let goes : call_block_of p f x old ≡ entered d old.world mid =
+    let goes : call_block_of p f x old ≡ entered p d old.world mid =
     chosen (none_waits old.run.parent && audible f old) _ _ (both _ _ waits heard)
     ∙ ap (asked_in_place p f old old.run.operands) enters
-    ∙ ap (λ h. Nest (base_of h old.captures w) (start (whole s) old.captures w) (record { run = mid.run; call = call; value = false }))
+    ∙ ap (λ h. nested (first_run p (whole s) (length old.captures)) h old.captures w (record { run = mid.run; call = call; value = false }))
     heard in
-    same_entry e d old.world new is refl (call_block_of p f x old) (goes ∙ ap (entered d old.world) (sym moved))
+    let before : IsBefore d.saved old.world new.world = subst (λ (c : Config). IsBefore d.saved old.world c.world) (sym moved)
+    (refl, kept.same_blocks, kept.same_loaded) in
+    same_entry p e d old.world new is before (call_block_of p f x old) (goes ∙ ap (entered p d old.world) (sym moved))
 
 -- one that was done at once or left, and writes nothing
 pub at_once : (n : Config → Next) (old new : Config) (told : Option (List ℕ)) (failures : ℕ) (done : Bool) → IsAtOnce done n old new →
@@ -240,47 +257,69 @@ is_paid x fuel Done one more = (one, more)
 is_paid x fuel WriterFailed one more = (one, more)
 is_paid x fuel Left one more = tt
 
-pub ruleset kinds = (silent, opened, shifted, wrote, needed)
+-- one that ends the run
+pub finished : {p : Program} {f : Base} {n : Next} {c : Config} {told : Option (List ℕ)} {failures : ℕ} (result : Result Flow Halt) →
+    Finishes result f c n → Performs p f n c c told told failures failures result
+finished {f = f} {c = c} (Ok flow.Done) s =
+    record { did = (s.0, refl); counted = refl; kept = kept_same c.world; depths = ((λ h. h, refl), s.1); same_stream = refl }
+finished (Ok flow.GoOn) s = absurd s
+finished (Ok (flow.Enter e)) s = absurd s
+finished (Err halt.Writer) s = absurd s
+finished {n = n} {c = c} {told = told} (Err halt.Stuck) s = record {
+  did = (s, beginning_nothing told (output n));
+  counted = refl;
+  kept = kept_same c.world;
+  depths = (λ h. h, refl);
+  same_stream = refl;
+}
+finished (Err (halt.Fault chain)) s = absurd s
+
+pub ruleset kinds = (silent, opened, shifted, wrote, needed, finished)
 
 -- ---------------------------------------------------------------- behind a charge
+deep_paid : (limit : ℕ) (s : Saved) (left : ℕ) (old new : World) → OneDeeper limit s (record old { fuel = left }) new →
+    OneDeeper limit s old new
+deep_paid limit (saved.Block s) left old new h = h
+deep_paid limit (saved.Macro s) left old new h = h
+
 depths_paid : (limit : ℕ) (f : Base) (result : Result Flow Halt) (left : ℕ) (old new : World) →
     Depths limit f result (record old { fuel = left }) new → Depths limit f result old new
 depths_paid limit f (Ok flow.GoOn) left old new h = h
 depths_paid limit f (Ok flow.Done) left old new h = h
-depths_paid limit f (Ok (flow.Enter e)) left old new h = h
+depths_paid limit f (Ok (flow.Enter e)) left old new h = deep_paid limit e.value.saved left old new h
 depths_paid limit f (Err why) left old new h = h
 
 abbrev paid_for : Config → ℕ → Config
 paid_for c left = record c { world = record c.world { fuel = left } }
 
-step_paid : {limit : ℕ} {told now : Option (List ℕ)} {failures count : ℕ} (p : Program) (f : Base) (x : Instruction) (old new : Config)
+step_paid : {told now : Option (List ℕ)} {failures count : ℕ} (p : Program) (f : Base) (x : Instruction) (old new : Config)
     (result : Result Flow Halt) (left : ℕ)
     → slice_get (p.code old.run.stream) old.run.place ≡ Some x → pay x old.world ≡ Good tt (paid_for old left).world →
-    KeepsIdAndFuel old.world (paid_for old left).world
-    → Performs limit f (effect p f x (paid_for old left)) (paid_for old left) new told now failures count result →
-    Performs limit f (step p f old) old new told now failures count result
-step_paid {limit = limit} {told = told} {now = now} p f x old new result left found paid kept h =
+    KeepsFixed old.world (paid_for old left).world
+    → Performs p f (effect p f x (paid_for old left)) (paid_for old left) new told now failures count result →
+    Performs p f (step p f old) old new told now failures count result
+step_paid {told = told} {now = now} p f x old new result left found paid kept h =
     let same : step p f old ≡ effect p f x (paid_for old left) =
     ap (λ i. act p f i old) found ∙ ap (λ r. after r (λ _ w. effect p f x (with_world w old))) paid in
     record {
-      did = subst (λ n. Did result told now new n) (sym same) h.did;
+      did = subst (λ n. Did p result told now new n) (sym same) h.did;
       counted = h.counted;
       kept = kept_then kept h.kept;
-      depths = depths_paid limit f result left old.world new.world h.depths;
+      depths = depths_paid p.host.limit f result left old.world new.world h.depths;
       same_stream = h.same_stream;
     }
 
 -- an instruction did its part, behind its charge
-pub step_done : {limit : ℕ} {told now : Option (List ℕ)} {failures count : ℕ} (p : Program) (f : Base) (x : Instruction)
+pub step_done : {told now : Option (List ℕ)} {failures count : ℕ} (p : Program) (f : Base) (x : Instruction)
     (old mid new : Config) (result : Result Flow Halt)
-    → slice_get (p.code old.run.stream) old.run.place ≡ Some x → pay x old.world ≡ Good tt mid.world → KeepsIdAndFuel old.world mid.world →
+    → slice_get (p.code old.run.stream) old.run.place ≡ Some x → pay x old.world ≡ Good tt mid.world → KeepsFixed old.world mid.world →
     mid ≡ record old { world = record old.world { fuel = mid.world.fuel } }
-    → Performs limit f (effect p f x mid) mid new told now failures count result →
-    Performs limit f (step p f old) old new told now failures count result
-step_done {limit = limit} {told = told} {now = now} {failures = failures} {count = count} p f x old mid new result found paid kept rest h =
+    → Performs p f (effect p f x mid) mid new told now failures count result →
+    Performs p f (step p f old) old new told now failures count result
+step_done {told = told} {now = now} {failures = failures} {count = count} p f x old mid new result found paid kept rest h =
     step_paid p f x old new result mid.world.fuel found (paid
-    ∙ ap (λ (c : Config). Good tt c.world) rest) (subst (λ (c : Config). KeepsIdAndFuel old.world c.world) rest kept)
-    (subst (λ (c : Config). Performs limit f (effect p f x c) c new told now failures count result) rest h)
+    ∙ ap (λ (c : Config). Good tt c.world) rest) (subst (λ (c : Config). KeepsFixed old.world c.world) rest kept)
+    (subst (λ (c : Config). Performs p f (effect p f x c) c new told now failures count result) rest h)
 
 -- what stands at a place of a list
 pub read_at : {A : Type 0} (xs : List A) (n : ℕ) (x : A) → n < length xs → ((d : A) → x ≡ get_or xs n d) → slice_get xs n ≡ Some x
@@ -292,23 +331,23 @@ read_at (y ∷ ys) (suc n) x within read = read_at ys n x (omega (arith, within)
 pays_one : (x : Instruction) (w : World) → charge_of x ≡ 1 → 1 < w.fuel → pay x w ≡ Good tt (record w { fuel = w.fuel - 1 })
 pays_one x w one more = let enough : nat_lt 1 w.fuel ≡ true = grind (arith, nat_tests) in rw (one, enough) refl
 
-paid_keeps : (w : World) → KeepsIdAndFuel w (record w { fuel = w.fuel - 1 })
-paid_keeps w = record { same_id = refl; same_fuel_set = refl; no_more_fuel = omega arith }
+paid_keeps : (w : World) → KeepsFixed w (record w { fuel = w.fuel - 1 })
+paid_keeps w = record { same_id = refl; same_fuel_set = refl; no_more_fuel = omega arith; same_blocks = refl; same_loaded = refl }
 
 -- the instruction at the place was paid for and did its part at once
-pub done_at_once : {limit : ℕ} {told now : Option (List ℕ)} {failures count : ℕ} (p : Program) (f : Base) (x : Instruction)
+pub done_at_once : {told now : Option (List ℕ)} {failures count : ℕ} (p : Program) (f : Base) (x : Instruction)
     (old new : Config) (result : Result Flow Halt)
     → slice_get (p.code old.run.stream) old.run.place ≡ Some x → charge_of x ≡ 1 → 1 < old.world.fuel →
-    Performs limit f (effect p f x (paid old)) (paid old) new told now failures count result →
-    Performs limit f (step p f old) old new told now failures count result
+    Performs p f (effect p f x (paid old)) (paid old) new told now failures count result →
+    Performs p f (step p f old) old new told now failures count result
 done_at_once p f x old new result found one more h =
     step_done p f x old (paid old) new result found (pays_one x old.world one more) (paid_keeps old.world) refl h
 
 -- a step that is done behind an attempt that left all as it was
-pub left : {limit : ℕ} {f : Base} {now : Option (List ℕ)} {count : ℕ} {result : Result Flow Halt} (n : Config → Next) (old mid new : Config)
+pub left : {p : Program} {f : Base} {now : Option (List ℕ)} {count : ℕ} {result : Result Flow Halt} (n : Config → Next) (old mid new : Config)
     (told between : Option (List ℕ)) (failures many : ℕ) → (mid ≡ old) × (between ≡ told) × (many ≡ failures) →
-    Performs limit f (n mid) mid new between now many count result → Performs limit f (n old) old new told now failures count result
-left {limit = limit} {f = f} {now = now} {count = count} {result = result} n old mid new told between failures many same h =
-    subst (λ (k : ℕ). Performs limit f (n old) old new told now k count result) same.2
-    (subst (λ (t : Option (List ℕ)). Performs limit f (n old) old new t now many count result) same.1
-    (subst (λ (c : Config). Performs limit f (n c) c new between now many count result) same.0 h))
+    Performs p f (n mid) mid new between now many count result → Performs p f (n old) old new told now failures count result
+left {p = p} {f = f} {now = now} {count = count} {result = result} n old mid new told between failures many same h =
+    subst (λ (k : ℕ). Performs p f (n old) old new told now k count result) same.2
+    (subst (λ (t : Option (List ℕ)). Performs p f (n old) old new t now many count result) same.1
+    (subst (λ (c : Config). Performs p f (n c) c new between now many count result) same.0 h))

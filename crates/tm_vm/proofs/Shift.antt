@@ -2,7 +2,7 @@
 use Rattle.std.proofs.Common.{◌≡◌, List, ℕ, ◌++◌, [], refl, ap, sym, ◌∙◌, subst, append_assoc}
 use Rattle.std.proofs.lemmas.List.{append-nil}
 use Rattle.tm_meaning.specs.Machine.{Config, Next, More, Nest, Back, Program, back_to}
-use Rattle.tm_meaning.specs.Steps.{step, Final, Leads, Reaches, over, more, nest}
+use Rattle.tm_meaning.specs.Steps.{step, Final, Leads, over, more, nest}
 use Rattle.tm_meaning.specs.declared.base.Base.{Base}
 
 -- the same end, behind a text
@@ -60,6 +60,6 @@ alone {t = t} (over {e = x} e q) =
 alone (more e l) = alone_more e (alone l)
 alone (nest e l r) = alone_nest e (alone l) (alone r)
 
--- from a configuration, behind a text
-pub behind_text : {p : Program} {f : Base} {o : Final} (c : Config) (t : List ℕ) → Reaches p f [] c o → Reaches p f t c (behind t o)
-behind_text {p = p} {f = f} {o = o} c t r = subst (λ u. Leads p f u (step p f c) (behind t o)) (append-nil t) (shift t r)
+-- from a step on, behind a text
+pub behind_text : {p : Program} {f : Base} {n : Next} {o : Final} (t : List ℕ) → Leads p f [] n o → Leads p f t n (behind t o)
+behind_text {p = p} {f = f} {n = n} {o = o} t l = subst (λ u. Leads p f u n (behind t o)) (append-nil t) (shift t l)

@@ -15,15 +15,15 @@ use Rattle.tm_vm.proofs.Weight.{paid_for}
 left_of : (charge fuel : ℕ) → charge ≡ 1 → 1 < fuel → fuel - 1 + charge ≡ fuel
 left_of charge fuel one more = omega (arith, one, more)
 
-pub step_attempted : (limit size : ℕ) (p : Program) (f : Base) (x : Instruction) (old new : Config) (told now : Option (List ℕ))
+pub step_attempted : (size : ℕ) (p : Program) (f : Base) (x : Instruction) (old new : Config) (told now : Option (List ℕ))
     (failures count : ℕ) (attempt : Attempt) → slice_get (p.code old.run.stream) old.run.place ≡ Some x → old.run.place < size →
     IsPaid attempt x old.world.fuel → Attempted attempt (effect p f x) old new told now failures count →
-    StepAttempted attempt limit f p size old new told now failures count
-step_attempted limit size p f x old new told now failures count Done found within is_paid did = (
+    StepAttempted attempt f p size old new told now failures count
+step_attempted size p f x old new told now failures count Done found within is_paid did = (
   done_at_once p f x old new (Ok flow.GoOn) found is_paid.0 is_paid.1 (wrote (Ok flow.GoOn) did),
-  paid_for {limit = limit} {f = f} {told = told} {now = now} {failures = failures} {count = count} size p x old (paid old) new
+  paid_for {f = f} {told = told} {now = now} {failures = failures} {count = count} size p x old (paid old) new
       (Ok flow.GoOn) (left_of (charge_of x) old.world.fuel is_paid.0 is_paid.1) refl within (wrote (Ok flow.GoOn) did),
 )
-step_attempted limit size p f x old new told now failures count WriterFailed found within is_paid did =
+step_attempted size p f x old new told now failures count WriterFailed found within is_paid did =
     done_at_once p f x old new (Err halt.Writer) found is_paid.0 is_paid.1 (wrote (Err halt.Writer) did)
-step_attempted limit size p f x old new told now failures count Left found within is_paid did = did
+step_attempted size p f x old new told now failures count Left found within is_paid did = did

@@ -43,20 +43,20 @@ held_there zero x (h ∷ hs) within = refl
 held_there (suc k) x (h ∷ hs) within = ap (λ l. h ∷ l) (held_there k x hs (omega (arith, within)))
 
 -- ---------------------------------------------------------------- calls
-pub filter_used : (limit : ℕ) (p : Program) (x : List ℕ) (n : Option ℕ) (k : ℕ) (old mid new : Config) (result : Result Flow Halt) →
+pub filter_used : (p : Program) (x : List ℕ) (n : Option ℕ) (k : ℕ) (old mid new : Config) (result : Result Flow Halt) →
     used k x old.run.filters ≡ Some mid.run.filters → mid ≡ with_filters mid.run.filters old →
-    Needs limit (apply_of p applications.Filter x n mid) mid new result → Needs limit (apply_filter_of p x n k old) old new result
-filter_used limit p x n k old mid new result there is s =
+    Needs p (apply_of p applications.Filter x n mid) mid new result → Needs p (apply_filter_of p x n k old) old new result
+filter_used p x n k old mid new result there is s =
     let held = mid.run.filters in
-    subst (λ o. Needs limit (on_used o old.world (λ held. apply_of p applications.Filter x n (with_filters held old))) old new result)
+    subst (λ o. Needs p (on_used o old.world (λ held. apply_of p applications.Filter x n (with_filters held old))) old new result)
     (sym there)
-    (let t = subst (λ c. Needs limit (apply_of p applications.Filter x n c) c new result) is s in
+    (let t = subst (λ c. Needs p (apply_of p applications.Filter x n c) c new result) is s in
     record { did = t.did; kept = t.kept; deepens = t.deepens; same_stream = t.same_stream })
 
-pub test_used : (limit : ℕ) (p : Program) (x : List ℕ) (n : Option ℕ) (k : ℕ) (old mid new : Config) (result : Result Flow Halt) →
+pub test_used : (p : Program) (x : List ℕ) (n : Option ℕ) (k : ℕ) (old mid new : Config) (result : Result Flow Halt) →
     used k x old.run.tests ≡ Some mid.run.tests → mid ≡ with_tests mid.run.tests old →
-    Needs limit (apply_of p applications.Test x n mid) mid new result → Needs limit (perform_test_of p x n k old) old new result
-test_used limit p x n k old mid new result there is s =
-    subst (λ o. Needs limit (on_used o old.world (λ held. apply_of p applications.Test x n (with_tests held old))) old new result) (sym there)
-    (let t = subst (λ c. Needs limit (apply_of p applications.Test x n c) c new result) is s in
+    Needs p (apply_of p applications.Test x n mid) mid new result → Needs p (perform_test_of p x n k old) old new result
+test_used p x n k old mid new result there is s =
+    subst (λ o. Needs p (on_used o old.world (λ held. apply_of p applications.Test x n (with_tests held old))) old new result) (sym there)
+    (let t = subst (λ c. Needs p (apply_of p applications.Test x n c) c new result) is s in
     record { did = t.did; kept = t.kept; deepens = t.deepens; same_stream = t.same_stream })

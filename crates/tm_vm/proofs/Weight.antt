@@ -1,6 +1,6 @@
 -- Less is left of a run behind each step.
 use Rattle.std.proofs.Common.{◌≡◌, ℕ, zero, suc, ◌+◌, ◌*◌, ◌<◌, ◌≤◌, ◌⊎◌, inl, inr, List, [], ◌∷◌, length, Option, None, Some, Result, Ok}
-use Rattle.std.proofs.Common.{Err, Bool, true, false, ◌&&◌, nat_lt, slice_get, refl, ap, subst, arith}
+use Rattle.std.proofs.Common.{Err, Bool, true, false, ◌∙◌, ◌&&◌, nat_lt, slice_get, refl, ap, subst, arith}
 use Rattle.std.proofs.Math.Nat.{mul-le-mul_right, suc-mul}
 use Rattle.tm_values.specs.Val.{Val, undefined}
 use Rattle.tm_values.specs.declared.escape.AutoEscape.{AutoEscape}
@@ -13,7 +13,7 @@ use Rattle.tm_syntax.specs.declared.tree.Application.TheVariants as applications
 use Rattle.tm_syntax.specs.declared.tree.BinaryOperator.TheVariants as binaries
 use Rattle.tm_syntax.specs.declared.tree.UnaryOperator.TheVariants as unaries
 use Rattle.tm_meaning.specs.World.{choose, World, Loop, HostValue, Res, Good, Bad, answered, emitted, looked_up, escape_for, items_over}
-use Rattle.tm_meaning.specs.World.{unpacked_items, set_member, open_loop, top_mark, top_loop, push, plain_scope}
+use Rattle.tm_meaning.specs.World.{enclose, make_macro, unpacked_items, set_member, open_loop, top_mark, top_loop, push, plain_scope}
 use Rattle.tm_meaning.specs.Calls.{Asked, has, refused, runs, recurs, call_named, call_callee, applied, call_innermost, enter_block}
 use Rattle.tm_meaning.specs.Meaning.{none_waits}
 use Rattle.tm_meaning.specs.Operators.{truth, applied_unary, operated, attribute, item_at, slice_of, merged_values, items_of_lists}
@@ -23,8 +23,11 @@ use Rattle.tm_meaning.specs.Instructions.{pop_auto_escape_with, is_no_loop, on_l
 use Rattle.tm_meaning.specs.Machine.{Caches}
 use Rattle.tm_meaning.specs.Machine.{Activation, Capture, Return, Config, Program, End, Failed, Stuck, Next, More, Over, Nest, Back, after}
 use Rattle.tm_meaning.specs.Machine.{on_top, on_taken, taken, on, with_world, writes, audible, new_capture, recursion, place_of_loop, asked}
-use Rattle.tm_meaning.specs.Machine.{asked_in_place}
-use Rattle.tm_meaning.specs.Steps.{charge_of, effect}
+use Rattle.tm_meaning.specs.Machine.{asked_in_place, first_run, goes, nested}
+use Rattle.tm_meaning.specs.Instructions.{closure_in, names_in, on_parts}
+use Rattle.tm_meaning.specs.Steps.{charge_of, closed, effect}
+use Rattle.tm_state.specs.Answers.{call_of}
+use Rattle.tm_syntax.specs.Entries.{entry_number}
 use Rattle.tm_meaning.specs.declared.base.Base.{Base}
 use Rattle.tm_meaning.specs.declared.stream.TemplateId.{TemplateId}
 use Rattle.tm_parts.specs.declared.halt.Halt.{Halt}
@@ -83,6 +86,13 @@ module _ (Holds : Next → Type 0) (over : (e : End) → Holds (Over e)) where
   on_loop_all (r ∷ rs) None w next k = over (Stuck w)
   on_loop_all (r ∷ rs) (Some l) w next k = k l
 
+  on_parts_all : (own : Option (Option ℕ)) (names : Option (List (List ℕ))) (w : World)
+      (next : Option ℕ → List (List ℕ) → Next) → ((own : Option ℕ) (names : List (List ℕ)) → Holds (next own names)) →
+      Holds (on_parts own names w next)
+  on_parts_all None names w next k = over (Stuck w)
+  on_parts_all (Some own) None w next k = over (Stuck w)
+  on_parts_all (Some own) (Some names) w next k = k own names
+
 -- At most so many loops more that were called are open.
 abbrev Adds : ℕ → Config → Next → Type 0
 Adds n c (More t d) = pending d.run.loops ≤ pending c.run.loops + n
@@ -130,16 +140,24 @@ recursion_adds p c value vs ks n (Some l) items w =
     choose_all (Adds 1 c) (ends_adds 1 c) l.flags.recursive _ _
     (after_all (Adds 1 c) (ends_adds 1 c) (open_loop p.host items l.flags n w) _ (λ _ world1. omega arith)) tt
 
+-- a run of its own leaves the loops of the run that waits
+nested_adds : (c : Config) (a : Option Activation) (heard : Bool) (ks : List Capture) (w : World) (back : Back) →
+    back.run.loops ≡ c.run.loops → Adds 1 c (nested a heard ks w back)
+nested_adds c None heard ks w back same = tt
+nested_adds c (Some a) heard ks w back same = omega (arith, ap pending same)
+
 asked_adds : (p : Program) (c : Config) (vs : List Val) (a : Asked) → Adds 1 c (asked p c vs a)
 asked_adds p c vs (has v w) = none_more 1 c
 asked_adds p c vs (refused chain w) = tt
-asked_adds p c vs (runs k w) = none_more 1 c
+asked_adds p c vs (runs k w) =
+    nested_adds c (first_run p k.callee (length (new_capture true ∷ c.captures))) true (new_capture true ∷ c.captures) w _ refl
 asked_adds p c vs (recurs n items w) = recursion_adds p c true vs (new_capture true ∷ c.captures) n (place_of_loop p c n) items w
 
 asked_in_place_adds : (p : Program) (f : Base) (c : Config) (vs : List Val) (a : Asked) → Adds 1 c (asked_in_place p f c vs a)
 asked_in_place_adds p f c vs (has v w) = none_more 1 c
 asked_in_place_adds p f c vs (refused chain w) = tt
-asked_in_place_adds p f c vs (runs k w) = none_more 1 c
+asked_in_place_adds p f c vs (runs k w) =
+    nested_adds c (first_run p k.callee (length c.captures)) (audible f c) c.captures w _ refl
 asked_in_place_adds p f c vs (recurs n items w) = recursion_adds p c false vs c.captures n (place_of_loop p c n) items w
 
 text_adds : (n : ℕ) (c d : Config) (parent : Option TemplateId) (ks : List Capture) → pending d.run.loops ≤ pending c.run.loops + n →
@@ -176,6 +194,11 @@ used_adds : (c : Config) (o : Option Caches) (next : Caches → Next) → ((held
     Adds 1 c (on_used o c.world next)
 used_adds c None next k = tt
 used_adds c (Some held) next k = k held
+
+-- a macro is made over these operands
+abbrev made : Program → ℕ → List ℕ → Bool → List Val → Config → Option ℕ → List (List ℕ) → Next
+made p place x caller rest c own arguments =
+    after (make_macro (entry_number place (p.code c.run.stream)) own x arguments caller c.world) (λ v w. goes (v ∷ rest) w c)
 
 -- an instruction leaves at most as many loops more open that were called as it is charged
 adds : (p : Program) (f : Base) (x : Instruction) (c : Config) → Adds (charge_of x) c (effect p f x c)
@@ -230,6 +253,15 @@ adds p f (i.CallBlock b) c =
     choose_all (Adds 1 c) (ends_adds 1 c) (none_waits c.run.parent && audible f c) _ _
     (asked_in_place_adds p f c c.run.operands (enter_block p.host b c.world)) (none_more 1 c)
 adds p f (i.StoreLocal x) c = on_top_all (Adds 1 c) (ends_adds 1 c) c.run.operands c.world _ (λ v vs. none_more 1 c)
+adds p f (i.Enclose x) c = after_all (Adds 1 c) (ends_adds 1 c) (enclose p.host x c.world) _ (λ _ w. none_more 1 c)
+adds p f i.GetClosure c = none_more 1 c
+adds p f i.IsUndefined c = on_top_all (Adds 1 c) (ends_adds 1 c) c.run.operands c.world _ (λ v vs. none_more 1 c)
+adds p f (i.BuildMacro x place caller) c =
+    on_top_all (Adds 0 c) (ends_adds 0 c) c.run.operands c.world _ (λ names vs. on_top_all (Adds 0 c) (ends_adds 0 c) vs c.world _
+    (λ closure rest. on_parts_all (Adds 0 c) (ends_adds 0 c) (closure_in closure) (names_in names) c.world (made p place x caller rest c)
+    (λ own arguments. after_all (Adds 0 c) (ends_adds 0 c) (make_macro (entry_number place (p.code c.run.stream)) own x arguments caller c.world)
+    (λ v w. goes (v ∷ rest) w c) (λ v w. none_more 0 c))))
+adds p f i.Return c = choose_all (Adds 0 c) (ends_adds 0 c) (closed f c) _ _ tt tt
 adds p f (i.UnpackList n) c = on_top_all (Adds 1 c) (ends_adds 1 c) c.run.operands c.world _
     (λ v vs. after_all (Adds 1 c) (ends_adds 1 c) (unpacked_items n v c.world) _ (λ xs w. none_more 1 c))
 adds p f (i.SetAttr x) c =
@@ -305,6 +337,12 @@ free_onward p f i.PopLoopFrame c free =
 free_onward p f (i.BeginCapture mode) c free = inl refl
 free_onward p f i.PushAutoEscape c free = on_top_all (Onward c) (ends_onward c) c.run.operands c.world _
     (λ v rest. after_all (Onward c) (ends_onward c) (answered (escape_for f.first v) c.world) _ (λ e w. inl refl))
+free_onward p f (i.BuildMacro x place caller) c free =
+    on_top_all (Onward c) (ends_onward c) c.run.operands c.world _ (λ names vs. on_top_all (Onward c) (ends_onward c) vs c.world _
+    (λ closure rest. on_parts_all (Onward c) (ends_onward c) (closure_in closure) (names_in names) c.world (made p place x caller rest c)
+    (λ own arguments. after_all (Onward c) (ends_onward c) (make_macro (entry_number place (p.code c.run.stream)) own x arguments caller c.world)
+    (λ v w. goes (v ∷ rest) w c) (λ v w. inl refl))))
+free_onward p f i.Return c free = choose_all (Onward c) (ends_onward c) (closed f c) _ _ tt tt
 free_onward p f i.PopAutoEscape c free = escape_onward c c.run.escapes
 free_onward p f _ c free = absurd cc
 
@@ -349,13 +387,16 @@ entered (suc n) p f g x old mid new d back charge paid same less e waits =
     (λ k. pending back.run.loops ≤ pending mid.run.loops + k) charge (subst (λ n. Adds (charge_of x) mid n) e (adds p f x mid)) in
     omega (arith, paid, less, held, wait, loops)
 
-pub paid_for : {limit : ℕ} {f : Base} {told now : Option (List ℕ)} {failures count : ℕ} (size : ℕ) (p : Program) (x : Instruction)
+pub paid_for : {f : Base} {told now : Option (List ℕ)} {failures count : ℕ} (size : ℕ) (p : Program) (x : Instruction)
     (old mid new : Config) (result : Result Flow Halt) →
     mid.world.fuel + charge_of x ≡ old.world.fuel → mid.run ≡ old.run → old.run.place < size →
-    Performs limit f (effect p f x mid) mid new told now failures count result → Paid size result old new
+    Performs p f (effect p f x mid) mid new told now failures count result → Paid p size result old new
 paid_for {f = f} size p x old mid new (Ok flow.GoOn) paid same within did = went_on size
     (charge_of x) p f x old mid new _ refl paid same within did.kept.no_more_fuel did.did.0
-paid_for {f = f} size p x old mid new (Ok (flow.Enter e)) paid same within did =
-    let enters = did.did.0 in entered (charge_of x) p f _ x old mid new _ _ refl paid same did.kept.no_more_fuel enters.2 refl
+paid_for {f = f} size p x old mid new (Ok (flow.Enter e)) paid same within did = λ first there.
+    let enters = did.did.0 in
+    let back : Back = record { run = new.run; call = call_of e.value enters.0; value = e.value.value } in
+    let needs = enters.2 ∙ ap (λ a. nested a e.value.heard new.captures new.world back) there in
+    entered (charge_of x) p f _ x old mid new _ back refl paid same did.kept.no_more_fuel needs refl
 paid_for size p x old mid new (Ok flow.Done) paid same within did = tt
 paid_for size p x old mid new (Err why) paid same within did = tt

@@ -1,27 +1,30 @@
 -- What the machine's functions answer, beside what the definitions say.
 use Rattle.std.specs.Prelude.{◌≡◌, ◌+◌, ◌<◌, ◌≤◌, ◌^◌, ◌-◌, ◌*◌, ℕ, List, [], ◌∷◌, length, Option, None, Some, Result, Ok, Err, Bool, true}
-use Rattle.std.specs.Prelude.{false, drop}
+use Rattle.std.specs.Prelude.{false, drop, Vec, map as each}
+use Rattle.std.specs.Rc.{rc_str_bytes}
+use Rattle.std.specs.declared.rc.RcStr.{RcStr}
+use Rattle.std.specs.declared.alloc.Global.{Global}
 use Rattle.std.specs.Io.KnownBytes.{Appends}
 use Rattle.tm_meaning.specs.Memory.{is_want_of_memory}
 use Rattle.tm_syntax.specs.declared.instruction.Instruction.{Instruction}
 use Rattle.tm_meaning.specs.World.{World, HostValue, depth}
-use Rattle.tm_meaning.specs.Calls.{Asked, whole}
+use Rattle.tm_meaning.specs.Calls.{Asked}
 use Rattle.tm_values.specs.declared.error.ErrorKind.TheVariants.{OutOfMemory}
 use Rattle.tm_meaning.specs.Machine.{Caches, take_n, stuck}
 use Rattle.tm_meaning.specs.Machine.{Return, Activation, Capture, Config, End, Finished, Failed, Stuck, Next, More, Over, Nest, Program}
-use Rattle.tm_meaning.specs.Machine.{base_of, start, recursion, place_of_loop, asked, waiting, new_capture}
+use Rattle.tm_meaning.specs.Machine.{first_run, nested, running, recursion, place_of_loop, asked, waiting, new_capture}
 use Rattle.tm_values.specs.Val.{Val}
 use Rattle.tm_state.specs.declared.calls.Recursion.{Recursion}
 use Rattle.tm_meaning.specs.Instructions.{jump_if_true_or_pop_of, jump_if_false_or_pop_of, take_counted}
-use Rattle.tm_meaning.specs.Steps.{Reaches, final}
+use Rattle.tm_meaning.specs.Steps.{Leads, final, step}
 use Rattle.tm_meaning.specs.declared.base.Base.{Base}
 use Rattle.tm_meaning.specs.declared.stream.StreamId.{StreamId}
 use Rattle.tm_output.specs.Counts.{AppendsBeginning}
 use Rattle.tm_parts.specs.Halts.{failures_after}
 use Rattle.tm_parts.specs.declared.halt.Halt.{Halt}
 use Rattle.tm_parts.specs.declared.halt.Halt.TheVariants as halt
-use Rattle.tm_state.specs.Answers.{KeepsIdAndFuel, SameScopes, OneDeeper, Becomes, Leaves, call_of}
-use Rattle.tm_state.specs.State.{saved_of, put_back}
+use Rattle.tm_state.specs.Answers.{IsBefore, KeepsFixed, SameScopes, OneDeeper, Becomes, Leaves, call_of}
+use Rattle.tm_state.specs.State.{callee_of, put_back}
 use Rattle.tm_state.specs.declared.calls.CallResult.{CallResult}
 use Rattle.tm_state.specs.declared.nested.NestedRun.{NestedRun}
 use Rattle.tm_vm.specs.declared.flow.Flow.{Flow}
@@ -43,9 +46,13 @@ abbrev pub EndsAs : Result (Unit {0}) Halt → List Capture → World → (End �
 EndsAs (Ok _) captures w Holds = Holds (Finished captures w)
 EndsAs (Err why) captures w Holds = HaltsAs why w Holds
 
--- From here the machine comes to this end, by when the writer has got the text.
+-- What a step gave leads to this end, by when the writer has got the text.
+abbrev pub ComesTo : Program → Base → Next → Option (List ℕ) → Option (List ℕ) → End → Type 0
+ComesTo p f n told now e = (text : List ℕ) × Appends told now text × Leads p f [] n (final text e)
+
+-- From here the machine comes to this end.
 abbrev pub ReachesEnd : Program → Base → Config → Option (List ℕ) → Option (List ℕ) → End → Type 0
-ReachesEnd p f c told now e = (text : List ℕ) × Appends told now text × Reaches p f [] c (final text e)
+ReachesEnd p f c told now e = ComesTo p f (step p f c) told now e
 
 -- ---------------------------------------------------------------- steps
 -- what a step writes itself
@@ -55,21 +62,21 @@ output (Over e) = []
 output (Nest f c back) = []
 
 -- the run that is needed first, where the world before it was b, and the configuration is c
-abbrev pub entered : NestedRun → World → Config → Next
-entered e b c =
-    Nest (base_of e.heard c.captures c.world) (start (whole e.stream) c.captures c.world)
+abbrev pub entered : Program → NestedRun → World → Config → Next
+entered p e b c =
+    nested (first_run p (callee_of e.run) (length c.captures)) e.heard c.captures c.world
     (record { run = c.run; call = call_of e b; value = e.value })
 
-abbrev pub Enters : NestedRun → Config → Next → Type 0
-Enters e c n = (b : World) × (e.saved ≡ saved_of b) × (n ≡ entered e b c)
+abbrev pub Enters : Program → NestedRun → Config → Next → Type 0
+Enters p e c n = (b : World) × IsBefore e.saved b c.world × (n ≡ entered p e b c)
 
 -- A step was done, of which the writer got the text; or it first needs a run of its own; or the run is over by it; or it halted, and the
 -- writer got a beginning.
-abbrev pub Did : Result Flow Halt → Option (List ℕ) → Option (List ℕ) → Config → Next → Type 0
-Did (Ok flow.GoOn) told now c n = (n ≡ More (output n) c) × Appends told now (output n)
-Did (Ok flow.Done) told now c n = (n ≡ Over (Finished c.captures c.world)) × (now ≡ told)
-Did (Ok (flow.Enter e)) told now c n = Enters e.value c n × (now ≡ told)
-Did (Err why) told now c n = HaltsAs why c.world (λ e. n ≡ Over e) × AppendsBeginning told now (output n)
+abbrev pub Did : Program → Result Flow Halt → Option (List ℕ) → Option (List ℕ) → Config → Next → Type 0
+Did p (Ok flow.GoOn) told now c n = (n ≡ More (output n) c) × Appends told now (output n)
+Did p (Ok flow.Done) told now c n = (n ≡ Over (Finished c.captures c.world)) × (now ≡ told)
+Did p (Ok (flow.Enter e)) told now c n = Enters p e.value c n × (now ≡ told)
+Did p (Err why) told now c n = HaltsAs why c.world (λ e. n ≡ Over e) × AppendsBeginning told now (output n)
 
 -- No scope is left, and they stand where they stood.
 abbrev pub NoFewer : World → World → Type 0
@@ -90,12 +97,12 @@ Depths limit f (Err why) old new = KeepsBaseScopes f old new
 
 -- An instruction, or a step, did what its definition says: by its answer, with the writer that had got `told` and has got `now`, and whose
 -- count of failures was `failures` and is `count`.
-pub record Performs (limit : ℕ) (f : Base) (n : Next) (old new : Config) (told now : Option (List ℕ)) (failures count : ℕ)
+pub record Performs (p : Program) (f : Base) (n : Next) (old new : Config) (told now : Option (List ℕ)) (failures count : ℕ)
     (result : Result Flow Halt) : Type 0 where
-  pub did : Did result told now new n
+  pub did : Did p result told now new n
   pub counted : count ≡ failures_after result failures
-  pub kept : KeepsIdAndFuel old.world new.world
-  pub depths : Depths limit f result old.world new.world
+  pub kept : KeepsFixed old.world new.world
+  pub depths : Depths p.host.limit f result old.world new.world
   pub same_stream : new.run.stream ≡ old.run.stream
 
 -- how many loops that a run has open were called
@@ -112,11 +119,13 @@ returns_left c = c.world.fuel + c.world.fuel + pending c.run.loops
 abbrev pub weight : ℕ → Config → ℕ
 weight size c = returns_left c * (size + 1) + (size - c.run.place)
 
--- Less is left behind a step: it is paid for, or returns from a loop, or is free and at the next place.
-abbrev pub Paid : ℕ → Result Flow Halt → Config → Config → Type 0
-Paid size (Ok flow.GoOn) old new = weight size new < weight size old
-Paid size (Ok (flow.Enter e)) old new = returns_left new < returns_left old
-Paid size _ old new = Unit {0}
+-- Less is left behind a step: it is paid for, or returns from a loop, or is free and at the next place. Before a run of its own it is
+-- paid for, where that run can begin.
+abbrev pub Paid : Program → ℕ → Result Flow Halt → Config → Config → Type 0
+Paid p size (Ok flow.GoOn) old new = weight size new < weight size old
+Paid p size (Ok (flow.Enter e)) old new =
+    (first : Activation) → first_run p (callee_of e.value.run) (length new.captures) ≡ Some first → returns_left new < returns_left old
+Paid p size _ old new = Unit {0}
 
 -- The same of an instruction that needs no run.
 abbrev pub Wrote : Result Flow Halt → Option (List ℕ) → Option (List ℕ) → Config → Next → Type 0
@@ -128,7 +137,7 @@ Wrote (Err why) told now c n = HaltsAs why c.world (λ e. n ≡ Over e) × Appen
 pub record Writes (n : Next) (old new : Config) (told now : Option (List ℕ)) (failures count : ℕ) (result : Result Flow Halt) : Type 0 where
   pub did : Wrote result told now new n
   pub counted : count ≡ failures_after result failures
-  pub kept : KeepsIdAndFuel old.world new.world
+  pub kept : KeepsFixed old.world new.world
   pub same_scopes : SameScopes old.world new.world
   pub same_stream : new.run.stream ≡ old.run.stream
 
@@ -143,42 +152,42 @@ Quietly (Err (halt.Fault chain)) c n = is_want_of_memory chain ≡ false → n �
 
 pub record Silently (n : Next) (old new : Config) (result : Result Flow Halt) : Type 0 where
   pub did : Quietly result new n
-  pub kept : KeepsIdAndFuel old.world new.world
+  pub kept : KeepsFixed old.world new.world
   pub same_scopes : SameScopes old.world new.world
   pub same_stream : new.run.stream ≡ old.run.stream
 
 -- And of one that may open a scope, and leaves none.
 pub record Opens (n : Next) (old new : Config) (result : Result Flow Halt) : Type 0 where
   pub did : Quietly result new n
-  pub kept : KeepsIdAndFuel old.world new.world
+  pub kept : KeepsFixed old.world new.world
   pub no_fewer : NoFewer old.world new.world
   pub same_stream : new.run.stream ≡ old.run.stream
 
 -- And of one that may leave a scope that the run opened.
 pub record Shifts (f : Base) (n : Next) (old new : Config) (result : Result Flow Halt) : Type 0 where
   pub did : Quietly result new n
-  pub kept : KeepsIdAndFuel old.world new.world
+  pub kept : KeepsFixed old.world new.world
   pub stays : KeepsBaseScopes f old.world new.world
   pub same_stream : new.run.stream ≡ old.run.stream
 
 -- And of one that may need a run of its own.
-abbrev pub Needed : Result Flow Halt → Config → Next → Type 0
-Needed (Ok flow.GoOn) c n = n ≡ More [] c
-Needed (Ok flow.Done) c n = ⊥
-Needed (Ok (flow.Enter e)) c n = Enters e.value c n
-Needed (Err halt.Writer) c n = ⊥
-Needed (Err halt.Stuck) c n = n ≡ Over (Stuck c.world)
-Needed (Err (halt.Fault chain)) c n = is_want_of_memory chain ≡ false → n ≡ Over (Failed chain c.world)
+abbrev pub Needed : Program → Result Flow Halt → Config → Next → Type 0
+Needed p (Ok flow.GoOn) c n = n ≡ More [] c
+Needed p (Ok flow.Done) c n = ⊥
+Needed p (Ok (flow.Enter e)) c n = Enters p e.value c n
+Needed p (Err halt.Writer) c n = ⊥
+Needed p (Err halt.Stuck) c n = n ≡ Over (Stuck c.world)
+Needed p (Err (halt.Fault chain)) c n = is_want_of_memory chain ≡ false → n ≡ Over (Failed chain c.world)
 
 -- how the scopes lie behind an instruction: with one more for the run that it needs, and else none of them is left
 abbrev pub Deepens : ℕ → Result Flow Halt → World → World → Type 0
 Deepens limit (Ok (flow.Enter e)) old new = OneDeeper limit e.value.saved old new
 Deepens limit _ old new = NoFewer old new
 
-pub record Needs (limit : ℕ) (n : Next) (old new : Config) (result : Result Flow Halt) : Type 0 where
-  pub did : Needed result new n
-  pub kept : KeepsIdAndFuel old.world new.world
-  pub deepens : Deepens limit result old.world new.world
+pub record Needs (p : Program) (n : Next) (old new : Config) (result : Result Flow Halt) : Type 0 where
+  pub did : Needed p result new n
+  pub kept : KeepsFixed old.world new.world
+  pub deepens : Deepens p.host.limit result old.world new.world
   pub same_stream : new.run.stream ≡ old.run.stream
 
 -- The run's text will be a value, in place of so many operands; or no memory was found, and what it replaced is put back.
@@ -190,16 +199,27 @@ EntersAsValue run count (Err (halt.Fault chain)) old new = (is_want_of_memory ch
 EntersAsValue run count _ old new = ⊥
 
 -- A run goes on behind a call of so many operands, which came to this and left this world, whatever was asked for in the world before.
-abbrev pub GoesOnWith : ℕ → Program → CallResult → ℕ → Config → Config → Result Flow Halt → Type 0
-GoesOnWith limit p came count old new result = (q : Asked) (before : World) → Becomes (Ok came) q old.world →
-    Leaves limit (Ok came) before old.world →
-    Needs limit (asked p (record old { world = before }) (drop count old.run.operands) q) (record old { world = before }) new result
+abbrev pub GoesOnWith : Program → CallResult → ℕ → Config → Config → Result Flow Halt → Type 0
+GoesOnWith p came count old new result = (q : Asked) (before : World) → Becomes (Ok came) q old.world →
+    Leaves p.host.limit (Ok came) before old.world →
+    Needs p (asked p (record old { world = before }) (drop count old.run.operands) q) (record old { world = before }) new result
 
 -- A run is over behind its last instruction, where it has closed what it opened, and else stuck.
 abbrev pub Finishes : Result Flow Halt → Base → Config → Next → Type 0
 Finishes (Ok flow.Done) f c n = (n ≡ Over (Finished c.captures c.world)) × (f.scopes ≡ length c.world.scopes.frames)
 Finishes (Err halt.Stuck) f c n = n ≡ Over (Stuck c.world)
 Finishes _ f c n = ⊥
+
+-- The run of a callee has begun over the same captures and world, and gives the run that waits; or there is none, and all stays as it was.
+abbrev pub Begins : Option Activation → Option Activation → Config → Config → Type 0
+Begins first (Some waits) old new =
+    (waits ≡ old.run) × (first ≡ Some new.run) × (new.captures ≡ old.captures) × (new.world ≡ old.world)
+Begins first None old new = (first ≡ None) × (new ≡ old)
+
+-- A machine stands at the first place of a run; or there is none, and the state is given back.
+abbrev pub IsAtFirst : Option Activation → List Capture → World → Result Config World → Type 0
+IsAtFirst first captures w (Ok c) = (first ≡ Some c.run) × (c ≡ running c.run captures w)
+IsAtFirst first captures w (Err left) = (first ≡ None) × (left ≡ w)
 
 -- a run with its loop at a place open, which is called, over so many captures
 abbrev pub called : ℕ → ℕ → Bool → Activation → Activation
@@ -249,3 +269,8 @@ TakesCounted count old n new = (w : World) (f : List Val → List Val → Next) 
 
 abbrev pub IsUncounted : Option ℕ → List Val → Type 0
 IsUncounted count old = (w : World) (f : List Val → List Val → Next) → take_counted count old w f ≡ stuck w
+
+-- These are the texts that were found, or none were.
+abbrev pub AreTexts : Option (Vec (RcStr Global) Global) → Option (List (List ℕ)) → Type 0
+AreTexts (Some texts) found = found ≡ Some (each rc_str_bytes texts.items)
+AreTexts None found = found ≡ None

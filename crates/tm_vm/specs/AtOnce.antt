@@ -41,9 +41,9 @@ IsPaid Done x fuel = (charge_of x ≡ 1) × (1 < fuel)
 IsPaid WriterFailed x fuel = (charge_of x ≡ 1) × (1 < fuel)
 
 -- The step was done at once, or ended by the writer; or all stayed as it was.
-abbrev pub StepAttempted : Attempt → ℕ → Base → Program → ℕ → Config → Config → Option (List ℕ) → Option (List ℕ) → ℕ → ℕ → Type 0
-StepAttempted Done limit f p size old new told now failures count =
-    Performs limit f (step p f old) old new told now failures count (Ok flow.GoOn) × Paid size (Ok flow.GoOn) old new
-StepAttempted WriterFailed limit f p size old new told now failures count =
-    Performs limit f (step p f old) old new told now failures count (Err halt.Writer)
-StepAttempted Left limit f p size old new told now failures count = (new ≡ old) × (now ≡ told) × (count ≡ failures)
+abbrev pub StepAttempted : Attempt → Base → Program → ℕ → Config → Config → Option (List ℕ) → Option (List ℕ) → ℕ → ℕ → Type 0
+StepAttempted Done f p size old new told now failures count =
+    Performs p f (step p f old) old new told now failures count (Ok flow.GoOn) × Paid p size (Ok flow.GoOn) old new
+StepAttempted WriterFailed f p size old new told now failures count =
+    Performs p f (step p f old) old new told now failures count (Err halt.Writer)
+StepAttempted Left f p size old new told now failures count = (new ≡ old) × (now ≡ told) × (count ≡ failures)

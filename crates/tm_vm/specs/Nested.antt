@@ -1,30 +1,31 @@
 -- A run that an instruction needed, and the machine behind it.
-use Rattle.std.specs.Prelude.{◌≡◌, ◌⊎◌, ℕ, List, [], ◌∷◌, length, Option, Result, Ok, Err, true}
+use Rattle.std.specs.Prelude.{◌≡◌, ◌⊎◌, ◌+◌, ℕ, List, [], ◌∷◌, length, Option, Result, Ok, Err, true}
 use Rattle.std.specs.Io.KnownBytes.{Appends}
 use Rattle.tm_meaning.specs.World.{World}
 use Rattle.tm_meaning.specs.Memory.{is_want_of_memory}
 use Rattle.tm_values.specs.declared.error.ErrorKind.TheVariants.{OutOfMemory}
-use Rattle.tm_meaning.specs.Calls.{whole, wrapped}
+use Rattle.tm_meaning.specs.Calls.{wrapped}
 use Rattle.tm_meaning.specs.declared.wrapping.Wrapping.{Wrapping}
 use Rattle.tm_meaning.specs.Machine.{Activation, Capture, Config, End, Finished, Failed, Stuck, Next, More, Over, Program, back_with, stuck}
-use Rattle.tm_meaning.specs.Machine.{base_of, start}
-use Rattle.tm_meaning.specs.Steps.{Final, Reaches, final}
+use Rattle.tm_meaning.specs.Machine.{base_of}
+use Rattle.tm_meaning.specs.Steps.{Final, Leads, begins, final}
 use Rattle.tm_meaning.specs.declared.base.Base.{Base}
 use Rattle.tm_meaning.specs.declared.run_text.RunText.{RunText}
 use Rattle.tm_output.specs.Counts.{AppendsBeginning}
 use Rattle.tm_parts.specs.declared.halt.Halt.{Halt}
 use Rattle.tm_parts.specs.declared.halt.Halt.TheVariants as halt
-use Rattle.tm_vm.specs.Answers.{ReachesEnd, HaltsAs}
-use Rattle.tm_state.specs.State.{put_back}
+use Rattle.tm_vm.specs.Answers.{ComesTo, HaltsAs}
+use Rattle.tm_state.specs.State.{callee_of, put_back}
 use Rattle.tm_state.specs.declared.saved.Saved.{Saved}
+use Rattle.tm_state.specs.declared.saved.Saved.TheVariants as saved
 use Rattle.tm_state.specs.declared.nested.NestedRun.{NestedRun}
 
--- what the run stands on, and where it starts, where the configuration is c
+-- what the run stands on, and how it begins, where the configuration is c
 abbrev pub base_in : NestedRun → Config → Base
 base_in e c = base_of e.heard c.captures c.world
 
-abbrev pub start_in : NestedRun → Config → Config
-start_in e c = start (whole e.stream) c.captures c.world
+abbrev pub begins_in : Program → NestedRun → Config → Next
+begins_in p e c = begins p (base_in e c) (callee_of e.run) c.captures c.world
 
 -- What its end leads to, behind what is put back, for the run that waits: as it was, or with the captured text on top; or that ends so too.
 abbrev pub behind : NestedRun → Activation → End → Next
@@ -32,22 +33,40 @@ behind e r (Finished ks w) = back_with e.value e.text r ks (put_back e.saved w)
 behind e r (Failed chain w) = Over (Failed (wrapped e.wrap chain) (put_back e.saved w))
 behind e r (Stuck w) = stuck (put_back e.saved w)
 
+-- the world at an end
+abbrev pub world_at : End → World
+world_at (Finished ks w) = w
+world_at (Failed chain w) = w
+world_at (Stuck w) = w
+
+-- The lists of blocks and of loaded names are those from before.
+abbrev pub KeepsLists : World → World → Type 0
+KeepsLists old new = (new.blocks ≡ old.blocks) × (new.loaded ≡ old.loaded)
+
 -- The run was done, the writer got its text, and the run that waited goes on.
 pub record Went (p : Program) (e : NestedRun) (old new : Config) (told now : Option (List ℕ)) : Type 0 where
   pub text : List ℕ
   pub captures : List Capture
   pub world : World
   pub appended : Appends told now text
-  pub reaches : Reaches p (base_in e old) [] (start_in e old) (final text (Finished captures world))
+  pub leads : Leads p (base_in e old) [] (begins_in p e old) (final text (Finished captures world))
+  pub keeps : KeepsLists old.world world
   pub goes : behind e old.run (Finished captures world) ≡ More [] new
+
+-- A block's run stands on the scopes that were saved, and one of its own.
+abbrev pub StandsOn : Saved → World → Type 0
+StandsOn (saved.Block s) w = length w.scopes.frames ≡ s.scopes + 1
+StandsOn (saved.Macro s) w = Unit {0}
 
 -- There are as many scopes as were saved, and they stand where those stood.
 abbrev pub IsBack : Saved → World → Type 0
-IsBack saved w = (length w.scopes.frames ≡ saved.scopes) × (w.scopes.outer ≡ saved.outer)
+IsBack (saved.Block s) w = (length w.scopes.frames ≡ s.scopes) × (w.scopes.outer ≡ s.outer)
+IsBack (saved.Macro s) w = w.scopes ≡ s.context
 
 -- The run came to an end that leads to the end of the run that waits.
 abbrev pub EndsIn : Program → NestedRun → Config → Option (List ℕ) → Option (List ℕ) → End → Type 0
-EndsIn p e old told now x = (inner : End) × ReachesEnd p (base_in e old) (start_in e old) told now inner × (behind e old.run inner ≡ Over x)
+EndsIn p e old told now x = (inner : End) × ComesTo p (base_in e old) (begins_in p e old) told now inner ×
+    KeepsLists old.world (world_at inner) × (behind e old.run inner ≡ Over x)
 
 -- The run was done, or the halt is the end that it leads to.
 abbrev pub RanNested : Program → NestedRun → Config → Config → Option (List ℕ) → Option (List ℕ) → Result (Unit {0}) Halt → Type 0
@@ -67,6 +86,6 @@ IsCaptured kind (Err halt.Writer) old new = ⊥
 IsCaptured kind (Err halt.Stuck) old new = old.captures ≡ []
 IsCaptured kind (Err (halt.Fault chain)) old new = is_want_of_memory chain ≡ true
 
--- What the writer has got is a beginning of all that the run writes.
-abbrev pub WroteBeginning : Program → Base → Config → Option (List ℕ) → Option (List ℕ) → Type 0
-WroteBeginning p f c told now = (o : Final) → Reaches p f [] c o → AppendsBeginning told now o.text
+-- What the writer has got is a beginning of all that is written from a step on.
+abbrev pub WroteBeginning : Program → Base → Next → Option (List ℕ) → Option (List ℕ) → Type 0
+WroteBeginning p f n told now = (o : Final) → Leads p f [] n o → AppendsBeginning told now o.text

@@ -117,6 +117,25 @@ impl Activation {
         }
     }
 
+    /// A run of a macro from its entry, over so many captures, with its arguments as operands, the last of them on top.
+    pub(crate) fn of_macro(
+        alloc: Global,
+        stream: StreamId,
+        floor: usize,
+        place: usize,
+        args: Vec<Value>,
+    ) -> Activation
+        ensures { result ≡ record (run_from stream floor) {
+          place = place;
+          operands = onto args.items [];
+        } }
+    {
+        let mut run = Activation::new(alloc, stream, floor);
+        run.place = place;
+        run.operands = Stack::of(args);
+        run
+    }
+
     /// Uses a filter by its cache number, and gives where it stands. Stuck where it can't be used by that;
     /// OutOfMemory.
     #[inline(always)]

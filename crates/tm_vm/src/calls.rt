@@ -12,7 +12,7 @@ use crate::machine::Machine;
 use std::alloc::Global;
 use tm_meaning::{Base, RunText};
 use tm_parts::Halt;
-use tm_state::{CallResult, NestedRun, Recursion};
+use tm_state::{CallResult, NestedRun, Recursion, RunOf, Saved};
 use tm_syntax::{Application, CaptureMode, Code, Name};
 use tm_tables::Host;
 use tm_values::{Error, ErrorKind, Value};
@@ -29,7 +29,8 @@ impl Machine<'_> {
     ) -> Result<Flow, Halt>
         requires in_place { CanGoOn self.old.run }
         requires its_code { code.now ≡ H.code host.now self.old.run.stream }
-        ensures { Needs (H.meaning host.now).limit (call_function_of
+        ensures { Needs (program (H.meaning host.now) (H.code host.now))
+            (call_function_of
             (program (H.meaning host.now) (H.code host.now)) name.now count self.old)
             self.old self.new result }
     {
@@ -50,7 +51,8 @@ impl Machine<'_> {
     ) -> Result<Flow, Halt>
         requires in_place { CanGoOn self.old.run }
         requires its_code { code.now ≡ H.code host.now self.old.run.stream }
-        ensures { Needs (H.meaning host.now).limit (call_function_of
+        ensures { Needs (program (H.meaning host.now) (H.code host.now))
+            (call_function_of
             (program (H.meaning host.now) (H.code host.now)) name.now (Some count) self.old)
             self.old self.new result }
     {
@@ -73,9 +75,8 @@ impl Machine<'_> {
     ) -> Result<Flow, Halt>
         requires in_place { CanGoOn self.old.run }
         requires its_code { code.now ≡ H.code host.now self.old.run.stream }
-        ensures { GoesOnWith (H.meaning host.now).limit
-            (program (H.meaning host.now) (H.code host.now)) called count self.old self.new
-            result }
+        ensures { GoesOnWith (program (H.meaning host.now) (H.code host.now))
+            called count self.old self.new result }
     {
         match called {
             CallResult::Value(value) => self.replace(count, value),
@@ -121,7 +122,7 @@ impl Machine<'_> {
     {
         if let Err(error) = self.captures.begin(alloc, CaptureMode::Capture) {
             let NestedRun { saved, .. } = Box::into_inner(run);
-            self.state.leave_block(saved);
+            self.state.put_back(saved);
             return Err(Halt::Fault(error));
         }
         self.run.drop_operands(count);
@@ -195,7 +196,8 @@ impl Machine<'_> {
     ) -> Result<Flow, Halt>
         requires in_place { CanGoOn self.old.run }
         requires its_code { code.now ≡ H.code host.now self.old.run.stream }
-        ensures { Needs (H.meaning host.now).limit (apply_of
+        ensures { Needs (program (H.meaning host.now) (H.code host.now))
+            (apply_of
             (program (H.meaning host.now) (H.code host.now)) application name.now count self.old)
             self.old self.new result }
     {
@@ -218,7 +220,8 @@ impl Machine<'_> {
     ) -> Result<Flow, Halt>
         requires in_place { CanGoOn self.old.run }
         requires its_code { code.now ≡ H.code host.now self.old.run.stream }
-        ensures { Needs (H.meaning host.now).limit (apply_of
+        ensures { Needs (program (H.meaning host.now) (H.code host.now))
+            (apply_of
             (program (H.meaning host.now) (H.code host.now))
             application name.now (Some count) self.old)
             self.old self.new result }
@@ -243,7 +246,8 @@ impl Machine<'_> {
     ) -> Result<Flow, Halt>
         requires in_place { CanGoOn self.old.run }
         requires its_code { code.now ≡ H.code host.now self.old.run.stream }
-        ensures { Needs (H.meaning host.now).limit (call_object_of
+        ensures { Needs (program (H.meaning host.now) (H.code host.now))
+            (call_object_of
             (program (H.meaning host.now) (H.code host.now)) count self.old)
             self.old self.new result }
     {
@@ -263,7 +267,8 @@ impl Machine<'_> {
     ) -> Result<Flow, Halt>
         requires in_place { CanGoOn self.old.run }
         requires its_code { code.now ≡ H.code host.now self.old.run.stream }
-        ensures { Needs (H.meaning host.now).limit (call_object_of
+        ensures { Needs (program (H.meaning host.now) (H.code host.now))
+            (call_object_of
             (program (H.meaning host.now) (H.code host.now)) (Some count) self.old)
             self.old self.new result }
     {
@@ -288,7 +293,8 @@ impl Machine<'_> {
     ) -> Result<Flow, Halt>
         requires in_place { CanGoOn self.old.run }
         requires its_code { code.now ≡ H.code host.now self.old.run.stream }
-        ensures { Needs (H.meaning host.now).limit (apply_filter_of
+        ensures { Needs (program (H.meaning host.now) (H.code host.now))
+            (apply_filter_of
             (program (H.meaning host.now) (H.code host.now)) name.now count cache self.old)
             self.old self.new result }
     {
@@ -310,7 +316,8 @@ impl Machine<'_> {
     ) -> Result<Flow, Halt>
         requires in_place { CanGoOn self.old.run }
         requires its_code { code.now ≡ H.code host.now self.old.run.stream }
-        ensures { Needs (H.meaning host.now).limit (perform_test_of
+        ensures { Needs (program (H.meaning host.now) (H.code host.now))
+            (perform_test_of
             (program (H.meaning host.now) (H.code host.now)) name.now count cache self.old)
             self.old self.new result }
     {
@@ -338,7 +345,8 @@ impl Machine<'_> {
         name: &Name,
     ) -> Result<Flow, Halt>
         requires { CanGoOn self.old.run }
-        ensures { Needs (H.meaning host.now).limit (call_block_of
+        ensures { Needs (program (H.meaning host.now) (H.code host.now))
+            (call_block_of
             (program (H.meaning host.now) (H.code host.now)) base.now name.now self.old)
             self.old self.new result }
     {
@@ -352,12 +360,12 @@ impl Machine<'_> {
             Err(error) => return Err(Halt::Fault(error)),
         };
         let entry = NestedRun {
-            stream,
+            run: RunOf::Stream(stream),
             heard,
             value: false,
             text: RunText::Captured,
             wrap: None,
-            saved,
+            saved: Saved::Block(saved),
         };
         let entry = entry.boxed(alloc)?;
         self.run.advance();

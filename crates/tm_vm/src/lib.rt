@@ -10,6 +10,7 @@ mod flow;
 mod jumps;
 mod loops;
 mod machine;
+mod macros;
 mod operands;
 mod output;
 mod scopes;

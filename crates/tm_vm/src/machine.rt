@@ -1,12 +1,12 @@
 //! The machine: a run with its operands, the captures and the state, and the loop.
 ghost use Rattle.std.specs.Prelude.{◌≡◌, ◌+◌, length, OnOk};
-ghost use Rattle.tm_meaning.specs.Calls.{whole};
-ghost use Rattle.tm_meaning.specs.Machine.{audible, base_of, start};
+ghost use Rattle.tm_meaning.specs.Machine.{audible, base_of, first_run, run_from, running};
+ghost use Rattle.tm_meaning.specs.Steps.{step};
 ghost use Rattle.tm_parts.specs.Halts.{failures_after};
-ghost use Rattle.tm_vm.specs.Answers.{program, EndsAs, ReachesEnd, NoFewer};
-ghost use Rattle.tm_state.specs.Answers.{KeepsIdAndFuel, SameScopes};
-ghost use Rattle.tm_state.specs.State.{put_back};
-ghost use Rattle.tm_vm.specs.Nested.{RanNested, WroteBeginning, IsBack, IsWrapped, IsCaptured, base_in, start_in};
+ghost use Rattle.tm_vm.specs.Answers.{program, Begins, EndsAs, IsAtFirst, ReachesEnd, NoFewer};
+ghost use Rattle.tm_state.specs.Answers.{KeepsFixed, SameScopes};
+ghost use Rattle.tm_state.specs.State.{callee_of, put_back};
+ghost use Rattle.tm_vm.specs.Nested.{RanNested, StandsOn, WroteBeginning, IsBack, IsWrapped, IsCaptured, base_in, begins_in};
 
 use crate::activation::Activation;
 use crate::captures::run_value;
@@ -16,10 +16,10 @@ use std::marker::Model;
 use std::mem;
 use tm_meaning::{Base, RunText, StreamId, Wrapping};
 use tm_parts::{Captures, Halt, Sink};
-use tm_state::{NestedRun, Saved, StateData};
+use tm_state::{NestedRun, RunOf, Saved, StateData};
 use tm_syntax::Code;
 use tm_tables::Host;
-use tm_values::Error;
+use tm_values::{Error, ErrorKind};
 
 /// A halt of a nested run, as it is told: a fault is wrapped in the kind, where there is one.
 #[cold]
@@ -37,6 +37,24 @@ fn wrapped(alloc: Global, wrap: Option<Wrapping>, halt: Halt) -> Halt
         },
         Halt::Writer => Halt::Writer,
         Halt::Stuck => Halt::Stuck,
+    }
+}
+
+/// The run of what is called, from its first place and over so many captures; none where its stream has no such macro,
+/// or one that takes other arguments.
+fn first_run<H: Host>(alloc: Global, host: &H, run: RunOf, floor: usize) -> Option<Activation>
+    ensures { result ≡ first_run (program (H.meaning host.now) (H.code host.now))
+        (callee_of run) floor }
+{
+    match run {
+        RunOf::Stream(stream) => Some(Activation::new(alloc, stream, floor)),
+        RunOf::Macro(stream, number, args) => {
+            let (place, count) = host.instructions(&stream).entry(number)?;
+            if count != args.len() {
+                return None;
+            }
+            Some(Activation::of_macro(alloc, stream, floor, place, args))
+        }
     }
 }
 
@@ -68,12 +86,34 @@ impl<'env> Machine<'env> {
         captures: Captures,
         state: StateData<'env>,
     ) -> Machine<'env>
-        ensures { result ≡ start (whole stream) captures state.entry }
+        ensures { result ≡ running (run_from stream (length captures)) captures state.entry }
     {
         Machine {
             run: Activation::new(alloc, stream, captures.depth()),
             captures,
             state,
+        }
+    }
+
+    /// A machine at the first instruction of what is called, over captures and a state; the state where there is no such
+    /// run: where its stream has no such macro, or one that takes other arguments.
+    pub fn of_run<H: Host>(
+        alloc: Global,
+        host: &H,
+        run: RunOf,
+        captures: Captures,
+        state: StateData<'env>,
+    ) -> Result<Machine<'env>, StateData<'env>>
+        ensures { IsAtFirst (first_run (program (H.meaning host.now) (H.code host.now))
+            (callee_of run) (length captures)) captures state.entry result }
+    {
+        match first_run(alloc, host, run, captures.depth()) {
+            Some(run) => Ok(Machine {
+                run,
+                captures,
+                state,
+            }),
+            None => Err(state),
         }
     }
 
@@ -114,8 +154,8 @@ impl<'env> Machine<'env> {
     }
 
     // ------------------------------------------------------------ runs
-    /// Runs a run that is needed first, over the same captures and state; the run that waits goes on.
-    /// However it ended, what it replaced is put back behind it.
+    /// Runs a run that is needed first, over the same captures and state; the run that waits goes on. InvalidOperation
+    /// where there is no such run. However it ended, what it replaced is put back behind it.
     #[cycle(machine)]
     fn run_nested<H: Host, W: Sink>(
         &mut self,
@@ -124,27 +164,32 @@ impl<'env> Machine<'env> {
         entry: NestedRun,
         writer: &mut W,
     ) -> Result<(), Halt>
-        requires { entry.saved.scopes + 1 ≡ length self.old.world.scopes.frames }
+        requires { StandsOn entry.saved self.old.world }
         ensures ran { RanNested (program (H.meaning host.now) (H.code host.now)) entry self.old self.new
             (W.written writer.old) (W.written writer.new) result }
         ensures beginning { WroteBeginning (program (H.meaning host.now) (H.code host.now))
-            (base_in entry self.old) (start_in entry self.old)
+            (base_in entry self.old)
+            (begins_in (program (H.meaning host.now) (H.code host.now)) entry self.old)
             (W.written writer.old) (W.written writer.new) }
         ensures failures { W.failures writer.new ≡ failures_after result (W.failures writer.old) }
-        ensures kept { KeepsIdAndFuel self.old.world self.new.world }
+        ensures kept { KeepsFixed self.old.world self.new.world }
         ensures back { IsBack entry.saved self.new.world }
         ensures same_stream { self.new.run.stream ≡ self.old.run.stream }
         ensures same_loops { self.new.run.loops ≡ self.old.run.loops }
     {
         let NestedRun {
-            stream,
+            run,
             heard,
             value,
             text,
             wrap,
             saved,
         } = entry;
-        let waiting = self.begin(alloc, stream);
+        let Some(waiting) = self.begin(alloc, host, run) else {
+            self.put_back(saved);
+            let refusal = Halt::Fault(Error::from(ErrorKind::InvalidOperation));
+            return Err(wrapped(alloc, wrap, refusal));
+        };
         let result = self.run(alloc, host, heard, writer);
         self.resume(waiting);
         self.put_back(saved);
@@ -172,13 +217,14 @@ impl<'env> Machine<'env> {
         Ok(())
     }
 
-    /// Begins a run of a stream over the same captures and state, and gives the run that waits.
-    fn begin(&mut self, alloc: Global, stream: StreamId) -> Activation
-        ensures waits { result ≡ self.old.run }
-        ensures begins { self.new ≡ start (whole stream) self.old.captures self.old.world }
+    /// Begins the run of what is called over the same captures and state, and gives the run that waits; none where there
+    /// is no such run.
+    fn begin<H: Host>(&mut self, alloc: Global, host: &H, run: RunOf) -> Option<Activation>
+        ensures { Begins (first_run (program (H.meaning host.now) (H.code host.now))
+            (callee_of run) (length self.old.captures)) result self.old self.new }
     {
-        let floor = self.captures.depth();
-        mem::replace(&mut self.run, Activation::new(alloc, stream, floor))
+        let first = first_run(alloc, host, run, self.captures.depth())?;
+        Some(mem::replace(&mut self.run, first))
     }
 
     /// Goes on with a run that waited.
@@ -188,11 +234,11 @@ impl<'env> Machine<'env> {
         self.run = waiting;
     }
 
-    /// Puts back in the state what a block replaced, and leaves the scopes that it opened.
+    /// Puts back in the state what a run replaced, and leaves the scopes that it opened.
     fn put_back(&mut self, saved: Saved)
         ensures { self.new ≡ record self.old { world = put_back saved self.old.world } }
     {
-        self.state.leave_block(saved);
+        self.state.put_back(saved);
     }
 
     /// The instructions of the run's stream.
@@ -216,10 +262,12 @@ impl<'env> Machine<'env> {
             (base_of heard self.old.captures self.old.world) self.old
             (W.written writer.old) (W.written writer.new)) }
         ensures beginning { WroteBeginning (program (H.meaning host.now) (H.code host.now))
-            (base_of heard self.old.captures self.old.world) self.old
+            (base_of heard self.old.captures self.old.world)
+            (step (program (H.meaning host.now) (H.code host.now))
+            (base_of heard self.old.captures self.old.world) self.old)
             (W.written writer.old) (W.written writer.new) }
         ensures failures { W.failures writer.new ≡ failures_after result (W.failures writer.old) }
-        ensures kept { KeepsIdAndFuel self.old.world self.new.world }
+        ensures kept { KeepsFixed self.old.world self.new.world }
         ensures no_fewer { NoFewer self.old.world self.new.world }
         ensures closed { OnOk result (SameScopes self.old.world self.new.world) }
     {

@@ -2,10 +2,10 @@
 ghost use Rattle.std.specs.Prelude.{◌≡◌, ◌+◌, [], ◌∷◌, OnOk, OnErr, length};
 ghost use Rattle.tm_values.specs.declared.error.ErrorKind.TheVariants.{OutOfFuel};
 ghost use Rattle.tm_meaning.specs.World.{Good, Bad};
-ghost use Rattle.tm_meaning.specs.Steps.{charge_of, pay, effect, finish, step};
+ghost use Rattle.tm_meaning.specs.Steps.{charge_of, closed, pay, effect, finish, return_of, step};
 ghost use Rattle.tm_vm.specs.Answers.{program, CanGoOn, Performs, Finishes, Paid};
 ghost use Rattle.tm_vm.specs.AtOnce.{StepAttempted};
-ghost use Rattle.tm_state.specs.Answers.{KeepsIdAndFuel};
+ghost use Rattle.tm_state.specs.Answers.{KeepsFixed};
 
 use crate::at_once::Attempt;
 use crate::flow::Flow;
@@ -32,7 +32,7 @@ impl Machine<'_> {
     ) -> Result<Flow, Halt>
         requires in_place { CanGoOn self.old.run }
         requires its_code { code.now ≡ H.code host.now self.old.run.stream }
-        ensures { Performs (H.meaning host.now).limit base.now
+        ensures { Performs (program (H.meaning host.now) (H.code host.now)) base.now
             (effect (program (H.meaning host.now) (H.code host.now)) base.now instruction.now
             self.old)
             self.old self.new
@@ -73,6 +73,7 @@ impl Machine<'_> {
             Instruction::Pow => self.do_binary(alloc, host, BinaryOperator::Power),
             Instruction::Neg => self.do_unary(alloc, host, UnaryOperator::Negate),
             Instruction::Not => self.do_unary(alloc, host, UnaryOperator::Not),
+            Instruction::IsUndefined => self.do_is_undefined(),
             Instruction::Swap => self.do_swap(),
             Instruction::DupTop => self.do_dup_top(),
             Instruction::DiscardTop => self.do_discard_top(),
@@ -104,6 +105,12 @@ impl Machine<'_> {
             Instruction::FastRecurse => self.do_fast_recurse(alloc, host, base, code),
             Instruction::CallBlock(name) => self.do_call_block(alloc, host, base, name),
             Instruction::StoreLocal(name) => self.do_store_local(name),
+            Instruction::Enclose(name) => self.do_enclose(alloc, host, name),
+            Instruction::GetClosure => self.do_get_closure(),
+            Instruction::BuildMacro(name, place, caller) => {
+                self.do_build_macro(alloc, host, code, name, *place, *caller)
+            }
+            Instruction::Return => self.do_return(base),
             Instruction::UnpackList(count) => self.do_unpack_list(alloc, *count),
             Instruction::SetAttr(name) => self.do_set_attr(alloc, name),
             Instruction::PushWith => self.do_push_with(alloc, host),
@@ -135,7 +142,7 @@ impl Machine<'_> {
             (pay instruction.now self.old.world ≡ Bad (OutOfFuel ∷ []) self.new.world) }
         ensures spent { OnOk result
             (self.new.world.fuel + charge_of instruction.now ≡ self.old.world.fuel) }
-        ensures kept { KeepsIdAndFuel self.old.world self.new.world }
+        ensures kept { KeepsFixed self.old.world self.new.world }
         ensures rest { self.new ≡ record self.old {
           world = record self.old.world { fuel = self.new.world.fuel };
         } }
@@ -143,16 +150,31 @@ impl Machine<'_> {
         self.state.charge(instruction)
     }
 
+    /// Whether all is closed that the run opened.
+    fn is_closed(&self, base: &Base) -> bool
+        ensures { result ≡ closed base.now self.now }
+    {
+        base.captures == self.captures.depth()
+            && base.scopes == self.state.height()
+            && self.run.escapes_are_closed()
+            && !self.run.has_loop()
+    }
+
     /// Ends the run behind its last instruction; stuck where it has left something open.
     pub(crate) fn finish(&self, base: &Base, size: usize) -> Result<Flow, Halt>
         ensures { Finishes result base.now self.now (finish size base.now self.now) }
     {
-        if self.run.place == size
-            && base.captures == self.captures.depth()
-            && base.scopes == self.state.height()
-            && self.run.escapes_are_closed()
-            && !self.run.has_loop()
-        {
+        if self.run.place == size && self.is_closed(base) {
+            return Ok(Flow::Done);
+        }
+        Err(Halt::Stuck)
+    }
+
+    /// Ends the run where it stands; stuck where it has left something open.
+    pub(crate) fn do_return(&self, base: &Base) -> Result<Flow, Halt>
+        ensures { Finishes result base.now self.now (return_of base.now self.now) }
+    {
+        if self.is_closed(base) {
             return Ok(Flow::Done);
         }
         Err(Halt::Stuck)
@@ -169,11 +191,12 @@ impl Machine<'_> {
         writer: &mut W,
     ) -> Result<Flow, Halt>
         requires { code.now ≡ H.code host.now self.old.run.stream }
-        ensures performs { Performs (H.meaning host.now).limit base.now
+        ensures performs { Performs (program (H.meaning host.now) (H.code host.now)) base.now
             (step (program (H.meaning host.now) (H.code host.now)) base.now self.old)
             self.old self.new (W.written writer.old) (W.written writer.new)
             (W.failures writer.old) (W.failures writer.new) result }
-        ensures paid { Paid (length code.now) result self.old self.new }
+        ensures paid { Paid (program (H.meaning host.now) (H.code host.now))
+            (length code.now) result self.old self.new }
     {
         let instructions = code.as_slice();
         let Some(instruction) = instructions.get(self.place()) else {
@@ -195,8 +218,8 @@ impl Machine<'_> {
         writer: &mut W,
     ) -> Attempt
         requires { code.now ≡ H.code host.now self.old.run.stream }
-        ensures { StepAttempted result (H.meaning host.now).limit base.now
-            (program (H.meaning host.now) (H.code host.now)) (length code.now) self.old self.new
+        ensures { StepAttempted result base.now (program (H.meaning host.now) (H.code host.now))
+            (length code.now) self.old self.new
             (W.written writer.old) (W.written writer.new)
             (W.failures writer.old) (W.failures writer.new) }
     {
@@ -217,11 +240,12 @@ impl Machine<'_> {
         writer: &mut W,
     ) -> Result<Flow, Halt>
         requires { code.now ≡ H.code host.now self.old.run.stream }
-        ensures performs { Performs (H.meaning host.now).limit base.now
+        ensures performs { Performs (program (H.meaning host.now) (H.code host.now)) base.now
             (step (program (H.meaning host.now) (H.code host.now)) base.now self.old)
             self.old self.new (W.written writer.old) (W.written writer.new)
             (W.failures writer.old) (W.failures writer.new) result }
-        ensures paid { Paid (length code.now) result self.old self.new }
+        ensures paid { Paid (program (H.meaning host.now) (H.code host.now))
+            (length code.now) result self.old self.new }
     {
         match self.attempt_next(host, base, code, writer) {
             Attempt::Done => Ok(Flow::GoOn),

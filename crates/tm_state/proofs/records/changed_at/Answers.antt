@@ -1,4 +1,4 @@
-use Rattle.std.proofs.Common.{◌≡◌, ◌<◌, ◌≤◌, ap, ◌∙◌, arith, length, get_or, slice_set}
+use Rattle.std.proofs.Common.{◌<◌, ap, ◌∙◌, arith, length, slice_set}
 use Rattle.std.proofs.lemmas.Result.{on_ok_weaker}
 use Rattle.tm_state.proofs.Turns.{keeping_there}
 use Rattle.tm_state.proofs.records.changed_at.Goals as goal

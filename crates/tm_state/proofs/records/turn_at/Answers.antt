@@ -1,4 +1,4 @@
-use Rattle.std.proofs.Common.{◌≡◌, ◌<◌, ◌≤◌, ap, ◌∙◌, arith, length, get_or, slice_set}
+use Rattle.std.proofs.Common.{◌<◌, ap, ◌∙◌, arith, length, slice_set}
 use Rattle.tm_state.proofs.Turns.{turned_past, turned_there}
 use Rattle.tm_state.proofs.records.turn_at.Goals as goal
 

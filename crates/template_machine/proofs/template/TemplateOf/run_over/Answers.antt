@@ -1,7 +1,6 @@
-use Rattle.std.proofs.Common.{List, Result, Err, refl, ap, sym, ◌∙◌}
+use Rattle.std.proofs.Common.{List, Result, Err, refl, ap, sym, ◌∙◌, length}
 use Rattle.tm_meaning.specs.World.{World, root_of}
-use Rattle.tm_meaning.specs.Calls.{whole}
-use Rattle.tm_meaning.specs.Machine.{Capture, start}
+use Rattle.tm_meaning.specs.Machine.{Capture, run_from, running}
 use Rattle.tm_parts.specs.declared.halt.Halt.{Halt}
 use Rattle.tm_meaning.specs.Memory.{is_want_of_memory}
 use Rattle.tm_output.specs.Pieces.{beginning_nothing}
@@ -13,7 +12,7 @@ use Rattle.template_machine.proofs.template.TemplateOf.run_over.Goals as goal
 pub returns : goal.returns
 returns g c =
     let begins = c.new-machine.ensures
-    ∙ ap (λ s. start (whole s) c.args.captures c.args.state) (c.root-stream.ensures ∙ ap root_of c.in-Ok.ensures.ok
+    ∙ ap (λ s. running (run_from s (length c.args.captures)) c.args.captures c.args.state) (c.root-stream.ensures ∙ ap root_of c.in-Ok.ensures.ok
     ∙ sym c.requires.own) in
     over_done g.O.Parties.stated c.args.self.now c.rendering.result c.rendering.ensures c.args.captures c.run.new.self.captures
     c.args.state c.run.new.self.world
@@ -25,7 +24,7 @@ returns g c =
 pub returns-in_err-run : goal.returns-in_err-run
 returns-in_err-run g c =
     let begins = c.new-machine.ensures
-    ∙ ap (λ s. start (whole s) c.args.captures c.args.state) (c.root-stream.ensures ∙ ap root_of c.in-Ok.ensures.ok
+    ∙ ap (λ s. running (run_from s (length c.args.captures)) c.args.captures c.args.state) (c.root-stream.ensures ∙ ap root_of c.in-Ok.ensures.ok
     ∙ sym c.requires.own) in
     let told = g.W.Sink.written c.args.writer.now in
     let now = g.W.Sink.written c.run.new.writer in

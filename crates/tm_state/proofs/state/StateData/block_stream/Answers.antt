@@ -1,4 +1,4 @@
-use Rattle.std.proofs.Common.{◌≡◌, ◌∙◌, ap, sym, subst, refl, Option, None, Some, Bool, true, false, is_some, not}
+use Rattle.std.proofs.Common.{◌≡◌, ◌∙◌, ap, subst, refl, Option, None, Some, true, false, is_some, not}
 use Rattle.tm_syntax.specs.Named.{find}
 use Rattle.tm_meaning.specs.World.{World, block_of}
 use Rattle.tm_state.proofs.Blocks.{is_block, no_code, lent}

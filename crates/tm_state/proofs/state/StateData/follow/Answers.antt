@@ -1,4 +1,4 @@
-use Rattle.std.proofs.Common.{rules, ◌≡◌}
+use Rattle.std.proofs.Common.{rules}
 use Rattle.tm_state.proofs.Answered.{went_on, run_there, ended_there, handed_on}
 use Rattle.tm_state.proofs.state.StateData.follow.Goals as goal
 

@@ -1,4 +1,4 @@
-use Rattle.std.proofs.Common.{◌≡◌, ◌∙◌, sym, ap}
+use Rattle.std.proofs.Common.{◌∙◌, sym, ap}
 use Rattle.tm_values.specs.Defined.{refusal_of}
 use Rattle.tm_values.specs.declared.undefined.UndefinedUse.TheVariants.{Emission}
 use Rattle.tm_state.proofs.Formatted.{by_default, no_refusal}

@@ -8,7 +8,7 @@ use Rattle.tm_syntax.proofs.code.Code.loop_number.Goals as goal
 
 pub returns : goal.returns
 returns c =
-    let same = c.as_slice.ensures.value ∙ c.self.invariant in
+    let same = c.as_slice.ensures.value ∙ c.self.invariant.0 in
     let point = c.partition_point.ensures.partitioned (λ (l : LoopPlace). ltb l.place c.args.place)
     (always_returns_same _ _ _ (λ a r f k. search (rules, of_calls)))
     (IsPartitionedBy-ltb (λ (l : LoopPlace). l.place) c.as_slice.result.now c.args.place

@@ -8,7 +8,7 @@ use Rattle.tm_tables.proofs.context.Context.names.Goals as goal
 
 pub loop-frame-preserved : goal.loop-frame-preserved
 loop-frame-preserved g c =
-    entered-more (g.R.Records.records c.args.records.now) c.deref-frame-items.result.now c.loop-frame.frame-index c.frame-item.result
+    entered-more (g.R.Records.records c.args.records.now) c.args.closures.now c.deref-frame-items.result.now c.loop-frame.frame-index c.frame-item.result
     (texts_of c.loop-frame.names.items)
     (texts_of c.add_names.new.names.items) c.loop-frame-test.true c.frame-item.is c.loop-frame.invariant c.in_ok-add_names.ensures.ok
 
@@ -18,7 +18,7 @@ returns g c =
     ap reverse (take_all c.loop-frame.frame-index c.deref-frame-items.result.now c.loop-frame-test.false
     ∙ c.deref-frame-items.ensures.value) ∙ ap (λ (scopes : Scopes). scopes.frames) c.self.view_is in
     record {
-      found = subst (λ scopes. AreFoundIn (g.R.Records.records c.args.records.now) scopes (texts_of c.loop-frame.names.items)) all
+      found = subst (λ scopes. AreFoundIn (g.R.Records.records c.args.records.now) c.args.closures.now scopes (texts_of c.loop-frame.names.items)) all
           c.loop-frame.invariant;
       err = tt;
     }

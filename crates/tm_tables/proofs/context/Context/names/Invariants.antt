@@ -4,4 +4,4 @@ use Rattle.tm_tables.specs.Known.{AreFoundIn}
 use Rattle.tm_tables.proofs.context.Context.names.Given as goal
 
 abbrev pub invariant-loop-frame : goal.invariant-loop-frame
-invariant-loop-frame g l = AreFoundIn (g.R.Records.records l.records) (reverse (take l.frame-index l.frame-items)) (texts_of l.names.items)
+invariant-loop-frame g l = AreFoundIn (g.R.Records.records l.records) l.closures (reverse (take l.frame-index l.frame-items)) (texts_of l.names.items)

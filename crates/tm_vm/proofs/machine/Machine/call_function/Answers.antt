@@ -9,7 +9,7 @@ pub returns : goal.returns
 returns g c =
     let host = g.H.Host.meaning c.args.host.now in
     let old : Config = record { run = c.self.inside.run; captures = c.self.inside.captures; world = c.self.inside.state } in
-    went_on host.limit (program host (g.H.Host.code c.args.host.now)) (λ w vs. call_named host c.args.name.now vs w) c.args.count old c.args.self.now c.self.view_is
+    went_on (program host (g.H.Host.code c.args.host.now)) (λ w vs. call_named host c.args.name.now vs w) c.args.count old c.args.self.now c.self.view_is
     c.in-Some.args.now c.call.new.self c.in-Some.ensures c.in_ok-called.called c.go_on_with.new.self c.go_on_with.result
     c.in_ok-called.ensures.called c.in_ok-called.ensures.leaves c.go_on_with.ensures
 
@@ -17,6 +17,6 @@ pub returns-in_err-called : goal.returns-in_err-called
 returns-in_err-called g c =
     let host = g.H.Host.meaning c.args.host.now in
     let old : Config = record { run = c.self.inside.run; captures = c.self.inside.captures; world = c.self.inside.state } in
-    ended host.limit (program host (g.H.Host.code c.args.host.now)) (λ w vs. call_named host c.args.name.now vs w) c.args.count old c.args.self.now c.self.view_is
+    ended (program host (g.H.Host.code c.args.host.now)) (λ w vs. call_named host c.args.name.now vs w) c.args.count old c.args.self.now c.self.view_is
     c.in-Some.args.now c.call.new.self c.in-Some.ensures c.from_residual.result c.in_err-called.field-0.0 c.from_residual.ensures
     c.in_err-called.ensures.called c.in_err-called.ensures.leaves

@@ -9,5 +9,5 @@ returns-in-Some g c =
     let host = g.H.Host.meaning c.args.host.now in
     let inside : Config = record { run = c.self.inside.run; captures = c.self.inside.captures; world = c.self.inside.state } in
     counted_needs (program host (g.H.Host.code c.args.host.now)) (λ w vs. applied host c.args.application c.args.name.now vs w) c.args.count c.in-Some.count inside
-    c.take_count.new.self c.in-Some.ensures.rest c.in-Some.ensures.counted host.limit c.args.self.now c.apply.new.self c.apply.result
+    c.take_count.new.self c.in-Some.ensures.rest c.in-Some.ensures.counted c.args.self.now c.apply.new.self c.apply.result
     c.self.view_is c.apply.ensures

@@ -4,6 +4,8 @@ use Rattle.tm_meaning.specs.Machine.{Config}
 use Rattle.tm_meaning.specs.declared.run_text.RunText.TheVariants as texts
 use Rattle.tm_vm.specs.Answers.{program}
 use Rattle.tm_state.specs.declared.nested.NestedRun.{NestedRun}
+use Rattle.tm_state.specs.declared.nested.RunOf.TheVariants as run_of
+use Rattle.tm_state.specs.declared.saved.Saved.TheVariants as saved
 use Rattle.tm_vm.proofs.Performed.{boxed, block_entered}
 use Rattle.tm_vm.proofs.machine.Machine.do_call_block.Goals as goal
 
@@ -15,14 +17,15 @@ returns g c =
     let p = program (g.H.Host.meaning c.args.host.now) (g.H.Host.code c.args.host.now) in
     let new : Config = record { run = c.advance-2.new.self; captures = c.self.inside.captures; world = c.enter_block.new.self } in
     let e : NestedRun = record {
-      stream = c.in-Ok.entered.0;
+      run = run_of.Stream c.in-Ok.entered.0;
       heard = c.is_audible-heard.result;
       value = false;
       text = texts.Captured;
       wrap = None;
-      saved = c.in-Ok.entered.1;
+      saved = saved.Block c.in-Ok.entered.1;
     } in
     let enters = block_entered p c.args.base.now c.args.self.now c.args.name.now c.in-Ok.entered.0 e new c.enter_block.new.self
-    (search rules fits 100) (search rules fits 100) (search rules fits 100) (search rules fits 100) (search rules fits 100) in
-    boxed {limit = p.host.limit} {n = call_block_of p c.args.base.now c.args.name.now c.args.self.now} {old = c.args.self.now} {new = new}
+    (search rules fits 100) (search rules fits 100) (search rules fits 100) (search rules fits 100) (search rules fits 100)
+    (search rules fits 100) in
+    boxed {p = p} {n = call_block_of p c.args.base.now c.args.name.now c.args.self.now} {old = c.args.self.now} {new = new}
     e c.in_ok-entry.entry c.in_ok-entry.ensures.ok enters (search rules fits 100) (search rules fits 100) (search rules fits 100)

@@ -18,5 +18,6 @@ returns-in-Left-clause-performs g c =
 
 pub returns-in-Left-clause-paid : goal.returns-in-Left-clause-paid
 returns-in-Left-clause-paid g c =
-    subst (λ (m : Config). Paid (length c.args.code.now) c.step_by_method.result m c.step_by_method.new.self)
+    let p = program (g.H.Host.meaning c.args.host.now) (g.H.Host.code c.args.host.now) in
+    subst (λ (m : Config). Paid p (length c.args.code.now) c.step_by_method.result m c.step_by_method.new.self)
     c.in-Left.ensures.0 c.step_by_method.ensures.paid

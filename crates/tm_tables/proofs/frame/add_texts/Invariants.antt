@@ -1,7 +1,7 @@
 use Rattle.std.proofs.Common.{ℕ, List, ◌≡◌, ◌||◌, take}
 use Rattle.tm_syntax.specs.Named.{texts_of}
 use Rattle.tm_tables.specs.Known.{has_text, is_among}
-use Rattle.tm_tables.proofs.context.add_texts.Given as goal
+use Rattle.tm_tables.proofs.frame.add_texts.Given as goal
 
 abbrev pub invariant-loop-pair : goal.invariant-loop-pair
 invariant-loop-pair l =

@@ -1,0 +1,7 @@
+use Rattle.std.proofs.Common.{refl}
+use Rattle.std.specs.Fmt.{digits}
+use Rattle.tm_meaning.proofs.rows.spread_keyword_rows.Goals as goal
+
+pub returns-clause-between : goal.returns-clause-between
+unfolding digits
+returns-clause-between c = (refl, refl)

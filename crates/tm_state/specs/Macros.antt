@@ -1,0 +1,41 @@
+-- Words on the arguments of macros.
+use Rattle.std.specs.Borrow.{Bor}
+use Rattle.std.specs.declared.alloc.Global.{Global}
+use Rattle.std.specs.Prelude.{◌≡◌, Vec, List, [], ◌∷◌, ◌++◌, Option, None, Some, Result, Ok, Err, false}
+use Rattle.tm_definitions.specs.Members.{or_undefined}
+use Rattle.tm_values.specs.Val.{Val, entries_in}
+use Rattle.tm_values.specs.declared.error.ErrorKind.{ErrorKind}
+use Rattle.tm_values.specs.declared.error.ErrorKind.TheVariants.{TooManyArguments}
+use Rattle.tm_meaning.specs.Memory.{is_want_of_memory}
+use Rattle.tm_meaning.specs.Calls.{behind_first}
+
+-- the pairs of a keyword map that is given, or none
+abbrev pub given_in : Option (Bor Val) → List (Val × Val)
+given_in None = []
+given_in (Some v) = entries_in v.now
+
+-- the value of one argument, by its place or its name; none where it is given by both
+abbrev pub argument_of : Option Val → Option Val → Option Val
+argument_of None named = Some (or_undefined named)
+argument_of (Some v) None = Some v
+argument_of (Some v) (Some w) = None
+
+-- a value before others, where there are both
+abbrev pub before_all : Option Val → Option (List Val) → Option (List Val)
+before_all None vs = None
+before_all (Some v) vs = behind_first v vs
+
+-- values before others, where there are such
+abbrev pub behind_all : List Val → Option (List Val) → Option (List Val)
+behind_all before None = None
+behind_all before (Some vs) = Some (before ++ vs)
+
+-- What was bound is so; or nothing is, unless memory was wanted.
+abbrev pub IsBound : {A : Type 0} → Result A (List ErrorKind) → Option A → Type 0
+IsBound (Ok a) stated = stated ≡ Some a
+IsBound (Err chain) stated = is_want_of_memory chain ≡ false → (chain ≡ TooManyArguments ∷ []) × (stated ≡ None)
+
+-- The same of values in a row.
+abbrev pub BindsTo : Result (Vec Val Global) (List ErrorKind) → Option (List Val) → Type 0
+BindsTo (Ok vs) stated = stated ≡ Some vs.items
+BindsTo (Err chain) stated = is_want_of_memory chain ≡ false → (chain ≡ TooManyArguments ∷ []) × (stated ≡ None)

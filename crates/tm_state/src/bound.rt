@@ -1,0 +1,165 @@
+//! What the arguments of macros are bound to.
+ghost use Rattle.std.specs.Prelude.{◌≡◌, codes, false, map as each};
+ghost use Rattle.std.specs.Option.{option_copied};
+ghost use Rattle.std.specs.Rc.{rc_str_bytes};
+ghost use Rattle.tm_definitions.specs.Maps.{keywords_of, plain_of};
+ghost use Rattle.tm_definitions.specs.Members.{or_undefined};
+ghost use Rattle.tm_meaning.specs.Calls.{all_used, bound, bound_to, is_argument, is_used, takes_caller};
+ghost use Rattle.tm_state.specs.Macros.{BindsTo, IsBound, argument_of, given_in};
+ghost use Rattle.tm_values.specs.Answer.{IsLent, OkOrOutOfMemory};
+ghost use Rattle.tm_values.specs.Map.{find as find_key};
+ghost use Rattle.tm_values.specs.Val.{text, text_in};
+
+use std::alloc::Global;
+use std::rc::RcStr;
+use tm_values::{Error, ErrorKind, Macro, Node, Value};
+
+/// The arguments of a macro that is called with these values, of which a keyword map that stands last gives some by
+/// their names. TooManyArguments where there are too many, one is given twice, or one isn't used; OutOfMemory.
+pub(crate) fn bind(alloc: Global, declared: &Macro, args: &[Value]) -> Result<Vec<Value>, Error>
+    ensures { BindsTo result (bound_to declared.now args.now) }
+{
+    let (plain, keywords) = split_keywords(args);
+    if !all_used(declared, keywords) {
+        return Err(Error::from(ErrorKind::TooManyArguments));
+    }
+    bind_each(alloc, declared.arguments(), plain, keywords)
+}
+
+/// What each of these names is bound to.
+fn bind_each(
+    alloc: Global,
+    names: &[RcStr],
+    plain: &[Value],
+    keywords: Option<&Value>,
+) -> Result<Vec<Value>, Error>
+    ensures { BindsTo result
+        (bound (each rc_str_bytes names.now) plain.now (given_in keywords.entry)) }
+{
+    if plain.len() > names.len() {
+        return Err(Error::from(ErrorKind::TooManyArguments));
+    }
+    let mut given = Vec::with_capacity(alloc, names.len())?;
+    let mut place = 0;
+    while place < names.len() {
+        let value = argument(names[place].as_str(), plain.get(place), keywords)?;
+        given.push(value)?;
+        place += 1;
+    }
+    Ok(given)
+}
+
+/// What one argument is bound to, to which this value is given by its place, where one is. TooManyArguments where it
+/// is given by its name too; OutOfMemory.
+fn argument(name: &str, value: Option<&Value>, keywords: Option<&Value>) -> Result<Value, Error>
+    ensures { IsBound result (argument_of (option_copied value.entry)
+        (find_key (text name.now false) (given_in keywords.entry))) }
+{
+    let named = given_at(keywords, name);
+    match value {
+        Some(value) => {
+            if named.is_some() {
+                return Err(Error::from(ErrorKind::TooManyArguments));
+            }
+            value.share()
+        }
+        None => shared_or_undefined(named),
+    }
+}
+
+/// A second owner of a value, or undefined. Fails by OutOfMemory alone.
+fn shared_or_undefined(value: Option<&Value>) -> Result<Value, Error>
+    ensures { OkOrOutOfMemory result (λ v. v ≡ or_undefined (option_copied value.entry)) }
+{
+    match value {
+        Some(value) => value.share(),
+        None => Ok(Value::undefined()),
+    }
+}
+
+/// What a keyword map has at a name, where there is one.
+fn given_at<'a>(keywords: Option<&'a Value>, name: &str) -> Option<&'a Value>
+    ensures { IsLent result (find_key (text name.now false) (given_in keywords.entry)) }
+{
+    keywords?.member(name)
+}
+
+/// What is given to `caller`, or undefined. Fails by OutOfMemory alone.
+pub(crate) fn given_caller(args: &[Value]) -> Result<Value, Error>
+    ensures { OkOrOutOfMemory result (λ v. v ≡ or_undefined
+        (find_key (text (codes "caller") false) (keywords_of args.now))) }
+{
+    let (_plain, keywords) = split_keywords(args);
+    shared_or_undefined(given_at(keywords, "caller"))
+}
+
+/// The values before a keyword map that stands last, and that map, where one does.
+fn split_keywords(args: &[Value]) -> (&[Value], Option<&Value>)
+    ensures plain { result.0.now ≡ plain_of args.now }
+    ensures keywords { given_in result.1 ≡ keywords_of args.now }
+{
+    let Some((last, before)) = args.split_last() else {
+        return (args, None);
+    };
+    match &last.node {
+        Node::Keywords(_, _) => (before, Some(last)),
+        _ => (args, None),
+    }
+}
+
+/// Whether `caller` is given to a macro that doesn't name it among its arguments.
+pub(crate) fn takes_caller(declared: &Macro) -> bool
+    ensures { result ≡ takes_caller declared.now }
+{
+    declared.takes_caller() && !is_argument(declared.arguments(), "caller")
+}
+
+/// Whether a name is one of these.
+fn is_argument(names: &[RcStr], name: &str) -> bool
+    ensures { result ≡ is_argument name.now (each rc_str_bytes names.now) }
+{
+    let mut place = 0;
+    while place < names.len() {
+        if name == names[place].as_str() {
+            return true;
+        }
+        place += 1;
+    }
+    false
+}
+
+/// Whether a macro uses each value that a keyword map gives it.
+fn all_used(declared: &Macro, keywords: Option<&Value>) -> bool
+    ensures { result ≡ all_used declared.now (given_in keywords.entry) }
+{
+    match keywords {
+        Some(keywords) => each_used(declared, keywords.pairs()),
+        None => true,
+    }
+}
+
+/// Whether a macro uses each of these values that are given by their keys.
+fn each_used(declared: &Macro, pairs: &[(Value, Value)]) -> bool
+    ensures { result ≡ all_used declared.now pairs.now }
+{
+    let mut place = 0;
+    while place < pairs.len() {
+        if !is_used(declared, pairs[place].0.as_str()) {
+            return false;
+        }
+        place += 1;
+    }
+    true
+}
+
+/// Whether a macro uses what is given under a key, which may be no text.
+fn is_used(declared: &Macro, key: Option<&str>) -> bool
+    ensures { result ≡ is_used declared.now (option_copied key.entry) }
+{
+    match key {
+        Some(name) => {
+            is_argument(declared.arguments(), name) || (name == "caller" && takes_caller(declared))
+        }
+        None => true,
+    }
+}

@@ -1,0 +1,224 @@
+//! Macros: closures, values and the arguments that calls give.
+ghost use Rattle.std.specs.Prelude.{◌≡◌, ◌+◌, ◌≤◌, ◌<◌, ◌∷◌, [], IfErr, IfOk, None, OnErr, OnOk, Some, false, length, map as each};
+ghost use Rattle.std.specs.Rc.{rc_str_bytes};
+ghost use Rattle.tm_meaning.specs.Calls.{enter_macro, known_stream, macro_scopes, refused};
+ghost use Rattle.tm_meaning.specs.Memory.{is_want_of_memory};
+ghost use Rattle.tm_meaning.specs.World.{Bad, Good, closing_over, depth, enclose, make_macro, own_closure, put_enclosed};
+ghost use Rattle.tm_state.specs.Answers.{KeepsFixed, NeedsMacro, OneDeeper};
+ghost use Rattle.tm_state.specs.State.{runs_macro, saved_scopes};
+ghost use Rattle.tm_values.specs.Answer.{OkOrOutOfMemory};
+
+use crate::bound::{bind, given_caller, takes_caller};
+use crate::nested::{NestedRun, RunOf};
+use crate::saved::{Saved, SavedMacro};
+use crate::state::StateData;
+use std::alloc::Global;
+use std::rc::RcStr;
+use tm_meaning::{RunText, StreamId};
+use tm_syntax::Name;
+use tm_tables::{Context, Frame, Host};
+use tm_values::{Error, ErrorKind, Macro, Value};
+
+/// How deep the outer scope of a macro lies above the call.
+const MACRO_DEPTH: usize = 4;
+
+impl StateData<'_> {
+    /// The number of the closure that was made in the innermost scope, where one was.
+    pub fn own_closure(&self) -> Option<usize>
+        ensures { result ≡ own_closure self.now.scopes.frames }
+    {
+        self.context.own_closure()
+    }
+
+    /// Lets the innermost scope's own closure, which is made where there is none, have a name with its present value, or
+    /// undefined; a name that it has stays as it is. InvalidOperation where a context value on the way can't be known;
+    /// OutOfMemory. Then the state stays as it was.
+    pub fn enclose<H: Host>(&mut self, alloc: Global, host: &H, name: &Name) -> Result<(), Error>
+        ensures ok { OnOk result
+            (enclose (H.meaning host.now) name.now self.old ≡ Good tt self.new) }
+        ensures err { IfErr result (λ e. is_want_of_memory e ≡ false →
+            enclose (H.meaning host.now) name.now self.old ≡ Bad e self.old) }
+        ensures unchanged { OnErr result (self.new ≡ self.old) }
+        ensures rest { self.new ≡ record self.old {
+          scopes = self.new.scopes;
+          closures = self.new.closures;
+        } }
+        ensures height { length self.new.scopes.frames ≡ length self.old.scopes.frames }
+        ensures outer { self.new.scopes.outer ≡ self.old.scopes.outer }
+    {
+        let own = self.context.own_closure();
+        if self.closures.get(own, name).is_some() {
+            return Ok(());
+        }
+        let value = match self.lookup(host, name)? {
+            Some(value) => value,
+            None => Value::undefined(),
+        };
+        self.enclose_value(alloc, own, name.share()?, value)
+    }
+
+    /// Lets the innermost scope's own closure, which is made where there is none, have a name with a value. Fails by
+    /// OutOfMemory alone, and then the state stays as it was.
+    #[tactic(auto, using(crate::proofs::Stored::made, crate::proofs::Stored::not_made, crate::proofs::Stored::put_more))]
+    fn enclose_value(
+        &mut self,
+        alloc: Global,
+        own: Option<usize>,
+        name: Name,
+        value: Value,
+    ) -> Result<(), Error>
+        requires { own ≡ own_closure self.old.scopes.frames }
+        ensures ok { OnOk result (self.new ≡ put_enclosed name value (closing_over own self.old)) }
+        ensures kind { IfErr result (λ e. e ≡ ErrorKind.OutOfMemory ∷ []) }
+        ensures err { OnErr result (self.new ≡ self.old) }
+    {
+        if let Some(number) = own {
+            return self.closures.put(number, name, value);
+        }
+        if self.context.height() == 0 {
+            return Ok(());
+        }
+        let number = self.closures.len();
+        self.closures.add(alloc, name, value)?;
+        self.context.set_own_closure(number);
+        Ok(())
+    }
+
+    /// A macro of the stream that runs: the number of its entry there, its closure, its name, its arguments, and whether
+    /// it takes `caller`. Fails by OutOfMemory alone, and then the state stays as it was.
+    pub fn make_macro(
+        &mut self,
+        alloc: Global,
+        number: usize,
+        closure: Option<usize>,
+        name: &Name,
+        arguments: Vec<RcStr>,
+        caller: bool,
+    ) -> Result<Value, Error>
+        ensures ok { IfOk result (λ v. make_macro number closure name.now
+            (each rc_str_bytes arguments.items) caller self.old ≡ Good v self.new) }
+        ensures kind { IfErr result (λ e. e ≡ ErrorKind.OutOfMemory ∷ []) }
+        ensures err { OnErr result (self.new ≡ self.old) }
+        ensures rest { self.new ≡ record self.old { streams = self.new.streams } }
+    {
+        let stream = self.streams.number_of(&self.stream);
+        let text = name.text()?;
+        let declared = Macro::new(text, arguments, caller, self.id(), stream, number, closure);
+        let value = Value::declared(alloc, declared)?;
+        self.streams.add(stream, &self.stream)?;
+        Ok(value)
+    }
+
+    /// The run of a macro that is called with these values so many levels deeper than the scopes stand, whose text is
+    /// this. InvalidOperation where the macro is another state's, its stream or its closure isn't there, or its scopes
+    /// would lie deeper than the limit, TooManyArguments where the values don't fit its arguments; OutOfMemory. Then the
+    /// state stays as it was.
+    pub(crate) fn macro_run<H: Host>(
+        &mut self,
+        alloc: Global,
+        host: &H,
+        declared: &Macro,
+        args: &[Value],
+        levels: usize,
+        text: RunText,
+    ) -> Result<Box<NestedRun>, Error>
+        ensures ok { IfOk result (λ run. NeedsMacro text run.value (enter_macro levels
+            (H.meaning host.now) declared.now args.now self.old) self.old self.new) }
+        ensures deeper { IfOk result (λ run.
+            OneDeeper (H.meaning host.now).limit run.value.saved self.old self.new) }
+        ensures err { IfErr result (λ e. is_want_of_memory e ≡ false → enter_macro levels
+            (H.meaning host.now) declared.now args.now self.old ≡ refused e self.old) }
+        ensures unchanged { OnErr result (self.new ≡ self.old) }
+        ensures kept { KeepsFixed self.old self.new }
+    {
+        let (stream, given, saved) = self.enter_macro(alloc, host, declared, args, levels)?;
+        let run = NestedRun {
+            run: RunOf::Macro(stream, declared.entry(), given),
+            heard: true,
+            value: true,
+            text,
+            wrap: None,
+            saved: Saved::Macro(saved),
+        };
+        self.boxed(alloc, run)
+    }
+
+    /// Enters a macro that is called with these values, and gives its stream, its arguments, and what is put back behind
+    /// it. As `macro_run`; then the state stays as it was.
+    fn enter_macro<H: Host>(
+        &mut self,
+        alloc: Global,
+        host: &H,
+        declared: &Macro,
+        args: &[Value],
+        levels: usize,
+    ) -> Result<(StreamId, Vec<Value>, SavedMacro), Error>
+        ensures ok { IfOk result (λ r. (r.2 ≡ saved_scopes self.old)
+            × (enter_macro levels (H.meaning host.now) declared.now args.now self.old
+            ≡ runs_macro r.0 declared.now r.1.items self.old self.new)) }
+        ensures deeper { OnOk result ((length self.new.scopes.frames ≡ 2)
+            × (depth self.old.scopes + 1 ≤ depth self.new.scopes)
+            × (depth self.new.scopes ≤ (H.meaning host.now).limit)) }
+        ensures err { IfErr result (λ e. is_want_of_memory e ≡ false → enter_macro levels
+            (H.meaning host.now) declared.now args.now self.old ≡ refused e self.old) }
+        ensures unchanged { OnErr result (self.new ≡ self.old) }
+        ensures rest { self.new ≡ record self.old {
+          scopes = self.new.scopes;
+          stream = self.new.stream;
+          block = self.new.block;
+        } }
+    {
+        if declared.state() != self.id() {
+            return Err(Error::from(ErrorKind::InvalidOperation));
+        }
+        let given = bind(alloc, declared, args)?;
+        let stream = self.macro_stream(declared)?;
+        let outer = levels
+            .saturating_add(self.context.depth())
+            .saturating_add(MACRO_DEPTH);
+        if outer.saturating_add(1) >= host.recursion_limit() {
+            return Err(Error::from(ErrorKind::InvalidOperation));
+        }
+        let context = self.macro_scopes(alloc, declared, args, outer)?;
+        let running = stream.share()?;
+        let saved = self.run_macro(running, context);
+        Ok((stream, given, saved))
+    }
+
+    /// The stream of a macro, where that and the macro's closure are there. InvalidOperation where they aren't;
+    /// OutOfMemory.
+    fn macro_stream(&self, declared: &Macro) -> Result<StreamId, Error>
+        ensures ok { IfOk result (λ stream. known_stream declared.now self.now ≡ Some stream) }
+        ensures err { IfErr result (λ e. is_want_of_memory e ≡ false →
+            (e ≡ ErrorKind.InvalidOperation ∷ []) × (known_stream declared.now self.now ≡ None)) }
+    {
+        if let Some(number) = declared.closure() {
+            if number >= self.closures.len() {
+                return Err(Error::from(ErrorKind::InvalidOperation));
+            }
+        }
+        match self.streams.get(declared.stream()) {
+            Some(stream) => Ok(stream.share()?),
+            None => Err(Error::from(ErrorKind::InvalidOperation)),
+        }
+    }
+
+    /// The scopes in which a macro runs that is called with these values, which stand at a depth. Fails by OutOfMemory
+    /// alone.
+    fn macro_scopes(
+        &self,
+        alloc: Global,
+        declared: &Macro,
+        args: &[Value],
+        outer: usize,
+    ) -> Result<Context, Error>
+        ensures { OkOrOutOfMemory result (λ c.
+            c ≡ macro_scopes declared.now args.now self.now.scopes.frames outer) }
+    {
+        let mut frame = Frame::of_macro(alloc, declared.closure());
+        if takes_caller(declared) {
+            frame.store(Name::new(alloc, "caller")?, given_caller(args)?)?;
+        }
+        Context::of_macro(alloc, self.context.root_context()?, frame, outer)
+    }
+}

@@ -1,0 +1,177 @@
+//! What runs: blocks that are entered, and what is put back behind a run.
+ghost use Rattle.std.specs.Prelude.{◌≡◌, ◌+◌, ◌≤◌, ◌∷◌, [], IfErr, IfOk, None, OnErr, OnOk, Some, false, length};
+ghost use Rattle.tm_meaning.specs.Calls.{deeper, enter_block, refused};
+ghost use Rattle.tm_meaning.specs.Memory.{is_want_of_memory};
+ghost use Rattle.tm_meaning.specs.World.{depth};
+ghost use Rattle.tm_state.specs.Answers.{KeepsFixed};
+ghost use Rattle.tm_state.specs.State.{IsBlockOf, behind_block, behind_macro, put_back, runs_block, saved_of, saved_scopes};
+ghost use Rattle.tm_syntax.specs.Named.{find};
+
+use crate::nested::NestedRun;
+use crate::saved::{Saved, SavedBlock, SavedMacro};
+use crate::state::StateData;
+use std::alloc::Global;
+use std::mem;
+use tm_meaning::StreamId;
+use tm_syntax::Name;
+use tm_tables::{Context, Host};
+use tm_values::{Error, ErrorKind};
+
+impl StateData<'_> {
+    /// Lets the scopes stand so many levels deeper, within the limit, and gives the depth at which the outermost one stood.
+    pub(crate) fn go_deeper<H: Host>(&mut self, host: &H, levels: usize) -> usize
+        requires { depth self.old.scopes + levels ≤ (H.meaning host.now).limit }
+        ensures outer { result ≡ self.old.scopes.outer }
+        ensures deeper { self.new ≡ deeper levels self.old }
+    {
+        // The limit bounds the sum.
+        let _limit = host.recursion_limit();
+        let outer = self.context.outer();
+        self.context.set_outer(levels + outer);
+        outer
+    }
+
+    /// Lets the outermost scope stand at a depth.
+    pub(crate) fn stand_at(&mut self, outer: usize)
+        ensures { self.new ≡ record self.old { scopes = record self.old.scopes { outer = outer } } }
+    {
+        self.context.set_outer(outer);
+    }
+
+    /// Enters the block of a name, in a scope of its own, and gives its stream and what is put back behind
+    /// it. UnknownBlock where there is none, InvalidOperation where it is required and nothing fills it, or
+    /// where its scope would lie deeper than the limit; OutOfMemory where there is no memory. Then the state
+    /// stays as it was.
+    pub fn enter_block<H: Host>(
+        &mut self,
+        alloc: Global,
+        host: &H,
+        name: &Name,
+    ) -> Result<(StreamId, SavedBlock), Error>
+        ensures ok { IfOk result (λ r. (r.1 ≡ saved_of self.old)
+            × (enter_block (H.meaning host.now) name.now self.old ≡
+            runs_block r.0 self.old self.new)) }
+        ensures deeper { OnOk result
+            ((length self.new.scopes.frames ≡ length self.old.scopes.frames + 1)
+            × (self.new.scopes.outer ≡ self.old.scopes.outer)
+            × (depth self.new.scopes ≤ (H.meaning host.now).limit)) }
+        ensures err { IfErr result (λ e. is_want_of_memory e ≡ false →
+            enter_block (H.meaning host.now) name.now self.old ≡ refused e self.old) }
+        ensures unchanged { OnErr result (self.new ≡ self.old) }
+        ensures kept { KeepsFixed self.old self.new }
+    {
+        let stream = self.block_stream(name)?;
+        if host.is_required(&stream) {
+            return Err(Error::from(ErrorKind::InvalidOperation));
+        }
+        let running = stream.share()?;
+        let block = name.share()?;
+        let scopes = self.height();
+        self.push_scope(alloc, host.recursion_limit())?;
+        let saved = self.run_block(running, block, scopes);
+        Ok((stream, saved))
+    }
+
+    /// The stream of the block of a name. UnknownBlock where there is none, OutOfMemory where the owners of a name can't be counted.
+    fn block_stream(&self, name: &Name) -> Result<StreamId, Error>
+        ensures ok { IfOk result (λ stream. IsBlockOf stream name.now self.now) }
+        ensures err { IfErr result (λ e. is_want_of_memory e ≡ false →
+            (e ≡ ErrorKind.UnknownBlock ∷ []) × (find name.now self.now.blocks ≡ None)) }
+    {
+        if self.blocks.get(name.as_str()).is_none() {
+            return Err(Error::from(ErrorKind::UnknownBlock));
+        }
+        Ok(StreamId::block(self.template.share()?, name.share()?))
+    }
+
+    /// Lets a block run, and gives what that replaces, with how many scopes there were before its own.
+    fn run_block(&mut self, stream: StreamId, block: Name, scopes: usize) -> SavedBlock
+        ensures saved { result ≡ record (saved_of self.old) { scopes = scopes } }
+        ensures runs { self.new ≡ record self.old { stream = stream; block = Some block } }
+    {
+        SavedBlock {
+            stream: mem::replace(&mut self.stream, stream),
+            block: mem::replace(&mut self.block, Some(block)),
+            escape: self.escape,
+            scopes,
+            outer: self.context.outer(),
+        }
+    }
+
+    /// Lets a macro run in scopes of its own, and gives what that replaces.
+    pub(crate) fn run_macro(&mut self, stream: StreamId, context: Context) -> SavedMacro
+        ensures saved { result ≡ saved_scopes self.old }
+        ensures runs { self.new ≡ record self.old {
+          scopes = context;
+          stream = stream;
+          block = None;
+        } }
+    {
+        SavedMacro {
+            context: mem::replace(&mut self.context, context),
+            stream: mem::replace(&mut self.stream, stream),
+            block: mem::replace(&mut self.block, None),
+            escape: self.escape,
+        }
+    }
+
+    /// A run, boxed. Where there is no memory for that, what it replaced is put back; OutOfMemory.
+    pub(crate) fn boxed(&mut self, alloc: Global, run: NestedRun) -> Result<Box<NestedRun>, Error>
+        ensures ok { IfOk result (λ boxed. boxed.value ≡ run) }
+        ensures stays { OnOk result (self.new ≡ self.old) }
+        ensures kind { IfErr result (λ e. e ≡ ErrorKind.OutOfMemory ∷ []) }
+        ensures back { OnErr result (self.new ≡ put_back run.saved self.old) }
+    {
+        match Box::new(alloc, run) {
+            Ok(run) => Ok(run),
+            Err(failed) => {
+                let NestedRun { saved, .. } = failed.value;
+                self.put_back(saved);
+                Err(Error::from(ErrorKind::OutOfMemory))
+            }
+        }
+    }
+
+    /// Puts back what a run replaced, and leaves the scopes that it opened.
+    pub fn put_back(&mut self, saved: Saved)
+        ensures { self.new ≡ put_back saved self.old }
+    {
+        match saved {
+            Saved::Block(saved) => self.leave_block(saved),
+            Saved::Macro(saved) => self.leave_macro(saved),
+        }
+    }
+
+    /// Leaves the scopes that a block opened, and puts back what it replaced.
+    fn leave_block(&mut self, saved: SavedBlock)
+        ensures { self.new ≡ behind_block saved self.old }
+    {
+        let SavedBlock {
+            stream,
+            block,
+            escape,
+            scopes,
+            outer,
+        } = saved;
+        self.context.cut_to(scopes, outer);
+        self.stream = stream;
+        self.block = block;
+        self.escape = escape;
+    }
+
+    /// Leaves a macro's scopes, and puts back what it replaced.
+    fn leave_macro(&mut self, saved: SavedMacro)
+        ensures { self.new ≡ behind_macro saved self.old }
+    {
+        let SavedMacro {
+            context,
+            stream,
+            block,
+            escape,
+        } = saved;
+        self.context = context;
+        self.stream = stream;
+        self.block = block;
+        self.escape = escape;
+    }
+}

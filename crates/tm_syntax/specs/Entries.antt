@@ -1,0 +1,37 @@
+-- The entries of macros: the places at which they are entered, each with how many arguments it takes, in the order of the places. An entry's
+-- number is how many lie before it.
+use Rattle.std.specs.Prelude.{ℕ, List, [], ◌∷◌, length, Option, None, Some, ltb}
+use Rattle.std.specs.BTreeMap.{insert_entry}
+use Rattle.std.specs.List.{prefix_len}
+use Rattle.std.specs.Ordering.{nat_cmp}
+use Rattle.tm_values.specs.Val.{Val, list, list_of}
+use Rattle.tm_syntax.specs.declared.instruction.Instruction.{Instruction}
+use Rattle.tm_syntax.specs.declared.instruction.Instruction.TheVariants as i
+
+abbrev pub Entries : Type 0
+Entries = List (ℕ × ℕ)
+
+-- how many names a literal list of them has
+abbrev pub name_count : Val → ℕ
+name_count (list vs) = length (list_of vs)
+name_count v = 0
+
+-- and a macro that is entered at a place, where a literal with so many names stands before it
+abbrev pub with_entry : Option ℕ → ℕ → Entries → Entries
+with_entry None place es = es
+with_entry (Some count) place es = insert_entry nat_cmp es place count
+
+-- and those that are built in code, where a literal with so many names stands before it
+abbrev pub entries_from : Entries → Option ℕ → List Instruction → Entries
+entries_from es before [] = es
+entries_from es before (i.BuildMacro x place caller ∷ is) = entries_from (with_entry before place es) None is
+entries_from es before (i.LoadConst v ∷ is) = entries_from es (Some (name_count v)) is
+entries_from es before (x ∷ is) = entries_from es None is
+
+-- the entries of code, each at its number
+abbrev pub entries : List Instruction → Entries
+entries is = entries_from [] None is
+
+-- the number of the entry at a place
+abbrev pub entry_number : ℕ → List Instruction → ℕ
+entry_number place is = prefix_len (λ (e : ℕ × ℕ). ltb e.0 place) (entries is)

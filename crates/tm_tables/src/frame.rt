@@ -1,0 +1,282 @@
+//! One scope, and what a name stands for in scopes.
+ghost use Rattle.std.specs.Prelude.{ℕ, option_map, ◌≡◌, ◌||◌, [], ◌∷◌, None, false, OnErr, OnOk, IfErr, IfOk, Some};
+ghost use Rattle.tm_syntax.specs.Named.{put, texts_of};
+ghost use Rattle.tm_values.specs.Answer.{OkOrOutOfMemory, OrStays};
+ghost use Rattle.tm_values.specs.Val.{loop, undefined};
+ghost use Rattle.tm_values.specs.declared.error.ErrorKind.TheVariants.{OutOfMemory};
+ghost use Rattle.tm_meaning.specs.World.{plain_scope, loop_scope, marked_loop, context_member};
+ghost use Rattle.tm_tables.specs.Found.{IsHeld, IsFoundIn, meant_by};
+ghost use Rattle.tm_tables.specs.Known.{AddsFound, AreMembers, NamingFails, has_text, is_among};
+ghost use Rattle.tm_tables.specs.Scopes.{is_exported, exported_by};
+
+use crate::closures::Closures;
+use crate::locals::Locals;
+use std::alloc::{AllocError, Global};
+use std::marker::Model;
+use tm_meaning::LoopMark;
+use tm_syntax::Name;
+use tm_values::{Error, ErrorKind, Node, Records, Value, find_namespace};
+
+/// Whether a name is exported: it doesn't begin with `_`.
+fn is_exported(name: &str) -> bool
+    ensures { result ≡ is_exported name.now }
+{
+    match name.as_bytes().first() {
+        Some(b'_') => false,
+        _ => true,
+    }
+}
+
+/// What a name stands for in scopes.
+#[derive(Drop)]
+pub enum Found<'a> {
+    /// A value that is held there.
+    Value(&'a Value),
+    /// A scope's loop, by the number of its record.
+    Loop(usize),
+}
+
+impl Found<'_> {
+    /// The value, in the state of an id. Fails by OutOfMemory alone.
+    pub fn value(&self, state: u64) -> Result<Value, Error>
+        ensures { OkOrOutOfMemory result (λ v. v ≡ meant_by state self.now) }
+    {
+        match self {
+            Found::Value(value) => value.share(),
+            Found::Loop(number) => Ok(Value::loop_record(state, *number)),
+        }
+    }
+}
+
+/// A scope: its own names, the value whose keys are names too, its loop, and the numbers of the closure that was made
+/// in it and of the one that it reads.
+#[derive(Drop)]
+pub struct Frame {
+    pub(crate) locals: Locals,
+    pub(crate) context: Value,
+    pub(crate) mark: Option<LoopMark>,
+    pub(crate) own_closure: Option<usize>,
+    reads: Option<usize>,
+}
+
+impl Model for Frame {
+    ghost use Rattle.std.specs.Coded.{codes};
+    ghost use Rattle.tm_meaning.specs.World.{Scope};
+    ghost use Rattle.tm_values.specs.Code.{coded_Val};
+
+    ghost Value = { Scope };
+
+    ghost coded = { Prim.hlevel (codes, coded_Val) };
+
+    ghost view = { λ f. record {
+      locals = f.locals;
+      context = f.context;
+      mark = f.mark;
+      own_closure = f.own_closure;
+      reads = f.reads;
+    } };
+}
+
+impl Frame {
+    /// A scope over a context value, without names of its own.
+    pub fn new(alloc: Global, context: Value) -> Frame
+        ensures { result ≡ plain_scope context }
+    {
+        Frame {
+            locals: Locals::new(alloc),
+            context,
+            mark: None,
+            own_closure: None,
+            reads: None,
+        }
+    }
+
+    /// A loop's scope, without names of its own.
+    pub fn of_loop(alloc: Global, mark: LoopMark) -> Frame
+        ensures { result ≡ loop_scope mark }
+    {
+        Frame {
+            locals: Locals::new(alloc),
+            context: Value::undefined(),
+            mark: Some(mark),
+            own_closure: None,
+            reads: None,
+        }
+    }
+
+    /// A macro's scope, which reads a closure, without names of its own.
+    pub fn of_macro(alloc: Global, reads: Option<usize>) -> Frame
+        ensures { result ≡ record (plain_scope (undefined false)) { reads = reads } }
+    {
+        Frame {
+            locals: Locals::new(alloc),
+            context: Value::undefined(),
+            mark: None,
+            own_closure: None,
+            reads,
+        }
+    }
+
+    /// Whether its loop has a name here, and then the loop's number.
+    fn named_loop(&self, name: &str) -> Option<usize>
+        ensures { (id : ℕ) →
+            option_map (λ n. loop id n) result ≡ marked_loop id self.now.mark name.now }
+    {
+        let mark = self.mark?;
+        if mark.variable && name == "loop" {
+            Some(mark.number)
+        } else {
+            None
+        }
+    }
+
+    /// What a name stands for: its own, its loop, what the closure that it reads has there, or what the context value
+    /// has. InvalidOperation where it is none of the first and the context value is a namespace whose record isn't there.
+    pub fn get<'a, R: Records>(
+        &'a self,
+        name: &Name,
+        closures: &'a Closures,
+        records: &'a R,
+    ) -> Result<Option<Found<'a>>, Error>
+        ensures { IsFoundIn (R.records records.now) closures.now name.now
+            (self.now ∷ []) result }
+    {
+        if let Some(own) = self.locals.get(name) {
+            return Ok(Some(Found::Value(own)));
+        }
+        if let Some(number) = self.named_loop(name.as_str()) {
+            return Ok(Some(Found::Loop(number)));
+        }
+        if let Some(enclosed) = closures.get(self.reads, name) {
+            return Ok(Some(Found::Value(enclosed)));
+        }
+        match self.context_member(name.as_str(), records)? {
+            Some(member) => Ok(Some(Found::Value(member))),
+            None => Ok(None),
+        }
+    }
+
+    /// What the context value has at a name. InvalidOperation where it is a namespace whose record isn't there.
+    fn context_member<'a, R: Records>(
+        &'a self,
+        name: &str,
+        records: &'a R,
+    ) -> Result<Option<&'a Value>, Error>
+        ensures { IsHeld result (context_member (R.records records.now) name.now self.now.context) }
+    {
+        match &self.context.node {
+            Node::Namespace(state, index) => match find_namespace(records, *state, *index) {
+                Some(pairs) => Ok(pairs.member(name)),
+                None => Err(Error::from(ErrorKind::InvalidOperation)),
+            },
+            _ => Ok(self.context.member(name)),
+        }
+    }
+
+    /// Has a name from here on. OutOfMemory, and then it stays as it was.
+    pub fn store(&mut self, name: Name, value: Value) -> Result<(), Error>
+        ensures ok { OnOk result
+            (self.new ≡ record self.old { locals = put name value self.old.locals }) }
+        ensures kind { IfErr result (λ e. e ≡ OutOfMemory ∷ []) }
+        ensures err { OnErr result (self.new ≡ self.old) }
+    {
+        self.locals.insert(name, value)?;
+        Ok(())
+    }
+
+    /// Has a name for a second owner of a value, where there is room. Else it stays as it was, and the answer is
+    /// false.
+    #[inline(always)]
+    pub(crate) fn store_at_once(&mut self, name: &Name, value: &Value) -> bool
+        ensures { OrStays result self.old self.new
+            (self.new ≡ record self.old { locals = put name.now value.now self.old.locals }) }
+    {
+        self.locals.insert_at_once(name, value)
+    }
+
+    /// Has the closure of a number as its own.
+    pub(crate) fn own(&mut self, number: usize)
+        ensures { self.new ≡ record self.old { own_closure = Some number } }
+    {
+        self.own_closure = Some(number);
+    }
+
+    /// Loses its names.
+    #[inline(always)]
+    pub(crate) fn clear(&mut self)
+        ensures { self.new ≡ record self.old { locals = [] } }
+    {
+        self.locals.clear();
+    }
+
+    /// The names that it exports, in their order: its own that don't begin with `_`. OutOfMemory.
+    pub(crate) fn exports(&self, alloc: Global) -> Result<Vec<&str>, Error>
+        ensures { OkOrOutOfMemory result (λ names. texts_of names.items ≡ exported_by self.now) }
+    {
+        let mut exported = Vec::new(alloc);
+        for name in self.locals.names(alloc)? {
+            if is_exported(name) {
+                exported.push(name)?;
+            }
+        }
+        Ok(exported)
+    }
+
+    /// Adds the names that stand for something here: its own, its loop's, those of the closure that it reads, and the
+    /// texts among the keys of its context value. InvalidOperation where that is a namespace whose record isn't there;
+    /// OutOfMemory.
+    pub(crate) fn add_names<'a, R: Records>(
+        &'a self,
+        alloc: Global,
+        closures: &'a Closures,
+        records: &'a R,
+        names: &mut Vec<&'a str>,
+    ) -> Result<(), Error>
+        ensures ok { OnOk result (AddsFound (R.records records.now) closures.now (self.now ∷ [])
+            (texts_of names.old.items) (texts_of names.new.items)) }
+        ensures err { IfErr result (NamingFails (R.records records.now) (self.now ∷ [])) }
+    {
+        let pairs = self.context_pairs(records)?;
+        let mut own = self.locals.names(alloc)?;
+        names.append(&mut own)?;
+        if self.named_loop("loop").is_some() {
+            names.push("loop")?;
+        }
+        let mut enclosed = closures.names(alloc, self.reads)?;
+        names.append(&mut enclosed)?;
+        add_texts(pairs, names)?;
+        Ok(())
+    }
+
+    /// The pairs of the context value, where it has such. InvalidOperation where it is a namespace whose record isn't there.
+    fn context_pairs<'a, R: Records>(
+        &'a self,
+        records: &'a R,
+    ) -> Result<&'a [(Value, Value)], Error>
+        ensures members { IfOk result (AreMembers (R.records records.now) self.now.context) }
+        ensures err { IfErr result (NamingFails (R.records records.now) (self.now ∷ [])) }
+    {
+        match &self.context.node {
+            Node::Namespace(state, index) => {
+                let Some(map) = find_namespace(records, *state, *index) else {
+                    return Err(Error::from(ErrorKind::InvalidOperation));
+                };
+                Ok(map.pairs())
+            }
+            _ => Ok(self.context.pairs()),
+        }
+    }
+}
+
+/// Adds the texts among the keys of a map. AllocError for want of memory.
+fn add_texts<'a>(pairs: &'a [(Value, Value)], names: &mut Vec<&'a str>) -> Result<(), AllocError>
+    ensures { OnOk result ((x : _) → is_among x (texts_of names.new.items)
+        ≡ (is_among x (texts_of names.old.items) || has_text x pairs.now)) }
+{
+    for pair in pairs {
+        if let Some(name) = pair.0.as_str() {
+            names.push(name)?;
+        }
+    }
+    Ok(())
+}

@@ -1,0 +1,145 @@
+//! The instructions of macros.
+ghost use Rattle.std.specs.Prelude.{◌≡◌, List, Option, map as each};
+ghost use Rattle.std.specs.Rc.{rc_str_bytes};
+ghost use Rattle.tm_meaning.specs.Instructions.{build_macro_of, closure_in, closure_value, enclose_of, get_closure_of};
+ghost use Rattle.tm_meaning.specs.Instructions.{is_undefined_of, names_in, texts_in};
+ghost use Rattle.tm_meaning.specs.Operators.{is_undefined};
+ghost use Rattle.tm_values.specs.Answer.{OkOrOutOfMemory};
+ghost use Rattle.tm_vm.specs.Answers.{program, AreTexts, CanGoOn, Silently};
+
+use crate::flow::Flow;
+use crate::machine::Machine;
+use std::alloc::Global;
+use std::rc::RcStr;
+use tm_parts::Halt;
+use tm_syntax::{Code, Name};
+use tm_tables::Host;
+use tm_values::{Error, ErrorKind, Node, Value};
+
+impl Machine<'_> {
+    /// Replaces a value by whether it is undefined.
+    pub(crate) fn do_is_undefined(&mut self) -> Result<Flow, Halt>
+        requires { CanGoOn self.old.run }
+        ensures { Silently (is_undefined_of self.old) self.old self.new result }
+    {
+        let Some(value) = self.run.pop() else {
+            return Err(Halt::Stuck);
+        };
+        self.push_next(Value::boolean(is_undefined(&value)))
+    }
+
+    /// Lets the innermost scope's own closure have a name with its present value, unless it has it.
+    pub(crate) fn do_enclose<H: Host>(
+        &mut self,
+        alloc: Global,
+        host: &H,
+        name: &Name,
+    ) -> Result<Flow, Halt>
+        requires { CanGoOn self.old.run }
+        ensures { Silently (enclose_of (H.meaning host.now) name.now self.old)
+            self.old self.new result }
+    {
+        self.state.enclose(alloc, host, name)?;
+        self.run.advance();
+        Ok(Flow::GoOn)
+    }
+
+    /// Pushes the number of the closure that was made in the innermost scope, or none.
+    pub(crate) fn do_get_closure(&mut self) -> Result<Flow, Halt>
+        requires { CanGoOn self.old.run }
+        ensures { Silently (get_closure_of self.old) self.old self.new result }
+    {
+        let closure = closure_operand(self.state.own_closure());
+        self.push_next(closure)
+    }
+
+    /// Replaces a closure, and the names of arguments on top of it, by a macro whose code begins at a place.
+    pub(crate) fn do_build_macro<H: Host>(
+        &mut self,
+        alloc: Global,
+        host: &H,
+        code: &Code,
+        name: &Name,
+        place: usize,
+        caller: bool,
+    ) -> Result<Flow, Halt>
+        requires in_place { CanGoOn self.old.run }
+        requires its_code { code.now ≡ H.code host.now self.old.run.stream }
+        ensures { Silently (build_macro_of (program (H.meaning host.now) (H.code host.now))
+            name.now place caller self.old) self.old self.new result }
+    {
+        let _host = host;
+        let Some(names) = self.run.pop() else {
+            return Err(Halt::Stuck);
+        };
+        let Some(closure) = self.run.pop() else {
+            return Err(Halt::Stuck);
+        };
+        let Some(closure) = closure_number(&closure)? else {
+            return Err(Halt::Stuck);
+        };
+        let Some(arguments) = argument_names(alloc, &names)? else {
+            return Err(Halt::Stuck);
+        };
+        let number = code.entry_number(place);
+        let declared = self
+            .state
+            .make_macro(alloc, number, closure, name, arguments, caller)?;
+        self.push_next(declared)
+    }
+}
+
+/// Whether a value is undefined.
+fn is_undefined(value: &Value) -> bool
+    ensures { result ≡ is_undefined value.now }
+{
+    matches!(value.node, Node::Undefined(_))
+}
+
+/// A closure as an operand: its number, or none.
+fn closure_operand(closure: Option<usize>) -> Value
+    ensures { result ≡ closure_value closure }
+{
+    match closure {
+        Some(number) => Value::number(number as i128),
+        None => Value::none(),
+    }
+}
+
+/// The closure that an operand is, where it is one. OutOfMemory for a number that no memory has room for.
+fn closure_number(value: &Value) -> Result<Option<Option<usize>>, Error>
+    ensures { OkOrOutOfMemory result (λ found. found ≡ closure_in value.now) }
+{
+    match &value.node {
+        Node::None => Ok(Some(None)),
+        Node::Number(whole) if *whole >= 0 => match usize::try_from(*whole) {
+            Ok(number) => Ok(Some(Some(number))),
+            Err(_) => Err(Error::from(ErrorKind::OutOfMemory)),
+        },
+        _ => Ok(None),
+    }
+}
+
+/// The names that a list of texts is, where the value is one. Fails by OutOfMemory alone.
+fn argument_names(alloc: Global, value: &Value) -> Result<Option<Vec<RcStr>>, Error>
+    ensures { OkOrOutOfMemory result (λ found. AreTexts found (names_in value.now)) }
+{
+    match value.as_list() {
+        Some(items) => texts_of(alloc, items),
+        None => Ok(None),
+    }
+}
+
+/// The texts that values are, where each is one. Fails by OutOfMemory alone.
+fn texts_of(alloc: Global, values: &[Value]) -> Result<Option<Vec<RcStr>>, Error>
+    ensures { OkOrOutOfMemory result (λ found. AreTexts found (texts_in values.now)) }
+{
+    let mut texts = Vec::with_capacity(alloc, values.len())?;
+    for value in values {
+        let Some(text) = value.as_str() else {
+            return Ok(None);
+        };
+        texts.push(RcStr::from_str(alloc, text)?)?;
+    }
+    Ok(Some(texts))
+}
