@@ -1,7 +1,7 @@
 //! Templates of an environment.
 ghost use Rattle.std.specs.BTreeSet.{keys};
 ghost use Rattle.std.specs.Prelude.{◌≡◌, ◌+◌, ◌<◌, [], ◌∷◌, Err, IfOk, IfErr, map as each, string_bytes};
-ghost use Rattle.tm_names.specs.Names.{undeclared};
+ghost use Rattle.tm_syntax.specs.Names.{undeclared};
 ghost use Rattle.tm_syntax.specs.declared.tree.Stmt.TheBlock.{hidden-the_row-Stmt-0 as statements};
 ghost use Rattle.tm_meaning.specs.World.{root_of};
 ghost use Rattle.template_machine.specs.TemplateRef.{entry_id, held_id, held_template, IsHeldOf};

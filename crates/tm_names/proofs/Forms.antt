@@ -28,11 +28,11 @@ use Rattle.tm_syntax.specs.declared.tree.AssignmentTarget.TheBlock.{hidden-the_r
 use Rattle.tm_syntax.specs.declared.tree.AssignmentTarget.TheBlock.{shape-the_row-AssignmentTarget-0}
 use Rattle.tm_syntax.specs.declared.tree.Stmt.{Stmt}
 use Rattle.tm_syntax.specs.declared.tree.Stmt.TheBlock.{hidden-the_row-Stmt-0 as statements, shape-the_row-Stmt-0}
-use Rattle.tm_names.specs.Names.{Walk, name_of, read_first, walk_expr, walk_exprs, walk_pairs, walk_argument, walk_arguments, walk_keyword}
-use Rattle.tm_names.specs.Names.{walk_keywords, walk_conditions, walk_step, walk_steps, walk_comparisons}
-use Rattle.tm_names.specs.Names.{attribute_of, begins_bare, dot, dotted, dotted_on, is_bare_method, method_of, no_arguments, no_keywords}
-use Rattle.tm_names.specs.Names.{walk, walk_all, walk_target, walk_targets}
-use Rattle.tm_names.specs.Names.{calls_block, read, read_as, read_chain, with_member}
+use Rattle.tm_syntax.specs.Names.{Walk, name_of, read_first, walk_expr, walk_exprs, walk_pairs, walk_argument, walk_arguments, walk_keyword}
+use Rattle.tm_syntax.specs.Names.{walk_keywords, walk_conditions, walk_step, walk_steps, walk_comparisons}
+use Rattle.tm_syntax.specs.Names.{attribute_of, begins_bare, dot, dotted, dotted_on, is_bare_method, method_of, no_arguments, no_keywords}
+use Rattle.tm_syntax.specs.Names.{walk, walk_all, walk_target, walk_targets}
+use Rattle.tm_syntax.specs.Names.{calls_block, read, read_as, read_chain, with_member}
 
 -- ---------------------------------------------------------------- expressions
 pub walk-unary : (n : Bool) (op : UnaryOperator) (x : Expr) (w : Walk) → walk_expr n (e.Unary op x) w ≡ walk_expr n x w

@@ -22,11 +22,11 @@ use Rattle.tm_syntax.specs.declared.tree.Stmt.{Stmt, EmitRaw, EmitExpr, EmitLoop
 use Rattle.tm_syntax.specs.declared.tree.Stmt.{With', Do, AutoEscape', Row_of-Stmt, end_of-Stmt as no_statement}
 use Rattle.tm_syntax.specs.declared.tree.Stmt.{more_of-Stmt as statement, Held-Stmt-If-2 as Otherwise, None' as no_else}
 use Rattle.tm_syntax.specs.declared.tree.Stmt.{Some' as otherwise}
-use Rattle.tm_names.specs.Names.{Walk, Scope, assign, close_scope, name_of, open_scope, outer_of, read_as, read_chain, read_first}
-use Rattle.tm_names.specs.Names.{calls_block, dotted, is_assigned, with_assigned, with_name, read_function}
-use Rattle.tm_names.specs.Names.{walk, walk_all, walk_argument, walk_arguments, walk_assignments, walk_comparisons, walk_condition}
-use Rattle.tm_names.specs.Names.{walk_conditions, walk_else, walk_expr, walk_exprs, walk_filters, walk_head, walk_keyword, walk_keywords}
-use Rattle.tm_names.specs.Names.{walk_pairs, walk_step, walk_steps, walk_target, walk_targets, walk_use}
+use Rattle.tm_syntax.specs.Names.{Walk, Scope, assign, close_scope, name_of, open_scope, outer_of, read_as, read_chain, read_first}
+use Rattle.tm_syntax.specs.Names.{calls_block, dotted, is_assigned, with_assigned, with_name, read_function}
+use Rattle.tm_syntax.specs.Names.{walk, walk_all, walk_argument, walk_arguments, walk_assignments, walk_comparisons, walk_condition}
+use Rattle.tm_syntax.specs.Names.{walk_conditions, walk_else, walk_expr, walk_exprs, walk_filters, walk_head, walk_keyword, walk_keywords}
+use Rattle.tm_syntax.specs.Names.{walk_pairs, walk_step, walk_steps, walk_target, walk_targets, walk_use}
 
 -- ---------------------------------------------------------------- expressions assign nothing
 either_stays : (b : Bool) (k j l : Walk) → j.assigned ≡ k.assigned → l.assigned ≡ k.assigned → (cond b j l).assigned ≡ k.assigned

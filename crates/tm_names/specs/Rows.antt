@@ -9,7 +9,7 @@ use Rattle.tm_syntax.specs.declared.tree.Step.{Attribute, Apply'}
 use Rattle.tm_syntax.specs.declared.tree.AssignmentTarget.{Name as To}
 use Rattle.tm_syntax.specs.declared.tree.Stmt.{Stmt, EmitExpr, For', Block', Set, With'}
 use Rattle.tm_syntax.specs.declared.tree.Stmt.{end_of-Stmt as no_statement, more_of-Stmt as statement, Some' as otherwise}
-use Rattle.tm_names.specs.Names.{undeclared}
+use Rattle.tm_syntax.specs.Names.{undeclared}
 
 -- ---------------------------------------------------------------- trees
 abbrev name : List ℕ → Expr

@@ -2,9 +2,9 @@
 ghost use Rattle.std.specs.Option.{option_copied};
 ghost use Rattle.std.specs.Prelude.{◌≡◌, ◌&&◌, [], ◌∷◌, IfOk, IfErr, OnOk};
 ghost use Rattle.std.specs.String.{string_bytes};
-ghost use Rattle.tm_names.specs.Names.{attribute_of, begins_bare, calls_block, dot, dotted};
-ghost use Rattle.tm_names.specs.Names.{is_bare_method, is_method, method_of, name_of};
-ghost use Rattle.tm_names.specs.Names.{no_arguments, no_keywords, with_member};
+ghost use Rattle.tm_syntax.specs.Names.{attribute_of, begins_bare, calls_block, dot, dotted};
+ghost use Rattle.tm_syntax.specs.Names.{is_bare_method, is_method, method_of, name_of};
+ghost use Rattle.tm_syntax.specs.Names.{no_arguments, no_keywords, with_member};
 ghost use Rattle.tm_syntax.specs.declared.tree.Argument.TheBlock.{hidden-the_row-Argument-3 as arguments};
 ghost use Rattle.tm_syntax.specs.declared.tree.Argument.TheBlock.{hidden-the_row-Keyword-4 as keywords};
 ghost use Rattle.tm_syntax.specs.declared.tree.Argument.TheBlock.{hidden-the_row-Step-5 as steps};

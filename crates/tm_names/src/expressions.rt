@@ -1,9 +1,9 @@
 //! The names in expressions.
 ghost use Rattle.std.specs.Prelude.{◌≡◌, [], ◌∷◌, OnOk, IfErr};
-ghost use Rattle.tm_names.specs.Names.{name_of, read_chain, read_first, read_function};
-ghost use Rattle.tm_names.specs.Names.{walk_argument, walk_arguments, walk_comparisons};
-ghost use Rattle.tm_names.specs.Names.{walk_conditions, walk_expr, walk_exprs, walk_filters};
-ghost use Rattle.tm_names.specs.Names.{walk_keyword, walk_keywords, walk_pairs, walk_step, walk_steps};
+ghost use Rattle.tm_syntax.specs.Names.{name_of, read_chain, read_first, read_function};
+ghost use Rattle.tm_syntax.specs.Names.{walk_argument, walk_arguments, walk_comparisons};
+ghost use Rattle.tm_syntax.specs.Names.{walk_conditions, walk_expr, walk_exprs, walk_filters};
+ghost use Rattle.tm_syntax.specs.Names.{walk_keyword, walk_keywords, walk_pairs, walk_step, walk_steps};
 ghost use Rattle.tm_syntax.specs.declared.tree.Argument.TheBlock.{hidden-the_row-Expr-1 as exprs};
 ghost use Rattle.tm_syntax.specs.declared.tree.Argument.TheBlock.{hidden-the_row-Pair-2 as pairs};
 ghost use Rattle.tm_syntax.specs.declared.tree.Argument.TheBlock.{hidden-the_row-Argument-3 as arguments};

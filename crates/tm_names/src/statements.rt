@@ -2,8 +2,8 @@
 ghost use Rattle.std.specs.BTreeSet.{keys};
 ghost use Rattle.std.specs.Prelude.{◌≡◌, [], ◌∷◌, OnOk, IfOk, IfErr, map};
 ghost use Rattle.std.specs.String.{string_bytes};
-ghost use Rattle.tm_names.specs.Names.{close_scope, open_scope, undeclared};
-ghost use Rattle.tm_names.specs.Names.{walk, walk_all, walk_assignments, walk_head};
+ghost use Rattle.tm_syntax.specs.Names.{close_scope, open_scope, undeclared};
+ghost use Rattle.tm_syntax.specs.Names.{walk, walk_all, walk_assignments, walk_head};
 ghost use Rattle.tm_syntax.specs.declared.tree.Stmt.TheBlock.{hidden-the_row-Stmt-0 as statements};
 ghost use Rattle.tm_syntax.specs.declared.tree.Stmt.TheVariants.{For, If};
 ghost use Rattle.tm_values.specs.declared.error.ErrorKind.TheVariants.{OutOfMemory};

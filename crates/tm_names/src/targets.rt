@@ -1,6 +1,6 @@
 //! The names that statements assign.
 ghost use Rattle.std.specs.Prelude.{◌≡◌, [], ◌∷◌, OnOk, IfErr};
-ghost use Rattle.tm_names.specs.Names.{walk_assignments, walk_set, walk_target, walk_targets, walk_use};
+ghost use Rattle.tm_syntax.specs.Names.{walk_assignments, walk_set, walk_target, walk_targets, walk_use};
 ghost use Rattle.tm_syntax.specs.declared.tree.AssignmentTarget.TheBlock.{hidden-the_row-AssignmentTarget-0 as targets};
 ghost use Rattle.tm_values.specs.declared.error.ErrorKind.TheVariants.{OutOfMemory};
 

@@ -4,8 +4,8 @@ ghost use Rattle.std.specs.BTreeSet.{insert_key, keys};
 ghost use Rattle.std.specs.List.{list_any};
 ghost use Rattle.std.specs.Prelude.{◌≡◌, [], ◌∷◌, OnOk, IfOk, IfErr, map, reverse};
 ghost use Rattle.std.specs.String.{string_bytes};
-ghost use Rattle.tm_names.specs.Names.{assign, beginning, close_scope, is_assigned, open_scope};
-ghost use Rattle.tm_names.specs.Names.{read, read_as};
+ghost use Rattle.tm_syntax.specs.Names.{assign, beginning, close_scope, is_assigned, open_scope};
+ghost use Rattle.tm_syntax.specs.Names.{read, read_as};
 ghost use Rattle.tm_syntax.specs.Named.{name_cmp};
 ghost use Rattle.tm_values.specs.declared.error.ErrorKind.TheVariants.{OutOfMemory};
 
@@ -27,7 +27,7 @@ pub(crate) struct Walker {
 impl Model for Walker {
     ghost use Rattle.std.specs.Prelude.{map, reverse};
     ghost use Rattle.std.specs.String.{string_bytes};
-    ghost use Rattle.tm_names.specs.Names.{Walk};
+    ghost use Rattle.tm_syntax.specs.Names.{Walk};
 
     ghost Value = { Walk };
 

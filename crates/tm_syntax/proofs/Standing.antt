@@ -7,7 +7,7 @@ use Rattle.std.proofs.Math.Seq.{get_or-append_seam}
 use Rattle.tm_syntax.specs.declared.instruction.Instruction.{Instruction}
 use Rattle.tm_syntax.specs.declared.instruction.Instruction.TheVariants as i
 use Rattle.tm_syntax.specs.Fragments.{Fragment, straight, ◌⨾◌, jump_out, bounded, fork, looped, break_loop, next_round, beyond_all}
-use Rattle.tm_syntax.specs.Fragments.{beyond, Labels, outward, inward, jump, assemble, ending_at, aside, whole_labels, assembled}
+use Rattle.tm_syntax.specs.Fragments.{beyond, Labels, outward, inward, jump, assemble, ending_at, declares, behind_body, whole_labels, assembled}
 
 -- the instructions stand in the stream at this place
 abbrev pub HasAt : List Instruction → ℕ → List Instruction → Type 0
@@ -29,7 +29,9 @@ At all l pc (looped g c d) =
     × (slice_get all (beyond (pc + 1 + 1) c) ≡ Some (i.Jump (pc + 1))) × At all l (beyond (pc + 1 + 1) c + 1) d
 At all l pc break_loop = slice_get all pc ≡ Some (i.Jump l.after)
 At all l pc next_round = slice_get all pc ≡ Some (i.Jump l.again)
-At all l pc (aside c) = (slice_get all pc ≡ Some (i.Jump (beyond (pc + 1) c))) × At all (ending_at (beyond (pc + 1) c)) (pc + 1) c
+At all l pc (declares m c) =
+    (slice_get all pc ≡ Some (i.Jump (beyond (pc + 1) c + 1))) × At all (ending_at (beyond (pc + 1) c)) (pc + 1) c
+    × HasAt all (beyond (pc + 1) c) (behind_body m (pc + 1))
 
 -- ---------------------------------------------------------------- how long code is
 beyond_all_is : (pc : ℕ) (is : List Instruction) → beyond_all pc is ≡ pc + length is
@@ -57,7 +59,11 @@ beyond_is l pc (looped g c d) =
     omega (arith, length-append a (i.Jump (pc + 1) ∷ b), beyond_is k (pc + 1 + 1) c, beyond_is l end d)
 beyond_is l pc break_loop = refl
 beyond_is l pc next_round = refl
-beyond_is l pc (aside c) = omega (arith, beyond_is (ending_at (beyond (pc + 1) c)) (pc + 1) c)
+beyond_is l pc (declares m c) =
+    let k = ending_at (beyond (pc + 1) c) in
+    let a = assemble k (pc + 1) c in
+    let b = behind_body m (pc + 1) in
+    omega (arith, length-append a b, beyond_is k (pc + 1) c, beyond_all_is (beyond (pc + 1) c) b)
 
 -- ---------------------------------------------------------------- code that is assembled stands
 has_front : (all : List Instruction) (pc : ℕ) (a b : List Instruction) → HasAt all pc (a ++ b) → HasAt all pc a
@@ -94,7 +100,10 @@ stands all l pc (looped g c d) h =
     (h.0, h.1.0, stands all k (pc + 1 + 1) c (stands_front all k (pc + 1 + 1) c _ h.1.1), rest.0, stands all l end d rest.1)
 stands all l pc break_loop h = h.0
 stands all l pc next_round h = h.0
-stands all l pc (aside c) h = (h.0, stands all (ending_at (beyond (pc + 1) c)) (pc + 1) c h.1)
+stands all l pc (declares m c) h =
+    let k = ending_at (beyond (pc + 1) c) in
+    let b = behind_body m (pc + 1) in
+    (h.0, stands all k (pc + 1) c (stands_front all k (pc + 1) c b h.1), stands_behind all k (pc + 1) c b h.1)
 
 has_all : (is before : List Instruction) → HasAt (before ++ is) (length before) is
 has_all [] before = tt

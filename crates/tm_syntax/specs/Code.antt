@@ -20,10 +20,11 @@ use Rattle.tm_syntax.specs.declared.tree.AssignmentTarget.{AssignmentTarget, Nam
 use Rattle.tm_syntax.specs.declared.tree.AssignmentTarget.{Row_of-AssignmentTarget}
 use Rattle.tm_syntax.specs.declared.tree.AssignmentTarget.{end_of-AssignmentTarget as no_target, more_of-AssignmentTarget as target}
 use Rattle.tm_syntax.specs.declared.tree.Assignment.{Assignment}
+use Rattle.tm_syntax.specs.declared.tree.Parameter.{Parameter}
 use Rattle.tm_syntax.specs.declared.tree.CaptureUse.{CaptureUse}
 use Rattle.tm_syntax.specs.declared.tree.CaptureUse.TheVariants as uses
 use Rattle.tm_syntax.specs.declared.tree.Stmt.{Stmt, EmitRaw, EmitExpr, EmitLoop, If', For', Break, Continue, Block', Set, CaptureBlock'}
-use Rattle.tm_syntax.specs.declared.tree.Stmt.{With', Do, AutoEscape', Row_of-Stmt, end_of-Stmt as no_statement}
+use Rattle.tm_syntax.specs.declared.tree.Stmt.{With', Do, AutoEscape', Macro', Row_of-Stmt, end_of-Stmt as no_statement}
 use Rattle.tm_syntax.specs.declared.tree.Stmt.{more_of-Stmt as statement, Held-Stmt-If-2 as Otherwise, None' as no_else}
 use Rattle.tm_syntax.specs.declared.tree.Stmt.{Some' as otherwise}
 use Rattle.tm_syntax.specs.declared.instruction.CaptureMode.TheVariants.{Capture}
@@ -37,6 +38,8 @@ use Rattle.tm_syntax.specs.Forms.{spread_keywords, item, slice, binary, compare,
 use Rattle.tm_syntax.specs.declared.jump.JumpKind.TheVariants.{IfFalse, IfFalseOrPop, IfTrueOrPop}
 use Rattle.tm_syntax.specs.CacheNumbers.{no_cache, numbered}
 use Rattle.tm_syntax.specs.Fragments.{Fragment, straight, ◌⨾◌, jump_out, fork, looped, break_loop, next_round, over, either, assembled}
+use Rattle.tm_syntax.specs.Fragments.{MacroHead, declares}
+use Rattle.tm_syntax.specs.Names.{free_names, takes_caller, parameter_names}
 
 abbrev pub unary_code : UnaryOperator → Instruction
 unary_code unaries.Not = i.Not
@@ -335,6 +338,29 @@ iterable_code t e (Some c) =
     straight (i.LoadConst (number (pos 0)) ∷ []) ⨾ expr_code e ⨾ looped pass_flags (pass_round t c)
     (straight (i.PopLoopFrame ∷ i.BuildList None ∷ []))
 
+-- ---------------------------------------------------------------- macros
+-- what stands for a value on top that is undefined
+abbrev pub default_code : Option Expr → Fragment
+default_code None = straight []
+default_code (Some e) = straight (i.DupTop ∷ i.IsUndefined ∷ []) ⨾ over IfFalse (straight (i.DiscardTop ∷ []) ⨾ expr_code e)
+
+abbrev pub parameter_code : Parameter → Fragment
+parameter_code p = default_code p.default ⨾ straight (i.StoreLocal p.name ∷ [])
+
+-- the values of arguments are bound from the last to the first
+abbrev pub parameters_code : List Parameter → Fragment
+parameters_code [] = straight []
+parameters_code (p ∷ ps) = parameters_code ps ⨾ parameter_code p
+
+abbrev pub macro_head : {n : _} → List ℕ → List Parameter → Row_of-Stmt n → MacroHead
+macro_head x ps body = record {
+  name = x;
+  parameters = parameter_names ps;
+  free = free_names ps body;
+  caller = takes_caller ps body;
+}
+
+-- ---------------------------------------------------------------- statements
 -- in a loop's body, where these were opened since it began, innermost first
 abbrev mutual
   pub statement_code : List Opened → Stmt → Fragment
@@ -355,6 +381,8 @@ abbrev mutual
   statement_code os (Do e) = expr_code e ⨾ straight (i.DiscardTop ∷ [])
   statement_code os (AutoEscape' e _ body) = expr_code e ⨾ straight (i.PushAutoEscape ∷ []) ⨾ statements_code
       (an_escape ∷ os) body ⨾ straight (i.PopAutoEscape ∷ [])
+  statement_code os (Macro' x ps _ body) =
+      declares (macro_head x ps body) (parameters_code ps ⨾ statements_code [] body) ⨾ straight (i.StoreLocal x ∷ [])
 
   pub statements_code : {n : _} → List Opened → Row_of-Stmt n → Fragment
   statements_code os no_statement = straight []

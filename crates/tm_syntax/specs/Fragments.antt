@@ -1,10 +1,18 @@
 -- Code without places, and the instructions of code that stands at a place.
-use Rattle.std.specs.Prelude.{ℕ, ◌+◌, List, [], ◌∷◌, ◌++◌}
+use Rattle.std.specs.Prelude.{ℕ, ◌+◌, List, [], ◌∷◌, ◌++◌, map as each, Bool, false}
+use Rattle.tm_values.specs.Val.{Val, text, list, vals_of}
 use Rattle.tm_syntax.specs.declared.instruction.LoopFlags.{LoopFlags}
 use Rattle.tm_syntax.specs.declared.instruction.Instruction.{Instruction}
 use Rattle.tm_syntax.specs.declared.instruction.Instruction.TheVariants as i
 use Rattle.tm_syntax.specs.declared.jump.JumpKind.{JumpKind}
 use Rattle.tm_syntax.specs.declared.jump.JumpKind.TheVariants as kinds
+
+-- A macro's name, the names of its parameters, the names that its closure has, and whether it takes `caller`.
+pub record MacroHead : Type 0 where
+  pub name : List ℕ
+  pub parameters : List (List ℕ)
+  pub free : List (List ℕ)
+  pub caller : Bool
 
 infixr 60 ◌⨾◌
 pub data Fragment : Type 0 where
@@ -23,8 +31,8 @@ pub data Fragment : Type 0 where
   -- to what stands after the innermost loop's rounds, and to its next round
   break_loop : Fragment
   next_round : Fragment
-  -- What is jumped over, and entered by calls alone: neither loops nor jumps around it are seen in it.
-  aside : Fragment → Fragment
+  -- A macro as a value. Its body is jumped over, and entered by calls alone: neither loops nor jumps around it are seen in it.
+  declares : MacroHead → Fragment → Fragment
 
 -- a jump over code, and either of two
 abbrev pub over : JumpKind → Fragment → Fragment
@@ -32,6 +40,20 @@ over j c = bounded (jump_out j ⨾ c)
 
 abbrev pub either : Fragment → Fragment → Fragment
 either c d = fork (jump_out kinds.IfFalse ⨾ c) d
+
+-- ---------------------------------------------------------------- macros
+-- names as a literal list of texts
+abbrev pub name_list : List (List ℕ) → Val
+name_list xs = list (vals_of (each (λ x. text x false) xs))
+
+-- A closure with these names, and the macro that is entered at a place.
+abbrev pub building : List (List ℕ) → MacroHead → ℕ → List Instruction
+building [] m place = i.GetClosure ∷ i.LoadConst (name_list m.parameters) ∷ i.BuildMacro m.name place m.caller ∷ []
+building (x ∷ xs) m place = i.Enclose x ∷ building xs m place
+
+-- what stands behind the body of a macro that is entered at a place
+abbrev pub behind_body : MacroHead → ℕ → List Instruction
+behind_body m place = i.Return ∷ building m.free m place
 
 -- ---------------------------------------------------------------- places
 abbrev pub beyond_all : ℕ → List Instruction → ℕ
@@ -48,7 +70,7 @@ beyond pc (fork c d) = beyond (beyond pc c + 1) d
 beyond pc (looped g c d) = beyond (beyond (pc + 1 + 1) c + 1) d
 beyond pc break_loop = pc + 1
 beyond pc next_round = pc + 1
-beyond pc (aside c) = beyond (pc + 1) c
+beyond pc (declares m c) = beyond_all (beyond (pc + 1) c) (behind_body m (pc + 1))
 
 -- where jumps out go, where the innermost loop's next item is asked for, and what stands after its rounds
 pub record Labels : Type 0 where
@@ -86,7 +108,9 @@ assemble l pc (looped g c d) =
     i.PushLoop g ∷ i.Iterate after ∷ (assemble (inward again after l) (again + 1) c ++ i.Jump again ∷ assemble l after d)
 assemble l pc break_loop = i.Jump l.after ∷ []
 assemble l pc next_round = i.Jump l.again ∷ []
-assemble l pc (aside c) = let end = beyond (pc + 1) c in i.Jump end ∷ assemble (ending_at end) (pc + 1) c
+assemble l pc (declares m c) =
+    let end = beyond (pc + 1) c in
+    i.Jump (end + 1) ∷ (assemble (ending_at end) (pc + 1) c ++ behind_body m (pc + 1))
 
 -- code on its own
 abbrev pub whole_labels : Fragment → Labels

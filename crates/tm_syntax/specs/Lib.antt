@@ -1,5 +1,6 @@
 pub mod Forms
 pub mod Fragments
+pub mod Names
 pub mod CacheNumbers
 pub mod Code
 pub mod Named

@@ -1,5 +1,5 @@
--- Loops by their numbers: in the order of the source, in their own stream, where the pass that takes the items of a condition counts as a
--- loop before its own.
+-- Loops and macros by their numbers: in the order of the source, in their own stream, where the pass that takes the items of a condition
+-- counts as a loop before its own, and a macro counts before those in it.
 use Rattle.std.specs.Prelude.{ℕ, zero, suc, ◌+◌, List, [], ◌∷◌, ◌++◌, Option, Some, None, Bool, false}
 use Rattle.tm_syntax.specs.declared.instruction.Instruction.{Instruction}
 use Rattle.tm_syntax.specs.declared.instruction.Instruction.TheVariants as i
@@ -7,8 +7,10 @@ use Rattle.tm_syntax.specs.declared.instruction.LoopFlags.{LoopFlags}
 pub use Rattle.tm_syntax.specs.declared.instruction.LoopPlace.{LoopPlace}
 use Rattle.tm_syntax.specs.declared.tree.Expr.{Expr}
 use Rattle.tm_syntax.specs.declared.tree.AssignmentTarget.{AssignmentTarget}
+use Rattle.tm_syntax.specs.declared.tree.Parameter.{Parameter}
 use Rattle.tm_syntax.specs.declared.tree.Stmt.{EmitRaw, EmitExpr, EmitLoop, Break, Continue, Block', Set, Do}
-use Rattle.tm_syntax.specs.declared.tree.Stmt.{Stmt, If', For', CaptureBlock', With', AutoEscape', Row_of-Stmt, end_of-Stmt as no_statement}
+use Rattle.tm_syntax.specs.declared.tree.Stmt.{Stmt, If', For', CaptureBlock', With', AutoEscape', Macro', Row_of-Stmt}
+use Rattle.tm_syntax.specs.declared.tree.Stmt.{end_of-Stmt as no_statement}
 use Rattle.tm_syntax.specs.declared.tree.Stmt.{more_of-Stmt as statement, Held-Stmt-If-2 as Otherwise, None' as no_else}
 use Rattle.tm_syntax.specs.declared.tree.Stmt.{Some' as otherwise}
 use Rattle.tm_syntax.specs.Blocks.{Body, body_of}
@@ -18,18 +20,30 @@ abbrev pub passes : Option Expr → ℕ
 passes None = 0
 passes (Some c) = 1
 
--- how many loops stand before a loop's body, given how many stand before the loop
-abbrev pub within_loop : Option Expr → ℕ → ℕ
-within_loop c at = at + passes c + 1
+-- How many loops and macros stand before: the numbers of the next ones.
+pub record Numbers : Type 0 where
+  pub loops : ℕ
+  pub macros : ℕ
 
--- how many stand before what follows
+abbrev pub first_numbers : Numbers
+first_numbers = record { loops = 0; macros = 0 }
+
+-- before the body of a loop, and of a macro, given what stands before it
+abbrev pub within_loop : Option Expr → Numbers → Numbers
+within_loop c at = record at { loops = at.loops + passes c + 1 }
+
+abbrev pub within_macro : Numbers → Numbers
+within_macro at = record at { macros = at.macros + 1 }
+
+-- what stands before what follows
 abbrev mutual
-  pub past : ℕ → Stmt → ℕ
+  pub past : Numbers → Stmt → Numbers
   past at (If' c _ body other) = past_else (pasts at body) other
   past at (For' t e c r _ body other) = past_else (pasts (within_loop c at) body) other
   past at (CaptureBlock' u filters _ body) = pasts at body
   past at (With' given _ body) = pasts at body
   past at (AutoEscape' e _ body) = pasts at body
+  past at (Macro' x ps _ body) = pasts (within_macro at) body
   past at (EmitRaw t) = at
   past at (EmitExpr e) = at
   past at (EmitLoop e) = at
@@ -39,20 +53,20 @@ abbrev mutual
   past at (Set t e) = at
   past at (Do e) = at
 
-  pub pasts : {n : _} → ℕ → Row_of-Stmt n → ℕ
+  pub pasts : {n : _} → Numbers → Row_of-Stmt n → Numbers
   pasts at no_statement = at
   pasts at (statement s ss) = pasts (past at s) ss
 
-  pub past_else : ℕ → Otherwise → ℕ
+  pub past_else : Numbers → Otherwise → Numbers
   past_else at no_else = at
   past_else at (otherwise _ body) = pasts at body
 
--- A loop of a tree: whether it can be called, its target, its body, and how many loops stand before that.
+-- A loop of a tree: whether it can be called, its target, its body, and what stands before that.
 pub record FoundLoop : Type 0 where
   pub recursive : Bool
   pub target : AssignmentTarget
   pub body : Body
-  pub at : ℕ
+  pub at : Numbers
 
 -- a pass can't be called
 abbrev pub with_pass : Option Expr → FoundLoop → List FoundLoop → List FoundLoop
@@ -61,7 +75,7 @@ with_pass (Some c) l ls = record l { recursive = false } ∷ l ∷ ls
 
 -- the loops, each at its number
 abbrev mutual
-  pub loops_of : ℕ → Stmt → List FoundLoop
+  pub loops_of : Numbers → Stmt → List FoundLoop
   loops_of at (If' c _ body other) = loops_in at body ++ loops_else (pasts at body) other
   loops_of at (For' t e c r _ body other) =
       with_pass c (record { recursive = r; target = t; body = body_of body; at = within_loop c at })
@@ -69,6 +83,7 @@ abbrev mutual
   loops_of at (CaptureBlock' u filters _ body) = loops_in at body
   loops_of at (With' given _ body) = loops_in at body
   loops_of at (AutoEscape' e _ body) = loops_in at body
+  loops_of at (Macro' x ps _ body) = loops_in (within_macro at) body
   loops_of at (EmitRaw t) = []
   loops_of at (EmitExpr e) = []
   loops_of at (EmitLoop e) = []
@@ -78,13 +93,46 @@ abbrev mutual
   loops_of at (Set t e) = []
   loops_of at (Do e) = []
 
-  pub loops_in : {n : _} → ℕ → Row_of-Stmt n → List FoundLoop
+  pub loops_in : {n : _} → Numbers → Row_of-Stmt n → List FoundLoop
   loops_in at no_statement = []
   loops_in at (statement s ss) = loops_of at s ++ loops_in (past at s) ss
 
-  pub loops_else : ℕ → Otherwise → List FoundLoop
+  pub loops_else : Numbers → Otherwise → List FoundLoop
   loops_else at no_else = []
   loops_else at (otherwise _ body) = loops_in at body
+
+-- A macro of a tree: its parameters, its body, and what stands before that.
+pub record FoundMacro : Type 0 where
+  pub parameters : List Parameter
+  pub body : Body
+  pub at : Numbers
+
+-- the macros, each at its number
+abbrev mutual
+  pub macros_of : Numbers → Stmt → List FoundMacro
+  macros_of at (If' c _ body other) = macros_in at body ++ macros_else (pasts at body) other
+  macros_of at (For' t e c r _ body other) = macros_in (within_loop c at) body ++ macros_else (pasts (within_loop c at) body) other
+  macros_of at (CaptureBlock' u filters _ body) = macros_in at body
+  macros_of at (With' given _ body) = macros_in at body
+  macros_of at (AutoEscape' e _ body) = macros_in at body
+  macros_of at (Macro' x ps _ body) =
+      record { parameters = ps; body = body_of body; at = within_macro at } ∷ macros_in (within_macro at) body
+  macros_of at (EmitRaw t) = []
+  macros_of at (EmitExpr e) = []
+  macros_of at (EmitLoop e) = []
+  macros_of at Break = []
+  macros_of at Continue = []
+  macros_of at (Block' x _ body) = []
+  macros_of at (Set t e) = []
+  macros_of at (Do e) = []
+
+  pub macros_in : {n : _} → Numbers → Row_of-Stmt n → List FoundMacro
+  macros_in at no_statement = []
+  macros_in at (statement s ss) = macros_of at s ++ macros_in (past at s) ss
+
+  pub macros_else : Numbers → Otherwise → List FoundMacro
+  macros_else at no_else = []
+  macros_else at (otherwise _ body) = macros_in at body
 
 -- ---------------------------------------------------------------- of code
 -- the loop that an instruction begins

@@ -21,5 +21,5 @@ pub use raw_text::RawText;
 pub use token::{Sign, Tag, Token};
 pub use tree::{
     Application, Argument, Assignment, AssignmentTarget, BinaryOperator, CaptureUse, Comparison,
-    Condition, Expr, ForLoop, Keyword, Pair, Step, Stmt, Tree, UnaryOperator,
+    Condition, Expr, ForLoop, Keyword, Macro, Pair, Parameter, Step, Stmt, Tree, UnaryOperator,
 };

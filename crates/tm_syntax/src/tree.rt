@@ -183,6 +183,15 @@ pub struct Assignment {
     pub value: Boxed<Expr>,
 }
 
+/// A parameter of a macro.
+#[derive(Drop)]
+pub struct Parameter {
+    /// Its name.
+    pub name: Name,
+    /// What stands for a value that is undefined.
+    pub default: Option<Boxed<Expr>>,
+}
+
 /// What becomes of the text of a capture.
 #[derive(Drop)]
 pub enum CaptureUse {
@@ -222,6 +231,8 @@ pub enum Stmt {
     Do(Boxed<Expr>),
     /// How is escaped, and the body in which it is.
     AutoEscape(Boxed<Expr>, Items<Stmt>),
+    /// A macro.
+    Macro(Macro),
 }
 
 /// A loop over items.
@@ -240,6 +251,18 @@ pub struct ForLoop {
     pub body: Items<Stmt>,
     /// What runs where there is none.
     pub other: Option<Items<Stmt>>,
+}
+
+/// A macro that a statement declares.
+#[cycle(stmt)]
+#[derive(Drop)]
+pub struct Macro {
+    /// The name that it is given.
+    pub name: Name,
+    /// What its arguments are bound to.
+    pub parameters: Items<Parameter>,
+    /// What a call of it runs.
+    pub body: Items<Stmt>,
 }
 
 /// A template's tree.

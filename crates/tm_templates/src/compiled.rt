@@ -2,7 +2,7 @@
 ghost use Rattle.std.specs.BTreeSet.{keys};
 ghost use Rattle.std.specs.Prelude.{◌≡◌, [], ◌∷◌, IfOk, IfErr, map as each, string_bytes};
 ghost use Rattle.std.specs.Rc.{rc_str_bytes};
-ghost use Rattle.tm_names.specs.Names.{undeclared};
+ghost use Rattle.tm_syntax.specs.Names.{undeclared};
 ghost use Rattle.tm_syntax.specs.Blocks.{code_of};
 ghost use Rattle.tm_syntax.specs.declared.tree.Stmt.TheBlock.{hidden-the_row-Stmt-0 as statements};
 ghost use Rattle.tm_syntax.specs.Named.{find};

@@ -1,5 +1,5 @@
 use Rattle.std.proofs.Common.{◌≡◌, ◌≤◌, length, reverse, take}
-use Rattle.tm_names.specs.Names.{is_assigned}
+use Rattle.tm_syntax.specs.Names.{is_assigned}
 use Rattle.tm_names.proofs.walker.is_assigned_in.Given as goal
 
 abbrev pub invariant-loop-left : goal.invariant-loop-left

@@ -1,5 +1,5 @@
 use Rattle.std.proofs.Common.{◌≡◌, ◌+◌, ◌*◌, drop}
-use Rattle.tm_names.specs.Names.{walk_exprs, walk_pairs, walk_arguments, walk_keywords, walk_steps, walk_conditions, walk_comparisons}
+use Rattle.tm_syntax.specs.Names.{walk_exprs, walk_pairs, walk_arguments, walk_keywords, walk_steps, walk_conditions, walk_comparisons}
 use Rattle.tm_syntax.specs.declared.tree.Argument.TheBlock.{hidden-the_row-Expr-1 as exprs}
 use Rattle.tm_syntax.specs.declared.tree.Argument.TheBlock.{hidden-the_row-Pair-2 as pairs}
 use Rattle.tm_syntax.specs.declared.tree.Argument.TheBlock.{hidden-the_row-Argument-3 as arguments}

@@ -1,5 +1,5 @@
 use Rattle.std.proofs.Common.{◌≡◌, ◌+◌, ◌*◌, drop}
-use Rattle.tm_names.specs.Names.{walk_all}
+use Rattle.tm_syntax.specs.Names.{walk_all}
 use Rattle.tm_syntax.specs.declared.tree.Stmt.TheBlock.{hidden-the_row-Stmt-0 as statements}
 use Rattle.tm_syntax.specs.declared.tree.Stmt.TheVariants.{For, If}
 use Rattle.tm_syntax.proofs.tree.Stmt.TheLaws.{the_size}

@@ -2,7 +2,7 @@ use Rattle.std.proofs.Common.{◌∙◌, ap, map, reverse, List, ℕ}
 use Rattle.std.specs.BTreeSet.{insert_key}
 use Rattle.std.specs.String.{string_bytes}
 use Rattle.tm_syntax.specs.Named.{name_cmp}
-use Rattle.tm_names.specs.Names.{Walk}
+use Rattle.tm_syntax.specs.Names.{Walk}
 use Rattle.tm_names.proofs.Found.{insert_found}
 use Rattle.tm_names.proofs.walker.Walker.add_found.Goals as goal
 

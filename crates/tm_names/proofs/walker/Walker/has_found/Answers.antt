@@ -2,7 +2,7 @@ use Rattle.std.proofs.Common.{◌∙◌, ap}
 use Rattle.std.specs.BTreeMap.{is_at}
 use Rattle.std.specs.List.{list_any}
 use Rattle.tm_syntax.specs.Named.{name_cmp}
-use Rattle.tm_names.specs.Names.{Walk}
+use Rattle.tm_syntax.specs.Names.{Walk}
 use Rattle.tm_names.proofs.Found as found
 use Rattle.tm_names.proofs.walker.Walker.has_found.Goals as goal
 

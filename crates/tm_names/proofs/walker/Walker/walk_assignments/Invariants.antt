@@ -1,5 +1,5 @@
 use Rattle.std.proofs.Common.{◌≡◌, drop}
-use Rattle.tm_names.specs.Names.{walk_assignments}
+use Rattle.tm_syntax.specs.Names.{walk_assignments}
 use Rattle.tm_names.proofs.walker.Walker.walk_assignments.Given as goal
 
 abbrev pub invariant-loop-assignment : goal.invariant-loop-assignment

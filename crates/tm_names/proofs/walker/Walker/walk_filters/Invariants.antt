@@ -1,5 +1,5 @@
 use Rattle.std.proofs.Common.{◌≡◌, drop}
-use Rattle.tm_names.specs.Names.{walk_filters}
+use Rattle.tm_syntax.specs.Names.{walk_filters}
 use Rattle.tm_names.proofs.walker.Walker.walk_filters.Given as goal
 
 abbrev pub invariant-loop-filter : goal.invariant-loop-filter

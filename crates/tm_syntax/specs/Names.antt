@@ -22,10 +22,11 @@ use Rattle.tm_syntax.specs.declared.tree.AssignmentTarget.{AssignmentTarget, Nam
 use Rattle.tm_syntax.specs.declared.tree.AssignmentTarget.{Row_of-AssignmentTarget}
 use Rattle.tm_syntax.specs.declared.tree.AssignmentTarget.{end_of-AssignmentTarget as no_target, more_of-AssignmentTarget as target}
 use Rattle.tm_syntax.specs.declared.tree.Assignment.{Assignment}
+use Rattle.tm_syntax.specs.declared.tree.Parameter.{Parameter}
 use Rattle.tm_syntax.specs.declared.tree.CaptureUse.{CaptureUse}
 use Rattle.tm_syntax.specs.declared.tree.CaptureUse.TheVariants as uses
 use Rattle.tm_syntax.specs.declared.tree.Stmt.{Stmt, EmitRaw, EmitExpr, EmitLoop, If', For', Break, Continue, Block', Set, CaptureBlock'}
-use Rattle.tm_syntax.specs.declared.tree.Stmt.{With', Do, AutoEscape', Row_of-Stmt, end_of-Stmt as no_statement}
+use Rattle.tm_syntax.specs.declared.tree.Stmt.{With', Do, AutoEscape', Macro', Row_of-Stmt, end_of-Stmt as no_statement}
 use Rattle.tm_syntax.specs.declared.tree.Stmt.{more_of-Stmt as statement, Held-Stmt-If-2 as Otherwise, None' as no_else}
 use Rattle.tm_syntax.specs.declared.tree.Stmt.{Some' as otherwise}
 
@@ -239,9 +240,15 @@ walk_use nested uses.Emit k = k
 walk_use nested (uses.Assign t) k = walk_target nested t k
 
 -- ---------------------------------------------------------------- statements
+-- an expression, where there is one
 abbrev pub walk_condition : Bool → Option Expr → Walk → Walk
 walk_condition nested None k = k
 walk_condition nested (Some c) k = walk_expr nested c k
+
+-- the parameters of a macro, each before its default
+abbrev pub walk_parameters : Bool → List Parameter → Walk → Walk
+walk_parameters nested [] k = k
+walk_parameters nested (p ∷ more) k = walk_parameters nested more (walk_condition nested p.default (assign p.name k))
 
 -- what stands before a loop's body, in the scope of the loop
 abbrev pub walk_head : Bool → AssignmentTarget → Option Expr → Walk → Walk
@@ -264,6 +271,8 @@ abbrev mutual
   walk nested (With' given _ body) k = close_scope (walk_all nested body (walk_assignments nested given (open_scope k)))
   walk nested (Do e) k = walk_expr nested e k
   walk nested (AutoEscape' e _ body) k = walk_all nested body (walk_expr nested e k)
+  walk nested (Macro' x ps _ body) k = close_scope
+      (walk_all nested body (walk_parameters nested ps (assign (codes "caller") (open_scope (assign x k)))))
 
   pub walk_all : {n : _} → Bool → Row_of-Stmt n → Walk → Walk
   walk_all nested no_statement k = k
@@ -276,3 +285,28 @@ abbrev mutual
 -- the names that statements on their own read, in their order
 abbrev pub undeclared : {n : _} → Bool → Row_of-Stmt n → List (List ℕ)
 undeclared nested ss = (walk_all nested ss beginning).found
+
+-- ---------------------------------------------------------------- the names of a macro
+-- what a macro reads, walked over alone
+abbrev pub read_by : {n : _} → List Parameter → Row_of-Stmt n → List (List ℕ)
+read_by ps body = (walk_all false body (walk_parameters false ps beginning)).found
+
+abbrev pub is_among : List ℕ → List (List ℕ) → Bool
+is_among x [] = false
+is_among x (y ∷ ys) = same_name x y || is_among x ys
+
+abbrev pub without : List ℕ → List (List ℕ) → List (List ℕ)
+without x [] = []
+without x (y ∷ ys) = cond (same_name x y) (without x ys) (y ∷ without x ys)
+
+abbrev pub parameter_names : List Parameter → List (List ℕ)
+parameter_names [] = []
+parameter_names (p ∷ ps) = p.name ∷ parameter_names ps
+
+-- The names that a macro's closure has: those that it reads, but for `caller`.
+abbrev pub free_names : {n : _} → List Parameter → Row_of-Stmt n → List (List ℕ)
+free_names ps body = without (codes "caller") (read_by ps body)
+
+-- A macro takes `caller` where it reads it, or has a parameter of that name.
+abbrev pub takes_caller : {n : _} → List Parameter → Row_of-Stmt n → Bool
+takes_caller ps body = is_among (codes "caller") (read_by ps body) || is_among (codes "caller") (parameter_names ps)
