@@ -1,6 +1,6 @@
--- The loops of a tree stand in its code, each at its number.
+-- The loops and macros of a tree stand in its code, each at its number.
 use Rattle.std.proofs.Common.{◌≡◌, ℕ, zero, suc, ◌+◌, ◌⊎◌, inl, inr, List, [], ◌∷◌, Option, Some, None, Bool, true, false, ◌++◌}
-use Rattle.std.proofs.Common.{refl, sym, ap, subst}
+use Rattle.std.proofs.Common.{refl, sym, ap, subst, length}
 use Rattle.std.proofs.Common.{arith}
 use Rattle.std.proofs.lemmas.List.{append-nil}
 use Rattle.tm_syntax.specs.declared.instruction.Instruction.{Instruction}
@@ -25,10 +25,11 @@ use Rattle.tm_syntax.specs.declared.tree.AssignmentTarget.{AssignmentTarget, Nam
 use Rattle.tm_syntax.specs.declared.tree.AssignmentTarget.{Row_of-AssignmentTarget}
 use Rattle.tm_syntax.specs.declared.tree.AssignmentTarget.{end_of-AssignmentTarget as no_target, more_of-AssignmentTarget as target}
 use Rattle.tm_syntax.specs.declared.tree.Assignment.{Assignment}
+use Rattle.tm_syntax.specs.declared.tree.Parameter.{Parameter}
 use Rattle.tm_syntax.specs.declared.tree.CaptureUse.{CaptureUse}
 use Rattle.tm_syntax.specs.declared.tree.CaptureUse.TheVariants as uses
 use Rattle.tm_syntax.specs.declared.tree.Stmt.{Stmt, EmitRaw, EmitExpr, EmitLoop, If', For', Break, Continue, Block', Set, CaptureBlock'}
-use Rattle.tm_syntax.specs.declared.tree.Stmt.{With', Do, AutoEscape', Row_of-Stmt, end_of-Stmt as no_statement}
+use Rattle.tm_syntax.specs.declared.tree.Stmt.{With', Do, AutoEscape', Macro', Row_of-Stmt, end_of-Stmt as no_statement}
 use Rattle.tm_syntax.specs.declared.tree.Stmt.{more_of-Stmt as statement, Held-Stmt-If-2 as Otherwise, None' as no_else}
 use Rattle.tm_syntax.specs.declared.tree.Stmt.{Some' as otherwise}
 use Rattle.tm_syntax.specs.declared.opened.Opened.{Opened}
@@ -38,17 +39,20 @@ use Rattle.tm_syntax.specs.Forms.{spread_keywords, item, slice, binary, compare,
 use Rattle.tm_syntax.specs.Code.{unary_code, binary_code, application_code, passed_count, merging, passing_by, close_all, for_flags}
 use Rattle.tm_syntax.specs.Code.{list_of_row, map_of_row, merged_code, has_spread, has_spread_keyword, row_behind, keywords_behind}
 use Rattle.tm_syntax.specs.Blocks.{body_of}
-use Rattle.tm_syntax.specs.Loops.{FoundLoop, with_pass, within_loop, passes, past, pasts, past_else, loops_of, loops_in, loops_else}
-use Rattle.tm_syntax.specs.Fragments.{Fragment, straight, ◌⨾◌, looped, Labels}
+use Rattle.tm_syntax.specs.Loops.{Numbers, FoundLoop, FoundMacro, with_pass, within_loop, within_macro, passes, past, pasts, past_else}
+use Rattle.tm_syntax.specs.Loops.{loops_of, loops_in, loops_else, macros_of, macros_in, macros_else}
+use Rattle.tm_syntax.specs.Fragments.{Fragment, straight, ◌⨾◌, looped, declares, Labels, beyond}
+use Rattle.tm_syntax.specs.Names.{parameter_names}
 use Rattle.tm_syntax.specs.declared.jump.JumpKind.TheVariants.{IfFalse}
 use Rattle.tm_syntax.specs.Code.{expr_code, conditions_code, exprs_code, pairs_code, argument_code}
 use Rattle.tm_syntax.specs.Code.{arguments_code, listed_code, lists_code, keyword_code, keywords_code, step_code, links_code}
 use Rattle.tm_syntax.specs.Code.{steps_code, target_code}
 use Rattle.tm_syntax.specs.Code.{targets_code, set_code, assignments_code, iterable_code, pass_round, statement_code, statements_code}
-use Rattle.tm_syntax.specs.Code.{branches_code, after_loop_code, filters_code, use_code}
+use Rattle.tm_syntax.specs.Code.{branches_code, after_loop_code, filters_code, use_code, default_code, parameters_code, macro_head}
 use Rattle.tm_syntax.proofs.Standing.{HasAt, At}
-use Rattle.tm_simulation.proofs.Begins.{Begins, IsLoop, NoneBegins, Loopless, both_begin, loop_begins, none_begin, after_none}
-use Rattle.tm_simulation.proofs.Begins.{before_none, over_begins, either_begins}
+use Rattle.tm_simulation.proofs.Counts.{NoneBegins, Loopless, Counts, one_loop_more, counted_none}
+use Rattle.tm_simulation.proofs.Begins.{Begins, IsLoop, IsMacro, both_begin, loop_begins, macro_begins, none_begin, after_none}
+use Rattle.tm_simulation.proofs.Begins.{before_none, over_begins, either_begins, moved}
 
 -- ---------------------------------------------------------------- expressions begin none
 unary_loopless : (op : UnaryOperator) → NoneBegins (unary_code op ∷ [])
@@ -205,13 +209,31 @@ behind_exit : (all : List Instruction) (l : Labels) (end : ℕ) (os : List Opene
 behind_exit all l end os no_else h = inl h
 behind_exit all l end os (otherwise _ body) h = inr h.0
 
-abbrev pub found : {n : _} → ℕ → Option Expr → Bool → AssignmentTarget → Row_of-Stmt n → FoundLoop
+-- ---------------------------------------------------------------- nor do the parameters of macros
+default_loopless : (default : Option Expr) → Loopless (default_code default)
+default_loopless None = tt
+default_loopless (Some e) = ((refl, (refl, tt)), (tt, ((refl, tt), expr_loopless e)))
+
+pub parameters_loopless : (ps : List Parameter) → Loopless (parameters_code ps)
+parameters_loopless [] = tt
+parameters_loopless (p ∷ ps) = (parameters_loopless ps, (default_loopless p.default, (refl, tt)))
+
+pub names_as_many : (ps : List Parameter) → length (parameter_names ps) ≡ length ps
+names_as_many [] = refl
+names_as_many (p ∷ ps) = ap suc (names_as_many ps)
+
+-- ---------------------------------------------------------------- loops and macros that are found
+abbrev pub found : {n : _} → Numbers → Option Expr → Bool → AssignmentTarget → Row_of-Stmt n → FoundLoop
 found at c r t body = record { recursive = r; target = t; body = body_of body; at = within_loop c at }
 
-is_loop : {n : _} → (os : List Opened) (at : ℕ) (c : Option Expr) (r : Bool) (t : AssignmentTarget) (body : Row_of-Stmt n)
+-- behind the pass of a condition
+abbrev pub behind_pass : Option Expr → Numbers → Numbers
+behind_pass c at = record at { loops = at.loops + passes c }
+
+is_loop : {n : _} → (os : List Opened) (at : Numbers) (c : Option Expr) (r : Bool) (t : AssignmentTarget) (body : Row_of-Stmt n)
     (other : Otherwise) →
-    IsLoop (found at c r t body) (at + passes c) (for_flags r) (target_code t ⨾ statements_code [] body) (after_loop_code os other)
-is_loop os at c r t body other all l pc is first = (
+    IsLoop (found at c r t body) (behind_pass c at) (for_flags r) (target_code t ⨾ statements_code [] body) (after_loop_code os other)
+is_loop os at c r t body other all l pc is n = (
   refl,
   λ yes. (
     ap for_flags yes,
@@ -220,9 +242,25 @@ is_loop os at c r t body other all l pc is first = (
       after = after_loop_code os other;
       code = subst (λ b. At all l pc (looped (for_flags b) (target_code t ⨾ statements_code [] body) (after_loop_code os other))) yes is;
       exit = behind_exit all l _ os other is.4;
-      numbered = (none_begin (within_loop c at) (target_code t) (target_loopless t) all _ (pc + 1 + 1) is.2.0 first).number;
+      numbered =
+          subst (λ m. Counts all m (beyond (pc + 1 + 1) (target_code t)) (statements_code [] body))
+          (counted_none (within_loop c at) (target_code t) (target_loopless t)) n.1;
     },
   ),
+)
+
+is_macro : {n : _} → (at : Numbers) (x : List ℕ) (ps : List Parameter) (body : Row_of-Stmt n) →
+    IsMacro (record { parameters = ps; body = body_of body; at = within_macro at }) at (macro_head x ps body)
+    (parameters_code ps ⨾ statements_code [] body)
+is_macro at x ps body all pc is exit n = (
+  names_as_many ps,
+  record {
+    code = is;
+    exit = exit;
+    numbered =
+        subst (λ m. Counts all m (beyond (pc + 1) (parameters_code ps)) (statements_code [] body))
+        (counted_none (within_macro at) (parameters_code ps) (parameters_loopless ps)) n.1;
+  },
 )
 
 pass_loopless : (t : AssignmentTarget) (c : Expr) → Loopless (pass_round t c)
@@ -233,26 +271,29 @@ abbrev pass_of : Option Expr → FoundLoop → List FoundLoop
 pass_of None l = []
 pass_of (Some c) l = record l { recursive = false } ∷ []
 
-pub iterable_begins : (at : ℕ) (t : AssignmentTarget) (e : Expr) (c : Option Expr) (l : FoundLoop) →
-    Begins at (iterable_code t e c) (pass_of c l) (at + passes c)
-iterable_begins at t e None l = let none : at ≡ at + 0 = omega arith in subst (λ n. Begins at (expr_code e) [] n) none
-    (none_begin at (expr_code e) (expr_loopless e))
+pub iterable_begins : (at : Numbers) (t : AssignmentTarget) (e : Expr) (c : Option Expr) (l : FoundLoop) →
+    Begins at (iterable_code t e c) (pass_of c l) [] (behind_pass c at)
+iterable_begins at t e None l =
+    let none : at.loops ≡ at.loops + 0 = omega arith in
+    subst (λ n. Begins at (expr_code e) [] [] (record at { loops = n })) none (none_begin at (expr_code e) (expr_loopless e))
 iterable_begins at t e (Some c) l =
     after_none (straight _) (refl, tt) (after_none (expr_code e) (expr_loopless e)
     (loop_begins {f = record l { recursive = false }} (λ all k pc is first. (refl, λ never. absurd (cc never)))
-    (none_begin (at + 1) (pass_round t c) (pass_loopless t c)) (none_begin (at + 1) (straight _) (refl, (refl, tt)))))
+    (none_begin (one_loop_more at) (pass_round t c) (pass_loopless t c)) (none_begin (one_loop_more at) (straight _) (refl, (refl, tt)))))
 
 with_pass_is : (c : Option Expr) (l : FoundLoop) (ls : List FoundLoop) → pass_of c l ++ l ∷ ls ≡ with_pass c l ls
 with_pass_is None l ls = refl
 with_pass_is (Some c) l ls = refl
 
 mutual
-  pub statement_begins : (os : List Opened) (at : ℕ) (s : Stmt) → Begins at (statement_code os s) (loops_of at s) (past at s)
+  pub statement_begins : (os : List Opened) (at : Numbers) (s : Stmt) →
+      Begins at (statement_code os s) (loops_of at s) (macros_of at s) (past at s)
   statement_begins os at (EmitRaw t) = none_begin at (statement_code os (EmitRaw t)) (refl, tt)
   statement_begins os at (EmitExpr e) = none_begin at (statement_code os (EmitExpr e)) (expr_loopless e, (refl, tt))
   statement_begins os at (EmitLoop e) = none_begin at (statement_code os (EmitLoop e)) (expr_loopless e, (refl, tt))
   statement_begins os at (If' c _ body other) = after_none (expr_code c) (expr_loopless c)
-      (branches_begin os at (statements_code os body) (loops_in at body) (pasts at body) (statements_begin os at body) other)
+      (branches_begin os at (statements_code os body) (loops_in at body) (macros_in at body) (pasts at body) (statements_begin os at body)
+      other)
   statement_begins os at Break = none_begin at (statement_code os Break) (closed_loopless os, tt)
   statement_begins os at Continue = none_begin at (statement_code os Continue) (closed_loopless os, tt)
   statement_begins os at (Block' x _ body) = none_begin at (straight (i.CallBlock x ∷ [])) (refl, tt)
@@ -271,24 +312,30 @@ mutual
       let l = found at c r t body in
       let m = within_loop c at in
       let rounds = after_none (target_code t) (target_loopless t) (statements_begin [] m body) in
-      subst (λ ls. Begins at (statement_code os (For' t e c r n body other)) ls (past at (For' t e c r n body other)))
+      subst (λ ls. Begins at (statement_code os (For' t e c r n body other)) ls (macros_of at (For' t e c r n body other))
+      (past at (For' t e c r n body other)))
       (with_pass_is c l (loops_in m body ++ loops_else (pasts m body) other))
       (both_begin (iterable_begins at t e c l) (loop_begins (is_loop os at c r t body other) rounds
       (behind_loop_begins os (pasts m body) other)))
+  statement_begins os at (Macro' x ps _ body) =
+      let inner = after_none (parameters_code ps) (parameters_loopless ps) (statements_begin [] (within_macro at) body) in
+      before_none (straight (i.StoreLocal x ∷ [])) (refl, tt) (macro_begins (is_macro at x ps body) inner)
 
-  pub statements_begin : {n : _} → (os : List Opened) (at : ℕ) (ss : Row_of-Stmt n) →
-      Begins at (statements_code os ss) (loops_in at ss) (pasts at ss)
+  pub statements_begin : {n : _} → (os : List Opened) (at : Numbers) (ss : Row_of-Stmt n) →
+      Begins at (statements_code os ss) (loops_in at ss) (macros_in at ss) (pasts at ss)
   statements_begin os at no_statement = none_begin at (straight []) tt
   statements_begin os at (statement s ss) = both_begin (statement_begins os at s) (statements_begin os (past at s) ss)
 
-  branches_begin : (os : List Opened) (at : ℕ) (first : Fragment) (ls : List FoundLoop) (m : ℕ) → Begins at first ls m →
-      (other : Otherwise) → Begins at (branches_code os first other) (ls ++ loops_else m other) (past_else m other)
-  branches_begin os at first ls m f no_else = subst (λ ks. Begins at (branches_code os first no_else) ks m) (sym (append-nil ls))
-      (over_begins IfFalse f)
-  branches_begin os at first ls m f (otherwise _ eb) = either_begins f (statements_begin os m eb)
+  branches_begin : (os : List Opened) (at : Numbers) (first : Fragment) (ls : List FoundLoop) (ms : List FoundMacro) (m : Numbers) →
+      Begins at first ls ms m → (other : Otherwise) →
+      Begins at (branches_code os first other) (ls ++ loops_else m other) (ms ++ macros_else m other) (past_else m other)
+  branches_begin os at first ls ms m f no_else =
+      subst (λ ks. Begins at (branches_code os first no_else) ks (ms ++ []) m) (sym (append-nil ls))
+      (subst (λ ns. Begins at (branches_code os first no_else) ls ns m) (sym (append-nil ms)) (over_begins IfFalse f))
+  branches_begin os at first ls ms m f (otherwise _ eb) = either_begins f (statements_begin os m eb)
 
-  behind_loop_begins : (os : List Opened) (at : ℕ) (other : Otherwise) → Begins at (after_loop_code os other) (loops_else at other)
-      (past_else at other)
+  behind_loop_begins : (os : List Opened) (at : Numbers) (other : Otherwise) →
+      Begins at (after_loop_code os other) (loops_else at other) (macros_else at other) (past_else at other)
   behind_loop_begins os at no_else = none_begin at (straight (i.PopLoopFrame ∷ [])) (refl, tt)
   behind_loop_begins os at (otherwise _ body) = after_none (straight _) (refl, (refl, tt))
       (over_begins IfFalse (statements_begin os at body))

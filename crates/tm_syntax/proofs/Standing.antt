@@ -34,7 +34,7 @@ At all l pc (declares m c) =
     × HasAt all (beyond (pc + 1) c) (behind_body m (pc + 1))
 
 -- ---------------------------------------------------------------- how long code is
-beyond_all_is : (pc : ℕ) (is : List Instruction) → beyond_all pc is ≡ pc + length is
+pub beyond_all_is : (pc : ℕ) (is : List Instruction) → beyond_all pc is ≡ pc + length is
 beyond_all_is pc [] = omega arith
 beyond_all_is pc (x ∷ is) = beyond_all_is (pc + 1) is ∙ omega arith
 
