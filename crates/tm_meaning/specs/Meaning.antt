@@ -1,6 +1,6 @@
 -- What trees mean. No stream's place and no operand stands here.
 use Rattle.std.specs.Prelude.{ℕ, zero, suc, ◌+◌, ◌^◌, ◌-◌, pos, List, [], ◌∷◌, ◌++◌, Option, Some, None, Bool, true, false, ◌&&◌}
-use Rattle.std.specs.Prelude.{nat_lt, nat_eq, if◌then◌else◌, Ok, slice_get, length}
+use Rattle.std.specs.Prelude.{nat_lt, nat_eq, if◌then◌else◌, Ok, slice_get, length, codes}
 use Rattle.tm_values.specs.Answer.{Answer, invalid}
 use Rattle.tm_values.specs.Val.{Val, undefined, number, text}
 use Rattle.tm_values.specs.declared.error.ErrorKind.{ErrorKind}
@@ -24,7 +24,7 @@ use Rattle.tm_syntax.specs.declared.tree.Parameter.{Parameter}
 use Rattle.tm_syntax.specs.declared.tree.CaptureUse.{CaptureUse}
 use Rattle.tm_syntax.specs.declared.tree.CaptureUse.TheVariants as uses
 use Rattle.tm_syntax.specs.declared.tree.Stmt.{Stmt, EmitRaw, EmitExpr, EmitLoop, If', For', Break, Continue, Block', Set, CaptureBlock'}
-use Rattle.tm_syntax.specs.declared.tree.Stmt.{With', Do, AutoEscape', Macro', Row_of-Stmt, end_of-Stmt as no_statement}
+use Rattle.tm_syntax.specs.declared.tree.Stmt.{With', Do, AutoEscape', Macro', CallBlock', Row_of-Stmt, end_of-Stmt as no_statement}
 use Rattle.tm_syntax.specs.declared.tree.Stmt.{more_of-Stmt as statement, Held-Stmt-If-2 as Otherwise, None' as no_else}
 use Rattle.tm_syntax.specs.declared.tree.Stmt.{Some' as otherwise}
 use Rattle.tm_syntax.specs.Forms.{unary, chained, conditional, with_condition, with_comparison, with_pair, plain, spread, keyword, item}
@@ -148,6 +148,10 @@ block_tag u run b out w =
     choose (none_waits run.parent && audible run) (λ _. in_place_of u run out (enter_block u.host b w)) (λ _. so_far run out w)
 
 -- ---------------------------------------------------------------- expressions
+-- What arguments by their names become in the end, behind a row of names with their values.
+abbrev pub RowValues : Type 0
+RowValues = List (Val × Val) → World → Res (List Val)
+
 -- what is guarded where the condition is true, with the jump behind it, and else what stands for it
 abbrev pub under_condition : HostValue → (World → Res Val) → (World → Res Val) → (World → Res Val) → World → Res Val
 under_condition host test guarded other w =
@@ -162,8 +166,8 @@ abbrev mutual
   eval u run (Tuple' _ es) w = bind (eval_all u run es w) (λ vs world1. ticked world1 (λ world2. Good (list_of_values vs) world2))
   eval u run (Map' _ ps) w = bind (eval_pairs u run ps w) (λ es world1. ticked world1 (λ world2. Good (map_of_pairs es) world2))
   eval u run (Call' f _ given _ named) w =
-      bind (passed u.host [] given named (λ world1. eval_arguments u run given world1) (λ world1. eval_keywords u run [] named world1)
-      (λ by_name world1. eval_lists u run [] given by_name world1) w) (λ vs world1.
+      bind (passed u.host [] given named (λ world1. eval_arguments u run given world1)
+      (λ world1. eval_keywords u run mapped [] named world1) (λ by_name world1. eval_lists u run [] given by_name world1) w) (λ vs world1.
       ticked world1 (λ world2. value_of u run (call_named u.host f vs world2)))
   eval u run (unary op a) w = bind (eval u run a w) (λ v world1. ticked world1 (λ world2. applied_unary u.host op v world2))
   eval u run (chained a _ ss) w = bind (eval u run a w) (λ v world1. eval_steps u run ss v world1)
@@ -206,25 +210,25 @@ abbrev mutual
       bind (listed row w) (λ ls world1. bind (eval u run a world1) (λ v world2.
       bind (eval_lists u run [] more by_name world2) (λ vs world3. Good (ls ++ v ∷ vs) world3)))
 
-  -- behind a row of names with their values, a name being charged: each row as a map, and each value that is spread
-  pub eval_keywords : {n : _} → Under → Run → List (Val × Val) → Row_of-Keyword n → World → Res (List Val)
-  eval_keywords u run row no_keyword w = mapped row w
-  eval_keywords u run row (keyword_and (keyword x a) more) w =
-      ticked w (λ world1. bind (eval u run a world1) (λ v world2. eval_keywords u run (row ++ (text x false, v) ∷ []) more world2))
-  eval_keywords u run row (keyword_and (spread_keywords a) more) w =
+  -- behind a row of names with their values, a name being charged: each row as a map, and each value that is spread; so the last row ends
+  pub eval_keywords : {n : _} → Under → Run → RowValues → List (Val × Val) → Row_of-Keyword n → World → Res (List Val)
+  eval_keywords u run end row no_keyword w = end row w
+  eval_keywords u run end row (keyword_and (keyword x a) more) w =
+      ticked w (λ world1. bind (eval u run a world1) (λ v world2. eval_keywords u run end (row ++ (text x false, v) ∷ []) more world2))
+  eval_keywords u run end row (keyword_and (spread_keywords a) more) w =
       bind (mapped row w) (λ ms world1. bind (eval u run a world1) (λ v world2.
-      bind (eval_keywords u run [] more world2) (λ ns world3. Good (ms ++ v ∷ ns) world3)))
+      bind (eval_keywords u run end [] more world2) (λ ns world3. Good (ms ++ v ∷ ns) world3)))
 
   -- a value goes on; `and` and `or` charge their test, and give the operand that ran last
   pub eval_step : Under → Run → Step → Val → World → Res Val
   eval_step u run (Attribute x) v w = ticked w (λ world1. attribute u.host v x world1)
   eval_step u run (Apply' k x _ given _ named) v w =
       bind (passed u.host (v ∷ []) given named (λ world1. eval_arguments u run given world1)
-      (λ world1. eval_keywords u run [] named world1) (λ by_name world1. eval_lists u run (v ∷ []) given by_name world1) w) (λ vs world1.
+      (λ world1. eval_keywords u run mapped [] named world1) (λ by_name world1. eval_lists u run (v ∷ []) given by_name world1) w) (λ vs world1.
       ticked world1 (λ world2. bind (value_of u run (applied u.host k x vs world2)) (λ y world3. turned u.host k y world3)))
   eval_step u run (Called _ given _ named) v w =
       bind (passed u.host (v ∷ []) given named (λ world1. eval_arguments u run given world1)
-      (λ world1. eval_keywords u run [] named world1) (λ by_name world1. eval_lists u run (v ∷ []) given by_name world1) w) (λ vs world1.
+      (λ world1. eval_keywords u run mapped [] named world1) (λ by_name world1. eval_lists u run (v ∷ []) given by_name world1) w) (λ vs world1.
       ticked world1 (λ world2. value_of u run (call_callee u.host vs world2)))
   eval_step u run (item a) v w = bind (eval u run a w) (λ k world1. ticked world1 (λ world2. item_at u.host v k world2))
   eval_step u run (slice a b c) v w =
@@ -306,6 +310,46 @@ abbrev pub take_parameters : Under → Run → List Parameter → List Val → W
 take_parameters u run [] vs w = Good tt w
 take_parameters u run (p ∷ ps) [] w = Good tt w
 take_parameters u run (p ∷ ps) (v ∷ vs) w = bind (take_parameters u run ps vs w) (λ _ world1. take_parameter u run p v world1)
+
+-- ---------------------------------------------------------------- calls that are given a macro
+-- behind a row of names with their values the macro of a number, under the name `caller`
+abbrev pub with_caller : HostValue → ℕ → MacroHead → RowValues
+with_caller host n m row w =
+    ticked w (λ world1. bind (declared host n m world1) (λ v world2. mapped (row ++ (text (codes "caller") false, v) ∷ []) world2))
+
+-- What a call is passed, behind values before the arguments, where those by their names end so.
+abbrev pub passed_so : {n m : _} → Under → Run → RowValues → List Val → Row_of-Argument n → Row_of-Keyword m → World → Res (List Val)
+passed_so u run end before given named w =
+    passed u.host before given named (λ world1. eval_arguments u run given world1)
+    (λ world1. eval_keywords u run end [] named world1) (λ by_name world1. eval_lists u run before given by_name world1) w
+
+-- a value is called with what is behind its arguments alone
+abbrev pub call_alone : Under → Run → RowValues → Val → World → Res Val
+call_alone u run end v w =
+    bind (end [] w) (λ ks world1. ticked world1 (λ world2. value_of u run (call_callee u.host (v ∷ ks) world2)))
+
+-- The last step of a value is its call, whose arguments end so; what a step that is no call gives is called.
+abbrev pub step_call : Under → Run → RowValues → Step → Val → World → Res Val
+step_call u run end (Apply' k x _ given _ named) v w =
+    bind (passed_so u run end (v ∷ []) given named w) (λ vs world1.
+    ticked world1 (λ world2. bind (value_of u run (applied u.host k x vs world2)) (λ y world3. turned u.host k y world3)))
+step_call u run end (Called _ given _ named) v w =
+    bind (passed_so u run end (v ∷ []) given named w) (λ vs world1.
+    ticked world1 (λ world2. value_of u run (call_callee u.host vs world2)))
+step_call u run end s v w = bind (eval_step u run s v w) (λ x world1. call_alone u run end x world1)
+
+abbrev pub steps_call : {n : _} → Under → Run → RowValues → Row_of-Step n → Val → World → Res Val
+steps_call u run end no_step v w = call_alone u run end v w
+steps_call u run end (step s no_step) v w = step_call u run end s v w
+steps_call u run end (step s (step t more)) v w = bind (eval_step u run s v w) (λ x world1. steps_call u run end (step t more) x world1)
+
+-- An expression that is a call, whose arguments end so; what another gives is called.
+abbrev pub call : Under → Run → RowValues → Expr → World → Res Val
+call u run end (Call' f _ given _ named) w =
+    bind (passed_so u run end [] given named w) (λ vs world1.
+    ticked world1 (λ world2. value_of u run (call_named u.host f vs world2)))
+call u run end (chained a _ ss) w = bind (eval u run a w) (λ v world1. steps_call u run end ss v world1)
+call u run end e w = bind (eval u run e w) (λ v world1. call_alone u run end v world1)
 
 -- ---------------------------------------------------------------- statements
 -- What is closed behind a body, however it ended, but for a fault.
@@ -434,6 +478,9 @@ abbrev mutual
   exec u at (Macro' x ps _ body) run out w =
       use_it (declared u.host at.macros (macro_head x ps body) w) run out (λ v world1.
       use_it (assign u run (To x) v world1) run out (λ _ world2. so_far run out world2))
+  exec u at (CallBlock' e ps _ body) run out w =
+      use_it (call u run (with_caller u.host at.macros (macro_head (codes "caller") ps body)) e w) run out
+      (λ v world1. emit u run out v world1)
 
   pub exec_all : {n : _} → Under → Numbers → Row_of-Stmt n → Run → List ℕ → World → Outcome
   exec_all u at no_statement run out w = so_far run out w
