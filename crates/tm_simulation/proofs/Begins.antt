@@ -16,7 +16,7 @@ use Rattle.tm_syntax.specs.Fragments.{MacroHead, behind_body, beyond, Labels, ou
 use Rattle.tm_syntax.specs.Entries.{Entries}
 use Rattle.tm_syntax.proofs.Standing.{HasAt, At, beyond_is}
 use Rattle.tm_simulation.proofs.Counts.{NoneBegins, Plain, Loopless, NoLoops, plain, jump_none, none_loops, behind_loops, none_places}
-use Rattle.tm_simulation.proofs.Counts.{one_loop_more, counted, counted_none, entered, entered_none, Counts}
+use Rattle.tm_simulation.proofs.Counts.{one_loop_more, counted, counted_none, entered, entered_none, Counts, Has, it, front, back}
 
 -- ---------------------------------------------------------------- lists side by side
 -- Two lists are as long, and each item of one stands in a relation to that of the other.
@@ -241,7 +241,9 @@ before_none {at = at} {to = to} {c = c} {ls = ls} {ms = ms} d n f =
     subst (λ ks. Begins at (c ⨾ d) ks ms to) (append-nil ls)
     (subst (λ ns. Begins at (c ⨾ d) (ls ++ []) ns to) (append-nil ms) (both_begin f (none_begin to d n)))
 
--- The loops and macros of a part at another place of the same number.
-pub moved : {at m to : Numbers} {c : Fragment} {ls : List FoundLoop} {ms : List FoundMacro} → at ≡ m → Begins m c ls ms to →
+-- code whose one part begins these
+pub one_part_begins : {at to : Numbers} {x c : Fragment} {ls : List FoundLoop} {ms : List FoundMacro} → Has x c → Begins at x ls ms to →
     Begins at c ls ms to
-moved {to = to} {c = c} {ls = ls} {ms = ms} same f = subst (λ n. Begins n c ls ms to) (sym same) f
+one_part_begins it f = f
+one_part_begins (front {d = d} one none) f = before_none d none (one_part_begins one f)
+one_part_begins (back {c = c} none one) f = after_none c none (one_part_begins one f)

@@ -1,6 +1,6 @@
 -- How many loops and macros stand before each part of code, and where its macros are entered.
 use Rattle.std.proofs.Common.{◌≡◌, ◌≤◌, ◌<◌, ℕ, zero, suc, ◌+◌, List, [], ◌∷◌, ◌++◌, length, Option, Some, None, Bool, true, false, refl}
-use Rattle.std.proofs.Common.{sym, ap, subst, ◌∙◌, arith, length-append, append_assoc, ltb, lt-ltb, le-ltb, ne_eqb}
+use Rattle.std.proofs.Common.{sym, ap, subst, ◌∙◌, arith, length-append, append_assoc, ltb, lt-ltb, le-ltb, ne_eqb, eq-eqb}
 use Rattle.std.specs.Prelude.{nat_lt, nat_eq}
 use Rattle.std.specs.Prelude.{slice_get, map as each}
 use Rattle.std.specs.List.{prefix_len}
@@ -21,7 +21,7 @@ use Rattle.tm_syntax.specs.Fragments.{Fragment, straight, ◌⨾◌, jump_out, b
 use Rattle.tm_syntax.specs.Fragments.{MacroHead, name_list, building, behind_body, beyond_all, beyond, Labels, outward, inward, jump}
 use Rattle.tm_syntax.specs.Fragments.{assemble, ending_at, whole_labels, assembled}
 use Rattle.tm_syntax.specs.Entries.{Entries, entries_from, entries, entry_number, name_count, with_entry}
-use Rattle.tm_syntax.proofs.Standing.{HasAt, At, beyond_is, beyond_all_is, stands_whole}
+use Rattle.tm_syntax.proofs.Standing.{HasAt, At, AtWhere, beyond_is, beyond_all_is, stands_whole}
 use Rattle.tm_simulation.specs.Uncached.{is_uncached, AllUncached}
 use Rattle.tm_simulation.proofs.Numbered.{both_uncached}
 
@@ -94,6 +94,39 @@ pub jump_none : (j : JumpKind) (to : ℕ) → is_simple (jump j to) ≡ true
 jump_none IfFalse to = refl
 jump_none IfFalseOrPop to = refl
 jump_none IfTrueOrPop to = refl
+
+-- In code that has no macro nothing is marked.
+pub marked_so : (marks : ℕ → Bool) (all : List Instruction) (l : Labels) (pc : ℕ) (c : Fragment) → Loopless c → At all l pc c →
+    AtWhere marks all l pc c
+marked_so marks all l pc (straight is) n h = h
+marked_so marks all l pc (c ⨾ d) n h = (marked_so marks all l pc c n.0 h.0, marked_so marks all l (beyond pc c) d n.1 h.1)
+marked_so marks all l pc (jump_out j) n h = h
+marked_so marks all l pc (bounded c) n h = marked_so marks all (outward (beyond pc c) l) pc c n h
+marked_so marks all l pc (fork c d) n h =
+    (marked_so marks all (outward (beyond pc c + 1) l) pc c n.0 h.0, h.1, marked_so marks all l (beyond pc c + 1) d n.1 h.2)
+marked_so marks all l pc (looped g c d) n h = absurd n
+marked_so marks all l pc break_loop n h = h
+marked_so marks all l pc next_round n h = h
+marked_so marks all l pc (declares m c) n h = absurd n
+
+pub unmarked : (marks : ℕ → Bool) (all : List Instruction) (l : Labels) (pc : ℕ) (c : Fragment) → Loopless c →
+    AtWhere marks all l pc c → At all l pc c
+unmarked marks all l pc (straight is) n h = h
+unmarked marks all l pc (c ⨾ d) n h = (unmarked marks all l pc c n.0 h.0, unmarked marks all l (beyond pc c) d n.1 h.1)
+unmarked marks all l pc (jump_out j) n h = h
+unmarked marks all l pc (bounded c) n h = unmarked marks all (outward (beyond pc c) l) pc c n h
+unmarked marks all l pc (fork c d) n h =
+    (unmarked marks all (outward (beyond pc c + 1) l) pc c n.0 h.0, h.1, unmarked marks all l (beyond pc c + 1) d n.1 h.2)
+unmarked marks all l pc (looped g c d) n h = absurd n
+unmarked marks all l pc break_loop n h = h
+unmarked marks all l pc next_round n h = h
+unmarked marks all l pc (declares m c) n h = absurd n
+
+-- A part of code, the rest of which has neither loops nor macros.
+pub data Has (x : Fragment) : Fragment → Type 0 where
+  it : Has x x
+  front : {c d : Fragment} → Has x c → Loopless d → Has x (c ⨾ d)
+  back : {c d : Fragment} → Loopless c → Has x d → Has x (c ⨾ d)
 
 -- ---------------------------------------------------------------- no name has a cache
 none_cached : (is : List Instruction) → NoneBegins is → AllUncached is
@@ -492,6 +525,19 @@ Counts all at pc (declares m c) = (entry_number (pc + 1) all ≡ at.macros) × C
 pub counts_behind : (all : List Instruction) (at : Numbers) (pc : ℕ) (c d : Fragment) → Loopless c → Counts all at pc (c ⨾ d) →
     Counts all at (beyond pc c) d
 counts_behind all at pc c d h n = subst (λ m. Counts all m (beyond pc c) d) (counted_none at c h) n.1
+
+-- The place of a macro with this number.
+abbrev pub of_number : List Instruction → ℕ → ℕ → Bool
+of_number all n pc = nat_eq (entry_number (pc + 1) all) n
+
+-- The one macro of such code is entered by the number of the next.
+pub one_marked : {m : MacroHead} {x : Fragment} (all : List Instruction) (at : Numbers) (l : Labels) (pc : ℕ) (c : Fragment) →
+    Has (declares m x) c → At all l pc c → Counts all at pc c → AtWhere (of_number all at.macros) all l pc c
+one_marked all at l pc _ it h n = (h.0, h.1, h.2, eq-eqb (entry_number (pc + 1) all) at.macros n.0)
+one_marked all at l pc (c ⨾ d) (front one none) h n =
+    (one_marked all at l pc c one h.0 n.0, marked_so (of_number all at.macros) all l (beyond pc c) d none h.1)
+one_marked all at l pc (c ⨾ d) (back none one) h n =
+    (marked_so (of_number all at.macros) all l pc c none h.0, one_marked all at l (beyond pc c) d one h.1 (counts_behind all at pc c d none n))
 
 before_it : (before : Entries) (pc n : ℕ) (rest : Entries) → UpTo pc before →
     prefix_len (λ (e : ℕ × ℕ). ltb e.0 (pc + 1)) (before ++ (pc + 1, n) ∷ rest) ≡ length before

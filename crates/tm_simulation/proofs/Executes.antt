@@ -5,7 +5,7 @@ use Rattle.tm_values.specs.declared.error.ErrorKind.TheVariants.{InvalidOperatio
 use Rattle.tm_syntax.specs.declared.tree.CaptureUse.{CaptureUse}
 use Rattle.tm_syntax.specs.declared.tree.CaptureUse.TheVariants as uses
 use Rattle.tm_syntax.specs.declared.tree.Stmt.{Stmt, EmitRaw, EmitExpr, EmitLoop, If', For', Break, Continue, Block', Set, CaptureBlock'}
-use Rattle.tm_syntax.specs.declared.tree.Stmt.{With', Do, AutoEscape', Macro', Row_of-Stmt, end_of-Stmt as no_statement}
+use Rattle.tm_syntax.specs.declared.tree.Stmt.{With', Do, AutoEscape', Macro', CallBlock', Row_of-Stmt, end_of-Stmt as no_statement}
 use Rattle.tm_syntax.specs.declared.tree.Stmt.{more_of-Stmt as statement}
 use Rattle.tm_syntax.specs.declared.tree.AssignmentTarget.{Name as To}
 use Rattle.tm_syntax.specs.Code.{macro_head}
@@ -17,7 +17,8 @@ use Rattle.tm_meaning.specs.Calls.{Callee}
 use Rattle.tm_meaning.specs.Meaning.{again_in, turn_of, Run, Outcome, Under, use_it, say, block_tag, eval, loop_items, assign}
 use Rattle.tm_meaning.specs.Operators.{truth}
 use Rattle.tm_meaning.specs.Meaning.{set_to, set_each, capturing, loop_over, has_none, exec_behind_loop, emit, filtered, use_text}
-use Rattle.tm_meaning.specs.Meaning.{behind_first, exec, exec_all, exec_else, declared, take_parameters, macro_body}
+use Rattle.tm_meaning.specs.Meaning.{behind_first, exec, exec_all, exec_else, declared, take_parameters, macro_body, call, with_caller}
+use Rattle.std.specs.Prelude.{codes}
 use Rattle.tm_simulation.proofs.Advances.{kept_same, within, advances_within, kept_popped, advances_escaped, kept_unescaped}
 use Rattle.tm_simulation.proofs.Gives.{OutcomeKeeps, RunEnds, tick_gives, ends_here, ends_refused, ends_then, ends_use}
 use Rattle.tm_simulation.proofs.Gives.{ends_do, ends_leave, ends_next, choose_ends, ends_kept, ends_within, closing_ends, captured_ends}
@@ -25,7 +26,7 @@ use Rattle.tm_simulation.proofs.Gives.{loop_ends}
 use Rattle.tm_simulation.proofs.Asks.{emitted_gives, escape_gives, block_asks, innermost_asks}
 use Rattle.tm_simulation.proofs.Evaluates.{place_ends, loop_items_give, assign_gives, filtered_gives, set_each_gives, set_gives}
 use Rattle.tm_simulation.proofs.Evaluates.{eval_gives, truth_gives}
-use Rattle.tm_simulation.proofs.Declares.{declared_gives, take_parameters_give}
+use Rattle.tm_simulation.proofs.Declares.{declared_gives, caller_gives, call_gives, take_parameters_give}
 
 -- ---------------------------------------------------------------- statements
 module _ (u : Under) (nest_ends : (k : Callee) (heard : Bool) (out : List ℕ) (w : World) → RunEnds u.host w (u.nests k heard out w))
@@ -115,6 +116,11 @@ module _ (u : Under) (nest_ends : (k : Callee) (heard : Bool) (out : List ℕ) (
         (declared_gives u.host at.macros (macro_head x ps body) w) (λ v world1.
         ends_use u.host world1 (assign u run (To x) v world1) run out _ (assign_gives u nest_ends again_ends run (To x) v world1)
         (λ _ world2. ends_here u.host world2 world2 run out (kept_same world2)))
+    exec_ends at (CallBlock' e ps _ body) run out w =
+        let m = macro_head (codes "caller") ps body in
+        let last = caller_gives u.host at.macros m in
+        ends_use u.host w (call u run (with_caller u.host at.macros m) e w) run out _ (call_gives u nest_ends again_ends _ last run e w)
+        (λ v world1. emit_ends run out v world1)
 
     pub execs_end : {n : _} → (at : Numbers) (ss : Row_of-Stmt n) (run : Run) (out : List ℕ) (w : World) →
         OutcomeKeeps u.host w (exec_all u at ss run out w)

@@ -16,6 +16,7 @@ mod Arguments
 mod Expressions
 mod Targets
 mod Macros
+mod CallTags
 mod Rounds
 mod Statements
 mod Recursion

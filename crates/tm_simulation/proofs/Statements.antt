@@ -1,16 +1,16 @@
 -- The code of statements does what they mean.
 use Rattle.std.proofs.Common.{◌≡◌, ℕ, ◌+◌, List, [], ◌∷◌, length, Option, Some, None}
 use Rattle.std.proofs.Common.{true, false, refl, sym, ap, ◌∙◌, subst, arith}
-use Rattle.std.specs.Prelude.{slice_get, nat_lt}
+use Rattle.std.specs.Prelude.{slice_get, nat_lt, codes}
 use Rattle.tm_values.specs.Val.{Val, undefined, boolean}
 use Rattle.tm_syntax.specs.declared.tree.Stmt.{Stmt, EmitRaw, EmitExpr, EmitLoop, If', For', Break, Continue, Block', Set, CaptureBlock'}
-use Rattle.tm_syntax.specs.declared.tree.Stmt.{With', Do, AutoEscape', Macro', Row_of-Stmt, end_of-Stmt as no_statement}
+use Rattle.tm_syntax.specs.declared.tree.Stmt.{With', Do, AutoEscape', Macro', CallBlock', Row_of-Stmt, end_of-Stmt as no_statement}
 use Rattle.tm_syntax.specs.declared.tree.AssignmentTarget.{Name as To}
 use Rattle.tm_syntax.specs.declared.tree.Stmt.{more_of-Stmt as statement, Held-Stmt-If-2 as Otherwise, None' as no_else}
 use Rattle.tm_syntax.specs.declared.tree.Stmt.{Some' as otherwise}
 use Rattle.tm_syntax.specs.declared.instruction.CaptureMode.TheVariants.{Capture}
 use Rattle.tm_syntax.specs.declared.instruction.Instruction.TheVariants as i
-use Rattle.tm_syntax.specs.Code.{for_flags, parameters_code, macro_head}
+use Rattle.tm_syntax.specs.Code.{for_flags, parameters_code, macro_head, call_code, caller_end}
 use Rattle.tm_syntax.specs.Fragments.{◌⨾◌, straight, Labels, outward, beyond, declares, looped as a_loop}
 use Rattle.tm_syntax.specs.Code.{expr_code}
 use Rattle.tm_syntax.specs.Code.{iterable_code}
@@ -29,16 +29,17 @@ use Rattle.tm_meaning.specs.Meaning.{eval}
 use Rattle.tm_meaning.specs.Meaning.{loop_items}
 use Rattle.tm_meaning.specs.Meaning.{filtered, set_to, set_each, capturing}
 use Rattle.tm_meaning.specs.Meaning.{rounds, loop_over, has_none, exec_behind_loop, behind_first, exec, exec_all}
-use Rattle.tm_meaning.specs.Meaning.{exec_else, declared, assign}
+use Rattle.tm_meaning.specs.Meaning.{exec_else, declared, assign, call, with_caller}
 use Rattle.tm_meaning.specs.Machine.{after, goes}
 use Rattle.tm_meaning.specs.Instructions.{replacing}
 use Rattle.tm_meaning.specs.Instructions.{looping}
 use Rattle.tm_simulation.specs.Kept.{shapes}
 use Rattle.tm_syntax.specs.Loops.{Numbers, loops_before, passes, within_loop, past, pasts}
-use Rattle.tm_simulation.proofs.Counts.{Counts, counts_behind}
+use Rattle.tm_simulation.proofs.Counts.{Counts, counts_behind, of_number, one_marked}
+use Rattle.tm_syntax.proofs.Standing.{AtWhere}
 use Rattle.tm_simulation.proofs.Begins.{after_none}
 use Rattle.tm_simulation.proofs.TreeLoops.{expr_loopless, target_loopless, assignments_loopless, found, iterable_begins, statement_begins}
-use Rattle.tm_simulation.proofs.TreeLoops.{statements_begin}
+use Rattle.tm_simulation.proofs.TreeLoops.{statements_begin, call_has}
 use Rattle.tm_simulation.proofs.Loops.{new_record}
 use Rattle.tm_simulation.proofs.Advances.{Kept, kept_top, kept_frames, kept_same, kept_then, kept_popped}
 use Rattle.tm_simulation.proofs.Advances.{mark_behind, in_loop_of, opened, opened_kept, within}
@@ -48,7 +49,7 @@ use Rattle.tm_simulation.proofs.Asks.{innermost_asks}
 use Rattle.tm_simulation.proofs.Evaluates.{eval_gives}
 use Rattle.tm_simulation.proofs.Evaluates.{loop_items_give}
 use Rattle.tm_simulation.proofs.Evaluates.{filtered_gives, set_gives, set_each_gives, assign_gives}
-use Rattle.tm_simulation.proofs.Declares.{declared_gives}
+use Rattle.tm_simulation.proofs.Declares.{declared_gives, caller_gives, call_gives}
 use Rattle.tm_simulation.proofs.Executes.{exec_ends, execs_end}
 use Rattle.tm_simulation.proofs.Follow.{LeadsToEnd, leave_then, next_then}
 use Rattle.tm_simulation.proofs.Follow.{opened_then, told_by, Spot, told, cfg}
@@ -65,6 +66,7 @@ use Rattle.tm_simulation.proofs.Targets.{Around, StmtsRun, around_capture, aroun
 use Rattle.tm_simulation.proofs.Targets.{ended_then, popped_then, set_runs, sets_run, stands_captured, tag_then, target_runs, tested_then}
 use Rattle.tm_simulation.proofs.Targets.{used_then}
 use Rattle.tm_simulation.proofs.Macros.{declared_then}
+use Rattle.tm_simulation.proofs.CallTags.{caller_runs, call_then}
 use Rattle.tm_simulation.proofs.Rounds.{did_not_is, end_at, iterable_runs, left_loop_then, looped, round_code, round_labels, rounds_run}
 use Rattle.tm_simulation.proofs.Rounds.{turn_ends, turn_of}
 
@@ -244,6 +246,20 @@ module _ (setting : Setting) where
         (use_then context s.bed world1 (assign u (as_at run s) (To x) v world1) (as_at run s) s.out _ _ L N _
         (assign_gives u (nest_ends setting) again_kept (as_at run s) (To x) v world1) h1 (λ _ world2 k2 h2.
         so_far_then context s.bed (as_at run s) s.out world2 _ L N h2))))
+    stmt_runs os numbers (CallBlock' e ps _ body) run s l pc stack w L N fits d j is nth h =
+        let m = macro_head (codes "caller") ps body in
+        let c = parameters_code ps ⨾ statements_code [] body in
+        let all = context.program.code s.run.stream in
+        let code = call_code (caller_end (declares m c)) e in
+        let last = with_caller context.program.host numbers.macros m in
+        let marked : AtWhere (of_number (context.program.code id) numbers.macros) all l pc code =
+        subst (λ q. AtWhere (of_number (context.program.code q) numbers.macros) all l pc code) d.2
+        (one_marked all numbers l pc code (call_has (declares m c) e) is.0 nth.0) in
+        call_then setting (of_number (context.program.code id) numbers.macros) (as_at run s)
+        (caller_runs setting m c numbers.macros (as_at run s)) e s l pc stack w (here setting run s w d) marked
+        (use_then context s.bed w (call u (as_at run s) last e w) (as_at run s) s.out _ _ L N _
+        (call_gives u (nest_ends setting) again_kept last (caller_gives context.program.host numbers.macros m) (as_at run s) e w) h
+        (λ v world1 k1 h1. emit_then setting run s (beyond pc code) v stack world1 _ L N fits is.1.0 h1 (λ out1 world2 g. g)))
 
     pub stmts_run : {m : _} → (os : List Opened) (numbers : Numbers) (l : Labels) (ss : Row_of-Stmt m) (run : Run) (s : Spot) (pc : ℕ)
         (stack : List Val) (w : World) (L N : Then) → Stands context.base run s → Deep setting run s w →

@@ -29,7 +29,7 @@ use Rattle.tm_syntax.specs.declared.tree.Parameter.{Parameter}
 use Rattle.tm_syntax.specs.declared.tree.CaptureUse.{CaptureUse}
 use Rattle.tm_syntax.specs.declared.tree.CaptureUse.TheVariants as uses
 use Rattle.tm_syntax.specs.declared.tree.Stmt.{Stmt, EmitRaw, EmitExpr, EmitLoop, If', For', Break, Continue, Block', Set, CaptureBlock'}
-use Rattle.tm_syntax.specs.declared.tree.Stmt.{With', Do, AutoEscape', Macro', Row_of-Stmt, end_of-Stmt as no_statement}
+use Rattle.tm_syntax.specs.declared.tree.Stmt.{With', Do, AutoEscape', Macro', CallBlock', Row_of-Stmt, end_of-Stmt as no_statement}
 use Rattle.tm_syntax.specs.declared.tree.Stmt.{more_of-Stmt as statement, Held-Stmt-If-2 as Otherwise, None' as no_else}
 use Rattle.tm_syntax.specs.declared.tree.Stmt.{Some' as otherwise}
 use Rattle.tm_syntax.specs.declared.opened.Opened.{Opened}
@@ -37,6 +37,8 @@ use Rattle.tm_syntax.specs.declared.opened.Opened.TheVariants.{Scope as a_scope,
 use Rattle.tm_syntax.specs.Forms.{unary, chained, conditional, with_condition, with_comparison, with_pair, plain, spread, keyword}
 use Rattle.tm_syntax.specs.Forms.{spread_keywords, item, slice, binary, compare, and_then, or_else}
 use Rattle.tm_syntax.specs.Code.{unary_code, binary_code, application_code, passed_count, merging, passing_by, close_all, for_flags}
+use Rattle.tm_syntax.specs.Code.{RowEnd, row_end, caller_end, passing_code, step_call_code, steps_call_code, call_code, called_alone}
+use Rattle.tm_syntax.specs.Code.{together}
 use Rattle.tm_syntax.specs.Code.{list_of_row, map_of_row, merged_code, has_spread, has_spread_keyword, row_behind, keywords_behind}
 use Rattle.tm_syntax.specs.Blocks.{body_of}
 use Rattle.tm_syntax.specs.Loops.{Numbers, FoundLoop, FoundMacro, with_pass, within_loop, within_macro, passes, past, pasts, past_else}
@@ -50,9 +52,10 @@ use Rattle.tm_syntax.specs.Code.{steps_code, target_code}
 use Rattle.tm_syntax.specs.Code.{targets_code, set_code, assignments_code, iterable_code, pass_round, statement_code, statements_code}
 use Rattle.tm_syntax.specs.Code.{branches_code, after_loop_code, filters_code, use_code, default_code, parameters_code, macro_head}
 use Rattle.tm_syntax.proofs.Standing.{HasAt, At}
-use Rattle.tm_simulation.proofs.Counts.{NoneBegins, Loopless, Counts, one_loop_more, counted_none}
+use Rattle.std.specs.Prelude.{codes}
+use Rattle.tm_simulation.proofs.Counts.{NoneBegins, Loopless, Counts, one_loop_more, counted_none, Has, it, front, back}
 use Rattle.tm_simulation.proofs.Begins.{Begins, IsLoop, IsMacro, both_begin, loop_begins, macro_begins, none_begin, after_none}
-use Rattle.tm_simulation.proofs.Begins.{before_none, over_begins, either_begins, moved}
+use Rattle.tm_simulation.proofs.Begins.{before_none, over_begins, either_begins, one_part_begins}
 
 -- ---------------------------------------------------------------- expressions begin none
 unary_loopless : (op : UnaryOperator) → NoneBegins (unary_code op ∷ [])
@@ -84,7 +87,7 @@ merged_loopless true n = (refl, tt)
 
 passing_loopless : {n m : _} → (b : Bool) (before : ℕ) (given : Row_of-Argument n) (named : Row_of-Keyword m) (by_place by_name : Fragment)
     (lists : Fragment → Fragment) → Loopless by_place → Loopless by_name → Loopless (lists by_name) →
-    Loopless (passing_by b before given named by_place by_name lists)
+    Loopless (passing_by row_end b before given named by_place by_name lists)
 passing_loopless false before given named by_place by_name lists h k m = (h, k)
 passing_loopless true before given named by_place by_name lists h k m = (m, (refl, tt))
 
@@ -96,7 +99,7 @@ mutual
   expr_loopless (Tuple' _ es) = (exprs_loopless es, (refl, tt))
   expr_loopless (Map' _ ps) = (pairs_loopless ps, (refl, tt))
   expr_loopless (Call' f _ given _ named) =
-      let by_name : Loopless (merging named (keywords_code 0 named)) = (keywords_loopless 0 named, merged_loopless (has_spread_keyword named) _) in (
+      let by_name : Loopless (merging row_end named (keywords_code row_end 0 named)) = (keywords_loopless 0 named, merged_loopless (has_spread_keyword named) _) in (
         passing_loopless (has_spread given) 0 given named _ _ _ (arguments_loopless given) by_name
             (lists_loopless 0 given _ _ by_name),
         (refl, tt),
@@ -121,7 +124,7 @@ mutual
   argument_loopless (plain a) = expr_loopless a
   argument_loopless (spread a) = expr_loopless a
 
-  arguments_loopless : {n : _} → (given : Row_of-Argument n) → Loopless (arguments_code given)
+  pub arguments_loopless : {n : _} → (given : Row_of-Argument n) → Loopless (arguments_code given)
   arguments_loopless no_argument = tt
   arguments_loopless (argument a more) = (argument_loopless a, arguments_loopless more)
 
@@ -139,21 +142,21 @@ mutual
   keyword_loopless n (keyword x a) = ((refl, tt), expr_loopless a)
   keyword_loopless n (spread_keywords a) = (map_loopless n, expr_loopless a)
 
-  keywords_loopless : {n : _} → (before : ℕ) (ks : Row_of-Keyword n) → Loopless (keywords_code before ks)
+  keywords_loopless : {n : _} → (before : ℕ) (ks : Row_of-Keyword n) → Loopless (keywords_code row_end before ks)
   keywords_loopless before no_keyword = map_loopless before
   keywords_loopless before (keyword_and k more) = (keyword_loopless before k, keywords_loopless (keywords_behind before k) more)
 
-  step_loopless : (s : Step) → Loopless (step_code s)
+  pub step_loopless : (s : Step) → Loopless (step_code s)
   step_loopless (Attribute x) = (refl, tt)
   step_loopless (item a) = (expr_loopless a, (refl, tt))
   step_loopless (Apply' k x _ given _ named) =
-      let by_name : Loopless (merging named (keywords_code 0 named)) = (keywords_loopless 0 named, merged_loopless (has_spread_keyword named) _) in (
+      let by_name : Loopless (merging row_end named (keywords_code row_end 0 named)) = (keywords_loopless 0 named, merged_loopless (has_spread_keyword named) _) in (
         passing_loopless (has_spread given) 1 given named _ _ _ (arguments_loopless given) by_name
             (lists_loopless 1 given _ _ by_name),
-        application_loopless k x (passed_count 1 given named),
+        application_loopless k x (passed_count row_end 1 given named),
       )
   step_loopless (Called _ given _ named) =
-      let by_name : Loopless (merging named (keywords_code 0 named)) = (keywords_loopless 0 named, merged_loopless (has_spread_keyword named) _) in (
+      let by_name : Loopless (merging row_end named (keywords_code row_end 0 named)) = (keywords_loopless 0 named, merged_loopless (has_spread_keyword named) _) in (
         passing_loopless (has_spread given) 1 given named _ _ _ (arguments_loopless given) by_name
             (lists_loopless 1 given _ _ by_name),
         (refl, tt),
@@ -221,6 +224,54 @@ parameters_loopless (p ∷ ps) = (parameters_loopless ps, (default_loopless p.de
 pub names_as_many : (ps : List Parameter) → length (parameter_names ps) ≡ length ps
 names_as_many [] = refl
 names_as_many (p ∷ ps) = ap suc (names_as_many ps)
+
+-- ---------------------------------------------------------------- calls have the macro that they are given
+module _ (x : Fragment) where
+  -- the value of `caller` among the arguments by their names
+  end_has : (n : ℕ) → Has x ((caller_end x).code n)
+  end_has n = back (refl, tt) (front it (refl, tt))
+
+  keywords_have : {n : _} → (before : ℕ) (ks : Row_of-Keyword n) → Has x (keywords_code (caller_end x) before ks)
+  keywords_have before no_keyword = end_has before
+  keywords_have before (keyword_and k more) = back (keyword_loopless before k) (keywords_have (keywords_behind before k) more)
+
+  lists_have : {n : _} → (before : ℕ) (given : Row_of-Argument n) (more : ℕ) (by_name : Fragment) → Has x by_name →
+      Has x (lists_code before given more by_name)
+  lists_have before no_argument more by_name h = front h (list_loopless (before + more))
+  lists_have before (argument a rest) more by_name h =
+      back (listed_loopless before a) (lists_have (row_behind before a) rest more by_name h)
+
+  passing_has_by : {n m : _} → (b : Bool) (before : ℕ) (given : Row_of-Argument n) (named : Row_of-Keyword m) (by_place by_name : Fragment)
+      (lists : Fragment → Fragment) → Loopless by_place → Has x by_name → Has x (lists by_name) →
+      Has x (passing_by (caller_end x) b before given named by_place by_name lists)
+  passing_has_by false before given named by_place by_name lists h k m = back h k
+  passing_has_by true before given named by_place by_name lists h k m = front m (refl, tt)
+
+  passing_has : {n m : _} → (before : ℕ) (given : Row_of-Argument n) (named : Row_of-Keyword m) →
+      Has x (passing_code (caller_end x) before given named)
+  passing_has before given named =
+      let by_name = front (keywords_have 0 named) (merged_loopless (has_spread_keyword named) _) in
+      passing_has_by (has_spread given) before given named (arguments_code given) _ _ (arguments_loopless given) by_name
+      (lists_have before given (together (caller_end x) named) _ by_name)
+
+  alone_has : Has x (called_alone (caller_end x))
+  alone_has = front (end_has 0) (refl, tt)
+
+  step_call_has : (s : Step) → Has x (step_call_code (caller_end x) s)
+  step_call_has (Apply' k f _ given _ named) =
+      front (passing_has 1 given named) (application_loopless k f (passed_count (caller_end x) 1 given named))
+  step_call_has (Called _ given _ named) = front (passing_has 1 given named) (refl, tt)
+  step_call_has s = back (step_loopless s) alone_has
+
+  steps_call_have : {n : _} → (ss : Row_of-Step n) → Has x (steps_call_code (caller_end x) ss)
+  steps_call_have no_step = alone_has
+  steps_call_have (step s no_step) = step_call_has s
+  steps_call_have (step s (step t more)) = back (step_loopless s) (steps_call_have (step t more))
+
+  pub call_has : (e : Expr) → Has x (call_code (caller_end x) e)
+  call_has (Call' f _ given _ named) = front (passing_has 0 given named) (refl, tt)
+  call_has (chained a _ ss) = back (expr_loopless a) (steps_call_have ss)
+  call_has e = back (expr_loopless e) alone_has
 
 -- ---------------------------------------------------------------- loops and macros that are found
 abbrev pub found : {n : _} → Numbers → Option Expr → Bool → AssignmentTarget → Row_of-Stmt n → FoundLoop
@@ -320,6 +371,10 @@ mutual
   statement_begins os at (Macro' x ps _ body) =
       let inner = after_none (parameters_code ps) (parameters_loopless ps) (statements_begin [] (within_macro at) body) in
       before_none (straight (i.StoreLocal x ∷ [])) (refl, tt) (macro_begins (is_macro at x ps body) inner)
+  statement_begins os at (CallBlock' e ps _ body) =
+      let inner = after_none (parameters_code ps) (parameters_loopless ps) (statements_begin [] (within_macro at) body) in
+      before_none (straight (i.Emit ∷ [])) (refl, tt)
+      (one_part_begins (call_has _ e) (macro_begins (is_macro at (codes "caller") ps body) inner))
 
   pub statements_begin : {n : _} → (os : List Opened) (at : Numbers) (ss : Row_of-Stmt n) →
       Begins at (statements_code os ss) (loops_in at ss) (macros_in at ss) (pasts at ss)
