@@ -4,7 +4,7 @@ ghost use Rattle.std.specs.Option.{option_copied};
 ghost use Rattle.tm_values.specs.Answer.{IsAnswer, OkOrOutOfMemory};
 ghost use Rattle.tm_meaning.specs.World.{records_of};
 ghost use Rattle.tm_values.specs.Val.{function, loop, macro};
-ghost use Rattle.tm_meaning.specs.Calls.{call_callee, call_found, call_innermost, call_loop, call_named, call_value, call_method};
+ghost use Rattle.tm_meaning.specs.Calls.{by_depths, call_callee, call_found, call_innermost, call_loop, call_named, call_value, call_method, named_call};
 ghost use Rattle.tm_meaning.specs.Calls.{loop_method, method_in, method_object, unknown_method, is_macro_attribute};
 ghost use Rattle.tm_state.specs.Answers.{Becomes, FoundAnswers, IsBecause, Leaves, Recurs};
 ghost use Rattle.tm_values.specs.declared.error.ErrorKind.TheVariants.{UnknownMethod};
@@ -63,6 +63,26 @@ impl StateData<'_> {
             return Ok(CallResult::Recursion(recursion));
         }
         self.call_value(alloc, host, &found, args)
+    }
+
+    /// What the value of a name gives for these arguments, which is called as a value, or the run that it needs; what a
+    /// function keeps is kept, also where it answers a fault. UnknownFunction where the name isn't found, InvalidOperation
+    /// where its value can't be called or a context value on the way can't be known, and what is refused that is called.
+    pub fn call_named<H: Host>(
+        &mut self,
+        alloc: Global,
+        host: &H,
+        name: &Name,
+        args: &[Value],
+    ) -> Result<CallResult, Error>
+        ensures called { Becomes result (named_call (by_depths (H.meaning host.now) self.old) 0
+            (H.meaning host.now) name.now args.now self.old) self.new }
+        ensures leaves { Leaves (H.meaning host.now).limit result self.old self.new }
+    {
+        match self.lookup(host, name)? {
+            Some(found) => self.call_value(alloc, host, &found, args),
+            None => Err(Error::from(ErrorKind::UnknownFunction)),
+        }
     }
 
     /// What the first of these values gives, called with the others; what a function keeps is kept, also where
