@@ -9,5 +9,5 @@ pub use streams::{Streams, generate};
 pub use tm_scanner::{SyntaxConfig, SyntaxConfigBuilder};
 pub use tm_syntax::{
     Application, Argument, BinaryOperator, Code, Comparison, Condition, Expr, ForLoop, Instruction,
-    Keyword, Name, NameMap, Pair, RawText, Step, Stmt, Tree, UnaryOperator,
+    Keyword, Macro, Name, NameMap, Pair, Parameter, RawText, Step, Stmt, Tree, UnaryOperator,
 };

@@ -6,14 +6,14 @@ use Rattle.std.proofs.lemmas.List.{append-nil}
 use Rattle.tm_syntax.specs.declared.instruction.Instruction.{Instruction}
 use Rattle.tm_syntax.specs.declared.instruction.LoopFlags.{LoopFlags}
 use Rattle.tm_syntax.specs.declared.instruction.Instruction.TheVariants as i
-use Rattle.tm_syntax.specs.Fragments.{Fragment, straight, ◌⨾◌, jump_out, bounded, fork, looped, break_loop, next_round, aside}
-use Rattle.tm_syntax.specs.Fragments.{beyond, Labels, outward, inward, ending_at, assemble, assembled}
+use Rattle.tm_syntax.specs.Fragments.{Fragment, straight, ◌⨾◌, jump_out, bounded, fork, looped, break_loop, next_round, declares}
+use Rattle.tm_syntax.specs.Fragments.{beyond, Labels, outward, inward, ending_at, assemble, assembled, MacroHead, building}
 use Rattle.tm_syntax.proofs.Standing.{beyond_is}
 use Rattle.tm_generator.specs.declared.builder.Out.{Out}
 use Rattle.tm_generator.specs.declared.builder.Exit.{Exit}
 use Rattle.tm_generator.specs.Building.{Builder, put, with_one, with_all, jumped, left, continued, begun, bound, joined, place_of, outs_of}
 use Rattle.tm_generator.specs.Building.{outer_of, loop_begun, rounds_ended}
-use Rattle.tm_generator.specs.Building.{settled, led, finished, aside_begun, aside_ended}
+use Rattle.tm_generator.specs.Building.{settled, led, finished, body_begun, body_ended, around_of}
 use Rattle.tm_generator.proofs.Settled.{outs_in, exits_in, settles, leads}
 
 abbrev unset : Labels
@@ -213,21 +213,48 @@ finished_here c base =
     ∙ ap (λ l. base ++ l) (append-nil (assemble (ending_at end) pc c))
     ∙ ap (λ n. base ++ assemble (ending_at n) pc c) (long unset base c)
 
-aside_added : (c : Fragment) (b : Builder) → aside_ended b (added c (aside_begun b)) ≡ added (aside c) b
-unfolding aside_ended aside_begun
-aside_added c b =
+-- ---------------------------------------------------------------- the bodies of macros
+-- code that is jumped over, with what returns from it
+abbrev body_of : Fragment → Builder → Builder
+body_of c b =
+    let pc = length b.code in
+    let end = beyond (pc + 1) c in
+    record b { code = b.code ++ i.Jump (end + 1) ∷ (assemble (ending_at end) (pc + 1) c ++ i.Return ∷ []) }
+
+body_added : (c : Fragment) (b : Builder) → body_ended (around_of b) (added c (body_begun b)) ≡ body_of c b
+unfolding body_ended body_begun around_of
+body_added c b =
     let pc = length b.code in
     let base = b.code ++ i.Jump 0 ∷ [] in
     let n : length base ≡ pc + 1 = length-append b.code (i.Jump 0 ∷ []) in
     let end = beyond (pc + 1) c in
     let a = assemble (ending_at end) (pc + 1) c in
+    let rest = a ++ i.Return ∷ [] in
+    let returns : List Instruction → List Instruction = λ l. slice_set (l ++ i.Return ∷ []) pc (i.Jump (length (l ++ i.Return ∷ []))) in
+    let flat : (base ++ a) ++ i.Return ∷ [] ≡ b.code ++ i.Jump 0 ∷ rest =
+    append_assoc base a (i.Return ∷ []) ∙ append_assoc b.code (i.Jump 0 ∷ []) rest in
+    let after : length (b.code ++ i.Jump 0 ∷ rest) ≡ end + 1 = omega
+    (arith, length-append b.code (i.Jump 0 ∷ rest), length-append a (i.Return ∷ []), beyond_is (ending_at end) (pc + 1) c) in
     built b
-    (ap (λ e. slice_set e pc (i.Jump (length (base ++ assemble unset (length base) c)))) (finished_here c base)
-    ∙ ap (λ m. slice_set (base ++ assemble (ending_at (beyond (length base) c)) (length base) c) pc (i.Jump m)) (long unset base c)
-    ∙ ap (λ m. slice_set (base ++ assemble (ending_at (beyond m c)) m c) pc (i.Jump (beyond m c))) n
-    ∙ ap (λ l. slice_set l pc (i.Jump end)) (append_assoc b.code (i.Jump 0 ∷ []) a)
-    ∙ set-append_seam b.code (i.Jump 0) a (i.Jump end))
-    (sym (append-nil b.outs)) (sym (append-nil b.exits))
+    (ap returns (finished_here c base ∙ ap (λ m. base ++ assemble (ending_at (beyond m c)) m c) n)
+    ∙ ap (λ l. slice_set l pc (i.Jump (length l))) flat
+    ∙ ap (λ m. slice_set (b.code ++ i.Jump 0 ∷ rest) pc (i.Jump m)) after
+    ∙ set-append_seam b.code (i.Jump 0) rest (i.Jump (end + 1)))
+    refl refl
+
+declared_added : (m : MacroHead) (c : Fragment) (b : Builder) →
+    with_all (building m.free m (around_of b).entry) (body_of c b) ≡ added (declares m c) b
+unfolding around_of
+declared_added m c b =
+    let pc = length b.code in
+    let end = beyond (pc + 1) c in
+    let a = assemble (ending_at end) (pc + 1) c in
+    let bs = building m.free m (pc + 1) in
+    all_added bs (body_of c b)
+    ∙ built b
+    (append_assoc b.code (i.Jump (end + 1) ∷ (a ++ i.Return ∷ [])) bs
+    ∙ ap (λ l. b.code ++ i.Jump (end + 1) ∷ l) (append_assoc a (i.Return ∷ []) bs))
+    refl refl
 
 -- ---------------------------------------------------------------- all code
 pub put_is : (c : Fragment) (b : Builder) → put c b ≡ added c b
@@ -246,7 +273,9 @@ put_is (looped g c d) b =
     ∙ ap {B = Builder} (λ m. put d m) (rounds_added g c b) ∙ put_is d (rounds_of g c b) ∙ loop_added g c d b
 put_is break_loop b = built b refl (sym (append-nil b.outs)) refl
 put_is next_round b = built b refl (sym (append-nil b.outs)) refl
-put_is (aside c) b = ap {B = Builder} (λ m. aside_ended b m) (put_is c (aside_begun b)) ∙ aside_added c b
+put_is (declares m c) b =
+    ap {B = Builder} (λ k. with_all (building m.free m (around_of b).entry) (body_ended (around_of b) k)) (put_is c (body_begun b))
+    ∙ ap {B = Builder} (λ k. with_all (building m.free m (around_of b).entry) k) (body_added c b) ∙ declared_added m c b
 
 -- what is made for code from nothing, once all jumps out of it lead to its end
 pub made_whole : (c : Fragment) (b : Builder) → b.code ≡ [] → b.outs ≡ [] → b.exits ≡ [] → finished (put c b) ≡ assembled c

@@ -4,7 +4,7 @@ use Rattle.std.specs.Prelude.{slice_set}
 use Rattle.std.proofs.Math.Seq.{set-append_seam}
 use Rattle.tm_syntax.specs.declared.instruction.Instruction.{Instruction}
 use Rattle.tm_syntax.specs.declared.instruction.Instruction.TheVariants as i
-use Rattle.tm_syntax.specs.Fragments.{Fragment, straight, ◌⨾◌, jump_out, bounded, fork, looped, break_loop, next_round, aside}
+use Rattle.tm_syntax.specs.Fragments.{Fragment, straight, ◌⨾◌, jump_out, bounded, fork, looped, break_loop, next_round, declares}
 use Rattle.tm_syntax.specs.Fragments.{beyond, Labels, outward, inward, jump, assemble}
 use Rattle.tm_syntax.proofs.Standing.{beyond_is}
 use Rattle.tm_generator.specs.declared.builder.Out.{Out}
@@ -23,7 +23,7 @@ outs_in pc (fork c d) = outs_in (beyond pc c + 1) d
 outs_in pc (looped g c d) = outs_in (pc + 1 + 1) c ++ outs_in (beyond (pc + 1 + 1) c + 1) d
 outs_in pc break_loop = []
 outs_in pc next_round = []
-outs_in pc (aside c) = []
+outs_in pc (declares m c) = []
 
 abbrev pub exits_in : ℕ → Fragment → List Exit
 exits_in pc (straight is) = []
@@ -34,7 +34,7 @@ exits_in pc (fork c d) = exits_in pc c ++ exits_in (beyond pc c + 1) d
 exits_in pc (looped g c d) = exits_in (beyond (pc + 1 + 1) c + 1) d
 exits_in pc break_loop = Leave pc ∷ []
 exits_in pc next_round = Next pc ∷ []
-exits_in pc (aside c) = []
+exits_in pc (declares m c) = []
 
 module _ {E : Type 0} (place : E → ℕ) (made : E → Instruction) where
   patched-append : (code : List Instruction) (es fs : List E) →
@@ -109,7 +109,7 @@ settles to l pc (looped g c d) =
     (same to (beyond first c) back) (settles to l end d)))
 settles to l pc break_loop = same to pc (i.Jump l.after ∷ [])
 settles to l pc next_round = same to pc (i.Jump l.again ∷ [])
-settles to l pc (aside c) = same to pc (assemble l pc (aside c))
+settles to l pc (declares m c) = same to pc (assemble l pc (declares m c))
 
 -- ---------------------------------------------------------------- and those out of a loop's round
 abbrev pub Leads : ℕ → ℕ → ℕ → List Instruction → List Exit → List Instruction → Type 0
@@ -151,4 +151,4 @@ leads x y l pc (looped g c d) =
     (stays x y (beyond first c) back) (leads x y l end d)))
 leads x y l pc break_loop = one_set exit_place (exit_jump x y) pc (i.Jump 0) (i.Jump y) (Leave pc) refl refl
 leads x y l pc next_round = one_set exit_place (exit_jump x y) pc (i.Jump 0) (i.Jump x) (Next pc) refl refl
-leads x y l pc (aside c) = stays x y pc (assemble l pc (aside c))
+leads x y l pc (declares m c) = stays x y pc (assemble l pc (declares m c))

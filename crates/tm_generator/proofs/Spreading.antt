@@ -1,5 +1,5 @@
 -- Rows of arguments, and what is put for them, as the program holds them.
-use Rattle.std.proofs.Common.{◌≡◌, ℕ, zero, suc, ◌+◌, List, [], ◌∷◌, Bool, Option, Some, None, length, refl, sym, ap, ◌∙◌, subst, arith}
+use Rattle.std.proofs.Common.{◌≡◌, ℕ, zero, suc, ◌+◌, List, [], ◌∷◌, Bool, Some, None, length, refl, sym, ap, ◌∙◌, arith}
 use Rattle.std.specs.Prelude.{true, false, ◌||◌, Result, Ok, Err, OnOk, IfOk}
 use denote.Hole.Carrier.{hidden}
 use Rattle.tm_values.specs.Val.{text}

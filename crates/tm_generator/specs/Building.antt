@@ -6,12 +6,17 @@ use Rattle.tm_syntax.specs.declared.instruction.Instruction.TheVariants as i
 use Rattle.tm_syntax.specs.declared.jump.JumpKind.{JumpKind}
 use Rattle.tm_syntax.specs.declared.jump.JumpKind.TheVariants.{IfFalse}
 use Rattle.tm_syntax.specs.declared.tree.Condition.{Condition}
+use Rattle.tm_syntax.specs.declared.tree.Parameter.{Parameter}
+use Rattle.tm_names.specs.declared.macros.MacroNames.{MacroNames}
 use Rattle.tm_syntax.specs.Code.{expr_code}
-use Rattle.tm_syntax.specs.Fragments.{Fragment, straight, ◌⨾◌, jump_out, bounded, fork, looped, break_loop, next_round, aside, jump}
+use Rattle.tm_syntax.specs.Names.{parameter_names}
+use Rattle.tm_syntax.specs.Fragments.{Fragment, straight, ◌⨾◌, jump_out, bounded, fork, looped, break_loop, next_round, declares, jump}
+use Rattle.tm_syntax.specs.Fragments.{MacroHead, building}
 use Rattle.tm_generator.specs.declared.builder.Out.{Out}
 use Rattle.tm_generator.specs.declared.builder.Exit.{Exit}
 use Rattle.tm_generator.specs.declared.builder.Exit.TheVariants.{Leave, Next}
 use Rattle.tm_generator.specs.declared.builder.Outer.{Outer}
+use Rattle.tm_generator.specs.declared.builder.Around.{Around}
 use Rattle.tm_syntax.specs.declared.opened.Opened.{Opened}
 pub use Rattle.tm_generator.specs.declared.builder.Builder.{Builder}
 pub use Rattle.tm_generator.specs.declared.statements.StreamBuilder.{StreamBuilder}
@@ -99,12 +104,17 @@ rounds_ended outer b =
 abbrev pub finished : Builder → List Instruction
 finished b = let end = length b.code in led (settled b.code b.outs end) b.exits end end
 
--- and so does code that is jumped over
-unfoldable pub aside_begun : Builder → Builder
-aside_begun b = record b { code = b.code ++ i.Jump 0 ∷ []; outs = []; exits = [] }
+-- And so does the body of a macro, which is jumped over and returns at its end.
+unfoldable pub body_begun : Builder → Builder
+body_begun b = record b { code = b.code ++ i.Jump 0 ∷ []; outs = []; exits = [] }
 
-unfoldable pub aside_ended : Builder → Builder → Builder
-aside_ended outer b = record outer { code = slice_set (finished b) (length outer.code) (i.Jump (length b.code)) }
+unfoldable pub around_of : Builder → Around
+around_of b = record { outs = b.outs; exits = b.exits; place = length b.code; entry = length b.code + 1 }
+
+unfoldable pub body_ended : Around → Builder → Builder
+body_ended around b =
+    let code = finished b ++ i.Return ∷ [] in
+    record b { code = slice_set code around.place (i.Jump (length code)); outs = around.outs; exits = around.exits }
 
 -- ---------------------------------------------------------------- code
 abbrev pub put : Fragment → Builder → Builder
@@ -116,7 +126,14 @@ put (fork c d) b = let first = put c (begun b) in joined (place_of first) (put d
 put (looped g c d) b = put d (rounds_ended (outer_of b) (put c (loop_begun g b)))
 put break_loop b = left b
 put next_round b = continued b
-put (aside c) b = aside_ended b (put c (aside_begun b))
+put (declares m c) b = let around = around_of b in with_all (building m.free m around.entry) (body_ended around (put c (body_begun b)))
+
+-- what stands behind the body of a macro with these names
+abbrev pub head_with : List ℕ → List Parameter → MacroNames → MacroHead
+head_with x ps names = record { name = x; parameters = parameter_names ps; free = names.free; caller = names.takes_caller }
+
+abbrev pub put_building : List ℕ → List Parameter → MacroNames → ℕ → Builder → Builder
+put_building x ps names place b = with_all (building names.free (head_with x ps names) place) b
 
 -- a loop's rounds
 abbrev pub rounds : LoopFlags → Fragment → Builder → Builder

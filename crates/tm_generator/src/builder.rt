@@ -5,6 +5,7 @@ ghost use Rattle.std.specs.Prelude.{◌≡◌, ◌++◌, [], ◌∷◌, OnOk, If
 ghost use Rattle.tm_generator.specs.Building.{with_one, jumped, left, continued, begun, bound, joined};
 ghost use Rattle.tm_generator.specs.Building.{place_of, outs_of, outer_of, loop_begun, rounds_ended};
 ghost use Rattle.tm_generator.specs.Building.{settled, led, finished};
+ghost use Rattle.tm_generator.specs.Building.{around_of, body_begun, body_ended};
 ghost use Rattle.tm_syntax.specs.declared.instruction.Instruction.TheVariants.{Jump};
 ghost use Rattle.tm_values.specs.declared.error.ErrorKind.TheVariants.{OutOfMemory};
 
@@ -36,6 +37,16 @@ pub(crate) enum Exit {
 pub(crate) struct Outer {
     exits: Items<Exit>,
     again: usize,
+}
+
+/// What stands around a macro's body: the jumps out of what is around it, the place of the jump
+/// over it, and where it is entered.
+#[derive(Drop)]
+pub(crate) struct Around {
+    outs: Items<Out>,
+    exits: Items<Exit>,
+    place: usize,
+    entry: usize,
 }
 
 /// Code that is being made, and the jumps in it that lead nowhere yet.
@@ -168,6 +179,46 @@ impl Builder {
         lead(&mut self.code, self.exits.as_slice(), again, after);
         self.exits = exits;
         Ok(())
+    }
+
+    /// Begins a macro's body with a jump over it; OutOfMemory.
+    pub(crate) fn begin_body(&mut self) -> Result<Around, Error>
+        ensures around { IfOk result (λ around. around ≡ around_of self.old) }
+        ensures ok { OnOk result (self.new ≡ body_begun self.old) }
+        ensures err { IfErr result (λ e. e ≡ OutOfMemory ∷ []) }
+    {
+        let place = self.code.len();
+        self.code.push(Instruction::Jump(0))?;
+        Ok(Around {
+            outs: mem::replace(&mut self.outs, Items::new(self.alloc)),
+            exits: mem::replace(&mut self.exits, Items::new(self.alloc)),
+            place,
+            entry: self.code.len(),
+        })
+    }
+
+    /// Ends a macro's body: jumps out of it lead to its end, where it returns. Gives where it is
+    /// entered; OutOfMemory.
+    pub(crate) fn end_body(&mut self, around: Around) -> Result<usize, Error>
+        ensures entry { IfOk result (λ entry. entry ≡ around.entry) }
+        ensures ok { OnOk result (self.new ≡ body_ended around self.old) }
+        ensures err { IfErr result (λ e. e ≡ OutOfMemory ∷ []) }
+    {
+        let Around {
+            outs,
+            exits,
+            place,
+            entry,
+        } = around;
+        let end = self.code.len();
+        settle(&mut self.code, self.outs.as_slice(), end);
+        lead(&mut self.code, self.exits.as_slice(), end, end);
+        self.code.push(Instruction::Return)?;
+        let after = self.code.len();
+        patch(&mut self.code, place, Instruction::Jump(after));
+        self.outs = outs;
+        self.exits = exits;
+        Ok(entry)
     }
 
     /// The code: jumps out of all of it lead to its end.

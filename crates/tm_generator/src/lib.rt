@@ -6,6 +6,7 @@ mod caches;
 mod enclosing;
 mod expressions;
 mod loops;
+mod macros;
 mod passing;
 mod statements;
 mod targets;

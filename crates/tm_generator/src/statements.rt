@@ -9,7 +9,7 @@ ghost use Rattle.tm_syntax.specs.Named.{put as put_named, put_each};
 ghost use Rattle.tm_syntax.specs.declared.jump.JumpKind.TheVariants.{IfFalse};
 ghost use Rattle.tm_syntax.specs.declared.tree.Stmt.TheBlock.{hidden-the_row-Stmt-0 as statements};
 ghost use Rattle.tm_syntax.specs.declared.tree.Stmt.TheVariants.{AutoEscape, Block, Break, CaptureBlock};
-ghost use Rattle.tm_syntax.specs.declared.tree.Stmt.TheVariants.{Continue, Do, For, If, With};
+ghost use Rattle.tm_syntax.specs.declared.tree.Stmt.TheVariants.{Continue, Do, For, If, Macro as Declare, With};
 ghost use Rattle.tm_values.specs.declared.error.ErrorKind.TheVariants.{OutOfMemory};
 
 use crate::builder::Builder;
@@ -17,13 +17,15 @@ use crate::caches::number_caches;
 use crate::enclosing::Enclosing;
 use crate::expressions::{push_expr, push_filters};
 use crate::loops::push_iterable;
+use crate::macros::{push_building, push_parameters};
 use crate::targets::{push_assignments, push_set, push_target, push_use};
 use sqlite_items::Items;
 use std::alloc::Global;
 use std::mem;
+use tm_names::macro_names;
 use tm_syntax::{
     Assignment, CaptureMode, CaptureUse, Code, Expr, ForLoop, Instruction, JumpKind, LoopFlags,
-    Name, NameMap, Opened, Step, Stmt,
+    Macro, Name, NameMap, Opened, Step, Stmt,
 };
 use tm_values::Error;
 
@@ -74,6 +76,7 @@ fn push_statement(
         Stmt::With(given, body) => push_with(stream, blocks, given.as_slice(), body.as_slice()),
         Stmt::Do(call) => push_do(stream, call.get()),
         Stmt::AutoEscape(value, body) => push_escaped(stream, blocks, value.get(), body.as_slice()),
+        Stmt::Macro(declared) => push_macro(stream, blocks, declared),
     }
 }
 
@@ -298,11 +301,55 @@ fn push_rounds(
     };
     let outer = stream.code.begin_loop(flags)?;
     push_target(&mut stream.code, &for_loop.target)?;
+    push_alone(stream, blocks, for_loop.body.as_slice())?;
+    stream.code.end_rounds(outer)
+}
+
+/// Adds the code of a macro, like that of a statement; OutOfMemory.
+#[cycle(statements)]
+#[inline(never)]
+fn push_macro(
+    stream: &mut StreamBuilder,
+    blocks: &mut NameMap<Code>,
+    declared: &Macro,
+) -> Result<(), Error>
+    ensures code { OnOk result (stream.new
+        ≡ put_in (statement_code stream.old.enclosing (Declare declared.now)) stream.old) }
+    ensures blocks { OnOk result
+        (blocks.new ≡ put_each (compiled_blocks (blocks_of (Declare declared.now))) blocks.old) }
+    ensures err { IfErr result (λ e. e ≡ OutOfMemory ∷ []) }
+{
+    let parameters = declared.parameters.as_slice();
+    let body = declared.body.as_slice();
+    let names = macro_names(stream.code.alloc(), parameters, body)?;
+    let around = stream.code.begin_body()?;
+    push_parameters(&mut stream.code, parameters)?;
+    push_alone(stream, blocks, body)?;
+    let entry = stream.code.end_body(around)?;
+    push_building(&mut stream.code, &declared.name, parameters, &names, entry)?;
+    let name = declared.name.share()?;
+    stream.code.emit(Instruction::StoreLocal(name))
+}
+
+/// Adds the code of statements that see nothing of what is open around them, and that of their
+/// blocks; OutOfMemory.
+#[cycle(statements)]
+fn push_alone(
+    stream: &mut StreamBuilder,
+    blocks: &mut NameMap<Code>,
+    body: &[Stmt],
+) -> Result<(), Error>
+    ensures code { OnOk result
+        (stream.new ≡ put_in (statements_code [] (statements body.now)) stream.old) }
+    ensures blocks { OnOk result
+        (blocks.new ≡ put_each (compiled_blocks (blocks_in (statements body.now))) blocks.old) }
+    ensures err { IfErr result (λ e. e ≡ OutOfMemory ∷ []) }
+{
     let inner = Enclosing::new(stream.code.alloc());
     let enclosing = mem::replace(&mut stream.enclosing, inner);
-    push_statements(stream, blocks, for_loop.body.as_slice())?;
+    push_statements(stream, blocks, body)?;
     stream.enclosing = enclosing;
-    stream.code.end_rounds(outer)
+    Ok(())
 }
 
 /// Adds the code of statements within something that is open around them, and that of their blocks;

@@ -1,3 +1,4 @@
+pub mod Among
 pub mod Forms
 pub mod Found
 pub mod Scopes

@@ -16,17 +16,18 @@ use Rattle.tm_syntax.specs.declared.tree.AssignmentTarget.{AssignmentTarget, Nam
 use Rattle.tm_syntax.specs.declared.tree.AssignmentTarget.{Row_of-AssignmentTarget}
 use Rattle.tm_syntax.specs.declared.tree.AssignmentTarget.{end_of-AssignmentTarget as no_target, more_of-AssignmentTarget as target}
 use Rattle.tm_syntax.specs.declared.tree.Assignment.{Assignment}
+use Rattle.tm_syntax.specs.declared.tree.Parameter.{Parameter}
 use Rattle.tm_syntax.specs.declared.tree.CaptureUse.{CaptureUse}
 use Rattle.tm_syntax.specs.declared.tree.CaptureUse.TheVariants as uses
 use Rattle.tm_syntax.specs.declared.tree.Stmt.{Stmt, EmitRaw, EmitExpr, EmitLoop, If', For', Break, Continue, Block', Set, CaptureBlock'}
-use Rattle.tm_syntax.specs.declared.tree.Stmt.{With', Do, AutoEscape', Row_of-Stmt, end_of-Stmt as no_statement}
+use Rattle.tm_syntax.specs.declared.tree.Stmt.{With', Do, AutoEscape', Macro', Row_of-Stmt, end_of-Stmt as no_statement}
 use Rattle.tm_syntax.specs.declared.tree.Stmt.{more_of-Stmt as statement, Held-Stmt-If-2 as Otherwise, None' as no_else}
 use Rattle.tm_syntax.specs.declared.tree.Stmt.{Some' as otherwise}
 use Rattle.tm_syntax.specs.Names.{Walk, Scope, assign, close_scope, name_of, open_scope, outer_of, read_as, read_chain, read_first}
 use Rattle.tm_syntax.specs.Names.{calls_block, dotted, is_assigned, with_assigned, with_name, read_function}
 use Rattle.tm_syntax.specs.Names.{walk, walk_all, walk_argument, walk_arguments, walk_assignments, walk_comparisons, walk_condition}
 use Rattle.tm_syntax.specs.Names.{walk_conditions, walk_else, walk_expr, walk_exprs, walk_filters, walk_head, walk_keyword, walk_keywords}
-use Rattle.tm_syntax.specs.Names.{walk_pairs, walk_step, walk_steps, walk_target, walk_targets, walk_use}
+use Rattle.tm_syntax.specs.Names.{walk_pairs, walk_parameters, walk_step, walk_steps, walk_target, walk_targets, walk_use}
 
 -- ---------------------------------------------------------------- expressions assign nothing
 either_stays : (b : Bool) (k j l : Walk) → j.assigned ≡ k.assigned → l.assigned ≡ k.assigned → (cond b j l).assigned ≡ k.assigned
@@ -147,6 +148,10 @@ condition_within : (d : Bool) (c : Option Expr) (k : Walk) → outer (walk_condi
 condition_within d None k = refl
 condition_within d (Some c) k = expr_within d c k
 
+parameters_within : (d : Bool) (ps : List Parameter) (k : Walk) → outer (walk_parameters d ps k) ≡ outer k
+parameters_within d [] k = refl
+parameters_within d (p ∷ more) k = parameters_within d more _ ∙ condition_within d p.default _ ∙ assign_within p.name k
+
 head_within : (d : Bool) (t : AssignmentTarget) (c : Option Expr) (k : Walk) → outer (walk_head d t c k) ≡ outer k
 head_within d t c k =
     let first = walk_target d t k in
@@ -169,6 +174,8 @@ mutual
   walk_within d (With' given _ body) k = ap outer_of (all_within d body _ ∙ assignments_within d given (open_scope k))
   walk_within d (Do e) k = expr_within d e k
   walk_within d (AutoEscape' e _ body) k = all_within d body _ ∙ expr_within d e k
+  walk_within d (Macro' x ps _ body) k = ap outer_of (all_within d body _ ∙ parameters_within d ps _
+      ∙ assign_within (codes "caller") (open_scope (assign x k))) ∙ assign_within x k
 
   all_within : {n : _} → (d : Bool) (ss : Row_of-Stmt n) (k : Walk) → outer (walk_all d ss k) ≡ outer k
   all_within d no_statement k = refl

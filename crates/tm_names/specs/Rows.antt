@@ -1,5 +1,5 @@
 -- Worked rows: trees with the names that they read.
-use Rattle.std.specs.Prelude.{◌≡◌, ℕ, List, [], ◌∷◌, Some, true, false, codes, refl}
+use Rattle.std.specs.Prelude.{◌≡◌, ℕ, List, [], ◌∷◌, Some, None, true, false, codes, refl}
 use Rattle.tm_syntax.specs.Forms.{chained, plain}
 use Rattle.tm_syntax.specs.declared.tree.Application.TheVariants as applications
 use Rattle.tm_syntax.specs.declared.tree.Expr.{Expr, Var, Call'}
@@ -7,9 +7,10 @@ use Rattle.tm_syntax.specs.declared.tree.Expr.{end_of-Argument as no_argument, m
 use Rattle.tm_syntax.specs.declared.tree.Expr.{end_of-Step as no_step, more_of-Step as step}
 use Rattle.tm_syntax.specs.declared.tree.Step.{Attribute, Apply'}
 use Rattle.tm_syntax.specs.declared.tree.AssignmentTarget.{Name as To}
-use Rattle.tm_syntax.specs.declared.tree.Stmt.{Stmt, EmitExpr, For', Block', Set, With'}
+use Rattle.tm_syntax.specs.declared.tree.Stmt.{Stmt, EmitExpr, For', Block', Set, With', Macro', Row_of-Stmt}
 use Rattle.tm_syntax.specs.declared.tree.Stmt.{end_of-Stmt as no_statement, more_of-Stmt as statement, Some' as otherwise}
-use Rattle.tm_syntax.specs.Names.{undeclared}
+use Rattle.tm_syntax.specs.declared.tree.Parameter.{Parameter}
+use Rattle.tm_syntax.specs.Names.{free_names, takes_caller, undeclared}
 
 -- ---------------------------------------------------------------- trees
 abbrev name : List ℕ → Expr
@@ -40,6 +41,28 @@ abbrev loop : Stmt
 loop = For' (To (codes "x")) (name (codes "xs")) (Some (name (codes "loop"))) false (tt ∷ tt ∷ [])
     (statement (writes (codes "loop")) (statement (writes (codes "x")) no_statement))
     (otherwise (tt ∷ []) (statement (writes (codes "x")) no_statement))
+
+-- {{ x }}, alone
+abbrev alone : List ℕ → Row_of-Stmt 1
+alone x = statement (writes x) no_statement
+
+-- a parameter, alone and with a name as its default
+abbrev plain_parameter : List ℕ → Parameter
+plain_parameter x = record { name = x; default = None }
+
+abbrev with_default : List ℕ → List ℕ → Parameter
+with_default x y = record { name = x; default = Some (name y) }
+
+-- {% macro m() %}{{ x }}{% endmacro %}
+abbrev macro_writes : List ℕ → Stmt
+macro_writes x = Macro' (codes "m") [] (tt ∷ []) (alone x)
+
+-- a and b, where the default of one is the other
+abbrev reads_later : List Parameter
+reads_later = with_default (codes "a") (codes "b") ∷ plain_parameter (codes "b") ∷ []
+
+abbrev reads_earlier : List Parameter
+reads_earlier = plain_parameter (codes "a") ∷ with_default (codes "b") (codes "a") ∷ []
 
 -- ---------------------------------------------------------------- rows
 -- {{ b }}{{ a }}{{ b }}
@@ -89,3 +112,49 @@ attribute_alone = refl
 
 attribute_nested : undeclared true (statement (EmitExpr (attribute (codes "self"))) no_statement) ≡ codes "self.a" ∷ []
 attribute_nested = refl
+
+-- ---------------------------------------------------------------- macros
+-- {% macro m() %}{{ x }}{% endmacro %}
+macro_reads : undeclared false (statement (macro_writes (codes "x")) no_statement) ≡ codes "x" ∷ []
+macro_reads = refl
+
+-- the same with `m` and with `caller` in the place of `x`, and {{ m }} behind it
+own_name : undeclared false (statement (macro_writes (codes "m")) (alone (codes "m"))) ≡ []
+own_name = refl
+
+own_caller : undeclared false (statement (macro_writes (codes "caller")) no_statement) ≡ []
+own_caller = refl
+
+-- {% macro m(a=b, b) %}{{ b }}{% endmacro %} and {% macro m(a, b=a) %}{{ b }}{% endmacro %}
+default_before : undeclared false (statement (Macro' (codes "m") reads_later (tt ∷ []) (alone (codes "b"))) no_statement)
+    ≡ codes "b" ∷ []
+default_before = refl
+
+default_behind : undeclared false (statement (Macro' (codes "m") reads_earlier (tt ∷ []) (alone (codes "b"))) no_statement) ≡ []
+default_behind = refl
+
+-- {% macro m(a, b=a) %}{{ b }}{% endmacro %}{{ b }}
+parameters_close : undeclared false (statement (Macro' (codes "m") reads_earlier (tt ∷ []) (alone (codes "b"))) (alone (codes "b")))
+    ≡ codes "b" ∷ []
+parameters_close = refl
+
+-- the closures of {% macro m() %}{{ m }}{% endmacro %} and of {% macro m(a=b, b) %}{{ x }}{% endmacro %}
+encloses_itself : free_names [] (alone (codes "m")) ≡ codes "m" ∷ []
+encloses_itself = refl
+
+encloses_defaults : free_names reads_later (alone (codes "x")) ≡ codes "b" ∷ codes "x" ∷ []
+encloses_defaults = refl
+
+-- {% macro n() %}{{ caller }}{% endmacro %}, in another macro and there
+caller_within : takes_caller [] (statement (macro_writes (codes "caller")) no_statement) ≡ false
+caller_within = refl
+
+caller_there : takes_caller [] (alone (codes "caller")) ≡ true
+caller_there = refl
+
+caller_enclosed : free_names [] (alone (codes "caller")) ≡ []
+caller_enclosed = refl
+
+-- {% macro m(caller) %}{{ x }}{% endmacro %}
+caller_parameter : takes_caller (plain_parameter (codes "caller") ∷ []) (alone (codes "x")) ≡ true
+caller_parameter = refl

@@ -3,8 +3,10 @@
 
 mod chains;
 mod expressions;
+mod macros;
 mod statements;
 mod targets;
 mod walker;
 
+pub use macros::{MacroNames, macro_names};
 pub use statements::undeclared;

@@ -5,14 +5,14 @@ ghost use Rattle.std.specs.String.{string_bytes};
 ghost use Rattle.tm_syntax.specs.Names.{close_scope, open_scope, undeclared};
 ghost use Rattle.tm_syntax.specs.Names.{walk, walk_all, walk_assignments, walk_head};
 ghost use Rattle.tm_syntax.specs.declared.tree.Stmt.TheBlock.{hidden-the_row-Stmt-0 as statements};
-ghost use Rattle.tm_syntax.specs.declared.tree.Stmt.TheVariants.{For, If};
+ghost use Rattle.tm_syntax.specs.declared.tree.Stmt.TheVariants.{For, If, Macro as Declare};
 ghost use Rattle.tm_values.specs.declared.error.ErrorKind.TheVariants.{OutOfMemory};
 
 use crate::walker::Walker;
 use sqlite_items::{Boxed, Items};
 use std::alloc::Global;
 use std::collections::BTreeSet;
-use tm_syntax::{Assignment, AssignmentTarget, Expr, ForLoop, Name, Stmt, Tree};
+use tm_syntax::{Assignment, AssignmentTarget, Expr, ForLoop, Macro, Name, Stmt, Tree};
 use tm_values::Error;
 
 /// The names that a tree reads where no open scope has assigned them before, each as its text; with
@@ -60,6 +60,7 @@ impl Walker {
                 self.walk_expr(nested, value.get())?;
                 self.walk_all(nested, body.as_slice())
             }
+            Stmt::Macro(declared) => self.walk_macro(nested, declared),
         }
     }
 
@@ -124,9 +125,7 @@ impl Walker {
         ensures err { IfErr result (λ e. e ≡ OutOfMemory ∷ []) }
     {
         self.walk_target(nested, target)?;
-        if let Some(condition) = condition {
-            self.walk_expr(nested, condition.get())?;
-        }
+        self.walk_condition(nested, condition)?;
         let name = Name::new(self.alloc(), "loop")?;
         self.assign(name)
     }
@@ -158,9 +157,25 @@ impl Walker {
         Ok(())
     }
 
+    /// Walks over a macro, whose scope has `caller`; OutOfMemory.
+    #[cycle(statements)]
+    fn walk_macro(&mut self, nested: bool, declared: &Macro) -> Result<(), Error>
+        ensures ok { OnOk result (self.new ≡ walk nested (Declare declared.now) self.old) }
+        ensures err { IfErr result (λ e. e ≡ OutOfMemory ∷ []) }
+    {
+        self.assign(declared.name.share()?)?;
+        self.open_scope()?;
+        let name = Name::new(self.alloc(), "caller")?;
+        self.assign(name)?;
+        self.walk_parameters(nested, declared.parameters.as_slice())?;
+        self.walk_all(nested, declared.body.as_slice())?;
+        self.close_scope();
+        Ok(())
+    }
+
     /// Walks over statements; OutOfMemory.
     #[cycle(statements)]
-    fn walk_all(&mut self, nested: bool, body: &[Stmt]) -> Result<(), Error>
+    pub(crate) fn walk_all(&mut self, nested: bool, body: &[Stmt]) -> Result<(), Error>
         ensures ok { OnOk result (self.new ≡ walk_all nested (statements body.now) self.old) }
         ensures err { IfErr result (λ e. e ≡ OutOfMemory ∷ []) }
     {

@@ -4,7 +4,7 @@ ghost use Rattle.std.specs.BTreeSet.{insert_key, keys};
 ghost use Rattle.std.specs.List.{list_any};
 ghost use Rattle.std.specs.Prelude.{◌≡◌, [], ◌∷◌, OnOk, IfOk, IfErr, map, reverse};
 ghost use Rattle.std.specs.String.{string_bytes};
-ghost use Rattle.tm_syntax.specs.Names.{assign, beginning, close_scope, is_assigned, open_scope};
+ghost use Rattle.tm_syntax.specs.Names.{assign, beginning, close_scope, is_among, is_assigned, open_scope};
 ghost use Rattle.tm_syntax.specs.Names.{read, read_as};
 ghost use Rattle.tm_syntax.specs.Named.{name_cmp};
 ghost use Rattle.tm_values.specs.declared.error.ErrorKind.TheVariants.{OutOfMemory};
@@ -73,6 +73,13 @@ impl Walker {
         scope.insert(name, ())?;
         self.scopes.push(scope)?;
         Ok(())
+    }
+
+    /// Whether a name was found.
+    pub(crate) fn reads(&self, name: &str) -> bool
+        ensures { result ≡ is_among name.now self.now.found }
+    {
+        self.has_found(name)
     }
 
     /// Whether a text is found.

@@ -5,7 +5,7 @@ use Rattle.tm_syntax.specs.declared.tree.Comparison.{Comparison}
 use Rattle.tm_syntax.specs.declared.tree.Argument.TheBlock.{hidden-the_row-Comparison-7 as comparisons}
 use Rattle.tm_syntax.specs.Code.{expr_code, row_code}
 use Rattle.tm_generator.specs.Building.{Builder, put}
-use Rattle.tm_generator.proofs.PutExpressions.{made-call, made-apply, made-call_object, made-unary, made-chain, made-slice, made-binary, made-compare}
+use Rattle.tm_generator.proofs.PutExpressions.{made-unary, made-chain, made-slice, made-binary, made-compare}
 use Rattle.tm_generator.proofs.PutExpressions.{put_two, made-conditional, next, more-links}
 use Rattle.tm_generator.proofs.PutExpressions.{no_more-links}
 use Rattle.tm_generator.proofs.PutExpressions.{more-exprs, no_more-exprs, more-pairs, no_more-pairs, more-arguments, no_more-arguments}
