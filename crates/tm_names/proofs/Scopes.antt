@@ -20,7 +20,7 @@ use Rattle.tm_syntax.specs.declared.tree.Parameter.{Parameter}
 use Rattle.tm_syntax.specs.declared.tree.CaptureUse.{CaptureUse}
 use Rattle.tm_syntax.specs.declared.tree.CaptureUse.TheVariants as uses
 use Rattle.tm_syntax.specs.declared.tree.Stmt.{Stmt, EmitRaw, EmitExpr, EmitLoop, If', For', Break, Continue, Block', Set, CaptureBlock'}
-use Rattle.tm_syntax.specs.declared.tree.Stmt.{With', Do, AutoEscape', Macro', Row_of-Stmt, end_of-Stmt as no_statement}
+use Rattle.tm_syntax.specs.declared.tree.Stmt.{With', Do, AutoEscape', Macro', CallBlock', Row_of-Stmt, end_of-Stmt as no_statement}
 use Rattle.tm_syntax.specs.declared.tree.Stmt.{more_of-Stmt as statement, Held-Stmt-If-2 as Otherwise, None' as no_else}
 use Rattle.tm_syntax.specs.declared.tree.Stmt.{Some' as otherwise}
 use Rattle.tm_syntax.specs.Names.{Walk, Scope, assign, close_scope, name_of, open_scope, outer_of, read_as, read_chain, read_first}
@@ -176,6 +176,8 @@ mutual
   walk_within d (AutoEscape' e _ body) k = all_within d body _ ∙ expr_within d e k
   walk_within d (Macro' x ps _ body) k = ap outer_of (all_within d body _ ∙ parameters_within d ps _
       ∙ assign_within (codes "caller") (open_scope (assign x k))) ∙ assign_within x k
+  walk_within d (CallBlock' e ps _ body) k = ap outer_of (all_within d body _ ∙ parameters_within d ps _
+      ∙ assign_within (codes "caller") (open_scope (walk_expr d e k))) ∙ expr_within d e k
 
   all_within : {n : _} → (d : Bool) (ss : Row_of-Stmt n) (k : Walk) → outer (walk_all d ss k) ≡ outer k
   all_within d no_statement k = refl

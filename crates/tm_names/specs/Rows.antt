@@ -7,7 +7,7 @@ use Rattle.tm_syntax.specs.declared.tree.Expr.{end_of-Argument as no_argument, m
 use Rattle.tm_syntax.specs.declared.tree.Expr.{end_of-Step as no_step, more_of-Step as step}
 use Rattle.tm_syntax.specs.declared.tree.Step.{Attribute, Apply'}
 use Rattle.tm_syntax.specs.declared.tree.AssignmentTarget.{Name as To}
-use Rattle.tm_syntax.specs.declared.tree.Stmt.{Stmt, EmitExpr, For', Block', Set, With', Macro', Row_of-Stmt}
+use Rattle.tm_syntax.specs.declared.tree.Stmt.{Stmt, EmitExpr, For', Block', Set, With', Macro', CallBlock', Row_of-Stmt}
 use Rattle.tm_syntax.specs.declared.tree.Stmt.{end_of-Stmt as no_statement, more_of-Stmt as statement, Some' as otherwise}
 use Rattle.tm_syntax.specs.declared.tree.Parameter.{Parameter}
 use Rattle.tm_syntax.specs.Names.{free_names, takes_caller, undeclared}
@@ -56,6 +56,11 @@ with_default x y = record { name = x; default = Some (name y) }
 -- {% macro m() %}{{ x }}{% endmacro %}
 abbrev macro_writes : List ℕ → Stmt
 macro_writes x = Macro' (codes "m") [] (tt ∷ []) (alone x)
+
+-- {% call(p) m(x) %}{{ y }}{% endcall %}
+abbrev calls_with : List ℕ → List ℕ → Stmt
+calls_with p y = CallBlock' (Call' (codes "m") (tt ∷ []) (argument (plain (name (codes "x"))) no_argument) [] no_keyword)
+    (plain_parameter p ∷ []) (tt ∷ []) (alone y)
 
 -- a and b, where the default of one is the other
 abbrev reads_later : List Parameter
@@ -154,6 +159,17 @@ caller_there = refl
 
 caller_enclosed : free_names [] (alone (codes "caller")) ≡ []
 caller_enclosed = refl
+
+-- {% call(a) m(x) %}{{ caller }}{% endcall %}, {% call(x) m(x) %}{{ x }}{% endcall %} and {% call(a) m(x) %}{{ z }}{% endcall %}
+call_reads : undeclared false (statement (calls_with (codes "a") (codes "caller")) no_statement) ≡ codes "m" ∷ codes "x" ∷ []
+call_reads = refl
+
+call_parameter : undeclared false (statement (calls_with (codes "x") (codes "x")) no_statement) ≡ codes "m" ∷ codes "x" ∷ []
+call_parameter = refl
+
+body_reads : undeclared false (statement (calls_with (codes "a") (codes "z")) no_statement)
+    ≡ codes "m" ∷ codes "x" ∷ codes "z" ∷ []
+body_reads = refl
 
 -- {% macro m(caller) %}{{ x }}{% endmacro %}
 caller_parameter : takes_caller (plain_parameter (codes "caller") ∷ []) (alone (codes "x")) ≡ true

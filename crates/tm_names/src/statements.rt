@@ -1,18 +1,22 @@
 //! The names in statements.
 ghost use Rattle.std.specs.BTreeSet.{keys};
-ghost use Rattle.std.specs.Prelude.{◌≡◌, [], ◌∷◌, OnOk, IfOk, IfErr, map};
+ghost use Rattle.std.specs.Prelude.{◌≡◌, [], ◌∷◌, OnOk, IfOk, IfErr, codes, map};
 ghost use Rattle.std.specs.String.{string_bytes};
-ghost use Rattle.tm_syntax.specs.Names.{close_scope, open_scope, undeclared};
+ghost use Rattle.tm_syntax.specs.Names.{assign, close_scope, open_scope, undeclared};
 ghost use Rattle.tm_syntax.specs.Names.{walk, walk_all, walk_assignments, walk_head};
+ghost use Rattle.tm_syntax.specs.Names.{walk_parameters};
 ghost use Rattle.tm_syntax.specs.declared.tree.Stmt.TheBlock.{hidden-the_row-Stmt-0 as statements};
-ghost use Rattle.tm_syntax.specs.declared.tree.Stmt.TheVariants.{For, If, Macro as Declare};
+ghost use Rattle.tm_syntax.specs.declared.tree.Stmt.TheVariants.{CallBlock as CallTag, For, If};
+ghost use Rattle.tm_syntax.specs.declared.tree.Stmt.TheVariants.{Macro as Declare};
 ghost use Rattle.tm_values.specs.declared.error.ErrorKind.TheVariants.{OutOfMemory};
 
 use crate::walker::Walker;
 use sqlite_items::{Boxed, Items};
 use std::alloc::Global;
 use std::collections::BTreeSet;
-use tm_syntax::{Assignment, AssignmentTarget, Expr, ForLoop, Macro, Name, Stmt, Tree};
+use tm_syntax::{
+    Assignment, AssignmentTarget, CallBlock, Expr, ForLoop, Macro, Name, Parameter, Stmt, Tree,
+};
 use tm_values::Error;
 
 /// The names that a tree reads where no open scope has assigned them before, each as its text; with
@@ -61,6 +65,7 @@ impl Walker {
                 self.walk_all(nested, body.as_slice())
             }
             Stmt::Macro(declared) => self.walk_macro(nested, declared),
+            Stmt::CallBlock(call) => self.walk_call_block(nested, call),
         }
     }
 
@@ -164,11 +169,40 @@ impl Walker {
         ensures err { IfErr result (λ e. e ≡ OutOfMemory ∷ []) }
     {
         self.assign(declared.name.share()?)?;
+        self.walk_body(
+            nested,
+            declared.parameters.as_slice(),
+            declared.body.as_slice(),
+        )
+    }
+
+    /// Walks over a call and the macro that it is given; OutOfMemory.
+    #[cycle(statements)]
+    fn walk_call_block(&mut self, nested: bool, tag: &CallBlock) -> Result<(), Error>
+        ensures ok { OnOk result (self.new ≡ walk nested (CallTag tag.now) self.old) }
+        ensures err { IfErr result (λ e. e ≡ OutOfMemory ∷ []) }
+    {
+        self.walk_expr(nested, tag.call.get())?;
+        self.walk_body(nested, tag.parameters.as_slice(), tag.body.as_slice())
+    }
+
+    /// Walks over parameters and the body of a macro in a scope of their own; OutOfMemory.
+    #[cycle(statements)]
+    fn walk_body(
+        &mut self,
+        nested: bool,
+        parameters: &[Parameter],
+        body: &[Stmt],
+    ) -> Result<(), Error>
+        ensures ok { OnOk result (self.new ≡ close_scope (walk_all nested (statements body.now)
+            (walk_parameters nested parameters.now (assign (codes "caller") (open_scope self.old))))) }
+        ensures err { IfErr result (λ e. e ≡ OutOfMemory ∷ []) }
+    {
         self.open_scope()?;
         let name = Name::new(self.alloc(), "caller")?;
         self.assign(name)?;
-        self.walk_parameters(nested, declared.parameters.as_slice())?;
-        self.walk_all(nested, declared.body.as_slice())?;
+        self.walk_parameters(nested, parameters)?;
+        self.walk_all(nested, body)?;
         self.close_scope();
         Ok(())
     }

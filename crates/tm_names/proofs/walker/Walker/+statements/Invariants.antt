@@ -1,7 +1,7 @@
 use Rattle.std.proofs.Common.{◌≡◌, ◌+◌, ◌*◌, drop}
 use Rattle.tm_syntax.specs.Names.{walk_all}
 use Rattle.tm_syntax.specs.declared.tree.Stmt.TheBlock.{hidden-the_row-Stmt-0 as statements}
-use Rattle.tm_syntax.specs.declared.tree.Stmt.TheVariants.{For, If, Macro}
+use Rattle.tm_syntax.specs.declared.tree.Stmt.TheVariants.{CallBlock, For, If, Macro}
 use Rattle.tm_syntax.proofs.tree.Stmt.TheLaws.{the_size}
 use Rattle.tm_names.proofs.walker.Walker.+statements.Given as goal
 
@@ -29,7 +29,13 @@ abbrev pub decreases-walk_with : goal.decreases-walk_with
 decreases-walk_with l = 4 * goal.size-walk_with l + 4
 
 abbrev pub decreases-walk_macro : goal.decreases-walk_macro
-decreases-walk_macro l = 4 * the_size (Macro l.declared.now)
+decreases-walk_macro l = 4 * the_size (Macro l.declared.now) + 1
+
+abbrev pub decreases-walk_call_block : goal.decreases-walk_call_block
+decreases-walk_call_block l = 4 * the_size (CallBlock l.tag.now) + 1
+
+abbrev pub decreases-walk_body : goal.decreases-walk_body
+decreases-walk_body l = 4 * goal.size-walk_body l + 4
 
 abbrev pub decreases-walk_all : goal.decreases-walk_all
 decreases-walk_all l = 4 * goal.size-walk_all l + 3
