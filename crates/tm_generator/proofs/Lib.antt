@@ -3,6 +3,7 @@ pub mod Settled
 pub mod Assembled
 pub mod PutExpressions
 pub mod Spreading
+pub mod Opened
 pub mod PutTargets
 pub mod PutStatements
 pub mod NumberedBehind

@@ -17,7 +17,7 @@ use Rattle.tm_syntax.specs.declared.tree.Step.TheVariants as s
 use Rattle.tm_syntax.specs.declared.tree.Argument.TheBlock.{hidden-the_row-Expr-0}
 use Rattle.tm_syntax.specs.declared.tree.Argument.TheBlock.{hidden-the_row-Expr-1 as exprs, shape-the_row-Expr-1}
 use Rattle.tm_syntax.specs.declared.tree.Argument.TheBlock.{hidden-the_row-Pair-2 as pairs, shape-the_row-Pair-2}
-use Rattle.tm_syntax.specs.declared.tree.Argument.TheBlock.{hidden-the_row-Argument-3 as arguments, shape-the_row-Argument-3}
+use Rattle.tm_syntax.specs.declared.tree.Argument.TheBlock.{hidden-the_row-Argument-3 as arguments}
 use Rattle.tm_syntax.specs.declared.tree.Argument.TheBlock.{hidden-the_row-Keyword-4 as keywords}
 use Rattle.tm_syntax.specs.declared.tree.Argument.TheBlock.{hidden-the_row-Step-5 as steps, shape-the_row-Step-5}
 use Rattle.tm_syntax.specs.declared.tree.Argument.TheBlock.{hidden-the_row-Condition-6 as conditions, shape-the_row-Condition-6}
@@ -27,8 +27,8 @@ use Rattle.tm_syntax.specs.declared.instruction.Instruction.TheVariants as i
 use Rattle.tm_syntax.specs.declared.jump.JumpKind.TheVariants.{IfFalseOrPop, IfTrueOrPop}
 use Rattle.tm_syntax.specs.Fragments.{Fragment, straight, ◌⨾◌, over, either}
 use Rattle.tm_syntax.specs.declared.tree.Application.{Application}
-use Rattle.tm_syntax.specs.Code.{unary_code, binary_code, application_code, count_exprs, count_pairs, passed_count}
-use Rattle.tm_syntax.specs.Code.{expr_code, exprs_code, pairs_code, argument_code, arguments_code, passing_code}
+use Rattle.tm_syntax.specs.Code.{unary_code, binary_code, application_code, count_exprs, count_pairs, passed_count, row_end}
+use Rattle.tm_syntax.specs.Code.{expr_code, exprs_code, pairs_code, passing_code}
 use Rattle.tm_syntax.specs.Code.{conditions_code, step_code, steps_code, row_code, links_code}
 use Rattle.tm_generator.specs.declared.builder.Out.{Out}
 use Rattle.tm_generator.specs.Building.{Builder, put, with_one, jumped, asked, kept, answered}
@@ -61,7 +61,7 @@ unfolding hidden
 put-map b xs = ap {B = Builder} (λ n. with_one (i.BuildMap n) (put (pairs_code (pairs xs)) b)) (count-pairs xs)
 
 pub put-call : (b : Builder) (f : List ℕ) (xs : List Argument) (ks : List Keyword) → put (expr_code (e.Call f xs ks)) b ≡
-    with_one (i.CallFunction f (passed_count 0 (arguments xs) (keywords ks))) (put (passing_code 0 (arguments xs) (keywords ks)) b)
+    with_one (i.CallFunction f (passed_count row_end 0 (arguments xs) (keywords ks))) (put (passing_code row_end 0 (arguments xs) (keywords ks)) b)
 unfolding hidden
 put-call b f xs ks = refl
 
@@ -77,13 +77,13 @@ put-chain b x ss = refl
 
 -- ---------------------------------------------------------------- steps
 pub put-apply : (b : Builder) (k : Application) (f : List ℕ) (xs : List Argument) (ks : List Keyword) →
-    put (step_code (s.Apply k f xs ks)) b ≡ put (straight (application_code k f (passed_count 1 (arguments xs) (keywords ks))))
-    (put (passing_code 1 (arguments xs) (keywords ks)) b)
+    put (step_code (s.Apply k f xs ks)) b ≡ put (straight (application_code k f (passed_count row_end 1 (arguments xs) (keywords ks))))
+    (put (passing_code row_end 1 (arguments xs) (keywords ks)) b)
 unfolding hidden
 put-apply b k f xs ks = refl
 
 pub put-call_object : (b : Builder) (xs : List Argument) (ks : List Keyword) → put (step_code (s.Call xs ks)) b ≡
-    with_one (i.CallObject (passed_count 1 (arguments xs) (keywords ks))) (put (passing_code 1 (arguments xs) (keywords ks)) b)
+    with_one (i.CallObject (passed_count row_end 1 (arguments xs) (keywords ks))) (put (passing_code row_end 1 (arguments xs) (keywords ks)) b)
 unfolding hidden
 put-call_object b xs ks = refl
 
@@ -118,26 +118,26 @@ pub ruleset expressions = (put-list, put-tuple, put-map, put-item, put-and, put-
 
 -- ---------------------------------------------------------------- parts of a form, one after the other
 pub made-call : (b m1 m2 : Builder) (f g : List ℕ) (n : Option ℕ) (xs : List Argument) (ks : List Keyword) →
-    m1 ≡ put (passing_code 0 (arguments xs) (keywords ks)) b → n ≡ passed_count 0 (arguments xs) (keywords ks) → g ≡ f →
+    m1 ≡ put (passing_code row_end 0 (arguments xs) (keywords ks)) b → n ≡ passed_count row_end 0 (arguments xs) (keywords ks) → g ≡ f →
     m2 ≡ with_one (i.CallFunction g n) m1 → m2 ≡ put (expr_code (e.Call f xs ks)) b
 made-call b m1 m2 f g n xs ks p l h r =
     r ∙ ap {B = Builder} (λ k. with_one (i.CallFunction k n) m1) h ∙ ap {B = Builder} (λ k. with_one (i.CallFunction f k) m1) l
-    ∙ ap {B = Builder} (λ m. with_one (i.CallFunction f (passed_count 0 (arguments xs) (keywords ks))) m) p ∙ sym (put-call b f xs ks)
+    ∙ ap {B = Builder} (λ m. with_one (i.CallFunction f (passed_count row_end 0 (arguments xs) (keywords ks))) m) p ∙ sym (put-call b f xs ks)
 
 pub made-apply : (b m1 m2 : Builder) (k : Application) (f : List ℕ) (n : Option ℕ) (xs : List Argument) (ks : List Keyword) →
-    m1 ≡ put (passing_code 1 (arguments xs) (keywords ks)) b → n ≡ passed_count 1 (arguments xs) (keywords ks) →
+    m1 ≡ put (passing_code row_end 1 (arguments xs) (keywords ks)) b → n ≡ passed_count row_end 1 (arguments xs) (keywords ks) →
     m2 ≡ put (straight (application_code k f n)) m1 → m2 ≡ put (step_code (s.Apply k f xs ks)) b
 made-apply b m1 m2 k f n xs ks p l r =
     r ∙ ap {B = Builder} (λ c. put (straight (application_code k f c)) m1) l
-    ∙ ap {B = Builder} (λ m. put (straight (application_code k f (passed_count 1 (arguments xs) (keywords ks)))) m) p
+    ∙ ap {B = Builder} (λ m. put (straight (application_code k f (passed_count row_end 1 (arguments xs) (keywords ks)))) m) p
     ∙ sym (put-apply b k f xs ks)
 
 pub made-call_object : (b m1 m2 : Builder) (n : Option ℕ) (xs : List Argument) (ks : List Keyword) →
-    m1 ≡ put (passing_code 1 (arguments xs) (keywords ks)) b → n ≡ passed_count 1 (arguments xs) (keywords ks) →
+    m1 ≡ put (passing_code row_end 1 (arguments xs) (keywords ks)) b → n ≡ passed_count row_end 1 (arguments xs) (keywords ks) →
     m2 ≡ with_one (i.CallObject n) m1 → m2 ≡ put (step_code (s.Call xs ks)) b
 made-call_object b m1 m2 n xs ks p l r =
     r ∙ ap {B = Builder} (λ c. with_one (i.CallObject c) m1) l
-    ∙ ap {B = Builder} (λ m. with_one (i.CallObject (passed_count 1 (arguments xs) (keywords ks))) m) p ∙ sym (put-call_object b xs ks)
+    ∙ ap {B = Builder} (λ m. with_one (i.CallObject (passed_count row_end 1 (arguments xs) (keywords ks))) m) p ∙ sym (put-call_object b xs ks)
 
 pub made-unary : (b m1 m2 : Builder) (o : Instruction) (op : UnaryOperator) (x : Expr) → m1 ≡ put (expr_code x) b → o ≡ unary_code op →
     m2 ≡ with_one o m1 → m2 ≡ put (expr_code (e.Unary op x)) b
@@ -242,22 +242,6 @@ more-pairs = more (λ x. expr_code x.key ⨾ expr_code x.value) (λ xs. pairs_co
 
 pub no_more-pairs : (rest : List Pair) (m goal : Builder) → rest ≡ [] → put (pairs_code (pairs rest)) m ≡ goal → m ≡ goal
 no_more-pairs = no_more (λ x. expr_code x.key ⨾ expr_code x.value) (λ xs. pairs_code (pairs xs)) put-pairs-nil
-
-put-arguments-nil : (b : Builder) → put (arguments_code (arguments [])) b ≡ b
-unfolding hidden arguments shape-the_row-Argument-3
-put-arguments-nil b = refl
-
-put-arguments-cons : (b : Builder) (x : Argument) (xs : List Argument) →
-    put (arguments_code (arguments (x ∷ xs))) b ≡ put (arguments_code (arguments xs)) (put (argument_code x) b)
-unfolding hidden arguments shape-the_row-Argument-3
-put-arguments-cons b x xs = refl
-
-pub more-arguments : (all rest : List Argument) (x : Argument) (m m1 goal : Builder) → all ≡ x ∷ rest → m1 ≡ put (argument_code x) m →
-    put (arguments_code (arguments all)) m ≡ goal → put (arguments_code (arguments rest)) m1 ≡ goal
-more-arguments = more argument_code (λ xs. arguments_code (arguments xs)) put-arguments-cons
-
-pub no_more-arguments : (rest : List Argument) (m goal : Builder) → rest ≡ [] → put (arguments_code (arguments rest)) m ≡ goal → m ≡ goal
-no_more-arguments = no_more argument_code (λ xs. arguments_code (arguments xs)) put-arguments-nil
 
 put-steps-nil : (b : Builder) → put (steps_code (steps [])) b ≡ b
 unfolding hidden steps shape-the_row-Step-5

@@ -1,6 +1,6 @@
 -- What is put for statements, and their blocks, as the program holds them.
 use Rattle.std.proofs.Common.{◌≡◌, ℕ, List, [], ◌∷◌, ◌++◌, refl, sym, ap, ◌∙◌}
-use Rattle.std.specs.Prelude.{Some}
+use Rattle.std.specs.Prelude.{Some, codes, false}
 use denote.Hole.Carrier.{hidden}
 use Rattle.tm_syntax.specs.declared.tree.Expr.{Expr}
 use Rattle.tm_syntax.specs.declared.tree.ForLoop.{ForLoop}
@@ -10,9 +10,18 @@ use Rattle.tm_syntax.specs.declared.tree.Stmt.TheBlock.{hidden-the_row-Stmt-0 as
 use Rattle.tm_syntax.specs.declared.instruction.Instruction.{Instruction}
 use Rattle.tm_syntax.specs.declared.opened.Opened.{Opened}
 use Rattle.tm_syntax.specs.Blocks.{Body, body_of, blocks_of, blocks_in, compiled, compiled_blocks}
-use Rattle.tm_syntax.specs.Code.{statement_code, statements_code, stream_code, unnumbered_code}
+use Rattle.tm_values.specs.Val.{text}
+use Rattle.tm_syntax.specs.declared.tree.CallBlock.{CallBlock}
+use Rattle.tm_syntax.specs.declared.tree.Parameter.{Parameter}
+use Rattle.tm_syntax.specs.declared.tree.Argument.TheBlock.{hidden-the_row-Expr-0}
+use Rattle.tm_syntax.specs.declared.instruction.Instruction.TheVariants as i
+use Rattle.tm_syntax.specs.Fragments.{Fragment, straight, ◌⨾◌}
+use Rattle.tm_syntax.specs.Code.{statement_code, statements_code, stream_code, unnumbered_code, RowEnd, row_end, caller_end, call_code}
+use Rattle.tm_generator.specs.Opened.{OpenCall, with_name, ending, ending_count, call_open, call_of, call_end}
+use Rattle.tm_generator.proofs.Opened.{caller-end, caller-count, call-parts}
 use Rattle.tm_syntax.specs.Named.{Named, put, put_each}
-use Rattle.tm_generator.specs.Building.{Builder, StreamBuilder, put_in, finished}
+use Rattle.tm_generator.specs.Building.{Builder, StreamBuilder, put_in, finished, macro_code, with_one}
+use Rattle.tm_generator.specs.Building.{put as put_code}
 use Rattle.tm_generator.proofs.Assembled.{made_whole}
 
 -- ---------------------------------------------------------------- code
@@ -45,6 +54,56 @@ made-stream b m m1 ss at x y z o p =
     ap (λ (s : StreamBuilder). finished s.code) (p ∙ ap {B = StreamBuilder} (λ os. put_in (statements_code os (statements ss)) m) o)
     ∙ made_whole (statements_code [] (statements ss)) m.code (ap (λ (k : Builder). k.code) at ∙ x) (ap (λ (k : Builder). k.outs) at
     ∙ y) (ap (λ (k : Builder). k.exits) at ∙ z)
+
+-- ---------------------------------------------------------------- call tags
+put-call_block : (s : StreamBuilder) (tag : CallBlock) → put_in (statement_code s.enclosing (st.CallBlock tag)) s
+    ≡ put_in (call_code (caller_end (macro_code (codes "caller") tag.parameters (statements tag.body))) tag.call ⨾ straight (i.Emit ∷ [])) s
+unfolding hidden hidden-the_row-Expr-0
+put-call_block s tag = refl
+
+pub declared-is : (name : List ℕ) (ps : List Parameter) (body : List Stmt) (tag : CallBlock) (s : StreamBuilder) → ps ≡ tag.parameters →
+    body ≡ tag.body →
+    put_in (macro_code name ps (statements body)) s ≡ put_in (macro_code name tag.parameters (statements tag.body)) s
+declared-is name ps body tag s p q =
+    ap {B = StreamBuilder} (λ l. put_in (macro_code name l (statements body)) s) p
+    ∙ ap {B = StreamBuilder} (λ l. put_in (macro_code name tag.parameters (statements l)) s) q
+
+module _ (s s1 : StreamBuilder) (tag : CallBlock) (call call1 : OpenCall) (name : List ℕ) (m1 m2 m3 m4 : Builder) where
+  abbrev declared : List ℕ → Fragment
+  declared x = macro_code x tag.parameters (statements tag.body)
+
+  abbrev end : RowEnd
+  end = caller_end (declared (codes "caller"))
+
+  -- the call with its ends, behind what was passed with its last rows open
+  abbrev ended : RowEnd → OpenCall → Builder → Builder
+  ended e c b = put_code (ending e c ⨾ straight (call_end tag.call (ending_count e c))) b
+
+  with_caller : (c : OpenCall) (b : Builder) → ended row_end (with_name c)
+      (put_code (declared (codes "caller")) (with_one (i.LoadConst (text (codes "caller") false)) b)) ≡ ended end c b
+  with_caller c b =
+      sym (ap {B = Builder} (λ m. put_code (straight (call_end tag.call (ending_count end c))) m) (caller-end (declared (codes "caller")) c b)
+      ∙ ap {B = Builder} (λ n. put_code (straight (call_end tag.call n)) (put_code (ending row_end (with_name c))
+      (put_code (declared (codes "caller")) (with_one (i.LoadConst (text (codes "caller") false)) b)))) (caller-count (declared (codes "caller")) c))
+
+  pub made-call_block : m1 ≡ put_code (call_open tag.call) s.code → call ≡ call_of tag.call →
+      m2 ≡ with_one (i.LoadConst (text (codes "caller") false)) m1 → name ≡ codes "caller" →
+      s1 ≡ put_in (declared name) (record s { code = m2 }) → call1 ≡ with_name call → m3 ≡ ended row_end call1 s1.code →
+      m4 ≡ with_one i.Emit m3 → ◌≡◌ {A = StreamBuilder} (record { code = m4; enclosing = s1.enclosing })
+      (put_in (statement_code s.enclosing (st.CallBlock tag)) s)
+  made-call_block p k q x d k1 r z =
+      let body : s1.code ≡ put_code (declared (codes "caller")) m2 =
+      ap (λ (t : StreamBuilder). t.code) d ∙ ap {B = Builder} (λ y. put_code (declared y) m2) x in
+      let enclosing : s1.enclosing ≡ s.enclosing = ap (λ (t : StreamBuilder). t.enclosing) d in
+      let all : m3 ≡ put_code (call_code end tag.call) s.code =
+      r ∙ ap {A = OpenCall} {B = Builder} (λ c. ended row_end c s1.code) (k1 ∙ ap {A = OpenCall} {B = OpenCall} with_name k)
+      ∙ ap {B = Builder} (λ m. ended row_end (with_name (call_of tag.call)) m) (body
+      ∙ ap {B = Builder} (λ m. put_code (declared (codes "caller")) m) (q
+      ∙ ap {B = Builder} (λ m. with_one (i.LoadConst (text (codes "caller") false)) m) p))
+      ∙ with_caller (call_of tag.call) (put_code (call_open tag.call) s.code) ∙ sym (call-parts end tag.call s.code) in
+      ap {B = StreamBuilder} (λ os. record { code = m4; enclosing = os }) enclosing
+      ∙ ap {A = Builder} {B = StreamBuilder} (λ m. record { code = m; enclosing = s.enclosing }) (z
+      ∙ ap {B = Builder} (λ m. with_one i.Emit m) all) ∙ sym (put-call_block s tag)
 
 -- ---------------------------------------------------------------- blocks
 abbrev Blocks : Type 0

@@ -13,10 +13,11 @@ use Rattle.tm_syntax.specs.declared.tree.Argument.TheBlock.{hidden-the_row-Argum
 use Rattle.tm_syntax.specs.declared.tree.Argument.TheBlock.{hidden-the_row-Keyword-4 as keywords, shape-the_row-Keyword-4}
 use Rattle.tm_syntax.specs.declared.instruction.Instruction.TheVariants as i
 use Rattle.tm_syntax.specs.Fragments.{Fragment, straight, ◌⨾◌}
-use Rattle.tm_syntax.specs.Code.{rows_of, list_of_row, map_of_row, count, is_spread, has_spread, row_behind, lists_at, count_lists}
-use Rattle.tm_syntax.specs.Code.{is_spread_keyword, has_spread_keyword, keywords_behind, maps_at, count_maps, merged_code, merged_count}
-use Rattle.tm_syntax.specs.Code.{together, count_by, passed_count, expr_code, argument_code, arguments_code, listed_code, lists_code}
-use Rattle.tm_syntax.specs.Code.{keyword_code, keywords_code, named_code, passing_by, passing_code}
+use Rattle.tm_syntax.specs.Code.{rows_of, list_of_row, map_of_row, is_spread, has_spread, row_behind, lists_at}
+use Rattle.tm_syntax.specs.Code.{is_spread_keyword, has_spread_keyword, keywords_behind, maps_at}
+use Rattle.tm_syntax.specs.Code.{expr_code, listed_code, keyword_code, keywords_code}
+use Rattle.tm_generator.specs.Opened.{no_end, listing_code, lists_of, maps_of}
+use Rattle.tm_generator.specs.declared.passing.Rows.{Rows}
 use Rattle.tm_generator.specs.Building.{Builder, put, with_one}
 
 -- ---------------------------------------------------------------- rows
@@ -47,14 +48,6 @@ mapped b (suc n) h = refl
 pub ruleset rows = (no_row, a_row, not_listed, listed, not_mapped, mapped)
 
 -- ---------------------------------------------------------------- one argument
-pub put-spread : (b : Builder) (x : Expr) → put (argument_code (a.Spread x)) b ≡ put (expr_code x) b
-unfolding hidden hidden-the_row-Expr-0
-put-spread b x = refl
-
-pub put-plain : (b : Builder) (x : Expr) → put (argument_code (a.Plain x)) b ≡ put (expr_code x) b
-unfolding hidden hidden-the_row-Expr-0
-put-plain b x = refl
-
 pub put-listed-plain : (b : Builder) (n : ℕ) (x : Expr) → put (listed_code n (a.Plain x)) b ≡ put (expr_code x) b
 unfolding hidden hidden-the_row-Expr-0
 put-listed-plain b n x = refl
@@ -74,8 +67,6 @@ pub put-keyword-spread : (b : Builder) (n : ℕ) (x : Expr) →
 unfolding hidden hidden-the_row-Expr-0
 put-keyword-spread b n x = refl
 
-pub ruleset parts = (put-plain, put-spread, put-listed-plain)
-
 pub made-listed : (b m1 m2 : Builder) (n : ℕ) (x : Expr) → m1 ≡ put (straight (list_of_row n)) b → m2 ≡ put (expr_code x) m1 →
     m2 ≡ put (listed_code n (a.Spread x)) b
 made-listed b m1 m2 n x p q = q ∙ ap {B = Builder} (λ m. put (expr_code x) m) p ∙ sym (put-listed-spread b n x)
@@ -89,6 +80,17 @@ made-named b m1 m2 n f g v x h is p q = q
 pub made-mapped : (b m1 m2 : Builder) (n : ℕ) (x : Expr) → m1 ≡ put (straight (map_of_row n)) b → m2 ≡ put (expr_code x) m1 →
     m2 ≡ put (keyword_code n (k.Spread x)) b
 made-mapped b m1 m2 n x p q = q ∙ ap {B = Builder} (λ m. put (expr_code x) m) p ∙ sym (put-keyword-spread b n x)
+
+-- ---------------------------------------------------------------- rows of rows
+-- behind so many rows
+abbrev pub behind : ℕ → Rows → Rows
+behind n rows = record { ended = n + rows.ended; pending = rows.pending }
+
+behind-twice : (n m : ℕ) (rows : Rows) → behind n (behind m rows) ≡ behind (n + m) rows
+behind-twice n m rows = ap {A = ℕ} {B = Rows} (λ j. record { ended = j; pending = rows.pending }) (omega (arith))
+
+behind-none : (n m : ℕ) → behind n (record { ended = 0; pending = m }) ≡ record { ended = n; pending = m }
+behind-none n m = ap {A = ℕ} {B = Rows} (λ j. record { ended = j; pending = m }) (omega (arith))
 
 -- ---------------------------------------------------------------- whether one is spread
 spread-nil : has_spread (arguments []) ≡ false
@@ -135,158 +137,97 @@ pub spread_keyword-none : (rest : List Keyword) (goal : Bool) → rest ≡ [] �
 spread_keyword-none rest goal none so = sym spread_keyword-nil ∙ ap (λ xs. has_spread_keyword (keywords xs)) (sym none) ∙ so
 
 -- ---------------------------------------------------------------- lists
-lists-nil : (n m : ℕ) (c : Fragment) → lists_code n (arguments []) m c ≡ c ⨾ straight (list_of_row (n + m))
+listing-nil : (b : Builder) (n : ℕ) → put (listing_code n (arguments [])) b ≡ b
 unfolding hidden arguments shape-the_row-Argument-3
-lists-nil n m c = refl
+listing-nil b n = refl
 
-put-lists-cons : (b : Builder) (n m : ℕ) (c : Fragment) (x : Argument) (xs : List Argument) →
-    put (lists_code n (arguments (x ∷ xs)) m c) b ≡ put (lists_code (row_behind n x) (arguments xs) m c) (put (listed_code n x) b)
+listing-cons : (b : Builder) (n : ℕ) (x : Argument) (xs : List Argument) →
+    put (listing_code n (arguments (x ∷ xs))) b ≡ put (listing_code (row_behind n x) (arguments xs)) (put (listed_code n x) b)
 unfolding hidden arguments shape-the_row-Argument-3
-put-lists-cons b n m c x xs = refl
+listing-cons b n x xs = refl
 
-count_lists-nil : (n m : ℕ) → count_lists n (arguments []) m ≡ rows_of (n + m)
+lists-nil : (n : ℕ) → lists_of n (arguments []) ≡ record { ended = 0; pending = n }
 unfolding hidden arguments shape-the_row-Argument-3
-count_lists-nil n m = refl
+lists-nil n = refl
 
-count_lists-cons : (n m : ℕ) (x : Argument) (xs : List Argument) →
-    count_lists n (arguments (x ∷ xs)) m ≡ lists_at n x + count_lists (row_behind n x) (arguments xs) m
+lists-cons : (n : ℕ) (x : Argument) (xs : List Argument) →
+    lists_of n (arguments (x ∷ xs)) ≡ behind (lists_at n x) (lists_of (row_behind n x) (arguments xs))
 unfolding hidden arguments shape-the_row-Argument-3
-count_lists-cons n m x xs = refl
+lists-cons n x xs = refl
 
-pub more-lists : (all rest : List Argument) (x : Argument) (n n1 m : ℕ) (c : Fragment) (b b1 goal : Builder) → all ≡ x ∷ rest →
-    b1 ≡ put (listed_code n x) b → n1 ≡ row_behind n x → put (lists_code n (arguments all) m c) b ≡ goal →
-    put (lists_code n1 (arguments rest) m c) b1 ≡ goal
-more-lists all rest x n n1 m c b b1 goal left p e g =
-    ap {B = Builder} (λ j. put (lists_code j (arguments rest) m c) b1) e
-    ∙ ap {B = Builder} (λ d. put (lists_code (row_behind n x) (arguments rest) m c) d) p ∙ sym (put-lists-cons b n m c x rest)
-    ∙ ap {B = Builder} (λ xs. put (lists_code n (arguments xs) m c) b) (sym left) ∙ g
+pub more-lists : (all rest : List Argument) (x : Argument) (n n1 : ℕ) (b b1 goal : Builder) → all ≡ x ∷ rest →
+    b1 ≡ put (listed_code n x) b → n1 ≡ row_behind n x → put (listing_code n (arguments all)) b ≡ goal →
+    put (listing_code n1 (arguments rest)) b1 ≡ goal
+more-lists all rest x n n1 b b1 goal left p e g =
+    ap {B = Builder} (λ j. put (listing_code j (arguments rest)) b1) e
+    ∙ ap {B = Builder} (λ d. put (listing_code (row_behind n x) (arguments rest)) d) p ∙ sym (listing-cons b n x rest)
+    ∙ ap {B = Builder} (λ xs. put (listing_code n (arguments xs)) b) (sym left) ∙ g
 
-pub more-list_count : (all rest : List Argument) (x : Argument) (n n1 m l l1 goal : ℕ) → all ≡ x ∷ rest → l1 ≡ l + lists_at n x →
-    n1 ≡ row_behind n x → l + count_lists n (arguments all) m ≡ goal → l1 + count_lists n1 (arguments rest) m ≡ goal
-more-list_count all rest x n n1 m l l1 goal left p e g =
-    let same : count_lists n1 (arguments rest) m ≡ count_lists (row_behind n x) (arguments rest) m =
-    ap (λ j. count_lists j (arguments rest) m) e in
-    let whole : count_lists n (arguments all) m ≡ lists_at n x + count_lists (row_behind n x) (arguments rest) m =
-    ap (λ xs. count_lists n (arguments xs) m) left ∙ count_lists-cons n m x rest in
-    omega (arith, p, same, whole, g)
+pub more-list_rows : (all rest : List Argument) (x : Argument) (n n1 l l1 : ℕ) (goal : Rows) → all ≡ x ∷ rest → l1 ≡ l + lists_at n x →
+    n1 ≡ row_behind n x → behind l (lists_of n (arguments all)) ≡ goal → behind l1 (lists_of n1 (arguments rest)) ≡ goal
+more-list_rows all rest x n n1 l l1 goal left p e g =
+    ap {A = ℕ} {B = Rows} (λ j. behind j (lists_of n1 (arguments rest))) p
+    ∙ ap {A = ℕ} {B = Rows} (λ j. behind (l + lists_at n x) (lists_of j (arguments rest))) e
+    ∙ sym (behind-twice l (lists_at n x) (lists_of (row_behind n x) (arguments rest)))
+    ∙ ap {A = Rows} {B = Rows} (behind l) (sym (ap {B = Rows} (λ xs. lists_of n (arguments xs)) left ∙ lists-cons n x rest)) ∙ g
 
-pub last-lists : (rest : List Argument) (n m more last : ℕ) (c : Fragment) (b b1 b2 goal : Builder) → rest ≡ [] →
-    put (lists_code n (arguments rest) m c) b ≡ goal → b1 ≡ put c b → more ≡ m → last ≡ n + more →
-    b2 ≡ put (straight (list_of_row last)) b1 → b2 ≡ goal
-last-lists rest n m more last c b b1 b2 goal none g p e f q =
-    q ∙ ap {B = Builder} (λ j. put (straight (list_of_row j)) b1) (f ∙ ap (λ j. n + j) e)
-    ∙ ap {B = Builder} (λ d. put (straight (list_of_row (n + m))) d) p
-    ∙ sym (ap {B = Builder} (λ d. put d b) (ap (λ xs. lists_code n (arguments xs) m c) none ∙ lists-nil n m c)) ∙ g
+pub no_more-lists : (rest : List Argument) (n : ℕ) (b goal : Builder) → rest ≡ [] → put (listing_code n (arguments rest)) b ≡ goal →
+    b ≡ goal
+no_more-lists rest n b goal none g =
+    sym (ap {B = Builder} (λ xs. put (listing_code n (arguments xs)) b) none ∙ listing-nil b n) ∙ g
 
-pub last-list_count : (rest : List Argument) (n m more last l s goal : ℕ) → rest ≡ [] → l + count_lists n (arguments rest) m ≡ goal →
-    more ≡ m → last ≡ n + more → s ≡ l + rows_of last → s ≡ goal
-last-list_count rest n m more last l s goal none g e f h =
-    let whole : count_lists n (arguments rest) m ≡ rows_of (n + m) = ap (λ xs. count_lists n (arguments xs) m) none ∙ count_lists-nil n m in
-    let same : rows_of last ≡ rows_of (n + m) = ap rows_of (f ∙ ap (λ j. n + j) e) in
-    omega (arith, g, whole, same, h)
+pub no_more-list_rows : (rest : List Argument) (n l : ℕ) (goal : Rows) → rest ≡ [] → behind l (lists_of n (arguments rest)) ≡ goal →
+    ◌≡◌ {A = Rows} (record { ended = l; pending = n }) goal
+no_more-list_rows rest n l goal none g =
+    sym (ap {B = Rows} (λ xs. behind l (lists_of n (arguments xs))) none ∙ ap {A = Rows} {B = Rows} (behind l) (lists-nil n)
+    ∙ behind-none l n) ∙ g
 
 -- ---------------------------------------------------------------- maps
-keywords-nil : (n : ℕ) → keywords_code n (keywords []) ≡ straight (map_of_row n)
+naming-nil : (b : Builder) (n : ℕ) → put (keywords_code no_end n (keywords [])) b ≡ b
 unfolding hidden keywords shape-the_row-Keyword-4
-keywords-nil n = refl
+naming-nil b n = refl
 
-put-keywords-cons : (b : Builder) (n : ℕ) (x : Keyword) (xs : List Keyword) →
-    put (keywords_code n (keywords (x ∷ xs))) b ≡ put (keywords_code (keywords_behind n x) (keywords xs)) (put (keyword_code n x) b)
+naming-cons : (b : Builder) (n : ℕ) (x : Keyword) (xs : List Keyword) →
+    put (keywords_code no_end n (keywords (x ∷ xs))) b
+    ≡ put (keywords_code no_end (keywords_behind n x) (keywords xs)) (put (keyword_code n x) b)
 unfolding hidden keywords shape-the_row-Keyword-4
-put-keywords-cons b n x xs = refl
+naming-cons b n x xs = refl
 
-count_maps-nil : (n : ℕ) → count_maps n (keywords []) ≡ rows_of n
+maps-nil : (n : ℕ) → maps_of n (keywords []) ≡ record { ended = 0; pending = n }
 unfolding hidden keywords shape-the_row-Keyword-4
-count_maps-nil n = refl
+maps-nil n = refl
 
-count_maps-cons : (n : ℕ) (x : Keyword) (xs : List Keyword) →
-    count_maps n (keywords (x ∷ xs)) ≡ maps_at n x + count_maps (keywords_behind n x) (keywords xs)
+maps-cons : (n : ℕ) (x : Keyword) (xs : List Keyword) →
+    maps_of n (keywords (x ∷ xs)) ≡ behind (maps_at n x) (maps_of (keywords_behind n x) (keywords xs))
 unfolding hidden keywords shape-the_row-Keyword-4
-count_maps-cons n x xs = refl
+maps-cons n x xs = refl
 
-pub more-keywords : (all rest : List Keyword) (x : Keyword) (n n1 : ℕ) (b b1 goal : Builder) → all ≡ x ∷ rest →
-    b1 ≡ put (keyword_code n x) b → n1 ≡ keywords_behind n x → put (keywords_code n (keywords all)) b ≡ goal →
-    put (keywords_code n1 (keywords rest)) b1 ≡ goal
-more-keywords all rest x n n1 b b1 goal left p e g =
-    ap {B = Builder} (λ j. put (keywords_code j (keywords rest)) b1) e
-    ∙ ap {B = Builder} (λ d. put (keywords_code (keywords_behind n x) (keywords rest)) d) p ∙ sym (put-keywords-cons b n x rest)
-    ∙ ap {B = Builder} (λ xs. put (keywords_code n (keywords xs)) b) (sym left) ∙ g
+pub more-maps : (all rest : List Keyword) (x : Keyword) (n n1 : ℕ) (b b1 goal : Builder) → all ≡ x ∷ rest →
+    b1 ≡ put (keyword_code n x) b → n1 ≡ keywords_behind n x → put (keywords_code no_end n (keywords all)) b ≡ goal →
+    put (keywords_code no_end n1 (keywords rest)) b1 ≡ goal
+more-maps all rest x n n1 b b1 goal left p e g =
+    ap {B = Builder} (λ j. put (keywords_code no_end j (keywords rest)) b1) e
+    ∙ ap {B = Builder} (λ d. put (keywords_code no_end (keywords_behind n x) (keywords rest)) d) p ∙ sym (naming-cons b n x rest)
+    ∙ ap {B = Builder} (λ xs. put (keywords_code no_end n (keywords xs)) b) (sym left) ∙ g
 
-pub more-map_count : (all rest : List Keyword) (x : Keyword) (n n1 l l1 goal : ℕ) → all ≡ x ∷ rest → l1 ≡ l + maps_at n x →
-    n1 ≡ keywords_behind n x → l + count_maps n (keywords all) ≡ goal → l1 + count_maps n1 (keywords rest) ≡ goal
-more-map_count all rest x n n1 l l1 goal left p e g =
-    let same : count_maps n1 (keywords rest) ≡ count_maps (keywords_behind n x) (keywords rest) =
-    ap (λ j. count_maps j (keywords rest)) e in
-    let whole : count_maps n (keywords all) ≡ maps_at n x + count_maps (keywords_behind n x) (keywords rest) =
-    ap (λ xs. count_maps n (keywords xs)) left ∙ count_maps-cons n x rest in
-    omega (arith, p, same, whole, g)
+pub more-map_rows : (all rest : List Keyword) (x : Keyword) (n n1 l l1 : ℕ) (goal : Rows) → all ≡ x ∷ rest → l1 ≡ l + maps_at n x →
+    n1 ≡ keywords_behind n x → behind l (maps_of n (keywords all)) ≡ goal → behind l1 (maps_of n1 (keywords rest)) ≡ goal
+more-map_rows all rest x n n1 l l1 goal left p e g =
+    ap {A = ℕ} {B = Rows} (λ j. behind j (maps_of n1 (keywords rest))) p
+    ∙ ap {A = ℕ} {B = Rows} (λ j. behind (l + maps_at n x) (maps_of j (keywords rest))) e
+    ∙ sym (behind-twice l (maps_at n x) (maps_of (keywords_behind n x) (keywords rest)))
+    ∙ ap {A = Rows} {B = Rows} (behind l) (sym (ap {B = Rows} (λ xs. maps_of n (keywords xs)) left ∙ maps-cons n x rest)) ∙ g
 
-pub last-keywords : (rest : List Keyword) (n : ℕ) (b b1 goal : Builder) → rest ≡ [] → put (keywords_code n (keywords rest)) b ≡ goal →
-    b1 ≡ put (straight (map_of_row n)) b → b1 ≡ goal
-last-keywords rest n b b1 goal none g p =
-    p ∙ sym (ap {B = Builder} (λ d. put d b) (ap (λ xs. keywords_code n (keywords xs)) none ∙ keywords-nil n)) ∙ g
+pub no_more-maps : (rest : List Keyword) (n : ℕ) (b goal : Builder) → rest ≡ [] → put (keywords_code no_end n (keywords rest)) b ≡ goal →
+    b ≡ goal
+no_more-maps rest n b goal none g =
+    sym (ap {B = Builder} (λ xs. put (keywords_code no_end n (keywords xs)) b) none ∙ naming-nil b n) ∙ g
 
-pub last-map_count : (rest : List Keyword) (n l s goal : ℕ) → rest ≡ [] → l + count_maps n (keywords rest) ≡ goal → s ≡ l + rows_of n →
-    s ≡ goal
-last-map_count rest n l s goal none g h =
-    let whole : count_maps n (keywords rest) ≡ rows_of n = ap (λ xs. count_maps n (keywords xs)) none ∙ count_maps-nil n in
-    omega (arith, g, whole, h)
-
--- ---------------------------------------------------------------- what is passed
-module _ (b m1 : Builder) (ks : List Keyword) (p : m1 ≡ put (keywords_code 0 (keywords ks)) b) where
-  by_merging : (s : Bool) → has_spread_keyword (keywords ks) ≡ s →
-      put (named_code (keywords ks)) b ≡ put (straight (merged_code s (count_maps 0 (keywords ks)))) m1
-  by_merging s h =
-      ap {B = Builder} (λ m. put (straight (merged_code (has_spread_keyword (keywords ks)) (count_maps 0 (keywords ks)))) m) (sym p)
-      ∙ ap {B = Builder} (λ c. put (straight (merged_code c (count_maps 0 (keywords ks)))) m1) h
-
-  pub not_merged : has_spread_keyword (keywords ks) ≡ false → m1 ≡ put (named_code (keywords ks)) b
-  not_merged h = sym (by_merging false h)
-
-  pub merged : (m2 : Builder) (n : ℕ) → has_spread_keyword (keywords ks) ≡ true → n ≡ count_maps 0 (keywords ks) →
-      m2 ≡ with_one (i.MergeKwargs n) m1 → m2 ≡ put (named_code (keywords ks)) b
-  merged m2 n h e q = q ∙ ap {B = Builder} (λ j. with_one (i.MergeKwargs j) m1) e ∙ sym (by_merging true h)
-
-pub not_merged-count : (ks : List Keyword) (n : ℕ) → has_spread_keyword (keywords ks) ≡ false → n ≡ count_maps 0 (keywords ks) →
-    n ≡ together (keywords ks)
-not_merged-count ks n h e = e ∙ sym (ap (λ s. merged_count s (count_maps 0 (keywords ks))) h)
-
-pub merged-count : (ks : List Keyword) → has_spread_keyword (keywords ks) ≡ true → 1 ≡ together (keywords ks)
-merged-count ks h = sym (ap (λ s. merged_count s (count_maps 0 (keywords ks))) h)
-
-module _ (b : Builder) (n : ℕ) (xs : List Argument) (ks : List Keyword) where
-  abbrev passing : Bool → Builder
-  passing s = put (passing_by s n (arguments xs) (keywords ks) (arguments_code (arguments xs)) (named_code (keywords ks))
-      (λ by_name. lists_code n (arguments xs) (together (keywords ks)) by_name)) b
-
-  pub one_by_one : (m1 m2 : Builder) → has_spread (arguments xs) ≡ false → m1 ≡ put (arguments_code (arguments xs)) b →
-      m2 ≡ put (named_code (keywords ks)) m1 → m2 ≡ put (passing_code n (arguments xs) (keywords ks)) b
-  one_by_one m1 m2 h p q =
-      q ∙ ap {B = Builder} (λ m. put (named_code (keywords ks)) m) p ∙ sym (ap {B = Builder} passing h)
-
-  pub as_group : (m1 m2 : Builder) (l : ℕ) → has_spread (arguments xs) ≡ true →
-      m1 ≡ put (lists_code n (arguments xs) (together (keywords ks)) (named_code (keywords ks))) b →
-      l ≡ count_lists n (arguments xs) (together (keywords ks)) → m2 ≡ with_one (i.UnpackLists l) m1 →
-      m2 ≡ put (passing_code n (arguments xs) (keywords ks)) b
-  as_group m1 m2 l h p e q =
-      q ∙ ap {B = Builder} (λ j. with_one (i.UnpackLists j) m1) e
-      ∙ ap {B = Builder} (λ m. with_one (i.UnpackLists (count_lists n (arguments xs) (together (keywords ks)))) m) p
-      ∙ sym (ap {B = Builder} passing h)
-
-count-arguments : (xs : List Argument) → count (arguments xs) ≡ length xs
-unfolding hidden arguments shape-the_row-Argument-3
-count-arguments [] = refl
-count-arguments (x ∷ xs) = omega (arith, count-arguments xs)
-
-pub one_by_one-count : (n k t s r : ℕ) (xs : List Argument) (ks : List Keyword) → has_spread (arguments xs) ≡ false → k ≡ length xs →
-    t ≡ together (keywords ks) → s ≡ k + t → r ≡ s + n → Some r ≡ passed_count n (arguments xs) (keywords ks)
-one_by_one-count n k t s r xs ks h e f g j =
-    let same : r ≡ count (arguments xs) + together (keywords ks) + n = omega (arith, e, f, g, j, count-arguments xs) in
-    ap Some same ∙ sym (ap (λ b. count_by b (count (arguments xs) + together (keywords ks) + n)) h)
-
-pub as_group-count : (n : ℕ) (xs : List Argument) (ks : List Keyword) → has_spread (arguments xs) ≡ true →
-    None ≡ passed_count n (arguments xs) (keywords ks)
-as_group-count n xs ks h = sym (ap (λ b. count_by b (count (arguments xs) + together (keywords ks) + n)) h)
+pub no_more-map_rows : (rest : List Keyword) (n l : ℕ) (goal : Rows) → rest ≡ [] → behind l (maps_of n (keywords rest)) ≡ goal →
+    ◌≡◌ {A = Rows} (record { ended = l; pending = n }) goal
+no_more-map_rows rest n l goal none g =
+    sym (ap {B = Rows} (λ xs. behind l (maps_of n (keywords xs))) none ∙ ap {A = Rows} {B = Rows} (behind l) (maps-nil n)
+    ∙ behind-none l n) ∙ g
 
 -- ---------------------------------------------------------------- answers
 pub on_ok_always : {T E P : Type 0} (r : Result T E) → P → OnOk r P

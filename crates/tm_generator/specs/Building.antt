@@ -8,7 +8,8 @@ use Rattle.tm_syntax.specs.declared.jump.JumpKind.TheVariants.{IfFalse}
 use Rattle.tm_syntax.specs.declared.tree.Condition.{Condition}
 use Rattle.tm_syntax.specs.declared.tree.Parameter.{Parameter}
 use Rattle.tm_names.specs.declared.macros.MacroNames.{MacroNames}
-use Rattle.tm_syntax.specs.Code.{expr_code}
+use Rattle.tm_syntax.specs.Code.{expr_code, macro_head, parameters_code, statements_code}
+use Rattle.tm_syntax.specs.declared.tree.Stmt.{Row_of-Stmt}
 use Rattle.tm_syntax.specs.Names.{parameter_names}
 use Rattle.tm_syntax.specs.Fragments.{Fragment, straight, ◌⨾◌, jump_out, bounded, fork, looped, break_loop, next_round, declares, jump}
 use Rattle.tm_syntax.specs.Fragments.{MacroHead, building}
@@ -134,6 +135,10 @@ head_with x ps names = record { name = x; parameters = parameter_names ps; free 
 
 abbrev pub put_building : List ℕ → List Parameter → MacroNames → ℕ → Builder → Builder
 put_building x ps names place b = with_all (building names.free (head_with x ps names) place) b
+
+-- the value of a macro
+abbrev pub macro_code : {n : _} → List ℕ → List Parameter → Row_of-Stmt n → Fragment
+macro_code x ps body = declares (macro_head x ps body) (parameters_code ps ⨾ statements_code [] body)
 
 -- a loop's rounds
 abbrev pub rounds : LoopFlags → Fragment → Builder → Builder

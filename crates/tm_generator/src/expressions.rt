@@ -5,9 +5,10 @@ ghost use Rattle.std.specs.Prelude.{◌≡◌, ◌++◌, ◌+◌, [], ◌∷◌,
 ghost use Rattle.tm_generator.specs.Building.{put, asked, kept, answered};
 ghost use Rattle.tm_syntax.specs.Code.{unary_code, binary_code, application_code, expr_code};
 ghost use Rattle.tm_syntax.specs.Code.{exprs_code, pairs_code};
-ghost use Rattle.tm_syntax.specs.Code.{argument_code, arguments_code, listed_code, lists_code, count_lists};
-ghost use Rattle.tm_syntax.specs.Code.{keyword_code, keywords_code, count_maps, named_code, together};
-ghost use Rattle.tm_syntax.specs.Code.{passing_code, passed_count};
+ghost use Rattle.tm_generator.specs.Opened.{listing_code, lists_of, maps_of, no_end, open_code};
+ghost use Rattle.tm_generator.specs.Opened.{opened_call};
+ghost use Rattle.tm_syntax.specs.Code.{listed_code, keyword_code, keywords_code};
+ghost use Rattle.tm_syntax.specs.Code.{passing_code, passed_count, row_end};
 ghost use Rattle.tm_syntax.specs.Code.{filters_code, step_code, steps_code, row_code, links_code};
 ghost use Rattle.tm_syntax.specs.Fragments.{straight, over};
 ghost use Rattle.tm_syntax.specs.declared.tree.Argument.TheBlock.{hidden-the_row-Expr-1 as exprs};
@@ -20,8 +21,8 @@ ghost use Rattle.tm_values.specs.declared.error.ErrorKind.TheVariants.{OutOfMemo
 
 use crate::builder::{Builder, Out};
 use crate::passing::{
-    has_spread, has_spread_keyword, keywords_behind, lists_at, maps_at, push_list_of_row,
-    push_map_of_row, row_behind, rows_of, sum,
+    OpenCall, Rows, has_spread, has_spread_keyword, keywords_behind, lists_at, maps_at,
+    push_list_of_row, push_map_of_row, row_behind, sum,
 };
 use sqlite_items::Items;
 use tm_syntax::{
@@ -75,7 +76,7 @@ fn push_binary(code: &mut Builder, operator: BinaryOperator) -> Result<(), Error
 
 /// Adds the code that passes so many values to what a name stands for; OutOfMemory.
 #[inline(never)]
-fn push_application(
+pub(crate) fn push_application(
     code: &mut Builder,
     application: Application,
     name: &Name,
@@ -167,31 +168,6 @@ fn push_pairs(code: &mut Builder, entries: &[Pair]) -> Result<(), Error>
     Ok(())
 }
 
-/// Adds the code of an argument; OutOfMemory.
-#[cycle(expressions)]
-fn push_argument(code: &mut Builder, argument: &Argument) -> Result<(), Error>
-    ensures ok { OnOk result (code.new ≡ put (argument_code argument.now) code.old) }
-    ensures err { IfErr result (λ e. e ≡ OutOfMemory ∷ []) }
-{
-    match argument {
-        Argument::Plain(expr) => push_expr(code, expr.get()),
-        Argument::Spread(expr) => push_expr(code, expr.get()),
-    }
-}
-
-/// Adds the code of arguments; OutOfMemory.
-#[cycle(expressions)]
-#[inline(never)]
-fn push_arguments(code: &mut Builder, given: &[Argument]) -> Result<(), Error>
-    ensures ok { OnOk result (code.new ≡ put (arguments_code (arguments given.now)) code.old) }
-    ensures err { IfErr result (λ e. e ≡ OutOfMemory ∷ []) }
-{
-    for argument in given {
-        push_argument(code, argument)?;
-    }
-    Ok(())
-}
-
 /// Adds the code of an argument behind a row of so many, which a spread one ends; OutOfMemory.
 #[cycle(expressions)]
 fn push_listed(code: &mut Builder, row: usize, argument: &Argument) -> Result<(), Error>
@@ -207,33 +183,24 @@ fn push_listed(code: &mut Builder, row: usize, argument: &Argument) -> Result<()
     }
 }
 
-/// Adds the code of the lists of all arguments behind a row of so many, and gives how many lists
-/// there are; OutOfMemory.
+/// Adds the code of arguments behind a row of so many, without that of the last row's end, and
+/// gives their rows; OutOfMemory.
 #[cycle(expressions)]
 #[inline(never)]
-fn push_lists(
-    code: &mut Builder,
-    before: usize,
-    given: &[Argument],
-    named: &[Keyword],
-) -> Result<usize, Error>
-    ensures ok { OnOk result (code.new ≡ put (lists_code before (arguments given.now)
-        (together (keywords named.now)) (named_code (keywords named.now))) code.old) }
-    ensures count { IfOk result (λ lists. lists ≡
-        count_lists before (arguments given.now) (together (keywords named.now))) }
+fn push_arguments(code: &mut Builder, before: usize, given: &[Argument]) -> Result<Rows, Error>
+    ensures ok { OnOk result
+        (code.new ≡ put (listing_code before (arguments given.now)) code.old) }
+    ensures rows { IfOk result (λ rows. rows ≡ lists_of before (arguments given.now)) }
     ensures err { IfErr result (λ e. e ≡ OutOfMemory ∷ []) }
 {
-    let mut row = before;
-    let mut lists = 0;
+    let mut pending = before;
+    let mut ended = 0;
     for argument in given {
-        push_listed(code, row, argument)?;
-        lists = sum(lists, lists_at(row, argument))?;
-        row = row_behind(row, argument)?;
+        push_listed(code, pending, argument)?;
+        ended = sum(ended, lists_at(pending, argument))?;
+        pending = row_behind(pending, argument)?;
     }
-    let more = push_named(code, named)?;
-    let last = sum(row, more)?;
-    push_list_of_row(code, last)?;
-    sum(lists, rows_of(last))
+    Ok(Rows { ended, pending })
 }
 
 /// Adds the code of a keyword behind a row of so many, which a spread one ends; OutOfMemory.
@@ -255,45 +222,55 @@ fn push_keyword(code: &mut Builder, row: usize, keyword: &Keyword) -> Result<(),
     }
 }
 
-/// Adds the code of the maps of all keywords, and gives how many maps there are; OutOfMemory.
-#[cycle(expressions)]
-fn push_keywords(code: &mut Builder, named: &[Keyword]) -> Result<usize, Error>
-    ensures ok { OnOk result (code.new ≡ put (keywords_code 0 (keywords named.now)) code.old) }
-    ensures count { IfOk result (λ maps. maps ≡ count_maps 0 (keywords named.now)) }
-    ensures err { IfErr result (λ e. e ≡ OutOfMemory ∷ []) }
-{
-    let mut row = 0;
-    let mut maps = 0;
-    for keyword in named {
-        push_keyword(code, row, keyword)?;
-        maps = sum(maps, maps_at(row, keyword))?;
-        row = keywords_behind(row, keyword)?;
-    }
-    push_map_of_row(code, row)?;
-    sum(maps, rows_of(row))
-}
-
-/// Adds the code of keywords as one argument, where there are any, and gives how many arguments
-/// they are; OutOfMemory.
+/// Adds the code of keywords, without that of the last row's end, and gives their rows;
+/// OutOfMemory.
 #[cycle(expressions)]
 #[inline(never)]
-fn push_named(code: &mut Builder, named: &[Keyword]) -> Result<usize, Error>
-    ensures ok { OnOk result (code.new ≡ put (named_code (keywords named.now)) code.old) }
-    ensures count { IfOk result (λ count. count ≡ together (keywords named.now)) }
+fn push_keywords(code: &mut Builder, named: &[Keyword]) -> Result<Rows, Error>
+    ensures ok { OnOk result
+        (code.new ≡ put (keywords_code no_end 0 (keywords named.now)) code.old) }
+    ensures rows { IfOk result (λ rows. rows ≡ maps_of 0 (keywords named.now)) }
     ensures err { IfErr result (λ e. e ≡ OutOfMemory ∷ []) }
 {
-    let maps = push_keywords(code, named)?;
-    if !has_spread_keyword(named) {
-        return Ok(maps);
+    let mut pending = 0;
+    let mut ended = 0;
+    for keyword in named {
+        push_keyword(code, pending, keyword)?;
+        ended = sum(ended, maps_at(pending, keyword))?;
+        pending = keywords_behind(pending, keyword)?;
     }
-    code.emit(Instruction::MergeKwargs(maps))?;
-    Ok(1)
+    Ok(Rows { ended, pending })
+}
+
+/// Adds the code of what a call is passed, with so many values before the arguments, without that
+/// of the last rows' ends; OutOfMemory.
+#[cycle(expressions)]
+#[inline(never)]
+pub(crate) fn push_open(
+    code: &mut Builder,
+    before: usize,
+    given: &[Argument],
+    named: &[Keyword],
+) -> Result<OpenCall, Error>
+    ensures ok { OnOk result (code.new ≡
+        put (open_code before (arguments given.now) (keywords named.now)) code.old) }
+    ensures call { IfOk result (λ call. call ≡
+        opened_call before (arguments given.now) (keywords named.now)) }
+    ensures err { IfErr result (λ e. e ≡ OutOfMemory ∷ []) }
+{
+    let lists = push_arguments(code, before, given)?;
+    let maps = push_keywords(code, named)?;
+    Ok(OpenCall {
+        lists,
+        maps,
+        spreads: has_spread(given),
+        merges: has_spread_keyword(named),
+    })
 }
 
 /// Adds the code of what a call is passed, with so many values before the arguments. Gives how
 /// many values it is passed; none where their number is on top. OutOfMemory.
 #[cycle(expressions)]
-#[inline(never)]
 fn push_passed(
     code: &mut Builder,
     before: usize,
@@ -301,19 +278,13 @@ fn push_passed(
     named: &[Keyword],
 ) -> Result<Option<usize>, Error>
     ensures ok { OnOk result (code.new ≡
-        put (passing_code before (arguments given.now) (keywords named.now)) code.old) }
+        put (passing_code row_end before (arguments given.now) (keywords named.now)) code.old) }
     ensures count { IfOk result (λ count. count ≡
-        passed_count before (arguments given.now) (keywords named.now)) }
+        passed_count row_end before (arguments given.now) (keywords named.now)) }
     ensures err { IfErr result (λ e. e ≡ OutOfMemory ∷ []) }
 {
-    if has_spread(given) {
-        let lists = push_lists(code, before, given, named)?;
-        code.emit(Instruction::UnpackLists(lists))?;
-        return Ok(None);
-    }
-    push_arguments(code, given)?;
-    let more = push_named(code, named)?;
-    Ok(Some(sum(sum(given.len(), more)?, before)?))
+    let call = push_open(code, before, given, named)?;
+    call.end(code)
 }
 
 /// Adds the tests of conditions, the last first, each with a jump out of what comes after it. Adds
@@ -366,7 +337,7 @@ fn push_otherwise(
 /// Adds the code of a step; OutOfMemory.
 #[cycle(expressions)]
 #[inline(never)]
-fn push_step(code: &mut Builder, step: &Step) -> Result<(), Error>
+pub(crate) fn push_step(code: &mut Builder, step: &Step) -> Result<(), Error>
     ensures ok { OnOk result (code.new ≡ put (step_code step.now) code.old) }
     ensures err { IfErr result (λ e. e ≡ OutOfMemory ∷ []) }
 {
@@ -455,7 +426,7 @@ fn push_links(code: &mut Builder, first: BinaryOperator, after: &[Comparison]) -
 
 /// Adds the code of steps; OutOfMemory.
 #[cycle(expressions)]
-fn push_steps(code: &mut Builder, after: &[Step]) -> Result<(), Error>
+pub(crate) fn push_steps(code: &mut Builder, after: &[Step]) -> Result<(), Error>
     ensures ok { OnOk result (code.new ≡ put (steps_code (steps after.now)) code.old) }
     ensures err { IfErr result (λ e. e ≡ OutOfMemory ∷ []) }
 {

@@ -3,6 +3,7 @@
 
 mod builder;
 mod caches;
+mod calls;
 mod enclosing;
 mod expressions;
 mod loops;

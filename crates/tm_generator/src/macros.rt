@@ -1,9 +1,11 @@
 //! The code around the bodies of macros.
-ghost use Rattle.std.specs.Prelude.{◌≡◌, [], ◌∷◌, OnOk, IfOk, IfErr};
-ghost use Rattle.tm_generator.specs.Building.{put, put_building};
+ghost use Rattle.std.specs.Prelude.{◌≡◌, [], ◌∷◌, OnOk, IfOk, IfErr, codes, false};
+ghost use Rattle.tm_generator.specs.Building.{put, put_building, with_one};
 ghost use Rattle.tm_syntax.specs.Code.{default_code, parameter_code, parameters_code};
 ghost use Rattle.tm_syntax.specs.Fragments.{name_list};
 ghost use Rattle.tm_syntax.specs.Names.{parameter_names};
+ghost use Rattle.tm_syntax.specs.declared.instruction.Instruction.TheVariants.{LoadConst};
+ghost use Rattle.tm_values.specs.Val.{text};
 ghost use Rattle.tm_values.specs.declared.error.ErrorKind.TheVariants.{OutOfMemory};
 
 use crate::builder::Builder;
@@ -77,6 +79,19 @@ pub(crate) fn push_building(
     let arguments = names_of(code.alloc(), parameters)?;
     code.emit(Instruction::LoadConst(arguments))?;
     code.emit(Instruction::BuildMacro(name.share()?, entry, names.takes_caller))
+}
+
+/// Adds the code of the keyword `caller`, and gives that name; OutOfMemory.
+pub(crate) fn push_caller(code: &mut Builder) -> Result<Name, Error>
+    ensures ok { OnOk result
+        (code.new ≡ with_one (LoadConst (text (codes "caller") false)) code.old) }
+    ensures name { IfOk result (λ name. name ≡ codes "caller") }
+    ensures err { IfErr result (λ e. e ≡ OutOfMemory ∷ []) }
+{
+    let name = Name::new(code.alloc(), "caller")?;
+    let keyword = Value::text(code.alloc(), name.as_str())?;
+    code.emit(Instruction::LoadConst(keyword))?;
+    Ok(name)
 }
 
 /// The names of parameters as a list of texts; OutOfMemory.

@@ -1,8 +1,11 @@
 //! How many values a call is passed, and how they lie in rows.
 ghost use Rattle.std.specs.Prelude.{◌≡◌, ◌+◌, [], ◌∷◌, OnOk, IfOk, IfErr};
 ghost use Rattle.tm_generator.specs.Building.{put};
+ghost use Rattle.tm_generator.specs.Opened.{called_with_none, ending, ending_count, unpacked_code};
+ghost use Rattle.tm_generator.specs.Opened.{with_name};
 ghost use Rattle.tm_syntax.specs.Code as code;
-ghost use Rattle.tm_syntax.specs.Code.{list_of_row, map_of_row};
+ghost use Rattle.tm_syntax.specs.Code.{count_by, list_of_row, map_of_row, merged_code, merged_count};
+ghost use Rattle.tm_syntax.specs.Code.{row_end};
 ghost use Rattle.tm_syntax.specs.Fragments.{straight};
 ghost use Rattle.tm_syntax.specs.declared.tree.Argument.TheBlock.{hidden-the_row-Argument-3 as arguments};
 ghost use Rattle.tm_syntax.specs.declared.tree.Argument.TheBlock.{hidden-the_row-Keyword-4 as keywords};
@@ -11,6 +14,101 @@ ghost use Rattle.tm_values.specs.declared.error.ErrorKind.TheVariants.{OutOfMemo
 use crate::builder::Builder;
 use tm_syntax::{Argument, Instruction, Keyword};
 use tm_values::{Error, ErrorKind};
+
+/// Values in rows.
+#[derive(Clone, Copy)]
+pub(crate) struct Rows {
+    /// How many rows have ended.
+    pub(crate) ended: usize,
+    /// How many values are pending behind them.
+    pub(crate) pending: usize,
+}
+
+/// What a call is passed, with its last rows open.
+#[derive(Clone, Copy)]
+pub(crate) struct OpenCall {
+    /// Values by their places, each row of which becomes a list.
+    pub(crate) lists: Rows,
+    /// Names with their values, each row of which becomes a map.
+    pub(crate) maps: Rows,
+    /// Whether one of the arguments is spread.
+    pub(crate) spreads: bool,
+    /// Whether one of the keywords is spread.
+    pub(crate) merges: bool,
+}
+
+impl OpenCall {
+    /// With nothing but the value below.
+    pub(crate) fn with_none() -> OpenCall
+        ensures { result ≡ called_with_none }
+    {
+        OpenCall {
+            lists: Rows { ended: 0, pending: 1 },
+            maps: Rows { ended: 0, pending: 0 },
+            spreads: false,
+            merges: false,
+        }
+    }
+
+    /// Counts one keyword more; OutOfMemory where there is no such number.
+    pub(crate) fn add_name(&mut self) -> Result<(), Error>
+        ensures ok { OnOk result (self.new ≡ with_name self.old) }
+        ensures err { IfErr result (λ e. e ≡ OutOfMemory ∷ []) }
+    {
+        self.maps.pending = sum(self.maps.pending, 1)?;
+        Ok(())
+    }
+
+    /// Adds the code of the ends of the last rows. Gives how many values the call is passed; none
+    /// where their number is on top. OutOfMemory.
+    #[inline(never)]
+    pub(crate) fn end(&self, code: &mut Builder) -> Result<Option<usize>, Error>
+        ensures ok { OnOk result (code.new ≡ put (ending row_end self.now) code.old) }
+        ensures count { IfOk result (λ count. count ≡ ending_count row_end self.now) }
+        ensures err { IfErr result (λ e. e ≡ OutOfMemory ∷ []) }
+    {
+        push_map_of_row(code, self.maps.pending)?;
+        let maps = sum(self.maps.ended, rows_of(self.maps.pending))?;
+        let named = push_merged(code, self.merges, maps)?;
+        let values = sum(self.lists.pending, named)?;
+        push_unpacked(code, self.spreads, self.lists.ended, values)
+    }
+}
+
+/// Adds the code that merges so many maps where one is spread, and gives how many values they are
+/// then; OutOfMemory.
+fn push_merged(code: &mut Builder, merges: bool, maps: usize) -> Result<usize, Error>
+    ensures ok { OnOk result (code.new ≡ put (straight (merged_code merges maps)) code.old) }
+    ensures count { IfOk result (λ count. count ≡ merged_count merges maps) }
+    ensures err { IfErr result (λ e. e ≡ OutOfMemory ∷ []) }
+{
+    if !merges {
+        return Ok(maps);
+    }
+    code.emit(Instruction::MergeKwargs(maps))?;
+    Ok(1)
+}
+
+/// Adds the code that unpacks so many lists and the values behind them where one is spread, and
+/// gives how many values there are; none where their number is on top. OutOfMemory.
+fn push_unpacked(
+    code: &mut Builder,
+    spreads: bool,
+    lists: usize,
+    values: usize,
+) -> Result<Option<usize>, Error>
+    ensures ok { OnOk result (code.new ≡ put (unpacked_code spreads lists values) code.old) }
+    ensures count { IfOk result (λ count. count ≡ count_by spreads values) }
+    ensures err { IfErr result (λ e. e ≡ OutOfMemory ∷ []) }
+{
+    if !spreads {
+        return Ok(Some(values));
+    }
+    push_list_of_row(code, values)?;
+    let all = sum(lists, rows_of(values))?;
+    code.emit(Instruction::UnpackLists(all))?;
+    Ok(None)
+}
 
 /// The sum of two numbers; OutOfMemory where it is none.
 pub(crate) fn sum(one: usize, other: usize) -> Result<usize, Error>

@@ -1,6 +1,6 @@
 //! The code of statements.
 ghost use Rattle.std.specs.Prelude.{◌≡◌, [], ◌∷◌, OnOk, IfOk, IfErr};
-ghost use Rattle.tm_generator.specs.Building.{put_in, rounds};
+ghost use Rattle.tm_generator.specs.Building.{macro_code, put_in, rounds};
 ghost use Rattle.tm_syntax.specs.Blocks.{blocks_of, blocks_in, compiled_blocks};
 ghost use Rattle.tm_syntax.specs.Code.{for_flags, target_code, statement_code, statements_code};
 ghost use Rattle.tm_syntax.specs.Code.{stream_code};
@@ -8,24 +8,26 @@ ghost use Rattle.tm_syntax.specs.Fragments.{◌⨾◌, over};
 ghost use Rattle.tm_syntax.specs.Named.{put as put_named, put_each};
 ghost use Rattle.tm_syntax.specs.declared.jump.JumpKind.TheVariants.{IfFalse};
 ghost use Rattle.tm_syntax.specs.declared.tree.Stmt.TheBlock.{hidden-the_row-Stmt-0 as statements};
-ghost use Rattle.tm_syntax.specs.declared.tree.Stmt.TheVariants.{AutoEscape, Block, Break, CaptureBlock};
+ghost use Rattle.tm_syntax.specs.declared.tree.Stmt.TheVariants.{AutoEscape, Block, Break};
+ghost use Rattle.tm_syntax.specs.declared.tree.Stmt.TheVariants.{CallBlock as CallTag, CaptureBlock};
 ghost use Rattle.tm_syntax.specs.declared.tree.Stmt.TheVariants.{Continue, Do, For, If, Macro as Declare, With};
 ghost use Rattle.tm_values.specs.declared.error.ErrorKind.TheVariants.{OutOfMemory};
 
 use crate::builder::Builder;
 use crate::caches::number_caches;
+use crate::calls::{push_call_end, push_call_open};
 use crate::enclosing::Enclosing;
 use crate::expressions::{push_expr, push_filters};
 use crate::loops::push_iterable;
-use crate::macros::{push_building, push_parameters};
+use crate::macros::{push_building, push_caller, push_parameters};
 use crate::targets::{push_assignments, push_set, push_target, push_use};
 use sqlite_items::Items;
 use std::alloc::Global;
 use std::mem;
 use tm_names::macro_names;
 use tm_syntax::{
-    Assignment, CaptureMode, CaptureUse, Code, Expr, ForLoop, Instruction, JumpKind, LoopFlags,
-    Macro, Name, NameMap, Opened, Step, Stmt,
+    Assignment, CallBlock, CaptureMode, CaptureUse, Code, Expr, ForLoop, Instruction, JumpKind,
+    LoopFlags, Macro, Name, NameMap, Opened, Parameter, Step, Stmt,
 };
 use tm_values::Error;
 
@@ -77,6 +79,7 @@ fn push_statement(
         Stmt::Do(call) => push_do(stream, call.get()),
         Stmt::AutoEscape(value, body) => push_escaped(stream, blocks, value.get(), body.as_slice()),
         Stmt::Macro(declared) => push_macro(stream, blocks, declared),
+        Stmt::CallBlock(tag) => push_call_block(stream, blocks, tag),
     }
 }
 
@@ -320,15 +323,63 @@ fn push_macro(
     ensures err { IfErr result (λ e. e ≡ OutOfMemory ∷ []) }
 {
     let parameters = declared.parameters.as_slice();
-    let body = declared.body.as_slice();
+    push_declared(
+        stream,
+        blocks,
+        &declared.name,
+        parameters,
+        declared.body.as_slice(),
+    )?;
+    let name = declared.name.share()?;
+    stream.code.emit(Instruction::StoreLocal(name))
+}
+
+/// Adds the code of a call that is emitted, like that of a statement; OutOfMemory.
+#[cycle(statements)]
+#[inline(never)]
+fn push_call_block(
+    stream: &mut StreamBuilder,
+    blocks: &mut NameMap<Code>,
+    tag: &CallBlock,
+) -> Result<(), Error>
+    ensures code { OnOk result (stream.new
+        ≡ put_in (statement_code stream.old.enclosing (CallTag tag.now)) stream.old) }
+    ensures blocks { OnOk result
+        (blocks.new ≡ put_each (compiled_blocks (blocks_of (CallTag tag.now))) blocks.old) }
+    ensures err { IfErr result (λ e. e ≡ OutOfMemory ∷ []) }
+{
+    let call = tag.call.get();
+    let mut open = push_call_open(&mut stream.code, call)?;
+    let name = push_caller(&mut stream.code)?;
+    let parameters = tag.parameters.as_slice();
+    push_declared(stream, blocks, &name, parameters, tag.body.as_slice())?;
+    open.add_name()?;
+    push_call_end(&mut stream.code, call, &open)?;
+    stream.code.emit(Instruction::Emit)
+}
+
+/// Adds the code of the value of a macro, and that of the blocks in its body; OutOfMemory.
+#[cycle(statements)]
+#[inline(never)]
+fn push_declared(
+    stream: &mut StreamBuilder,
+    blocks: &mut NameMap<Code>,
+    name: &Name,
+    parameters: &[Parameter],
+    body: &[Stmt],
+) -> Result<(), Error>
+    ensures code { OnOk result (stream.new
+        ≡ put_in (macro_code name.now parameters.now (statements body.now)) stream.old) }
+    ensures blocks { OnOk result
+        (blocks.new ≡ put_each (compiled_blocks (blocks_in (statements body.now))) blocks.old) }
+    ensures err { IfErr result (λ e. e ≡ OutOfMemory ∷ []) }
+{
     let names = macro_names(stream.code.alloc(), parameters, body)?;
     let around = stream.code.begin_body()?;
     push_parameters(&mut stream.code, parameters)?;
     push_alone(stream, blocks, body)?;
     let entry = stream.code.end_body(around)?;
-    push_building(&mut stream.code, &declared.name, parameters, &names, entry)?;
-    let name = declared.name.share()?;
-    stream.code.emit(Instruction::StoreLocal(name))
+    push_building(&mut stream.code, name, parameters, &names, entry)
 }
 
 /// Adds the code of statements that see nothing of what is open around them, and that of their

@@ -8,11 +8,12 @@ use Rattle.tm_generator.specs.Building.{Builder, put}
 use Rattle.tm_generator.proofs.PutExpressions.{made-unary, made-chain, made-slice, made-binary, made-compare}
 use Rattle.tm_generator.proofs.PutExpressions.{put_two, made-conditional, next, more-links}
 use Rattle.tm_generator.proofs.PutExpressions.{no_more-links}
-use Rattle.tm_generator.proofs.PutExpressions.{more-exprs, no_more-exprs, more-pairs, no_more-pairs, more-arguments, no_more-arguments}
+use Rattle.tm_generator.proofs.PutExpressions.{more-exprs, no_more-exprs, more-pairs, no_more-pairs}
 use Rattle.tm_generator.proofs.PutExpressions.{more-steps, no_more-steps}
-use Rattle.tm_generator.proofs.Spreading.{put-plain, put-spread, put-listed-plain, made-listed, made-named, made-mapped, more-keywords}
-use Rattle.tm_generator.proofs.Spreading.{more-map_count, last-keywords, last-map_count, more-lists, more-list_count, last-lists}
-use Rattle.tm_generator.proofs.Spreading.{last-list_count, one_by_one-count, on_ok_always, if_ok_weaker}
+use Rattle.tm_generator.proofs.Spreading.{put-listed-plain, made-listed, made-named, made-mapped, more-lists, more-list_rows}
+use Rattle.tm_generator.proofs.Spreading.{no_more-lists, no_more-list_rows, more-maps, more-map_rows, no_more-maps, no_more-map_rows}
+use Rattle.tm_generator.proofs.Opened.{made-passed, made-passed_count}
+use Rattle.tm_generator.proofs.Spreading.{if_ok_weaker}
 use Rattle.tm_generator.proofs.expressions.+expressions.Goals as goal
 
 pub push_expr-returns-in_ok-push_expr-in-Unary-clause-ok : goal.push_expr-returns-in_ok-push_expr-in-Unary-clause-ok
@@ -87,16 +88,6 @@ pub push_exprs-returns-clause-ok : goal.push_exprs-returns-clause-ok
 push_exprs-returns-clause-ok t c = no_more-exprs _ _ _
     (drop_all c.loop-item.item-index c.args.items.now c.loop-item-test.false) c.loop-item.invariant
 
-pub push_arguments-loop-argument-preserved : goal.push_arguments-loop-argument-preserved
-push_arguments-loop-argument-preserved t c =
-    more-arguments _ _ c.argument-item.result _ _ _
-    (next c.args.given.now c.loop-argument.argument-index c.argument-item.result c.loop-argument-test.true c.argument-item.is)
-    c.in_ok-push_argument.ensures.ok c.loop-argument.invariant
-
-pub push_arguments-returns-clause-ok : goal.push_arguments-returns-clause-ok
-push_arguments-returns-clause-ok t c = no_more-arguments _ _ _
-    (drop_all c.loop-argument.argument-index c.args.given.now c.loop-argument-test.false) c.loop-argument.invariant
-
 pub push_steps-loop-step-preserved : goal.push_steps-loop-step-preserved
 push_steps-loop-step-preserved t c =
     more-steps _ _ c.step-item.result _ _ _
@@ -119,18 +110,6 @@ push_pairs-loop-entry-preserved t c =
 pub push_pairs-returns-clause-ok : goal.push_pairs-returns-clause-ok
 push_pairs-returns-clause-ok t c = no_more-pairs _ _ _
     (drop_all c.loop-entry.entry-index c.args.entries.now c.loop-entry-test.false) c.loop-entry.invariant
-
-pub push_argument-returns-in-Plain-clause-ok : goal.push_argument-returns-in-Plain-clause-ok
-push_argument-returns-in-Plain-clause-ok t c =
-    rw c.in-Plain.is (on_ok_weaker c.push_expr.result
-    (λ p. p ∙ ap {B = Builder} (λ x. put (expr_code x) c.args.code.now) c.get.ensures ∙ sym (put-plain c.args.code.now c.in-Plain.expr))
-    c.push_expr.ensures.ok)
-
-pub push_argument-returns-in-Spread-clause-ok : goal.push_argument-returns-in-Spread-clause-ok
-push_argument-returns-in-Spread-clause-ok t c =
-    rw c.in-Spread.is (on_ok_weaker c.push_expr-in-Spread.result
-    (λ p. p ∙ ap {B = Builder} (λ x. put (expr_code x) c.args.code.now) c.get-in-Spread.ensures
-    ∙ sym (put-spread c.args.code.now c.in-Spread.expr)) c.push_expr-in-Spread.ensures.ok)
 
 pub push_listed-returns-in-Plain-clause-ok : goal.push_listed-returns-in-Plain-clause-ok
 push_listed-returns-in-Plain-clause-ok t c =
@@ -156,53 +135,52 @@ push_keyword-returns-in_ok-push_map_of_row-in-Spread-clause-ok t c =
     (made-mapped c.args.code.now c.push_map_of_row.new.code c.push_expr-in-Spread.new.code c.args.row c.in-Spread.value
     c.in_ok-push_map_of_row-in-Spread.ensures.ok) (rw (← c.get-in-Spread.ensures) c.push_expr-in-Spread.ensures.ok))
 
+pub push_passed-returns-clause-ok : goal.push_passed-returns-clause-ok
+push_passed-returns-clause-ok t c =
+    on_ok_weaker c.end.result (made-passed c.args.before c.args.given.now c.args.named.now c.in_ok-call.call c.in_ok-call.ensures.call
+    c.args.code.now c.push_open.new.code c.end.new.code c.in_ok-call.ensures.ok) c.end.ensures.ok
+
+pub push_passed-returns-clause-count : goal.push_passed-returns-clause-count
+push_passed-returns-clause-count t c =
+    if_ok_weaker c.end.result (made-passed_count c.args.before c.args.given.now c.args.named.now c.in_ok-call.call
+    c.in_ok-call.ensures.call) c.end.ensures.count
+
 pub push_keywords-loop-keyword-preserved : goal.push_keywords-loop-keyword-preserved
 push_keywords-loop-keyword-preserved t c =
     let first = next c.args.named.now c.loop-keyword.keyword-index c.keyword-item.result c.loop-keyword-test.true c.keyword-item.is in (
-      more-keywords _ _ c.keyword-item.result _ _ _ _ _ first c.in_ok-push_keyword.ensures.ok c.in_ok-row.ensures.ok
+      more-maps _ _ c.keyword-item.result _ _ _ _ _ first c.in_ok-push_keyword.ensures.ok c.in_ok-pending.ensures.ok
           c.loop-keyword.invariant.0,
-      more-map_count _ _ c.keyword-item.result c.loop-keyword.row c.in_ok-row.row c.loop-keyword.maps c.in_ok-maps.maps _ first
-          (c.in_ok-maps.ensures.ok ∙ ap (λ n. c.loop-keyword.maps + n) c.maps_at.ensures) c.in_ok-row.ensures.ok c.loop-keyword.invariant.1,
+      more-map_rows _ _ c.keyword-item.result c.loop-keyword.pending c.in_ok-pending.pending c.loop-keyword.ended c.in_ok-ended.ended _ first
+          (c.in_ok-ended.ensures.ok ∙ ap (λ n. c.loop-keyword.ended + n) c.maps_at.ensures) c.in_ok-pending.ensures.ok
+          c.loop-keyword.invariant.1,
     )
 
 pub push_keywords-returns-clause-ok : goal.push_keywords-returns-clause-ok
 push_keywords-returns-clause-ok t c =
-    on_ok_always c.sum-2.result
-    (last-keywords _ c.loop-keyword.row c.loop-keyword.code c.push_map_of_row.new.code _
-    (drop_all c.loop-keyword.keyword-index c.args.named.now c.loop-keyword-test.false) c.loop-keyword.invariant.0
-    c.in_ok-push_map_of_row.ensures.ok)
+    no_more-maps _ c.loop-keyword.pending _ _ (drop_all c.loop-keyword.keyword-index c.args.named.now c.loop-keyword-test.false)
+    c.loop-keyword.invariant.0
 
-pub push_keywords-returns-clause-count : goal.push_keywords-returns-clause-count
-push_keywords-returns-clause-count t c =
-    if_ok_weaker c.sum-2.result (λ n e. last-map_count _ c.loop-keyword.row c.loop-keyword.maps n _
+pub push_keywords-returns-clause-rows : goal.push_keywords-returns-clause-rows
+push_keywords-returns-clause-rows t c =
+    no_more-map_rows _ c.loop-keyword.pending c.loop-keyword.ended _
     (drop_all c.loop-keyword.keyword-index c.args.named.now c.loop-keyword-test.false) c.loop-keyword.invariant.1
-    (e ∙ ap (λ m. c.loop-keyword.maps + m) c.rows_of.ensures)) c.sum-2.ensures.ok
 
-pub push_lists-loop-argument-preserved : goal.push_lists-loop-argument-preserved
-push_lists-loop-argument-preserved t c =
+pub push_arguments-loop-argument-preserved : goal.push_arguments-loop-argument-preserved
+push_arguments-loop-argument-preserved t c =
     let first = next c.args.given.now c.loop-argument.argument-index c.argument-item.result c.loop-argument-test.true c.argument-item.is in (
-      more-lists _ _ c.argument-item.result _ _ _ _ _ _ _ first c.in_ok-push_listed.ensures.ok c.in_ok-row.ensures.ok
+      more-lists _ _ c.argument-item.result _ _ _ _ _ first c.in_ok-push_listed.ensures.ok c.in_ok-pending.ensures.ok
           c.loop-argument.invariant.0,
-      more-list_count _ _ c.argument-item.result c.loop-argument.row c.in_ok-row.row _ c.loop-argument.lists c.in_ok-lists.lists _ first
-          (c.in_ok-lists.ensures.ok ∙ ap (λ n. c.loop-argument.lists + n) c.lists_at.ensures) c.in_ok-row.ensures.ok
+      more-list_rows _ _ c.argument-item.result c.loop-argument.pending c.in_ok-pending.pending c.loop-argument.ended c.in_ok-ended.ended _ first
+          (c.in_ok-ended.ensures.ok ∙ ap (λ n. c.loop-argument.ended + n) c.lists_at.ensures) c.in_ok-pending.ensures.ok
           c.loop-argument.invariant.1,
     )
 
-pub push_lists-returns-clause-ok : goal.push_lists-returns-clause-ok
-push_lists-returns-clause-ok t c =
-    on_ok_always c.sum-3.result
-    (last-lists _ c.loop-argument.row _ c.in_ok-more.more c.in_ok-last.last _ c.loop-argument.code c.push_named.new.code
-    c.push_list_of_row.new.code _
-    (drop_all c.loop-argument.argument-index c.args.given.now c.loop-argument-test.false) c.loop-argument.invariant.0
-    c.in_ok-more.ensures.ok c.in_ok-more.ensures.count c.in_ok-last.ensures.ok c.in_ok-push_list_of_row.ensures.ok)
+pub push_arguments-returns-clause-ok : goal.push_arguments-returns-clause-ok
+push_arguments-returns-clause-ok t c =
+    no_more-lists _ c.loop-argument.pending _ _ (drop_all c.loop-argument.argument-index c.args.given.now c.loop-argument-test.false)
+    c.loop-argument.invariant.0
 
-pub push_lists-returns-clause-count : goal.push_lists-returns-clause-count
-push_lists-returns-clause-count t c =
-    if_ok_weaker c.sum-3.result (λ n e. last-list_count _ c.loop-argument.row _ c.in_ok-more.more c.in_ok-last.last c.loop-argument.lists n _
+pub push_arguments-returns-clause-rows : goal.push_arguments-returns-clause-rows
+push_arguments-returns-clause-rows t c =
+    no_more-list_rows _ c.loop-argument.pending c.loop-argument.ended _
     (drop_all c.loop-argument.argument-index c.args.given.now c.loop-argument-test.false) c.loop-argument.invariant.1
-    c.in_ok-more.ensures.count c.in_ok-last.ensures.ok (e ∙ ap (λ m. c.loop-argument.lists + m) c.rows_of.ensures)) c.sum-3.ensures.ok
-
-pub push_passed-returns-clause-count : goal.push_passed-returns-clause-count
-push_passed-returns-clause-count t c =
-    one_by_one-count c.args.before _ c.in_ok-more.more c.in_ok-sum.field-0 c.in_ok-sum-2.field-0 c.args.given.now c.args.named.now
-    (sym c.has_spread.ensures ∙ c.if-has_spread.false) refl c.in_ok-more.ensures.count c.in_ok-sum.ensures.ok c.in_ok-sum-2.ensures.ok

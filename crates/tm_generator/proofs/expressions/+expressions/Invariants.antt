@@ -1,7 +1,8 @@
 use Rattle.std.proofs.Common.{◌≡◌, ◌+◌, ◌*◌, ◌++◌, ◌≤◌, length, drop, reverse}
 use Rattle.tm_generator.specs.Building.{put, asked, kept, answered}
-use Rattle.tm_syntax.specs.Code.{exprs_code, pairs_code, arguments_code, keywords_code, steps_code, links_code}
-use Rattle.tm_syntax.specs.Code.{lists_code, named_code, together, count_lists, count_maps}
+use Rattle.tm_generator.specs.Opened.{listing_code, lists_of, maps_of, no_end}
+use Rattle.tm_generator.proofs.Spreading.{behind}
+use Rattle.tm_syntax.specs.Code.{exprs_code, pairs_code, keywords_code, steps_code, links_code}
 use Rattle.tm_syntax.specs.declared.tree.Argument.TheBlock.{hidden-the_row-Expr-1 as exprs}
 use Rattle.tm_syntax.specs.declared.tree.Argument.TheBlock.{hidden-the_row-Pair-2 as pairs}
 use Rattle.tm_syntax.specs.declared.tree.Argument.TheBlock.{hidden-the_row-Argument-3 as arguments}
@@ -20,21 +21,16 @@ invariant-push_pairs-loop-entry l = put (pairs_code (pairs (drop l.entry-index l
     ≡ put (pairs_code (pairs l.entries)) l.fn.code
 
 abbrev pub invariant-push_arguments-loop-argument : goal.invariant-push_arguments-loop-argument
-invariant-push_arguments-loop-argument l = put (arguments_code (arguments (drop l.argument-index l.given))) l.code
-    ≡ put (arguments_code (arguments l.given)) l.fn.code
+invariant-push_arguments-loop-argument l =
+    let left = arguments (drop l.argument-index l.given) in
+    (put (listing_code l.pending left) l.code ≡ put (listing_code l.fn.before (arguments l.given)) l.fn.code)
+    × (behind l.ended (lists_of l.pending left) ≡ lists_of l.fn.before (arguments l.given))
 
 abbrev pub invariant-push_keywords-loop-keyword : goal.invariant-push_keywords-loop-keyword
 invariant-push_keywords-loop-keyword l =
-    (put (keywords_code l.row (keywords (drop l.keyword-index l.named))) l.code ≡ put (keywords_code 0 (keywords l.named)) l.fn.code)
-    × (l.maps + count_maps l.row (keywords (drop l.keyword-index l.named)) ≡ count_maps 0 (keywords l.named))
-
-abbrev pub invariant-push_lists-loop-argument : goal.invariant-push_lists-loop-argument
-invariant-push_lists-loop-argument l =
-    let m = together (keywords l.named) in
-    let by_name = named_code (keywords l.named) in
-    (put (lists_code l.row (arguments (drop l.argument-index l.given)) m by_name) l.code
-    ≡ put (lists_code l.fn.before (arguments l.given) m by_name) l.fn.code)
-    × (l.lists + count_lists l.row (arguments (drop l.argument-index l.given)) m ≡ count_lists l.fn.before (arguments l.given) m)
+    let left = keywords (drop l.keyword-index l.named) in
+    (put (keywords_code no_end l.pending left) l.code ≡ put (keywords_code no_end 0 (keywords l.named)) l.fn.code)
+    × (behind l.ended (maps_of l.pending left) ≡ maps_of 0 (keywords l.named))
 
 abbrev pub invariant-push_steps-loop-step : goal.invariant-push_steps-loop-step
 invariant-push_steps-loop-step l = put (steps_code (steps (drop l.step-index l.after))) l.code ≡ put (steps_code (steps l.after)) l.fn.code
@@ -67,9 +63,6 @@ decreases-push_exprs l = 8 * goal.size-push_exprs l + 6
 abbrev pub decreases-push_pairs : goal.decreases-push_pairs
 decreases-push_pairs l = 8 * goal.size-push_pairs l + 6
 
-abbrev pub decreases-push_argument : goal.decreases-push_argument
-decreases-push_argument l = 8 * goal.size-push_argument l + 5
-
 abbrev pub decreases-push_arguments : goal.decreases-push_arguments
 decreases-push_arguments l = 8 * goal.size-push_arguments l + 6
 
@@ -81,9 +74,6 @@ decreases-push_keyword l = 8 * goal.size-push_keyword l + 5
 
 abbrev pub decreases-push_keywords : goal.decreases-push_keywords
 decreases-push_keywords l = 8 * goal.size-push_keywords l + 6
-
-abbrev pub decreases-push_named : goal.decreases-push_named
-decreases-push_named l = 8 * goal.size-push_named l + 7
 
 abbrev pub decreases-push_step : goal.decreases-push_step
 decreases-push_step l = 8 * goal.size-push_step l + 5
@@ -106,8 +96,8 @@ decreases-push_comparisons l = 8 * goal.size-push_comparisons l + 7
 abbrev pub decreases-push_links : goal.decreases-push_links
 decreases-push_links l = 8 * goal.size-push_links l + 6
 
-abbrev pub decreases-push_lists : goal.decreases-push_lists
-decreases-push_lists l = 8 * the_size (Call l.given.now l.named.now)
+abbrev pub decreases-push_open : goal.decreases-push_open
+decreases-push_open l = 8 * the_size (Call l.given.now l.named.now)
 
 abbrev pub decreases-push_passed : goal.decreases-push_passed
 decreases-push_passed l = 8 * the_size (Call l.given.now l.named.now) + 1

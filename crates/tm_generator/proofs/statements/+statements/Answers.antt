@@ -4,7 +4,7 @@ use Rattle.std.proofs.lemmas.Result.{on_ok_weaker}
 use Rattle.tm_syntax.specs.CacheNumbers.{numbered}
 use Rattle.tm_generator.proofs.PutExpressions.{next}
 use Rattle.tm_generator.proofs.PutStatements.{more-statements, no_more-statements, made-stream, else-blocks, for-else-blocks, block-blocks}
-use Rattle.tm_generator.proofs.PutStatements.{more-blocks, no_more-blocks}
+use Rattle.tm_generator.proofs.PutStatements.{more-blocks, no_more-blocks, made-call_block, declared-is}
 use Rattle.tm_generator.proofs.statements.+statements.Goals as goal
 
 pub push_if-returns-clause-blocks : goal.push_if-returns-clause-blocks
@@ -24,6 +24,17 @@ push_call_of_block-returns-clause-blocks t c =
     on_ok_weaker c.emit.result
     (λ e. block-blocks c.args.name.now c.args.body.now c.args.blocks.now c.push_block.new.blocks c.in_ok-push_block.ensures.blocks)
     c.emit.ensures.ok
+
+pub push_call_block-returns-clause-code : goal.push_call_block-returns-clause-code
+push_call_block-returns-clause-code t c =
+    on_ok_weaker c.emit.result
+    (made-call_block c.args.stream.now c.push_declared.new.stream c.args.tag.now c.in_ok-open.open c.add_name.new.self c.in_ok-name.name
+    c.push_call_open.new.code c.push_caller.new.code c.push_call_end.new.code c.emit.new.self
+    (rw (← c.get-call.ensures) c.in_ok-open.ensures.ok) (rw (← c.get-call.ensures) c.in_ok-open.ensures.call) c.in_ok-name.ensures.ok
+    c.in_ok-name.ensures.name
+    (c.in_ok-push_declared.ensures.code
+    ∙ declared-is c.in_ok-name.name _ _ c.args.tag.now _ c.as_slice-parameters.ensures c.as_slice.ensures)
+    c.in_ok-add_name.ensures.ok (rw (← c.get-call.ensures) c.in_ok-push_call_end.ensures.ok)) c.emit.ensures.ok
 
 pub push_statements-loop-statement-preserved : goal.push_statements-loop-statement-preserved
 push_statements-loop-statement-preserved t c =

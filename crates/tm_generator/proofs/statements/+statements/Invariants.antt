@@ -4,7 +4,7 @@ use Rattle.tm_syntax.specs.Code.{statements_code}
 use Rattle.tm_syntax.specs.Named.{put_each}
 use Rattle.tm_syntax.specs.declared.tree.Stmt.TheBlock.{hidden-the_row-Stmt-0 as statements}
 use Rattle.tm_generator.specs.Building.{put_in}
-use Rattle.tm_syntax.specs.declared.tree.Stmt.TheVariants.{AutoEscape, Block, CaptureBlock, For, If, Macro, With}
+use Rattle.tm_syntax.specs.declared.tree.Stmt.TheVariants.{AutoEscape, Block, CallBlock, CaptureBlock, For, If, Macro, With}
 use Rattle.tm_syntax.proofs.tree.Stmt.TheLaws.{the_size}
 use Rattle.tm_generator.proofs.statements.+statements.Given as goal
 
@@ -49,7 +49,13 @@ abbrev pub decreases-push_rounds : goal.decreases-push_rounds
 decreases-push_rounds l = 5 * the_size (For l.for_loop.now)
 
 abbrev pub decreases-push_macro : goal.decreases-push_macro
-decreases-push_macro l = 5 * the_size (Macro l.declared.now)
+decreases-push_macro l = 5 * the_size (Macro l.declared.now) + 1
+
+abbrev pub decreases-push_call_block : goal.decreases-push_call_block
+decreases-push_call_block l = 5 * the_size (CallBlock l.tag.now) + 1
+
+abbrev pub decreases-push_declared : goal.decreases-push_declared
+decreases-push_declared l = 5 * goal.size-push_declared l + 5
 
 abbrev pub decreases-push_alone : goal.decreases-push_alone
 decreases-push_alone l = 5 * goal.size-push_alone l + 4
