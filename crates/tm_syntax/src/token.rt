@@ -125,6 +125,10 @@ pub enum Tag {
     Autoescape,
     /// `{% endautoescape`
     Endautoescape,
+    /// `{% macro`
+    Macro,
+    /// `{% endmacro`
+    Endmacro,
 }
 
 /// A token of a source.
