@@ -34,8 +34,14 @@ decreases-captured l = nesting_room * l.depth + 1
 abbrev pub decreases-for_tag : goal.decreases-for_tag
 decreases-for_tag l = nesting_room * l.depth + 2
 
+abbrev pub decreases-named_body : goal.decreases-named_body
+decreases-named_body l = nesting_room * l.depth + 1
+
 abbrev pub decreases-block_tag : goal.decreases-block_tag
-decreases-block_tag l = nesting_room * l.depth + 1
+decreases-block_tag l = nesting_room * l.depth + 2
+
+abbrev pub decreases-macro_tag : goal.decreases-macro_tag
+decreases-macro_tag l = nesting_room * l.depth + 2
 
 abbrev pub decreases-with_tag : goal.decreases-with_tag
 decreases-with_tag l = nesting_room * l.depth + 1
